@@ -1,0 +1,20 @@
+-- The product of two channels, and what every product of channels keeps.
+use Rattle.std.specs.Prelude.{◌≡◌, ℕ, ◌+◌, ◌*◌, ◌/◌, ◌<◌, ◌≤◌}
+
+-- a channel, widened by its own upper half
+abbrev pub widened : ℕ → ℕ → ℕ
+widened root x = root * x + x / root
+
+-- the product of two channels: of the widened channels, the part above the fourth power of the root
+unfoldable pub channel_product : ℕ → ℕ → ℕ → ℕ
+channel_product root x y = widened root x * widened root y / (root * root * (root * root))
+
+-- A product of numbers 0..top is less than 1/fine of a unit above the exact x * y / top and at most 1/fine of a unit below it.
+-- It is the same in either order, at most either operand, and grows with its operands.
+pub record IsProduct (fine top : ℕ) (product : ℕ → ℕ → ℕ) : Type 0 where
+  pub positive : 0 < top
+  pub above : (x y : ℕ) → x ≤ top → y ≤ top → fine * (top * product x y) < fine * (x * y) + top
+  pub below : (x y : ℕ) → x ≤ top → y ≤ top → fine * (x * y) ≤ fine * (top * product x y) + top
+  pub swaps : (x y : ℕ) → product x y ≡ product y x
+  pub lesser : (x y : ℕ) → x ≤ top → y ≤ top → product x y ≤ x
+  pub grows : (x y z : ℕ) → x ≤ y → product x z ≤ product y z

@@ -1,0 +1,6 @@
+//! Channels, and the operators of Porter and Duff on one channel.
+#![tactic(auto)]
+
+pub mod chan;
+pub mod ops;
+mod private;
