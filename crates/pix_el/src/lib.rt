@@ -1,0 +1,10 @@
+//! Pixels: channels of a color model, and how they are composited.
+#![tactic(auto)]
+
+pub use pix_chan::{chan, ops};
+
+pub mod el;
+pub mod model;
+mod private;
+pub mod rgb;
+pub mod seal;
