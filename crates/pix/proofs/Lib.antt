@@ -1,0 +1,5 @@
+pub mod Rectangles
+pub mod Rows
+pub mod Steps
+pub mod Places
+pub mod Clear

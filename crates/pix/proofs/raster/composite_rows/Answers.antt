@@ -1,0 +1,29 @@
+use Rattle.std.proofs.Common.{◌≡◌, ℕ, ◌<◌, ◌≤◌, ◌+◌, ◌*◌, ◌-◌, length, map, arith, rules, [], ◌∙◌}
+use Rattle.std.proofs.lemmas.Grind.{common_steps}
+use Rattle.std.proofs.Math.Nat.{mul-le-mul_right}
+use Rattle.pix_el.specs.PixelComposite.{pixel_composite}
+use Rattle.pix.proofs.Rows.{zoned-map, length-part, row-step}
+use Rattle.pix.proofs.raster.composite_rows.Goals as goal
+
+pub offset_bounds-pixels-start : goal.offset_bounds-pixels-start
+offset_bounds-pixels-start g c =
+    let up : (c.loop-y.y + 1) * c.args.width ≤ c.args.rows.to * c.args.width = mul-le-mul_right c.args.width (let p : c.loop-y.y + 1 ≤ c.args.rows.to = omega arith in p) in
+    let fits : c.loop-y.y * c.args.width + c.args.columns.from ≤ length c.loop-y.pixels = omega arith in
+    search rules
+
+pub loop-y-preserved : goal.loop-y-preserved
+loop-y-preserved g c =
+    let n = g.P.Pixel.numbers in
+    let f = pixel_composite g.P.Chan.Channel.root g.P.Model.ColorModel.ALPHA g.O.Blend.op (n c.args.clr.now) in
+    let up : (c.loop-y.y + 1) * c.args.width ≤ c.args.rows.to * c.args.width = mul-le-mul_right c.args.width (let p : c.loop-y.y + 1 ≤ c.args.rows.to = omega arith in p) in
+    let a : ℕ = c.loop-y.y * c.args.width + c.args.columns.from in
+    let k : ℕ = c.loop-y.y * c.args.width + c.args.columns.to - a in
+    let fits : a + k ≤ length c.loop-y.pixels = omega arith in
+    record {
+      long = length-part n f c.loop-y.pixels c.composite_color.new.dst a k fits c.composite_color.ensures ∙ c.loop-y.invariant.long;
+      done = row-step f [] (map n c.args.pixels.now) (map n c.loop-y.pixels) _ c.args.width c.args.columns.from c.args.columns.to c.args.rows.from c.loop-y.y
+          c.requires.ordered c.requires.across (omega arith) (zoned-map n f [] c.loop-y.pixels c.composite_color.new.dst a k fits c.composite_color.ensures) c.loop-y.invariant.done;
+    }
+
+pub returns : goal.returns
+returns g c = let e : c.loop-y.y ≡ c.args.rows.to = omega arith in rw e at c.loop-y.invariant.done

@@ -1,0 +1,12 @@
+pub use Rattle.pix_el.specs.Number
+pub use Rattle.pix_el.specs.Product
+pub use Rattle.pix_el.specs.Channel
+pub use Rattle.pix_el.specs.Operators
+pub use Rattle.pix_el.specs.Composite
+pub use Rattle.pix_el.specs.Pixel
+pub use Rattle.pix_el.specs.PixelComposite
+pub mod Region
+pub mod Image
+pub mod Sizes
+pub mod Run
+pub mod Spans
