@@ -1,0 +1,11 @@
+pub mod Numbers
+pub mod Lines
+pub mod Operators
+pub mod Commands
+pub mod Pixels
+pub mod Meaning
+pub mod Seen
+pub mod Text
+pub mod Fault
+pub mod Script
+pub mod Reading

@@ -1,0 +1,53 @@
+-- What a line without a problem says.
+use Rattle.std.specs.Prelude.{◌≡◌, Result, Ok, Err, ℕ, List, [], ◌∷◌, Option, Some, None, codes}
+use Rattle.pix.specs.Region.{Rectangle}
+use Rattle.pix.specs.declared.command.Command.{Command}
+use Rattle.pix.specs.declared.command.Command.TheVariants as commands
+use Rattle.pix_script.specs.declared.fault.Problem.{Problem}
+use Rattle.pix_script.specs.Numbers.{side_of, coordinate_of, color_of, ◌>>=◌}
+use Rattle.pix_script.specs.Operators.{operator_of, named}
+
+-- what a line says: how large the image is, or a command on it, whose color is given by its numbers
+pub data Meaning : Type 0 where
+  NewImage : (width height : ℕ) → Meaning
+  Paint : (command : Command (List ℕ)) → Meaning
+
+-- image WIDTH HEIGHT
+unfoldable pub image_of : List (List ℕ) → Option Meaning
+image_of (w ∷ h ∷ []) = do
+  width ← side_of w
+  height ← side_of h
+  Some (NewImage width height)
+image_of _ = None
+
+-- a region by its four words
+unfoldable pub rectangle_of : List ℕ → List ℕ → List ℕ → List ℕ → Option Rectangle
+rectangle_of x y w h = do
+  left ← coordinate_of x
+  top ← coordinate_of y
+  width ← side_of w
+  height ← side_of h
+  Some (record { left = left; top = top; width = width; height = height })
+
+-- paint OPERATOR LEFT TOP WIDTH HEIGHT COLOR
+unfoldable pub paint_of : List (List ℕ) → Option Meaning
+paint_of (o ∷ x ∷ y ∷ w ∷ h ∷ c ∷ []) = do
+  op ← operator_of o
+  reg ← rectangle_of x y w h
+  color ← color_of c
+  Some (Paint (commands.Color reg color op))
+paint_of _ = None
+
+-- how the words after each name are read
+abbrev pub readings : List (List ℕ × (List (List ℕ) → Option Meaning))
+readings = (codes "image", image_of) ∷ (codes "paint", paint_of) ∷ []
+
+-- what a line of these words says, if it is a command
+unfoldable pub meaning_of : List (List ℕ) → Option Meaning
+meaning_of [] = None
+meaning_of (name ∷ arguments) = named name readings >>= λ reading. reading arguments
+
+-- What reading a line returned, seen by view: its meaning where it has no problem, and else the problem.
+abbrev pub Reads : {X : Type 0} → (X → Option Meaning) → Option Problem → Option Meaning → Result X Problem → Type 0
+Reads view problem meaning (Ok line) = (problem ≡ None) × (view line ≡ meaning)
+Reads view problem meaning (Err found) = problem ≡ Some found

@@ -1,0 +1,50 @@
+//! Pixels from bytes and as text.
+ghost use Rattle.std.specs.Prelude.{◌≡◌, ◌++◌, OnOk, map};
+ghost use Rattle.pix_script.specs.Pixels.{color_numbers};
+ghost use Rattle.pix_script.specs.Text.{pixel_text, row_text};
+
+use crate::text::push_byte;
+use pix::chan::Ch8;
+use pix::el::Pixel;
+use pix::rgb::Rgba8p;
+use std::alloc::AllocError;
+
+/// The pixel of these bytes: red, green, blue and alpha.
+#[tactic(auto, unfolding(crate::specs::Pixels::color_numbers))]
+pub(crate) fn pixel_of(bytes: [u8; 4]) -> Rgba8p
+    ensures { color_numbers result ≡ bytes }
+{
+    let [red, green, blue, alpha] = bytes;
+    Rgba8p::with_channels([
+        Ch8::new(red),
+        Ch8::new(green),
+        Ch8::new(blue),
+        Ch8::new(alpha),
+    ])
+}
+
+/// Adds the text of a pixel.
+#[tactic(auto, unfolding(crate::specs::Text::pixel_text, crate::specs::Pixels::color_numbers))]
+fn push_pixel(out: &mut Vec<u8>, pixel: &Rgba8p) -> Result<(), AllocError>
+    ensures { OnOk result (out.new.items ≡ out.old.items ++ pixel_text (color_numbers pixel.now)) }
+{
+    for channel in pixel.channels() {
+        push_byte(out, u8::from(*channel))?;
+    }
+    Ok(())
+}
+
+/// Adds the line of a row of pixels.
+#[tactic(auto, unfolding(crate::specs::Text::row_text))]
+pub(crate) fn push_row(out: &mut Vec<u8>, row: &[Rgba8p]) -> Result<(), AllocError>
+    ensures { OnOk result (out.new.items ≡ out.old.items ++ row_text (map color_numbers row.now)) }
+{
+    for (place, pixel) in row.iter().enumerate() {
+        if place > 0 {
+            out.push(b' ')?;
+        }
+        push_pixel(out, pixel)?;
+    }
+    out.push(b'\n')?;
+    Ok(())
+}
