@@ -131,7 +131,14 @@ impl<P: Pixel<Alpha = Premultiplied, Gamma = Linear>> Raster<P> {
     {
         let clipped = self.intersection(reg);
         let width = self.width as usize;
-        composite_rows(&mut self.pixels, width, clipped.columns(), clipped.rows(), &clr, op);
+        composite_rows(
+            &mut self.pixels,
+            width,
+            clipped.columns(),
+            clipped.rows(),
+            &clr,
+            op,
+        );
     }
 
     /// Runs commands in order: at each point, those that reach it one after the other; no other point changes.

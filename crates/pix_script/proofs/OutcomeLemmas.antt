@@ -69,25 +69,25 @@ first_after earlier [] number problem h = absurd cc
 first_after earlier (words ∷ more) number problem h =
     elim (cases_option (problem_of (stands earlier) words)) [
       | inl w ↦
-        let e : or_later (length earlier + 1) (Some w.0) (first_fault (earlier ++ words ∷ []) more) ≡ Some (number, problem) = rw w.1 at h in
-        let parts = some_pair_parts _ _ _ _ e in
-        record {
-          place = 0;
-          number_is = omega (arith, parts.0);
-          within = omega arith;
-          here = rw (append-nil, w.1, parts.1) refl;
-          before = λ j lt. absurd (omega arith);
-        }
+          let e : or_later (length earlier + 1) (Some w.0) (first_fault (earlier ++ words ∷ []) more) ≡ Some (number, problem) = rw w.1 at h in
+          let parts = some_pair_parts _ _ _ _ e in
+          record {
+            place = 0;
+            number_is = omega (arith, parts.0);
+            within = omega arith;
+            here = rw (append-nil, w.1, parts.1) refl;
+            before = λ j lt. absurd (omega arith);
+          }
       | inr none ↦
-        let r = first_after (earlier ++ words ∷ []) more number problem (rw none at h) in
-        let len = length-append earlier (words ∷ []) in
-        record {
-          place = suc r.place;
-          number_is = omega (arith, r.number_is, len);
-          within = omega (arith, r.within);
-          here = ap (λ (l : List (List (List ℕ))). problem_of (stands l) (get_or more r.place [])) (sym (append_assoc earlier (words ∷ []) (take r.place more))) ∙ r.here;
-          before = λ j. before_more earlier words more r.place none r.before j;
-        }
+          let r = first_after (earlier ++ words ∷ []) more number problem (rw none at h) in
+          let len = length-append earlier (words ∷ []) in
+          record {
+            place = suc r.place;
+            number_is = omega (arith, r.number_is, len);
+            within = omega (arith, r.within);
+            here = ap (λ (l : List (List (List ℕ))). problem_of (stands l) (get_or more r.place [])) (sym (append_assoc earlier (words ∷ []) (take r.place more))) ∙ r.here;
+            before = λ j. before_more earlier words more r.place none r.before j;
+          }
     ]
 
 -- the line that the first fault names

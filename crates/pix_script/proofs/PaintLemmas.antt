@@ -32,9 +32,9 @@ painted_text n clear after width height commands wide high pixels changed =
     ap (λ (m : ℕ). picture_text m after.height (point n after)) w ∙ ap (λ (m : ℕ). picture_text width m (point n after)) h
     ∙ picture_same width height (point n after) (painted (map (in_numbers n) commands))
     (λ x y lx ly.
-        let place = y * clear.width + x in
-        let within : place < height * width = rw wide (place_within x y width height lx ly) in
-        let none : point n clear x y ≡ replicate 4 0 = ap (λ (l : List (List ℕ)). get_or l place []) pixels ∙ get_or-replicate (height * width) place (replicate 4 0) [] within in
-        changed.points x y (omega (arith, wide)) (omega (arith, high))
-        ∙ ap (λ (p : List ℕ). run_at 16 3 n commands x y p) none
-        ∙ ap (λ (es : List Effect). fold (apply 16 3) (replicate 4 0) es) (effects_numbers n commands x y))
+    let place = y * clear.width + x in
+    let within : place < height * width = rw wide (place_within x y width height lx ly) in
+    let none : point n clear x y ≡ replicate 4 0 = ap (λ (l : List (List ℕ)). get_or l place []) pixels ∙ get_or-replicate (height * width) place (replicate 4 0) [] within in
+    changed.points x y (omega (arith, wide)) (omega (arith, high))
+    ∙ ap (λ (p : List ℕ). run_at 16 3 n commands x y p) none
+    ∙ ap (λ (es : List Effect). fold (apply 16 3) (replicate 4 0) es) (effects_numbers n commands x y))

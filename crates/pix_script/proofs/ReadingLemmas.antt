@@ -85,8 +85,8 @@ line_says stood [] none = inr (record { begins = refl; says = inl refl })
 line_says stood (name ∷ arguments) none =
     elim (cases_Bool (bytes_eq name (codes "image"))) [
       | inl is ↦
-        let name_is : name ≡ codes "image" = (bytes_eq-Decides name (codes "image")).0 is in
-        inl (rw name_is (image_says stood arguments (rw name_is at none)))
+          let name_is : name ≡ codes "image" = (bytes_eq-Decides name (codes "image")).0 is in
+          inl (rw name_is (image_says stood arguments (rw name_is at none)))
       | inr isnt ↦ inr (record { begins = isnt; says = rw isnt (other_says (bytes_eq name (codes "paint")) arguments) })
     ]
 
@@ -146,13 +146,13 @@ none_more lines words m =
     let ms = meanings lines in
     elim m.says [
       | inl none ↦ record {
-          reading = rw (said_none lines words none, none) refl;
-          stood = rw (none, m.begins) (sym (or_false (is_some (size_of ms))));
-        }
+        reading = rw (said_none lines words none, none) refl;
+        stood = rw (none, m.begins) (sym (or_false (is_some (size_of ms))));
+      }
       | inr some ↦ record {
-          reading = rw (said_one lines words (Paint some.0) some.1, some.1, size_kept ms some.0, commands_more ms some.0) refl;
-          stood = rw (some.1, m.begins) (sym (or_false (is_some (size_of ms))));
-        }
+        reading = rw (said_one lines words (Paint some.0) some.1, some.1, size_kept ms some.0, commands_more ms some.0) refl;
+        stood = rw (some.1, m.begins) (sym (or_false (is_some (size_of ms))));
+      }
     ]
 
 line_more : (lines : List (List (List ℕ))) (words : List (List ℕ)) → problem_of (is_some (size_of (meanings lines))) words ≡ None → IsMore lines words

@@ -17,8 +17,8 @@ pub returns-in_err-read-clause-first : goal.returns-in_err-read-clause-first
 returns-in_err-read-clause-first c =
     let p = err_from_is_err_and c.from_residual.result c.from_residual.ensures.1 in
     λ number problem e.
-        let same : c.in_err-read.field-0.0 ≡ Line number problem = cc (p.1, p.2) in
-        first_of_fault (lines_of c.args.script.now) c.in_err-read.field-0.0 number problem c.in_err-read.ensures same
+    let same : c.in_err-read.field-0.0 ≡ Line number problem = cc (p.1, p.2) in
+    first_of_fault (lines_of c.args.script.now) c.in_err-read.field-0.0 number problem c.in_err-read.ensures same
 
 pub returns-clause-outcome : goal.returns-clause-outcome
 returns-clause-outcome c =

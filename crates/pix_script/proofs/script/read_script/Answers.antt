@@ -12,10 +12,10 @@ use Rattle.pix_script.proofs.script.read_script.Goals as goal
 pub loop-index-preserved : goal.loop-index-preserved
 loop-index-preserved c =
     let h = line_at c.args.script.now (length c.loop-index.yielded) c.in-Some.index c.in-Some.line.now
-        (YieldsList-turn
-        (YieldsList-at c.into_iter-index-iterator.ensures.into_iter_gives (YieldsList-from_enumerate (YieldsList-at c.enumerate-index-items.ensures.source
-        (YieldsList-from_slice_split _ (λ b. eqb b 10) c.args.script.now c.split.ensures.rest c.split.ensures.done c.split.ensures.closure (λ x r q k. search (rules, tests)))) c.enumerate-index-items.ensures.count))
-        c.loop-index.yielded _ c.loop-index.yielded_by _ _ (c.in-Some.index, c.in-Some.line) c.in-Some.is c.next.ensures.steps) in
+    (YieldsList-turn
+    (YieldsList-at c.into_iter-index-iterator.ensures.into_iter_gives (YieldsList-from_enumerate (YieldsList-at c.enumerate-index-items.ensures.source
+    (YieldsList-from_slice_split _ (λ b. eqb b 10) c.args.script.now c.split.ensures.rest c.split.ensures.done c.split.ensures.closure (λ x r q k. search (rules, tests)))) c.enumerate-index-items.ensures.count))
+    c.loop-index.yielded _ c.loop-index.yielded_by _ _ (c.in-Some.index, c.in-Some.line) c.in-Some.is c.next.ensures.steps) in
     let done = c.in_ok-read_line.ensures in
     rw (length_push c.loop-index.yielded (c.in-Some.index, c.in-Some.line))
     (line_done (lines_of c.args.script.now) (length c.loop-index.yielded) (held c.loop-index.read) (held c.read_line.new.self)
@@ -25,10 +25,10 @@ pub returns-in_err-read_line : goal.returns-in_err-read_line
 returns-in_err-read_line c =
     let p = err_from_is_err_and c.from_residual.result c.from_residual.ensures.1 in
     let h = line_at c.args.script.now (length c.loop-index.yielded) c.in-Some.index c.in-Some.line.now
-        (YieldsList-turn
-        (YieldsList-at c.into_iter-index-iterator.ensures.into_iter_gives (YieldsList-from_enumerate (YieldsList-at c.enumerate-index-items.ensures.source
-        (YieldsList-from_slice_split _ (λ b. eqb b 10) c.args.script.now c.split.ensures.rest c.split.ensures.done c.split.ensures.closure (λ x r q k. search (rules, tests)))) c.enumerate-index-items.ensures.count))
-        c.loop-index.yielded _ c.loop-index.yielded_by _ _ (c.in-Some.index, c.in-Some.line) c.in-Some.is c.next.ensures.steps) in
+    (YieldsList-turn
+    (YieldsList-at c.into_iter-index-iterator.ensures.into_iter_gives (YieldsList-from_enumerate (YieldsList-at c.enumerate-index-items.ensures.source
+    (YieldsList-from_slice_split _ (λ b. eqb b 10) c.args.script.now c.split.ensures.rest c.split.ensures.done c.split.ensures.closure (λ x r q k. search (rules, tests)))) c.enumerate-index-items.ensures.count))
+    c.loop-index.yielded _ c.loop-index.yielded_by _ _ (c.in-Some.index, c.in-Some.line) c.in-Some.is c.next.ensures.steps) in
     rw (p.1, p.2)
     (read_fails c.args.script.now c.in_err-read_line.field-0.0 (length c.loop-index.yielded) c.in-Some.index c.in-Some.line.now
     (held c.loop-index.read) (held c.read_line.new.self) c.loop-index.invariant h c.in_err-read_line.ensures)
@@ -36,7 +36,7 @@ returns-in_err-read_line c =
 pub returns : goal.returns
 returns c =
     let e = YieldsList-end
-        (YieldsList-at c.into_iter-index-iterator.ensures.into_iter_gives (YieldsList-from_enumerate (YieldsList-at c.enumerate-index-items.ensures.source
-        (YieldsList-from_slice_split _ (λ b. eqb b 10) c.args.script.now c.split.ensures.rest c.split.ensures.done c.split.ensures.closure (λ x r q k. search (rules, tests)))) c.enumerate-index-items.ensures.count))
-        c.loop-index.yielded _ c.loop-index.yielded_by _ _ c.in-None.is c.next.ensures.steps in
+    (YieldsList-at c.into_iter-index-iterator.ensures.into_iter_gives (YieldsList-from_enumerate (YieldsList-at c.enumerate-index-items.ensures.source
+    (YieldsList-from_slice_split _ (λ b. eqb b 10) c.args.script.now c.split.ensures.rest c.split.ensures.done c.split.ensures.closure (λ x r q k. search (rules, tests)))) c.enumerate-index-items.ensures.count))
+    c.loop-index.yielded _ c.loop-index.yielded_by _ _ c.in-None.is c.next.ensures.steps in
     all_done (lines_of c.args.script.now) (length c.loop-index.yielded) (held c.loop-index.read) c.loop-index.invariant (omega (arith, lines_len c.args.script.now, e.1))

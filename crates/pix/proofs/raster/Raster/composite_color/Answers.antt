@@ -29,11 +29,11 @@ returns g c =
           let place = y * c.self.inside.width + x in
           let old = get_or (map n c.self.inside.pixels.items) place [] in
           let all : covers (region_of image) (pos x) (pos y) ≡ true =
-              covers_image image x y (omega (arith, c.self.invariant.1)) (omega (arith, c.self.invariant.2)) (omega arith) (omega arith) in
+          covers_image image x y (omega (arith, c.self.invariant.1)) (omega (arith, c.self.invariant.2)) (omega arith) (omega arith) in
           let boxed : in_box columns rows x y ≡ covers clipped (pos x) (pos y) =
-              ap (λ (b : Bool). b && is_in rows y) (c.columns.ensures.covered x) ∙ ap (λ (b : Bool). has_column clipped (pos x) && b) (c.rows.ensures.covered y) in
+          ap (λ (b : Bool). b && is_in rows y) (c.columns.ensures.covered x) ∙ ap (λ (b : Bool). has_column clipped (pos x) && b) (c.rows.ensures.covered y) in
           let reached : in_box columns rows x y ≡ covers c.args.reg (pos x) (pos y) =
-              boxed ∙ c.intersection-clipped.ensures.points (pos x) (pos y) ∙ ap (λ (b : Bool). covers c.args.reg (pos x) (pos y) && b) all ∙ and-true _ in
+          boxed ∙ c.intersection-clipped.ensures.points (pos x) (pos y) ∙ ap (λ (b : Bool). covers c.args.reg (pos x) (pos y) && b) all ∙ and-true _ in
           ap (λ l. get_or (map n l) place []) (with_items_is c.self.inside.pixels c.composite_rows.new.pixels (search rules))
           ∙ c.composite_rows.ensures x y hx
           ∙ ap (λ l. where_in columns rows f x y (get_or (map n l) place [])) c.deref_mut.ensures.value

@@ -22,6 +22,6 @@ returns g c =
     let read : r ≡ get_or items (nat_abs c.args.y * w + nat_abs c.args.x) r = simp to_z-of_z at c.index.ensures in
     let long = vec_len c.self.inside.pixels in
     let within : nat_abs c.args.y * w + nat_abs c.args.x < long =
-        rw c.self.invariant.0 (point_within _ c.args.x c.args.y (rw (← c.self.view_is) at c.requires)) in
+    rw c.self.invariant.0 (point_within _ c.args.x c.args.y (rw (← c.self.view_is) at c.requires)) in
     λ column row ex ey.
-        rw (← c.self.view_is) (slice_get_read items long (row * w + column) r (search rules) (rw (ex, ey) at within) (rw (ex, ey) at read))
+    rw (← c.self.view_is) (slice_get_read items long (row * w + column) r (search rules) (rw (ex, ey) at within) (rw (ex, ey) at read))

@@ -1,0 +1,7 @@
+//! Tests that cross the library's crates.
+#![tactic(auto)]
+
+#[cfg(test)]
+mod rasters;
+#[cfg(test)]
+mod scripts;

@@ -1,0 +1,234 @@
+//! Pixels, regions and rasters, all named through `pix`.
+use pix::chan::{Ch8, Channel};
+use pix::el::Pixel;
+use pix::ops::{Op, SrcOver};
+use pix::rgb::Rgba8p;
+use pix::{Command, Raster, RasterFault, Region};
+use std::test::Fail;
+
+/// A pixel of four zeros, which changes nothing where it is composited over.
+fn clear() -> Rgba8p {
+    Rgba8p::new(0, 0, 0, 0)
+}
+
+#[test]
+fn a_color_over_a_pixel(rt: HostRuntime) {
+    let white = Rgba8p::new(0xFF, 0xFF, 0xFF, 0x00);
+    let five = Rgba8p::new(5, 5, 5, 5);
+    let mix = Rgba8p::new(20, 40, 80, 160);
+    for (before, color, times, after) in [
+        (white, clear(), 1, white),
+        (five, clear(), 3, Rgba8p::new(2, 2, 2, 2)),
+        (clear(), mix, 1, mix),
+        (mix, clear(), 1, mix),
+    ] {
+        let mut pixel = before;
+        for _ in 0..times {
+            pixel.composite_channels(&color, SrcOver);
+        }
+        assert_eq!(rt; pixel, after, "{color:?} over {before:?}");
+    }
+}
+
+#[test]
+fn the_channels_of_a_pixel(rt: HostRuntime) {
+    let mut pixel = Rgba8p::new(1, 2, 3, 4);
+    let same = Rgba8p::with_channels([Ch8::new(1), Ch8::new(2), Ch8::new(3), Ch8::new(4)]);
+    assert_eq!(rt; pixel, same);
+    assert_eq!(rt; pixel.alpha(), Ch8::new(4));
+    pixel.channels_mut()[1] = Ch8::new(9);
+    assert_ne!(rt; pixel, same);
+    assert_eq!(rt; pixel, Rgba8p::new(1, 9, 3, 4));
+    let channels = [Ch8::new(1), Ch8::new(9), Ch8::new(3), Ch8::new(4)];
+    assert_eq!(rt; pixel.channels(), channels.as_slice());
+    assert_eq!(rt; pixel.get(1), Ch8::new(9));
+    assert_eq!(rt; pixel.get(4), Ch8::MAX);
+    assert_eq!(rt; pixel.get(4).to_u32(), 255);
+    assert_eq!(rt; Rgba8p::default(), clear());
+}
+
+#[test]
+fn sizes_that_no_raster_has(rt: HostRuntime) {
+    for (width, height, fault) in [
+        (2147483648, 2147483648, RasterFault::WidthTooBig),
+        (1, 2147483648, RasterFault::HeightTooBig),
+        (46341, 46341, RasterFault::TooBig),
+    ] {
+        let raster = Raster::<Rgba8p>::with_clear(rt.alloc(), width, height);
+        assert_eq!(rt; raster.err(), Some(fault), "{width} by {height}");
+    }
+}
+
+#[test]
+fn the_texts_of_faults(rt: HostRuntime) -> Result<(), Fail> {
+    for (fault, want) in [
+        (RasterFault::WidthTooBig, "Raster width too big"),
+        (RasterFault::HeightTooBig, "Raster height too big"),
+        (RasterFault::TooBig, "Raster too big"),
+        (RasterFault::EmptyBuffer, "Raster buffer empty"),
+        (RasterFault::WrongLength, "Raster buffer has wrong length"),
+        (RasterFault::Memory, "out of memory"),
+    ] {
+        let text = format!(in rt.alloc(); "{fault}")?;
+        assert_eq!(rt; text.as_str(), want);
+    }
+    Ok(())
+}
+
+#[test]
+fn points_that_two_regions_share(rt: HostRuntime) {
+    let all = Region::new(0, 0, 5, 5);
+    let last = Region::new(2147483646, 0, 10, 1);
+    for (one, other, want) in [
+        (last, last, Region::new(2147483646, 0, 1, 1)),
+        (all, Region::new(-1, -1, 5, 5), Region::new(0, 0, 4, 4)),
+        (all, Region::new(-5, -5, 10, 10), all),
+        (all, Region::from((2, 2)), Region::new(2, 2, 3, 3)),
+        (all, Region::new(1, 2, 1, 100), Region::new(1, 2, 1, 3)),
+        (all, Region::new(2, 1, 100, 1), Region::new(2, 1, 3, 1)),
+        (all, Region::new(5, 0, 1, 1), Region::default()),
+    ] {
+        assert_eq!(rt; one.intersection(other), want, "{one:?} and {other:?}");
+        assert_eq!(rt; other.intersection(one), want, "{other:?} and {one:?}");
+    }
+}
+
+/// Each region with its left, top, width, height, right and bottom.
+#[test]
+fn the_sides_of_regions(rt: HostRuntime) {
+    const MOST: u32 = 2147483647;
+    const END: i32 = 2147483647;
+    for (region, left, top, width, height, right, bottom) in [
+        (
+            Region::new(2147483646, 0, 10, 1),
+            2147483646,
+            0,
+            10,
+            1,
+            END,
+            1,
+        ),
+        (
+            Region::new(0, 2147483646, 1, 10),
+            0,
+            2147483646,
+            1,
+            10,
+            1,
+            END,
+        ),
+        (Region::new(-3, -4, 2, 9), -3, -4, 2, 9, -1, 5),
+        (Region::from(()), 0, 0, MOST, MOST, END, END),
+        (Region::from((-7, 8)), -7, 8, MOST, MOST, 2147483640, END),
+        (
+            Region::from((1, 2, 4294967295, 4294967295)),
+            1,
+            2,
+            MOST,
+            MOST,
+            END,
+            END,
+        ),
+        (Region::from((1, 2, 3, 4)), 1, 2, 3, 4, 4, 6),
+        (Region::default(), 0, 0, 0, 0, 0, 0),
+    ] {
+        assert_eq!(rt; (region.left(), region.top()), (left, top), "{region:?}");
+        assert_eq!(rt;
+            (region.width(), region.height()),
+            (width, height),
+            "{region:?}"
+        );
+        assert_eq!(rt;
+            (region.right(), region.bottom()),
+            (right, bottom),
+            "{region:?}"
+        );
+    }
+}
+
+#[test]
+fn regions_with_a_side_too_long(rt: HostRuntime) {
+    assert_eq!(rt; Region::try_new(0, 0, 2147483648, 1), None);
+    assert_eq!(rt; Region::try_new(0, 0, 1, 2147483648), None);
+    let most = Region::try_new(0, 0, 2147483647, 2147483647);
+    assert_eq!(rt; most, Some(Region::from(())));
+}
+
+#[test]
+fn a_color_over_one_of_two_points(rt: HostRuntime) -> Result<(), Fail> {
+    let color = Rgba8p::new(0x40, 0x80, 0x60, 0x80);
+    let mut raster = Raster::<Rgba8p>::with_clear(rt.alloc(), 2, 1)?;
+    assert_eq!(rt; raster.region(), Region::new(0, 0, 2, 1));
+    assert_eq!(rt;
+        raster.intersection(Region::from((1, 0))),
+        Region::new(1, 0, 1, 1)
+    );
+    assert_eq!(rt; raster.pixels(), [clear(), clear()].as_slice());
+    raster.composite_color(Region::new(0, 0, 1, 1), color, SrcOver);
+    assert_eq!(rt; raster.width(), 2);
+    assert_eq!(rt; raster.height(), 1);
+    assert_eq!(rt; raster.pixel(0, 0), color);
+    assert_eq!(rt; raster.pixel(1, 0), clear());
+    Ok(())
+}
+
+/// The command of a color over a region.
+fn over(reg: Region, clr: Rgba8p) -> Command<Rgba8p> {
+    Command::Color {
+        reg,
+        clr,
+        op: Op::SrcOver,
+    }
+}
+
+#[test]
+fn a_run_is_its_commands_one_by_one(rt: HostRuntime) -> Result<(), Fail> {
+    let everywhere = Region::from(());
+    let nowhere = Region::new(-2147483648, -2147483648, 2147483647, 2147483647);
+    let first = Region::new(0, 0, 1, 1);
+    let sand = Rgba8p::new(20, 40, 80, 255);
+    let coal = Rgba8p::new(1, 2, 3, 255);
+    let five = Rgba8p::new(5, 5, 5, 5);
+
+    let mut raster = Raster::<Rgba8p>::with_clear(rt.alloc(), 2, 1)?;
+    raster.run(&[
+        over(everywhere, sand),
+        over(nowhere, five),
+        over(first, coal),
+    ]);
+    assert_eq!(rt; raster.pixels(), [coal, sand].as_slice());
+
+    let mut single = Raster::<Rgba8p>::with_clear(rt.alloc(), 2, 1)?;
+    single.composite_color(everywhere, sand, SrcOver);
+    single.composite_color(nowhere, five, SrcOver);
+    single.composite_color(first, coal, SrcOver);
+    assert_eq!(rt; raster.pixels(), single.pixels());
+    Ok(())
+}
+
+#[test]
+fn a_faint_color_fades(rt: HostRuntime) -> Result<(), Fail> {
+    let first = Region::new(0, 0, 1, 1);
+    let mut raster = Raster::<Rgba8p>::with_clear(rt.alloc(), 2, 1)?;
+    raster.run(&[
+        over(first, Rgba8p::new(5, 5, 5, 5)),
+        over(first, clear()),
+        over(first, clear()),
+        over(first, clear()),
+    ]);
+    assert_eq!(rt;
+        raster.pixels(),
+        [Rgba8p::new(2, 2, 2, 2), clear()].as_slice()
+    );
+    Ok(())
+}
+
+#[test]
+fn a_raster_without_points(rt: HostRuntime) -> Result<(), Fail> {
+    let mut raster = Raster::<Rgba8p>::with_clear(rt.alloc(), 0, 7)?;
+    raster.run(&[over(Region::from(()), Rgba8p::new(5, 5, 5, 5))]);
+    assert_eq!(rt; raster.width(), 0);
+    assert_eq!(rt; raster.height(), 7);
+    assert!(rt; raster.pixels().is_empty());
+    Ok(())
+}
