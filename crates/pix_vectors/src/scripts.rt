@@ -1,5 +1,5 @@
 //! Whole scripts, with what they paint or the fault that they have.
-use pix_script::paint_text;
+use pix_script::{PaintFault, paint_text};
 use std::alloc::Global;
 use std::test::Fail;
 
@@ -98,5 +98,14 @@ fn the_longest_script(rt: HostRuntime) -> Result<(), Fail> {
     assert_eq!(rt; outcome(rt.alloc(), &spaces)?.as_str(), "input too long");
     let _last = spaces.pop();
     assert_eq!(rt; outcome(rt.alloc(), &spaces)?.as_str(), "");
+    Ok(())
+}
+
+#[test]
+fn a_fault_without_a_line(rt: HostRuntime) -> Result<(), Fail> {
+    let fault = PaintFault::OutOfMemory;
+    assert_eq!(rt; fault.number(), 9);
+    assert_eq!(rt; fault.line(), None);
+    assert_eq!(rt; fault.to_string(rt.alloc())?.as_str(), "out of memory");
     Ok(())
 }

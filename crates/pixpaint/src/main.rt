@@ -5,6 +5,8 @@
 #![tactic(auto)]
 
 mod input;
+#[cfg(test)]
+mod tests;
 
 use input::{ReadStop, read_script};
 use pix_script::{PaintFault, paint_text};
