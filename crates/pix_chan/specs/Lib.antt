@@ -1,7 +1,17 @@
 pub mod Number
 pub mod Product
+pub mod Depth
+pub mod Step
+pub mod Nearest
+pub mod Laws
 pub mod Channel
 pub mod Operators
 pub mod Composite
 pub mod ProductLaws
+pub mod QuotientLaws
+pub mod DepthLaws
+pub mod StepLaws
+pub mod NearestLaws
+pub mod ChannelLaws
 pub mod Bits8
+pub mod Bits16

@@ -1,11 +1,11 @@
 -- The laws of the product of channels, once for every root b: m is the greatest number, m + 1 = b * b.
 -- omega takes a product of more than 64 monomials as an unknown, so each step keeps few variables.
-use Rattle.std.specs.Prelude.{◌≡◌, ℕ, ◌+◌, ◌-◌, ◌*◌, ◌/◌, ◌%◌, ◌<◌, ◌≤◌, refl}
-use Rattle.std.proofs.Common.{zero, suc, arith, sym, ◌∙◌, ap, subst}
-use Rattle.std.proofs.Math.Nat.{mul-le-mul_left, mul-le-mul_right, div-add-mod', div-le_of_le-mul, lt-mul-div-succ, div-mul-le_self, lt_of_mul-lt-mul_left, div-lt_iff_lt-mul}
-use Rattle.std.proofs.lemmas.Nat.{mul-le, le-div}
+use Rattle.std.specs.Prelude.{◌≡◌, ℕ, ◌+◌, ◌-◌, ◌*◌, ◌/◌, ◌%◌, ◌<◌, ◌≤◌}
+use Rattle.std.proofs.Common.{arith, sym, ◌∙◌, ap, subst}
+use Rattle.std.proofs.Math.Nat.{mul-le-mul_left, mul-le-mul_right, div-add-mod', lt-mul-div-succ, div-mul-le_self, lt_of_mul-lt-mul_left, div-lt_iff_lt-mul}
+use Rattle.std.proofs.lemmas.Nat.{mul-le, le-div, div-mul-add, div_below}
 use Rattle.pix_chan.specs.Number.{top}
-use Rattle.pix_chan.specs.Product.{channel_product, IsProduct}
+use Rattle.pix_chan.specs.Product.{widened, channel_product, IsProduct, IsTopFactor}
 
 product_swaps : (b x y : ℕ) → channel_product b x y ≡ channel_product b y x
 unfolding channel_product
@@ -162,3 +162,70 @@ product_laws b wide = record {
   where
     within : (x y : ℕ) → x ≤ top b → y ≤ top b → Channels b x y
     within x y u v = record { x_fits = fits-square b x wide u; y_fits = fits-square b y wide v; some = wide }
+
+-- a quotient, from its digits
+quotient_is : (n k c r : ℕ) → n ≡ k * c + r → r < c → n / c ≡ k
+quotient_is n k c r e h = ap (λ z. z / c) e ∙ div-mul-add k c r h
+
+-- the top, widened, is one below the third power of the root
+top_over_root : (e : ℕ) → ((e + 1) * (e + 1) - 1) / (e + 1) ≡ e
+top_over_root e = quotient_is ((e + 1) * (e + 1) - 1) e (e + 1) e (omega arith) (omega arith)
+
+top_widens : (b : ℕ) → 0 < b → widened b (top b) + 1 ≡ b * (b * b)
+top_widens b h =
+    let e : b ≡ (b - 1) + 1 = omega arith in
+    let q : (b * b - 1) / b ≡ b - 1 = subst (λ z. (z * z - 1) / z ≡ b - 1) (sym e) (top_over_root (b - 1)) in
+    let s : b * ((b * b - 1) + 1) ≡ b * (b * b) = ap (λ z. b * z) (omega (arith, square-pos b h)) in
+    omega arith
+
+-- times d - 1, over b * d: x, without upper half and with one
+few_is : (b d t x : ℕ) → t + 1 ≡ d → 0 < b → x + 1 < d → b * (x + 1) * t / (b * d) ≡ x
+few_is b d t x e hb h =
+    let k : b * (x + 2) ≤ b * d = mul-le-mul_left b (let z : x + 2 ≤ d = omega arith in z) in
+    let n : b * (x + 1) * (t + 1) ≡ b * (x + 1) * d = ap (λ z. b * (x + 1) * z) e in
+    quotient_is (b * (x + 1) * t) x (b * d) (b * d - b * (x + 1)) (omega arith) (omega arith)
+
+more_is : (b d t x q : ℕ) → t + 1 ≡ d → 0 < q → q < b → b * x + q < d → (b * x + q) * t / (b * d) ≡ x
+more_is b d t x q e hq hb h =
+    let n : (b * x + q) * (t + 1) ≡ (b * x + q) * d = ap (λ z. (b * x + q) * z) e in
+    let j : 1 * d ≤ q * d = mul-le-mul_right d hq in
+    let k : (q + 1) * d ≤ b * d = mul-le-mul_right d (let z : q + 1 ≤ b = omega arith in z) in
+    quotient_is ((b * x + q) * t) x (b * d) (q * d - (b * x + q)) (omega arith) (omega arith)
+
+-- a channel, widened, is below the third power of the root
+widened_fits : (b x : ℕ) → 1 < b → x < b * b → b * x + x / b < b * (b * b)
+widened_fits b x wide h =
+    let k : b * (x + 1) ≤ b * (b * b) = mul-le-mul_left b (let z : x + 1 ≤ b * b = omega arith in z) in
+    omega (arith, high-digit' b x wide h)
+
+-- the whole of a product is the root times its third power
+fourth : (b : ℕ) → b * b * (b * b) ≡ b * (b * (b * b))
+fourth b = omega arith
+
+top_factor_few : (b x : ℕ) → 1 < b → x + 1 < b → channel_product b (x + 1) (top b) ≡ x
+unfolding channel_product
+top_factor_few b x wide h =
+    let z : (x + 1) / b ≡ 0 = omega (arith, div_below (x + 1) b 1 (omega arith) (omega arith)) in
+    let small : x + 1 < b * (b * b) = let k : b * 1 ≤ b * (b * b) = mul-le-mul_left b (square-pos b (omega arith)) in omega arith in
+    let w : widened b (x + 1) ≡ b * (x + 1) = omega arith in
+    let r : b * (x + 1) * widened b (top b) / (b * (b * (b * b))) ≡ x =
+    few_is b (b * (b * b)) (widened b (top b)) x (top_widens b (omega arith)) (omega arith) small in
+    subst (λ n. widened b (x + 1) * widened b (top b) / n ≡ x) (sym (fourth b))
+    (subst (λ n. n * widened b (top b) / (b * (b * (b * b))) ≡ x) (sym w) r)
+
+top_factor_more : (b x : ℕ) → 1 < b → b ≤ x → x < b * b → channel_product b x (top b) ≡ x
+unfolding channel_product
+top_factor_more b x wide low h =
+    let q : 0 < x / b = le-div 1 x b (omega arith) (omega arith) in
+    let r : widened b x * widened b (top b) / (b * (b * (b * b))) ≡ x =
+    more_is b (b * (b * b)) (widened b (top b)) x (x / b) (top_widens b (omega arith)) q (omega (arith, high-digit' b x wide h)) (widened_fits b x wide h) in
+    subst (λ n. widened b x * widened b (top b) / n ≡ x) (sym (fourth b)) r
+
+-- The product with the top loses 1 of what is below the root and not 0, and nothing elsewhere.
+pub top_factor : (b : ℕ) → 1 < b → IsTopFactor b (channel_product b)
+top_factor b wide = record {
+  nothing = omega (arith, (product_laws b wide).lesser 0 (top b) (omega arith) (omega arith));
+  few = λ x u v. let e : x ≡ (x - 1) + 1 = omega arith in
+      subst (λ z. channel_product b z (top b) ≡ x - 1) (sym e) (top_factor_few b (x - 1) wide (omega arith));
+  more = λ x u v. top_factor_more b x wide u (fits-square b x wide v);
+}

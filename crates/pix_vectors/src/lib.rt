@@ -2,6 +2,8 @@
 #![tactic(auto)]
 
 #[cfg(test)]
+mod channels;
+#[cfg(test)]
 mod rasters;
 #[cfg(test)]
 mod scripts;

@@ -1,0 +1,214 @@
+//! Rows and whole ranges of both channel widths.
+ghost use Rattle.std.specs.Prelude.{ℤ, pos, ◌<◌, ◌<ℤ◌};
+
+use pix::chan::{Ch8, Ch16, Channel};
+
+#[test]
+fn products(rt: HostRuntime) {
+    for (x, y, want) in [
+        (1_u8, 255_u8, 0_u8),
+        (16, 255, 16),
+        (248, 248, 242),
+        (128, 128, 64),
+    ] {
+        assert_eq!(rt; Ch8::new(x) * y, Ch8::new(want), "{x} * {y}");
+    }
+    for (x, y, want) in [
+        (255_u16, 65535_u16, 254_u16),
+        (256, 65535, 256),
+        (32768, 32768, 16384),
+    ] {
+        assert_eq!(rt; Ch16::new(x) * y, Ch16::new(want), "{x} * {y}");
+    }
+}
+
+#[test]
+fn quotients_sums_and_differences(rt: HostRuntime) {
+    for (x, y, want) in [(64_u8, 128_u8, 128_u8), (3, 2, 255), (7, 0, 0)] {
+        assert_eq!(rt; Ch8::new(x) / Ch8::new(y), Ch8::new(want), "{x} / {y}");
+    }
+    assert_eq!(rt; Ch8::new(200) + Ch8::new(100), Ch8::new(255));
+    assert_eq!(rt; Ch8::new(100) - Ch8::new(200), Ch8::new(0));
+    assert_eq!(rt; Ch8::new(200).wrapping_add(Ch8::new(100)), Ch8::new(44));
+    assert_eq!(rt; Ch8::new(100).wrapping_sub(Ch8::new(200)), Ch8::new(156));
+}
+
+#[test]
+fn depths(rt: HostRuntime) {
+    assert_eq!(rt; Ch16::from(Ch8::new(1)), Ch16::new(257));
+    assert_eq!(rt; Ch8::from(Ch16::new(511)), Ch8::new(1));
+    for value in 0..=255_u8 {
+        let deep = Ch16::from(Ch8::new(value));
+        assert_eq!(rt;
+            u32::from(u16::from(deep)),
+            u32::from(value) * 257,
+            "{value}"
+        );
+        assert_eq!(rt; Ch8::from(deep), Ch8::new(value), "{value}");
+    }
+}
+
+#[test]
+fn lerps(rt: HostRuntime) {
+    assert_eq!(rt; Ch8::new(16).lerp(Ch8::new(0), Ch8::new(16)), Ch8::new(15));
+    assert_eq!(rt; Ch8::new(1).lerp(Ch8::new(0), Ch8::new(1)), Ch8::new(0));
+    assert_eq!(rt;
+        Ch16::new(256).lerp(Ch16::new(0), Ch16::new(256)),
+        Ch16::new(255)
+    );
+}
+
+#[test]
+fn nearest_ratios(rt: HostRuntime) {
+    assert_eq!(rt; Ch8::from_ratio(1, 2), Ch8::new(1));
+    assert_eq!(rt; Ch8::from_ratio(-1, 2), Ch8::new(0));
+    assert_eq!(rt; Ch8::from_ratio(1, 3), Ch8::new(0));
+    assert_eq!(rt; Ch8::from_ratio(-3, 1), Ch8::new(0));
+    assert_eq!(rt; Ch8::from_ratio(300, 1), Ch8::new(255));
+    assert_eq!(rt; Ch8::from_ratio(-4611686018427387905, 4), Ch8::new(0));
+    assert_eq!(rt; Ch16::from_ratio(131069, 2), Ch16::new(65535));
+    assert_eq!(rt; Ch16::from_ratio(131067, 2), Ch16::new(65534));
+    assert_eq!(rt; Ch16::from_ratio(70000, 1), Ch16::new(65535));
+}
+
+#[test]
+fn operands_of_other_types_are_channels_first(rt: HostRuntime) {
+    let half = Ch8::new(128);
+    assert_eq!(rt; half + 1_u8, Ch8::new(129));
+    assert_eq!(rt; half - 1_u8, Ch8::new(127));
+    assert_eq!(rt; half / 255_u8, Ch8::new(128));
+    assert_eq!(rt; half + Ch16::new(511), Ch8::new(129));
+    assert_eq!(rt; half - Ch16::new(511), Ch8::new(127));
+    assert_eq!(rt; half * Ch16::new(65535), Ch8::new(128));
+    assert_eq!(rt; half / Ch16::new(65535), Ch8::new(128));
+    let half = Ch16::new(32768);
+    assert_eq!(rt; half + 1_u16, Ch16::new(32769));
+    assert_eq!(rt; half - 1_u16, Ch16::new(32767));
+    assert_eq!(rt; half / 65535_u16, Ch16::new(32768));
+    assert_eq!(rt; half + Ch8::new(1), Ch16::new(33025));
+    assert_eq!(rt; half - Ch8::new(1), Ch16::new(32511));
+    assert_eq!(rt; half * Ch8::new(255), Ch16::new(32768));
+    assert_eq!(rt; half / Ch8::new(255), Ch16::new(32768));
+}
+
+#[test]
+fn constants_order_and_equality_are_by_the_number(rt: HostRuntime) {
+    let eight = [Ch8::MIN, Ch8::MID, Ch8::MAX];
+    let sixteen = [Ch16::MIN, Ch16::MID, Ch16::MAX];
+    assert_eq!(rt; eight.map(u8::from), [0, 128, 255]);
+    assert_eq!(rt; sixteen.map(u16::from), [0, 32768, 65535]);
+    assert_eq!(rt; Ch8::MAX.to_u32(), 255);
+    assert_eq!(rt; Ch16::MAX.to_u32(), 65535);
+    assert_eq!(rt; Ch8::default(), Ch8::MIN);
+    assert_eq!(rt; Ch16::default(), Ch16::MIN);
+    assert!(rt; Ch8::from(127) < Ch8::MID && Ch8::MID < Ch8::MAX && Ch8::MID == Ch8::from(128));
+    assert!(rt;
+        Ch16::from(32767_u16) < Ch16::MID
+            && Ch16::MID < Ch16::MAX
+            && Ch16::MID == Ch16::from(32768_u16)
+    );
+}
+
+/// `c` / `most` rounded down, but -k where `c` is -(k * `most` + 1) and k isn't 0.
+fn plain_step(c: i64, most: i64) -> i64
+    requires { pos 1 <ℤ most }
+{
+    if c < -1 && (c + 1) % most == 0 {
+        (c + 1) / most
+    } else {
+        c.div_euclid(most)
+    }
+}
+
+/// The lerp in plain whole numbers.
+fn plain_lerp(start: u32, end: u32, t: u32, most: i64) -> i64
+    requires { pos 1 <ℤ most }
+{
+    let way = i64::from(end) - i64::from(start);
+    i64::from(start).wrapping_add(plain_step(i64::from(t).wrapping_mul(way), most))
+}
+
+/// The quotient in plain whole numbers, where `whole` is one more than the greatest.
+fn plain_quotient(x: u32, y: u32, whole: u64) -> u64
+    requires { 0 < whole }
+{
+    match u64::from(y) {
+        0 => 0,
+        y => (whole.wrapping_mul(u64::from(x)) / y).min(whole - 1),
+    }
+}
+
+/// The product in plain whole numbers, where `root` * `root` is one more than the greatest.
+fn plain_product(x: u32, y: u32, root: u64) -> u64
+    requires { 0 < root }
+{
+    let wide = |x: u32| -> u64 {
+        root.wrapping_mul(u64::from(x))
+            .wrapping_add(u64::from(x) / root)
+    };
+    wide(x).wrapping_mul(wide(y)) / root / root / root / root
+}
+
+#[test]
+fn all_pairs_of_eight_bits(rt: HostRuntime) {
+    for x in 0..=255_u8 {
+        for y in 0..=255_u8 {
+            let (a, b) = (Ch8::new(x), Ch8::new(y));
+            let (p, q) = (u32::from(x), u32::from(y));
+            assert_eq!(rt;
+                u64::from((a * b).to_u32()),
+                plain_product(p, q, 16),
+                "{x} * {y}"
+            );
+            assert_eq!(rt;
+                u64::from((a / b).to_u32()),
+                plain_quotient(p, q, 256),
+                "{x} / {y}"
+            );
+            for t in [0_u8, 1, 2, 16, 64, 127, 128, 129, 200, 253, 254, 255] {
+                let lerp = a.lerp(b, Ch8::new(t)).to_u32();
+                assert_eq!(rt;
+                    i64::from(lerp),
+                    plain_lerp(p, q, u32::from(t), 255),
+                    "{x} to {y} at {t}"
+                );
+            }
+        }
+    }
+}
+
+/// The first or the last number with the upper half `place` / 2.
+fn range_end(place: u16) -> u16
+    requires { place < 512 }
+{
+    place / 2 * 256 + place % 2 * 255
+}
+
+#[test]
+fn ends_of_all_ranges_of_sixteen_bits(rt: HostRuntime) {
+    for i in 0..512_u16 {
+        for j in 0..512_u16 {
+            let (x, y) = (range_end(i), range_end(j));
+            let (a, b) = (Ch16::new(x), Ch16::new(y));
+            let (p, q) = (u32::from(x), u32::from(y));
+            assert_eq!(rt;
+                u64::from((a * b).to_u32()),
+                plain_product(p, q, 256),
+                "{x} * {y}"
+            );
+            assert_eq!(rt;
+                u64::from((a / b).to_u32()),
+                plain_quotient(p, q, 65536),
+                "{x} / {y}"
+            );
+            for t in [0_u16, 1, 255, 256, 32767, 32768, 65534, 65535] {
+                let lerp = a.lerp(b, Ch16::new(t)).to_u32();
+                assert_eq!(rt;
+                    i64::from(lerp),
+                    plain_lerp(p, q, u32::from(t), 65535),
+                    "{x} to {y} at {t}"
+                );
+            }
+        }
+    }
+}
