@@ -4,7 +4,7 @@
 #![tactic(auto)]
 
 pub use pix_el::model::ColorModel;
-pub use pix_el::{chan, el, ops, rgb};
+pub use pix_el::{chan, el, gray, ops, rgb};
 
 mod command;
 mod fault;

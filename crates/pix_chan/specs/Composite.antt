@@ -1,5 +1,5 @@
 -- One channel of a composite.
-use Rattle.std.specs.Prelude.{ℕ, ◌-◌}
+use Rattle.std.specs.Prelude.{ℕ, ◌+◌, ◌-◌}
 use Rattle.pix_chan.specs.declared.ops.Op.{Op}
 use Rattle.pix_chan.specs.Number.{top, channel_sum}
 use Rattle.pix_chan.specs.Product.{channel_product}
@@ -11,6 +11,10 @@ term root Zero x alpha = 0
 term root One x alpha = x
 term root Alpha x alpha = channel_product root x alpha
 term root Rest x alpha = channel_product root x (top root - alpha)
+
+-- the two terms of the source's channel s, of alpha sa, and the destination's channel d, of alpha da, together
+abbrev pub term_sum : ℕ → Op → ℕ → ℕ → ℕ → ℕ → ℕ
+term_sum root op s sa d da = term root (source_coefficient op) s da + term root (dest_coefficient op) d sa
 
 -- the source's channel s, of alpha sa, composited with the destination's channel d, of alpha da
 abbrev pub channel_composite : ℕ → Op → ℕ → ℕ → ℕ → ℕ → ℕ

@@ -7,6 +7,7 @@ pub mod Laws
 pub mod Channel
 pub mod Operators
 pub mod Composite
+pub mod ExactComposite
 pub mod ProductLaws
 pub mod QuotientLaws
 pub mod DepthLaws

@@ -1,4 +1,5 @@
 -- The operators of Porter and Duff: by what fraction the source and the destination enter.
+use Rattle.std.specs.Prelude.{ℕ}
 use Rattle.pix_chan.specs.declared.ops.Op.{Op}
 use Rattle.pix_chan.specs.declared.ops.Op.TheVariants.{Src, Dest, SrcOver, DestOver, SrcOut, DestOut, SrcIn, DestIn, SrcAtop, DestAtop, Xor, Clear, Plus}
 
@@ -40,3 +41,19 @@ dest_coefficient DestAtop = Alpha
 dest_coefficient Xor = Rest
 dest_coefficient Clear = Zero
 dest_coefficient Plus = One
+
+-- how many products enter a composite
+abbrev pub product_count : Op → ℕ
+product_count Src = 0
+product_count Dest = 0
+product_count SrcOver = 1
+product_count DestOver = 1
+product_count SrcOut = 1
+product_count DestOut = 1
+product_count SrcIn = 1
+product_count DestIn = 1
+product_count SrcAtop = 2
+product_count DestAtop = 2
+product_count Xor = 2
+product_count Clear = 0
+product_count Plus = 0

@@ -10,6 +10,10 @@ widened root x = root * x + x / root
 unfoldable pub channel_product : ℕ → ℕ → ℕ → ℕ
 channel_product root x y = widened root x * widened root y / (root * root * (root * root))
 
+-- how fine the product of two channels is: at most 1/fineness of a unit off
+abbrev pub fineness : ℕ
+fineness = 1
+
 -- A product of numbers 0..top is less than 1/fine of a unit above the exact x * y / top and at most 1/fine of a unit below it.
 -- It is the same in either order, at most either operand, and grows with its operands.
 pub record IsProduct (fine top : ℕ) (product : ℕ → ℕ → ℕ) : Type 0 where

@@ -2,7 +2,7 @@
 ghost use Rattle.std.specs.Prelude.{◌≡◌, ℕ, ◌*◌, ◌^◌, ◌<◌, nat_eq, pos, ◌+ℤ◌, ◌*ℤ◌, ◌<ℤ◌};
 ghost use Rattle.std.specs.Ordering.{nat_cmp};
 ghost use Rattle.pix_chan.specs.Number.{top, channel_sum, channel_difference, wrapping_sum, wrapping_difference};
-ghost use Rattle.pix_chan.specs.Product.{channel_product, channel_quotient, IsProduct};
+ghost use Rattle.pix_chan.specs.Product.{channel_product, channel_quotient, fineness, IsProduct};
 ghost use Rattle.pix_chan.specs.Step.{channel_lerp};
 ghost use Rattle.pix_chan.specs.Nearest.{near};
 ghost use Rattle.pix_chan.specs.Laws.{ChannelLaws};
@@ -114,7 +114,7 @@ pub trait Channel: Sealed
 
     ghost divides: { Answers number Self.div_gives (channel_quotient root) };
 
-    ghost product_law: { IsProduct 1 (top root) (channel_product root) };
+    ghost product_law: { IsProduct fineness (top root) (channel_product root) };
 
     ghost laws: { ChannelLaws root };
 }

@@ -1,6 +1,7 @@
 -- Loops that write one place of a list after the other.
-use Rattle.std.proofs.Common.{◌≡◌, ℕ, ◌+◌, ◌<◌, ◌≤◌, List, length, get_or, set, map, sym, ap, ◌∙◌, arith, length-set, inl, inr, refl}
+use Rattle.std.proofs.Common.{◌≡◌, ℕ, zero, suc, [], ◌∷◌, min, ◌+◌, ◌<◌, ◌≤◌, List, length, get_or, set, map, sym, ap, ◌∙◌, arith, length-set, inl, inr, refl}
 use Rattle.std.specs.List.{range_with_len}
+use Rattle.pix_el.specs.PixelComposite.{over}
 use Rattle.std.proofs.lemmas.Bool.{cases_lt}
 use Rattle.std.proofs.lemmas.List.{get_or-set_same, get_or-set_other, length-map, get_or-map}
 use Rattle.std.proofs.lemmas.List.FromFn.{fill_by_all}
@@ -38,3 +39,37 @@ written_none f d old = record { long = refl; done = λ k h. absurd (omega arith)
 pub written_each : {X : Type 0} (f : X → X) (d : X) (old now : List X) (i : ℕ) → Written (λ _. f) d old now i → length old ≤ i → now ≡ map f old
 written_each {X = X} f d old now i so_far le =
     written_all (λ _. f) d old now i so_far le ∙ sym (fill_by_all (λ k. f (get_or old k d)) (map f old) (length old) d (length-map old f) (λ k h. get_or-map f old k d d h))
+
+length-over : {X Y : Type 0} (f : X → Y → Y) (source : List X) (dest : List Y) → length (over f source dest) ≡ length dest
+length-over f source [] = refl
+length-over f [] (d ∷ dest) = refl
+length-over f (s ∷ source) (d ∷ dest) = ap suc (length-over f source dest)
+
+-- the places that both lists have
+get_or-over : {X Y : Type 0} (f : X → Y → Y) (source : List X) (dest : List Y) (k : ℕ) (a : X) (d : Y) → k < length source → k < length dest
+    → get_or (over f source dest) k d ≡ f (get_or source k a) (get_or dest k d)
+get_or-over f source [] k a d h l = absurd (omega arith)
+get_or-over f [] (y ∷ dest) k a d h l = absurd (omega arith)
+get_or-over f (x ∷ source) (y ∷ dest) zero a d h l = refl
+get_or-over f (x ∷ source) (y ∷ dest) (suc k) a d h l = get_or-over f source dest k a d (omega arith) (omega arith)
+
+-- the places past the first list
+get_or-over_past : {X Y : Type 0} (f : X → Y → Y) (source : List X) (dest : List Y) (k : ℕ) (d : Y) → length source ≤ k
+    → get_or (over f source dest) k d ≡ get_or dest k d
+get_or-over_past f source [] k d h = refl
+get_or-over_past f [] (y ∷ dest) k d h = refl
+get_or-over_past f (x ∷ source) (y ∷ dest) zero d h = absurd (omega arith)
+get_or-over_past f (x ∷ source) (y ∷ dest) (suc k) d h = get_or-over_past f source dest k d (omega arith)
+
+-- once all that both lists have are written
+pub written_over : {X Y : Type 0} (f : X → Y → Y) (a : X) (source : List X) (d : Y) (old now : List Y) (i : ℕ)
+    → Written (λ k. f (get_or source k a)) d old now i → i ≡ min (length old) (length source) → now ≡ over f source old
+written_over f a source d old now i so_far end =
+    fill_by_all (λ k. get_or (over f source old) k d) now (length old) d so_far.long (λ k h. same k h)
+    ∙ sym (fill_by_all (λ k. get_or (over f source old) k d) (over f source old) (length old) d (length-over f source old) (λ k h. refl))
+  where
+    same : (k : ℕ) → k < length old → get_or now k d ≡ get_or (over f source old) k d
+    same k h = elim (cases_lt k (length source)) [
+      | inl below ↦ so_far.done k (omega arith) ∙ sym (get_or-over f source old k a d below h)
+      | inr past ↦ so_far.rest k (omega arith) ∙ sym (get_or-over_past f source old k d past)
+    ]

@@ -3,6 +3,9 @@ pub use Rattle.pix_chan.specs.Product
 pub use Rattle.pix_chan.specs.Channel
 pub use Rattle.pix_chan.specs.Operators
 pub use Rattle.pix_chan.specs.Composite
+pub use Rattle.pix_chan.specs.ExactComposite
 pub mod Pixel
 pub mod PixelComposite
+pub mod ExactPixel
+pub mod Premultiplied
 pub mod PixelLaws

@@ -1,5 +1,5 @@
 -- The composite of two pixels.
-use Rattle.std.specs.Prelude.{ℕ, List, length, map}
+use Rattle.std.specs.Prelude.{ℕ, List, [], ◌∷◌, length, map}
 use Rattle.std.specs.List.{range_with_len}
 use Rattle.pix_chan.specs.declared.ops.Op.{Op}
 use Rattle.pix_chan.specs.Composite.{channel_composite}
@@ -15,3 +15,9 @@ channels_composite root op sa da source dest =
 abbrev pub pixel_composite : ℕ → ℕ → Op → List ℕ → List ℕ → List ℕ
 pixel_composite root alpha op source dest =
     channels_composite root op (channel root source alpha) (channel root dest alpha) source dest
+
+-- f of the two elements at each place that both lists have, and the rest of the second list as it is
+abbrev pub over : {X Y : Type 0} → (X → Y → Y) → List X → List Y → List Y
+over f source [] = []
+over f [] (d ∷ dest) = d ∷ dest
+over f (s ∷ source) (d ∷ dest) = f s d ∷ over f source dest

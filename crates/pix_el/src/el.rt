@@ -1,9 +1,12 @@
 //! Pixels of any format: a number of channels, their type, a color model, an alpha mode and a gamma mode.
-ghost use Rattle.std.specs.Prelude.{◌≡◌, ℕ, ◌+◌, ◌-◌, List, [], ◌∷◌, length, replicate, map, ⊤, refl};
+ghost use Rattle.std.specs.Prelude.{◌≡◌, ◌≢◌, ℕ, ◌+◌, ◌-◌, List, [], ◌∷◌, length, replicate, map, ⊤, refl};
 ghost use Rattle.std.specs.Borrow.{Lends, sem, Array};
 ghost use Rattle.pix_chan.specs.Number.{top};
+ghost use Rattle.pix_chan.specs.declared.ops.Op.{Op};
 ghost use Rattle.pix_el.specs.Pixel.{channel};
-ghost use Rattle.pix_el.specs.PixelComposite.{channels_composite, pixel_composite};
+ghost use Rattle.pix_el.specs.PixelComposite.{channels_composite, pixel_composite, over};
+ghost use Rattle.pix_el.specs.ExactPixel.{IsNearExact};
+ghost use Rattle.pix_el.specs.Premultiplied.{IsPremultiplied, IsUncut};
 ghost use Rattle.pix_el.specs.PixelLaws.{numbers_of_replicate};
 
 use crate::model::ColorModel;
@@ -34,6 +37,19 @@ impl<const N: usize, C, M, A, G> Pix<N, C, M, A, G> {
             _alpha: PhantomData,
             _gamma: PhantomData,
         }
+    }
+}
+
+impl<C, M, A, G> Pix<2, C, M, A, G> {
+    /// The pixel of two channels.
+    pub fn new<H>(one: H, two: H) -> Self
+    where
+        C: From<H>,
+        ensures { (w x : C) × C.from_gives one w × C.from_gives two x × (result.channels ≡ w ∷ x ∷ []) }
+    {
+        let one = C::from(one);
+        let two = C::from(two);
+        Self::with_channels([one, two])
     }
 }
 
@@ -146,8 +162,20 @@ pub trait Pixel: Sealed + Clone + Copy + Debug + Default + PartialEq {
     where
         Self: Pixel<Alpha = Premultiplied, Gamma = Linear>,
         requires has_alpha { count ≡ Self.Model.ALPHA + 1 }
-        ensures { numbers self.new ≡
+        ensures composite { numbers self.new ≡
             pixel_composite Self.Chan.root Self.Model.ALPHA O.op (numbers src.now) (numbers self.old) }
+
+        // Each channel is at most the operator's product count of units from the exact composite.
+        ensures near { IsNearExact Self.Chan.root Self.Model.ALPHA O.op (numbers src.now) (numbers self.old) (numbers self.new) }
+
+        // Where no channel passes its alpha, none does afterwards, and no sum is cut but that of `Plus`.
+        ensures premultiplied { IsPremultiplied Self.Chan.root Self.Model.CIRCULAR Self.Model.ALPHA (numbers src.now)
+            → IsPremultiplied Self.Chan.root Self.Model.CIRCULAR Self.Model.ALPHA (numbers self.old)
+            → IsPremultiplied Self.Chan.root Self.Model.CIRCULAR Self.Model.ALPHA (numbers self.new) }
+        ensures uncut { IsPremultiplied Self.Chan.root Self.Model.CIRCULAR Self.Model.ALPHA (numbers src.now)
+            → IsPremultiplied Self.Chan.root Self.Model.CIRCULAR Self.Model.ALPHA (numbers self.old)
+            → O.op ≢ Op.Plus
+            → IsUncut Self.Chan.root Self.Model.CIRCULAR Self.Model.ALPHA O.op (numbers src.now) (numbers self.old) }
     {
         let da1 = Self::Chan::MAX - self.alpha();
         let sa1 = Self::Chan::MAX - src.alpha();
@@ -164,6 +192,20 @@ pub trait Pixel: Sealed + Clone + Copy + Debug + Default + PartialEq {
     {
         for d in dst.iter_mut() {
             d.composite_channels(clr, op);
+        }
+    }
+
+    /// Composites each pixel of `src` with the pixel of `dst` at the same place, as far as both go.
+    /// Condition: the format has an alpha channel.
+    final fn composite_slice<O: Blend>(dst: &mut [Self], src: &[Self], op: O)
+    where
+        Self: Pixel<Alpha = Premultiplied, Gamma = Linear>,
+        requires has_alpha { count ≡ Self.Model.ALPHA + 1 }
+        ensures { map numbers dst.new ≡
+            over (pixel_composite Self.Chan.root Self.Model.ALPHA O.op) (map numbers src.now) (map numbers dst.old) }
+    {
+        for i in 0..dst.len().min(src.len()) {
+            dst[i].composite_channels(&src[i], op);
         }
     }
 

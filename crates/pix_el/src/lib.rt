@@ -4,6 +4,7 @@
 pub use pix_chan::{chan, ops};
 
 pub mod el;
+pub mod gray;
 pub mod model;
 mod private;
 pub mod rgb;

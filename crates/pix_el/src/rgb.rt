@@ -4,7 +4,7 @@ ghost use Rattle.std.specs.Prelude.{ℕ};
 use crate::el::Pix;
 use crate::model::ColorModel;
 use crate::seal::SealedModel;
-use pix_chan::chan::{Ch8, Linear, Premultiplied};
+use pix_chan::chan::{Ch8, Ch16, Linear, Premultiplied};
 use std::ops::Range;
 
 /// The model of red, green and blue.
@@ -33,3 +33,6 @@ impl ColorModel for Rgb {
 
 /// Red, green, blue and alpha of eight bits each, premultiplied and linear.
 pub type Rgba8p = Pix<4, Ch8, Rgb, Premultiplied, Linear>;
+
+/// Red, green, blue and alpha of sixteen bits each, premultiplied and linear.
+pub type Rgba16p = Pix<4, Ch16, Rgb, Premultiplied, Linear>;

@@ -4,6 +4,8 @@
 #[cfg(test)]
 mod channels;
 #[cfg(test)]
+mod operators;
+#[cfg(test)]
 mod rasters;
 #[cfg(test)]
 mod scripts;

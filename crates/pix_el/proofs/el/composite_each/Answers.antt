@@ -1,7 +1,6 @@
-use Rattle.std.proofs.Common.{◌≡◌, ℕ, ◌+◌, ◌-◌, length, map, get_or, set, arith, sym, ap, ◌∙◌, refl}
+use Rattle.std.proofs.Common.{◌≡◌, length, map, get_or, arith, sym, ap, ◌∙◌, refl}
 use Rattle.std.proofs.lemmas.List.{length-map, map-set, get_or-map}
 use Rattle.pix_chan.specs.Number.{top}
-use Rattle.pix_chan.specs.Composite.{channel_composite}
 use Rattle.pix_el.specs.Pixel.{channel}
 use Rattle.pix_el.proofs.Written.{written_none, written_more, written_all}
 use Rattle.pix_el.proofs.el.composite_each.Goals as goal

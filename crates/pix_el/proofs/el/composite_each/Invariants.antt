@@ -1,4 +1,4 @@
-use Rattle.std.proofs.Common.{ℕ, ◌-◌, map}
+use Rattle.std.proofs.Common.{◌-◌, map}
 use Rattle.pix_chan.specs.Number.{top}
 use Rattle.pix_chan.specs.Composite.{channel_composite}
 use Rattle.pix_el.specs.Pixel.{channel}

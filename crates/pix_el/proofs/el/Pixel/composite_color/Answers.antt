@@ -1,4 +1,4 @@
-use Rattle.std.proofs.Common.{◌≡◌, ℕ, List, [], length, map, get_or, arith, sym, ap, ◌∙◌}
+use Rattle.std.proofs.Common.{◌≡◌, [], length, map, get_or, arith, sym, ap, ◌∙◌}
 use Rattle.std.proofs.lemmas.List.{length-map, map-set, get_or-map}
 use Rattle.pix_el.specs.PixelComposite.{pixel_composite}
 use Rattle.pix_el.proofs.Written.{written_none, written_more, written_each}
@@ -17,7 +17,7 @@ loop-d-preserved g c =
     let d : get_or (map n now) i [] ≡ n (get_or now i c.d-item.result) = get_or-map n now i c.d-item.result [] (omega arith) in
     rw map-set
     (written_more _ _ _ _ i _ c.loop-d.invariant (omega (arith, length-map c.args.dst.now n))
-    (c.composite_channels.ensures ∙ ap f (sym d)))
+    (c.composite_channels.ensures.composite ∙ ap f (sym d)))
 
 pub returns : goal.returns
 returns g c = written_each _ _ _ _ c.loop-d.d-index c.loop-d.invariant (omega (arith, length-map c.args.dst.now g.Self.Pixel.numbers))
