@@ -1,10 +1,9 @@
 //! Paints each script of the folder `examples`, and says whether it gives what stands in the file beside it.
 #![tactic(auto)]
 
-use anyhow::Error;
 use pix_script::paint_text;
-use std::alloc::Global;
-use std::fs;
+use std::alloc::{AllocError, Global};
+use std::{fs, io};
 
 /// The scripts NAME.paint, each with its outcome in NAME.txt.
 const EXAMPLES: [&str; 4] = [
@@ -14,7 +13,7 @@ const EXAMPLES: [&str; 4] = [
     "unknown-operator",
 ];
 
-fn main(rt: HostRuntime) -> Result<(), Error> {
+fn main(rt: HostRuntime) -> io::Result<()> {
     let alloc = rt.alloc();
     for name in EXAMPLES {
         let script = fs::read(&rt, format!(in alloc; "{name}.paint")?)?;
@@ -31,7 +30,7 @@ fn main(rt: HostRuntime) -> Result<(), Error> {
 }
 
 /// The text of the image that a script paints, or of its fault.
-fn outcome(alloc: Global, script: &[u8]) -> Result<Vec<u8>, Error> {
+fn outcome(alloc: Global, script: &[u8]) -> Result<Vec<u8>, AllocError> {
     match paint_text(alloc, script) {
         Ok(text) => Ok(text),
         Err(fault) => Ok(format!(in alloc; "{fault}\n")?.into_bytes()),
