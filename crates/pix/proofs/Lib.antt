@@ -1,5 +1,8 @@
 pub mod Rectangles
 pub mod Rows
-pub mod Steps
 pub mod Places
 pub mod Clear
+pub mod Steps
+pub mod Copies
+pub mod Paired
+pub mod PairedPoints

@@ -10,10 +10,12 @@ use lib.IntN.{negsuc}
 use Rattle.pix.specs.Image.{Image, IsInside, region_of}
 use Rattle.pix.specs.Region.{Rectangle, right, bottom, has_column, has_row, covers, no_points, between, intersection_of}
 
-Decides-int_lt : (a b : ℤ) → Decides (int_lt a b) (a <ℤ b)
+-- the test whether a whole number is below another
+pub Decides-int_lt : (a b : ℤ) → Decides (int_lt a b) (a <ℤ b)
 Decides-int_lt a b = (λ e. grind (arith, ints), λ h. grind (arith, ints))
 
-Decides-not_int_lt : (a b : ℤ) → Decides (not (int_lt a b)) (b ≤ℤ a)
+-- the test whether it is not
+pub Decides-not_int_lt : (a b : ℤ) → Decides (not (int_lt a b)) (b ≤ℤ a)
 Decides-not_int_lt a b = (λ e. grind (arith, ints), λ h. grind (arith, ints))
 
 -- a step from l leads to r
@@ -88,8 +90,8 @@ covers-between l t r b x y hr hb false e =
     let f : covers no_points x y ≡ false = false_from _ false (open-from-lies (pos 0) (pos 0) (pos 0) (pos 0) x y) refl in
     rw e (f ∙ sym (false_from _ _ (open-from-lies l t r b x y) e))
 
--- a point of both
-both : (a b c d : Bool) → ((a && b) && (c && d)) ≡ ((a && c) && (b && d))
+-- two pairs of tests, paired the other way
+pub both : (a b c d : Bool) → ((a && b) && (c && d)) ≡ ((a && c) && (b && d))
 both true b true d = refl
 both true true false d = refl
 both true false false d = refl

@@ -8,5 +8,8 @@ pub use Rattle.pix_el.specs.PixelComposite
 pub mod Region
 pub mod Image
 pub mod Sizes
+pub mod Reach
+pub mod Rows
 pub mod Run
 pub mod Spans
+pub mod Pairs

@@ -10,6 +10,6 @@ is_in span n = nat_le span.from n && nat_lt n span.to
 abbrev pub in_box : Span → Span → ℕ → ℕ → Bool
 in_box columns rows x y = is_in columns x && is_in rows y
 
--- f of what stands where the columns and the rows meet, and what stands elsewhere
-abbrev pub where_in : {X : Type 0} → Span → Span → (X → X) → ℕ → ℕ → X → X
-where_in columns rows f x y pixel = if in_box columns rows x y then f pixel else pixel
+-- f of the point and of what stands there, where the columns and the rows meet, and what stands elsewhere
+abbrev pub where_in : {X : Type 0} → Span → Span → (ℕ → ℕ → X → X) → ℕ → ℕ → X → X
+where_in columns rows f x y pixel = if in_box columns rows x y then f x y pixel else pixel

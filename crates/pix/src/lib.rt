@@ -8,6 +8,7 @@ pub use pix_el::{chan, el, gray, ops, rgb};
 
 mod command;
 mod fault;
+mod pairs;
 mod raster;
 mod region;
 

@@ -3,6 +3,7 @@ ghost use Rattle.std.specs.Prelude.{◌≡◌, ℕ, ℤ, pos, ◌<◌, ◌≤◌
 ghost use Rattle.pix.specs.Region.{Rectangle, limit, right, bottom, has_column, has_row, covers, intersection_of, no_points};
 ghost use Rattle.pix.specs.Spans.{is_in};
 
+use crate::pairs::Stretch;
 use std::marker::Model;
 
 /// The greatest side of a region.
@@ -122,6 +123,28 @@ impl Region {
             }
         } else {
             Region::default()
+        }
+    }
+
+    /// Its columns in a raster of that width.
+    pub(crate) fn columns_in(self, width: u32) -> Stretch
+        ensures { result ≡ record { start = self.left; len = self.width; limit = width } }
+    {
+        Stretch {
+            start: self.x,
+            len: self.width,
+            limit: width,
+        }
+    }
+
+    /// Its rows in a raster of that height.
+    pub(crate) fn rows_in(self, height: u32) -> Stretch
+        ensures { result ≡ record { start = self.top; len = self.height; limit = height } }
+    {
+        Stretch {
+            start: self.y,
+            len: self.height,
+            limit: height,
         }
     }
 

@@ -3,3 +3,10 @@ pub mod Within
 pub mod Terms
 pub mod Near
 pub mod Kept
+pub mod Hue
+pub mod ExactSteps
+pub mod Budgets
+pub mod RunSteps
+pub mod Balance
+pub mod RunBounds
+pub mod RunRows

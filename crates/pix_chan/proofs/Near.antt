@@ -1,14 +1,15 @@
 -- One rounded composite is within its product count of the exact composite.
 -- The source may have been rounded k times on the way from a fraction of the whole f: it has not been where k is 0 and f is top.
 use Rattle.std.proofs.Common.{ℕ, ◌+◌, ◌-◌, ◌*◌, ◌≤◌, min, arith, le_of_lt, mul-le-mul_left, mul-le-mul_right, mul_comm}
+use Rattle.std.proofs.lemmas.Nat.{mul-le}
 use Rattle.pix_chan.specs.declared.ops.Op.{Op}
 use Rattle.pix_chan.specs.Number.{top}
 use Rattle.pix_chan.specs.Product.{channel_product, fineness, IsProduct}
 use Rattle.pix_chan.specs.Operators.{Coefficient, Zero, One, Alpha, Rest, source_coefficient, dest_coefficient}
 use Rattle.pix_chan.specs.Composite.{channel_composite}
-use Rattle.pix_chan.specs.ExactComposite.{weight, Within, IsNear}
+use Rattle.pix_chan.specs.ExactComposite.{weight, Within, IsNear, IsNearMatted}
 use Rattle.pix_chan.proofs.Within.{within_cut_times, within_cancel, min_times, rest_times}
-use Rattle.pix_chan.proofs.Terms.{term_by, term_is, reads, enters, product_count_is}
+use Rattle.pix_chan.proofs.Terms.{term_by, term_is, reads, enters, product_count_is, matted_count_is}
 
 -- a channel x, rounded at most k times on the way from the fraction n / f
 pub record IsFrom (fine k top f x n : ℕ) : Type 0 where
@@ -30,6 +31,14 @@ product_near fine top k f x n w product laws from l =
     let d = mul-le-mul_right w from.close.below in
     let e = mul-le-mul_left (k * f) l in
     within_cancel top _ _ _ laws.positive (omega arith)
+
+-- a product is a channel that was rounded once
+pub from_product : (fine top x w : ℕ) (product : ℕ → ℕ → ℕ) → IsProduct fine top product → x ≤ top → w ≤ top → IsFrom fine 1 top (top * top) (product x w) (x * w)
+from_product fine top x w product laws l lw =
+    let c = product_near fine top 0 top x x w product laws (from_itself fine top x l) lw in
+    let up = mul-le-mul_left top c.above in
+    let down = mul-le-mul_left top c.below in
+    record { small = omega (arith, laws.lesser x w l lw); proper = mul-le x w top top l lw; close = omega arith }
 
 -- what a channel leaves of the top
 pub rest_from : (fine k top f x n : ℕ) → IsFrom fine k top f x n → IsFrom fine k top f (top - x) (f - n)
@@ -80,3 +89,14 @@ channel_near op root s sa d da laws ls lsa ld lda =
     let t = top root in
     rw (product_count_is op, term_is a root s da, term_is b root d sa)
     (turned _ _ _ fineness (composite_near a b fineness 0 t t s s sa sa d da (channel_product root) laws (from_itself fineness t s ls) (from_itself fineness t sa lsa) ld lda))
+
+-- a channel's composite through the matte m
+pub matted_near : (op : Op) (root s sa m d da : ℕ) → IsProduct fineness (top root) (channel_product root) → s ≤ top root → sa ≤ top root → m ≤ top root → d ≤ top root → da ≤ top root
+    → IsNearMatted root op m s sa d da (channel_composite root op (channel_product root s m) (channel_product root sa m) d da)
+matted_near op root s sa m d da laws ls lsa lm ld lda =
+    let a = source_coefficient op in
+    let b = dest_coefficient op in
+    let t = top root in
+    let p = channel_product root in
+    rw (matted_count_is op, term_is a root (p s m) da, term_is b root d (p sa m))
+    (turned _ _ _ fineness (composite_near a b fineness 1 t (t * t) (p s m) (s * m) (p sa m) (sa * m) d da p laws (from_product fineness t s m p laws ls lm) (from_product fineness t sa m p laws lsa lm) ld lda))

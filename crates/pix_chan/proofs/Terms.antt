@@ -4,7 +4,7 @@ use Rattle.pix_chan.specs.declared.ops.Op.{Op}
 use Rattle.pix_chan.specs.declared.ops.Op.TheVariants.{Src, Dest, SrcOver, DestOver, SrcOut, DestOut, SrcIn, DestIn, SrcAtop, DestAtop, Xor, Clear, Plus}
 use Rattle.pix_chan.specs.Number.{top}
 use Rattle.pix_chan.specs.Product.{channel_product}
-use Rattle.pix_chan.specs.Operators.{Coefficient, Zero, One, Alpha, Rest, source_coefficient, dest_coefficient, product_count}
+use Rattle.pix_chan.specs.Operators.{Coefficient, Zero, One, Alpha, Rest, source_coefficient, dest_coefficient, product_count, matted_count}
 use Rattle.pix_chan.specs.Composite.{term}
 
 -- what a coefficient leaves of the channel x, by any product
@@ -49,3 +49,19 @@ product_count_is DestAtop = refl
 product_count_is Xor = refl
 product_count_is Clear = refl
 product_count_is Plus = refl
+
+-- the counts through a matte by the coefficients
+pub matted_count_is : (op : Op) → matted_count op ≡ reads (source_coefficient op) + 1 * enters (source_coefficient op) + (1 + 1) * reads (dest_coefficient op)
+matted_count_is Src = refl
+matted_count_is Dest = refl
+matted_count_is SrcOver = refl
+matted_count_is DestOver = refl
+matted_count_is SrcOut = refl
+matted_count_is DestOut = refl
+matted_count_is SrcIn = refl
+matted_count_is DestIn = refl
+matted_count_is SrcAtop = refl
+matted_count_is DestAtop = refl
+matted_count_is Xor = refl
+matted_count_is Clear = refl
+matted_count_is Plus = refl

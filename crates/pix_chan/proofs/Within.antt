@@ -10,6 +10,12 @@ within_sum d u v e x y p q = omega arith
 pub within_chain : (d u v e w : ℕ) → Within d u v → Within e v w → Within (d + e) u w
 within_chain d u v e w p q = omega arith
 
+pub within_more : (d e u v : ℕ) → d ≤ e → Within d u v → Within e u v
+within_more d e u v l p = omega arith
+
+pub within_times : (k d u v : ℕ) → Within d u v → Within (d * k) (u * k) (v * k)
+within_times k d u v p = omega (arith, mul-le-mul_right k p.above, mul-le-mul_right k p.below)
+
 -- both stopped at k
 pub within_cut : (k d u v : ℕ) → Within d u v → Within d (min k u) (min k v)
 within_cut k d u v p = omega arith

@@ -3,7 +3,7 @@ use Rattle.std.specs.Prelude.{ℕ, ◌+◌, ◌-◌, ◌*◌, ◌≤◌, min}
 use Rattle.pix_chan.specs.declared.ops.Op.{Op}
 use Rattle.pix_chan.specs.Number.{top}
 use Rattle.pix_chan.specs.Product.{fineness}
-use Rattle.pix_chan.specs.Operators.{Coefficient, Zero, One, Alpha, Rest, source_coefficient, dest_coefficient, product_count}
+use Rattle.pix_chan.specs.Operators.{Coefficient, Zero, One, Alpha, Rest, source_coefficient, dest_coefficient, product_count, matted_count}
 
 -- how much of a whole a coefficient is, where alpha is the other side's, of the same whole
 abbrev pub weight : Coefficient → ℕ → ℕ → ℕ
@@ -30,3 +30,10 @@ IsNear root op s sa d da x =
     Within (product_count op * top root)
     (fineness * (x * top root))
     (fineness * exact_composite op (top root) s sa (top root) d da)
+
+-- The same through a matte m, which both s and sa are times: all numbers are of the whole top * top * top, of which a unit is top * top.
+abbrev pub IsNearMatted : ℕ → Op → ℕ → ℕ → ℕ → ℕ → ℕ → ℕ → Type 0
+IsNearMatted root op m s sa d da x =
+    Within (matted_count op * (top root * top root))
+    (fineness * (x * (top root * top root)))
+    (fineness * exact_composite op (top root * top root) (s * m) (sa * m) (top root) d da)

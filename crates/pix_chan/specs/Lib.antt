@@ -8,6 +8,8 @@ pub mod Channel
 pub mod Operators
 pub mod Composite
 pub mod ExactComposite
+pub mod ExactRun
+pub mod Hue
 pub mod ProductLaws
 pub mod QuotientLaws
 pub mod DepthLaws

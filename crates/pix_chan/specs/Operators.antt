@@ -57,3 +57,19 @@ product_count DestAtop = 2
 product_count Xor = 2
 product_count Clear = 0
 product_count Plus = 0
+
+-- how many products enter a composite through a matte: those that matte the source's channel and its alpha count apart
+abbrev pub matted_count : Op → ℕ
+matted_count Src = 1
+matted_count Dest = 0
+matted_count SrcOver = 3
+matted_count DestOver = 2
+matted_count SrcOut = 2
+matted_count DestOut = 2
+matted_count SrcIn = 2
+matted_count DestIn = 2
+matted_count SrcAtop = 4
+matted_count DestAtop = 4
+matted_count Xor = 4
+matted_count Clear = 0
+matted_count Plus = 1

@@ -1,5 +1,5 @@
 -- Loops that write one place of a list after the other.
-use Rattle.std.proofs.Common.{◌≡◌, ℕ, zero, suc, [], ◌∷◌, min, ◌+◌, ◌<◌, ◌≤◌, List, length, get_or, set, map, sym, ap, ◌∙◌, arith, length-set, inl, inr, refl}
+use Rattle.std.proofs.Common.{◌≡◌, ℕ, zero, suc, [], ◌∷◌, min, ◌+◌, ◌<◌, ◌≤◌, List, length, get_or, set, map, take, drop, ◌++◌, sym, ap, ◌∙◌, arith, length-set, inl, inr, refl, replicate}
 use Rattle.std.specs.List.{range_with_len}
 use Rattle.pix_el.specs.PixelComposite.{over}
 use Rattle.std.proofs.lemmas.Bool.{cases_lt}
@@ -25,11 +25,21 @@ written_more f d old now i x so_far lt is = record {
   rest = λ k h. get_or-set_other now i k x d (λ e. omega arith) ∙ so_far.rest k (omega arith);
 }
 
+-- what holds of each written place holds of one more
+pub each_more : {X : Type 0} (R : ℕ → X → Type 0) (d : X) (now : List X) (i : ℕ) (x : X) → i < length now
+    → ((k : ℕ) → k < i → R k (get_or now k d)) → R i x → (k : ℕ) → k < i + 1 → R k (get_or (set now i x) k d)
+each_more R d now i x lt so_far here k h = elim (cases_lt k i) [
+  | inl below ↦ rw (get_or-set_other now i k x d (λ e. omega arith)) (so_far k below)
+  | inr above ↦
+      let at : k ≡ i = omega arith in
+      rw (at, get_or-set_same now i x d lt) here
+]
+
 -- once all are written
-pub written_all : {X : Type 0} (f : ℕ → X → X) (d : X) (old now : List X) (i : ℕ) → Written f d old now i → length old ≤ i
-    → now ≡ map (λ k. f k (get_or old k d)) (range_with_len 0 (length old))
-written_all f d old now i so_far le =
-    fill_by_all (λ k. f k (get_or old k d)) now (length old) d so_far.long (λ k h. so_far.done k (omega arith))
+pub written_all : {X : Type 0} (f : ℕ → X → X) (d : X) (old now : List X) (i count : ℕ) → Written f d old now i → length old ≡ count → count ≤ i
+    → now ≡ map (λ k. f k (get_or old k d)) (range_with_len 0 count)
+written_all f d old now i count so_far long le =
+    fill_by_all (λ k. f k (get_or old k d)) now count d (so_far.long ∙ long) (λ k h. so_far.done k (omega arith))
 
 -- before the first is written
 pub written_none : {X : Type 0} (f : ℕ → X → X) (d : X) (old : List X) → Written f d old old 0
@@ -38,7 +48,15 @@ written_none f d old = record { long = refl; done = λ k h. absurd (omega arith)
 -- once all are written, by a function that does not ask for the place
 pub written_each : {X : Type 0} (f : X → X) (d : X) (old now : List X) (i : ℕ) → Written (λ _. f) d old now i → length old ≤ i → now ≡ map f old
 written_each {X = X} f d old now i so_far le =
-    written_all (λ _. f) d old now i so_far le ∙ sym (fill_by_all (λ k. f (get_or old k d)) (map f old) (length old) d (length-map old f) (λ k h. get_or-map f old k d d h))
+    written_all (λ _. f) d old now i (length old) so_far refl le ∙ sym (fill_by_all (λ k. f (get_or old k d)) (map f old) (length old) d (length-map old f) (λ k h. get_or-map f old k d d h))
+
+map_same : {X : Type 0} (x : X) (xs : List X) → map (λ _. x) xs ≡ replicate (length xs) x
+map_same x [] = refl
+map_same {X = X} x (y ∷ xs) = ap (λ (l : List X). x ∷ l) (map_same x xs)
+
+-- once all are written, all with one
+pub written_same : {X : Type 0} (x d : X) (old now : List X) (i : ℕ) → Written (λ _ _. x) d old now i → length old ≤ i → now ≡ replicate (length old) x
+written_same x d old now i so_far le = written_each (λ _. x) d old now i so_far le ∙ map_same x old
 
 length-over : {X Y : Type 0} (f : X → Y → Y) (source : List X) (dest : List Y) → length (over f source dest) ≡ length dest
 length-over f source [] = refl
@@ -73,3 +91,13 @@ written_over f a source d old now i so_far end =
       | inl below ↦ so_far.done k (omega arith) ∙ sym (get_or-over f source old k a d below h)
       | inr past ↦ so_far.rest k (omega arith) ∙ sym (get_or-over_past f source old k d past)
     ]
+
+-- what is copied, and what stands past it
+pub over_copied : {X : Type 0} (source dest : List X)
+    → take (min (length dest) (length source)) source ++ drop (min (length dest) (length source)) dest ≡ over (λ s d. s) source dest
+over_copied [] [] = refl
+over_copied (s ∷ source) [] = let none : min 0 (length (s ∷ source)) ≡ 0 = omega arith in rw none refl
+over_copied [] (d ∷ dest) = let none : min (length (d ∷ dest)) 0 ≡ 0 = omega arith in rw none refl
+over_copied {X = X} (s ∷ source) (d ∷ dest) =
+    let less : min (length (d ∷ dest)) (length (s ∷ source)) ≡ suc (min (length dest) (length source)) = omega arith in
+    rw less (ap (λ (l : List X). s ∷ l) (over_copied source dest))

@@ -4,8 +4,10 @@ pub use Rattle.pix_chan.specs.Channel
 pub use Rattle.pix_chan.specs.Operators
 pub use Rattle.pix_chan.specs.Composite
 pub use Rattle.pix_chan.specs.ExactComposite
+pub use Rattle.pix_chan.specs.Hue
+pub mod Model
 pub mod Pixel
 pub mod PixelComposite
-pub mod ExactPixel
 pub mod Premultiplied
+pub mod ExactPixel
 pub mod PixelLaws

@@ -1,10 +1,11 @@
 //! Lightness alone.
-ghost use Rattle.std.specs.Prelude.{ℕ};
+ghost use Rattle.std.specs.Prelude.{ℕ, refl};
+ghost use Rattle.std.proofs.Common.{arith};
 
 use crate::el::Pix;
 use crate::model::ColorModel;
 use crate::seal::SealedModel;
-use pix_chan::chan::{Ch8, Ch16, Linear, Premultiplied};
+use pix_chan::chan::{Ch8, Ch16, Linear, Premultiplied, Straight};
 use std::ops::Range;
 
 /// The model of lightness.
@@ -29,7 +30,15 @@ impl ColorModel for Gray {
     ghost KIND = { 1 };
 
     const KIND: u8 = 1;
+
+    ghost placed = { record { hue_first = refl; hue_whole = Prim.omega arith; linear_next = refl; linear_whole = Prim.omega arith; alpha_last = refl } };
 }
+
+/// Lightness of eight bits, linear.
+pub type Gray8 = Pix<1, Ch8, Gray, Straight, Linear>;
+
+/// Lightness of sixteen bits, linear.
+pub type Gray16 = Pix<1, Ch16, Gray, Straight, Linear>;
 
 /// Lightness and alpha of eight bits each, premultiplied and linear.
 pub type Graya8p = Pix<2, Ch8, Gray, Premultiplied, Linear>;

@@ -1,6 +1,8 @@
 //! Color models: which channels a pixel has, and what they mean.
-ghost use Rattle.std.specs.Prelude.{ℕ};
+ghost use Rattle.std.specs.Prelude.{◌≡◌, ℕ};
 ghost use Rattle.std.specs.declared.ops.Range.{Range};
+ghost use Rattle.pix_el.specs.Pixel.{lies_in};
+ghost use Rattle.pix_el.specs.Model.{IsModel};
 
 use crate::seal::SealedModel;
 use std::fmt::Debug;
@@ -27,4 +29,14 @@ pub trait ColorModel: SealedModel + Clone + Copy + Debug + Default + PartialEq {
 
     /// Tells the models apart.
     const KIND: u8;
+
+    ghost placed: { IsModel CIRCULAR LINEAR ALPHA };
+}
+
+/// Whether the channel at a place is a hue in the model `M`.
+pub(crate) fn is_hue<M: ColorModel>(place: usize) -> bool
+    ensures { result ≡ lies_in M.CIRCULAR place }
+{
+    let hues = M::CIRCULAR;
+    hues.start <= place && place < hues.end
 }

@@ -1,5 +1,6 @@
 //! Red, green and blue.
-ghost use Rattle.std.specs.Prelude.{ℕ};
+ghost use Rattle.std.specs.Prelude.{ℕ, refl};
+ghost use Rattle.std.proofs.Common.{arith};
 
 use crate::el::Pix;
 use crate::model::ColorModel;
@@ -29,6 +30,8 @@ impl ColorModel for Rgb {
     ghost KIND = { 0 };
 
     const KIND: u8 = 0;
+
+    ghost placed = { record { hue_first = refl; hue_whole = Prim.omega arith; linear_next = refl; linear_whole = Prim.omega arith; alpha_last = refl } };
 }
 
 /// Red, green, blue and alpha of eight bits each, premultiplied and linear.

@@ -1,12 +1,13 @@
-use Rattle.std.proofs.Common.{◌≡◌, length, map, get_or, arith, sym, ap, ◌∙◌, refl}
+use Rattle.std.proofs.Common.{◌≡◌, ◌-◌, ℕ, length, map, get_or, true, arith, sym, ap, ◌∙◌, refl}
 use Rattle.std.proofs.lemmas.List.{length-map, map-set, get_or-map}
 use Rattle.pix_chan.specs.Number.{top}
-use Rattle.pix_el.specs.Pixel.{channel}
-use Rattle.pix_el.proofs.Written.{written_none, written_more, written_all}
+use Rattle.pix_chan.specs.Hue.{hue_weight, IsHueMove}
+use Rattle.pix_el.specs.Pixel.{lies_in, channel}
+use Rattle.pix_el.proofs.Written.{written_none, written_more, written_all, each_more}
 use Rattle.pix_el.proofs.el.composite_each.Goals as goal
 
 pub loop-i-init : goal.loop-i-init
-loop-i-init g c = written_none _ _ _
+loop-i-init g c = record { composited = written_none _ _ _; moved = λ k h hue. absurd (omega arith) }
 
 pub loop-i-preserved : goal.loop-i-preserved
 loop-i-preserved g c =
@@ -14,13 +15,24 @@ loop-i-preserved g c =
     let n = g.C.Channel.number in
     let i = c.loop-i.i in
     let src = c.args.src.now in
+    let old = c.args.dst.now in
     let now = c.loop-i.dst in
-    let long : length now ≡ length c.args.dst.now = sym (length-map now n) ∙ c.loop-i.invariant.long ∙ length-map c.args.dst.now n in
+    let weight = hue_weight root g.O.Blend.op (n c.args.sa) (top root - n c.args.da1) in
+    let so_far = c.loop-i.invariant in
+    let long : length now ≡ length old = sym (length-map now n) ∙ so_far.composited.long ∙ length-map old n in
     let s : n c.index-src-i.result ≡ channel root (map n src) i = ap n c.index-src-i.is ∙ sym (get_or-map n src i c.index-src-i.result (top root) (omega arith)) in
     let d : get_or (map n now) i (top root) ≡ n (get_or now i c.index-dst-i.result) = get_or-map n now i c.index-dst-i.result (top root) (omega arith) in
-    rw map-set
-    (written_more _ _ _ _ i _ c.loop-i.invariant (omega (arith, length-map c.args.dst.now n))
-    (c.composite.ensures ∙ rw (s, d) refl))
+    let first : channel root (map n old) i ≡ n (get_or now i c.index-dst-i.result) = sym (so_far.composited.rest i (omega arith)) ∙ d in
+    rw map-set (record {
+      composited = written_more _ _ _ _ i (n c.composite_place.new.dst) so_far.composited (omega (arith, length-map old n)) (c.composite_place.ensures.composite ∙ rw (s, d) refl);
+      moved = each_more
+          (λ k x. lies_in g.M.ColorModel.CIRCULAR k ≡ true → IsHueMove root weight (channel root (map n old) k) (channel root (map n src) k) x)
+          (top root) (map n now) i (n c.composite_place.new.dst) (omega (arith, length-map now n)) so_far.moved
+          (rw (first, ← s) c.composite_place.ensures.moves);
+    })
 
 pub returns : goal.returns
-returns g c = written_all _ _ _ _ c.loop-i.i c.loop-i.invariant (omega (arith, length-map c.args.dst.now g.C.Channel.number))
+returns g c = record {
+  composite = written_all _ _ _ _ c.loop-i.i _ c.loop-i.invariant.composited (length-map c.args.dst.now g.C.Channel.number) (omega arith);
+  moves = λ place lt hue. c.loop-i.invariant.moved place (omega arith) hue;
+}

@@ -1,14 +1,25 @@
-use Rattle.std.proofs.Common.{◌-◌, map}
+use Rattle.std.proofs.Common.{◌≡◌, ◌<◌, ◌-◌, ℕ, map, true, if◌then◌else◌}
 use Rattle.pix_chan.specs.Number.{top}
 use Rattle.pix_chan.specs.Composite.{channel_composite}
-use Rattle.pix_el.specs.Pixel.{channel}
+use Rattle.pix_chan.specs.Hue.{hue_composite, hue_weight, IsHueMove}
+use Rattle.pix_el.specs.Pixel.{lies_in, channel}
 use Rattle.pix_el.proofs.Written.{Written}
 use Rattle.pix_el.proofs.el.composite_each.Given as goal
 
--- the channels below i are composited
+-- the channels below i are composited, and the hues among them have moved
 abbrev pub invariant-loop-i : goal.invariant-loop-i
 invariant-loop-i g l =
     let root = g.C.Channel.root in
+    let op = g.O.Blend.op in
     let n = g.C.Channel.number in
-    Written (λ k d. channel_composite root g.O.Blend.op (channel root (map n l.src) k) (top root - n l.sa1) d (top root - n l.da1))
-    (top root) (map n l.initial.dst) (map n l.dst) l.i
+    let hues = g.M.ColorModel.CIRCULAR in
+    let sa = n l.sa in
+    let da = top root - n l.da1 in
+    let s = λ (k : ℕ). channel root (map n l.src) k in
+    record {
+      composited : Written
+          (λ k d. if lies_in hues k then hue_composite root op (s k) sa d da else channel_composite root op (s k) sa d da)
+          (top root) (map n l.initial.dst) (map n l.dst) l.i;
+      moved : (k : ℕ) → k < l.i → lies_in hues k ≡ true
+          → IsHueMove root (hue_weight root op sa da) (channel root (map n l.initial.dst) k) (s k) (channel root (map n l.dst) k);
+    }

@@ -1,17 +1,16 @@
 use Rattle.std.proofs.Common.{◌≡◌, ℕ, ◌<◌, drop}
 use Rattle.pix.specs.Run.{run_at}
-use Rattle.pix.specs.Image.{point}
+use Rattle.pix.specs.Image.{point, region_of}
 use Rattle.pix.proofs.raster.Raster.run.Given as goal
 
 -- what the commands that are left make of the image now is what all of them make of the image at the start
 abbrev pub invariant-loop-command : goal.invariant-loop-command
 invariant-loop-command g l =
     let n = g.P.Pixel.numbers in
-    let root = g.P.Chan.Channel.root in
-    let alpha = g.P.Model.ColorModel.ALPHA in
+    let run = run_at g.P.Pixel.layout n g.M.Pixel.numbers (region_of l.initial.self) in
     record {
       same_width : l.self.width ≡ l.initial.self.width;
       same_height : l.self.height ≡ l.initial.self.height;
       rest : (x y : ℕ) → x < l.initial.self.width → y < l.initial.self.height →
-          run_at root alpha n (drop l.command-index l.commands) x y (point n l.self x y) ≡ run_at root alpha n l.commands x y (point n l.initial.self x y);
+          run (drop l.command-index l.commands) x y (point n l.self x y) ≡ run l.commands x y (point n l.initial.self x y);
     }

@@ -10,7 +10,7 @@ loop-d-init g c = written_none _ _ _
 pub loop-d-preserved : goal.loop-d-preserved
 loop-d-preserved g c =
     let n = g.Self.Pixel.numbers in
-    let f = pixel_composite g.Self.Chan.Channel.root g.Self.Model.ColorModel.ALPHA g.O.Blend.op (n c.args.clr.now) in
+    let f = pixel_composite g.Self.Pixel.layout g.O.Blend.op (n c.args.clr.now) in
     let i = c.loop-d.d-index in
     let now = c.loop-d.dst in
     let long : length now ≡ length c.args.dst.now = sym (length-map now n) ∙ c.loop-d.invariant.long ∙ length-map c.args.dst.now n in

@@ -7,5 +7,5 @@ use Rattle.pix_el.proofs.el.Pixel.composite_color.Given as goal
 abbrev pub invariant-loop-d : goal.invariant-loop-d
 invariant-loop-d g l =
     let n = g.Self.Pixel.numbers in
-    Written (λ _. pixel_composite g.Self.Chan.Channel.root g.Self.Model.ColorModel.ALPHA g.O.Blend.op (n l.clr))
+    Written (λ _. pixel_composite g.Self.Pixel.layout g.O.Blend.op (n l.clr))
     [] (map n l.initial.dst) (map n l.dst) l.d-index

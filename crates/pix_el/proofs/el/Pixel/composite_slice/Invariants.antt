@@ -7,5 +7,5 @@ use Rattle.pix_el.proofs.el.Pixel.composite_slice.Given as goal
 abbrev pub invariant-loop-i : goal.invariant-loop-i
 invariant-loop-i g l =
     let n = g.Self.Pixel.numbers in
-    let f = pixel_composite g.Self.Chan.Channel.root g.Self.Model.ColorModel.ALPHA g.O.Blend.op in
+    let f = pixel_composite g.Self.Pixel.layout g.O.Blend.op in
     Written (λ k. f (get_or (map n l.src) k [])) [] (map n l.initial.dst) (map n l.dst) l.i

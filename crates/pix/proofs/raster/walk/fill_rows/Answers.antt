@@ -1,9 +1,8 @@
 use Rattle.std.proofs.Common.{◌≡◌, ℕ, ◌<◌, ◌≤◌, ◌+◌, ◌*◌, ◌-◌, length, map, arith, rules, [], ◌∙◌}
 use Rattle.std.proofs.lemmas.Grind.{common_steps}
 use Rattle.std.proofs.Math.Nat.{mul-le-mul_right}
-use Rattle.pix_el.specs.PixelComposite.{pixel_composite}
-use Rattle.pix.proofs.Rows.{zoned-map, length-part, row-step}
-use Rattle.pix.proofs.raster.composite_rows.Goals as goal
+use Rattle.pix.proofs.Rows.{Part, part_each, zoned-map, length-part, row-step}
+use Rattle.pix.proofs.raster.walk.fill_rows.Goals as goal
 
 pub offset_bounds-pixels-start : goal.offset_bounds-pixels-start
 offset_bounds-pixels-start g c =
@@ -14,15 +13,16 @@ offset_bounds-pixels-start g c =
 pub loop-y-preserved : goal.loop-y-preserved
 loop-y-preserved g c =
     let n = g.P.Pixel.numbers in
-    let f = pixel_composite g.P.Chan.Channel.root g.P.Model.ColorModel.ALPHA g.O.Blend.op (n c.args.clr.now) in
+    let f = g.F.Fill.makes c.args.change.now in
     let up : (c.loop-y.y + 1) * c.args.width ≤ c.args.rows.to * c.args.width = mul-le-mul_right c.args.width (let p : c.loop-y.y + 1 ≤ c.args.rows.to = omega arith in p) in
     let a : ℕ = c.loop-y.y * c.args.width + c.args.columns.from in
     let k : ℕ = c.loop-y.y * c.args.width + c.args.columns.to - a in
     let fits : a + k ≤ length c.loop-y.pixels = omega arith in
+    let part : Part (λ _. f) [] (map n c.loop-y.pixels) (map n c.fill.new.row) a k = part_each n f [] c.loop-y.pixels c.fill.new.row a k fits c.fill.ensures in
     record {
-      long = length-part n f c.loop-y.pixels c.composite_color.new.dst a k fits c.composite_color.ensures ∙ c.loop-y.invariant.long;
-      done = row-step f [] (map n c.args.pixels.now) (map n c.loop-y.pixels) _ c.args.width c.args.columns.from c.args.columns.to c.args.rows.from c.loop-y.y
-          c.requires.ordered c.requires.across (omega arith) (zoned-map n f [] c.loop-y.pixels c.composite_color.new.dst a k fits c.composite_color.ensures) c.loop-y.invariant.done;
+      long = length-part n (λ _. f) [] c.loop-y.pixels c.fill.new.row a k fits part ∙ c.loop-y.invariant.long;
+      done = row-step (λ _ _. f) [] (map n c.args.pixels.now) (map n c.loop-y.pixels) _ c.args.width c.args.columns.from c.args.columns.to c.args.rows.from c.loop-y.y k
+          c.requires.ordered c.requires.across (omega arith) (omega arith) (zoned-map n (λ _. f) [] c.loop-y.pixels c.fill.new.row a k fits part) c.loop-y.invariant.done;
     }
 
 pub returns : goal.returns

@@ -1,5 +1,5 @@
 use Rattle.std.proofs.Common.{◌≡◌, replicate}
-use Rattle.pix.proofs.raster.Raster.filled.Given as goal
+use Rattle.pix.proofs.raster.Raster.with_color.Given as goal
 
 -- as many pixels as were counted
 abbrev pub invariant-loop : goal.invariant-loop

@@ -1,0 +1,144 @@
+//! What changes a raster: clears, copies, composites, and lists of them.
+ghost use Rattle.std.specs.Prelude.{◌≡◌, ℕ, List, ◌+◌, ◌∷◌, []};
+ghost use Rattle.pix_el.specs.PixelComposite.{pixel_composite};
+ghost use Rattle.pix.specs.Image.{region_of, Changed};
+ghost use Rattle.pix.specs.Run.{run_at, done_at, AreExchanged};
+ghost use Rattle.pix.specs.Pairs.{where_covered, where_paired};
+ghost use Rattle.pix.specs.declared.command.Command.{Command};
+
+use super::Raster;
+use super::dispatch::{ColorSource, RasterSource, composite_by};
+use super::walk::{
+    Blit, CompositedColor, CompositedPixels, CopiedColor, CopiedPixels, Fill, blit_rows, fill_rows,
+};
+use crate::command::Command;
+use crate::pairs::pair_up;
+use crate::region::Region;
+use pix_chan::chan::{Linear, Premultiplied};
+use pix_chan::ops::Blend;
+use pix_el::el::Pixel;
+
+impl<P: Pixel> Raster<P> {
+    /// Makes every pixel the default one, whose channels are all 0.
+    pub fn clear(&mut self)
+        ensures { Changed P.numbers self.old self.new (done_at P.layout P.numbers (region_of self.old) Command.Clear) }
+    {
+        P::copy_color(&mut self.pixels, &P::default());
+    }
+
+    /// Copies a color to each point of a region that lies in the raster; no other point changes.
+    pub fn copy_color(&mut self, reg: Region, clr: P)
+        ensures { Changed P.numbers self.old self.new (done_at P.layout P.numbers (region_of self.old) (Command.CopyColor reg clr)) }
+    {
+        self.fill_region(reg, &CopiedColor { clr });
+    }
+
+    /// Copies a region `from` of another raster to a region `to` of this one.
+    ///
+    /// The point at an offset from the corner of `to` gets the pixel at the same offset from the corner of `from`, where the offset
+    /// lies below the sides of both regions and both points lie in their rasters; no other point changes.
+    pub fn copy_raster(&mut self, to: Region, src: &Raster<P>, from: Region)
+        ensures { Changed P.numbers self.old self.new (done_at P.layout P.numbers (region_of self.old) (Command.CopyRaster to src.entry from)) }
+    {
+        self.blit_region(to, src, from, &CopiedPixels {});
+    }
+
+    /// Changes each point of a region that lies in the raster.
+    fn fill_region<F: Fill<P>>(&mut self, reg: Region, change: &F)
+        requires { F.can_fill }
+        ensures { Changed P.numbers self.old self.new (where_covered reg (F.makes change.now)) }
+    {
+        let clipped = self.intersection(reg);
+        let width = self.width as usize;
+        fill_rows(
+            &mut self.pixels,
+            width,
+            clipped.columns(),
+            clipped.rows(),
+            change,
+        );
+    }
+
+    /// Changes each point of a region by the point of another raster that it is paired with.
+    fn blit_region<S: Pixel, B: Blit<P, S>>(&mut self, to: Region, src: &Raster<S>, from: Region, change: &B)
+        requires { B.can_blit }
+        ensures { Changed P.numbers self.old self.new (where_paired to (region_of self.old) from S.numbers src.now (B.makes change.now)) }
+    {
+        let columns = pair_up(to.columns_in(self.width), from.columns_in(src.width));
+        let rows = pair_up(to.rows_in(self.height), from.rows_in(src.height));
+        blit_rows(
+            &mut self.pixels,
+            self.width as usize,
+            &src.pixels,
+            src.width as usize,
+            columns,
+            rows,
+            change,
+        );
+    }
+}
+
+impl<P: Pixel<Alpha = Premultiplied, Gamma = Linear>> Raster<P> {
+    /// Composites a color with each point of a region that lies in the raster; no other point changes.
+    ///
+    /// Condition: the format has an alpha channel.
+    pub fn composite_color<O: Blend>(&mut self, reg: Region, clr: P, op: O)
+        requires has_alpha { P.layout.count ≡ P.layout.alpha + 1 }
+        ensures { Changed P.numbers self.old self.new (done_at P.layout P.numbers (region_of self.old) (Command.Color reg clr O.op)) }
+    {
+        self.fill_region(reg, &CompositedColor { clr, op });
+    }
+
+    /// Composites a region `from` of another raster with a region `to` of this one: the points at the same offsets from their
+    /// corners, as [`Raster::copy_raster`] pairs them; no other point changes.
+    ///
+    /// Condition: the format has an alpha channel.
+    pub fn composite_raster<O: Blend>(&mut self, to: Region, src: &Raster<P>, from: Region, op: O)
+        requires has_alpha { P.layout.count ≡ P.layout.alpha + 1 }
+        ensures { Changed P.numbers self.old self.new (done_at P.layout P.numbers (region_of self.old) (Command.Raster to src.entry from O.op)) }
+    {
+        self.blit_region(to, src, from, &CompositedPixels { op });
+    }
+
+    /// Runs commands in order: at each point, those that reach it one after the other; no other point changes.
+    ///
+    /// Condition: the format has an alpha channel.
+    pub fn run<M: Pixel>(&mut self, commands: &[Command<'_, P, M>])
+        requires has_alpha { P.layout.count ≡ P.layout.alpha + 1 }
+        ensures fold { Changed P.numbers self.old self.new
+            (run_at P.layout P.numbers M.numbers (region_of self.old) commands.now) }
+
+        // The same of a list in which two neighbours that reach no common point are exchanged.
+        ensures exchanged { (others : List (Command P M)) → AreExchanged P.numbers M.numbers self.old commands.now others
+            → Changed P.numbers self.old self.new (run_at P.layout P.numbers M.numbers (region_of self.old) others) }
+    {
+        for command in commands {
+            self.perform(command);
+        }
+    }
+
+    /// Does one command.
+    fn perform<M: Pixel>(&mut self, command: &Command<'_, P, M>)
+        requires has_alpha { P.layout.count ≡ P.layout.alpha + 1 }
+        ensures { Changed P.numbers self.old self.new
+            (run_at P.layout P.numbers M.numbers (region_of self.old) (command.now ∷ [])) }
+    {
+        match command {
+            Command::Clear => self.clear(),
+            Command::CopyColor { reg, clr } => self.copy_color(*reg, *clr),
+            Command::CopyRaster { to, src, from } => self.copy_raster(*to, src, *from),
+            Command::Color { reg, clr, op } => {
+                composite_by(self, &ColorSource { reg: *reg, clr: *clr }, *op);
+            }
+            Command::Raster { to, src, from, op } => {
+                let source = RasterSource {
+                    to: *to,
+                    src,
+                    from: *from,
+                };
+                composite_by(self, &source, *op);
+            }
+            Command::Matte { .. } => {}
+        }
+    }
+}

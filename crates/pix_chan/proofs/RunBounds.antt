@@ -1,0 +1,43 @@
+-- How near a rounded run is to the exact run.
+use Rattle.std.specs.Prelude.{All}
+use Rattle.std.proofs.Common.{ℕ, ◌≤◌, List, arith}
+use Rattle.pix_chan.specs.Number.{top}
+use Rattle.pix_chan.specs.Product.{channel_product, fineness, IsProduct}
+use Rattle.pix_chan.specs.ExactRun.{ChannelEffect, IsOfChannels, Rounded, rounded_run, Exact, both, IsWithinBudget, IsWithinPremultipliedBound}
+use Rattle.pix_chan.proofs.RunSteps.{Holds, run_holds}
+use Rattle.pix_chan.proofs.Balance.{Balanced, run_balanced}
+pub use Rattle.pix_chan.proofs.Budgets.{budget_small}
+
+-- a channel and its alpha lie within their rounding budgets of the exact run, whatever the effects
+pub run_within_budget : (root : ℕ) (start : Rounded) (effects : List ChannelEffect) → IsProduct fineness (top root) (channel_product root)
+    → start.channel ≤ top root → start.alpha ≤ top root → All (IsOfChannels root) effects → IsWithinBudget root start effects (rounded_run root start effects)
+run_within_budget root start effects laws channel_small alpha_small fit =
+    let first : Exact = record { value = start.channel; alpha = start.alpha; whole = 1 } in
+    let begin : Holds fineness (top root) (both 0) start first = record {
+      whole = omega arith;
+      channel = record { small = channel_small; proper = omega arith; close = omega arith };
+      alpha = record { small = alpha_small; proper = omega arith; close = omega arith };
+    } in
+    let end = run_holds effects fineness root (both 0) start first laws fit begin in
+    record { whole = end.whole; channel = end.channel.close; alpha = end.alpha.close }
+
+-- with premultiplied sources they lie within twice the counts
+pub premultiplied_run_near : (root : ℕ) (start : Rounded) (effects : List ChannelEffect) → IsProduct fineness (top root) (channel_product root)
+    → start.channel ≤ top root → start.alpha ≤ top root → All (IsOfChannels root) effects → IsWithinPremultipliedBound root start effects (rounded_run root start effects)
+premultiplied_run_near root start effects laws channel_small alpha_small fit premultiplied =
+    let first : Exact = record { value = start.channel; alpha = start.alpha; whole = 1 } in
+    let begin : Balanced fineness (top root) 0 start first = record {
+      whole = omega arith;
+      channel_small = channel_small;
+      alpha_small = alpha_small;
+      value_proper = omega arith;
+      alpha_proper = omega arith;
+      off = 0;
+      alpha_off = 0;
+      channel = omega arith;
+      alpha = omega arith;
+      together = omega arith;
+      twice = omega arith;
+    } in
+    let end = run_balanced effects fineness root 0 start first laws fit premultiplied begin in
+    record { whole = end.whole; channel = omega (arith, end.channel, end.together); alpha = omega (arith, end.alpha, end.twice) }
