@@ -58,13 +58,13 @@ map_same {X = X} x (y ∷ xs) = ap (λ (l : List X). x ∷ l) (map_same x xs)
 pub written_same : {X : Type 0} (x d : X) (old now : List X) (i : ℕ) → Written (λ _ _. x) d old now i → length old ≤ i → now ≡ replicate (length old) x
 written_same x d old now i so_far le = written_each (λ _. x) d old now i so_far le ∙ map_same x old
 
-length-over : {X Y : Type 0} (f : X → Y → Y) (source : List X) (dest : List Y) → length (over f source dest) ≡ length dest
+pub length-over : {X Y : Type 0} (f : X → Y → Y) (source : List X) (dest : List Y) → length (over f source dest) ≡ length dest
 length-over f source [] = refl
 length-over f [] (d ∷ dest) = refl
 length-over f (s ∷ source) (d ∷ dest) = ap suc (length-over f source dest)
 
 -- the places that both lists have
-get_or-over : {X Y : Type 0} (f : X → Y → Y) (source : List X) (dest : List Y) (k : ℕ) (a : X) (d : Y) → k < length source → k < length dest
+pub get_or-over : {X Y : Type 0} (f : X → Y → Y) (source : List X) (dest : List Y) (k : ℕ) (a : X) (d : Y) → k < length source → k < length dest
     → get_or (over f source dest) k d ≡ f (get_or source k a) (get_or dest k d)
 get_or-over f source [] k a d h l = absurd (omega arith)
 get_or-over f [] (y ∷ dest) k a d h l = absurd (omega arith)

@@ -1,22 +1,23 @@
 //! What changes a raster: clears, copies, composites, and lists of them.
 ghost use Rattle.std.specs.Prelude.{◌≡◌, ℕ, List, ◌+◌, ◌∷◌, []};
-ghost use Rattle.pix_el.specs.PixelComposite.{pixel_composite};
+ghost use Rattle.pix_el.specs.PixelComposite.{matte_numbers};
 ghost use Rattle.pix.specs.Image.{region_of, Changed};
 ghost use Rattle.pix.specs.Run.{run_at, done_at, AreExchanged};
 ghost use Rattle.pix.specs.Pairs.{where_covered, where_paired};
 ghost use Rattle.pix.specs.declared.command.Command.{Command};
 
 use super::Raster;
-use super::dispatch::{ColorSource, RasterSource, composite_by};
+use super::dispatch::{ColorSource, MatteSource, RasterSource, composite_by};
 use super::walk::{
-    Blit, CompositedColor, CompositedPixels, CopiedColor, CopiedPixels, Fill, blit_rows, fill_rows,
+    Blit, CompositedColor, CompositedPixels, CopiedColor, CopiedPixels, Fill, MattedColor, blit_rows, fill_rows,
 };
 use crate::command::Command;
 use crate::pairs::pair_up;
 use crate::region::Region;
-use pix_chan::chan::{Linear, Premultiplied};
+use pix_chan::chan::{Alpha, Linear, Premultiplied};
 use pix_chan::ops::Blend;
-use pix_el::el::Pixel;
+use pix_el::el::{Pix, Pixel};
+use pix_el::matte::Matte;
 
 impl<P: Pixel> Raster<P> {
     /// Makes every pixel the default one, whose channels are all 0.
@@ -100,17 +101,36 @@ impl<P: Pixel<Alpha = Premultiplied, Gamma = Linear>> Raster<P> {
         self.blit_region(to, src, from, &CompositedPixels { op });
     }
 
+    /// Composites a color through a region `from` of a raster of mattes with a region `to` of this one: each point through the matte
+    /// that it is paired with, as [`Raster::copy_raster`] pairs them; no other point changes.
+    ///
+    /// Condition: the format has an alpha channel.
+    pub fn composite_matte<const N: usize, A: Alpha, O: Blend>(
+        &mut self,
+        to: Region,
+        src: &Raster<Pix<N, P::Chan, Matte, A, Linear>>,
+        from: Region,
+        clr: P,
+        op: O,
+    )
+        requires has_alpha { P.layout.count ≡ P.layout.alpha + 1 }
+        ensures { Changed P.numbers self.old self.new (run_at P.layout P.numbers (matte_numbers P.Chan.number) (region_of self.old)
+            (Command.Matte to src.entry from clr O.op ∷ [])) }
+    {
+        self.blit_region(to, src, from, &MattedColor { clr, op });
+    }
+
     /// Runs commands in order: at each point, those that reach it one after the other; no other point changes.
     ///
     /// Condition: the format has an alpha channel.
-    pub fn run<M: Pixel>(&mut self, commands: &[Command<'_, P, M>])
+    pub fn run<const N: usize, A: Alpha>(&mut self, commands: &[Command<'_, P, Pix<N, P::Chan, Matte, A, Linear>>])
         requires has_alpha { P.layout.count ≡ P.layout.alpha + 1 }
         ensures fold { Changed P.numbers self.old self.new
-            (run_at P.layout P.numbers M.numbers (region_of self.old) commands.now) }
+            (run_at P.layout P.numbers (matte_numbers P.Chan.number) (region_of self.old) commands.now) }
 
         // The same of a list in which two neighbours that reach no common point are exchanged.
-        ensures exchanged { (others : List (Command P M)) → AreExchanged P.numbers M.numbers self.old commands.now others
-            → Changed P.numbers self.old self.new (run_at P.layout P.numbers M.numbers (region_of self.old) others) }
+        ensures exchanged { (others : List (Command P (Pix N P.Chan Matte A Linear))) → AreExchanged P.numbers (matte_numbers P.Chan.number) self.old commands.now others
+            → Changed P.numbers self.old self.new (run_at P.layout P.numbers (matte_numbers P.Chan.number) (region_of self.old) others) }
     {
         for command in commands {
             self.perform(command);
@@ -118,10 +138,10 @@ impl<P: Pixel<Alpha = Premultiplied, Gamma = Linear>> Raster<P> {
     }
 
     /// Does one command.
-    fn perform<M: Pixel>(&mut self, command: &Command<'_, P, M>)
+    fn perform<const N: usize, A: Alpha>(&mut self, command: &Command<'_, P, Pix<N, P::Chan, Matte, A, Linear>>)
         requires has_alpha { P.layout.count ≡ P.layout.alpha + 1 }
         ensures { Changed P.numbers self.old self.new
-            (run_at P.layout P.numbers M.numbers (region_of self.old) (command.now ∷ [])) }
+            (run_at P.layout P.numbers (matte_numbers P.Chan.number) (region_of self.old) (command.now ∷ [])) }
     {
         match command {
             Command::Clear => self.clear(),
@@ -138,7 +158,21 @@ impl<P: Pixel<Alpha = Premultiplied, Gamma = Linear>> Raster<P> {
                 };
                 composite_by(self, &source, *op);
             }
-            Command::Matte { .. } => {}
+            Command::Matte {
+                to,
+                src,
+                from,
+                clr,
+                op,
+            } => {
+                let source = MatteSource {
+                    to: *to,
+                    src,
+                    from: *from,
+                    clr: *clr,
+                };
+                composite_by(self, &source, *op);
+            }
         }
     }
 }

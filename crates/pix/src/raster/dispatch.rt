@@ -1,19 +1,21 @@
 //! Composites by an operator that is a value: it is told apart here alone.
-ghost use Rattle.std.specs.Prelude.{◌≡◌, ℕ, List, ◌+◌};
+ghost use Rattle.std.specs.Prelude.{◌≡◌, ℕ, List, ◌+◌, ◌∷◌, []};
 ghost use Rattle.pix_chan.specs.declared.ops.Op.{Op};
 ghost use Rattle.pix.specs.Region.{Rectangle};
 ghost use Rattle.pix.specs.Image.{region_of, Changed};
-ghost use Rattle.pix.specs.Run.{done_at};
+ghost use Rattle.pix_el.specs.PixelComposite.{matte_numbers};
+ghost use Rattle.pix.specs.Run.{run_at, done_at};
 ghost use Rattle.pix.specs.declared.command.Command.{Command};
 
 use super::Raster;
 use crate::region::Region;
-use pix_chan::chan::{Linear, Premultiplied};
+use pix_chan::chan::{Alpha, Linear, Premultiplied};
 use pix_chan::ops::{
     Blend, Clear, Dest, DestAtop, DestIn, DestOut, DestOver, Op, Plus, Src, SrcAtop, SrcIn, SrcOut,
     SrcOver, Xor,
 };
-use pix_el::el::Pixel;
+use pix_el::el::{Pix, Pixel};
+use pix_el::matte::Matte;
 
 /// What is composited with a raster.
 pub(crate) trait Source<P: Pixel> {
@@ -80,5 +82,24 @@ impl<'a, P: Pixel<Alpha = Premultiplied, Gamma = Linear>> Source<P> for RasterSo
 
     fn composite<O: Blend>(&self, raster: &mut Raster<P>, op: O) {
         raster.composite_raster(self.to, self.src, self.from, op);
+    }
+}
+
+/// A color, a region of a raster of mattes, and the region where it goes.
+#[derive(Drop)]
+pub(crate) struct MatteSource<'a, P, M> {
+    pub(crate) to: Region,
+    pub(crate) src: &'a Raster<M>,
+    pub(crate) from: Region,
+    pub(crate) clr: P,
+}
+
+impl<'a, const N: usize, A: Alpha, P: Pixel<Alpha = Premultiplied, Gamma = Linear>> Source<P>
+    for MatteSource<'a, P, Pix<N, P::Chan, Matte, A, Linear>>
+{
+    ghost makes = { λ it op dest. run_at P.layout P.numbers (matte_numbers P.Chan.number) dest (Command.Matte it.to it.src it.from it.clr op ∷ []) };
+
+    fn composite<O: Blend>(&self, raster: &mut Raster<P>, op: O) {
+        raster.composite_matte(self.to, self.src, self.from, self.clr, op);
     }
 }

@@ -1,15 +1,16 @@
 //! Changes of some columns in some rows of an image, row by row.
 ghost use Rattle.std.specs.Prelude.{◌≡◌, ℕ, ◌+◌, ◌-◌, ◌*◌, ◌<◌, ◌≤◌, List, length, map, slice_index_or, [], ⊤};
 ghost use Rattle.pix_chan.specs.declared.ops.Op.{Op};
-ghost use Rattle.pix_el.specs.PixelComposite.{pixel_composite, over};
+ghost use Rattle.pix_el.specs.PixelComposite.{pixel_composite, matted_composite, matte_value, over};
 ghost use Rattle.pix.specs.Region.{limit};
 ghost use Rattle.pix.specs.Spans.{where_in};
 
 use crate::pairs::Pairs;
 use crate::region::Span;
-use pix_chan::chan::{Linear, Premultiplied};
+use pix_chan::chan::{Alpha, Linear, Premultiplied};
 use pix_chan::ops::Blend;
-use pix_el::el::Pixel;
+use pix_el::el::{Pix, Pixel};
+use pix_el::matte::Matte;
 
 /// A change of the pixels of a row, each by itself.
 pub(crate) trait Fill<P: Pixel> {
@@ -99,6 +100,25 @@ impl<P: Pixel<Alpha = Premultiplied, Gamma = Linear>, O: Blend> Blit<P, P> for C
 
     fn blit(&self, row: &mut [P], src: &[P]) {
         P::composite_slice(row, src, self.op);
+    }
+}
+
+/// Composites a color through mattes.
+#[derive(Clone, Copy)]
+pub(crate) struct MattedColor<P, O> {
+    pub(crate) clr: P,
+    pub(crate) op: O,
+}
+
+impl<const N: usize, A: Alpha, P: Pixel<Alpha = Premultiplied, Gamma = Linear>, O: Blend>
+    Blit<P, Pix<N, P::Chan, Matte, A, Linear>> for MattedColor<P, O>
+{
+    ghost can_blit = { P.layout.count ≡ P.layout.alpha + 1 };
+
+    ghost makes = { λ it matte. matted_composite P.layout O.op (matte_value P.layout matte) (P.numbers it.clr) };
+
+    fn blit(&self, row: &mut [P], src: &[Pix<N, P::Chan, Matte, A, Linear>]) {
+        P::composite_matte(row, src, &self.clr, self.op);
     }
 }
 

@@ -2,6 +2,7 @@ use Rattle.std.proofs.Common.{◌≡◌, ℕ, ap, ◌∙◌, arith, drop, ◌+�
 use Rattle.std.proofs.lemmas.List.{drop_all}
 use Rattle.pix.specs.Region.{Rectangle}
 use Rattle.pix.specs.Image.{Changed, region_of}
+use Rattle.pix_el.specs.PixelComposite.{matte_numbers}
 use Rattle.pix.specs.Run.{run_at}
 use Rattle.pix.proofs.Steps.{run_more, changed_exchanged}
 use Rattle.pix.proofs.raster.Raster.run.Goals as goal
@@ -9,7 +10,7 @@ use Rattle.pix.proofs.raster.Raster.run.Goals as goal
 pub loop-command-preserved : goal.loop-command-preserved
 loop-command-preserved g c =
     let n = g.P.Pixel.numbers in
-    let m = g.M.Pixel.numbers in
+    let m = (matte_numbers g.P.Chan.Channel.number) in
     let layout = g.P.Pixel.layout in
     let i = c.loop-command.command-index in
     let dest = region_of c.args.self.now in
@@ -27,7 +28,7 @@ loop-command-preserved g c =
 
 pub returns : goal.returns
 returns g c =
-    let done : Changed g.P.Pixel.numbers c.args.self.now c.loop-command.self (run_at g.P.Pixel.layout g.P.Pixel.numbers g.M.Pixel.numbers (region_of c.args.self.now) c.args.commands.now) =
+    let done : Changed g.P.Pixel.numbers c.args.self.now c.loop-command.self (run_at g.P.Pixel.layout g.P.Pixel.numbers (matte_numbers g.P.Chan.Channel.number) (region_of c.args.self.now) c.args.commands.now) =
     record {
       same_width = c.loop-command.invariant.same_width;
       same_height = c.loop-command.invariant.same_height;
@@ -35,5 +36,5 @@ returns g c =
     } in
     record {
       fold = done;
-      exchanged = λ others e. changed_exchanged g.P.Pixel.layout g.P.Pixel.numbers g.M.Pixel.numbers c.args.self.now _ c.args.commands.now others done e;
+      exchanged = λ others e. changed_exchanged g.P.Pixel.layout g.P.Pixel.numbers (matte_numbers g.P.Chan.Channel.number) c.args.self.now _ c.args.commands.now others done e;
     }

@@ -1,4 +1,5 @@
 use Rattle.std.proofs.Common.{◌≡◌, ℕ, ◌<◌, drop}
+use Rattle.pix_el.specs.PixelComposite.{matte_numbers}
 use Rattle.pix.specs.Run.{run_at}
 use Rattle.pix.specs.Image.{point, region_of}
 use Rattle.pix.proofs.raster.Raster.run.Given as goal
@@ -7,7 +8,7 @@ use Rattle.pix.proofs.raster.Raster.run.Given as goal
 abbrev pub invariant-loop-command : goal.invariant-loop-command
 invariant-loop-command g l =
     let n = g.P.Pixel.numbers in
-    let run = run_at g.P.Pixel.layout n g.M.Pixel.numbers (region_of l.initial.self) in
+    let run = run_at g.P.Pixel.layout n (matte_numbers g.P.Chan.Channel.number) (region_of l.initial.self) in
     record {
       same_width : l.self.width ≡ l.initial.self.width;
       same_height : l.self.height ≡ l.initial.self.height;
