@@ -1,8 +1,9 @@
 pub mod Rectangles
-pub mod Rows
+pub mod Zones
 pub mod Places
 pub mod Clear
 pub mod Steps
 pub mod Copies
 pub mod Paired
 pub mod PairedPoints
+pub mod Views

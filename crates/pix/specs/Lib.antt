@@ -10,6 +10,7 @@ pub mod Image
 pub mod Sizes
 pub mod Reach
 pub mod Rows
+pub mod Views
 pub mod Run
 pub mod Spans
 pub mod Pairs

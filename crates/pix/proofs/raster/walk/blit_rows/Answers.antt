@@ -1,7 +1,7 @@
 use Rattle.std.proofs.Common.{◌≡◌, ℕ, ◌<◌, ◌≤◌, ◌+◌, ◌*◌, ◌-◌, List, length, map, get_or, arith, rules, [], ◌∙◌, ap}
 use Rattle.std.proofs.Math.Nat.{mul-le-mul_right}
 use borrow.Author.Rules.{scaled_fits≤}
-use Rattle.pix.proofs.Rows.{Part, part_over, zoned-map, length-part, row-step}
+use Rattle.pix.proofs.Zones.{Part, part_over, zoned-map, length-part, row-step}
 use Rattle.pix.proofs.raster.walk.blit_rows.Goals as goal
 
 pub offset_bounds-pixels-start : goal.offset_bounds-pixels-start
