@@ -7,3 +7,4 @@ pub mod Copies
 pub mod Paired
 pub mod PairedPoints
 pub mod Views
+pub mod RunBounds

@@ -12,5 +12,7 @@ pub mod Reach
 pub mod Rows
 pub mod Views
 pub mod Run
+pub mod Kept
+pub mod Bounds
 pub mod Spans
 pub mod Pairs

@@ -3,6 +3,9 @@ ghost use Rattle.std.specs.Prelude.{◌≡◌, ℕ, List, ◌+◌, ◌∷◌, []
 ghost use Rattle.pix_el.specs.PixelComposite.{matte_numbers};
 ghost use Rattle.pix.specs.Image.{region_of, Changed};
 ghost use Rattle.pix.specs.Run.{run_at, done_at, AreExchanged};
+ghost use Rattle.pix_chan.specs.ExactRun.{IsWithinBudget, IsWithinPremultipliedBound, HasSmallBudget};
+ghost use Rattle.pix.specs.Bounds.{OfEachChannel};
+ghost use Rattle.pix.specs.Kept.{KeepsPremultiplied};
 ghost use Rattle.pix.specs.Pairs.{where_covered, where_paired};
 ghost use Rattle.pix.specs.declared.command.Command.{Command};
 
@@ -131,6 +134,22 @@ impl<P: Pixel<Alpha = Premultiplied, Gamma = Linear>> Raster<P> {
         // The same of a list in which two neighbours that reach no common point are exchanged.
         ensures exchanged { (others : List (Command P (Pix N P.Chan Matte A Linear))) → AreExchanged P.numbers (matte_numbers P.Chan.number) self.old commands.now others
             → Changed P.numbers self.old self.new (run_at P.layout P.numbers (matte_numbers P.Chan.number) (region_of self.old) others) }
+
+        // Where every pixel that reaches a point is premultiplied, so is what it makes of a premultiplied one, and no sum is cut on the
+        // way but that of `Plus`.
+        ensures premultiplied { KeepsPremultiplied P.layout P.numbers (matte_numbers P.Chan.number) commands.now self.old self.new }
+
+        // Each channel and the alpha lie within their rounding budgets of the exact run.
+        ensures within_budget { OfEachChannel P.layout P.numbers (matte_numbers P.Chan.number) commands.now self.old self.new
+            (IsWithinBudget P.layout.root) }
+
+        // The budgets after n unmatted commands are at most n² + n, and at most n after those of the listed kinds.
+        ensures small_budget { OfEachChannel P.layout P.numbers (matte_numbers P.Chan.number) commands.now self.old self.new
+            (λ _ effects _. HasSmallBudget effects) }
+
+        // With premultiplied sources, they lie within twice the products that entered: at most 4n units after n unmatted commands.
+        ensures premultiplied_bound { OfEachChannel P.layout P.numbers (matte_numbers P.Chan.number) commands.now self.old self.new
+            (IsWithinPremultipliedBound P.layout.root) }
     {
         for command in commands {
             self.perform(command);

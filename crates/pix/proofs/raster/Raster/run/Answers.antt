@@ -1,9 +1,15 @@
-use Rattle.std.proofs.Common.{◌≡◌, ℕ, ap, ◌∙◌, arith, drop, ◌+◌, pos}
+use Rattle.std.proofs.Common.{◌≡◌, ℕ, ap, ◌∙◌, arith, drop, ◌+◌, pos, sym, subst}
 use Rattle.std.proofs.lemmas.List.{drop_all}
 use Rattle.pix.specs.Region.{Rectangle}
 use Rattle.pix.specs.Image.{Changed, region_of}
+use Rattle.pix_chan.specs.Number.{top}
+use Rattle.pix_chan.specs.Product.{channel_product, fineness, IsProduct}
+use Rattle.pix_el.specs.Pixel.{Layout}
 use Rattle.pix_el.specs.PixelComposite.{matte_numbers}
+use Rattle.pix_el.specs.Premultiplied.{IsBounded}
+use Rattle.pix_el.proofs.Composited.{Fits, channels_fit, alpha_bounded}
 use Rattle.pix.specs.Run.{run_at}
+use Rattle.pix.proofs.RunBounds.{IsFormat, keeps_premultiplied, within_budget, small_budget, within_premultiplied_bound}
 use Rattle.pix.proofs.Steps.{run_more, changed_exchanged}
 use Rattle.pix.proofs.raster.Raster.run.Goals as goal
 
@@ -34,7 +40,29 @@ returns g c =
       same_height = c.loop-command.invariant.same_height;
       points = λ x y hx hy. rw (drop_all c.loop-command.command-index c.args.commands.now (omega arith)) at (c.loop-command.invariant.rest x y hx hy);
     } in
+    let root = g.P.Chan.Channel.root in
+    let number = g.P.Chan.Channel.number in
+    let numbered = g.met.P.Chan.Channel.numbered in
+    let layout' : Layout = record { root = root; count = g.P.Pixel.layout.count; hues = g.P.Model.ColorModel.CIRCULAR; alpha = g.P.Model.ColorModel.ALPHA } in
+    let laid_out : g.P.Pixel.layout ≡ layout' = g.met.P.Pixel.laid_out in
+    let has_alpha : layout'.count ≡ layout'.alpha + 1 = c.requires.has_alpha ∙ ap (λ (l : Layout). l.alpha + 1) laid_out in
+    let mattes = matte_numbers g.P.Chan.Channel.number in
+    let format : IsFormat g.P.Pixel.layout g.P.Pixel.numbers mattes =
+    record {
+      laws = subst (λ (l : Layout). IsProduct fineness (top l.root) (channel_product l.root)) (sym laid_out) g.met.P.Chan.Channel.product_law;
+      alpha = subst (λ (l : Layout). IsBounded l l.alpha) (sym laid_out) (alpha_bounded layout' g.P.Model.ColorModel.LINEAR g.P.Model.ColorModel.placed has_alpha);
+      fit = λ p. subst (λ (l : Layout). Fits l.root (g.P.Pixel.numbers p)) (sym laid_out) (rw (g.met.P.Pixel.numbered p) (channels_fit root number (g.P.Pixel.channel_list p) numbered));
+      mattes_fit = λ m. subst (λ (l : Layout). Fits l.root (mattes m)) (sym laid_out) (channels_fit root number m.channels numbered);
+    } in
+    let layout = g.P.Pixel.layout in
+    let n = g.P.Pixel.numbers in
+    let cs = c.args.commands.now in
+    let old = c.args.self.now in
     record {
       fold = done;
-      exchanged = λ others e. changed_exchanged g.P.Pixel.layout g.P.Pixel.numbers (matte_numbers g.P.Chan.Channel.number) c.args.self.now _ c.args.commands.now others done e;
+      exchanged = λ others e. changed_exchanged layout n mattes old _ cs others done e;
+      premultiplied = keeps_premultiplied layout n mattes cs old _ format done;
+      within_budget = within_budget layout n mattes cs old _ format done;
+      small_budget = small_budget layout n mattes cs old c.loop-command.self;
+      premultiplied_bound = within_premultiplied_bound layout n mattes cs old _ format done;
     }
