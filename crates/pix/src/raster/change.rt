@@ -125,7 +125,9 @@ impl<P: Pixel<Alpha = Premultiplied, Gamma = Linear>> Raster<P> {
 
     /// Runs commands in order: at each point, those that reach it one after the other; no other point changes.
     ///
-    /// Condition: the format has an alpha channel.
+    /// **After any list of clears, copies and composites run on a raster, every pixel is the fold of just those commands whose clipped regions reach it, no other pixel changes, and each non-hue channel lies within its budget of the same run in exact fractions: at most n units after n unmatted commands of the listed kinds, n² + n after n unmatted commands of any kind.**
+    ///
+    /// Condition: the format has an alpha channel. It takes no memory and cannot fail.
     pub fn run<const N: usize, A: Alpha>(&mut self, commands: &[Command<'_, P, Pix<N, P::Chan, Matte, A, Linear>>])
         requires has_alpha { P.layout.count ≡ P.layout.alpha + 1 }
         ensures fold { Changed P.numbers self.old self.new
