@@ -8,3 +8,4 @@ pub mod Paired
 pub mod PairedPoints
 pub mod Views
 pub mod RunBounds
+pub mod Points

@@ -103,7 +103,7 @@ no_row r (pos n) h (inr below) = no_row_at r.top r.height n (inr below.1)
 no_row r (negsuc n) h o = grind arith
 
 -- a rectangle between edges that has a row has a column
-some_column : (l t r b y : ℤ) (p : Bool) → (int_lt l r && int_lt t b) ≡ p → has_row (between l t r b) y ≡ true → 0 < (between l t r b).width
+pub some_column : (l t r b y : ℤ) (p : Bool) → (int_lt l r && int_lt t b) ≡ p → has_row (between l t r b) y ≡ true → 0 < (between l t r b).width
 some_column l t r b y true e h =
     let less : l <ℤ r = grind (arith, ints) in
     let leads : (l +ℤ pos (int_gap l r)) ≡ r = gap_leads l r (omega (arith, ints)) in

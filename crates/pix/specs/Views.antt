@@ -1,11 +1,11 @@
 -- Parts of an image: its rows, and the image after a part of it was written over.
 use Rattle.std.proofs.Common.{zero, suc}
-use Rattle.std.specs.Prelude.{ℕ, ◌+◌, ◌*◌, ℤ, pos, List, [], ◌∷◌, ◌++◌, length, take, drop, slice_range, slice_set, if◌then◌else◌}
+use Rattle.std.specs.Prelude.{◌≡◌, ℕ, ◌+◌, ◌-◌, ◌*◌, ◌<◌, nat_eq, nat_lt, nat_le, ℤ, pos, true, ◌&&◌, List, [], ◌∷◌, ◌++◌, length, take, drop, slice_range, slice_index_or, slice_set, if◌then◌else◌}
 use Rattle.std.specs.List.{refill}
 use Rattle.pix.specs.Region.{Rectangle, has_row, intersection_of}
 use Rattle.pix.specs.Image.{Image}
 use Rattle.pix.specs.Reach.{natural}
-use Rattle.pix.specs.Rows.{clipped}
+use Rattle.pix.specs.Rows.{clipped, row_of}
 
 -- the points of a rectangle that lie in an image of that width and height
 abbrev pub cut_to : ℕ → ℕ → Rectangle → Rectangle
@@ -39,3 +39,20 @@ row_start width height r y = if has_row (cut_to width height r) y then natural y
 -- the place past the last of them, 0 where it has none
 abbrev pub row_end : ℕ → ℕ → Rectangle → ℤ → ℕ
 row_end width height r y = if has_row (cut_to width height r) y then natural y * width + (natural (cut_to width height r).left + (cut_to width height r).width) else 0
+
+-- the new image is as large as the old one, has ws in row y from column x on, and at each other point what the old one has
+pub record IsWritten {P : Type 0} (old new : Image P) (ws : List P) (x y : ℕ) : Type 0 where
+  pub same_width : new.width ≡ old.width
+  pub same_height : new.height ≡ old.height
+  pub points : (default : P) (column row : ℕ) → column < old.width → slice_index_or new.pixels (row * old.width + column) default
+      ≡ (if nat_eq row y && (nat_le x column && nat_lt column (x + length ws))
+         then slice_index_or ws (column - x) default
+         else slice_index_or old.pixels (row * old.width + column) default)
+
+-- the slice has the pixels of the points that a rectangle has in row y of an image, and as many others that are written over them stand
+-- at those points and nowhere else
+pub record IsRow {P : Type 0} (image : Image P) (r : Rectangle) (y : ℤ) (row : List P) : Type 0 where
+  pub there : has_row (clipped image r) y ≡ true
+  pub now : row ≡ row_of image (clipped image r) (natural y)
+  pub written : (ws : List P) → length ws ≡ length row
+      → IsWritten image (with_run image (place_of image (clipped image r).left y) ws) ws (natural (clipped image r).left) (natural y)

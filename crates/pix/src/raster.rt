@@ -1,13 +1,12 @@
 //! Rasters: images in memory.
-ghost use Rattle.std.specs.Prelude.{◌≡◌, ℕ, ◌+◌, ◌*◌, ◌<◌, ◌≤◌, ℤ, pos, ◌&&◌, vec_len, length, map, slice_index_or, slice_get, slice_range, replicate, [], ◌∷◌, IfOk, IfErr, Some, None, Err, MatchOption, true, false};
+ghost use Rattle.std.specs.Prelude.{◌≡◌, ℕ, ◌+◌, ◌*◌, ◌<◌, ◌≤◌, ℤ, pos, ◌&&◌, vec_len, length, map, slice_index_or, slice_get, slice_range, replicate, [], ◌∷◌, IfOk, IfErr, Some, None, Err, MatchOption, false};
 ghost use Rattle.pix.specs.Region.{limit, covers, has_row, intersection_of};
 ghost use Rattle.pix.specs.Sizes.{size_fault};
 ghost use Rattle.pix.specs.Image.{IsPoint, IsInside, region_of};
 ghost use Rattle.pix.specs.declared.fault.RasterFault.{RasterFault};
 ghost use Rattle.std.specs.Borrow.{Lends, LendsIf, sem, Array};
-ghost use Rattle.pix.specs.Reach.{natural};
-ghost use Rattle.pix.specs.Rows.{clipped, row_of, rows_of};
-ghost use Rattle.pix.specs.Views.{place_of, row_start, row_end, with_pixel, with_pixels, with_run};
+ghost use Rattle.pix.specs.Rows.{clipped, rows_of};
+ghost use Rattle.pix.specs.Views.{IsRow, place_of, row_start, row_end, with_pixel, with_pixels, with_run};
 ghost use Rattle.pix.specs.contracts.raster.Raster.{the_row};
 
 use crate::fault::{RasterFault, point_count};
@@ -127,7 +126,8 @@ impl<P> Raster<P> {
     /// The pixel at a point, to be written. Condition: the point lies in the raster.
     pub fn pixel_mut(&mut self, x: i32, y: i32) -> &mut P
         requires { IsPoint self.old x y }
-        ensures* lends { sem 𝓛 (Lends (the_row P.row) P.row self.entry result (with_pixel self.old (place_of self.old x y))) }
+        ensures* lends { sem 𝓛 (Lends (the_row P.row) P.row self.entry result
+            (with_pixel self.old (place_of self.old x y))) }
         ensures now { (column row : ℕ) → x ≡ pos column → y ≡ pos row →
             slice_get self.old.pixels (row * self.old.width + column) ≡ Some result.now }
     {
@@ -159,7 +159,7 @@ impl<P> Raster<P> {
         }
     }
 
-    /// The same rows, to be written.
+    /// The same rows, to be written; each is what it was when it is handed out.
     pub fn rows_mut(&mut self, reg: Region) -> RowsMut<'_, P>
         ensures rows { result ≡ rows_of self.old reg }
         ensures count { length result ≡ (clipped self.old reg).height }
@@ -174,23 +174,26 @@ impl<P> Raster<P> {
         }
     }
 
-    /// The pixels that a region has in row y of the raster, to be written, or `None` where it has none there.
+    /// The pixels that a region has in row y of the raster, to be written, or `None` where it has none there; any y is allowed.
+    ///
+    /// What is written stands at those points, and no other pixel changes.
     pub fn row_mut(&mut self, y: i32, reg: Region) -> Option<&mut [P]>
         ensures* lends { sem 𝓛 (LendsIf (the_row P.row) (Array P.row 0) self.entry result
             (with_run self.old (place_of self.old (clipped self.old reg).left y)) self.old) }
-        ensures cases { MatchOption result (has_row (clipped self.old reg) y ≡ false) (λ row.
-            (has_row (clipped self.old reg) y ≡ true) × (row.now ≡ row_of self.old (clipped self.old reg) (natural y))) }
+        ensures cases { MatchOption result (has_row (clipped self.old reg) y ≡ false) (λ row. IsRow self.old reg y row.now) }
     {
         let row = self.row_part_mut(y, reg);
         if row.len() == 0 { None } else { Some(row) }
     }
 
-    /// The same pixels; an empty slice where there are none.
+    /// The same pixels, or an empty slice where there are none.
     fn row_part_mut(&mut self, y: i32, reg: Region) -> &mut [P]
         ensures* lends { sem 𝓛 (Lends (the_row P.row) (Array P.row 0) self.entry result
             (with_run self.old (row_start self.old.width self.old.height reg y))) }
-        ensures now { result.now ≡ slice_range self.old.pixels (row_start self.old.width self.old.height reg y) (row_end self.old.width self.old.height reg y) }
-        ensures long { length result.now + row_start self.old.width self.old.height reg y ≡ row_end self.old.width self.old.height reg y }
+        ensures now { result.now ≡ slice_range self.old.pixels (row_start self.old.width self.old.height reg y)
+            (row_end self.old.width self.old.height reg y) }
+        ensures long { length result.now + row_start self.old.width self.old.height reg y
+            ≡ row_end self.old.width self.old.height reg y }
     {
         let run = row_places(self.width, self.height, y, reg);
         self.pixels.slice_mut(run.from..run.to)

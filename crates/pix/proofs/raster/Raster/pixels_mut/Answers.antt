@@ -1,4 +1,4 @@
-use Rattle.std.proofs.Common.{◌≡◌, ℕ, List, refl, rules, ap, sym, ◌∙◌, arith, length, take, drop, ◌++◌}
+use Rattle.std.proofs.Common.{ℕ, refl, ap, ◌∙◌, length, take, drop, ◌++◌}
 use Rattle.pix.specs.Image.{Image}
 use Rattle.pix.proofs.raster.Raster.pixels_mut.Goals as goal
 

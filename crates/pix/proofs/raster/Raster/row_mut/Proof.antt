@@ -1,5 +1,5 @@
 -- `row_mut` hands on what `row_part_mut` lends, and nothing where that has no pixel: the raster is then as it was.
-use Rattle.std.proofs.Common.{◌≡◌, ℕ, zero, suc, ◌<◌, ◌+◌, List, [], ◌∷◌, length, refl, ap, ◌∙◌, true, lit<, w32, MutBor, arith, slice_range}
+use Rattle.std.proofs.Common.{◌≡◌, ℕ, zero, suc, ◌<◌, ◌+◌, List, [], ◌∷◌, length, refl, ap, true, lit<, w32, MutBor, arith, slice_range}
 use Rattle.std.proofs.raw_atomic.Walks.{proved}
 use Rattle.std.specs.Prelude.{Some, None}
 use seplogic.Ra.Ura.{Ura}
@@ -49,7 +49,8 @@ use Rattle.pix.specs.Views.{place_of, with_run, row_start, row_end}
 use Rattle.pix.specs.contracts.raster.Raster.{the_row as Raster-row}
 use Rattle.pix.specs.contracts.region.Region as Reg
 use Rattle.pix.proofs.region.Region.TheLaws.{the_told, the_row_laws}
-use Rattle.pix.proofs.Views.{none_there, some_there, row_start_is, row_is, with_run-none}
+use Rattle.pix.proofs.Views.{none_there, some_there, row_start_is, with_run-none}
+use Rattle.pix.proofs.Points.{row_written}
 use Rattle.pix.specs.contracts.raster.Raster.row_mut as f
 use Rattle.pix.specs.contracts.raster.Raster.row_mut.Key.{name as #self}
 use Rattle.pix.proofs.raster.Raster.row_mut.Statement.{statement}
@@ -160,4 +161,4 @@ row_mut_spec 𝓤 𝓛 𝓜 𝓡 wired P L =
     use1 𝓛 (‵ ((OP.the_row Part).own_val (Some r) (live 1 (of_list (sv ∷ [])) ∷ []))) (Some-of 𝓛 Part r sv) $ move ! (0 ∷ 2 ∷ []) $
     suffices ! _ (ends_at 𝓛 (f.ended P) (stayed P) c z (live 1 (of_list (sv ∷ []))) (Some r) (tt, (tt, (tt, tt))) (tt, (tt, (tt, tt)))) $
     nothing ! $ nothing ! $ fjoin ! $ nothing ! $ fjoin ! $ nothing ! $ fjoin ! $ join ! $ move ! (1 ∷ []) $ join ! $ frame ! $
-    says ! (there r.now long t, now ∙ row_is self.now reg y (there r.now long t)) $ done !)))))))))
+    says ! (row_written self.now reg y r.now (there r.now long t) now long) $ done !)))))))))

@@ -1,4 +1,4 @@
-use Rattle.std.proofs.Common.{◌≡◌, length, arith, ◌∙◌}
+use Rattle.std.proofs.Common.{arith, ◌∙◌}
 use Rattle.pix.specs.Image.{Image}
 use Rattle.pix.proofs.Views.{rows_are, rows_fit, length-row_parts}
 use Rattle.pix.proofs.raster.Raster.rows.Goals as goal

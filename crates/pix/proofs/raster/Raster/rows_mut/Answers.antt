@@ -1,4 +1,4 @@
-use Rattle.std.proofs.Common.{◌≡◌, length, arith, ◌∙◌}
+use Rattle.std.proofs.Common.{arith, ◌∙◌}
 use borrow.Author.Rules.{scaled_fits≤}
 use Rattle.pix.specs.Image.{Image}
 use Rattle.pix.proofs.Views.{rows_are, rows_fit, row_begins, length-row_parts}
