@@ -1,5 +1,5 @@
 -- Copied pixels, by their numbers.
-use Rattle.std.proofs.Common.{◌≡◌, ℕ, List, [], ◌∷◌, length, map, replicate, refl, ap}
+use Rattle.std.proofs.Common.{◌≡◌, List, [], ◌∷◌, length, map, replicate, refl, ap}
 use Rattle.pix_el.specs.PixelComposite.{over}
 
 -- one color in place of each pixel

@@ -13,7 +13,8 @@ use Rattle.pix.specs.Image.{Image}
 use Rattle.pix.specs.Region.{Rectangle, right, bottom, has_row, between}
 use Rattle.pix.specs.Reach.{natural}
 use Rattle.pix.specs.Rows.{clipped}
-use Rattle.pix.specs.Views.{with_run, row_start, row_end, IsRow}
+use Rattle.pix.specs.Views.{with_run, IsRow}
+use Rattle.pix.specs.Frames.{row_start, row_end}
 use Rattle.pix.proofs.Rectangles.{gap_leads}
 use Rattle.pix.proofs.Views.{some_column, row_is}
 

@@ -1,23 +1,22 @@
 -- What a run keeps of a format, and how near it is to the exact run: from one channel to all of an image.
 use Rattle.std.specs.Prelude.{All}
-use Rattle.std.proofs.Common.{◌≡◌, ℕ, zero, suc, ◌<◌, ◌≤◌, ◌+◌, List, [], ◌∷◌, ◌++◌, map, fold, get_or, replicate, cond, Bool, true, false, pos, refl, sym, ap, ◌∙◌, arith, le_refl, subst, inl, inr, ◌*◌}
+use Rattle.std.proofs.Common.{◌≡◌, ℕ, zero, suc, ◌<◌, ◌≤◌, ◌+◌, List, [], ◌∷◌, map, fold, get_or, replicate, cond, Bool, true, false, refl, sym, ap, ◌∙◌, arith, le_refl, subst, inl, inr, ◌*◌}
 use Rattle.std.proofs.lemmas.Bool.{cases_lt}
 use Rattle.std.proofs.lemmas.List.{get_or-replicate, get_or_past, length-replicate}
 use Rattle.std.proofs.lemmas.List.Elements.{All-nil, All-cons, All-head, All-tail, All-append}
 use Rattle.pix_chan.specs.Number.{top}
 use Rattle.pix_chan.specs.Product.{channel_product, fineness, IsProduct}
-use Rattle.pix_chan.specs.ExactRun.{ChannelEffect, IsOfChannels, Rounded, rounded_step, rounded_run, IsWithinBudget, IsWithinPremultipliedBound, HasSmallBudget}
+use Rattle.pix_chan.specs.ExactRun.{IsOfChannels, Rounded, rounded_step, rounded_run, IsWithinBudget, IsWithinPremultipliedBound, HasSmallBudget}
 use Rattle.pix_chan.proofs.RunBounds.{run_within_budget, premultiplied_run_near, budget_small}
-use Rattle.pix_el.specs.Pixel.{Layout, channel, alpha_of}
-use Rattle.pix_el.specs.PixelComposite.{pixel_composite, matted, matted_composite, matte_value}
+use Rattle.pix_el.specs.Pixel.{Layout, channel}
+use Rattle.pix_el.specs.PixelComposite.{matted, matte_value}
 use Rattle.pix_el.specs.Premultiplied.{IsBounded, IsPremultiplied}
 use Rattle.pix_el.proofs.Composited.{Fits, bounded-pixel_composite, bounded-matted, composite_fits, matted_fits, made_premultiplied, matted_premultiplied, composite_uncut}
-use Rattle.pix.specs.Region.{Rectangle, covers}
+use Rattle.pix.specs.Region.{Rectangle}
 use Rattle.pix.specs.Image.{Image, Changed, point, region_of}
-use Rattle.pix.specs.Reach.{from_pair}
 use Rattle.pix.specs.Run.{Effect, Cleared, Copied, Composited, Matted, effect_at, effects_at, apply, run_at}
 use Rattle.pix.specs.Bounds.{at_place, channel_effects, with_alpha, OfEachChannel}
-use Rattle.pix.specs.Kept.{BringsPremultiplied, CutsNoSum, CutNoSum, IsKept, KeepsPremultiplied}
+use Rattle.pix.specs.Kept.{BringsPremultiplied, CutsNoSum, IsKept, KeepsPremultiplied}
 use Rattle.pix.specs.declared.command.Command.{Command}
 use Rattle.pix.specs.declared.command.Command.TheVariants as commands
 

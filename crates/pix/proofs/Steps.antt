@@ -3,7 +3,7 @@ use Rattle.std.proofs.Common.{◌≡◌, ℕ, ◌<◌, ◌+◌, List, [], ◌∷
 use Rattle.pix_el.specs.Pixel.{Layout}
 use Rattle.pix.specs.Region.{Rectangle, covers}
 use Rattle.pix.specs.Image.{Image, Changed, point, region_of}
-use Rattle.pix.specs.Reach.{is_paired, from_pair}
+use Rattle.pix.specs.Reach.{from_pair}
 use Rattle.pix.specs.Pairs.{where_covered, where_paired}
 use Rattle.std.proofs.lemmas.List.{drop_more, append-nil, append_assoc}
 use Rattle.std.proofs.lemmas.List.Sums.{fold-append}

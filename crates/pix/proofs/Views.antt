@@ -14,7 +14,8 @@ use Rattle.pix.specs.Image.{Image, IsPoint}
 use Rattle.pix.specs.Reach.{natural}
 use Rattle.pix.specs.Rows.{clipped, row_of, rows_of}
 use Rattle.pix.specs.declared.region.Span.{Span}
-use Rattle.pix.specs.Views.{cut_to, place_of, row_parts, row_start, row_end, with_run}
+use Rattle.pix.specs.Views.{place_of, with_run}
+use Rattle.pix.specs.Frames.{cut_to, row_parts, row_start, row_end}
 use Rattle.pix.proofs.Rectangles.{gap_leads}
 
 -- the place of a point, as the code computes it

@@ -15,4 +15,5 @@ pub mod Run
 pub mod Kept
 pub mod Bounds
 pub mod Spans
+pub mod Frames
 pub mod Pairs

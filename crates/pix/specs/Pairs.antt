@@ -1,5 +1,5 @@
 -- Columns, or rows, of two rasters that belong together, as the code finds them: each axis by itself.
-use Rattle.std.specs.Prelude.{◌≡◌, ℕ, ℤ, pos, ◌+ℤ◌, ◌-ℤ◌, Bool, ◌&&◌, not, int_lt, if◌then◌else◌, List, fold}
+use Rattle.std.specs.Prelude.{ℕ, ℤ, pos, ◌+ℤ◌, ◌-ℤ◌, Bool, ◌&&◌, not, int_lt, if◌then◌else◌, List, fold}
 use Rattle.std.specs.Int.{int_min}
 use Rattle.pix.specs.Region.{Rectangle, limit, covers}
 use Rattle.pix.specs.Image.{Image, point, region_of}

@@ -1,5 +1,5 @@
 -- Which points of two rasters belong together, where a region of the one is copied to a region of the other.
-use Rattle.std.specs.Prelude.{◌≡◌, ℕ, ℤ, pos, negsuc, ◌+ℤ◌, ◌-ℤ◌, Bool, ◌&&◌, not, int_lt, if◌then◌else◌, List, [], ◌∷◌}
+use Rattle.std.specs.Prelude.{ℕ, ℤ, pos, negsuc, ◌+ℤ◌, ◌-ℤ◌, Bool, ◌&&◌, not, int_lt, if◌then◌else◌, List, [], ◌∷◌}
 use Rattle.pix.specs.Region.{Rectangle, covers}
 
 -- whether the number is at least 0 and below n

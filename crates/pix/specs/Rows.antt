@@ -1,5 +1,5 @@
 -- The rows of the points of a rectangle that lie in an image.
-use Rattle.std.specs.Prelude.{ℕ, ◌+◌, ◌*◌, ℤ, List, map, take, drop}
+use Rattle.std.specs.Prelude.{ℕ, ◌+◌, ◌*◌, List, map, take, drop}
 use Rattle.std.specs.List.{range_with_len}
 use Rattle.pix.specs.Region.{Rectangle, intersection_of}
 use Rattle.pix.specs.Image.{Image, region_of}

@@ -1,20 +1,10 @@
--- Parts of an image: its rows, and the image after a part of it was written over.
-use Rattle.std.proofs.Common.{zero, suc}
-use Rattle.std.specs.Prelude.{◌≡◌, ℕ, ◌+◌, ◌-◌, ◌*◌, ◌<◌, nat_eq, nat_lt, nat_le, ℤ, pos, true, ◌&&◌, List, [], ◌∷◌, ◌++◌, length, take, drop, slice_range, slice_index_or, slice_set, if◌then◌else◌}
+-- An image after a part of it was written over.
+use Rattle.std.specs.Prelude.{◌≡◌, ℕ, ◌+◌, ◌-◌, ◌*◌, ◌<◌, nat_eq, nat_lt, nat_le, ℤ, true, ◌&&◌, List, ◌++◌, length, take, drop, slice_index_or, slice_set, if◌then◌else◌}
 use Rattle.std.specs.List.{refill}
-use Rattle.pix.specs.Region.{Rectangle, has_row, intersection_of}
+use Rattle.pix.specs.Region.{Rectangle, has_row}
 use Rattle.pix.specs.Image.{Image}
 use Rattle.pix.specs.Reach.{natural}
 use Rattle.pix.specs.Rows.{clipped, row_of}
-
--- the points of a rectangle that lie in an image of that width and height
-abbrev pub cut_to : ℕ → ℕ → Rectangle → Rectangle
-cut_to width height r = intersection_of r (record { left = pos 0; top = pos 0; width = width; height = height })
-
--- the elements from a on and below b of each of n rows of w elements
-abbrev pub row_parts : {P : Type 0} → ℕ → ℕ → ℕ → ℕ → List P → List (List P)
-row_parts zero w a b xs = []
-row_parts (suc n) w a b xs = slice_range xs a b ∷ row_parts n w a b (drop w xs)
 
 -- the place of a point in an image's list
 abbrev pub place_of : {P : Type 0} → Image P → ℤ → ℤ → ℕ
@@ -31,14 +21,6 @@ with_pixels image ps = record { width = image.width; height = image.height; pixe
 -- the image with ws written over as many pixels from place a of its list on; its size stays
 abbrev pub with_run : {P : Type 0} → Image P → ℕ → List P → Image P
 with_run image a ws = with_pixels image (take a image.pixels ++ (ws ++ drop (length ws) (drop a image.pixels)))
-
--- the place of the first point that a rectangle has in row y of an image of that width and height, 0 where it has none
-abbrev pub row_start : ℕ → ℕ → Rectangle → ℤ → ℕ
-row_start width height r y = if has_row (cut_to width height r) y then natural y * width + natural (cut_to width height r).left else 0
-
--- the place past the last of them, 0 where it has none
-abbrev pub row_end : ℕ → ℕ → Rectangle → ℤ → ℕ
-row_end width height r y = if has_row (cut_to width height r) y then natural y * width + (natural (cut_to width height r).left + (cut_to width height r).width) else 0
 
 -- the new image is as large as the old one, has ws in row y from column x on, and at each other point what the old one has
 pub record IsWritten {P : Type 0} (old new : Image P) (ws : List P) (x y : ℕ) : Type 0 where

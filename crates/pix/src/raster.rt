@@ -6,7 +6,8 @@ ghost use Rattle.pix.specs.Image.{IsPoint, IsInside, region_of};
 ghost use Rattle.pix.specs.declared.fault.RasterFault.{RasterFault};
 ghost use Rattle.std.specs.Borrow.{Lends, LendsIf, sem, Array};
 ghost use Rattle.pix.specs.Rows.{clipped, rows_of};
-ghost use Rattle.pix.specs.Views.{IsRow, place_of, row_start, row_end, with_pixel, with_pixels, with_run};
+ghost use Rattle.pix.specs.Views.{IsRow, place_of, with_pixel, with_pixels, with_run};
+ghost use Rattle.pix.specs.Frames.{row_start, row_end};
 ghost use Rattle.pix.specs.contracts.raster.Raster.{the_row};
 
 use crate::fault::{RasterFault, point_count};

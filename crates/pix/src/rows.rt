@@ -3,7 +3,7 @@ ghost use Rattle.std.specs.Prelude.{◌≡◌, ◌+◌, ◌*◌, ◌≤◌};
 ghost use Rattle.std.specs.Iterator.{YieldsFirstRef, YieldsFirstMut, item_count};
 ghost use Rattle.pix.specs.Region.{limit};
 ghost use Rattle.pix.specs.Reach.{natural};
-ghost use Rattle.pix.specs.Views.{cut_to, row_start, row_end};
+ghost use Rattle.pix.specs.Frames.{cut_to, row_start, row_end};
 
 use crate::region::{Region, Span};
 use std::marker::Model;
@@ -20,7 +20,7 @@ pub struct Rows<'a, P> {
 
 impl<'a, P> Model for Rows<'a, P> {
     ghost use Rattle.std.specs.Prelude.{List, length, ◌*◌, ◌≤◌};
-    ghost use Rattle.pix.specs.Views.{row_parts};
+    ghost use Rattle.pix.specs.Frames.{row_parts};
 
     ghost Value = { List (List P) };
 
@@ -58,7 +58,7 @@ pub struct RowsMut<'a, P> {
 
 impl<'a, P> Model for RowsMut<'a, P> {
     ghost use Rattle.std.specs.Prelude.{List, length, ◌*◌, ◌≤◌};
-    ghost use Rattle.pix.specs.Views.{row_parts};
+    ghost use Rattle.pix.specs.Frames.{row_parts};
 
     ghost Value = { List (List P) };
 

@@ -1,7 +1,7 @@
 use Rattle.std.proofs.Common.{◌≡◌, false, refl, SFits, w32}
 use Rattle.std.proofs.lemmas.Int.{to_z-of_z}
 use Rattle.pix.specs.Region.{has_row}
-use Rattle.pix.specs.Views.{cut_to}
+use Rattle.pix.specs.Frames.{cut_to}
 use Rattle.pix.proofs.Views.{no_row}
 use Rattle.pix.proofs.rows.row_places.Goals as goal
 

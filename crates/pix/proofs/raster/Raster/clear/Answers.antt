@@ -1,4 +1,4 @@
-use Rattle.std.proofs.Common.{◌≡◌, ℕ, ◌+◌, ◌*◌, ◌<◌, map, [], rules, refl, ◌∙◌, ap, get_or, length, replicate}
+use Rattle.std.proofs.Common.{◌≡◌, ◌+◌, ◌*◌, ◌<◌, map, [], rules, refl, ◌∙◌, ap, get_or, length, replicate}
 use Rattle.std.proofs.lemmas.List.{with_items_is}
 use Rattle.pix.proofs.Places.{place_within}
 use Rattle.pix.proofs.Clear.{cleared_place}

@@ -1,8 +1,8 @@
-use Rattle.std.proofs.Common.{◌≡◌, ℕ, ◌+◌, ◌*◌, ◌≤◌, ◌<◌, pos, map, [], arith, rules, refl, ◌∙◌, ap, get_or, cond, true, Bool}
+use Rattle.std.proofs.Common.{◌≡◌, ◌+◌, ◌*◌, pos, map, [], arith, rules, refl, ◌∙◌, ap, get_or, cond, true, Bool}
 use Rattle.std.specs.Prelude.{◌&&◌}
 use Rattle.std.proofs.Math.Bool.{and-true}
 use Rattle.std.proofs.lemmas.List.{with_items_is}
-use Rattle.pix.specs.Region.{covers, has_column, has_row}
+use Rattle.pix.specs.Region.{covers, has_column}
 use Rattle.pix.specs.Spans.{is_in, in_box, where_in}
 use Rattle.pix.specs.Image.{Image, region_of}
 use Rattle.pix.proofs.Rectangles.{covers_image}

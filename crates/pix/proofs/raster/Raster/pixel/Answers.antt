@@ -1,4 +1,4 @@
-use Rattle.std.proofs.Common.{◌≡◌, ℕ, ◌+◌, ◌*◌, ◌<◌, SFits, w32, get_or, rules}
+use Rattle.std.proofs.Common.{◌≡◌, ◌+◌, ◌*◌, ◌<◌, SFits, w32, get_or, rules}
 use Rattle.std.specs.Prelude.{vec_len}
 use lib.IntN.{nat_abs}
 use Rattle.std.proofs.lemmas.Option.{slice_get_read}

@@ -45,7 +45,8 @@ use Rattle.std.specs.contracts.option.Option as OP
 use Rattle.pix.specs.Image.{Image}
 use Rattle.pix.specs.Region.{has_row}
 use Rattle.pix.specs.Rows.{clipped}
-use Rattle.pix.specs.Views.{place_of, with_run, row_start, row_end}
+use Rattle.pix.specs.Views.{place_of, with_run}
+use Rattle.pix.specs.Frames.{row_start, row_end}
 use Rattle.pix.specs.contracts.raster.Raster.{the_row as Raster-row}
 use Rattle.pix.specs.contracts.region.Region as Reg
 use Rattle.pix.proofs.region.Region.TheLaws.{the_told, the_row_laws}

@@ -1,4 +1,4 @@
-use Rattle.std.proofs.Common.{◌≡◌, ℕ, ap, ◌∙◌, arith, drop, ◌+◌, pos, sym, subst}
+use Rattle.std.proofs.Common.{◌≡◌, ap, ◌∙◌, arith, drop, ◌+◌, pos, sym, subst}
 use Rattle.std.proofs.lemmas.List.{drop_all}
 use Rattle.pix.specs.Region.{Rectangle}
 use Rattle.pix.specs.Image.{Changed, region_of}

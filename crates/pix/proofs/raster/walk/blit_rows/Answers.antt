@@ -1,4 +1,4 @@
-use Rattle.std.proofs.Common.{◌≡◌, ℕ, ◌<◌, ◌≤◌, ◌+◌, ◌*◌, ◌-◌, List, length, map, get_or, arith, rules, [], ◌∙◌, ap}
+use Rattle.std.proofs.Common.{◌≡◌, ℕ, ◌≤◌, ◌+◌, ◌*◌, ◌-◌, List, length, map, get_or, arith, rules, [], ◌∙◌, ap}
 use Rattle.std.proofs.Math.Nat.{mul-le-mul_right}
 use borrow.Author.Rules.{scaled_fits≤}
 use Rattle.pix.proofs.Zones.{Part, part_over, zoned-map, length-part, row-step}

@@ -1,5 +1,5 @@
 use Rattle.std.proofs.Common.{◌≡◌, ◌-◌, ◌<◌, length, take, drop, arith}
-use Rattle.pix.specs.Views.{row_parts}
+use Rattle.pix.specs.Frames.{row_parts}
 use Rattle.pix.proofs.Views.{row_parts-first, length-row_parts}
 use Rattle.pix.proofs.rows.RowsMutIterator.next.Goals as goal
 
