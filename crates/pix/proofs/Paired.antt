@@ -130,15 +130,17 @@ module _ (to from : Stretch) (th ta fh fa : ℕ) (pt : Parts to.start th ta) (pf
 
   -- and what it belongs to is one of the source's
   lies_from : (x : ℕ) → At x → Lies from (from.start +ℤ (pos x -ℤ to.start))
-  lies_from x z = let a = z.here in let b = z.in_from in let c = z.in_source in
-      ((omega (arith, ints, pt.is, pf.is, pt.one, pf.one, a), omega (arith, ints, clamps, pt.is, pf.is, pt.one, pf.one, b, c, hf)),
-      (omega (arith, ints, pt.is, pf.is, pt.one, pf.one, a), omega (arith, ints, clamps, pt.is, pf.is, pt.one, pf.one, a, c, hf)))
+  lies_from x z = let a = z.here in let b = z.in_from in let c = z.in_source in (
+    (omega (arith, ints, pt.is, pf.is, pt.one, pf.one, a), omega (arith, ints, clamps, pt.is, pf.is, pt.one, pf.one, b, c, hf)),
+    (omega (arith, ints, pt.is, pf.is, pt.one, pf.one, a), omega (arith, ints, clamps, pt.is, pf.is, pt.one, pf.one, a, c, hf)),
+  )
 
   -- a number between them is paired
   back : (x : ℕ) → low ≤ x → x < low + count → HasPair to from (pos x -ℤ to.start)
-  back x h k = let z = at x h k in let a = z.here in let b = z.in_to in let c = z.in_from in
-      (((omega (arith, ints, pt.is, pt.one, a), omega (arith, ints, pt.is, pt.one, b)), (omega (arith, ints, pt.is, pt.one, a), omega (arith, ints, pt.is, pt.one, c))),
-      (lies_to x z, lies_from x z))
+  back x h k = let z = at x h k in let a = z.here in let b = z.in_to in let c = z.in_from in (
+    ((omega (arith, ints, pt.is, pt.one, a), omega (arith, ints, pt.is, pt.one, b)), (omega (arith, ints, pt.is, pt.one, a), omega (arith, ints, pt.is, pt.one, c))),
+    (lies_to x z, lies_from x z),
+  )
 
   -- just those that are paired are found
   found_pairs : (x : ℕ) → is_in found.to x ≡ has_pair to from x

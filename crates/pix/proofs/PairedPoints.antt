@@ -92,7 +92,7 @@ pub changed_by_pairs : {P S : Type 0} (to from : Rectangle) (reads : P → List 
     x y (slice_index_or (map reads old.pixels) (y * old.width + x) []))
     → Changed reads old new (where_paired to (region_of old) from numbers src f)
 changed_by_pairs to from reads old new numbers src f columns rows hc hr ew eh changed = record {
-    same_width = ew;
-    same_height = eh;
-    points = λ x y lx _. rw ew (changed x y lx ∙ blit_is_paired to from old numbers src f columns rows x y _ hc hr);
-  }
+  same_width = ew;
+  same_height = eh;
+  points = λ x y lx _. rw ew (changed x y lx ∙ blit_is_paired to from old numbers src f columns rows x y _ hc hr);
+}

@@ -92,8 +92,12 @@ step_at_place layout place pixel (Composited op source) b a =
     rw (bounded-pixel_composite layout op source pixel place b, bounded-pixel_composite layout op source pixel layout.alpha a) refl
 step_at_place layout place pixel (Matted op matte source) b a =
     let color : List ℕ = matted layout (matte_value layout matte) source in
-    rw (bounded-pixel_composite layout op color pixel place b, bounded-pixel_composite layout op color pixel layout.alpha a,
-      bounded-matted layout (matte_value layout matte) source place b, bounded-matted layout (matte_value layout matte) source layout.alpha a) refl
+    rw (
+      bounded-pixel_composite layout op color pixel place b,
+      bounded-pixel_composite layout op color pixel layout.alpha a,
+      bounded-matted layout (matte_value layout matte) source place b,
+      bounded-matted layout (matte_value layout matte) source layout.alpha a,
+    ) refl
 
 -- and so is a list of effects
 run_at_place : (layout : Layout) (place : ℕ) (pixel : List ℕ) (effects : List Effect) → IsBounded layout place → IsBounded layout layout.alpha
@@ -164,8 +168,7 @@ step_kept layout pixel (Composited op source) laws a fd fs pd ps = (
 step_kept layout pixel (Matted op matte source) laws a fd fs pd ps =
     let value : ℕ = matte_value layout matte in
     let color : List ℕ = matted layout value source in
-    let pc : IsPremultiplied layout color = matted_premultiplied layout value source laws a ps in
-    (
+    let pc : IsPremultiplied layout color = matted_premultiplied layout value source laws a ps in (
       composite_fits layout op color pixel laws,
       made_premultiplied layout op color pixel _ laws refl a pc pd,
       composite_uncut layout op color pixel laws (matted_fits layout value source laws fs.1 (fs.0.at 0)) fd pc pd,

@@ -28,8 +28,8 @@ pub record IsWritten {P : Type 0} (old new : Image P) (ws : List P) (x y : ℕ) 
   pub same_height : new.height ≡ old.height
   pub points : (default : P) (column row : ℕ) → column < old.width → slice_index_or new.pixels (row * old.width + column) default
       ≡ (if nat_eq row y && (nat_le x column && nat_lt column (x + length ws))
-         then slice_index_or ws (column - x) default
-         else slice_index_or old.pixels (row * old.width + column) default)
+      then slice_index_or ws (column - x) default
+      else slice_index_or old.pixels (row * old.width + column) default)
 
 -- the slice has the pixels of the points that a rectangle has in row y of an image, and as many others that are written over them stand
 -- at those points and nowhere else

@@ -57,7 +57,12 @@ impl<P: Pixel> Raster<P> {
     /// A raster of pixels of one color.
     ///
     /// Answers `WidthTooBig`, `HeightTooBig`, `TooBig`, or `Memory` where a request for memory was refused.
-    pub fn with_color(alloc: Global, width: u32, height: u32, clr: P) -> Result<Raster<P>, RasterFault>
+    pub fn with_color(
+        alloc: Global,
+        width: u32,
+        height: u32,
+        clr: P,
+    ) -> Result<Raster<P>, RasterFault>
         ensures ok { IfOk result (λ r. (r.width ≡ width) × (r.height ≡ height)
             × (r.pixels ≡ replicate (height * width) clr)) }
         ensures refused { (fault : RasterFault) → size_fault width height ≡ Some fault → result ≡ Err fault }

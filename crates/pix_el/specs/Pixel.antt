@@ -1,5 +1,5 @@
 -- Pixels as the lists of their channels' numbers.
-use Rattle.std.specs.Prelude.{ℕ, ◌<◌, List, length, slice_index_or, Bool, ◌&&◌, nat_le, nat_lt}
+use Rattle.std.specs.Prelude.{ℕ, List, slice_index_or, Bool, ◌&&◌, nat_le, nat_lt}
 use Rattle.std.specs.declared.ops.Range.{Range}
 use Rattle.pix_chan.specs.Number.{top}
 

@@ -12,7 +12,8 @@ ghost use Rattle.pix.specs.declared.command.Command.{Command};
 use super::Raster;
 use super::dispatch::{ColorSource, MatteSource, RasterSource, composite_by};
 use super::walk::{
-    Blit, CompositedColor, CompositedPixels, CopiedColor, CopiedPixels, Fill, MattedColor, blit_rows, fill_rows,
+    Blit, CompositedColor, CompositedPixels, CopiedColor, CopiedPixels, Fill, MattedColor,
+    blit_rows, fill_rows,
 };
 use crate::command::Command;
 use crate::pairs::pair_up;
@@ -64,7 +65,13 @@ impl<P: Pixel> Raster<P> {
     }
 
     /// Changes each point of a region by the point of another raster that it is paired with.
-    fn blit_region<S: Pixel, B: Blit<P, S>>(&mut self, to: Region, src: &Raster<S>, from: Region, change: &B)
+    fn blit_region<S: Pixel, B: Blit<P, S>>(
+        &mut self,
+        to: Region,
+        src: &Raster<S>,
+        from: Region,
+        change: &B,
+    )
         requires { B.can_blit }
         ensures { Changed P.numbers self.old self.new (where_paired to (region_of self.old) from S.numbers src.now (B.makes change.now)) }
     {
@@ -128,7 +135,10 @@ impl<P: Pixel<Alpha = Premultiplied, Gamma = Linear>> Raster<P> {
     /// **After any list of clears, copies and composites run on a raster, every pixel is the fold of just those commands whose clipped regions reach it, no other pixel changes, and each non-hue channel lies within its budget of the same run in exact fractions: at most n units after n unmatted commands of the listed kinds, n² + n after n unmatted commands of any kind.**
     ///
     /// Condition: the format has an alpha channel. It takes no memory and cannot fail.
-    pub fn run<const N: usize, A: Alpha>(&mut self, commands: &[Command<'_, P, Pix<N, P::Chan, Matte, A, Linear>>])
+    pub fn run<const N: usize, A: Alpha>(
+        &mut self,
+        commands: &[Command<'_, P, Pix<N, P::Chan, Matte, A, Linear>>],
+    )
         requires has_alpha { P.layout.count ≡ P.layout.alpha + 1 }
         ensures fold { Changed P.numbers self.old self.new
             (run_at P.layout P.numbers (matte_numbers P.Chan.number) (region_of self.old) commands.now) }
@@ -159,7 +169,10 @@ impl<P: Pixel<Alpha = Premultiplied, Gamma = Linear>> Raster<P> {
     }
 
     /// Does one command.
-    fn perform<const N: usize, A: Alpha>(&mut self, command: &Command<'_, P, Pix<N, P::Chan, Matte, A, Linear>>)
+    fn perform<const N: usize, A: Alpha>(
+        &mut self,
+        command: &Command<'_, P, Pix<N, P::Chan, Matte, A, Linear>>,
+    )
         requires has_alpha { P.layout.count ≡ P.layout.alpha + 1 }
         ensures { Changed P.numbers self.old self.new
             (run_at P.layout P.numbers (matte_numbers P.Chan.number) (region_of self.old) (command.now ∷ [])) }
@@ -169,7 +182,14 @@ impl<P: Pixel<Alpha = Premultiplied, Gamma = Linear>> Raster<P> {
             Command::CopyColor { reg, clr } => self.copy_color(*reg, *clr),
             Command::CopyRaster { to, src, from } => self.copy_raster(*to, src, *from),
             Command::Color { reg, clr, op } => {
-                composite_by(self, &ColorSource { reg: *reg, clr: *clr }, *op);
+                composite_by(
+                    self,
+                    &ColorSource {
+                        reg: *reg,
+                        clr: *clr,
+                    },
+                    *op,
+                );
             }
             Command::Raster { to, src, from, op } => {
                 let source = RasterSource {

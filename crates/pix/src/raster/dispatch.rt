@@ -95,8 +95,7 @@ pub(crate) struct MatteSource<'a, P, M> {
 }
 
 impl<'a, const N: usize, A: Alpha, P: Pixel<Alpha = Premultiplied, Gamma = Linear>> Source<P>
-    for MatteSource<'a, P, Pix<N, P::Chan, Matte, A, Linear>>
-{
+    for MatteSource<'a, P, Pix<N, P::Chan, Matte, A, Linear>> {
     ghost makes = { λ it op dest. run_at P.layout P.numbers (matte_numbers P.Chan.number) dest (Command.Matte it.to it.src it.from it.clr op ∷ []) };
 
     fn composite<O: Blend>(&self, raster: &mut Raster<P>, op: O) {

@@ -110,9 +110,10 @@ pub(crate) struct MattedColor<P, O> {
     pub(crate) op: O,
 }
 
-impl<const N: usize, A: Alpha, P: Pixel<Alpha = Premultiplied, Gamma = Linear>, O: Blend>
-    Blit<P, Pix<N, P::Chan, Matte, A, Linear>> for MattedColor<P, O>
-{
+impl<const N: usize, A: Alpha, P: Pixel<Alpha = Premultiplied, Gamma = Linear>, O: Blend> Blit<
+    P,
+    Pix<N, P::Chan, Matte, A, Linear>,
+> for MattedColor<P, O> {
     ghost can_blit = { P.layout.count ≡ P.layout.alpha + 1 };
 
     ghost makes = { λ it matte. matted_composite P.layout O.op (matte_value P.layout matte) (P.numbers it.clr) };
@@ -167,7 +168,7 @@ pub(crate) fn blit_rows<P: Pixel, S: Pixel, B: Blit<P, S>>(
     ensures { (x y : ℕ) → x < width → slice_index_or (map P.numbers pixels.new) (y * width + x) [] ≡
         where_in columns.to rows.to
         (λ a b. B.makes change.now (slice_index_or (map S.numbers src.now)
-            ((rows.from + (b - rows.to.from)) * src_width + (columns.from + (a - columns.to.from))) []))
+        ((rows.from + (b - rows.to.from)) * src_width + (columns.from + (a - columns.to.from))) []))
         x y (slice_index_or (map P.numbers pixels.old) (y * width + x) []) }
 {
     let count = columns.to.to - columns.to.from;

@@ -9,8 +9,23 @@ returned : (c : goal.After-min-3)
     → ◌≡◌ {A = Pairs} (record { to = record { from = c.min-first.result; to = c.min-first.result + c.min-len.result }; from = c.min-3.result })
     (pairs_of c.args.to c.args.from c.requires.dest_limit c.requires.source_limit)
 returned c =
-    rw (c.min-first.ensures, c.min-3.ensures, c.min-len.ensures, c.min-2.ensures, c.saturating_sub.ensures, c.min.ensures, c.saturating_sub-2.ensures, c.saturating_sub-3.ensures,
-    c.max-skipped.ensures, c.hidden.ensures, c.hidden-2.ensures, c.hidden-3.ensures, c.hidden-4.ensures, c.first.ensures, c.first-2.ensures) refl
+    rw (
+      c.min-first.ensures,
+      c.min-3.ensures,
+      c.min-len.ensures,
+      c.min-2.ensures,
+      c.saturating_sub.ensures,
+      c.min.ensures,
+      c.saturating_sub-2.ensures,
+      c.saturating_sub-3.ensures,
+      c.max-skipped.ensures,
+      c.hidden.ensures,
+      c.hidden-2.ensures,
+      c.hidden-3.ensures,
+      c.hidden-4.ensures,
+      c.first.ensures,
+      c.first-2.ensures,
+    ) refl
 
 pub returns-clause-pairs : goal.returns-clause-pairs
 returns-clause-pairs c x = ap (λ p. is_in p.to x) (returned c) ∙ pairs_is c.args.to c.args.from c.requires.dest_limit c.requires.source_limit x

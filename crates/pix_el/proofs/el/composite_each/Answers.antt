@@ -1,4 +1,4 @@
-use Rattle.std.proofs.Common.{◌≡◌, ◌-◌, ℕ, length, map, get_or, true, arith, sym, ap, ◌∙◌, refl}
+use Rattle.std.proofs.Common.{◌≡◌, ◌-◌, length, map, get_or, true, arith, sym, ap, ◌∙◌, refl}
 use Rattle.std.proofs.lemmas.List.{length-map, map-set, get_or-map}
 use Rattle.pix_chan.specs.Number.{top}
 use Rattle.pix_chan.specs.Hue.{hue_weight, IsHueMove}

@@ -5,9 +5,12 @@ use Rattle.pix.proofs.raster.Raster.rows.Goals as goal
 
 pub invariant_of-result : goal.invariant_of-result
 invariant_of-result g c =
-    let f = c.frame_of-frame.ensures in
-    (omega arith, f.in_width, rows_fit c.deref.result.now c.self.inside.width c.self.inside.height c.frame_of-frame.result.rows
-    (c.deref.ensures.len ∙ c.self.invariant.0) (omega arith) f.in_height)
+    let f = c.frame_of-frame.ensures in (
+      omega arith,
+      f.in_width,
+      rows_fit c.deref.result.now c.self.inside.width c.self.inside.height c.frame_of-frame.result.rows
+          (c.deref.ensures.len ∙ c.self.invariant.0) (omega arith) f.in_height,
+    )
 
 pub returns-clause-rows : goal.returns-clause-rows
 returns-clause-rows g c =

@@ -6,9 +6,12 @@ use Rattle.pix.proofs.raster.Raster.rows_mut.Goals as goal
 
 pub invariant_of-result : goal.invariant_of-result
 invariant_of-result g c =
-    let f = c.frame_of-frame.ensures in
-    (omega arith, f.in_width, rows_fit c.deref_mut.result.now c.self.inside.width c.self.inside.height c.frame_of-frame.result.rows
-    (c.deref_mut.ensures.len ∙ c.self.invariant.0) (omega arith) f.in_height)
+    let f = c.frame_of-frame.ensures in (
+      omega arith,
+      f.in_width,
+      rows_fit c.deref_mut.result.now c.self.inside.width c.self.inside.height c.frame_of-frame.result.rows
+          (c.deref_mut.ensures.len ∙ c.self.invariant.0) (omega arith) f.in_height,
+    )
 
 pub slice_bounds-result-count : goal.slice_bounds-result-count
 slice_bounds-result-count g c =

@@ -13,6 +13,6 @@ invariant-loop-y g l =
       done : (x y : ℕ) → x < l.width → slice_index_or (map n l.pixels) (y * l.width + x) []
           ≡ where_in l.columns.to (record { from = l.fn.rows.to.from; to = l.y })
           (λ a b. g.B.Blit.makes l.change (slice_index_or (map m l.src)
-              ((l.fn.rows.from + (b - l.fn.rows.to.from)) * l.src_width + (l.columns.from + (a - l.columns.to.from))) []))
+          ((l.fn.rows.from + (b - l.fn.rows.to.from)) * l.src_width + (l.columns.from + (a - l.columns.to.from))) []))
           x y (slice_index_or (map n l.initial.pixels) (y * l.width + x) []);
     }

@@ -1,4 +1,4 @@
-use Rattle.std.proofs.Common.{◌≡◌, ◌-◌, ◌+◌, ℕ, length, map, arith, sym, ap, ◌∙◌, refl}
+use Rattle.std.proofs.Common.{◌≡◌, ◌-◌, ◌+◌, map, arith, sym, ap, ◌∙◌, refl}
 use Rattle.pix_chan.specs.Number.{top}
 use Rattle.pix_el.specs.Pixel.{Layout, alpha_of}
 use Rattle.pix_el.specs.PixelComposite.{pixel_composite}

@@ -1,4 +1,4 @@
-use Rattle.std.proofs.Common.{◌≡◌, ℕ, List, [], length, map, get_or, arith, sym, ap, ◌∙◌, refl}
+use Rattle.std.proofs.Common.{◌≡◌, [], length, map, get_or, arith, sym, ap, ◌∙◌, refl}
 use Rattle.std.proofs.lemmas.List.{length-map, map-set, get_or-map}
 use Rattle.pix_chan.specs.declared.chan.modes.Linear.{Linear}
 use Rattle.pix_el.specs.declared.el.Pix.{Pix}
