@@ -1,5 +1,5 @@
 -- The outcome of a script, and its first fault by the places of lines.
-use Rattle.std.proofs.Common.{◌≡◌, ℕ, zero, suc, ◌+◌, ◌<◌, ◌≤◌, List, [], ◌∷◌, ◌++◌, length, get_or, take, Bool, true, false, cond, ltb, Option, Some, None, Result, Ok, Err, refl, sym, ap, ◌∙◌, ◌⊎◌, inl, inr, subst, append_assoc, arith}
+use Rattle.std.proofs.Common.{◌≡◌, ℕ, zero, suc, ◌+◌, ◌<◌, ◌≤◌, List, [], ◌∷◌, ◌++◌, length, get_or, take, filter, true, false, ltb, Option, Some, None, Result, Ok, Err, refl, sym, ap, ◌∙◌, ◌⊎◌, inl, inr, subst, append_assoc, arith}
 use Rattle.std.specs.Prelude.{IfOk, IfErr}
 use Rattle.std.proofs.lemmas.Bool.{le-ltb, lt-ltb}
 use Rattle.std.proofs.lemmas.List.{append-nil, length-append}
@@ -10,8 +10,10 @@ use Rattle.pix_script.specs.declared.fault.PaintFault.TheVariants as faults
 use Rattle.pix_script.specs.declared.script.Script.{Script}
 use Rattle.pix_script.specs.Lines.{lines_of}
 use Rattle.pix_script.specs.Commands.{problem_of}
-use Rattle.pix_script.specs.Script.{stands, first_fault, or_later, IsFirstFault, text_of, size_of, commands_of, meanings, outcome_of, outcome_of_lines, Gives, Fails}
-use Rattle.pix_script.specs.Reading.{Reading, reading_of, held, ReadsLines}
+use Rattle.pix_script.specs.Meaning.{Meaning}
+use Rattle.pix_script.specs.Script.{stands, first_fault, or_later, IsFirstFault, text_of, size_of, meanings, outcome_of, outcome_of_lines, Gives, Fails}
+use Rattle.pix_script.specs.Reading.{Reading, paints, reading_of, held, ReadsLines}
+use Rattle.pix_script.proofs.PaintLemmas.{paintings_text}
 
 -- a script that is too long
 pub too_long : (script : List ℕ) → 1048576 < length script → outcome_of script ≡ Err faults.TooLong
@@ -30,15 +32,23 @@ fault_outcome script faults.OutOfMemory le h = tt
 fault_outcome script faults.TooLong le h = absurd h
 fault_outcome script (faults.Line number problem) le h = line_outcome script number problem le h
 
+-- the text of what was painted is that of all lines
+text_same : (size : Option (ℕ × ℕ)) (ms : List Meaning) → text_of size (filter paints ms) ≡ text_of size ms
+text_same None ms = refl
+text_same (Some size) ms = paintings_text size.0 size.1 ms
+
 -- the text of a script that was read whole
 ok_outcome : (script : List ℕ) (reading : Reading) → length script ≤ 1048576 → first_fault [] (lines_of script) ≡ None → reading ≡ reading_of (lines_of script)
-    → outcome_of script ≡ Ok (text_of reading.size reading.commands)
+    → outcome_of script ≡ Ok (text_of reading.size reading.paintings)
 unfolding outcome_of outcome_of_lines
-ok_outcome script reading le none is = let short : ltb 1048576 (length script) ≡ false = le-ltb _ _ le in rw (short, none, is) refl
+ok_outcome script reading le none is =
+    let ms = meanings (lines_of script) in
+    let short : ltb 1048576 (length script) ≡ false = le-ltb _ _ le in
+    rw (short, none, is, text_same (size_of ms) ms) refl
 
 pub painted_outcome : {X : Type 0} (view : X → List ℕ) (script : List ℕ) (read : Script) (r : Result X PaintFault) → length script ≤ 1048576
     → ReadsLines (lines_of script) (Ok read)
-    → IfOk r (λ text. view text ≡ text_of (held read).size (held read).commands) → IfErr r (λ fault. fault ≡ faults.OutOfMemory)
+    → IfOk r (λ text. view text ≡ text_of (held read).size (held read).paintings) → IfErr r (λ fault. fault ≡ faults.OutOfMemory)
     → Gives view r (outcome_of script)
 painted_outcome view script read (Ok text) le h is memory =
     ok_outcome script (held read) le h.0 h.1 ∙ ap (λ (t : List ℕ). let r : Result (List ℕ) PaintFault = Ok t in r) (sym is)

@@ -1,18 +1,16 @@
 -- What a script's lines say, one line on.
-use Rattle.std.proofs.Common.{◌≡◌, ℕ, zero, suc, ◌+◌, ◌<◌, ◌≤◌, List, [], ◌∷◌, ◌++◌, length, get_or, take, drop, map, Bool, true, false, cond, eqb, ltb, zero-add, Option, Some, None, Result, Ok, Err, refl, sym, ap, ◌∙◌, ◌⊎◌, inl, inr, arith}
+use Rattle.std.proofs.Common.{◌≡◌, ℕ, ◌+◌, ◌<◌, ◌≤◌, List, [], ◌∷◌, ◌++◌, length, get_or, take, drop, filter, Bool, true, false, cond, eqb, zero-add, Option, Some, None, Err, refl, sym, ap, ◌∙◌, ◌⊎◌, inl, inr, arith}
 use Rattle.std.specs.Prelude.{codes, is_some, is_none, ◌||◌}
-use Rattle.std.specs.List.{list_any, slice_split, enumerate_from, filter_map}
+use Rattle.std.specs.List.{slice_split, enumerate_from}
 use Rattle.std.specs.Str.Lines.{strip_carriage_return}
 use Rattle.std.specs.Str.{bytes_eq}
-use Rattle.std.proofs.lemmas.Bool.{cases_Bool, ne_eqb, le-ltb}
+use Rattle.std.proofs.lemmas.Bool.{cases_Bool, ne_eqb}
 use Rattle.std.proofs.lemmas.List.{take_more, drop_more, take_all, drop_all, length-take-le, length-map, get_or-map, append-nil}
-use Rattle.std.proofs.lemmas.List.Elements.{filter_map-append}
+use Rattle.std.proofs.lemmas.List.Elements.{filter-append, filter_map-append}
 use Rattle.std.proofs.lemmas.List.FromFn.{length-enumerate_from, get_or-enumerate_from}
 use Rattle.std.proofs.lemmas.List.Folds.{list_any-append}
 use Rattle.std.proofs.lemmas.Slice.Eq.{bytes_eq-Decides}
 use Rattle.pix.specs.Region.{Rectangle}
-use Rattle.pix.specs.declared.command.Command.{Command}
-use Rattle.pix.specs.declared.command.Command.TheVariants as commands
 use Rattle.pix_chan.specs.declared.ops.Op.{Op}
 use Rattle.pix_script.specs.declared.fault.Problem.{Problem}
 use Rattle.pix_script.specs.declared.fault.Problem.TheVariants.{SecondImage, BadNumber}
@@ -21,8 +19,8 @@ use Rattle.pix_script.specs.Operators.{operator_of}
 use Rattle.pix_script.specs.Commands.{problem_of}
 use Rattle.pix_script.specs.Lines.{words_of, lines_of}
 use Rattle.pix_script.specs.Meaning.{Meaning, NewImage, Paint, meaning_of, image_of, paint_of, rectangle_of}
-use Rattle.pix_script.specs.Script.{begins_with, stands, or_later, first_fault, size_of, commands_of, meanings}
-use Rattle.pix_script.specs.Reading.{Reading, reading_of, with_meaning, ReadsLine, ReadsLines}
+use Rattle.pix_script.specs.Script.{begins_with, stands, or_later, first_fault, size_of, meanings}
+use Rattle.pix_script.specs.Reading.{Reading, paints, reading_of, with_meaning, ReadsLine, ReadsLines}
 use Rattle.pix_script.specs.declared.fault.PaintFault.{PaintFault}
 use Rattle.pix_script.specs.declared.fault.PaintFault.TheVariants as faults
 
@@ -34,28 +32,35 @@ record MakesImage (stood : Bool) (words : List (List ℕ)) : Type 0 where
   begins : begins_with (codes "image") words ≡ true
   says : meaning_of words ≡ Some (NewImage width height)
 
+-- what is said is a painting
+record IsPainting (meaning : Option Meaning) : Type 0 where
+  op : Op
+  reg : Rectangle
+  color : List ℕ
+  says : meaning ≡ Some (Paint op reg color)
+
 -- the line makes no image
 record MakesNone (words : List (List ℕ)) : Type 0 where
   begins : begins_with (codes "image") words ≡ false
-  says : (meaning_of words ≡ None) ⊎ ((command : Command (List ℕ)) × (meaning_of words ≡ Some (Paint command)))
+  says : (meaning_of words ≡ None) ⊎ IsPainting (meaning_of words)
 
--- what reading a paint line gives, if it gives anything, is a command
+-- what a paint line says, if it says anything, is a painting
 paint_parts : (o : Option Op) (r : Option Rectangle) (c : Option (List ℕ))
-    → let m = o >>= λ op. r >>= λ reg. c >>= λ color. Some (Paint (commands.Color reg color op)) in
-    (m ≡ None) ⊎ ((command : Command (List ℕ)) × (m ≡ Some (Paint command)))
+    → let m = o >>= λ op. r >>= λ reg. c >>= λ color. Some (Paint op reg color) in
+    (m ≡ None) ⊎ IsPainting m
 paint_parts None r c = inl refl
 paint_parts (Some o) None c = inl refl
 paint_parts (Some o) (Some r) None = inl refl
-paint_parts (Some o) (Some r) (Some c) = inr (commands.Color r c o, refl)
+paint_parts (Some o) (Some r) (Some c) = inr (record { op = o; reg = r; color = c; says = refl })
 
-paint_says : (arguments : List (List ℕ)) → (paint_of arguments ≡ None) ⊎ ((command : Command (List ℕ)) × (paint_of arguments ≡ Some (Paint command)))
+paint_says : (arguments : List (List ℕ)) → (paint_of arguments ≡ None) ⊎ IsPainting (paint_of arguments)
 unfolding paint_of
 paint_says (o ∷ x ∷ y ∷ w ∷ h ∷ c ∷ []) = paint_parts (operator_of o) (rectangle_of x y w h) (color_of c)
 paint_says _ = inl refl
 
 other_says : (b : Bool) (arguments : List (List ℕ))
     → let m = cond b (Some paint_of) None >>= λ reading. reading arguments in
-    (m ≡ None) ⊎ ((command : Command (List ℕ)) × (m ≡ Some (Paint command)))
+    (m ≡ None) ⊎ IsPainting m
 other_says true arguments = paint_says arguments
 other_says false arguments = inl refl
 
@@ -93,22 +98,19 @@ line_says stood (name ∷ arguments) none =
 size_more : (ms : List Meaning) (width height : ℕ) → is_some (size_of ms) ≡ false → size_of (ms ++ NewImage width height ∷ []) ≡ Some (width, height)
 size_more [] width height none = refl
 size_more (NewImage w h ∷ ms) width height none = absurd cc
-size_more (Paint command ∷ ms) width height none = size_more ms width height none
+size_more (Paint op reg color ∷ ms) width height none = size_more ms width height none
 
-size_kept : (ms : List Meaning) (command : Command (List ℕ)) → size_of (ms ++ Paint command ∷ []) ≡ size_of ms
-size_kept [] command = refl
-size_kept (NewImage w h ∷ ms) command = refl
-size_kept (Paint c ∷ ms) command = size_kept ms command
+size_kept : (ms : List Meaning) (op : Op) (reg : Rectangle) (color : List ℕ) → size_of (ms ++ Paint op reg color ∷ []) ≡ size_of ms
+size_kept [] op reg color = refl
+size_kept (NewImage w h ∷ ms) op reg color = refl
+size_kept (Paint o r c ∷ ms) op reg color = size_kept ms op reg color
 
-commands_kept : (ms : List Meaning) (width height : ℕ) → commands_of (ms ++ NewImage width height ∷ []) ≡ commands_of ms
-commands_kept [] width height = refl
-commands_kept (NewImage w h ∷ ms) width height = commands_kept ms width height
-commands_kept (Paint c ∷ ms) width height = ap (λ (cs : List (Command (List ℕ))). c ∷ cs) (commands_kept ms width height)
+paintings_kept : (ms : List Meaning) (width height : ℕ) → filter paints (ms ++ NewImage width height ∷ []) ≡ filter paints ms
+paintings_kept ms width height = filter-append paints ms (NewImage width height ∷ []) ∙ append-nil (filter paints ms)
 
-commands_more : (ms : List Meaning) (command : Command (List ℕ)) → commands_of (ms ++ Paint command ∷ []) ≡ commands_of ms ++ command ∷ []
-commands_more [] command = refl
-commands_more (NewImage w h ∷ ms) command = commands_more ms command
-commands_more (Paint c ∷ ms) command = ap (λ (cs : List (Command (List ℕ))). c ∷ cs) (commands_more ms command)
+paintings_more : (ms : List Meaning) (op : Op) (reg : Rectangle) (color : List ℕ)
+    → filter paints (ms ++ Paint op reg color ∷ []) ≡ filter paints ms ++ Paint op reg color ∷ []
+paintings_more ms op reg color = filter-append paints ms (Paint op reg color ∷ [])
 
 -- what the lines and one more line say
 said_none : (lines : List (List (List ℕ))) (words : List (List ℕ)) → meaning_of words ≡ None → meanings (lines ++ words ∷ []) ≡ meanings lines
@@ -135,9 +137,9 @@ image_more lines words m =
     let ms = meanings lines in
     let said = said_one lines words (NewImage m.width m.height) m.says in
     let size = size_more ms m.width m.height m.none_stood in
-    let commands = commands_kept ms m.width m.height in
+    let paintings = paintings_kept ms m.width m.height in
     record {
-      reading = rw (said, m.says, size, commands) refl;
+      reading = rw (said, m.says, size, paintings) refl;
       stood = rw (m.says, m.begins) (sym (or_true (is_some (size_of ms))));
     }
 
@@ -149,9 +151,9 @@ none_more lines words m =
         reading = rw (said_none lines words none, none) refl;
         stood = rw (none, m.begins) (sym (or_false (is_some (size_of ms))));
       }
-      | inr some ↦ record {
-        reading = rw (said_one lines words (Paint some.0) some.1, some.1, size_kept ms some.0, commands_more ms some.0) refl;
-        stood = rw (some.1, m.begins) (sym (or_false (is_some (size_of ms))));
+      | inr p ↦ record {
+        reading = rw (said_one lines words (Paint p.op p.reg p.color) p.says, p.says, size_kept ms p.op p.reg p.color, paintings_more ms p.op p.reg p.color) refl;
+        stood = rw (p.says, m.begins) (sym (or_false (is_some (size_of ms))));
       }
     ]
 
@@ -168,7 +170,7 @@ pub record SoFar (lines : List (List (List ℕ))) (k : ℕ) (reading : Reading) 
   pub stood : is_some reading.size ≡ stands (take k lines)
   pub faults : first_fault (take k lines) (drop k lines) ≡ first_fault [] lines
 
-pub starts : (lines : List (List (List ℕ))) → SoFar lines 0 (record { size = None; commands = [] })
+pub starts : (lines : List (List (List ℕ))) → SoFar lines 0 (record { size = None; paintings = [] })
 starts lines = record { reading_is = refl; stood = refl; faults = refl }
 
 -- the faults of the lines from k on, by the line at k

@@ -1,16 +1,15 @@
 -- What a line without a problem says.
 use Rattle.std.specs.Prelude.{◌≡◌, Result, Ok, Err, ℕ, List, [], ◌∷◌, Option, Some, None, codes}
+use Rattle.pix_chan.specs.declared.ops.Op.{Op}
 use Rattle.pix.specs.Region.{Rectangle}
-use Rattle.pix.specs.declared.command.Command.{Command}
-use Rattle.pix.specs.declared.command.Command.TheVariants as commands
 use Rattle.pix_script.specs.declared.fault.Problem.{Problem}
 use Rattle.pix_script.specs.Numbers.{side_of, coordinate_of, color_of, ◌>>=◌}
 use Rattle.pix_script.specs.Operators.{operator_of, named}
 
--- what a line says: how large the image is, or a command on it, whose color is given by its numbers
+-- what a line says: how large the image is, or which color, given by its numbers, is composited with the points of which region
 pub data Meaning : Type 0 where
   NewImage : (width height : ℕ) → Meaning
-  Paint : (command : Command (List ℕ)) → Meaning
+  Paint : (op : Op) (reg : Rectangle) (color : List ℕ) → Meaning
 
 -- image WIDTH HEIGHT
 unfoldable pub image_of : List (List ℕ) → Option Meaning
@@ -35,7 +34,7 @@ paint_of (o ∷ x ∷ y ∷ w ∷ h ∷ c ∷ []) = do
   op ← operator_of o
   reg ← rectangle_of x y w h
   color ← color_of c
-  Some (Paint (commands.Color reg color op))
+  Some (Paint op reg color)
 paint_of _ = None
 
 -- how the words after each name are read

@@ -1,33 +1,36 @@
 -- What the code has read of a script so far.
-use Rattle.std.specs.Prelude.{◌≡◌, ℕ, List, [], ◌∷◌, ◌++◌, Option, Some, None, Result, Ok, Err, is_some, map}
-use Rattle.pix.specs.declared.command.Command.{Command}
+use Rattle.std.specs.Prelude.{◌≡◌, ℕ, List, [], ◌∷◌, ◌++◌, Option, Some, None, Result, Ok, Err, Bool, true, false, is_some, map, filter}
 use Rattle.pix_script.specs.declared.script.Script.{Script}
 use Rattle.pix_script.specs.declared.fault.PaintFault.{PaintFault}
 use Rattle.pix_script.specs.declared.fault.PaintFault.TheVariants as faults
 use Rattle.pix_script.specs.Commands.{problem_of}
 use Rattle.pix_script.specs.Meaning.{Meaning, NewImage, Paint, meaning_of}
-use Rattle.pix_script.specs.Script.{meanings, size_of, commands_of, first_fault}
-use Rattle.pix_script.specs.Pixels.{color_numbers}
-use Rattle.pix_script.specs.Seen.{in_numbers}
+use Rattle.pix_script.specs.Script.{meanings, size_of, first_fault}
+use Rattle.pix_script.specs.Seen.{said}
 
--- how large the image is, and the commands on it
+-- how large the image is, and what is painted on it
 pub record Reading : Type 0 where
   pub size : Option (ℕ × ℕ)
-  pub commands : List (Command (List ℕ))
+  pub paintings : List Meaning
 
 -- what the code holds
 abbrev pub held : Script → Reading
-held script = record { size = script.size; commands = map (in_numbers color_numbers) script.commands.items }
+held script = record { size = script.size; paintings = map said script.paintings.items }
+
+-- whether a line paints
+abbrev pub paints : Meaning → Bool
+paints (NewImage width height) = false
+paints (Paint op reg color) = true
 
 -- what the lines say
 abbrev pub reading_of : List (List (List ℕ)) → Reading
-reading_of lines = record { size = size_of (meanings lines); commands = commands_of (meanings lines) }
+reading_of lines = record { size = size_of (meanings lines); paintings = filter paints (meanings lines) }
 
 -- what was read, and what one more line says
 abbrev pub with_meaning : Reading → Option Meaning → Reading
 with_meaning reading None = reading
-with_meaning reading (Some (NewImage width height)) = record { size = Some (width, height); commands = reading.commands }
-with_meaning reading (Some (Paint command)) = record { size = reading.size; commands = reading.commands ++ command ∷ [] }
+with_meaning reading (Some (NewImage width height)) = record { size = Some (width, height); paintings = reading.paintings }
+with_meaning reading (Some (Paint op reg color)) = record { size = reading.size; paintings = reading.paintings ++ Paint op reg color ∷ [] }
 
 -- what reading the line of a number returned, given what was held before and after
 abbrev pub ReadsLine : Reading → Reading → ℕ → List (List ℕ) → Result (Unit {0}) PaintFault → Type 0

@@ -1,9 +1,10 @@
 -- What a script gives: the text of its picture, or the fault of its first faulty line.
-use Rattle.std.specs.Prelude.{◌≡◌, ℕ, ◌+◌, ◌<◌, List, [], ◌∷◌, ◌++◌, length, take, Bool, false, Option, Some, None, Result, Ok, Err, nat_lt, if◌then◌else◌, codes, slice_index_or}
-use Rattle.std.specs.List.{list_any, filter_map}
+use Rattle.std.specs.Prelude.{◌≡◌, ℕ, ◌+◌, ◌<◌, List, [], ◌∷◌, ◌++◌, length, take, Bool, false, Option, Some, None, Result, Ok, Err, nat_lt, if◌then◌else◌, codes, slice_index_or, pos, fold}
+use Rattle.std.specs.List.{list_any, filter_map, flat_map}
 use Rattle.std.specs.Str.{bytes_eq}
-use Rattle.pix.specs.declared.command.Command.{Command}
-use Rattle.pix.specs.Run.{run_at}
+use Rattle.pix_el.specs.Pixel.{Layout}
+use Rattle.pix.specs.Region.{covers}
+use Rattle.pix.specs.Run.{Effect, Composited, apply}
 use Rattle.pix_script.specs.declared.fault.Problem.{Problem}
 use Rattle.pix_script.specs.declared.fault.PaintFault.{PaintFault}
 use Rattle.pix_script.specs.declared.fault.PaintFault.TheVariants as faults
@@ -36,22 +37,25 @@ first_fault earlier (words ∷ more) =
 abbrev pub size_of : List Meaning → Option (ℕ × ℕ)
 size_of [] = None
 size_of (NewImage width height ∷ more) = Some (width, height)
-size_of (Paint command ∷ more) = size_of more
+size_of (Paint op reg color ∷ more) = size_of more
 
--- the commands on the image, in order
-abbrev pub commands_of : List Meaning → List (Command (List ℕ))
-commands_of [] = []
-commands_of (NewImage width height ∷ more) = commands_of more
-commands_of (Paint command ∷ more) = command ∷ commands_of more
+-- the layout of an image's pixels: four channels of eight bits, of which none is a hue and the last is the alpha
+abbrev pub rgba8 : Layout
+rgba8 = record { root = 16; count = 4; hues = record { start = 0; end = 0 }; alpha = 3 }
 
--- the pixel at a point of a clear image on which the commands have run, of eight bits a channel and alpha last
-abbrev pub painted : List (Command (List ℕ)) → ℕ → ℕ → List ℕ
-painted commands x y = run_at 16 3 (λ color. color) commands x y (0 ∷ 0 ∷ 0 ∷ 0 ∷ [])
+-- what a line brings to the point (x, y) of the image: nothing where it does not reach the point
+abbrev pub effect_of : ℕ → ℕ → Meaning → List Effect
+effect_of x y (NewImage width height) = []
+effect_of x y (Paint op reg color) = if covers reg (pos x) (pos y) then Composited op color ∷ [] else []
 
--- the text of an image of that size on which the commands have run, and none where there is no image
-abbrev pub text_of : Option (ℕ × ℕ) → List (Command (List ℕ)) → List ℕ
-text_of None commands = []
-text_of (Some size) commands = picture_text size.0 size.1 (painted commands)
+-- the pixel at the point (x, y) of a clear image, after what the lines bring to it, one after the other
+abbrev pub painted : List Meaning → ℕ → ℕ → List ℕ
+painted meanings x y = fold (apply rgba8) (0 ∷ 0 ∷ 0 ∷ 0 ∷ []) (flat_map (effect_of x y) meanings)
+
+-- the text of an image of that size that the lines have painted, and none where there is no image
+abbrev pub text_of : Option (ℕ × ℕ) → List Meaning → List ℕ
+text_of None meanings = []
+text_of (Some size) meanings = picture_text size.0 size.1 (painted meanings)
 
 -- the text, where there is no fault
 abbrev pub or_fault : List ℕ → Option (ℕ × Problem) → Result (List ℕ) PaintFault
@@ -64,7 +68,7 @@ meanings lines = filter_map meaning_of lines
 
 -- what the lines give
 unfoldable pub outcome_of_lines : List (List (List ℕ)) → Result (List ℕ) PaintFault
-outcome_of_lines lines = or_fault (text_of (size_of (meanings lines)) (commands_of (meanings lines))) (first_fault [] lines)
+outcome_of_lines lines = or_fault (text_of (size_of (meanings lines)) (meanings lines)) (first_fault [] lines)
 
 -- what the script gives; one of more than 1048576 bytes is too long
 unfoldable pub outcome_of : List ℕ → Result (List ℕ) PaintFault

@@ -1,17 +1,21 @@
--- The lines that the code reads, as what they say.
-use Rattle.std.specs.Prelude.{ℕ, List, Option}
+-- The lines that the code reads, as what they say, and its paintings as commands.
 use Rattle.pix.specs.declared.command.Command.{Command}
 use Rattle.pix.specs.declared.command.Command.TheVariants.{Color}
+use Rattle.pix_script.specs.declared.command.Painting.{Painting}
 use Rattle.pix_script.specs.declared.command.Line.{Line}
 use Rattle.pix_script.specs.declared.command.Line.TheVariants as lines
 use Rattle.pix_script.specs.Meaning.{Meaning, NewImage, Paint}
-use Rattle.pix_script.specs.Pixels.{color_numbers}
+use Rattle.pix_script.specs.Pixels.{Rgba8p, Matte8, color_numbers}
 
--- a command whose color is given by its numbers
-abbrev pub in_numbers : {P : Type 0} → (P → List ℕ) → Command P → Command (List ℕ)
-in_numbers numbers (Color reg clr op) = Color reg (numbers clr) op
+-- what a painting says
+abbrev pub said : Painting → Meaning
+said painting = Paint painting.op painting.reg (color_numbers painting.clr)
 
 -- what a line that was read says
 abbrev pub seen : Line → Meaning
 seen (lines.Image width height) = NewImage width height
-seen (lines.Paint command) = Paint (in_numbers color_numbers command)
+seen (lines.Paint painting) = said painting
+
+-- the command that does a painting
+abbrev pub command_of : Painting → Command Rgba8p Matte8
+command_of painting = Color painting.reg painting.clr painting.op

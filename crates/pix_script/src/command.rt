@@ -5,22 +5,44 @@ ghost use Rattle.pix_script.specs.Commands.{problem_of, problem_of_shape, shapes
 ghost use Rattle.pix_script.specs.Meaning.{Reads, rectangle_of, meaning_of, image_of, paint_of};
 ghost use Rattle.pix_script.specs.Numbers.{side_of, coordinate_of};
 ghost use Rattle.pix_script.specs.Operators.{named, operator_of};
-ghost use Rattle.pix_script.specs.Seen.{seen};
+ghost use Rattle.pix_script.specs.Seen.{command_of, seen};
 
 use crate::fault::Problem;
 use crate::number::{color, coordinate, side};
 use crate::pixel::pixel_of;
+use pix::matte::Matte8;
 use pix::ops::Op;
 use pix::rgb::Rgba8p;
 use pix::{Command, Region};
 
 /// What a line says.
-#[derive(Drop)]
+#[derive(Clone, Copy)]
 pub(crate) enum Line {
     /// How wide and how high the image is.
     Image(u32, u32),
     /// What is painted.
-    Paint(Command<Rgba8p>),
+    Paint(Painting),
+}
+
+/// What is painted: a color, composited with each point of a region.
+#[derive(Clone, Copy)]
+pub(crate) struct Painting {
+    op: Op,
+    reg: Region,
+    clr: Rgba8p,
+}
+
+impl Painting {
+    /// The command that does the painting.
+    pub(crate) fn command(&self) -> Command<'_, Rgba8p, Matte8>
+        ensures { result ≡ command_of self.now }
+    {
+        Command::Color {
+            reg: self.reg,
+            clr: self.clr,
+            op: self.op,
+        }
+    }
 }
 
 /// The greatest side of an image.
@@ -84,7 +106,7 @@ fn parse_paint(arguments: &[&[u8]], stands: bool) -> Result<Line, Problem>
     let reg = region(x, y, width, height).ok_or(Problem::BadNumber)?;
     let bytes = color(clr).ok_or(Problem::BadColor)?;
     let clr = pixel_of(bytes);
-    Ok(Line::Paint(Command::Color { reg, clr, op }))
+    Ok(Line::Paint(Painting { op, reg, clr }))
 }
 
 /// The operator of a name, exact in case.

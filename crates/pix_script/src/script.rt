@@ -1,17 +1,19 @@
 //! What a script paints.
-ghost use Rattle.std.specs.Prelude.{◌≡◌, ℕ, ◌<◌, ◌++◌, length, IfOk, IfErr, Err};
+ghost use Rattle.std.specs.Prelude.{◌≡◌, ℕ, ◌<◌, ◌++◌, length, map, IfOk, IfErr, Err};
 ghost use Rattle.std.specs.Str.Lines.{strip_carriage_return};
 ghost use Rattle.pix.specs.Image.{point};
 ghost use Rattle.pix_script.specs.Lines.{words_of, lines_of};
 ghost use Rattle.pix_script.specs.Pixels.{color_numbers};
 ghost use Rattle.pix_script.specs.Text.{picture_text};
+ghost use Rattle.pix_script.specs.Seen.{command_of};
 ghost use Rattle.pix_script.specs.Reading.{ReadsLine, ReadsLines, held};
 ghost use Rattle.pix_script.specs.Script.{Gives, IsFirstFault, outcome_of, text_of};
 
-use crate::command::{Line, parse};
+use crate::command::{Line, Painting, parse};
 use crate::fault::{PaintFault, Problem};
 use crate::lines::{without_return, words};
 use crate::pixel::push_row;
+use pix::matte::Matte8;
 use pix::rgb::Rgba8p;
 use pix::{Command, Raster};
 use std::alloc::{AllocError, Global};
@@ -40,7 +42,7 @@ pub fn paint_text(alloc: Global, script: &[u8]) -> Result<Vec<u8>, PaintFault>
 #[derive(Drop)]
 struct Script {
     size: Option<(u32, u32)>,
-    commands: Vec<Command<Rgba8p>>,
+    paintings: Vec<Painting>,
 }
 
 /// Reads all lines.
@@ -49,7 +51,7 @@ fn read_script(alloc: Global, script: &[u8]) -> Result<Script, PaintFault>
 {
     let mut read = Script {
         size: None,
-        commands: Vec::new(alloc),
+        paintings: Vec::new(alloc),
     };
     for (index, line) in script.split(|byte| *byte == b'\n').enumerate() {
         read.read_line(alloc, index + 1, line)?;
@@ -70,9 +72,9 @@ impl Script {
                 self.size = Some((width, height));
                 Ok(())
             }
-            Ok(Some(Line::Paint(command))) => {
-                self.commands
-                    .push(command)
+            Ok(Some(Line::Paint(painting))) => {
+                self.paintings
+                    .push(painting)
                     .map_err(|_| PaintFault::OutOfMemory)
             }
         }
@@ -80,7 +82,7 @@ impl Script {
 
     /// The text of the painted image.
     fn paint(&self, alloc: Global) -> Result<Vec<u8>, PaintFault>
-        ensures text { IfOk result (λ text. text.items ≡ text_of (held self.now).size (held self.now).commands) }
+        ensures text { IfOk result (λ text. text.items ≡ text_of (held self.now).size (held self.now).paintings) }
         ensures memory { IfErr result (λ fault. fault ≡ PaintFault.OutOfMemory) }
     {
         let Some((width, height)) = self.size else {
@@ -90,8 +92,16 @@ impl Script {
         let Ok(mut raster) = Raster::<Rgba8p>::with_clear(alloc, width, height) else {
             return Err(PaintFault::OutOfMemory);
         };
-        raster.run(&self.commands);
+        let commands = self.commands(alloc)?;
+        raster.run(&commands);
         Ok(raster_text(alloc, &raster)?)
+    }
+
+    /// The paintings as commands on a raster.
+    fn commands(&self, alloc: Global) -> Result<Vec<Command<'_, Rgba8p, Matte8>>, AllocError>
+        ensures { IfOk result (λ commands. commands.items ≡ map command_of self.now.paintings.items) }
+    {
+        self.paintings.iter().map(Painting::command).collect(alloc)
     }
 }
 

@@ -1,4 +1,4 @@
-use Rattle.std.proofs.Common.{◌≡◌, ◌+◌, ◌-◌, ◌*◌, arith, sym, ap, ◌∙◌}
+use Rattle.std.proofs.Common.{◌≡◌, ◌+◌, ◌-◌, ◌*◌, arith, sym, ◌∙◌}
 use Rattle.pix.specs.Image.{point}
 use Rattle.pix_script.specs.Pixels.{color_numbers}
 use Rattle.pix_script.proofs.PictureLemmas.{picture_more, row_is}
