@@ -110,7 +110,7 @@ fn constants_order_and_equality_are_by_the_number(rt: HostRuntime) {
 }
 
 /// `c` / `most` rounded down, but -k where `c` is -(k * `most` + 1) and k isn't 0.
-fn plain_step(c: i64, most: i64) -> i64
+pub(crate) fn plain_step(c: i64, most: i64) -> i64
     requires { pos 1 <ℤ most }
 {
     if c < -1 && (c + 1) % most == 0 {

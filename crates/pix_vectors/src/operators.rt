@@ -12,7 +12,7 @@ use pix::rgb::Rgba16p;
 
 /// What of one side enters a composite: `Alpha` and `Rest` are by the other side's alpha.
 #[derive(Clone, Copy)]
-enum Share {
+pub(crate) enum Share {
     Nothing,
     All,
     Alpha,
@@ -20,7 +20,7 @@ enum Share {
 }
 
 /// Each operator with the shares of its source and of its destination.
-const TABLE: [(Op, Share, Share); 13] = [
+pub(crate) const TABLE: [(Op, Share, Share); 13] = [
     (Op::Src, Share::All, Share::Nothing),
     (Op::Dest, Share::Nothing, Share::All),
     (Op::SrcOver, Share::All, Share::Rest),

@@ -1,6 +1,7 @@
 //! Pixels, regions and rasters, all named through `pix`.
 use pix::chan::{Ch8, Channel};
 use pix::el::Pixel;
+use pix::matte::Matte8;
 use pix::ops::{Op, SrcOver};
 use pix::rgb::Rgba8p;
 use pix::{Command, Raster, RasterFault, Region};
@@ -173,7 +174,7 @@ fn a_color_over_one_of_two_points(rt: HostRuntime) -> Result<(), Fail> {
 }
 
 /// The command of a color over a region.
-fn over(reg: Region, clr: Rgba8p) -> Command<Rgba8p> {
+fn over(reg: Region, clr: Rgba8p) -> Command<'static, Rgba8p, Matte8> {
     Command::Color {
         reg,
         clr,

@@ -1,0 +1,44 @@
+//! Small pictures, written down as numbers.
+ghost use Rattle.std.specs.Prelude.{◌≡◌, IfOk};
+ghost use Rattle.pix.specs.Image.{Image};
+
+use pix::el::Pixel;
+use pix::gray::{Gray8, Graya8p};
+use pix::matte::Matte8;
+use pix::rgb::Rgba8p;
+use pix::{Raster, RasterFault};
+use std::alloc::Global;
+
+/// The raster of these pixels, row by row from the top; clear pixels where they are too few.
+pub(crate) fn picture<P: Pixel>(
+    alloc: Global,
+    width: u32,
+    height: u32,
+    pixels: &[P],
+) -> Result<Raster<P>, RasterFault>
+    ensures { IfOk result (λ r. (r.width ≡ width) × (r.height ≡ height)) }
+{
+    let mut raster = Raster::with_clear(alloc, width, height)?;
+    P::copy_slice(raster.pixels_mut(), pixels);
+    Ok(raster)
+}
+
+/// A pixel of one lightness.
+pub(crate) fn gray(value: u8) -> Gray8 {
+    Gray8::new(value)
+}
+
+/// A pixel of a lightness and an alpha.
+pub(crate) fn graya((value, alpha): (u8, u8)) -> Graya8p {
+    Graya8p::new(value, alpha)
+}
+
+/// A pixel of red, green, blue and alpha.
+pub(crate) fn rgba([red, green, blue, alpha]: [u8; 4]) -> Rgba8p {
+    Rgba8p::new(red, green, blue, alpha)
+}
+
+/// A pixel of one matte value.
+pub(crate) fn matte(value: u8) -> Matte8 {
+    Matte8::new(value)
+}
