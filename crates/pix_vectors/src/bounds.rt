@@ -456,6 +456,7 @@ fn a_faint_color_against_fractions(rt: HostRuntime) -> Result<(), Fail> {
     };
     assert_eq!(rt; point.budget, budget);
     point.assert_near(&rt, rgba([2; 4]), true);
+    assert!(rt; !point.channels[0].is_near(2, 2), "the budget is reached");
 
     raster.composite_color(all, rgba([255; 4]), SrcIn);
     point = point.composited(Op::SrcIn, [255; 4], None);
@@ -471,6 +472,7 @@ fn a_faint_color_against_fractions(rt: HostRuntime) -> Result<(), Fail> {
     };
     assert_eq!(rt; point.budget, budget);
     point.assert_near(&rt, rgba([1; 4]), true);
+    assert!(rt; !point.channels[3].is_near(1, 3), "the budget is reached");
     Ok(())
 }
 
