@@ -476,6 +476,23 @@ fn a_faint_color_against_fractions(rt: HostRuntime) -> Result<(), Fail> {
     Ok(())
 }
 
+/// Three faint colors in one list are three composites: merged into one first, they would leave more.
+#[test]
+fn a_list_is_not_merged(rt: HostRuntime) -> Result<(), Fail> {
+    let mut raster = Raster::with_color(rt.alloc(), 1, 1, rgba([5; 4]))?;
+    let command = |reg: Region| -> Command<'_, Rgba8p, Matte8> {
+        Command::Color {
+            reg,
+            clr: rgba([0; 4]),
+            op: Op::SrcOver,
+        }
+    };
+    let commands = [Region::from(()); 3].map(command);
+    raster.run(&commands);
+    assert_eq!(rt; raster.pixels(), [rgba([2; 4])].as_slice());
+    Ok(())
+}
+
 #[test]
 fn a_matted_color_against_fractions(rt: HostRuntime) {
     let (before, color) = ([0x80, 0, 0, 0x80], [0, 0x80, 0, 0x80]);
