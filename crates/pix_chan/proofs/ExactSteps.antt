@@ -5,7 +5,7 @@ use Rattle.std.proofs.Common.{◌≡◌, ℕ, ◌+◌, ◌-◌, ◌*◌, ◌≤�
 use Rattle.std.proofs.lemmas.Bool.{cases_lt}
 use Rattle.pix_chan.specs.declared.ops.Op.{Op}
 use Rattle.pix_chan.specs.declared.ops.Op.TheVariants.{Src, Dest, SrcOver, DestOver, SrcOut, DestOut, SrcIn, DestIn, SrcAtop, DestAtop, Xor, Clear, Plus}
-use Rattle.pix_chan.specs.Operators.{Coefficient, Zero, One, Alpha, Rest, source_coefficient, dest_coefficient}
+use Rattle.pix_chan.specs.Operators.{Coefficient, Zero, One, Alpha, OneMinusAlpha, row}
 use Rattle.pix_chan.specs.ExactComposite.{weight, Within}
 use Rattle.pix_chan.proofs.Within.{within_cut, within_more, within_times, min_times, rest_times}
 use Rattle.pix_chan.proofs.Terms.{reads, enters}
@@ -14,39 +14,39 @@ use Rattle.pix_chan.proofs.Terms.{reads, enters}
 abbrev pub exact_by : Coefficient → Coefficient → ℕ → ℕ → ℕ → ℕ → ℕ → ℕ → ℕ
 exact_by a b m n f e d da = min (f * e) (m * weight a e da + d * weight b f n)
 
-weight_times : (a : Coefficient) (top alpha w : ℕ) → alpha ≤ top → weight a top alpha * w ≡ weight a (top * w) (alpha * w)
-weight_times Zero top alpha w l = omega arith
-weight_times One top alpha w l = refl
-weight_times Alpha top alpha w l = refl
-weight_times Rest top alpha w l = omega (arith, rest_times top alpha w l, mul-le-mul_right w l)
+weight_times : (a : Coefficient) (max alpha w : ℕ) → alpha ≤ max → weight a max alpha * w ≡ weight a (max * w) (alpha * w)
+weight_times Zero max alpha w l = omega arith
+weight_times One max alpha w l = refl
+weight_times Alpha max alpha w l = refl
+weight_times OneMinusAlpha max alpha w l = omega (arith, rest_times max alpha w l, mul-le-mul_right w l)
 
 -- an exact composite, times w, is the exact composite of the fractions over w
-pub exact_times : (a b : Coefficient) (top m n f d da w : ℕ) → da ≤ top
-    → exact_by a b m n f top d da * w ≡ exact_by a b m n f (top * w) (d * w) (da * w)
-exact_times a b top m n f d da w l =
-    let e = ap (λ (x : ℕ). m * x) (weight_times a top da w l) in
-    let sums : (m * weight a top da + d * weight b f n) * w ≡ m * weight a (top * w) (da * w) + d * w * weight b f n = omega arith in
-    let wholes : f * top * w ≡ f * (top * w) = omega arith in
-    rw (min_times (f * top) (m * weight a top da + d * weight b f n) w, sums, wholes)
+pub exact_times : (a b : Coefficient) (max m n f d da w : ℕ) → da ≤ max
+    → exact_by a b m n f max d da * w ≡ exact_by a b m n f (max * w) (d * w) (da * w)
+exact_times a b max m n f d da w l =
+    let e = ap (λ (x : ℕ). m * x) (weight_times a max da w l) in
+    let sums : (m * weight a max da + d * weight b f n) * w ≡ m * weight a (max * w) (da * w) + d * w * weight b f n = omega arith in
+    let wholes : f * max * w ≡ f * (max * w) = omega arith in
+    rw (min_times (f * max) (m * weight a max da + d * weight b f n) w, sums, wholes)
 
 -- no weight passes the whole
 weight_small : (b : Coefficient) (f n : ℕ) → n ≤ f → weight b f n ≤ enters b * f
 weight_small Zero f n l = omega arith
 weight_small One f n l = omega arith
 weight_small Alpha f n l = omega arith
-weight_small Rest f n l = omega arith
+weight_small OneMinusAlpha f n l = omega arith
 
 pub weight_below : (b : Coefficient) (f n : ℕ) → n ≤ f → weight b f n ≤ f
 weight_below Zero f n l = omega arith
 weight_below One f n l = omega arith
 weight_below Alpha f n l = omega arith
-weight_below Rest f n l = omega arith
+weight_below OneMinusAlpha f n l = omega arith
 
 source_moves : (a : Coefficient) (m e z y h : ℕ) → z ≤ e → y ≤ e → Within h z y → Within (reads a * (m * h)) (m * weight a e z) (m * weight a e y)
 source_moves Zero m e z y h lz ly p = omega arith
 source_moves One m e z y h lz ly p = omega arith
 source_moves Alpha m e z y h lz ly p = omega (arith, mul-le-mul_left m p.above, mul-le-mul_left m p.below)
-source_moves Rest m e z y h lz ly p =
+source_moves OneMinusAlpha m e z y h lz ly p =
     let q : Within h (e - z) (e - y) = omega arith in
     omega (arith, mul-le-mul_left m q.above, mul-le-mul_left m q.below)
 
@@ -72,10 +72,10 @@ abbrev pub Fits : Coefficient → ℕ → ℕ → ℕ → Type 0
 Fits Zero n q f = ⊤
 Fits One n q f = ⊤
 Fits Alpha n q f = n + q ≤ f
-Fits Rest n q f = ⊤
+Fits OneMinusAlpha n q f = ⊤
 
 -- this holds of the thirteen operators, and not of each pair of coefficients
-pub operators_fit : (op : Op) (n f : ℕ) → n ≤ f → Fits (source_coefficient op) n (weight (dest_coefficient op) f n) f
+pub operators_fit : (op : Op) (n f : ℕ) → n ≤ f → Fits (row op).source n (weight (row op).dest f n) f
 operators_fit Src n f l = omega arith
 operators_fit Dest n f l = omega arith
 operators_fit SrcOver n f l = omega arith
@@ -120,7 +120,7 @@ alpha_moves Alpha n q f e z y h ln lq fits lz ly p = record {
   moves = omega (arith, mul-le-mul_left (n + q) p.above, mul-le-mul_left (n + q) p.below);
   balanced = λ m g v lm s t. omega (arith, mul-le-mul_right h lm, mul-le-mul_left q s, mul-le-mul_left n t, mul-le-mul_right v fits);
 }
-alpha_moves Rest n q f e z y h ln lq fits lz ly p = elim (cases_lt q n) [
+alpha_moves OneMinusAlpha n q f e z y h ln lq fits lz ly p = elim (cases_lt q n) [
   | inl lt ↦
       let le : q ≤ n = omega arith in
       record {

@@ -3,6 +3,7 @@ pub mod Within
 pub mod Terms
 pub mod Near
 pub mod Kept
+pub mod Transparent
 pub mod Hue
 pub mod ExactSteps
 pub mod Budgets
@@ -10,3 +11,9 @@ pub mod RunSteps
 pub mod Balance
 pub mod RunBounds
 pub mod RunRows
+pub mod Rising
+pub mod LaneProduct
+pub mod Lanes
+pub mod Slices
+pub mod Sixteen
+pub mod RunTerms

@@ -4,8 +4,8 @@ use Rattle.std.proofs.Common.{arith, ap, subst, sym, ◌∙◌}
 use Rattle.std.proofs.Math.Nat.{mul-le-mul_right}
 use Rattle.std.proofs.lemmas.Nat.{div-mul-add, mod-mul-add, div_below}
 use Rattle.std.proofs.lemmas.Int.{ints}
-use Rattle.pix_chan.specs.Nearest.{near}
-use Rattle.pix_chan.specs.NearestLaws.{near_negative}
+use Rattle.pix_chan.specs.Nearest.{nearest}
+use Rattle.pix_chan.specs.NearestLaws.{nearest_negative}
 use Rattle.pix_chan.specs.Step.{units_below, step, channel_lerp}
 
 -- the units of a number, by its digits
@@ -99,11 +99,11 @@ pub part_fits : (t m k : ℕ) → t ≤ m → t * k ≤ m * k
 part_fits t m k h = mul-le-mul_right k h
 
 -- the nearest number, below 0 and from 0 on
-pub near_of_negative : (most : ℕ) (n d : ℤ) → n <ℤ pos 0 → pos 0 <ℤ d → 0 ≡ near most n d
-near_of_negative most (pos n) d h p = absurd (omega (arith, ints))
-near_of_negative most (negsuc n) (negsuc d) h p = absurd (omega (arith, ints))
-near_of_negative most (negsuc n) (pos d) h p = sym (near_negative most n d (omega (arith, ints)))
+pub nearest_of_negative : (max : ℕ) (n d : ℤ) → n <ℤ pos 0 → pos 0 <ℤ d → 0 ≡ nearest max n d
+nearest_of_negative max (pos n) d h p = absurd (omega (arith, ints))
+nearest_of_negative max (negsuc n) (negsuc d) h p = absurd (omega (arith, ints))
+nearest_of_negative max (negsuc n) (pos d) h p = sym (nearest_negative max n d (omega (arith, ints)))
 
-pub near_of_natural : (most a d r : ℕ) → r ≡ min ((2 * a + d) / (2 * d)) most → r ≡ near most (pos a) (pos d)
-unfolding near
-near_of_natural most a d r e = omega arith
+pub nearest_of_natural : (max a d r : ℕ) → r ≡ min ((2 * a + d) / (2 * d)) max → r ≡ nearest max (pos a) (pos d)
+unfolding nearest
+nearest_of_natural max a d r e = omega arith

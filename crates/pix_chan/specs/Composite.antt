@@ -1,22 +1,22 @@
 -- One channel of a composite.
 use Rattle.std.specs.Prelude.{ℕ, ◌+◌, ◌-◌}
 use Rattle.pix_chan.specs.declared.ops.Op.{Op}
-use Rattle.pix_chan.specs.Number.{top, channel_sum}
+use Rattle.pix_chan.specs.Number.{saturating_sum}
 use Rattle.pix_chan.specs.Product.{channel_product}
-use Rattle.pix_chan.specs.Operators.{Coefficient, Zero, One, Alpha, Rest, source_coefficient, dest_coefficient}
+use Rattle.pix_chan.specs.Operators.{Coefficient, Zero, One, Alpha, OneMinusAlpha, row}
 
--- what a coefficient leaves of the channel x, where alpha is the other side's
+-- the channel x times a coefficient, where alpha is the other side's
 abbrev pub term : ℕ → Coefficient → ℕ → ℕ → ℕ
-term root Zero x alpha = 0
-term root One x alpha = x
-term root Alpha x alpha = channel_product root x alpha
-term root Rest x alpha = channel_product root x (top root - alpha)
+term max Zero x alpha = 0
+term max One x alpha = x
+term max Alpha x alpha = channel_product max x alpha
+term max OneMinusAlpha x alpha = channel_product max x (max - alpha)
 
 -- the two terms of the source's channel s, of alpha sa, and the destination's channel d, of alpha da, together
 abbrev pub term_sum : ℕ → Op → ℕ → ℕ → ℕ → ℕ → ℕ
-term_sum root op s sa d da = term root (source_coefficient op) s da + term root (dest_coefficient op) d sa
+term_sum max op s sa d da = term max (row op).source s da + term max (row op).dest d sa
 
 -- the source's channel s, of alpha sa, composited with the destination's channel d, of alpha da
 abbrev pub channel_composite : ℕ → Op → ℕ → ℕ → ℕ → ℕ → ℕ
-channel_composite root op s sa d da =
-    channel_sum root (term root (source_coefficient op) s da) (term root (dest_coefficient op) d sa)
+channel_composite max op s sa d da =
+    saturating_sum max (term max (row op).source s da) (term max (row op).dest d sa)

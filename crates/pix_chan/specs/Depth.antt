@@ -1,17 +1,16 @@
--- Depth: the same fraction of the top, in sixteen bits and back.
-use Rattle.std.specs.Prelude.{◌≡◌, ℕ, ◌*◌, ◌/◌, ◌≤◌}
-use Rattle.pix_chan.specs.Number.{top}
+-- Depth: the same fraction of the maximum, in sixteen bits and back.
+use Rattle.std.specs.Prelude.{◌≡◌, ℕ, ◌+◌, ◌*◌, ◌/◌, ◌≤◌}
 
--- the number in sixteen bits: 257 times a channel of eight, and a channel of sixteen itself
-abbrev pub deepened : ℕ → ℕ → ℕ
-deepened root x = top 256 / top root * x
+-- a channel in sixteen bits: 257 times one of eight bits, and one of sixteen itself
+abbrev pub to_16_bit : ℕ → ℕ → ℕ
+to_16_bit max x = 65535 / max * x
 
--- the number of a channel from sixteen bits: its upper eight for a channel of eight, and all of them for a channel of sixteen
-abbrev pub flattened : ℕ → ℕ → ℕ
-flattened root y = root * root * y / (256 * 256)
+-- a channel from sixteen bits: the upper eight of them for a channel of eight bits, and all of them for one of sixteen
+abbrev pub from_16_bit : ℕ → ℕ → ℕ
+from_16_bit max y = y * (max + 1) / 65536
 
--- To sixteen bits and back is the channel, and the top goes to the top both ways.
-pub record IsDepth (root : ℕ) : Type 0 where
-  pub returns : (x : ℕ) → x ≤ top root → flattened root (deepened root x) ≡ x
-  pub top_deepens : deepened root (top root) ≡ top 256
-  pub top_flattens : flattened root (top 256) ≡ top root
+-- To sixteen bits and back is the identity, and the maximum goes to the maximum both ways.
+pub record IsDepth (max : ℕ) : Type 0 where
+  pub round_trip : (x : ℕ) → x ≤ max → from_16_bit max (to_16_bit max x) ≡ x
+  pub max_to_16_bit : to_16_bit max max ≡ 65535
+  pub max_from_16_bit : from_16_bit max 65535 ≡ max

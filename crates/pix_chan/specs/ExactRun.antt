@@ -1,10 +1,9 @@
--- A run at one channel of one point: as the code rounds it, in exact fractions that are never rounded, and how far apart the two may come.
-use Rattle.std.specs.Prelude.{ℕ, ◌+◌, ◌*◌, ◌<◌, ◌≤◌, Bool, true, false, IsTrue, List, length, fold, All, sum_by, ⊤}
+-- A run at one channel of one point: rounded at each step, in exact fractions that are never rounded, and the bound of their distance.
+use Rattle.std.specs.Prelude.{ℕ, ◌+◌, ◌*◌, ◌<◌, ◌≤◌, IsTrue, List, length, fold, All, sum_by, ⊤}
 use Rattle.pix_chan.specs.declared.ops.Op.{Op}
-use Rattle.pix_chan.specs.declared.ops.Op.TheVariants.{Src, Dest, SrcOver, DestOut, DestIn, Clear, Plus}
-use Rattle.pix_chan.specs.Number.{top}
+use Rattle.pix_chan.specs.declared.ops.Op.TheVariants.{Src, Clear}
 use Rattle.pix_chan.specs.Product.{channel_product, fineness}
-use Rattle.pix_chan.specs.Operators.{Coefficient, Zero, One, Alpha, Rest, source_coefficient, dest_coefficient, product_count, matted_count}
+use Rattle.pix_chan.specs.Operators.{Coefficient, Zero, One, Alpha, OneMinusAlpha, row, is_listed}
 use Rattle.pix_chan.specs.Composite.{channel_composite}
 use Rattle.pix_chan.specs.ExactComposite.{exact_composite, Within}
 
@@ -13,15 +12,15 @@ pub data ChannelEffect : Type 0 where
   -- a clear or a copy: they become s and sa
   Replaced : (s sa : ℕ) → ChannelEffect
   -- a composite with a source of channel s and alpha sa
-  Entered : (op : Op) (s sa : ℕ) → ChannelEffect
+  Composited : (op : Op) (s sa : ℕ) → ChannelEffect
   -- a composite with such a source through a matte value
-  EnteredThrough : (op : Op) (matte s sa : ℕ) → ChannelEffect
+  Matted : (op : Op) (matte s sa : ℕ) → ChannelEffect
 
--- no number of the effect passes the top
-abbrev pub IsOfChannels : ℕ → ChannelEffect → Type 0
-IsOfChannels root (Replaced s sa) = (s ≤ top root) × (sa ≤ top root)
-IsOfChannels root (Entered op s sa) = (s ≤ top root) × (sa ≤ top root)
-IsOfChannels root (EnteredThrough op matte s sa) = (matte ≤ top root) × (s ≤ top root) × (sa ≤ top root)
+-- every number of the effect is at most the maximum
+abbrev pub InRange : ℕ → ChannelEffect → Type 0
+InRange max (Replaced s sa) = (s ≤ max) × (sa ≤ max)
+InRange max (Composited op s sa) = (s ≤ max) × (sa ≤ max)
+InRange max (Matted op matte s sa) = (matte ≤ max) × (s ≤ max) × (sa ≤ max)
 
 -- a channel and its alpha, rounded
 pub record Rounded : Type 0 where
@@ -30,20 +29,20 @@ pub record Rounded : Type 0 where
 
 -- both after a composite with a source of channel s and alpha sa
 abbrev pub rounded_composite : ℕ → Op → ℕ → ℕ → Rounded → Rounded
-rounded_composite root op s sa dest = record {
-  channel = channel_composite root op s sa dest.channel dest.alpha;
-  alpha = channel_composite root op sa sa dest.alpha dest.alpha;
+rounded_composite max op s sa dest = record {
+  channel = channel_composite max op s sa dest.channel dest.alpha;
+  alpha = channel_composite max op sa sa dest.alpha dest.alpha;
 }
 
 -- both after an effect
 abbrev pub rounded_step : ℕ → Rounded → ChannelEffect → Rounded
-rounded_step root dest (Replaced s sa) = record { channel = s; alpha = sa }
-rounded_step root dest (Entered op s sa) = rounded_composite root op s sa dest
-rounded_step root dest (EnteredThrough op matte s sa) = rounded_composite root op (channel_product root s matte) (channel_product root sa matte) dest
+rounded_step max dest (Replaced s sa) = record { channel = s; alpha = sa }
+rounded_step max dest (Composited op s sa) = rounded_composite max op s sa dest
+rounded_step max dest (Matted op matte s sa) = rounded_composite max op (channel_product max s matte) (channel_product max sa matte) dest
 
 -- the rounded run: both after a list of effects
 abbrev pub rounded_run : ℕ → Rounded → List ChannelEffect → Rounded
-rounded_run root start effects = fold (rounded_step root) start effects
+rounded_run max start effects = fold (rounded_step max) start effects
 
 -- a channel and its alpha in exact fractions: value / whole and alpha / whole units
 pub record Exact : Type 0 where
@@ -53,23 +52,23 @@ pub record Exact : Type 0 where
 
 -- both after a composite with a source of channel s and alpha sa, of the whole f
 abbrev pub exact_both : ℕ → Op → ℕ → ℕ → ℕ → Exact → Exact
-exact_both root op f s sa dest = record {
-  value = exact_composite op f s sa (top root * dest.whole) dest.value dest.alpha;
-  alpha = exact_composite op f sa sa (top root * dest.whole) dest.alpha dest.alpha;
+exact_both max op f s sa dest = record {
+  value = exact_composite op f s sa (max * dest.whole) dest.value dest.alpha;
+  alpha = exact_composite op f sa sa (max * dest.whole) dest.alpha dest.alpha;
   whole = f * dest.whole;
 }
 
 -- both after an effect
 abbrev pub exact_step : ℕ → Exact → ChannelEffect → Exact
-exact_step root dest (Replaced s sa) = record { value = s; alpha = sa; whole = 1 }
-exact_step root dest (Entered op s sa) = exact_both root op (top root) s sa dest
-exact_step root dest (EnteredThrough op matte s sa) = exact_both root op (top root * top root) (s * matte) (sa * matte) dest
+exact_step max dest (Replaced s sa) = record { value = s; alpha = sa; whole = 1 }
+exact_step max dest (Composited op s sa) = exact_both max op max s sa dest
+exact_step max dest (Matted op matte s sa) = exact_both max op (max * max) (s * matte) (sa * matte) dest
 
 -- the exact run: both after a list of effects, from the same start
 abbrev pub exact_run : ℕ → Rounded → List ChannelEffect → Exact
-exact_run root start effects = fold (exact_step root) (record { value = start.channel; alpha = start.alpha; whole = 1 }) effects
+exact_run max start effects = fold (exact_step max) (record { value = start.channel; alpha = start.alpha; whole = 1 }) effects
 
--- the rounding budgets of a channel and its alpha: how far they may be off, counted in 1/fineness of a unit
+-- the rounding budgets of a channel and its alpha: their greatest distance from the exact run, counted in 1/fineness of a unit
 pub record Budget : Type 0 where
   pub channel : ℕ
   pub alpha : ℕ
@@ -78,95 +77,84 @@ pub record Budget : Type 0 where
 abbrev pub both : ℕ → Budget
 both n = record { channel = n; alpha = n }
 
--- what stays of the channel's budget b: all of it, where the destination enters
-abbrev pub stays : Coefficient → ℕ → ℕ
-stays Zero b = 0
-stays One b = b
-stays Alpha b = b
-stays Rest b = b
+-- the part of the channel's budget b that the destination's coefficient keeps: all of it, unless the coefficient is zero
+abbrev pub dest_share : Coefficient → ℕ → ℕ
+dest_share Zero b = 0
+dest_share One b = b
+dest_share Alpha b = b
+dest_share OneMinusAlpha b = b
 
--- what joins it of the alpha's budget e: all of it, where the source enters by that alpha
-abbrev pub joins : Coefficient → ℕ → ℕ
-joins Zero e = 0
-joins One e = 0
-joins Alpha e = e
-joins Rest e = e
+-- the part of the alpha's budget e that the source's coefficient adds: all of it, where the coefficient reads that alpha
+abbrev pub source_share : Coefficient → ℕ → ℕ
+source_share Zero e = 0
+source_share One e = 0
+source_share Alpha e = e
+source_share OneMinusAlpha e = e
 
 -- the budgets after a composite of so many products
 abbrev pub composite_budget : Op → ℕ → Budget → Budget
 composite_budget op count budget = record {
-  channel = count + stays (dest_coefficient op) budget.channel + joins (source_coefficient op) budget.alpha;
+  channel = count + dest_share (row op).dest budget.channel + source_share (row op).source budget.alpha;
   alpha = budget.alpha + count;
 }
 
 -- the budgets after an effect
 abbrev pub budget_step : Budget → ChannelEffect → Budget
 budget_step budget (Replaced s sa) = both 0
-budget_step budget (Entered Clear s sa) = both 0
-budget_step budget (EnteredThrough Clear matte s sa) = both 0
-budget_step budget (Entered Src s sa) = both 0
-budget_step budget (EnteredThrough Src matte s sa) = both 1
-budget_step budget (Entered op s sa) = composite_budget op (product_count op) budget
-budget_step budget (EnteredThrough op matte s sa) = composite_budget op (matted_count op) budget
+budget_step budget (Composited Clear s sa) = both 0
+budget_step budget (Matted Clear matte s sa) = both 0
+budget_step budget (Composited Src s sa) = both 0
+budget_step budget (Matted Src matte s sa) = both 1
+budget_step budget (Composited op s sa) = composite_budget op (row op).products budget
+budget_step budget (Matted op matte s sa) = composite_budget op (row op).matted budget
 
 -- the budgets after a list of effects
 abbrev pub rounding_budget : List ChannelEffect → Budget
 rounding_budget effects = fold budget_step (both 0) effects
 
--- how many products enter by an effect
+-- how many products an effect takes
 abbrev pub effect_count : ChannelEffect → ℕ
 effect_count (Replaced s sa) = 0
-effect_count (Entered op s sa) = product_count op
-effect_count (EnteredThrough op matte s sa) = matted_count op
+effect_count (Composited op s sa) = (row op).products
+effect_count (Matted op matte s sa) = (row op).matted
 
 -- the premultiplied bound: twice the products of all effects
 abbrev pub doubled_counts : List ChannelEffect → ℕ
 doubled_counts effects = 2 * sum_by effect_count effects
 
--- The channel and the alpha of `made` are at most b and e away from the exact ones, counted in 1/fineness of a unit.
--- Both sides are taken fineness times the whole: so every number is whole.
+-- The channel and the alpha of `made` are at most b and e from the exact ones, counted in 1/fineness of a unit.
+-- Both sides are multiplied by fineness and by the whole, so that every number is whole.
 pub record AreWithin (b e : ℕ) (made : Rounded) (exact : Exact) : Type 0 where
   pub whole : 0 < exact.whole
   pub channel : Within (b * exact.whole) (fineness * (made.channel * exact.whole)) (fineness * exact.value)
   pub alpha : Within (e * exact.whole) (fineness * (made.alpha * exact.whole)) (fineness * exact.alpha)
 
--- `made` is at most the rounding budgets away from the exact run
+-- `made` lies within the rounding budgets of the exact run
 abbrev pub IsWithinBudget : ℕ → Rounded → List ChannelEffect → Rounded → Type 0
-IsWithinBudget root start effects made = AreWithin (rounding_budget effects).channel (rounding_budget effects).alpha made (exact_run root start effects)
+IsWithinBudget max start effects made = AreWithin (rounding_budget effects).channel (rounding_budget effects).alpha made (exact_run max start effects)
 
--- the source of a composite is premultiplied: its channel does not pass its alpha
+-- the source of a composite is premultiplied: its channel is at most its alpha
 abbrev pub HasPremultipliedSource : ChannelEffect → Type 0
 HasPremultipliedSource (Replaced s sa) = ⊤
-HasPremultipliedSource (Entered op s sa) = s ≤ sa
-HasPremultipliedSource (EnteredThrough op matte s sa) = s ≤ sa
+HasPremultipliedSource (Composited op s sa) = s ≤ sa
+HasPremultipliedSource (Matted op matte s sa) = s ≤ sa
 
--- where the sources of all composites are premultiplied, `made` is at most the premultiplied bound away from the exact run
+-- where the sources of all composites are premultiplied, `made` lies within the premultiplied bound of the exact run
 abbrev pub IsWithinPremultipliedBound : ℕ → Rounded → List ChannelEffect → Rounded → Type 0
-IsWithinPremultipliedBound root start effects made =
-    All HasPremultipliedSource effects → AreWithin (doubled_counts effects) (doubled_counts effects) made (exact_run root start effects)
+IsWithinPremultipliedBound max start effects made =
+    All HasPremultipliedSource effects → AreWithin (doubled_counts effects) (doubled_counts effects) made (exact_run max start effects)
 
--- no matte takes part
+-- there is no matte
 abbrev pub IsUnmatted : ChannelEffect → Type 0
 IsUnmatted (Replaced s sa) = ⊤
-IsUnmatted (Entered op s sa) = ⊤
-IsUnmatted (EnteredThrough op matte s sa) = ⊥
-
--- the listed operators: the source does not enter by the destination's alpha
-abbrev pub is_listed : Op → Bool
-is_listed Src = true
-is_listed Dest = true
-is_listed SrcOver = true
-is_listed DestOut = true
-is_listed DestIn = true
-is_listed Clear = true
-is_listed Plus = true
-is_listed op = false
+IsUnmatted (Composited op s sa) = ⊤
+IsUnmatted (Matted op matte s sa) = ⊥
 
 -- the listed kinds: a clear, a copy, and a composite with a listed operator
 abbrev pub IsListed : ChannelEffect → Type 0
 IsListed (Replaced s sa) = ⊤
-IsListed (Entered op s sa) = IsTrue (is_listed op)
-IsListed (EnteredThrough op matte s sa) = IsTrue (is_listed op)
+IsListed (Composited op s sa) = IsTrue (is_listed op)
+IsListed (Matted op matte s sa) = IsTrue (is_listed op)
 
 -- both budgets are at most n
 pub record AreAtMost (n : ℕ) (budget : Budget) : Type 0 where

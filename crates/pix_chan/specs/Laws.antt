@@ -1,20 +1,18 @@
 -- What the operations of channels keep, beside what they answer.
 use Rattle.std.specs.Prelude.{ℕ}
-use Rattle.pix_chan.specs.Number.{top}
-use Rattle.pix_chan.specs.Product.{channel_product, channel_quotient, IsTopFactor, IsQuotient}
+use Rattle.pix_chan.specs.Product.{channel_product, channel_quotient, IsQuotient}
 use Rattle.pix_chan.specs.Step.{step, channel_lerp, IsStep, IsLerp}
-use Rattle.pix_chan.specs.Nearest.{near, IsNearest}
+use Rattle.pix_chan.specs.Nearest.{nearest, IsNearest}
 use Rattle.pix_chan.specs.Depth.{IsDepth}
 
 -- the laws of the arithmetic of a width
-pub record Laws (root : ℕ) : Type 0 where
-  pub top_factor : IsTopFactor root (channel_product root)
-  pub quotient : IsQuotient (top root) (channel_product root) (channel_quotient root)
-  pub step : IsStep (top root) (step (top root))
-  pub lerp : IsLerp (top root) (channel_lerp (top root))
-  pub nearest : IsNearest (top root) (near (top root))
-  pub depth : IsDepth root
+pub record Laws (max : ℕ) : Type 0 where
+  pub quotient : IsQuotient max (channel_product max) (channel_quotient max)
+  pub step : IsStep max (step max)
+  pub lerp : IsLerp max (channel_lerp max)
+  pub nearest : IsNearest max (nearest max)
+  pub depth : IsDepth max
 
 -- these laws, for a proof that asks for them; the search of a proof passes them by
 unfoldable pub ChannelLaws : ℕ → Type 0
-ChannelLaws root = Laws root
+ChannelLaws max = Laws max

@@ -5,8 +5,12 @@ pub mod Step
 pub mod Nearest
 pub mod Laws
 pub mod Channel
+pub mod Srgb
+pub mod Modes
 pub mod Operators
+pub mod OpNumber
 pub mod Composite
+pub mod Runs
 pub mod ExactComposite
 pub mod ExactRun
 pub mod Hue

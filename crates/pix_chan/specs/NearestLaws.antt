@@ -1,26 +1,26 @@
--- The laws of the nearest ratio.
+-- The laws of the nearest ratio. No public clause cites this file.
 use Rattle.std.specs.Prelude.{◌≡◌, ℕ, ℤ, suc, pos, negsuc, ◌+ℤ◌, ◌*ℤ◌, ◌≤ℤ◌, ◌+◌, ◌-◌, ◌*◌, ◌/◌, ◌<◌, ◌≤◌, ◌⊎◌, min, refl}
 use Rattle.std.proofs.Common.{arith, ap, subst, sym, inl, inr}
 use Rattle.std.proofs.Math.Nat.{mul-le-mul_right, div-mul-le_self, lt-mul-div-succ, eq-or-lt_of_le}
 use Rattle.std.proofs.lemmas.Nat.{div_below}
 use Rattle.std.proofs.lemmas.Bool.{cases_lt}
 use Rattle.std.proofs.lemmas.Int.{ints}
-use Rattle.pix_chan.specs.Nearest.{cut_below, near, away, IsNearest}
+use Rattle.pix_chan.specs.Nearest.{cut_below, nearest, distance, IsNearest}
 
 -- how far a natural number a is from k times d
-away_up : (a d k : ℕ) → away (pos a) d k ≡ (k * d - a) + (a - k * d)
+away_up : (a d k : ℕ) → distance (pos a) d k ≡ (k * d - a) + (a - k * d)
 away_up a d k = omega (arith, ints)
 
-away_down : (a d k : ℕ) → away (negsuc a) d k ≡ k * d + suc a
+away_down : (a d k : ℕ) → distance (negsuc a) d k ≡ k * d + suc a
 away_down a d k = omega (arith, ints)
 
--- r is the nearest to a / d: 2 * a + d is between 2 * r * d and 2 * (r + 1) * d, but where r is 0 or the most
-record Rounded (most a d r : ℕ) : Type 0 where
-  pub fits : r ≤ most
+-- r is the nearest to a / d: 2 * a + d is between 2 * r * d and 2 * (r + 1) * d, but where r is 0 or the maximum
+record Rounded (max a d r : ℕ) : Type 0 where
+  pub fits : r ≤ max
   pub low : (r ≡ 0) ⊎ (2 * (r * d) ≤ 2 * a + d)
-  pub high : (r ≡ most) ⊎ (2 * a < 2 * (r * d) + d)
+  pub high : (r ≡ max) ⊎ (2 * a < 2 * (r * d) + d)
 
--- no greater number is as near
+-- no greater number is as nearest
 greater : (a d r j : ℕ) → 0 < d → 2 * a < 2 * (r * d) + d → (r * d - a) + (a - r * d) < ((r + 1 + j) * d - a) + (a - (r + 1 + j) * d)
 greater a d r j h u =
     let e : (r + 1 + j) * d ≡ r * d + d + j * d = omega arith in
@@ -32,16 +32,16 @@ smaller a d k j h u =
     let e : (k + 1 + j) * d ≡ k * d + d + j * d = omega arith in
     omega arith
 
-greater_by : (most a d r k : ℕ) → Rounded most a d r → 0 < d → k ≤ most → r < k → (r * d - a) + (a - r * d) < (k * d - a) + (a - k * d)
-greater_by most a d r k g h fits l =
+greater_by : (max a d r k : ℕ) → Rounded max a d r → 0 < d → k ≤ max → r < k → (r * d - a) + (a - r * d) < (k * d - a) + (a - k * d)
+greater_by max a d r k g h fits l =
     let e : k ≡ r + 1 + (k - r - 1) = omega arith in
     elim g.high [
       | inl z ↦ absurd (omega arith)
       | inr u ↦ subst (λ n. (r * d - a) + (a - r * d) < (n * d - a) + (a - n * d)) (sym e) (greater a d r (k - r - 1) h u)
     ]
 
-smaller_by : (most a d r k : ℕ) → Rounded most a d r → 0 < d → k < r → (r * d - a) + (a - r * d) ≤ (k * d - a) + (a - k * d)
-smaller_by most a d r k g h l =
+smaller_by : (max a d r k : ℕ) → Rounded max a d r → 0 < d → k < r → (r * d - a) + (a - r * d) ≤ (k * d - a) + (a - k * d)
+smaller_by max a d r k g h l =
     let e : r ≡ k + 1 + (r - k - 1) = omega arith in
     elim g.low [
       | inl z ↦ absurd (omega arith)
@@ -49,70 +49,70 @@ smaller_by most a d r k g h l =
           (smaller a d k (r - k - 1) h (subst (λ n. 2 * (n * d) ≤ 2 * a + d) e u))
     ]
 
-rounded_by : (most a d q : ℕ) → 2 * (q * d) ≤ 2 * a + d → 2 * a < 2 * (q * d) + d → Rounded most a d (min most q)
-rounded_by most a d q lo hi = elim (cases_lt q most) [
-  | inl v ↦ let e : min most q ≡ q = omega arith in
+rounded_by : (max a d q : ℕ) → 2 * (q * d) ≤ 2 * a + d → 2 * a < 2 * (q * d) + d → Rounded max a d (min max q)
+rounded_by max a d q lo hi = elim (cases_lt q max) [
+  | inl v ↦ let e : min max q ≡ q = omega arith in
       record { fits = omega arith; low = inr (subst (λ n. 2 * (n * d) ≤ 2 * a + d) (sym e) lo); high = inr (subst (λ n. 2 * a < 2 * (n * d) + d) (sym e) hi) }
-  | inr u ↦ let e : min most q ≡ most = omega arith in
-      let k : most * d ≤ q * d = mul-le-mul_right d u in
+  | inr u ↦ let e : min max q ≡ max = omega arith in
+      let k : max * d ≤ q * d = mul-le-mul_right d u in
       record { fits = omega arith; low = inr (subst (λ n. 2 * (n * d) ≤ 2 * a + d) (sym e) (omega arith)); high = inl e }
 ]
 
-rounded : (most a d : ℕ) → 0 < d → Rounded most a d (min most ((2 * a + d) / (2 * d)))
-rounded most a d h =
+rounded : (max a d : ℕ) → 0 < d → Rounded max a d (min max ((2 * a + d) / (2 * d)))
+rounded max a d h =
     let lo : (2 * a + d) / (2 * d) * (2 * d) ≤ 2 * a + d = div-mul-le_self (2 * a + d) (2 * d) in
     let hi : 2 * a + d < 2 * d * ((2 * a + d) / (2 * d) + 1) = omega (arith, lt-mul-div-succ (2 * a + d) (let z : 0 < 2 * d = omega arith in z)) in
-    rounded_by most a d ((2 * a + d) / (2 * d)) (omega arith) (omega arith)
+    rounded_by max a d ((2 * a + d) / (2 * d)) (omega arith) (omega arith)
 
--- an integer up to k, cut, is up to k
+-- an integer up to k stays up to k
 cut_fits : (z : ℤ) (k : ℕ) → z ≤ℤ pos k → cut_below z ≤ k
 cut_fits (pos n) k h = omega (arith, ints)
 cut_fits (negsuc n) k h = omega arith
 
 -- below 0 the nearest is 0
-pub near_negative : (most a d : ℕ) → 0 < d → near most (negsuc a) (pos d) ≡ 0
-unfolding near
-near_negative most a d h =
+pub nearest_negative : (max a d : ℕ) → 0 < d → nearest max (negsuc a) (pos d) ≡ 0
+unfolding nearest
+nearest_negative max a d h =
     let few : cut_below (pos 2 *ℤ negsuc a +ℤ pos d) ≤ d = cut_fits (pos 2 *ℤ negsuc a +ℤ pos d) d (omega (arith, ints)) in
     omega (arith, div_below (cut_below (pos 2 *ℤ negsuc a +ℤ pos d)) (2 * d) 1 (omega arith) (omega arith))
 
 -- from 0 on it is by natural numbers
-pub near_natural : (most a d : ℕ) → near most (pos a) (pos d) ≡ min most ((2 * a + d) / (2 * d))
-unfolding near
-near_natural most a d = refl
+pub nearest_natural : (max a d : ℕ) → nearest max (pos a) (pos d) ≡ min max ((2 * a + d) / (2 * d))
+unfolding nearest
+nearest_natural max a d = refl
 
 -- the distances, by natural numbers
-nearest_up : (most a d k : ℕ) → 0 < d → k ≤ most → (r : ℕ) → Rounded most a d r → away (pos a) d r ≤ away (pos a) d k
-nearest_up most a d k h u r g = rw (away_up a d r, away_up a d k) (elim (cases_lt r k) [
-  | inl l ↦ omega (arith, greater_by most a d r k g h u l)
+nearest_up : (max a d k : ℕ) → 0 < d → k ≤ max → (r : ℕ) → Rounded max a d r → distance (pos a) d r ≤ distance (pos a) d k
+nearest_up max a d k h u r g = rw (away_up a d r, away_up a d k) (elim (cases_lt r k) [
+  | inl l ↦ omega (arith, greater_by max a d r k g h u l)
   | inr l ↦ elim (eq-or-lt_of_le l) [
     | inl e ↦ omega (arith, ap (λ z. z * d) e)
-    | inr v ↦ smaller_by most a d r k g h v
+    | inr v ↦ smaller_by max a d r k g h v
   ]
 ])
 
-near_nearest : (most : ℕ) (n : ℤ) (d k : ℕ) → 0 < d → k ≤ most → away n d (near most n (pos d)) ≤ away n d k
-near_nearest most (pos a) d k h u =
-    let g : Rounded most a d (near most (pos a) (pos d)) = rw (near_natural most a d) (rounded most a d h) in
-    nearest_up most a d k h u _ g
-near_nearest most (negsuc a) d k h u =
-    let e : near most (negsuc a) (pos d) ≡ 0 = near_negative most a d h in
-    subst (λ r. away (negsuc a) d r ≤ away (negsuc a) d k) (sym e) (omega (arith, away_down a d 0, away_down a d k))
+nearest_none_nearer : (max : ℕ) (n : ℤ) (d k : ℕ) → 0 < d → k ≤ max → distance n d (nearest max n (pos d)) ≤ distance n d k
+nearest_none_nearer max (pos a) d k h u =
+    let g : Rounded max a d (nearest max (pos a) (pos d)) = rw (nearest_natural max a d) (rounded max a d h) in
+    nearest_up max a d k h u _ g
+nearest_none_nearer max (negsuc a) d k h u =
+    let e : nearest max (negsuc a) (pos d) ≡ 0 = nearest_negative max a d h in
+    subst (λ r. distance (negsuc a) d r ≤ distance (negsuc a) d k) (sym e) (omega (arith, away_down a d 0, away_down a d k))
 
-near_upwards : (most : ℕ) (n : ℤ) (d k : ℕ) → 0 < d → k ≤ most → near most n (pos d) < k → away n d (near most n (pos d)) < away n d k
-near_upwards most (pos a) d k h u l =
-    let g : Rounded most a d (near most (pos a) (pos d)) = rw (near_natural most a d) (rounded most a d h) in
-    omega (arith, away_up a d (near most (pos a) (pos d)), away_up a d k, greater_by most a d _ k g h u l)
-near_upwards most (negsuc a) d k h u l =
-    let e : near most (negsuc a) (pos d) ≡ 0 = near_negative most a d h in
+nearest_ties_up : (max : ℕ) (n : ℤ) (d k : ℕ) → 0 < d → k ≤ max → nearest max n (pos d) < k → distance n d (nearest max n (pos d)) < distance n d k
+nearest_ties_up max (pos a) d k h u l =
+    let g : Rounded max a d (nearest max (pos a) (pos d)) = rw (nearest_natural max a d) (rounded max a d h) in
+    omega (arith, away_up a d (nearest max (pos a) (pos d)), away_up a d k, greater_by max a d _ k g h u l)
+nearest_ties_up max (negsuc a) d k h u l =
+    let e : nearest max (negsuc a) (pos d) ≡ 0 = nearest_negative max a d h in
     let m : 0 < k = omega arith in
     let w : 1 * d ≤ k * d = mul-le-mul_right d m in
-    subst (λ r. away (negsuc a) d r < away (negsuc a) d k) (sym e) (omega (arith, away_down a d 0, away_down a d k))
+    subst (λ r. distance (negsuc a) d r < distance (negsuc a) d k) (sym e) (omega (arith, away_down a d 0, away_down a d k))
 
-near_fits : (most : ℕ) (n : ℤ) (d : ℕ) → near most n (pos d) ≤ most
-unfolding near
-near_fits most n d = omega arith
+nearest_fits : (max : ℕ) (n : ℤ) (d : ℕ) → nearest max n (pos d) ≤ max
+unfolding nearest
+nearest_fits max n d = omega arith
 
--- The nearest ratio keeps its laws, whatever the most.
-pub nearest_laws : (most : ℕ) → IsNearest most (near most)
-nearest_laws most = record { fits = near_fits most; nearest = near_nearest most; upwards = near_upwards most }
+-- The nearest ratio keeps its laws, for every maximum.
+pub nearest_laws : (max : ℕ) → IsNearest max (nearest max)
+nearest_laws max = record { fits = nearest_fits max; none_nearer = nearest_none_nearer max; ties_up = nearest_ties_up max }

@@ -1,23 +1,19 @@
--- Channels as whole numbers 0..top, each read as the fraction of top; one unit is 1/top.
--- A width is named by its root: 16 for eight bits and 256 for sixteen. top + 1 is the square of the root.
-use Rattle.std.specs.Prelude.{ℕ, ◌+◌, ◌-◌, ◌*◌, ◌%◌, min}
+-- Channels as whole numbers 0..max, each read as the fraction of max; one unit is 1/max.
+-- A width is named by its maximum: 255 for eight bits and 65535 for sixteen.
+use Rattle.std.specs.Prelude.{ℕ, ◌+◌, ◌-◌, ◌%◌, min}
 
--- the greatest number of a channel
-abbrev pub top : ℕ → ℕ
-top root = root * root - 1
+-- the saturating sum of two channels: at most the maximum
+abbrev pub saturating_sum : ℕ → ℕ → ℕ → ℕ
+saturating_sum max x y = min max (x + y)
 
--- the sum of two channels stops at the top
-abbrev pub channel_sum : ℕ → ℕ → ℕ → ℕ
-channel_sum root x y = min (top root) (x + y)
+-- the saturating difference of two channels: 0 where y is the greater
+abbrev pub saturating_difference : ℕ → ℕ → ℕ
+saturating_difference x y = x - y
 
--- the difference of two channels stops at 0
-abbrev pub channel_difference : ℕ → ℕ → ℕ
-channel_difference x y = x - y
-
--- the wrapping sum of two channels goes on at 0 past the top
+-- the wrapping sum of two channels: modulo max + 1
 abbrev pub wrapping_sum : ℕ → ℕ → ℕ → ℕ
-wrapping_sum root x y = (x + y) % (root * root)
+wrapping_sum max x y = (x + y) % (max + 1)
 
--- the wrapping difference of two channels goes on at the top below 0
+-- the wrapping difference of two channels: modulo max + 1
 abbrev pub wrapping_difference : ℕ → ℕ → ℕ → ℕ
-wrapping_difference root x y = (x + (root * root - y)) % (root * root)
+wrapping_difference max x y = (x + (max + 1 - y)) % (max + 1)

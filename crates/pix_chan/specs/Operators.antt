@@ -1,75 +1,46 @@
--- The operators of Porter and Duff: by what fraction the source and the destination enter.
-use Rattle.std.specs.Prelude.{ℕ}
+-- The operators of Porter and Duff: the coefficients of the source and of the destination.
+use Rattle.std.specs.Prelude.{ℕ, Bool, true, false, not}
 use Rattle.pix_chan.specs.declared.ops.Op.{Op}
 use Rattle.pix_chan.specs.declared.ops.Op.TheVariants.{Src, Dest, SrcOver, DestOver, SrcOut, DestOut, SrcIn, DestIn, SrcAtop, DestAtop, Xor, Clear, Plus}
 
--- the fraction of one side that enters: none of it, all of it, the other side's alpha, or one minus that alpha
+-- what one side is multiplied by: 0, 1, the other side's alpha, or one minus that alpha
 pub data Coefficient : Type 0 where
   Zero : Coefficient
   One : Coefficient
   Alpha : Coefficient
-  Rest : Coefficient
+  OneMinusAlpha : Coefficient
 
--- what enters of the source
-abbrev pub source_coefficient : Op → Coefficient
-source_coefficient Src = One
-source_coefficient Dest = Zero
-source_coefficient SrcOver = One
-source_coefficient DestOver = Rest
-source_coefficient SrcOut = Rest
-source_coefficient DestOut = Zero
-source_coefficient SrcIn = Alpha
-source_coefficient DestIn = Zero
-source_coefficient SrcAtop = Alpha
-source_coefficient DestAtop = Rest
-source_coefficient Xor = Rest
-source_coefficient Clear = Zero
-source_coefficient Plus = One
+-- whether a coefficient reads the other side's alpha
+abbrev pub reads_alpha : Coefficient → Bool
+reads_alpha Zero = false
+reads_alpha One = false
+reads_alpha Alpha = true
+reads_alpha OneMinusAlpha = true
 
--- what enters of the destination
-abbrev pub dest_coefficient : Op → Coefficient
-dest_coefficient Src = Zero
-dest_coefficient Dest = One
-dest_coefficient SrcOver = Rest
-dest_coefficient DestOver = One
-dest_coefficient SrcOut = Zero
-dest_coefficient DestOut = Rest
-dest_coefficient SrcIn = Zero
-dest_coefficient DestIn = Alpha
-dest_coefficient SrcAtop = Rest
-dest_coefficient DestAtop = Alpha
-dest_coefficient Xor = Rest
-dest_coefficient Clear = Zero
-dest_coefficient Plus = One
+-- an operator: the coefficients of source and destination, and how many channel products a composite takes, without a matte and through one,
+-- where the product of the source's channel and the matte and that of its alpha and the matte count apart
+pub record OperatorRow : Type 0 where
+  pub source : Coefficient
+  pub dest : Coefficient
+  pub products : ℕ
+  pub matted : ℕ
 
--- how many products enter a composite
-abbrev pub product_count : Op → ℕ
-product_count Src = 0
-product_count Dest = 0
-product_count SrcOver = 1
-product_count DestOver = 1
-product_count SrcOut = 1
-product_count DestOut = 1
-product_count SrcIn = 1
-product_count DestIn = 1
-product_count SrcAtop = 2
-product_count DestAtop = 2
-product_count Xor = 2
-product_count Clear = 0
-product_count Plus = 0
+-- the thirteen operators
+abbrev pub row : Op → OperatorRow
+row Src = record { source = One; dest = Zero; products = 0; matted = 1 }
+row Dest = record { source = Zero; dest = One; products = 0; matted = 0 }
+row SrcOver = record { source = One; dest = OneMinusAlpha; products = 1; matted = 3 }
+row DestOver = record { source = OneMinusAlpha; dest = One; products = 1; matted = 2 }
+row SrcOut = record { source = OneMinusAlpha; dest = Zero; products = 1; matted = 2 }
+row DestOut = record { source = Zero; dest = OneMinusAlpha; products = 1; matted = 2 }
+row SrcIn = record { source = Alpha; dest = Zero; products = 1; matted = 2 }
+row DestIn = record { source = Zero; dest = Alpha; products = 1; matted = 2 }
+row SrcAtop = record { source = Alpha; dest = OneMinusAlpha; products = 2; matted = 4 }
+row DestAtop = record { source = OneMinusAlpha; dest = Alpha; products = 2; matted = 4 }
+row Xor = record { source = OneMinusAlpha; dest = OneMinusAlpha; products = 2; matted = 4 }
+row Clear = record { source = Zero; dest = Zero; products = 0; matted = 0 }
+row Plus = record { source = One; dest = One; products = 0; matted = 1 }
 
--- how many products enter a composite through a matte: those that matte the source's channel and its alpha count apart
-abbrev pub matted_count : Op → ℕ
-matted_count Src = 1
-matted_count Dest = 0
-matted_count SrcOver = 3
-matted_count DestOver = 2
-matted_count SrcOut = 2
-matted_count DestOut = 2
-matted_count SrcIn = 2
-matted_count DestIn = 2
-matted_count SrcAtop = 4
-matted_count DestAtop = 4
-matted_count Xor = 4
-matted_count Clear = 0
-matted_count Plus = 1
+-- the listed operators: the source's coefficient does not read the destination's alpha
+abbrev pub is_listed : Op → Bool
+is_listed op = not (reads_alpha (row op).source)

@@ -1,4 +1,4 @@
--- The laws of step and lerp, for every top above 1.
+-- The laws of step and lerp, for every maximum above 1. No public clause cites this file.
 use Rattle.std.specs.Prelude.{◌≡◌, ℕ, ℤ, zero, suc, pos, negsuc, neg_ℤ, ◌+ℤ◌, ◌-ℤ◌, ◌*ℤ◌, ◌<ℤ◌, ◌≤ℤ◌, ◌+◌, ◌*◌, ◌/◌, ◌%◌, ◌<◌, ◌≤◌, refl}
 use Rattle.std.proofs.Common.{arith, ap, subst, sym, ◌∙◌, inl, inr}
 use Rattle.std.proofs.Math.Nat.{mul-le-mul_left, mul-le-mul_right, lt_of_mul-lt-mul_left, div-add-mod', div-mul-le_self}
@@ -92,7 +92,7 @@ unfolding step
 step_between m hm t (pos d) h = inl (omega (arith, ints), omega (arith, ints, step_up m t d hm h))
 step_between m hm t (negsuc d) h = step_of_fall m t d hm h (t * suc d) (omega arith)
 
--- The step of every top above 1 keeps its laws.
+-- The step of every maximum above 1 keeps its laws.
 pub step_laws : (m : ℕ) → 1 < m → IsStep m (step m)
 step_laws m hm = record { above = step_above m hm; below = step_below m hm; between = step_between m hm }
 
@@ -140,13 +140,13 @@ lerp_above m a c s h = subst (λ z. z <ℤ (pos m *ℤ a +ℤ c +ℤ pos m)) (sy
 lerp_below : (m : ℕ) (a c s : ℤ) → c <ℤ (pos m *ℤ s +ℤ pos m) → (pos m *ℤ a +ℤ c) <ℤ (pos m *ℤ (a +ℤ s) +ℤ pos m)
 lerp_below m a c s h = subst (λ z. (pos m *ℤ a +ℤ c) <ℤ (z +ℤ pos m)) (sym (times_sum m a s)) (omega (arith, ints))
 
--- The lerp of every top above 1 keeps its laws.
+-- The lerp of every maximum above 1 keeps its laws.
 pub lerp_laws : (m : ℕ) → 1 < m → IsLerp m (channel_lerp m)
 unfolding channel_lerp
 lerp_laws m hm = record {
   between = λ a b t h. moved_between (pos a) (pos b) _ (step_between m hm t (pos b -ℤ pos a) h);
-  start = λ a b. subst (λ z. pos a +ℤ z ≡ pos a) (sym (step_none m hm (pos b -ℤ pos a))) (omega (arith, ints));
-  arrival = λ a b. subst (λ z. pos a +ℤ z ≡ pos b) (sym (step_whole m hm (pos b -ℤ pos a))) (back_at (pos a) (pos b));
+  at_zero = λ a b. subst (λ z. pos a +ℤ z ≡ pos a) (sym (step_none m hm (pos b -ℤ pos a))) (omega (arith, ints));
+  at_max = λ a b. subst (λ z. pos a +ℤ z ≡ pos b) (sym (step_whole m hm (pos b -ℤ pos a))) (back_at (pos a) (pos b));
   above = λ a b t. lerp_above m (pos a) (pos t *ℤ (pos b -ℤ pos a)) _ (step_above m hm (pos t *ℤ (pos b -ℤ pos a)));
   below = λ a b t. lerp_below m (pos a) (pos t *ℤ (pos b -ℤ pos a)) _ (step_below m hm (pos t *ℤ (pos b -ℤ pos a)));
 }

@@ -1,12 +1,16 @@
-//! Channels: whole numbers of units, from none up to the greatest of the width.
-ghost use Rattle.std.specs.Prelude.{◌≡◌, ℕ, ◌*◌, ◌^◌, ◌<◌, nat_eq, pos, ◌+ℤ◌, ◌*ℤ◌, ◌<ℤ◌};
+//! Channels: whole numbers of units from 0 to the maximum of their width.
+ghost use Rattle.std.specs.Prelude.{◌≡◌, ℕ, ◌+◌, ◌*◌, ◌^◌, ◌<◌, nat_eq, pos, ◌+ℤ◌, ◌*ℤ◌, ◌<ℤ◌, map};
 ghost use Rattle.std.specs.Ordering.{nat_cmp};
-ghost use Rattle.pix_chan.specs.Number.{top, channel_sum, channel_difference, wrapping_sum, wrapping_difference};
+ghost use prog.Memory.{size};
+ghost use denote.Memory.{lone};
+ghost use Rattle.pix_chan.specs.Number.{saturating_sum, saturating_difference, wrapping_sum, wrapping_difference};
 ghost use Rattle.pix_chan.specs.Product.{channel_product, channel_quotient, fineness, IsProduct};
 ghost use Rattle.pix_chan.specs.Step.{channel_lerp};
-ghost use Rattle.pix_chan.specs.Nearest.{near};
+ghost use Rattle.pix_chan.specs.Nearest.{nearest};
+ghost use Rattle.pix_chan.specs.Depth.{to_16_bit, from_16_bit};
 ghost use Rattle.pix_chan.specs.Laws.{ChannelLaws};
 ghost use Rattle.pix_chan.specs.Channel.{IsNumbered, IsTotal, Answers};
+ghost use Rattle.pix_chan.specs.Runs.{over};
 
 use crate::private::Sealed;
 use std::fmt::Debug;
@@ -15,17 +19,18 @@ use std::ops::{Add, Div, Mul, Sub};
 mod bits16;
 mod bits8;
 mod modes;
+mod srgb;
 mod whole;
 
 pub use bits8::Ch8;
 pub use bits16::Ch16;
 pub use modes::{Alpha, Gamma, Linear, Premultiplied, Srgb, Straight};
 
-/// A channel: a whole number of units from 0 up to the greatest of its width, read as a fraction of that greatest.
+/// A channel: a whole number of units from 0 to the maximum of its width, read as a fraction of that maximum.
 ///
-/// `+` stops at the greatest, `-` stops at 0, `*` is the channel product, less than one unit from the exact one, and `/`
-/// is the channel quotient, rounded down, cut at the greatest, and 0 by 0.
-/// Only this library's types are channels.
+/// One unit is 1/[`MAX`](Channel::MAX). `+` saturates at `MAX`, `-` saturates at 0. `*` is the channel product, `x * y / MAX`
+/// rounded to the nearest. `/` is the channel quotient, `(MAX + 1) * x / y` rounded down, at most `MAX`, and 0 where `y` is 0.
+/// This trait is sealed: the channels are [`Ch8`] and [`Ch16`].
 pub trait Channel: Sealed
     + Copy
     + Debug
@@ -35,86 +40,148 @@ pub trait Channel: Sealed
     + Sub<Output = Self>
     + Mul<Output = Self>
     + Div<Output = Self> {
-    /// How many units a value stands for.
+    /// The number of units of a value.
     ghost number: { Self → ℕ };
 
-    /// The root of the width, whose square is one more than the greatest number.
-    ghost root: { ℕ };
+    /// The maximum of the width, by which it is named: 255 or 65535.
+    ghost max: { ℕ };
 
+    /// The value of [`MIN`](Channel::MIN).
     ghost MIN: { Self };
 
-    /// No unit.
+    /// The minimum, 0.
     const MIN: Self;
 
+    /// The value of [`MID`](Channel::MID).
     ghost MID: { Self };
 
-    /// Half of one more than the greatest.
+    /// Half of `MAX` + 1: 128 or 32768.
     const MID: Self;
 
+    /// The value of [`MAX`](Channel::MAX).
     ghost MAX: { Self };
 
-    /// The greatest number of units, which stands for one.
+    /// The maximum, which stands for one: 255 or 65535.
     const MAX: Self;
 
-    /// The number of units.
+    /// Returns the number of units.
     fn to_u32(self) -> u32
         ensures { result ≡ number self };
 
-    /// The sum, which goes on at 0 past the greatest.
+    /// Returns the number of units of the same fraction in 16 bits.
+    #[doc(hidden)]
+    fn to_16_bit(self) -> u16
+        ensures { result ≡ to_16_bit max (number self) };
+
+    /// Creates the channel of the same fraction as a number of units in 16 bits, whose lower bits are dropped in 8.
+    #[doc(hidden)]
+    fn from_16_bit(units: u16) -> Self
+        ensures { number result ≡ from_16_bit max units };
+
+    /// Returns the wrapping sum, modulo `MAX` + 1.
     fn wrapping_add(self, rhs: Self) -> Self
-        ensures { number result ≡ wrapping_sum root (number self) (number rhs) };
+        ensures { number result ≡ wrapping_sum max (number self) (number rhs) };
 
-    /// The difference, which goes on at the greatest below 0.
+    /// Returns the wrapping difference, modulo `MAX` + 1.
     fn wrapping_sub(self, rhs: Self) -> Self
-        ensures { number result ≡ wrapping_difference root (number self) (number rhs) };
+        ensures { number result ≡ wrapping_difference max (number self) (number rhs) };
 
-    /// What is `t` of the way from `self` to `rhs`, less than one unit from the exact value: `self` where `t` is `MIN`, and
-    /// `rhs` where it is `MAX`.
-    fn lerp(self, rhs: Self, t: Self) -> Self
-        ensures { pos (number result) ≡ channel_lerp (top root) (number self) (number rhs) (number t) };
-
-    /// The channel whose number is the nearest to `n` / `d`, a tie upwards; `MIN` below, and `MAX` above.
+    /// Interpolates from `self`, where `t` is `MIN`, to `rhs`, where `t` is `MAX`.
     ///
-    /// Condition: `d` is positive, and neither 2 * `n` + `d` nor 2 * `d` passes the greatest `i64`.
+    /// The result lies between both, less than one unit from `self + t * (rhs - self) / MAX`.
+    fn lerp(self, rhs: Self, t: Self) -> Self
+        ensures { pos (number result) ≡ channel_lerp max (number self) (number rhs) (number t) };
+
+    /// Returns the channel nearest to `n / d` units, ties up, clamped to `MIN` and `MAX`.
+    ///
+    /// Condition: `d` is positive, and both `2 * n + d` and `2 * d` fit in an `i64`.
     fn from_ratio(n: i64, d: i64) -> Self
         requires positive { pos 0 <ℤ d }
         requires sum_fits { (pos 2 *ℤ n +ℤ d) <ℤ pos (2 ^ 63) }
         requires twice_fits { (pos 2 *ℤ d) <ℤ pos (2 ^ 63) }
-        ensures { number result ≡ near (top root) n d };
+        ensures { number result ≡ nearest max n d };
 
-    ghost wide: { 1 < root };
+    /// Multiplies each channel of `dst` by the channel of `by` of the same index; the shorter length decides, and the rest stays.
+    fn mul_run(dst: &mut [Self], by: &[Self])
+        ensures { map number dst.new ≡
+            over (λ y x. channel_product max x y) (map number by.now) (map number dst.old) }
+    {
+        for i in 0..dst.len().min(by.len()) {
+            dst[i] = dst[i] * by[i];
+        }
+    }
 
-    ghost numbered: { IsNumbered root number };
+    /// Adds to each channel of `dst` the channel of `by` of the same index, saturating at `MAX`; the shorter length decides, and the
+    /// rest stays.
+    fn add_run(dst: &mut [Self], by: &[Self])
+        ensures { map number dst.new ≡
+            over (λ y x. saturating_sum max x y) (map number by.now) (map number dst.old) }
+    {
+        for i in 0..dst.len().min(by.len()) {
+            dst[i] = dst[i] + by[i];
+        }
+    }
 
+    /// The maximum is above 1.
+    ghost wide: { 1 < max };
+
+    /// Numbers are at most the maximum, and equal numbers are equal values.
+    ghost numbered: { IsNumbered max number };
+
+    /// `MIN` is 0.
     ghost min_is_zero: { number MIN ≡ 0 };
 
-    ghost mid_is_half: { 2 * number MID ≡ root * root };
+    /// `MID` is half of one more than the maximum.
+    ghost mid_is_half: { 2 * number MID ≡ max + 1 };
 
-    ghost max_is_top: { number MAX ≡ top root };
+    /// `MAX` is the maximum.
+    ghost max_is_maximum: { number MAX ≡ max };
 
+    /// The default channel is 0.
     ghost default_is_min: { (x : Self) → Self.is_default x → number x ≡ 0 };
 
+    /// Channels are ordered by their numbers.
     ghost orders: { (x y : Self) → Self.cmp x y ≡ nat_cmp (number x) (number y) };
 
+    /// A clone is the value itself.
+    ghost clones: { (x y : Self) → Self.is_clone x y → y ≡ x };
+
+    /// `clone` always succeeds.
+    ghost clones_always: { (x : Self) → Self.is_infallible x };
+
+    /// `==` compares the numbers.
     ghost equals: { (x y : Self) → Self.eq x y ≡ nat_eq (number x) (number y) };
 
+    /// Any two channels can be added.
     ghost can_sum: { IsTotal Self.can_add };
 
-    ghost sums: { Answers number Self.add_gives (channel_sum root) };
+    /// `+` is the saturating sum.
+    ghost sums: { Answers number Self.add_gives (saturating_sum max) };
 
+    /// Any two channels can be subtracted.
     ghost can_differ: { IsTotal Self.can_sub };
 
-    ghost differs: { Answers number Self.sub_gives channel_difference };
+    /// `-` is the saturating difference.
+    ghost differs: { Answers number Self.sub_gives saturating_difference };
 
+    /// Any two channels can be multiplied.
     ghost can_multiply: { IsTotal Self.can_mul };
 
-    ghost multiplies: { Answers number Self.mul_gives (channel_product root) };
+    /// `*` is the channel product.
+    ghost multiplies: { Answers number Self.mul_gives (channel_product max) };
 
+    /// Any two channels can be divided.
     ghost can_divide: { IsTotal Self.can_div };
 
-    ghost divides: { Answers number Self.div_gives (channel_quotient root) };
+    /// `/` is the channel quotient.
+    ghost divides: { Answers number Self.div_gives (channel_quotient max) };
 
-    ghost product_law: { IsProduct fineness (top root) (channel_product root) };
+    /// The product is at most half a unit from the exact one, and keeps the laws of a product.
+    ghost product_law: { IsProduct fineness max (channel_product max) };
 
-    ghost laws: { ChannelLaws root };
+    /// Sixteen channels fit in memory.
+    ghost small: { 16 * size (lone Self.row.mir) < 2 ^ 63 };
+
+    /// The laws of the quotient, of steps, of `lerp`, of the nearest ratio and of depth.
+    ghost laws: { ChannelLaws max };
 }

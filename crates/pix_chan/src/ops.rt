@@ -1,81 +1,176 @@
-//! The operators of Porter and Duff: how a source is composited with a destination, one channel at a time.
+//! The thirteen operators of Porter and Duff (Compositing Digital Images, 1984), on one channel at a time.
 //!
-//! Channels are those of premultiplied colors. The alpha is composited as any other channel.
-ghost use Rattle.std.specs.Prelude.{◌≡◌, ◌-◌};
-ghost use Rattle.pix_chan.specs.Number.{top};
+//! Colors are premultiplied, and the alpha is composited as any other channel. In the formulas, `sa` and `da` are the alphas of the
+//! source and of the destination, products are channel products and sums saturate.
+ghost use Rattle.std.specs.Prelude.{◌≡◌, ◌-◌, ⊤, map, ◌↔◌, IsTrue, nat_eq};
 ghost use Rattle.pix_chan.specs.declared.ops.Op.{Op};
+ghost use Rattle.pix_chan.specs.OpNumber.{op_number};
 ghost use Rattle.pix_chan.specs.Composite.{channel_composite};
+ghost use Rattle.pix_chan.specs.Runs.{over, triples, run_composite};
 
 use crate::chan::Channel;
+use crate::ops::run::{Alpha, One, OneMinusAlpha, Zero};
 use crate::private::Sealed;
 
-/// An operator as a value.
-#[derive(Clone, Copy, Debug, PartialEq, Eq)]
+mod run;
+
+/// An operator as a value: what a [`Blend`] is as a type.
+#[derive(Clone, Copy, Debug, Eq)]
 pub enum Op {
-    /// The source alone.
+    /// The source alone: `src`.
     Src,
-    /// The destination alone.
+    /// The destination alone: `dst`.
     Dest,
-    /// The source over the destination.
+    /// Source over: the source plus the destination times one minus the source's alpha: `src + dst * (1 - sa)`.
     SrcOver,
-    /// The destination over the source.
+    /// Destination over: the destination plus the source times one minus the destination's alpha: `src * (1 - da) + dst`.
     DestOver,
-    /// The source where the destination is not.
+    /// Source out: the source times one minus the destination's alpha: `src * (1 - da)`.
     SrcOut,
-    /// The destination where the source is not.
+    /// Destination out: the destination times one minus the source's alpha: `dst * (1 - sa)`.
     DestOut,
-    /// The source where the destination is.
+    /// Source in: the source times the destination's alpha: `src * da`.
     SrcIn,
-    /// The destination where the source is.
+    /// Destination in: the destination times the source's alpha: `dst * sa`.
     DestIn,
-    /// The source where the destination is, and the destination elsewhere.
+    /// Source atop: the source times the destination's alpha plus the destination times one minus the source's: `src * da + dst * (1 - sa)`.
     SrcAtop,
-    /// The destination where the source is, and the source elsewhere.
+    /// Destination atop: the source times one minus the destination's alpha plus the destination times the source's: `src * (1 - da) + dst * sa`.
     DestAtop,
-    /// Each where the other is not.
+    /// Exclusive or: each side times one minus the other's alpha: `src * (1 - da) + dst * (1 - sa)`.
     Xor,
-    /// Neither.
+    /// Neither: `0`.
     Clear,
-    /// The sum of both.
+    /// The saturating sum of both: `src + dst`.
     Plus,
 }
 
-/// An operator as a type. Only the operators of this module are.
-pub trait Blend: Sealed + Copy {
-    /// Which operator it is.
-    ghost op: { Op };
+impl PartialEq for Op {
+    ghost use Rattle.std.specs.Prelude.{nat_eq};
+    ghost use Rattle.std.specs.Ordering.{on};
+    ghost use Rattle.std.specs.Cmp.Rules.{comparing};
+    ghost use Rattle.std.proofs.Common.{rules};
+    ghost use Rattle.pix_chan.specs.OpNumber.{op_number};
 
-    /// Composites the channel `src` with `dst`: `da1` and `sa1` are one minus the alphas of destination and source.
-    fn composite<C: Channel>(dst: &mut C, da1: C, src: &C, sa1: C)
-        ensures { C.number dst.new ≡ channel_composite C.root op
-            (C.number src.now) (top C.root - C.number sa1) (C.number dst.old) (top C.root - C.number da1) };
-}
+    ghost eq = { on op_number nat_eq };
 
-impl Op {
-    /// Composites the channel `src` with `dst`: `da1` and `sa1` are one minus the alphas of destination and source.
-    pub fn composite<C: Channel>(self, dst: &mut C, da1: C, src: &C, sa1: C)
-        ensures { C.number dst.new ≡ channel_composite C.root self
-            (C.number src.now) (top C.root - C.number sa1) (C.number dst.old) (top C.root - C.number da1) }
+    ghost laws = { Prim.search (comparing, rules) };
+
+    /// Returns whether the operators are the same.
+    fn eq(&self, other: &Op) -> bool
+        ensures value { result ≡ nat_eq (op_number self.now) (op_number other.now) }
+        ensures same { IsTrue result ↔ (self.now ≡ other.now) }
     {
-        match self {
-            Op::Src => Src::composite(dst, da1, src, sa1),
-            Op::Dest => Dest::composite(dst, da1, src, sa1),
-            Op::SrcOver => SrcOver::composite(dst, da1, src, sa1),
-            Op::DestOver => DestOver::composite(dst, da1, src, sa1),
-            Op::SrcOut => SrcOut::composite(dst, da1, src, sa1),
-            Op::DestOut => DestOut::composite(dst, da1, src, sa1),
-            Op::SrcIn => SrcIn::composite(dst, da1, src, sa1),
-            Op::DestIn => DestIn::composite(dst, da1, src, sa1),
-            Op::SrcAtop => SrcAtop::composite(dst, da1, src, sa1),
-            Op::DestAtop => DestAtop::composite(dst, da1, src, sa1),
-            Op::Xor => Xor::composite(dst, da1, src, sa1),
-            Op::Clear => Clear::composite(dst, da1, src, sa1),
-            Op::Plus => Plus::composite(dst, da1, src, sa1),
-        }
+        self.number() == other.number()
     }
 }
 
-/// The source alone.
+/// An operator as a type. This trait is sealed: the operators are the unit structs of this module.
+pub trait Blend: Sealed + Copy {
+    /// The operator as a value.
+    ghost op: { Op };
+
+    /// Composites the channel `src` with `dst`, where `da1` and `sa1` are one minus the alphas of `dst` and `src`.
+    fn composite<C: Channel>(dst: &mut C, da1: C, src: &C, sa1: C)
+        ensures { C.number dst.new ≡ channel_composite C.max op
+            (C.number src.now) (C.max - C.number sa1) (C.number dst.old) (C.max - C.number da1) };
+
+    /// Composites the channels of the same index of all four as [`composite`](Blend::composite) does; the shortest length decides, and
+    /// the rest of `dst` stays.
+    fn composite_run<C: Channel>(dst: &mut [C], da1: &[C], src: &[C], sa1: &[C])
+        ensures { map C.number dst.new ≡ over (run_composite C.max op)
+            (triples (map C.number da1.now) (map C.number src.now) (map C.number sa1.now))
+            (map C.number dst.old) };
+}
+
+/// An action on a `T` that takes its operator as a type. [`Op::visit`] runs it for an operator that is a value.
+pub trait OpVisitor<T> {
+    /// The condition under which the action may run by an operator.
+    ghost can_visit: { Self → Op → Type 0 };
+
+    /// The relation of the target before and after the action by an operator.
+    ghost visits: { Self → Op → T → T → Type 0 };
+
+    /// Runs the action on `target` by the operator `O`.
+    fn visit<O: Blend>(&self, target: &mut T, op: O)
+        requires { can_visit self.now O.op }
+        ensures { visits self.now O.op target.old target.new };
+}
+
+impl Op {
+    /// Returns the operator's place in the list of all operators, from 1 on.
+    fn number(self) -> u8
+        ensures { result ≡ op_number self }
+    {
+        match self {
+            Op::Src => 1,
+            Op::Dest => 2,
+            Op::SrcOver => 3,
+            Op::DestOver => 4,
+            Op::SrcOut => 5,
+            Op::DestOut => 6,
+            Op::SrcIn => 7,
+            Op::DestIn => 8,
+            Op::SrcAtop => 9,
+            Op::DestAtop => 10,
+            Op::Xor => 11,
+            Op::Clear => 12,
+            Op::Plus => 13,
+        }
+    }
+
+    /// Runs the action of `visitor` on `target` by this operator.
+    pub fn visit<T, V: OpVisitor<T>>(self, visitor: &V, target: &mut T)
+        requires { V.can_visit visitor.now self }
+        ensures { V.visits visitor.now self target.old target.new }
+    {
+        match self {
+            Op::Src => visitor.visit(target, Src),
+            Op::Dest => visitor.visit(target, Dest),
+            Op::SrcOver => visitor.visit(target, SrcOver),
+            Op::DestOver => visitor.visit(target, DestOver),
+            Op::SrcOut => visitor.visit(target, SrcOut),
+            Op::DestOut => visitor.visit(target, DestOut),
+            Op::SrcIn => visitor.visit(target, SrcIn),
+            Op::DestIn => visitor.visit(target, DestIn),
+            Op::SrcAtop => visitor.visit(target, SrcAtop),
+            Op::DestAtop => visitor.visit(target, DestAtop),
+            Op::Xor => visitor.visit(target, Xor),
+            Op::Clear => visitor.visit(target, Clear),
+            Op::Plus => visitor.visit(target, Plus),
+        }
+    }
+
+    /// Composites the channel `src` with `dst`, where `da1` and `sa1` are one minus the alphas of `dst` and `src`.
+    pub fn composite<C: Channel>(self, dst: &mut C, da1: C, src: &C, sa1: C)
+        ensures { C.number dst.new ≡ channel_composite C.max self
+            (C.number src.now) (C.max - C.number sa1) (C.number dst.old) (C.max - C.number da1) }
+    {
+        let src = *src;
+        self.visit(&OneChannel { da1, src, sa1 }, dst);
+    }
+}
+
+/// The composite of one channel, as an action on the destination.
+#[derive(Clone, Copy)]
+struct OneChannel<C> {
+    da1: C,
+    src: C,
+    sa1: C,
+}
+
+impl<C: Channel> OpVisitor<C> for OneChannel<C> {
+    ghost can_visit = { λ _ _. ⊤ };
+
+    ghost visits = { λ it op old new. C.number new ≡ channel_composite C.max op
+        (C.number it.src) (C.max - C.number it.sa1) (C.number old) (C.max - C.number it.da1) };
+
+    fn visit<O: Blend>(&self, dst: &mut C, _op: O) {
+        O::composite(dst, self.da1, &self.src, self.sa1);
+    }
+}
+
+/// The source alone: `src`.
 #[derive(Clone, Copy)]
 pub struct Src;
 
@@ -87,9 +182,13 @@ impl Blend for Src {
     fn composite<C: Channel>(dst: &mut C, _da1: C, src: &C, _sa1: C) {
         *dst = *src;
     }
+
+    fn composite_run<C: Channel>(dst: &mut [C], da1: &[C], src: &[C], sa1: &[C]) {
+        run::composite::<One, Zero, C>(dst, da1, src, sa1);
+    }
 }
 
-/// The destination alone.
+/// The destination alone: `dst`.
 #[derive(Clone, Copy)]
 pub struct Dest;
 
@@ -101,9 +200,13 @@ impl Blend for Dest {
     fn composite<C: Channel>(dst: &mut C, _da1: C, _src: &C, _sa1: C) {
         let _ = dst;
     }
+
+    fn composite_run<C: Channel>(dst: &mut [C], da1: &[C], src: &[C], sa1: &[C]) {
+        run::composite::<Zero, One, C>(dst, da1, src, sa1);
+    }
 }
 
-/// The source over the destination.
+/// Source over: the source plus the destination times one minus the source's alpha: `src + dst * (1 - sa)`.
 #[derive(Clone, Copy)]
 pub struct SrcOver;
 
@@ -115,9 +218,13 @@ impl Blend for SrcOver {
     fn composite<C: Channel>(dst: &mut C, _da1: C, src: &C, sa1: C) {
         *dst = *src + *dst * sa1;
     }
+
+    fn composite_run<C: Channel>(dst: &mut [C], da1: &[C], src: &[C], sa1: &[C]) {
+        run::composite::<One, OneMinusAlpha, C>(dst, da1, src, sa1);
+    }
 }
 
-/// The destination over the source.
+/// Destination over: the destination plus the source times one minus the destination's alpha: `src * (1 - da) + dst`.
 #[derive(Clone, Copy)]
 pub struct DestOver;
 
@@ -129,9 +236,13 @@ impl Blend for DestOver {
     fn composite<C: Channel>(dst: &mut C, da1: C, src: &C, _sa1: C) {
         *dst = *src * da1 + *dst;
     }
+
+    fn composite_run<C: Channel>(dst: &mut [C], da1: &[C], src: &[C], sa1: &[C]) {
+        run::composite::<OneMinusAlpha, One, C>(dst, da1, src, sa1);
+    }
 }
 
-/// The source where the destination is not.
+/// Source out: the source times one minus the destination's alpha: `src * (1 - da)`.
 #[derive(Clone, Copy)]
 pub struct SrcOut;
 
@@ -143,9 +254,13 @@ impl Blend for SrcOut {
     fn composite<C: Channel>(dst: &mut C, da1: C, src: &C, _sa1: C) {
         *dst = *src * da1;
     }
+
+    fn composite_run<C: Channel>(dst: &mut [C], da1: &[C], src: &[C], sa1: &[C]) {
+        run::composite::<OneMinusAlpha, Zero, C>(dst, da1, src, sa1);
+    }
 }
 
-/// The destination where the source is not.
+/// Destination out: the destination times one minus the source's alpha: `dst * (1 - sa)`.
 #[derive(Clone, Copy)]
 pub struct DestOut;
 
@@ -157,9 +272,13 @@ impl Blend for DestOut {
     fn composite<C: Channel>(dst: &mut C, _da1: C, _src: &C, sa1: C) {
         *dst = *dst * sa1;
     }
+
+    fn composite_run<C: Channel>(dst: &mut [C], da1: &[C], src: &[C], sa1: &[C]) {
+        run::composite::<Zero, OneMinusAlpha, C>(dst, da1, src, sa1);
+    }
 }
 
-/// The source where the destination is.
+/// Source in: the source times the destination's alpha: `src * da`.
 #[derive(Clone, Copy)]
 pub struct SrcIn;
 
@@ -171,9 +290,13 @@ impl Blend for SrcIn {
     fn composite<C: Channel>(dst: &mut C, da1: C, src: &C, _sa1: C) {
         *dst = *src * (C::MAX - da1);
     }
+
+    fn composite_run<C: Channel>(dst: &mut [C], da1: &[C], src: &[C], sa1: &[C]) {
+        run::composite::<Alpha, Zero, C>(dst, da1, src, sa1);
+    }
 }
 
-/// The destination where the source is.
+/// Destination in: the destination times the source's alpha: `dst * sa`.
 #[derive(Clone, Copy)]
 pub struct DestIn;
 
@@ -185,9 +308,13 @@ impl Blend for DestIn {
     fn composite<C: Channel>(dst: &mut C, _da1: C, _src: &C, sa1: C) {
         *dst = *dst * (C::MAX - sa1);
     }
+
+    fn composite_run<C: Channel>(dst: &mut [C], da1: &[C], src: &[C], sa1: &[C]) {
+        run::composite::<Zero, Alpha, C>(dst, da1, src, sa1);
+    }
 }
 
-/// The source where the destination is, and the destination elsewhere.
+/// Source atop: the source times the destination's alpha plus the destination times one minus the source's: `src * da + dst * (1 - sa)`.
 #[derive(Clone, Copy)]
 pub struct SrcAtop;
 
@@ -199,9 +326,13 @@ impl Blend for SrcAtop {
     fn composite<C: Channel>(dst: &mut C, da1: C, src: &C, sa1: C) {
         *dst = *src * (C::MAX - da1) + *dst * sa1;
     }
+
+    fn composite_run<C: Channel>(dst: &mut [C], da1: &[C], src: &[C], sa1: &[C]) {
+        run::composite::<Alpha, OneMinusAlpha, C>(dst, da1, src, sa1);
+    }
 }
 
-/// The destination where the source is, and the source elsewhere.
+/// Destination atop: the source times one minus the destination's alpha plus the destination times the source's: `src * (1 - da) + dst * sa`.
 #[derive(Clone, Copy)]
 pub struct DestAtop;
 
@@ -213,9 +344,13 @@ impl Blend for DestAtop {
     fn composite<C: Channel>(dst: &mut C, da1: C, src: &C, sa1: C) {
         *dst = *src * da1 + *dst * (C::MAX - sa1);
     }
+
+    fn composite_run<C: Channel>(dst: &mut [C], da1: &[C], src: &[C], sa1: &[C]) {
+        run::composite::<OneMinusAlpha, Alpha, C>(dst, da1, src, sa1);
+    }
 }
 
-/// Each where the other is not.
+/// Exclusive or: each side times one minus the other's alpha: `src * (1 - da) + dst * (1 - sa)`.
 #[derive(Clone, Copy)]
 pub struct Xor;
 
@@ -227,9 +362,13 @@ impl Blend for Xor {
     fn composite<C: Channel>(dst: &mut C, da1: C, src: &C, sa1: C) {
         *dst = *src * da1 + *dst * sa1;
     }
+
+    fn composite_run<C: Channel>(dst: &mut [C], da1: &[C], src: &[C], sa1: &[C]) {
+        run::composite::<OneMinusAlpha, OneMinusAlpha, C>(dst, da1, src, sa1);
+    }
 }
 
-/// Neither.
+/// Neither: `0`.
 #[derive(Clone, Copy)]
 pub struct Clear;
 
@@ -241,9 +380,13 @@ impl Blend for Clear {
     fn composite<C: Channel>(dst: &mut C, _da1: C, _src: &C, _sa1: C) {
         *dst = C::MIN;
     }
+
+    fn composite_run<C: Channel>(dst: &mut [C], da1: &[C], src: &[C], sa1: &[C]) {
+        run::composite::<Zero, Zero, C>(dst, da1, src, sa1);
+    }
 }
 
-/// The sum of both.
+/// The saturating sum of both: `src + dst`.
 #[derive(Clone, Copy)]
 pub struct Plus;
 
@@ -254,5 +397,9 @@ impl Blend for Plus {
 
     fn composite<C: Channel>(dst: &mut C, _da1: C, src: &C, _sa1: C) {
         *dst = *src + *dst;
+    }
+
+    fn composite_run<C: Channel>(dst: &mut [C], da1: &[C], src: &[C], sa1: &[C]) {
+        run::composite::<One, One, C>(dst, da1, src, sa1);
     }
 }

@@ -1,14 +1,15 @@
-//! Channels of sixteen bits.
+//! Channels of 16 bits.
 ghost use Rattle.std.specs.Prelude.{◌≡◌, ◌+◌, ◌*◌, ◌/◌, ◌<◌};
-ghost use Rattle.pix_chan.specs.Number.{channel_sum, channel_difference};
-ghost use Rattle.pix_chan.specs.Product.{channel_product, channel_quotient, widened};
-ghost use Rattle.pix_chan.specs.Depth.{deepened};
+ghost use Rattle.pix_chan.specs.Number.{saturating_sum, saturating_difference};
+ghost use Rattle.pix_chan.specs.Product.{channel_product, channel_quotient};
+ghost use Rattle.pix_chan.specs.Channel.{AnswersFrom};
+ghost use Rattle.pix_chan.specs.Depth.{to_16_bit, from_16_bit};
 
 use crate::chan::{Ch8, Channel, whole};
 use crate::private::Sealed;
 use std::ops::{Add, Div, Mul, Sub};
 
-/// A channel of sixteen bits: 0 to 65535 units.
+/// A channel of 16 bits: a whole number of units from 0 to 65535.
 #[derive(Clone, Copy, Debug, PartialEq, Eq, PartialOrd, Ord)]
 pub struct Ch16 {
     value: u16,
@@ -16,7 +17,7 @@ pub struct Ch16 {
 }
 
 impl Ch16 {
-    /// The channel of `value` units.
+    /// Creates the channel of `value` units.
     pub const fn new(value: u16) -> Ch16
         ensures { result.value ≡ value }
     {
@@ -51,7 +52,7 @@ impl From<Ch16> for u16 {
 }
 
 impl From<Ch8> for Ch16 {
-    ghost from_gives = { λ c r. r.value ≡ deepened 16 c.value };
+    ghost from_gives = { λ c r. r.value ≡ to_16_bit 255 c.value };
 
     fn from(channel: Ch8) -> Ch16 {
         Ch16 {
@@ -60,57 +61,69 @@ impl From<Ch8> for Ch16 {
     }
 }
 
-impl Add for Ch16 {
+impl<R> Add<R> for Ch16
+where
+    Ch16: From<R>,
+{
     type Output = Ch16;
 
-    ghost add_gives = { λ x y r. r.value ≡ channel_sum 256 x.value y.value };
+    ghost add_gives = { AnswersFrom
+        ⟦<Ch16 as From<R>>⟧.from_gives (λ c. c.value) (saturating_sum 65535) };
 
-    fn add(self, rhs: Ch16) -> Ch16 {
+    fn add(self, rhs: R) -> Ch16 {
+        let rhs = Ch16::from(rhs);
         Ch16 {
             value: self.value.saturating_add(rhs.value),
         }
     }
 }
 
-impl Sub for Ch16 {
+impl<R> Sub<R> for Ch16
+where
+    Ch16: From<R>,
+{
     type Output = Ch16;
 
-    ghost sub_gives = { λ x y r. r.value ≡ channel_difference x.value y.value };
+    ghost sub_gives = { AnswersFrom
+        ⟦<Ch16 as From<R>>⟧.from_gives (λ c. c.value) saturating_difference };
 
-    fn sub(self, rhs: Ch16) -> Ch16 {
+    fn sub(self, rhs: R) -> Ch16 {
+        let rhs = Ch16::from(rhs);
         Ch16 {
             value: self.value.saturating_sub(rhs.value),
         }
     }
 }
 
-/// The number, widened by its own upper half to twenty-four bits.
-fn widened(value: u16) -> u64
-    ensures { result ≡ widened 256 value }
+impl<R> Mul<R> for Ch16
+where
+    Ch16: From<R>,
 {
-    (u64::from(value) << 8) + (u64::from(value) >> 8)
-}
-
-impl Mul for Ch16 {
     type Output = Ch16;
 
-    ghost mul_gives = { λ x y r. r.value ≡ channel_product 256 x.value y.value };
+    ghost mul_gives = { AnswersFrom
+        ⟦<Ch16 as From<R>>⟧.from_gives (λ c. c.value) (channel_product 65535) };
 
-    #[tactic(auto, unfolding(crate::specs::Product::channel_product))]
-    fn mul(self, rhs: Ch16) -> Ch16 {
-        let product = widened(self.value) * widened(rhs.value);
+    fn mul(self, rhs: R) -> Ch16 {
+        let rhs = Ch16::from(rhs);
+        let sum = u32::from(self.value) * u32::from(rhs.value) + 32768;
         Ch16 {
-            value: (product >> 32) as u16,
+            value: ((sum + (sum >> 16)) >> 16) as u16,
         }
     }
 }
 
-impl Div for Ch16 {
+impl<R> Div<R> for Ch16
+where
+    Ch16: From<R>,
+{
     type Output = Ch16;
 
-    ghost div_gives = { λ x y r. r.value ≡ channel_quotient 256 x.value y.value };
+    ghost div_gives = { AnswersFrom
+        ⟦<Ch16 as From<R>>⟧.from_gives (λ c. c.value) (channel_quotient 65535) };
 
-    fn div(self, rhs: Ch16) -> Ch16 {
+    fn div(self, rhs: R) -> Ch16 {
+        let rhs = Ch16::from(rhs);
         if rhs.value == 0 {
             return Ch16 { value: 0 };
         }
@@ -121,89 +134,10 @@ impl Div for Ch16 {
     }
 }
 
-impl Add<u16> for Ch16 {
-    type Output = Ch16;
-
-    ghost add_gives = { λ x y r. r.value ≡ channel_sum 256 x.value y };
-
-    fn add(self, rhs: u16) -> Ch16 {
-        self + Ch16::new(rhs)
-    }
-}
-
-impl Sub<u16> for Ch16 {
-    type Output = Ch16;
-
-    ghost sub_gives = { λ x y r. r.value ≡ channel_difference x.value y };
-
-    fn sub(self, rhs: u16) -> Ch16 {
-        self - Ch16::new(rhs)
-    }
-}
-
-impl Mul<u16> for Ch16 {
-    type Output = Ch16;
-
-    ghost mul_gives = { λ x y r. r.value ≡ channel_product 256 x.value y };
-
-    fn mul(self, rhs: u16) -> Ch16 {
-        self * Ch16::new(rhs)
-    }
-}
-
-impl Div<u16> for Ch16 {
-    type Output = Ch16;
-
-    ghost div_gives = { λ x y r. r.value ≡ channel_quotient 256 x.value y };
-
-    fn div(self, rhs: u16) -> Ch16 {
-        self / Ch16::new(rhs)
-    }
-}
-
-impl Add<Ch8> for Ch16 {
-    type Output = Ch16;
-
-    ghost add_gives = { λ x y r. r.value ≡ channel_sum 256 x.value (deepened 16 y.value) };
-
-    fn add(self, rhs: Ch8) -> Ch16 {
-        self + Ch16::from(rhs)
-    }
-}
-
-impl Sub<Ch8> for Ch16 {
-    type Output = Ch16;
-
-    ghost sub_gives = { λ x y r. r.value ≡ channel_difference x.value (deepened 16 y.value) };
-
-    fn sub(self, rhs: Ch8) -> Ch16 {
-        self - Ch16::from(rhs)
-    }
-}
-
-impl Mul<Ch8> for Ch16 {
-    type Output = Ch16;
-
-    ghost mul_gives = { λ x y r. r.value ≡ channel_product 256 x.value (deepened 16 y.value) };
-
-    fn mul(self, rhs: Ch8) -> Ch16 {
-        self * Ch16::from(rhs)
-    }
-}
-
-impl Div<Ch8> for Ch16 {
-    type Output = Ch16;
-
-    ghost div_gives = { λ x y r. r.value ≡ channel_quotient 256 x.value (deepened 16 y.value) };
-
-    fn div(self, rhs: Ch8) -> Ch16 {
-        self / Ch16::from(rhs)
-    }
-}
-
 impl Channel for Ch16 {
     ghost use Rattle.std.specs.Prelude.{refl};
-    ghost use Rattle.std.proofs.Common.{lit<};
+    ghost use Rattle.std.proofs.Common.{lit<, rules};
+    ghost use Rattle.pix_chan.specs.Channel.{answers_itself};
     ghost use Rattle.pix_chan.specs.ProductLaws.{product_laws};
     ghost use Rattle.pix_chan.specs.ChannelLaws.{channel_laws};
     ghost use Rattle.pix_chan.specs.DepthLaws.{depth_of_sixteen};
@@ -211,7 +145,7 @@ impl Channel for Ch16 {
 
     ghost number = { λ c. c.value };
 
-    ghost root = { 256 };
+    ghost max = { 65535 };
 
     ghost MIN = { record { value = 0; fits = lit< tt } };
 
@@ -227,6 +161,14 @@ impl Channel for Ch16 {
 
     fn to_u32(self) -> u32 {
         self.value.into()
+    }
+
+    fn to_16_bit(self) -> u16 {
+        self.value
+    }
+
+    fn from_16_bit(units: u16) -> Ch16 {
+        Ch16 { value: units }
     }
 
     fn wrapping_add(self, rhs: Ch16) -> Ch16 {
@@ -267,31 +209,37 @@ impl Channel for Ch16 {
 
     ghost mid_is_half = { refl };
 
-    ghost max_is_top = { refl };
+    ghost max_is_maximum = { refl };
 
     ghost default_is_min = { λ x h. h };
 
     ghost orders = { λ x y. refl };
 
+    ghost clones = { λ x y h. h };
+
+    ghost clones_always = { λ x. tt };
+
     ghost equals = { λ x y. refl };
 
     ghost can_sum = { λ _ _. tt };
 
-    ghost sums = { λ x y r h. h };
+    ghost sums = { answers_itself (λ c. c.value) (saturating_sum 65535) };
 
     ghost can_differ = { λ _ _. tt };
 
-    ghost differs = { λ x y r h. h };
+    ghost differs = { answers_itself (λ c. c.value) saturating_difference };
 
     ghost can_multiply = { λ _ _. tt };
 
-    ghost multiplies = { λ x y r h. h };
+    ghost multiplies = { answers_itself (λ c. c.value) (channel_product 65535) };
 
     ghost can_divide = { λ _ _. tt };
 
-    ghost divides = { λ x y r h. h };
+    ghost divides = { answers_itself (λ c. c.value) (channel_quotient 65535) };
 
-    ghost product_law = { product_laws 256 (lit< tt) };
+    ghost product_law = { product_laws 65535 (lit< tt) };
 
-    ghost laws = { channel_laws 256 (lit< tt) depth_of_sixteen };
+    ghost small = { Prim.search rules };
+
+    ghost laws = { channel_laws 65535 (lit< tt) depth_of_sixteen };
 }

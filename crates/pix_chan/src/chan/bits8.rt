@@ -1,14 +1,17 @@
-//! Channels of eight bits.
+//! Channels of 8 bits.
 ghost use Rattle.std.specs.Prelude.{◌≡◌, ◌+◌, ◌*◌, ◌/◌, ◌<◌};
-ghost use Rattle.pix_chan.specs.Number.{channel_sum, channel_difference};
-ghost use Rattle.pix_chan.specs.Product.{channel_product, channel_quotient, widened};
-ghost use Rattle.pix_chan.specs.Depth.{flattened};
+ghost use Rattle.pix_chan.specs.Number.{saturating_sum, saturating_difference};
+ghost use Rattle.pix_chan.specs.Product.{channel_product, channel_quotient};
+ghost use Rattle.pix_chan.specs.Channel.{AnswersFrom};
+ghost use Rattle.pix_chan.specs.Depth.{to_16_bit, from_16_bit};
 
 use crate::chan::{Ch16, Channel, whole};
 use crate::private::Sealed;
 use std::ops::{Add, Div, Mul, Sub};
 
-/// A channel of eight bits: 0 to 255 units.
+mod lanes;
+
+/// A channel of 8 bits: a whole number of units from 0 to 255.
 #[derive(Clone, Copy, Debug, PartialEq, Eq, PartialOrd, Ord)]
 pub struct Ch8 {
     value: u8,
@@ -16,7 +19,7 @@ pub struct Ch8 {
 }
 
 impl Ch8 {
-    /// The channel of `value` units.
+    /// Creates the channel of `value` units.
     pub const fn new(value: u8) -> Ch8
         ensures { result.value ≡ value }
     {
@@ -51,7 +54,7 @@ impl From<Ch8> for u8 {
 }
 
 impl From<Ch16> for Ch8 {
-    ghost from_gives = { λ c r. r.value ≡ flattened 16 c.value };
+    ghost from_gives = { λ c r. r.value ≡ from_16_bit 255 c.value };
 
     fn from(channel: Ch16) -> Ch8 {
         Ch8 {
@@ -60,57 +63,69 @@ impl From<Ch16> for Ch8 {
     }
 }
 
-impl Add for Ch8 {
+impl<R> Add<R> for Ch8
+where
+    Ch8: From<R>,
+{
     type Output = Ch8;
 
-    ghost add_gives = { λ x y r. r.value ≡ channel_sum 16 x.value y.value };
+    ghost add_gives = { AnswersFrom
+        ⟦<Ch8 as From<R>>⟧.from_gives (λ c. c.value) (saturating_sum 255) };
 
-    fn add(self, rhs: Ch8) -> Ch8 {
+    fn add(self, rhs: R) -> Ch8 {
+        let rhs = Ch8::from(rhs);
         Ch8 {
             value: self.value.saturating_add(rhs.value),
         }
     }
 }
 
-impl Sub for Ch8 {
+impl<R> Sub<R> for Ch8
+where
+    Ch8: From<R>,
+{
     type Output = Ch8;
 
-    ghost sub_gives = { λ x y r. r.value ≡ channel_difference x.value y.value };
+    ghost sub_gives = { AnswersFrom
+        ⟦<Ch8 as From<R>>⟧.from_gives (λ c. c.value) saturating_difference };
 
-    fn sub(self, rhs: Ch8) -> Ch8 {
+    fn sub(self, rhs: R) -> Ch8 {
+        let rhs = Ch8::from(rhs);
         Ch8 {
             value: self.value.saturating_sub(rhs.value),
         }
     }
 }
 
-/// The number, widened by its own upper half to twelve bits.
-fn widened(value: u8) -> u32
-    ensures { result ≡ widened 16 value }
+impl<R> Mul<R> for Ch8
+where
+    Ch8: From<R>,
 {
-    (u32::from(value) << 4) + (u32::from(value) >> 4)
-}
-
-impl Mul for Ch8 {
     type Output = Ch8;
 
-    ghost mul_gives = { λ x y r. r.value ≡ channel_product 16 x.value y.value };
+    ghost mul_gives = { AnswersFrom
+        ⟦<Ch8 as From<R>>⟧.from_gives (λ c. c.value) (channel_product 255) };
 
-    #[tactic(auto, unfolding(crate::specs::Product::channel_product))]
-    fn mul(self, rhs: Ch8) -> Ch8 {
-        let product = widened(self.value) * widened(rhs.value);
+    fn mul(self, rhs: R) -> Ch8 {
+        let rhs = Ch8::from(rhs);
+        let sum = u16::from(self.value) * u16::from(rhs.value) + 128;
         Ch8 {
-            value: (product >> 16) as u8,
+            value: ((sum + (sum >> 8)) >> 8) as u8,
         }
     }
 }
 
-impl Div for Ch8 {
+impl<R> Div<R> for Ch8
+where
+    Ch8: From<R>,
+{
     type Output = Ch8;
 
-    ghost div_gives = { λ x y r. r.value ≡ channel_quotient 16 x.value y.value };
+    ghost div_gives = { AnswersFrom
+        ⟦<Ch8 as From<R>>⟧.from_gives (λ c. c.value) (channel_quotient 255) };
 
-    fn div(self, rhs: Ch8) -> Ch8 {
+    fn div(self, rhs: R) -> Ch8 {
+        let rhs = Ch8::from(rhs);
         if rhs.value == 0 {
             return Ch8 { value: 0 };
         }
@@ -121,89 +136,10 @@ impl Div for Ch8 {
     }
 }
 
-impl Add<u8> for Ch8 {
-    type Output = Ch8;
-
-    ghost add_gives = { λ x y r. r.value ≡ channel_sum 16 x.value y };
-
-    fn add(self, rhs: u8) -> Ch8 {
-        self + Ch8::new(rhs)
-    }
-}
-
-impl Sub<u8> for Ch8 {
-    type Output = Ch8;
-
-    ghost sub_gives = { λ x y r. r.value ≡ channel_difference x.value y };
-
-    fn sub(self, rhs: u8) -> Ch8 {
-        self - Ch8::new(rhs)
-    }
-}
-
-impl Mul<u8> for Ch8 {
-    type Output = Ch8;
-
-    ghost mul_gives = { λ x y r. r.value ≡ channel_product 16 x.value y };
-
-    fn mul(self, rhs: u8) -> Ch8 {
-        self * Ch8::new(rhs)
-    }
-}
-
-impl Div<u8> for Ch8 {
-    type Output = Ch8;
-
-    ghost div_gives = { λ x y r. r.value ≡ channel_quotient 16 x.value y };
-
-    fn div(self, rhs: u8) -> Ch8 {
-        self / Ch8::new(rhs)
-    }
-}
-
-impl Add<Ch16> for Ch8 {
-    type Output = Ch8;
-
-    ghost add_gives = { λ x y r. r.value ≡ channel_sum 16 x.value (flattened 16 y.value) };
-
-    fn add(self, rhs: Ch16) -> Ch8 {
-        self + Ch8::from(rhs)
-    }
-}
-
-impl Sub<Ch16> for Ch8 {
-    type Output = Ch8;
-
-    ghost sub_gives = { λ x y r. r.value ≡ channel_difference x.value (flattened 16 y.value) };
-
-    fn sub(self, rhs: Ch16) -> Ch8 {
-        self - Ch8::from(rhs)
-    }
-}
-
-impl Mul<Ch16> for Ch8 {
-    type Output = Ch8;
-
-    ghost mul_gives = { λ x y r. r.value ≡ channel_product 16 x.value (flattened 16 y.value) };
-
-    fn mul(self, rhs: Ch16) -> Ch8 {
-        self * Ch8::from(rhs)
-    }
-}
-
-impl Div<Ch16> for Ch8 {
-    type Output = Ch8;
-
-    ghost div_gives = { λ x y r. r.value ≡ channel_quotient 16 x.value (flattened 16 y.value) };
-
-    fn div(self, rhs: Ch16) -> Ch8 {
-        self / Ch8::from(rhs)
-    }
-}
-
 impl Channel for Ch8 {
     ghost use Rattle.std.specs.Prelude.{refl};
-    ghost use Rattle.std.proofs.Common.{lit<};
+    ghost use Rattle.std.proofs.Common.{lit<, rules};
+    ghost use Rattle.pix_chan.specs.Channel.{answers_itself};
     ghost use Rattle.pix_chan.specs.ProductLaws.{product_laws};
     ghost use Rattle.pix_chan.specs.ChannelLaws.{channel_laws};
     ghost use Rattle.pix_chan.specs.DepthLaws.{depth_of_eight};
@@ -211,7 +147,7 @@ impl Channel for Ch8 {
 
     ghost number = { λ c. c.value };
 
-    ghost root = { 16 };
+    ghost max = { 255 };
 
     ghost MIN = { record { value = 0; fits = lit< tt } };
 
@@ -227,6 +163,16 @@ impl Channel for Ch8 {
 
     fn to_u32(self) -> u32 {
         self.value.into()
+    }
+
+    fn to_16_bit(self) -> u16 {
+        u16::from(self.value) * 257
+    }
+
+    fn from_16_bit(units: u16) -> Ch8 {
+        Ch8 {
+            value: (units / 256) as u8,
+        }
     }
 
     fn wrapping_add(self, rhs: Ch8) -> Ch8 {
@@ -257,6 +203,26 @@ impl Channel for Ch8 {
         }
     }
 
+    fn mul_run(dst: &mut [Ch8], by: &[Ch8]) {
+        let count = dst.len().min(by.len());
+        for k in 0..count / 16 {
+            lanes::mul_block(&mut dst[16 * k..16 * k + 16], &by[16 * k..16 * k + 16]);
+        }
+        for i in count / 16 * 16..count {
+            dst[i] = dst[i] * by[i];
+        }
+    }
+
+    fn add_run(dst: &mut [Ch8], by: &[Ch8]) {
+        let count = dst.len().min(by.len());
+        for k in 0..count / 16 {
+            lanes::add_block(&mut dst[16 * k..16 * k + 16], &by[16 * k..16 * k + 16]);
+        }
+        for i in count / 16 * 16..count {
+            dst[i] = dst[i] + by[i];
+        }
+    }
+
     ghost wide = { lit< tt };
 
     ghost numbered = { ch8_numbered };
@@ -265,31 +231,37 @@ impl Channel for Ch8 {
 
     ghost mid_is_half = { refl };
 
-    ghost max_is_top = { refl };
+    ghost max_is_maximum = { refl };
 
     ghost default_is_min = { λ x h. h };
 
     ghost orders = { λ x y. refl };
 
+    ghost clones = { λ x y h. h };
+
+    ghost clones_always = { λ x. tt };
+
     ghost equals = { λ x y. refl };
 
     ghost can_sum = { λ _ _. tt };
 
-    ghost sums = { λ x y r h. h };
+    ghost sums = { answers_itself (λ c. c.value) (saturating_sum 255) };
 
     ghost can_differ = { λ _ _. tt };
 
-    ghost differs = { λ x y r h. h };
+    ghost differs = { answers_itself (λ c. c.value) saturating_difference };
 
     ghost can_multiply = { λ _ _. tt };
 
-    ghost multiplies = { λ x y r h. h };
+    ghost multiplies = { answers_itself (λ c. c.value) (channel_product 255) };
 
     ghost can_divide = { λ _ _. tt };
 
-    ghost divides = { λ x y r h. h };
+    ghost divides = { answers_itself (λ c. c.value) (channel_quotient 255) };
 
-    ghost product_law = { product_laws 16 (lit< tt) };
+    ghost product_law = { product_laws 255 (lit< tt) };
 
-    ghost laws = { channel_laws 16 (lit< tt) depth_of_eight };
+    ghost small = { Prim.search rules };
+
+    ghost laws = { channel_laws 255 (lit< tt) depth_of_eight };
 }

@@ -1,39 +1,72 @@
-//! How channels are related to alpha and to light.
-ghost use Rattle.std.specs.Prelude.{ℕ};
+//! Alpha modes and gamma modes of channels.
+ghost use Rattle.std.specs.Prelude.{◌≡◌, ℕ, refl};
+ghost use Rattle.pix_chan.specs.Modes.{AlphaMode, GammaMode, alpha_kind, gamma_kind};
+ghost use Rattle.pix_chan.specs.Modes.{alpha_encoded, alpha_decoded, to_linear, from_linear};
+ghost use Rattle.pix_chan.specs.Modes as modes;
 
 use crate::chan::{Ch8, Channel};
 use crate::private::Sealed;
 use std::fmt::Debug;
 
-/// Whether the color channels of a pixel are multiplied by its alpha. Only this library's types are alpha modes.
+/// An alpha mode: whether color channels are stored multiplied by the alpha. This trait is sealed.
 pub trait Alpha: Sealed + Clone + Copy + Debug + Default + PartialEq {
+    /// The mode as a row of the table of alpha modes.
+    ghost mode: { AlphaMode };
+
+    /// The value of [`KIND`](Alpha::KIND).
     ghost KIND: { ℕ };
 
-    /// Tells the alpha modes apart.
+    /// A number for each alpha mode, which no other has.
     const KIND: u8;
+
+    /// Returns the straight color channel `c` as this mode stores it at the alpha `a`.
+    fn encode<C: Channel>(c: C, a: C) -> C
+        ensures { C.number result ≡ alpha_encoded mode C.max (C.number c) (C.number a) };
+
+    /// Returns the straight color channel that this mode stores as `c` at the alpha `a`.
+    fn decode<C: Channel>(c: C, a: C) -> C
+        ensures { C.number result ≡ alpha_decoded mode C.max (C.number c) (C.number a) };
+
+    /// `KIND` is the number in the table.
+    ghost tabled: { alpha_kind mode ≡ KIND };
 }
 
-/// How a channel of type `C` encodes light. Only this library's types are gamma modes.
+/// A gamma mode: how a channel of type `C` encodes light. This trait is sealed.
 pub trait Gamma<C: Channel>: Sealed + Clone + Copy + Debug + Default + PartialEq {
+    /// The mode as a row of the table of gamma modes.
+    ghost mode: { GammaMode };
+
+    /// The value of [`KIND`](Gamma::KIND).
     ghost KIND: { ℕ };
 
-    /// Tells the gamma modes apart, the same for every channel.
+    /// A number for each gamma mode, which no other has; the same for every channel.
     const KIND: u8;
+
+    /// Returns the linear channel that this mode encodes as `c`.
+    fn to_linear(c: C) -> C
+        ensures { C.number result ≡ to_linear mode (C.number c) };
+
+    /// Returns the linear channel `c` as this mode encodes it.
+    fn from_linear(c: C) -> C
+        ensures { C.number result ≡ from_linear mode (C.number c) };
+
+    /// `KIND` is the number in the table.
+    ghost tabled: { gamma_kind mode ≡ KIND };
 }
 
-/// Color channels are not multiplied by alpha.
+/// Straight alpha: color channels are not multiplied by the alpha.
 #[derive(Clone, Copy, Debug, Default, PartialEq, Eq)]
 pub struct Straight;
 
-/// Color channels are multiplied by alpha.
+/// Premultiplied alpha: color channels are multiplied by the alpha.
 #[derive(Clone, Copy, Debug, Default, PartialEq, Eq)]
 pub struct Premultiplied;
 
-/// Channels are proportional to light.
+/// Linear: channels are proportional to the intensity of light.
 #[derive(Clone, Copy, Debug, Default, PartialEq, Eq)]
 pub struct Linear;
 
-/// Channels are encoded by the sRGB curve.
+/// The sRGB transfer curve (IEC 61966-2-1).
 #[derive(Clone, Copy, Debug, Default, PartialEq, Eq)]
 pub struct Srgb;
 
@@ -46,25 +79,73 @@ impl Sealed for Linear {}
 impl Sealed for Srgb {}
 
 impl Alpha for Straight {
-    ghost KIND = { 0 };
+    ghost mode = { modes.Straight };
+
+    ghost KIND = { alpha_kind modes.Straight };
 
     const KIND: u8 = 0;
+
+    fn encode<C: Channel>(c: C, _a: C) -> C {
+        c
+    }
+
+    fn decode<C: Channel>(c: C, _a: C) -> C {
+        c
+    }
+
+    ghost tabled = { refl };
 }
 
 impl Alpha for Premultiplied {
-    ghost KIND = { 1 };
+    ghost mode = { modes.Premultiplied };
+
+    ghost KIND = { alpha_kind modes.Premultiplied };
 
     const KIND: u8 = 1;
+
+    fn encode<C: Channel>(c: C, a: C) -> C {
+        c * a
+    }
+
+    fn decode<C: Channel>(c: C, a: C) -> C {
+        c / a
+    }
+
+    ghost tabled = { refl };
 }
 
 impl<C: Channel> Gamma<C> for Linear {
-    ghost KIND = { 0 };
+    ghost mode = { modes.Linear };
+
+    ghost KIND = { gamma_kind modes.Linear };
 
     const KIND: u8 = 0;
+
+    fn to_linear(c: C) -> C {
+        c
+    }
+
+    fn from_linear(c: C) -> C {
+        c
+    }
+
+    ghost tabled = { refl };
 }
 
 impl Gamma<Ch8> for Srgb {
-    ghost KIND = { 1 };
+    ghost mode = { modes.Srgb };
+
+    ghost KIND = { gamma_kind modes.Srgb };
 
     const KIND: u8 = 1;
+
+    fn to_linear(c: Ch8) -> Ch8 {
+        c.decode_srgb()
+    }
+
+    fn from_linear(c: Ch8) -> Ch8 {
+        c.encode_srgb()
+    }
+
+    ghost tabled = { refl };
 }

@@ -1,52 +1,52 @@
 //! Whole numbers from 0 up to a greatest, for channels of every width.
 ghost use Rattle.std.specs.Prelude.{◌≡◌, ℕ, neg_ℤ, pos, ◌+◌, ◌*◌, ◌^◌, ◌<◌, ◌≤◌, ◌+ℤ◌, ◌*ℤ◌, ◌<ℤ◌};
 ghost use Rattle.pix_chan.specs.Step.{step, channel_lerp};
-ghost use Rattle.pix_chan.specs.Nearest.{near};
+ghost use Rattle.pix_chan.specs.Nearest.{nearest};
 
-/// How many whole units `fall` / `most` is below 0: rounded up, but just one over some units is dropped.
-fn units_down(fall: u64, most: u64) -> u64
-    requires { 1 < most }
-    ensures value { neg_ℤ (pos result) ≡ step most (neg_ℤ (pos fall)) }
-    ensures kept { (d : ℕ) → fall ≤ most * d → result ≤ d }
+/// How many whole units `fall` / `max` is below 0: rounded up, but just one over some units is dropped.
+fn units_down(fall: u64, max: u64) -> u64
+    requires { 1 < max }
+    ensures value { neg_ℤ (pos result) ≡ step max (neg_ℤ (pos fall)) }
+    ensures kept { (d : ℕ) → fall ≤ max * d → result ≤ d }
 {
-    let units = fall / most;
+    let units = fall / max;
     let dropped = units.min(1);
-    if fall % most <= dropped {
+    if fall % max <= dropped {
         units
     } else {
         units + 1
     }
 }
 
-/// The number that is `t` / `most` of the way from `start` to `end`.
-pub fn lerp(start: u64, end: u64, t: u64, most: u64) -> u64
-    requires some { 1 < most }
-    requires small { most < 65536 }
-    requires starts { start ≤ most }
-    requires ends { end ≤ most }
-    requires part { t ≤ most }
-    ensures value { pos result ≡ channel_lerp most start end t }
-    ensures fits { result ≤ most }
+/// The number that is `t` / `max` of the way from `start` to `end`.
+pub fn lerp(start: u64, end: u64, t: u64, max: u64) -> u64
+    requires some { 1 < max }
+    requires small { max < 65536 }
+    requires starts { start ≤ max }
+    requires ends { end ≤ max }
+    requires part { t ≤ max }
+    ensures value { pos result ≡ channel_lerp max start end t }
+    ensures fits { result ≤ max }
 {
     if start <= end {
-        start + t * (end - start) / most
+        start + t * (end - start) / max
     } else {
-        start - units_down(t * (start - end), most)
+        start - units_down(t * (start - end), max)
     }
 }
 
-/// The whole number nearest to `n` / `d`, a tie upwards, at most `most`.
-pub fn nearest(n: i64, d: i64, most: u64) -> u64
+/// The whole number nearest to `n` / `d`, a tie upwards, at most `max`.
+pub fn nearest(n: i64, d: i64, max: u64) -> u64
     requires positive { pos 0 <ℤ d }
     requires sum_fits { (pos 2 *ℤ n +ℤ d) <ℤ pos (2 ^ 63) }
     requires twice_fits { (pos 2 *ℤ d) <ℤ pos (2 ^ 63) }
-    ensures value { result ≡ near most n d }
-    ensures fits { result ≤ most }
+    ensures value { result ≡ nearest max n d }
+    ensures fits { result ≤ max }
 {
     if n < 0 {
         return 0;
     }
     let n = n.unsigned_abs();
     let d = d.unsigned_abs();
-    ((2 * n + d) / (2 * d)).min(most)
+    ((2 * n + d) / (2 * d)).min(max)
 }

@@ -1,0 +1,152 @@
+-- Vectors that are computed lane by lane from two others.
+use Rattle.std.proofs.Common.{◌≡◌, ℕ, ◌+◌, ◌*◌, ◌/◌, ◌%◌, ◌^◌, ◌<◌, List, [], ◌∷◌, length, map, refl, ap, sym, ◌∙◌, arith, replicate}
+use Rattle.std.proofs.Common.{w8, Fits}
+use mir.Syntax.{w16}
+use Rattle.pix_chan.specs.Number.{saturating_sum}
+use Rattle.pix_chan.specs.Product.{channel_product}
+use Rattle.pix_chan.proofs.LaneProduct.{near_lane, near_fits, multiplier}
+use lib.Lanes.{zip2, Each1, sel_l, top}
+use mir.Val.{hbits, bits}
+use mir.Syntax.{Width}
+use native.Mathlib.Nat.{mod-eq_of_lt}
+use Rattle.std.proofs.Common.{Bool, cond, ltb, ◌-◌, min}
+use Rattle.std.proofs.lemmas.Bool.Decides.{nat_tests}
+use Rattle.std.proofs.lemmas.Simd.{tops_compared, zip2_of_maps, splat_is_map, length-zip2, map-map}
+
+-- the operations of a lane that has m values
+abbrev pub add : ℕ → ℕ → ℕ → ℕ
+add m x y = (x + y) % m
+
+abbrev pub mul : ℕ → ℕ → ℕ → ℕ
+mul m x y = (x * y) % m
+
+abbrev pub shr : ℕ → ℕ → ℕ
+shr x y = x / 2 ^ y
+
+abbrev pub shl : ℕ → ℕ → ℕ → ℕ
+shl m x y = x * 2 ^ y % m
+
+abbrev pub same : ℕ → ℕ
+same x = x
+
+-- two vectors as the list of their pairs
+abbrev pub pairs : List ℕ → List ℕ → List (ℕ × ℕ)
+pairs = zip2 (λ x y. (x, y))
+
+pub firsts : (a b : List ℕ) → length a ≡ length b → a ≡ map (λ v. v.0) (pairs a b)
+firsts [] b l = refl
+firsts (x ∷ a) [] l = absurd (omega arith)
+firsts (x ∷ a) (y ∷ b) l = ap (λ r. x ∷ r) (firsts a b (omega arith))
+
+pub seconds : (a b : List ℕ) → length a ≡ length b → b ≡ map (λ v. v.1) (pairs a b)
+seconds [] [] l = refl
+seconds [] (y ∷ b) l = absurd (omega arith)
+seconds (x ∷ a) [] l = absurd (omega arith)
+seconds (x ∷ a) (y ∷ b) l = ap (λ r. y ∷ r) (seconds a b (omega arith))
+
+pub length-pairs : (a b : List ℕ) (n : ℕ) → length a ≡ n → length b ≡ n → length (pairs a b) ≡ n
+length-pairs a b n l m = length-zip2 (λ x y. (x, y)) a b (omega arith) ∙ l
+
+-- a function of each pair, known where P holds of both parts
+pub map_pairs : (P Q : ℕ → Type 0) (f : ℕ × ℕ → ℕ) (g : ℕ → ℕ → ℕ) → ((x y : ℕ) → P x → Q y → f (x, y) ≡ g x y)
+    → (a b : List ℕ) → length a ≡ length b → Each1 P a → Each1 Q b → map f (pairs a b) ≡ zip2 g a b
+map_pairs P Q f g h [] b l p q = refl
+map_pairs P Q f g h (x ∷ a) [] l p q = refl
+map_pairs P Q f g h (x ∷ a) (y ∷ b) l p q = grind (arith, h x y p.0 q.0, map_pairs P Q f g h a b (omega arith) p.1 q.1)
+
+pub Each1-near : (a b : List ℕ) → Each1 (Fits w8) a → Each1 (Fits w8) b → Each1 (Fits w8) (zip2 (channel_product 255) a b)
+Each1-near [] b p q = tt
+Each1-near (x ∷ a) [] p q = tt
+Each1-near (x ∷ a) (y ∷ b) p q = (near_fits x y p.0 q.0, Each1-near a b p.1 q.1)
+
+-- the product of two vectors of bytes, as it is computed on wider lanes
+abbrev pub wide : ℕ × ℕ → ℕ
+wide v = v.0 * 2 ^ 8 % 2 ^ 16 * multiplier v.1 % 2 ^ 32 / 2 ^ 16
+
+module _ (a b : List ℕ) (la : length a ≡ 16) (lb : length b ≡ 16) where
+  abbrev factors : List ℕ
+  factors = zip2 (shl (2 ^ 16)) (map same a) (replicate 16 8)
+
+  abbrev doubled : List ℕ
+  doubled = zip2 (mul (2 ^ 16)) (map same b) (replicate 16 257)
+
+  abbrev multipliers : List ℕ
+  multipliers = zip2 (add (2 ^ 16)) doubled (zip2 shr (zip2 (add (2 ^ 16)) doubled (replicate 16 1)) (replicate 16 15))
+
+  abbrev pub high_halves : List ℕ
+  high_halves = zip2 shr (zip2 (mul (2 ^ 32)) (map same factors) (map same multipliers)) (replicate 16 16)
+
+  pub high_halves_are : high_halves ≡ map wide (pairs a b)
+  high_halves_are =
+      let vs = pairs a b in
+      let l = length-pairs a b 16 la lb in
+      let x = ap (map same) (firsts a b (la ∙ sym lb)) ∙ map-map same (λ (v : ℕ × ℕ). v.0) vs in
+      let y = ap (map same) (seconds a b (la ∙ sym lb)) ∙ map-map same (λ (v : ℕ × ℕ). v.1) vs in
+      let p = zip2_of_maps (shl (2 ^ 16)) _ _ vs x (splat_is_map vs 16 8 l) in
+      let q = zip2_of_maps (mul (2 ^ 16)) _ _ vs y (splat_is_map vs 16 257 l) in
+      let r = zip2_of_maps (add (2 ^ 16)) _ _ vs q (splat_is_map vs 16 1 l) in
+      let s = zip2_of_maps shr _ _ vs r (splat_is_map vs 16 15 l) in
+      let m = zip2_of_maps (add (2 ^ 16)) _ _ vs q s in
+      let pp = ap (map same) p ∙ map-map same _ vs in
+      let mm = ap (map same) m ∙ map-map same _ vs in
+      let t = zip2_of_maps (mul (2 ^ 32)) _ _ vs pp mm in
+      zip2_of_maps shr _ _ vs t (splat_is_map vs 16 16 l)
+
+  pub near_lanes : Each1 (Fits w8) a → Each1 (Fits w8) b
+      → zip2 shr (zip2 (add (2 ^ 16)) (map same high_halves) (replicate 16 128)) (replicate 16 8) ≡ zip2 (channel_product 255) a b
+  near_lanes fa fb =
+      let vs = pairs a b in
+      let l = length-pairs a b 16 la lb in
+      let h = ap (map same) high_halves_are ∙ map-map same wide vs in
+      let t = zip2_of_maps (add (2 ^ 16)) _ _ vs h (splat_is_map vs 16 128 l) in
+      zip2_of_maps shr _ _ vs t (splat_is_map vs 16 8 l)
+      ∙ map_pairs (Fits w8) (Fits w8) _ _ (λ i j u k. near_lane i j u.fits k.fits) a b (la ∙ sym lb) fa fb
+
+mod-lt_two : (m : ℕ) → m % 2 ^ 32 < 2 ^ 32
+mod-lt_two m = omega arith
+
+high_fits : (m : ℕ) → m < 2 ^ 32 → Fits w16 (m / 2 ^ 16)
+high_fits m h = record { fits = omega arith }
+
+fits_wide : (v : ℕ × ℕ) → Fits w16 (wide v)
+fits_wide v = high_fits _ (mod-lt_two (v.0 * 2 ^ 8 % 2 ^ 16 * multiplier v.1))
+
+pub Each1-wide : (vs : List (ℕ × ℕ)) → Each1 (Fits w16) (map wide vs)
+Each1-wide [] = tt
+Each1-wide (v ∷ vs) = (fits_wide v, Each1-wide vs)
+
+sel_l-zip2 : (t : ℕ → ℕ → Bool) (xs ys : List ℕ) → sel_l (zip2 t xs ys) xs ys ≡ zip2 (λ x y. cond (t x y) x y) xs ys
+sel_l-zip2 t [] ys = refl
+sel_l-zip2 t (x ∷ xs) [] = refl
+sel_l-zip2 t (x ∷ xs) (y ∷ ys) = ap (λ (l : List ℕ). cond (t x y) x y ∷ l) (sel_l-zip2 t xs ys)
+
+-- the least of each two lanes
+pub least : (w : Width) (xs ys : List ℕ)
+    → sel_l (map (top (hbits w)) (zip2 (λ a b. cond (ltb a b) (2 ^ bits w - 1) 0) xs ys)) xs ys ≡ zip2 (λ x y. cond (ltb x y) x y) xs ys
+least w xs ys = ap (λ ms. sel_l ms xs ys) (tops_compared w ltb xs ys) ∙ sel_l-zip2 ltb xs ys
+
+pub Each1-sum : (a b : List ℕ) → Each1 (Fits w8) (zip2 (saturating_sum 255) a b)
+Each1-sum [] b = tt
+Each1-sum (x ∷ a) [] = tt
+Each1-sum (x ∷ a) (y ∷ b) = (record { fits = omega arith }, Each1-sum a b)
+
+least_byte : (x y : ℕ) → x < 256 → y < 256 → (x + cond (ltb y (255 - x)) y (255 - x)) % 256 ≡ saturating_sum 255 x y
+least_byte x y a b =
+    let e : cond (ltb y (255 - x)) y (255 - x) ≡ min y (255 - x) = grind (arith, nat_tests) in
+    rw e (mod-eq_of_lt (omega arith) ∙ omega arith)
+
+pub sum_bytes : (n : ℕ) (a b : List ℕ) → length a ≡ n → length b ≡ n → Each1 (Fits w8) a → Each1 (Fits w8) b
+    → let r = map (λ x. 255 - x) a in
+    zip2 (add 256) a (sel_l (map (top (hbits w8)) (zip2 (λ a b. cond (ltb a b) (2 ^ bits w8 - 1) 0) b r)) b r) ≡ zip2 (saturating_sum 255) a b
+sum_bytes n a b la lb fa fb =
+    let vs = pairs a b in
+    let x = firsts a b (omega arith) in
+    let y = seconds a b (omega arith) in
+    let r = ap (map (λ x. 255 - x)) x ∙ map-map (λ x. 255 - x) (λ (v : ℕ × ℕ). v.0) vs in
+    let k = least w8 b (map (λ x. 255 - x) a) ∙ zip2_of_maps (λ x y. cond (ltb x y) x y) _ _ vs y r in
+    zip2_of_maps (add 256) _ _ vs x k
+    ∙ map_pairs (Fits w8) (Fits w8) _ _ (λ i j h k. least_byte i j h.fits k.fits) a b (omega arith) fa fb
+
+pub Fits-bytes : (a : List ℕ) → Each1 (λ x. x < 256) a → Each1 (Fits w8) a
+Fits-bytes [] p = tt
+Fits-bytes (x ∷ a) p = (record { fits = p.0 }, Fits-bytes a p.1)
