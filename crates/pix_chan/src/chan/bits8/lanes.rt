@@ -1,0 +1,116 @@
+//! Products and sums of sixteen channels of 8 bits at a time, on lanes.
+ghost use Rattle.std.specs.Prelude.{◌≡◌, map, length};
+ghost use Rattle.std.specs.Simd.Lanes.{zip2};
+ghost use Rattle.pix_chan.specs.Number.{saturating_sum};
+ghost use Rattle.pix_chan.specs.Product.{channel_product};
+
+use crate::chan::bits8::Ch8;
+use std::simd::prelude::*;
+
+/// Returns the channel product of the bytes of each lane.
+///
+/// With m = 257 y, and one more for y in 128 to 254, the product of x and y is (m x + 2^15) / 2^16: here the high half of 256 x times m,
+/// and that rounded. This takes three steps for eight lanes, and m is made once where several runs are multiplied by the same one.
+#[inline(always)]
+fn product_lanes(a: u8x16, b: u8x16) -> u8x16
+    ensures { result ≡ zip2 (channel_product 255) a b }
+{
+    let x = a.cast::<u16>() << u16x16::splat(8);
+    let y = b.cast::<u16>() * u16x16::splat(257);
+    let y = y + ((y + u16x16::splat(1)) >> u16x16::splat(15));
+    let t = ((x.cast::<u32>() * y.cast::<u32>()) >> u32x16::splat(16)).cast::<u16>();
+    ((t + u16x16::splat(128)) >> u16x16::splat(8)).cast::<u8>()
+}
+
+/// Returns the saturating sum of the bytes of each lane.
+#[inline(always)]
+fn sum_lanes(x: u8x16, y: u8x16) -> u8x16
+    ensures { result ≡ zip2 (saturating_sum 255) x y }
+{
+    x.saturating_add(y)
+}
+
+/// Returns the numbers of sixteen channels.
+#[inline(always)]
+fn units(c: &[Ch8]) -> u8x16
+    requires { length c.now ≡ 16 }
+    ensures { result ≡ map (λ x. x.value) c.now }
+{
+    u8x16::from_array([
+        c[0].value,
+        c[1].value,
+        c[2].value,
+        c[3].value,
+        c[4].value,
+        c[5].value,
+        c[6].value,
+        c[7].value,
+        c[8].value,
+        c[9].value,
+        c[10].value,
+        c[11].value,
+        c[12].value,
+        c[13].value,
+        c[14].value,
+        c[15].value,
+    ])
+}
+
+/// Returns the channels of sixteen numbers.
+#[inline(always)]
+fn channels(v: u8x16) -> [Ch8; 16]
+    ensures { map (λ x. x.value) result ≡ v }
+{
+    let c = v.to_array();
+    [
+        Ch8 { value: c[0] },
+        Ch8 { value: c[1] },
+        Ch8 { value: c[2] },
+        Ch8 { value: c[3] },
+        Ch8 { value: c[4] },
+        Ch8 { value: c[5] },
+        Ch8 { value: c[6] },
+        Ch8 { value: c[7] },
+        Ch8 { value: c[8] },
+        Ch8 { value: c[9] },
+        Ch8 { value: c[10] },
+        Ch8 { value: c[11] },
+        Ch8 { value: c[12] },
+        Ch8 { value: c[13] },
+        Ch8 { value: c[14] },
+        Ch8 { value: c[15] },
+    ]
+}
+
+/// Writes sixteen channels to a slice of sixteen.
+#[inline(always)]
+fn store(to: &mut [Ch8], c: [Ch8; 16])
+    requires { length to.old ≡ 16 }
+    ensures { to.new ≡ c }
+{
+    if let Some(whole) = to.as_mut_array::<16>() {
+        *whole = c;
+    }
+}
+
+/// Multiplies each of sixteen channels by that of `by` of the same index.
+#[inline(always)]
+pub(super) fn mul_block(to: &mut [Ch8], by: &[Ch8])
+    requires to_whole { length to.old ≡ 16 }
+    requires by_whole { length by.now ≡ 16 }
+    ensures { map (λ x. x.value) to.new ≡
+        zip2 (channel_product 255) (map (λ x. x.value) to.old) (map (λ x. x.value) by.now) }
+{
+    store(to, channels(product_lanes(units(to), units(by))));
+}
+
+/// Adds to each of sixteen channels that of `by` of the same index.
+#[inline(always)]
+pub(super) fn add_block(to: &mut [Ch8], by: &[Ch8])
+    requires to_whole { length to.old ≡ 16 }
+    requires by_whole { length by.now ≡ 16 }
+    ensures { map (λ x. x.value) to.new ≡
+        zip2 (saturating_sum 255) (map (λ x. x.value) to.old) (map (λ x. x.value) by.now) }
+{
+    store(to, channels(sum_lanes(units(to), units(by))));
+}

@@ -1,0 +1,138 @@
+//! Composites of runs of channels by runs of products and sums.
+ghost use Rattle.std.specs.Prelude.{◌≡◌, ℕ, ◌-◌, ◌≤◌, length, map, min};
+ghost use Rattle.pix_chan.specs.Operators as operators;
+ghost use Rattle.pix_chan.specs.Operators.{Coefficient};
+ghost use Rattle.pix_chan.specs.Composite.{term};
+ghost use Rattle.pix_chan.specs.Runs.{over, triples, run_terms};
+
+use crate::chan::Channel;
+
+/// What one side of a composite is multiplied by.
+pub(super) trait Factor {
+    ghost coefficient: { Coefficient };
+
+    /// Multiplies each channel by the coefficient, where `alpha1` is one minus the other side's alpha.
+    fn scale<C: Channel>(channels: &mut [C], alpha1: &[C])
+        requires few { length channels.old ≤ 16 }
+        requires same { length alpha1.now ≡ length channels.old }
+        ensures { map C.number channels.new ≡
+            over (λ a x. term C.max coefficient x (C.max - a))
+            (map C.number alpha1.now) (map C.number channels.old) };
+}
+
+/// 0.
+pub(super) struct Zero {}
+
+/// 1.
+pub(super) struct One {}
+
+/// The other side's alpha.
+pub(super) struct Alpha {}
+
+/// One minus the other side's alpha.
+pub(super) struct OneMinusAlpha {}
+
+impl Factor for Zero {
+    ghost coefficient = { operators.Zero };
+
+    #[inline(always)]
+    fn scale<C: Channel>(channels: &mut [C], _alpha1: &[C]) {
+        for i in 0..channels.len() {
+            channels[i] = C::MIN;
+        }
+    }
+}
+
+impl Factor for One {
+    ghost coefficient = { operators.One };
+
+    #[inline(always)]
+    fn scale<C: Channel>(channels: &mut [C], _alpha1: &[C]) {
+        let _ = channels;
+    }
+}
+
+impl Factor for Alpha {
+    ghost coefficient = { operators.Alpha };
+
+    #[inline(always)]
+    fn scale<C: Channel>(channels: &mut [C], alpha1: &[C]) {
+        let count = channels.len();
+        let mut array = [C::MIN; 16];
+        let whole = &mut array[..];
+        let alpha = &mut whole[..count];
+        complement(alpha, alpha1);
+        C::mul_run(channels, alpha);
+    }
+}
+
+impl Factor for OneMinusAlpha {
+    ghost coefficient = { operators.OneMinusAlpha };
+
+    #[inline(always)]
+    fn scale<C: Channel>(channels: &mut [C], alpha1: &[C]) {
+        C::mul_run(channels, alpha1);
+    }
+}
+
+/// Writes one minus each channel of `of` to `to`.
+#[inline(always)]
+fn complement<C: Channel>(to: &mut [C], of: &[C])
+    requires { length of.now ≡ length to.old }
+    ensures { map C.number to.new ≡ map (λ x. C.max - x) (map C.number of.now) }
+{
+    for i in 0..to.len() {
+        to[i] = C::MAX - of[i];
+    }
+}
+
+/// Composites at most sixteen channels: the source's products go into an array.
+#[inline(always)]
+fn composite_block<A: Factor, B: Factor, C: Channel>(dst: &mut [C], da1: &[C], src: &[C], sa1: &[C])
+    requires few { length dst.old ≤ 16 }
+    requires da1_same { length da1.now ≡ length dst.old }
+    requires src_same { length src.now ≡ length dst.old }
+    requires sa1_same { length sa1.now ≡ length dst.old }
+    ensures { map C.number dst.new ≡ over (run_terms C.max A.coefficient B.coefficient)
+        (triples (map C.number da1.now) (map C.number src.now) (map C.number sa1.now))
+        (map C.number dst.old) }
+{
+    let count = dst.len();
+    let mut array = [C::MIN; 16];
+    let whole = &mut array[..];
+    let terms = &mut whole[..count];
+    terms.copy_from_slice(src);
+    A::scale(terms, da1);
+    B::scale(dst, sa1);
+    C::add_run(dst, terms);
+}
+
+/// Composites the channels of the same index of all four by the coefficients of source and destination; the shortest length decides,
+/// and the rest of `dst` stays.
+#[inline(always)]
+pub(super) fn composite<A: Factor, B: Factor, C: Channel>(
+    dst: &mut [C],
+    da1: &[C],
+    src: &[C],
+    sa1: &[C],
+)
+    ensures { map C.number dst.new ≡ over (run_terms C.max A.coefficient B.coefficient)
+        (triples (map C.number da1.now) (map C.number src.now) (map C.number sa1.now))
+        (map C.number dst.old) }
+{
+    let count = dst.len().min(da1.len()).min(src.len()).min(sa1.len());
+    for k in 0..count.div_ceil(16) {
+        let start = 16 * k;
+        let end = if count - start < 16 {
+            count
+        } else {
+            start + 16
+        };
+        composite_block::<A, B, C>(
+            &mut dst[start..end],
+            &da1[start..end],
+            &src[start..end],
+            &sa1[start..end],
+        );
+    }
+}
