@@ -1,2 +1,4 @@
+pub mod Models
 pub mod Written
 pub mod Composited
+pub mod Conversions

@@ -1,5 +1,9 @@
 pub use Rattle.pix_chan.specs.Number
 pub use Rattle.pix_chan.specs.Product
+pub use Rattle.pix_chan.specs.Nearest
+pub use Rattle.pix_chan.specs.Depth
+pub use Rattle.pix_chan.specs.Modes
+pub use Rattle.pix_chan.specs.Laws
 pub use Rattle.pix_chan.specs.Channel
 pub use Rattle.pix_chan.specs.Operators
 pub use Rattle.pix_chan.specs.Composite
@@ -7,7 +11,10 @@ pub use Rattle.pix_chan.specs.ExactComposite
 pub use Rattle.pix_chan.specs.Hue
 pub mod Model
 pub mod Pixel
+pub mod Color
+pub mod Conversion
 pub mod PixelComposite
 pub mod Premultiplied
+pub mod Transparent
 pub mod ExactPixel
 pub mod PixelLaws

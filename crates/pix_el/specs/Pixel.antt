@@ -1,27 +1,26 @@
 -- Pixels as the lists of their channels' numbers.
 use Rattle.std.specs.Prelude.{ℕ, List, slice_index_or, Bool, ◌&&◌, nat_le, nat_lt}
 use Rattle.std.specs.declared.ops.Range.{Range}
-use Rattle.pix_chan.specs.Number.{top}
 
--- how the channels of a pixel stand: the root of their width, how many they are, the places of hues, and the place of the alpha
+-- the layout of a pixel: the maximum of its channels, how many they are, the channel numbers of hues, and that of the alpha
 pub record Layout : Type 0 where
-  pub root : ℕ
+  pub max : ℕ
   pub count : ℕ
   pub hues : Range ℕ
   pub alpha : ℕ
 
--- whether a place lies in a range
+-- whether a number lies in a half-open range
 abbrev pub lies_in : Range ℕ → ℕ → Bool
-lies_in range place = nat_le range.start place && nat_lt place range.end
+lies_in range ch = nat_le range.start ch && nat_lt ch range.end
 
--- whether the channel at a place is a hue
+-- whether the channel of a number is a hue
 abbrev pub is_hue : Layout → ℕ → Bool
-is_hue layout place = lies_in layout.hues place
+is_hue layout ch = lies_in layout.hues ch
 
--- the channel at a place, and the top where there is none
+-- the channel of a number, and the maximum where there is none
 abbrev pub channel : ℕ → List ℕ → ℕ → ℕ
-channel root numbers place = slice_index_or numbers place (top root)
+channel max numbers ch = slice_index_or numbers ch max
 
 -- the alpha of a pixel
 abbrev pub alpha_of : Layout → List ℕ → ℕ
-alpha_of layout numbers = channel layout.root numbers layout.alpha
+alpha_of layout numbers = channel layout.max numbers layout.alpha

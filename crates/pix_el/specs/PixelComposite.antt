@@ -8,33 +8,33 @@ use Rattle.pix_chan.specs.Hue.{hue_composite}
 use Rattle.pix_el.specs.declared.el.Pix.{Pix}
 use Rattle.pix_el.specs.Pixel.{Layout, is_hue, channel, alpha_of}
 
--- the channel of the source, of alpha sa, at a place composited with the destination's, of alpha da: a hue along the shorter arc
-abbrev pub place_composite : Layout → Op → ℕ → ℕ → List ℕ → List ℕ → ℕ → ℕ
-place_composite layout op sa da source dest place =
-    if is_hue layout place
-    then hue_composite layout.root op (channel layout.root source place) sa (channel layout.root dest place) da
-    else channel_composite layout.root op (channel layout.root source place) sa (channel layout.root dest place) da
+-- the source's channel of a number, of alpha sa, composited with the destination's, of alpha da: a hue along the shorter arc
+abbrev pub composite_at : Layout → Op → ℕ → ℕ → List ℕ → List ℕ → ℕ → ℕ
+composite_at layout op sa da source dest ch =
+    if is_hue layout ch
+    then hue_composite layout.max op (channel layout.max source ch) sa (channel layout.max dest ch) da
+    else channel_composite layout.max op (channel layout.max source ch) sa (channel layout.max dest ch) da
 
--- each channel of the source, of alpha sa, composited with the destination's at the same place, of alpha da
+-- each channel of the source, of alpha sa, composited with the destination's of the same number, of alpha da
 abbrev pub channels_composite : Layout → Op → ℕ → ℕ → List ℕ → List ℕ → List ℕ
-channels_composite layout op sa da source dest = map (place_composite layout op sa da source dest) (range_with_len 0 layout.count)
+channels_composite layout op sa da source dest = map (composite_at layout op sa da source dest) (range_with_len 0 layout.count)
 
 -- the pixel `source` composited with `dest`, by their alphas from before
 abbrev pub pixel_composite : Layout → Op → List ℕ → List ℕ → List ℕ
 pixel_composite layout op source dest = channels_composite layout op (alpha_of layout source) (alpha_of layout dest) source dest
 
--- the channel of the source at a place, as the matte leaves it: times the matte, but a hue as it is
-abbrev pub place_matted : Layout → ℕ → List ℕ → ℕ → ℕ
-place_matted layout matte source place =
-    if is_hue layout place then channel layout.root source place else channel_product layout.root (channel layout.root source place) matte
+-- the source's channel of a number, multiplied by the matte, but a hue as it is
+abbrev pub matted_at : Layout → ℕ → List ℕ → ℕ → ℕ
+matted_at layout matte source ch =
+    if is_hue layout ch then channel layout.max source ch else channel_product layout.max (channel layout.max source ch) matte
 
--- the color `source` through a matte
-abbrev pub matted : Layout → ℕ → List ℕ → List ℕ
-matted layout matte source = map (place_matted layout matte source) (range_with_len 0 layout.count)
+-- the matted color: the color `source` multiplied by a matte
+abbrev pub matted_color : Layout → ℕ → List ℕ → List ℕ
+matted_color layout matte source = map (matted_at layout matte source) (range_with_len 0 layout.count)
 
 -- the pixel `source` composited through a matte with `dest`: the matted color composited
 abbrev pub matted_composite : Layout → Op → ℕ → List ℕ → List ℕ → List ℕ
-matted_composite layout op matte source dest = pixel_composite layout op (matted layout matte source) dest
+matted_composite layout op matte source dest = pixel_composite layout op (matted_color layout matte source) dest
 
 -- the numbers of the channels of a matte
 abbrev pub matte_numbers : {N : ℕ} {C M A G : Type 0} → (C → ℕ) → Pix N C M A G → List ℕ
@@ -42,9 +42,9 @@ matte_numbers number matte = map number matte.channels
 
 -- the value of a matte: its one channel
 abbrev pub matte_value : Layout → List ℕ → ℕ
-matte_value layout matte = channel layout.root matte 0
+matte_value layout matte = channel layout.max matte 0
 
--- f of the two elements at each place that both lists have, and the rest of the second list as it is
+-- f of the two elements at each index below both lengths, and the rest of the second list as it is
 abbrev pub over : {X Y : Type 0} → (X → Y → Y) → List X → List Y → List Y
 over f source [] = []
 over f [] (d ∷ dest) = d ∷ dest

@@ -1,6 +1,8 @@
--- That pixels keep the laws of `Pixel`: proofs, which the check takes for an impl from here alone.
-use Rattle.std.specs.Prelude.{◌≡◌, ℕ, zero, suc, List, ◌∷◌, map, replicate, refl}
-use Rattle.std.proofs.Common.{ap, ◌∙◌}
+-- Proofs of the laws of `Pixel`, which an impl takes from `specs/` alone. No public clause cites this file.
+use Rattle.std.specs.Prelude.{◌≡◌, ℕ, zero, suc, Bool, true, ◌&&◌, nat_eq, List, [], ◌∷◌, map, replicate, refl}
+use Rattle.std.specs.Cmp.Lexicographic.{pointwise}
+use Rattle.std.proofs.Math.Bool.{and-true}
+use Rattle.std.proofs.Common.{ap, ◌∙◌, arith, length}
 
 pub map_replicate : {X Y : Type 0} (f : X → Y) (x : X) (y : Y) (n : ℕ) → f x ≡ y → map f (replicate n x) ≡ replicate n y
 map_replicate f x y zero e = refl
@@ -10,3 +12,32 @@ map_replicate {Y = Y} f x y (suc n) e = ap (λ (z : Y). z ∷ map f (replicate n
 pub numbers_of_replicate : {C : Type 0} (number : C → ℕ) (none : C) (n : ℕ) (channels : List C) → channels ≡ replicate n none → number none ≡ 0
     → map number channels ≡ replicate n 0
 numbers_of_replicate number none n channels is zero_is = ap (map number) is ∙ map_replicate number none 0 n zero_is
+
+-- lists of channels are equal where their numbers are
+equal_lists : {C : Type 0} (eq : C → C → Bool) (number : C → ℕ) → ((x y : C) → eq x y ≡ nat_eq (number x) (number y))
+    → (a b : List C) → pointwise eq a b ≡ pointwise nat_eq (map number a) (map number b)
+equal_lists eq number same [] [] = refl
+equal_lists eq number same [] (y ∷ b) = refl
+equal_lists eq number same (x ∷ a) [] = refl
+equal_lists eq number same (x ∷ a) (y ∷ b) = rw (same x y, equal_lists eq number same a b) refl
+
+-- pixels are equal where their numbers are: the markers of a format, which `==` compares too, always are
+pub equal_numbers : {C : Type 0} (eq : C → C → Bool) (number : C → ℕ) → ((x y : C) → eq x y ≡ nat_eq (number x) (number y))
+    → (a b : List C) → (pointwise eq a b && true) ≡ pointwise nat_eq (map number a) (map number b)
+equal_numbers eq number same a b = and-true (pointwise eq a b) ∙ equal_lists eq number same a b
+
+abbrev head_or_zero : List ℕ → ℕ
+head_or_zero [] = 0
+head_or_zero (n ∷ ns) = n
+
+abbrev tail_of : List ℕ → List ℕ
+tail_of [] = []
+tail_of (n ∷ ns) = ns
+
+-- lists of channels of equal numbers are equal
+pub equal_by_numbers : {C : Type 0} (number : C → ℕ) → ((x y : C) → number x ≡ number y → x ≡ y) → (a b : List C) → map number a ≡ map number b → a ≡ b
+equal_by_numbers number injective [] [] e = refl
+equal_by_numbers number injective [] (y ∷ b) e = absurd (let z : 0 ≡ suc (length (map number b)) = ap length e in omega arith)
+equal_by_numbers number injective (x ∷ a) [] e = absurd (let z : suc (length (map number a)) ≡ 0 = ap length e in omega arith)
+equal_by_numbers {C = C} number injective (x ∷ a) (y ∷ b) e =
+    ap (λ (c : C). c ∷ a) (injective x y (ap head_or_zero e)) ∙ ap (λ (cs : List C). y ∷ cs) (equal_by_numbers number injective a b (ap tail_of e))

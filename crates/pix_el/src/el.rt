@@ -1,89 +1,77 @@
-//! Pixels of any format: a number of channels, their type, a color model, an alpha mode and a gamma mode.
-ghost use Rattle.std.specs.Prelude.{◌≡◌, ◌≢◌, ℕ, ◌+◌, ◌-◌, ◌<◌, List, [], ◌∷◌, length, replicate, map, ⊤, refl, true, if◌then◌else◌};
+//! Pixels of any format: channels of a color model, with an alpha mode and a gamma mode.
+ghost use Rattle.std.specs.Prelude.{◌≡◌, ◌≢◌, ℕ, ◌+◌, ◌-◌, ◌<◌, ◌≤◌, List, [], ◌∷◌, length, replicate, map, take, slice_get, slice_set, Some, ⊤, refl, nat_eq};
+ghost use Rattle.std.specs.Cmp.Lexicographic.{pointwise};
+ghost use Rattle.std.proofs.Common.{ap};
 ghost use Rattle.std.specs.Borrow.{Lends, sem, Array};
-ghost use Rattle.pix_chan.specs.Number.{top};
 ghost use Rattle.pix_chan.specs.declared.ops.Op.{Op};
-ghost use Rattle.pix_chan.specs.Product.{channel_product};
-ghost use Rattle.pix_chan.specs.Composite.{channel_composite};
-ghost use Rattle.pix_chan.specs.Hue.{hue_composite, hue_weight, IsHueMove};
-ghost use Rattle.pix_el.specs.Pixel.{Layout, lies_in, channel};
-ghost use Rattle.pix_el.specs.PixelComposite.{channels_composite, pixel_composite, matted, matted_composite, matte_numbers, matte_value, over};
+ghost use Rattle.pix_el.specs.Pixel.{Layout, channel};
+ghost use Rattle.pix_el.specs.PixelComposite.{pixel_composite, matted_color, matted_composite, matte_numbers, matte_value, over};
 ghost use Rattle.pix_el.specs.ExactPixel.{IsNearExact, IsNearExactMatted, HuesMove};
 ghost use Rattle.pix_el.specs.Premultiplied.{IsPremultiplied, IsUncut};
-ghost use Rattle.pix_el.specs.PixelLaws.{numbers_of_replicate};
+ghost use Rattle.pix_el.specs.Conversion.{Format, of_depth, converted};
+ghost use Rattle.pix_el.specs.Transparent.{IsTransparent, IsUnchanged};
+ghost use Rattle.pix_el.specs.PixelLaws.{numbers_of_replicate, equal_numbers, equal_by_numbers};
+ghost use Rattle.pix_el.specs.contracts.el.Pix.{the_row};
 
-use crate::hue::composite_hue;
+use crate::conversion::{at_depth, channel_at_depth, converted_within, recoded_color};
+use crate::each::{composite_each, scale_each};
 use crate::matte::Matte;
-use crate::model::{ColorModel, is_hue};
+use crate::model::ColorModel;
 use crate::private::Sealed;
+use crate::rgb::Rgb;
 use pix_chan::chan::{Alpha, Channel, Gamma, Linear, Premultiplied};
 use pix_chan::ops::Blend;
 use std::alloc::AllocError;
 use std::fmt::Debug;
 use std::marker::PhantomData;
 
+mod new;
+
+/// The format of red, green, blue and alpha with the channels, the alpha mode and the gamma mode of `P`.
+pub type PixRgba<P> = Pix<4, <P as Pixel>::Chan, Rgb, <P as Pixel>::Alpha, <P as Pixel>::Gamma>;
+
 /// A pixel of `N` channels of type `C`, in the color model `M`, the alpha mode `A` and the gamma mode `G`.
 #[derive(Copy, Debug, PartialEq, Eq)]
 pub struct Pix<const N: usize, C, M, A, G> {
-    channels: [C; N],
+    pub(crate) channels: [C; N],
     _model: PhantomData<M>,
     _alpha: PhantomData<A>,
     _gamma: PhantomData<G>,
 }
 
 impl<const N: usize, C, M, A, G> Pix<N, C, M, A, G> {
-    /// The pixel of these channels.
-    pub const fn with_channels(channels: [C; N]) -> Self
-        ensures { result.channels ≡ channels }
+    /// Lends the channels.
+    fn items_mut(&mut self) -> &mut [C]
+        ensures* lends { sem 𝓛 (Lends (the_row N.row C.row M.row A.row G.row)
+            (Array C.row 0) self.entry result
+            (λ w. record self.old { channels = w })) }
+        ensures channels { result.now ≡ self.old.channels }
+        ensures count { length result.now ≡ N }
     {
-        Pix {
-            channels,
-            _model: PhantomData,
-            _alpha: PhantomData,
-            _gamma: PhantomData,
-        }
+        &mut self.channels
+    }
+
+    /// Lends the channel of number `ch`. Condition: there is one.
+    fn item_at_mut(&mut self, ch: usize) -> &mut C
+        requires { ch < N }
+        ensures* lends { sem 𝓛 (Lends
+            (the_row N.row C.row M.row A.row G.row) C.row self.entry result
+            (λ c. record self.old { channels = slice_set self.old.channels ch c })) }
+        ensures now { slice_get self.old.channels ch ≡ Some result.now }
+    {
+        let items = self.items_mut();
+        item_mut(items, ch)
     }
 }
 
-impl<C, M, A, G> Pix<1, C, M, A, G> {
-    /// The pixel of one channel.
-    pub fn new<H>(one: H) -> Self
-    where
-        C: From<H>,
-        ensures { (w : C) × C.from_gives one w × (result.channels ≡ w ∷ []) }
-    {
-        let one = C::from(one);
-        Self::with_channels([one])
-    }
-}
-
-impl<C, M, A, G> Pix<2, C, M, A, G> {
-    /// The pixel of two channels.
-    pub fn new<H>(one: H, two: H) -> Self
-    where
-        C: From<H>,
-        ensures { (w x : C) × C.from_gives one w × C.from_gives two x × (result.channels ≡ w ∷ x ∷ []) }
-    {
-        let one = C::from(one);
-        let two = C::from(two);
-        Self::with_channels([one, two])
-    }
-}
-
-impl<C, M, A, G> Pix<4, C, M, A, G> {
-    /// The pixel of four channels.
-    pub fn new<H>(one: H, two: H, three: H, four: H) -> Self
-    where
-        C: From<H>,
-        ensures { (w x y z : C) × C.from_gives one w × C.from_gives two x × C.from_gives three y × C.from_gives four z
-            × (result.channels ≡ w ∷ x ∷ y ∷ z ∷ []) }
-    {
-        let one = C::from(one);
-        let two = C::from(two);
-        let three = C::from(three);
-        let four = C::from(four);
-        Self::with_channels([one, two, three, four])
-    }
+/// Lends one item of a slice. Condition: there is one at that index.
+fn item_mut<C>(items: &mut [C], index: usize) -> &mut C
+    requires { index < length items.old }
+    ensures* lends { sem 𝓛 (Lends (Array C.row 0) C.row items.entry result
+        (slice_set items.old index)) }
+    ensures now { slice_get items.old index ≡ Some result.now }
+{
+    &mut items[index]
 }
 
 impl<const N: usize, C: Copy, M: Copy, A: Copy, G: Copy> Clone for Pix<N, C, M, A, G> {
@@ -112,71 +100,7 @@ where
     G: Gamma<C>,
 {}
 
-/// Composites the channel `src`, of alpha `sa`, with `dst` at that place, a hue along the shorter arc: `da1` and `sa1` are one minus
-/// the alphas of destination and source.
-fn composite_place<C: Channel, M: ColorModel, O: Blend>(
-    place: usize,
-    dst: &mut C,
-    da1: C,
-    src: &C,
-    sa: C,
-)
-    ensures composite { C.number dst.new ≡
-        (if lies_in M.CIRCULAR place
-        then hue_composite C.root O.op (C.number src.now) (C.number sa) (C.number dst.old) (top C.root - C.number da1)
-        else channel_composite C.root O.op (C.number src.now) (C.number sa) (C.number dst.old) (top C.root - C.number da1)) }
-    ensures moves { lies_in M.CIRCULAR place ≡ true
-        → IsHueMove C.root (hue_weight C.root O.op (C.number sa) (top C.root - C.number da1))
-        (C.number dst.old) (C.number src.now) (C.number dst.new) }
-{
-    let sa1 = C::MAX - sa;
-    if is_hue::<M>(place) {
-        composite_hue::<C, O>(dst, da1, src, sa, sa1);
-    } else {
-        O::composite(dst, da1, src, sa1);
-    }
-}
-
-/// Composites each channel of `src`, of alpha `sa`, with that of `dst` at the same place: `da1` is one minus the alpha of `dst`.
-fn composite_each<C: Channel, M: ColorModel, O: Blend>(dst: &mut [C], src: &[C], da1: C, sa: C)
-    requires { length dst.old ≡ length src.now }
-    ensures composite { map C.number dst.new ≡ channels_composite
-        (record { root = C.root; count = length dst.old; hues = M.CIRCULAR; alpha = M.ALPHA }) O.op
-        (C.number sa) (top C.root - C.number da1) (map C.number src.now) (map C.number dst.old) }
-    ensures moves { (place : ℕ) → place < length dst.old → lies_in M.CIRCULAR place ≡ true
-        → IsHueMove C.root (hue_weight C.root O.op (C.number sa) (top C.root - C.number da1))
-        (channel C.root (map C.number dst.old) place) (channel C.root (map C.number src.now) place)
-        (channel C.root (map C.number dst.new) place) }
-{
-    for i in 0..dst.len() {
-        composite_place::<C, M, O>(i, &mut dst[i], da1, &src[i], sa);
-    }
-}
-
-/// The channel at that place as the matte leaves it.
-fn scaled<C: Channel, M: ColorModel>(place: usize, channel: C, matte: C) -> C
-    ensures { C.number result ≡
-        (if lies_in M.CIRCULAR place then C.number channel else channel_product C.root (C.number channel) (C.number matte)) }
-{
-    if is_hue::<M>(place) {
-        channel
-    } else {
-        channel * matte
-    }
-}
-
-/// Multiplies each channel but a hue by the matte.
-fn scale_each<C: Channel, M: ColorModel>(channels: &mut [C], matte: C)
-    ensures { map C.number channels.new ≡ matted
-        (record { root = C.root; count = length channels.old; hues = M.CIRCULAR; alpha = M.ALPHA })
-        (C.number matte) (map C.number channels.old) }
-{
-    for i in 0..channels.len() {
-        channels[i] = scaled::<C, M>(i, channels[i], matte);
-    }
-}
-
-/// A pixel: its channels in the order of its color model. Only this library's types are pixels.
+/// A pixel: its channels in the order of its color model. This trait is sealed: the pixels are [`Pix`].
 pub trait Pixel: Sealed + Clone + Copy + Debug + Default + PartialEq {
     /// The type of its channels.
     type Chan: Channel;
@@ -190,7 +114,7 @@ pub trait Pixel: Sealed + Clone + Copy + Debug + Default + PartialEq {
     /// Its gamma mode.
     type Gamma: Gamma<Self::Chan>;
 
-    /// How the channels stand.
+    /// The layout of the channels.
     ghost layout: { Layout };
 
     /// The channels in order.
@@ -199,35 +123,115 @@ pub trait Pixel: Sealed + Clone + Copy + Debug + Default + PartialEq {
     /// The numbers of the channels in order.
     ghost numbers: { Self → List ℕ };
 
+    /// The format but for its gamma mode.
+    ghost format: { Format };
+
     /// The pixel with other channels.
     ghost with_channel_list: { Self → List Self.Chan → Self };
 
-    /// The channels in order.
+    /// Returns the channels in order.
     fn channels(&self) -> &[Self::Chan]
         ensures channels { result.now ≡ channel_list self.now }
         ensures count { length result.now ≡ layout.count };
 
-    /// The channels in order, to be changed.
+    /// Returns the channels in order, to be written.
     fn channels_mut(&mut self) -> &mut [Self::Chan]
-        ensures* lends { sem 𝓛 (Lends Self.row (Array Self.Chan.row 0) self.entry result (with_channel_list self.old)) }
+        ensures* lends { sem 𝓛 (Lends Self.row (Array Self.Chan.row 0) self.entry result
+            (with_channel_list self.old)) }
         ensures channels { result.now ≡ channel_list self.old }
         ensures count { length result.now ≡ layout.count };
 
-    /// The channel at the place `ch`, and the greatest where there is none.
+    /// Returns the channel `ch`, `MAX` where it is absent.
     fn get(&self, ch: usize) -> Self::Chan
-        ensures { Self.Chan.number result ≡ channel Self.Chan.root (numbers self.now) ch }
+        ensures { Self.Chan.number result ≡ channel Self.Chan.max (numbers self.now) ch }
     {
         *self.channels().get(ch).unwrap_or(&Self::Chan::MAX)
     }
 
-    /// The alpha, and the greatest where there is none.
+    /// Lends the channel of number `ch`. Condition: there is one.
+    fn get_mut(&mut self, ch: usize) -> &mut Self::Chan
+        requires { ch < layout.count }
+        ensures* lends { sem 𝓛 (Lends Self.row Self.Chan.row self.entry result
+            (λ c. with_channel_list self.old (slice_set (channel_list self.old) ch c))) }
+        ensures now { slice_get (channel_list self.old) ch ≡ Some result.now };
+
+    /// Returns the alpha, `MAX` where it is absent.
     fn alpha(&self) -> Self::Chan
-        ensures { Self.Chan.number result ≡ channel Self.Chan.root (numbers self.now) Self.Model.ALPHA }
+        ensures { Self.Chan.number result ≡ channel Self.Chan.max
+            (numbers self.now) Self.Model.ALPHA }
     {
         self.get(Self::Model::ALPHA)
     }
 
-    /// Composites `src` with this pixel. Condition: the format has an alpha channel.
+    /// Lends the alpha. Condition: there is one.
+    final fn alpha_mut(&mut self) -> &mut Self::Chan
+        requires { Self.Model.ALPHA < layout.count }
+        ensures* lends { sem 𝓛 (Lends Self.row Self.Chan.row self.entry result
+            (λ c. with_channel_list self.old
+            (slice_set (channel_list self.old) Self.Model.ALPHA c))) }
+        ensures now { slice_get (channel_list self.old) Self.Model.ALPHA ≡ Some result.now }
+    {
+        self.get_mut(<Self::Model as ColorModel>::ALPHA)
+    }
+
+    /// Makes the pixel of the first of these channels. Condition: there are as many as the format has.
+    fn from_channels(channels: &[Self::Chan]) -> Self
+        requires { layout.count ≤ length channels.now }
+        ensures { numbers result ≡ take layout.count (map Self.Chan.number channels.now) };
+
+    /// Makes the pixel of the first of these four channels. Condition: the format has at most four.
+    #[doc(hidden)]
+    fn from_four(one: Self::Chan, two: Self::Chan, three: Self::Chan, four: Self::Chan) -> Self
+        requires { layout.count ≤ 4 }
+        ensures { numbers result ≡ take layout.count
+            (Self.Chan.number one ∷ Self.Chan.number two
+            ∷ Self.Chan.number three ∷ Self.Chan.number four ∷ []) };
+
+    /// Converts a pixel to the depth of this format: channels that it lacks are `MAX`, and those left over are dropped.
+    ///
+    /// Condition: this format has no more channels than its model.
+    final fn from_bit_depth<P>(p: P) -> Self
+    where
+        P: Pixel,
+        Self::Chan: From<P::Chan>,
+        requires few { layout.count ≤ layout.alpha + 1 }
+        ensures { numbers result ≡ of_depth P.layout layout (P.numbers p) }
+    {
+        let one = channel_at_depth::<P, Self::Chan>(&p, 0);
+        let two = channel_at_depth::<P, Self::Chan>(&p, 1);
+        let three = channel_at_depth::<P, Self::Chan>(&p, 2);
+        let four = channel_at_depth::<P, Self::Chan>(&p, 3);
+        Self::from_four(one, two, three, four)
+    }
+
+    /// Converts this pixel to another format: within one color model channel by channel, and else by way of red, green and blue.
+    ///
+    /// Condition: that format has no more channels than its model.
+    final fn convert<D>(self) -> D
+    where
+        D: Pixel,
+        D::Chan: From<Self::Chan>,
+        Self::Gamma: Gamma<D::Chan>,
+        requires few { D.layout.count ≤ D.layout.alpha + 1 }
+        ensures { D.numbers result ≡
+            converted format ⟦<Self::Gamma as Gamma<D::Chan>>⟧.mode D.format D.Gamma.mode
+            (numbers self) }
+    {
+        if <Self::Model as ColorModel>::KIND == <D::Model as ColorModel>::KIND {
+            converted_within::<Self, D>(self)
+        } else {
+            let (red, green, blue, alpha) = <Self::Model as ColorModel>::into_four::<Self>(self);
+            let alpha = at_depth::<Self::Chan, D::Chan>(alpha);
+            let red = recoded_color::<Self, D>(red, alpha);
+            let green = recoded_color::<Self, D>(green, alpha);
+            let blue = recoded_color::<Self, D>(blue, alpha);
+            <D::Model as ColorModel>::from_four::<D>(red, green, blue, alpha)
+        }
+    }
+
+    /// Composites `src` with this pixel.
+    ///
+    /// Condition: the format has an alpha channel.
     final fn composite_channels<O: Blend>(&mut self, src: &Self, _op: O)
     where
         Self: Pixel<Alpha = Premultiplied, Gamma = Linear>,
@@ -235,13 +239,15 @@ pub trait Pixel: Sealed + Clone + Copy + Debug + Default + PartialEq {
         ensures composite { numbers self.new ≡
             pixel_composite layout O.op (numbers src.now) (numbers self.old) }
 
-        // Each channel is at most the operator's product count of units from the exact composite.
-        ensures near { IsNearExact layout O.op (numbers src.now) (numbers self.old) (numbers self.new) }
+        // Each channel but a hue is at most half a unit for each product of the operator from the exact composite.
+        ensures near { IsNearExact layout O.op (numbers src.now) (numbers self.old)
+            (numbers self.new) }
 
-        // A hue goes along the shorter arc towards the source's.
-        ensures hues { HuesMove layout O.op (numbers src.now) (numbers self.old) (numbers self.new) }
+        // A hue moves along the shorter arc towards the source's.
+        ensures hues { HuesMove layout O.op (numbers src.now) (numbers self.old)
+            (numbers self.new) }
 
-        // Where no channel passes its alpha, none does afterwards, and no sum is cut but that of `Plus`.
+        // Premultiplied pixels stay premultiplied, and no sum is cut but that of `Plus`.
         ensures premultiplied { IsPremultiplied layout (numbers src.now)
             → IsPremultiplied layout (numbers self.old)
             → IsPremultiplied layout (numbers self.new) }
@@ -249,42 +255,60 @@ pub trait Pixel: Sealed + Clone + Copy + Debug + Default + PartialEq {
             → IsPremultiplied layout (numbers self.old)
             → O.op ≢ Op.Plus
             → IsUncut layout O.op (numbers src.now) (numbers self.old) }
+
+        // A transparent source changes nothing under `SrcOver`, the hue included.
+        ensures transparent { O.op ≡ Op.SrcOver
+            → IsTransparent layout (numbers src.now)
+            → IsUnchanged layout (numbers self.old) (numbers self.new) }
     {
         let da1 = Self::Chan::MAX - self.alpha();
         let sa = src.alpha();
         composite_each::<Self::Chan, Self::Model, O>(self.channels_mut(), src.channels(), da1, sa);
     }
 
-    /// Composites `src` through a matte with this pixel: each channel but a hue is multiplied by the matte value `alpha` first.
+    /// Composites `src` with this pixel through the matte value `alpha`, by which each channel but a hue is multiplied first.
+    ///
     /// Condition: the format has an alpha channel.
     final fn composite_channels_alpha<O: Blend>(&mut self, src: &Self, op: O, alpha: &Self::Chan)
     where
         Self: Pixel<Alpha = Premultiplied, Gamma = Linear>,
         requires has_alpha { layout.count ≡ layout.alpha + 1 }
         ensures composite { numbers self.new ≡
-            matted_composite layout O.op (Self.Chan.number alpha.now) (numbers src.now) (numbers self.old) }
+            matted_composite layout O.op (Self.Chan.number alpha.now)
+            (numbers src.now) (numbers self.old) }
 
-        // Each channel is at most the operator's matted product count of units from the exact composite.
-        ensures near { IsNearExactMatted layout O.op (Self.Chan.number alpha.now) (numbers src.now) (numbers self.old) (numbers self.new) }
+        // Each channel but a hue is at most half a unit for each matted product of the operator from the exact composite.
+        ensures near { IsNearExactMatted layout O.op (Self.Chan.number alpha.now)
+            (numbers src.now) (numbers self.old) (numbers self.new) }
 
-        // A hue goes along the shorter arc towards the matted color's, which is the source's.
-        ensures hues { HuesMove layout O.op (matted layout (Self.Chan.number alpha.now) (numbers src.now)) (numbers self.old) (numbers self.new) }
+        // A hue moves along the shorter arc towards the source's.
+        ensures hues { HuesMove layout O.op (matted_color layout (Self.Chan.number alpha.now)
+            (numbers src.now)) (numbers self.old) (numbers self.new) }
 
-        // Where no channel passes its alpha, none does afterwards, and no sum is cut but that of `Plus`.
+        // Premultiplied pixels stay premultiplied, and no sum is cut but that of `Plus`.
         ensures premultiplied { IsPremultiplied layout (numbers src.now)
             → IsPremultiplied layout (numbers self.old)
             → IsPremultiplied layout (numbers self.new) }
         ensures uncut { IsPremultiplied layout (numbers src.now)
             → IsPremultiplied layout (numbers self.old)
             → O.op ≢ Op.Plus
-            → IsUncut layout O.op (matted layout (Self.Chan.number alpha.now) (numbers src.now)) (numbers self.old) }
+            → IsUncut layout O.op (matted_color layout (Self.Chan.number alpha.now)
+            (numbers src.now))
+            (numbers self.old) }
+
+        // A transparent source changes nothing under `SrcOver`, the hue included.
+        ensures transparent { O.op ≡ Op.SrcOver
+            → IsTransparent layout (numbers src.now)
+            → IsUnchanged layout (numbers self.old) (numbers self.new) }
     {
         let mut color = *src;
         scale_each::<Self::Chan, Self::Model>(color.channels_mut(), *alpha);
         self.composite_channels(&color, op);
     }
 
-    /// Composites one color with each pixel of a slice. Condition: the format has an alpha channel.
+    /// Composites `clr` with each pixel of `dst`.
+    ///
+    /// Condition: the format has an alpha channel.
     final fn composite_color<O: Blend>(dst: &mut [Self], clr: &Self, op: O)
     where
         Self: Pixel<Alpha = Premultiplied, Gamma = Linear>,
@@ -297,7 +321,8 @@ pub trait Pixel: Sealed + Clone + Copy + Debug + Default + PartialEq {
         }
     }
 
-    /// Composites each pixel of `src` with the pixel of `dst` at the same place, as far as both go.
+    /// Composites each pixel of `src` with the pixel of `dst` of the same index; the shorter length decides, and the rest stays.
+    ///
     /// Condition: the format has an alpha channel.
     final fn composite_slice<O: Blend>(dst: &mut [Self], src: &[Self], op: O)
     where
@@ -311,7 +336,9 @@ pub trait Pixel: Sealed + Clone + Copy + Debug + Default + PartialEq {
         }
     }
 
-    /// Composites one color with each pixel of `dst`, through the matte of `src` at the same place, as far as both go.
+    /// Composites `clr` with each pixel of `dst` through the matte of `src` of the same index; the shorter length decides, and the
+    /// rest stays.
+    ///
     /// Condition: the format has an alpha channel.
     final fn composite_matte<const N: usize, A: Alpha, O: Blend>(
         dst: &mut [Self],
@@ -322,7 +349,8 @@ pub trait Pixel: Sealed + Clone + Copy + Debug + Default + PartialEq {
     where
         Self: Pixel<Alpha = Premultiplied, Gamma = Linear>,
         requires has_alpha { layout.count ≡ layout.alpha + 1 }
-        ensures { map numbers dst.new ≡ over (λ matte. matted_composite layout O.op (matte_value layout matte) (numbers clr.now))
+        ensures { map numbers dst.new ≡ over (λ matte. matted_composite layout O.op
+            (matte_value layout matte) (numbers clr.now))
             (map (matte_numbers Self.Chan.number) src.now) (map numbers dst.old) }
     {
         for i in 0..src.len().min(dst.len()) {
@@ -330,7 +358,7 @@ pub trait Pixel: Sealed + Clone + Copy + Debug + Default + PartialEq {
         }
     }
 
-    /// Copies one color to each pixel of a slice.
+    /// Copies `clr` to each pixel of `dst`.
     fn copy_color(dst: &mut [Self], clr: &Self)
         ensures { dst.new ≡ replicate (length dst.old) clr.now }
     {
@@ -339,7 +367,7 @@ pub trait Pixel: Sealed + Clone + Copy + Debug + Default + PartialEq {
         }
     }
 
-    /// Copies each pixel of `src` to the place of `dst` of the same number, as far as both go.
+    /// Copies each pixel of `src` to the same index of `dst`; the shorter length decides, and the rest stays.
     fn copy_slice(dst: &mut [Self], src: &[Self])
         ensures { dst.new ≡ over (λ s d. s) src.now dst.old }
     {
@@ -347,13 +375,41 @@ pub trait Pixel: Sealed + Clone + Copy + Debug + Default + PartialEq {
         dst[..count].copy_from_slice(&src[..count]);
     }
 
-    ghost laid_out: { layout ≡ record { root = Self.Chan.root; count = layout.count; hues = Self.Model.CIRCULAR; alpha = Self.Model.ALPHA } };
+    /// The layout is that of the channel type and the color model.
+    ghost laid_out: { layout ≡
+        record { max = Self.Chan.max; count = layout.count; hues = Self.Model.CIRCULAR; alpha = Self.Model.ALPHA } };
 
+    /// The format is that of the layout, the color model and the alpha mode.
+    ghost formatted: { format ≡ record {
+      layout = record { max = Self.Chan.max; count = layout.count; hues = Self.Model.CIRCULAR; alpha = Self.Model.ALPHA };
+      kind = Self.Model.KIND;
+      colors = Self.Model.LINEAR;
+      to_rgb = Self.Model.to_rgb;
+      of_rgb = Self.Model.of_rgb;
+      alpha_mode = Self.Alpha.mode;
+    } };
+
+    /// The numbers are those of the channels.
     ghost numbered: { (p : Self) → numbers p ≡ map Self.Chan.number (channel_list p) };
 
+    /// A pixel with other channels has those.
     ghost with_list: { (p : Self) (w : List Self.Chan) → channel_list (with_channel_list p w) ≡ w };
 
-    ghost default_is_clear: { (p : Self) → Self.is_default p → numbers p ≡ replicate layout.count 0 };
+    /// A clone is the pixel itself.
+    ghost clones: { (p q : Self) → Self.is_clone p q → q ≡ p };
+
+    /// `clone` always succeeds.
+    ghost clones_always: { (p : Self) → Self.is_infallible p };
+
+    /// `==` compares the channels' numbers.
+    ghost equals: { (p q : Self) → Self.eq p q ≡ pointwise nat_eq (numbers p) (numbers q) };
+
+    /// Pixels of equal numbers are equal.
+    ghost injective: { (p q : Self) → numbers p ≡ numbers q → p ≡ q };
+
+    /// All channels of the default pixel are 0.
+    ghost default_is_clear: { (p : Self) → Self.is_default p
+        → numbers p ≡ replicate layout.count 0 };
 }
 
 impl<const N: usize, C, M, A, G> Pixel for Pix<N, C, M, A, G>
@@ -371,11 +427,20 @@ where
 
     type Gamma = G;
 
-    ghost layout = { record { root = C.root; count = N; hues = M.CIRCULAR; alpha = M.ALPHA } };
+    ghost layout = { record { max = C.max; count = N; hues = M.CIRCULAR; alpha = M.ALPHA } };
 
     ghost channel_list = { λ p. p.channels };
 
     ghost numbers = { λ p. map C.number p.channels };
+
+    ghost format = { record {
+      layout = record { max = C.max; count = N; hues = M.CIRCULAR; alpha = M.ALPHA };
+      kind = M.KIND;
+      colors = M.LINEAR;
+      to_rgb = M.to_rgb;
+      of_rgb = M.of_rgb;
+      alpha_mode = A.mode;
+    } };
 
     ghost with_channel_list = { λ p w. record p { channels = w } };
 
@@ -384,14 +449,52 @@ where
     }
 
     fn channels_mut(&mut self) -> &mut [C] {
-        &mut self.channels
+        self.items_mut()
+    }
+
+    fn get_mut(&mut self, ch: usize) -> &mut C {
+        self.item_at_mut(ch)
+    }
+
+    fn from_channels(channels: &[C]) -> Self {
+        let mut own = [C::MIN; N];
+        own.copy_from_slice(&channels[..N]);
+        Self::with_channels(own)
+    }
+
+    fn from_four(one: C, two: C, three: C, four: C) -> Self {
+        let mut own = [one; N];
+        if N <= 1 {
+            return Self::with_channels(own);
+        }
+        own[1] = two;
+        if N == 2 {
+            return Self::with_channels(own);
+        }
+        own[2] = three;
+        if N == 3 {
+            return Self::with_channels(own);
+        }
+        own[3] = four;
+        Self::with_channels(own)
     }
 
     ghost laid_out = { refl };
 
+    ghost formatted = { refl };
+
     ghost numbered = { λ p. refl };
 
     ghost with_list = { λ p w. refl };
+
+    ghost clones = { λ p q h. h };
+
+    ghost clones_always = { λ p. tt };
+
+    ghost equals = { λ p q. equal_numbers C.eq C.number C.equals p.channels q.channels };
+
+    ghost injective = { λ p q e. ap (λ w. record p { channels = w })
+        (equal_by_numbers C.number C.numbered.injective p.channels q.channels e) };
 
     ghost default_is_clear = { λ p h. numbers_of_replicate C.number C.MIN N p.channels h C.min_is_zero };
 }

@@ -1,13 +1,12 @@
 //! Hues: channels on a circle, of which 0 is the next one after the greatest.
 ghost use Rattle.std.specs.Prelude.{◌≡◌, ◌+◌, ◌-◌};
-ghost use Rattle.pix_chan.specs.Number.{top};
 ghost use Rattle.pix_chan.specs.Hue.{hue_composite, IsHueMove, hue_weight};
 
 use pix_chan::chan::Channel;
 use pix_chan::ops::Blend;
 
 /// How many units two channels are apart.
-fn apart<C: Channel>(x: C, y: C) -> C
+pub(crate) fn apart<C: Channel>(x: C, y: C) -> C
     ensures { C.number result ≡ (C.number x - C.number y) + (C.number y - C.number x) }
 {
     if x < y { y - x } else { x - y }
@@ -15,10 +14,10 @@ fn apart<C: Channel>(x: C, y: C) -> C
 
 /// Composites the hue `src`, of alpha `sa`, with the hue `dst`: `da1` and `sa1` are one minus the alphas of destination and source.
 pub(crate) fn composite_hue<C: Channel, O: Blend>(dst: &mut C, da1: C, src: &C, sa: C, sa1: C)
-    requires { C.number sa1 ≡ top C.root - C.number sa }
-    ensures composite { C.number dst.new ≡ hue_composite C.root O.op
-        (C.number src.now) (C.number sa) (C.number dst.old) (top C.root - C.number da1) }
-    ensures moves { IsHueMove C.root (hue_weight C.root O.op (C.number sa) (top C.root - C.number da1))
+    requires { C.number sa1 ≡ C.max - C.number sa }
+    ensures composite { C.number dst.new ≡ hue_composite C.max O.op
+        (C.number src.now) (C.number sa) (C.number dst.old) (C.max - C.number da1) }
+    ensures moves { IsHueMove C.max (hue_weight C.max O.op (C.number sa) (C.max - C.number da1))
         (C.number dst.old) (C.number src.now) (C.number dst.new) }
 {
     let mut weight = C::MIN;

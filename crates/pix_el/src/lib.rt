@@ -3,12 +3,10 @@
 
 pub use pix_chan::{chan, ops};
 
+mod conversion;
+mod each;
 pub mod el;
-pub mod gray;
-pub mod hsl;
-pub mod hsv;
 mod hue;
-pub mod hwb;
 pub mod matte;
 pub mod model;
 mod private;

@@ -1,11 +1,12 @@
-//! Mattes: how much of a color enters at each place.
+//! Mattes: coverage masks, the fraction of a color that is composited at each pixel.
 ghost use Rattle.std.specs.Prelude.{ℕ, refl};
-ghost use Rattle.std.proofs.Common.{arith};
+ghost use Rattle.pix_el.specs.Model as models;
+ghost use Rattle.pix_el.specs.Color.{rgb_of_matte, matte_of_rgb};
 
-use crate::el::Pix;
+use crate::el::{Pix, Pixel};
 use crate::model::ColorModel;
 use crate::seal::SealedModel;
-use pix_chan::chan::{Ch8, Ch16, Linear, Premultiplied};
+use pix_chan::chan::{Ch8, Ch16, Channel, Linear, Premultiplied};
 use std::ops::Range;
 
 /// The model of a matte: no color, the alpha alone.
@@ -15,23 +16,44 @@ pub struct Matte {}
 impl SealedModel for Matte {}
 
 impl ColorModel for Matte {
-    ghost CIRCULAR = { record { start = 0; end = 0 } };
+    ghost model = { models.Matte };
+
+    ghost CIRCULAR = { (models.row models.Matte).hues };
 
     const CIRCULAR: Range<usize> = 0..0;
 
-    ghost LINEAR = { record { start = 0; end = 0 } };
+    ghost LINEAR = { (models.row models.Matte).colors };
 
     const LINEAR: Range<usize> = 0..0;
 
-    ghost ALPHA = { 0 };
+    ghost ALPHA = { (models.row models.Matte).alpha };
 
     const ALPHA: usize = 0;
 
-    ghost KIND = { 2 };
+    ghost KIND = { (models.row models.Matte).kind };
 
     const KIND: u8 = 2;
 
-    ghost placed = { record { hue_first = refl; hue_whole = Prim.omega arith; linear_next = refl; linear_whole = Prim.omega arith; alpha_last = refl } };
+    ghost to_rgb = { rgb_of_matte };
+
+    ghost of_rgb = { matte_of_rgb };
+
+    fn into_four<P>(p: P) -> (P::Chan, P::Chan, P::Chan, P::Chan)
+    where
+        P: Pixel<Model = Self>,
+    {
+        let max = <P::Chan as Channel>::MAX;
+        (max, max, max, p.get(0))
+    }
+
+    fn from_four<P>(red: P::Chan, green: P::Chan, blue: P::Chan, alpha: P::Chan) -> P
+    where
+        P: Pixel<Model = Self>,
+    {
+        P::from_four(alpha, alpha, alpha, alpha)
+    }
+
+    ghost stands = { refl };
 }
 
 /// A matte value of eight bits.

@@ -1,5 +1,4 @@
 use Rattle.std.proofs.Common.{◌≡◌, ◌-◌, ◌*◌, ◌<◌, ◌≤◌, arith, ap, ◌∙◌}
-use Rattle.pix_chan.specs.Number.{top}
 use Rattle.pix_chan.specs.Product.{fineness}
 use Rattle.pix_chan.specs.Hue.{hue_weight}
 use Rattle.pix_chan.proofs.Hue.{IsMovable, weight_is, weight_fits, at_most, moved_directly, moved_past_zero, hue_moves}
@@ -10,18 +9,18 @@ use Rattle.pix_el.proofs.hue.composite_hue.Goals.{After-MID-half}
 -- the number of the weight
 weight : (g : Over) (c : After-MID-half g) →
     let n = g.C.Channel.number in
-    n c.composite.new.dst ≡ hue_weight g.C.Channel.root g.O.Blend.op (n c.args.sa) (top g.C.Channel.root - n c.args.da1)
+    n c.composite.new.dst ≡ hue_weight g.C.Channel.max g.O.Blend.op (n c.args.sa) (g.C.Channel.max - n c.args.da1)
 weight g c =
     let n = g.C.Channel.number in
     let laws = g.met.C.Channel in
-    weight_is g.O.Blend.op fineness g.C.Channel.root _ _ _ _ _ laws.product_law (laws.numbered.fits c.args.sa) (omega arith)
+    weight_is g.O.Blend.op fineness g.C.Channel.max _ _ _ _ _ laws.product_law (laws.numbered.fits c.args.sa) (omega arith)
     c.requires (ap n c.MIN-weight.ensures ∙ laws.min_is_zero) c.composite.ensures
 
 -- what the move stands on
 movable : (g : Over) (c : After-MID-half g) →
     let n = g.C.Channel.number in
-    IsMovable g.C.Channel.root (n c.MID-half.result) (n c.args.dst.now) (n c.args.src.now)
-    (hue_weight g.C.Channel.root g.O.Blend.op (n c.args.sa) (top g.C.Channel.root - n c.args.da1))
+    IsMovable g.C.Channel.max (n c.MID-half.result) (n c.args.dst.now) (n c.args.src.now)
+    (hue_weight g.C.Channel.max g.O.Blend.op (n c.args.sa) (g.C.Channel.max - n c.args.da1))
 movable g c =
     let n = g.C.Channel.number in
     let laws = g.met.C.Channel in
@@ -32,7 +31,7 @@ movable g c =
       laws = laws.laws;
       starts = fits c.args.dst.now;
       ends = fits c.args.src.now;
-      part = weight_fits g.O.Blend.op fineness g.C.Channel.root _ _ laws.product_law (fits c.args.sa) (omega arith);
+      part = weight_fits g.O.Blend.op fineness g.C.Channel.max _ _ laws.product_law (fits c.args.sa) (omega arith);
     }
 
 pub returns-then-le : goal.returns-then-le

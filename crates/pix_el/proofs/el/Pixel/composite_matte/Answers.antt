@@ -21,11 +21,11 @@ loop-i-preserved g c =
     let src = c.args.src.now in
     let now = c.loop-i.dst in
     let long : length now ≡ length c.args.dst.now = sym (length-map now n) ∙ c.loop-i.invariant.long ∙ length-map c.args.dst.now n in
-    let root : g.Self.Chan.Channel.root ≡ layout.root = sym (ap (λ (l : Layout). l.root) g.met.Self.Pixel.laid_out) in
+    let max : g.Self.Chan.Channel.max ≡ layout.max = sym (ap (λ (l : Layout). l.max) g.met.Self.Pixel.laid_out) in
     let here : numbers c.index-src-i.result ≡ get_or (map numbers src) i [] =
     ap numbers c.index-src-i.is ∙ sym (get_or-map numbers src i c.index-src-i.result [] (omega arith)) in
     let s : number c.alpha.result ≡ matte_value layout (get_or (map numbers src) i []) =
-    c.alpha.ensures ∙ ap (λ r. channel r (numbers c.index-src-i.result) 0) root ∙ ap (matte_value layout) here in
+    c.alpha.ensures ∙ ap (λ r. channel r (numbers c.index-src-i.result) 0) max ∙ ap (matte_value layout) here in
     let d : get_or (map n now) i [] ≡ n (get_or now i c.index-dst-i.result) = get_or-map n now i c.index-dst-i.result [] (omega arith) in
     rw map-set
     (written_more _ _ _ _ i (n c.composite_channels_alpha.new.self) c.loop-i.invariant (omega (arith, length-map c.args.dst.now n))

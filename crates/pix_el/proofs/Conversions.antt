@@ -1,0 +1,79 @@
+-- Pixels made of four channels, and how they are converted.
+use Rattle.std.proofs.Common.{◌≡◌, ℕ, ◌≤◌, ◌+◌, List, [], ◌∷◌, map, take, refl, sym, ap, ◌∙◌, arith}
+use Rattle.std.specs.Prelude.{nat_eq, true, false, ◌≢◌}
+use Rattle.std.specs.List.{range_with_len}
+use Rattle.std.proofs.lemmas.List.FromFn.{take-map-range_with_len}
+use Rattle.pix_chan.specs.Modes.{GammaMode}
+use Rattle.pix_el.specs.Pixel.{Layout}
+use Rattle.pix_el.specs.Color.{rgba_of, of_rgba}
+use Rattle.pix_el.specs.Model.{Model, ModelRow, row}
+use Rattle.pix_el.specs.Conversion.{Format, at_depth, recoded, of_depth, channel_recoded, within_model, rgba_format, across_models, converted}
+use Rattle.pix_el.proofs.Models.{few_by_row}
+
+-- the first of four channels, each by its number
+pub four_channels : (f : ℕ → ℕ) (a b c d count : ℕ) → count ≤ 4 → a ≡ f 0 → b ≡ f 1 → c ≡ f 2 → d ≡ f 3
+    → take count (a ∷ b ∷ c ∷ d ∷ []) ≡ map f (range_with_len 0 count)
+four_channels f a b c d count few ea eb ec ed = rw (ea, eb, ec, ed) (take-map-range_with_len f 0 4 count few)
+
+-- a format of no more channels than its model has at most four
+pub few_channels : (layout stated : Layout) (model : Model) (r : ModelRow) → layout ≡ stated → row model ≡ r → r.alpha ≡ stated.alpha
+    → layout.count ≤ layout.alpha + 1 → layout.count ≤ 4
+few_channels layout stated model r is stands same within =
+    let e : layout.alpha ≡ stated.alpha = ap (λ (l : Layout). l.alpha) is in
+    let few : r.alpha ≤ 3 = few_by_row model r stands in omega arith
+
+-- within one model, from the channels at the target's depth
+pub within_is : (format to : Format) (gamma to_gamma : GammaMode) (layout to_layout : Layout) (pixel deep : List ℕ) (a b c d : ℕ)
+    → format.layout ≡ layout → to.layout ≡ to_layout → deep ≡ of_depth layout to_layout pixel → to_layout.count ≤ 4
+    → a ≡ channel_recoded format gamma to to_gamma deep 0 → b ≡ channel_recoded format gamma to to_gamma deep 1
+    → c ≡ channel_recoded format gamma to to_gamma deep 2 → d ≡ channel_recoded format gamma to to_gamma deep 3
+    → take to_layout.count (a ∷ b ∷ c ∷ d ∷ []) ≡ within_model format gamma to to_gamma pixel
+within_is format to gamma to_gamma layout to_layout pixel deep a b c d el et ed few e0 e1 e2 e3 =
+    four_channels (channel_recoded format gamma to to_gamma deep) a b c d to_layout.count few e0 e1 e2 e3
+    ∙ ap (λ (n : ℕ). map (channel_recoded format gamma to to_gamma deep) (range_with_len 0 n)) (ap (λ (l : Layout). l.count) (sym et))
+    ∙ ap (λ (p : List ℕ). map (channel_recoded format gamma to to_gamma p) (range_with_len 0 to.layout.count))
+    (ed ∙ ap (λ (l : Layout). of_depth l to_layout pixel) (sym el) ∙ ap (λ (l : Layout). of_depth format.layout l pixel) (sym et))
+
+-- a format has no more channels than its model has
+pub fits_model : (layout stated : Layout) → layout ≡ stated → layout.count ≤ layout.alpha + 1 → layout.count ≤ stated.alpha + 1
+fits_model layout stated is few = let e : layout.alpha ≡ stated.alpha = ap (λ (l : Layout). l.alpha) is in omega arith
+
+-- from one model to another, from the pixels in between
+pub across_is : (format to stated to_stated : Format) (gamma to_gamma : GammaMode) (pixel rgba told made : List ℕ)
+    → format ≡ stated → to ≡ to_stated
+    → rgba ≡ rgba_of stated.to_rgb stated.layout.alpha stated.layout.max pixel
+    → told ≡ within_model (rgba_format stated) gamma (rgba_format to_stated) to_gamma rgba
+    → made ≡ take to_stated.layout.count (of_rgba to_stated.of_rgb to_stated.layout.max told)
+    → made ≡ across_models format gamma to to_gamma pixel
+across_is format to stated to_stated gamma to_gamma pixel rgba told made ef et er ew em =
+    em ∙ ap (λ (t : List ℕ). take to_stated.layout.count (of_rgba to_stated.of_rgb to_stated.layout.max t))
+    (ew ∙ ap (within_model (rgba_format stated) gamma (rgba_format to_stated) to_gamma) er)
+    ∙ ap (λ (f : Format). across_models f gamma to_stated to_gamma pixel) (sym ef)
+    ∙ ap (λ (t : Format). across_models format gamma t to_gamma pixel) (sym et)
+
+-- a conversion, by whether the models are the same
+pub converted_same : (format to stated to_stated : Format) (gamma to_gamma : GammaMode) (pixel made : List ℕ)
+    → format ≡ stated → to ≡ to_stated → stated.kind ≡ to_stated.kind
+    → made ≡ within_model format gamma to to_gamma pixel → made ≡ converted format gamma to to_gamma pixel
+converted_same format to stated to_stated gamma to_gamma pixel made ef et same em =
+    let e : format.kind ≡ to.kind = ap (λ (f : Format). f.kind) ef ∙ same ∙ ap (λ (f : Format). f.kind) (sym et) in
+    let t : nat_eq format.kind to.kind ≡ true = grind (arith, e) in
+    rw t em
+
+pub converted_other : (format to stated to_stated : Format) (gamma to_gamma : GammaMode) (pixel made : List ℕ)
+    → format ≡ stated → to ≡ to_stated → stated.kind ≢ to_stated.kind
+    → made ≡ across_models format gamma to to_gamma pixel → made ≡ converted format gamma to to_gamma pixel
+converted_other format to stated to_stated gamma to_gamma pixel made ef et other em =
+    let ek : format.kind ≡ stated.kind = ap (λ (f : Format). f.kind) ef in
+    let tk : to.kind ≡ to_stated.kind = ap (λ (f : Format). f.kind) et in
+    let t : nat_eq format.kind to.kind ≡ false = grind (arith, ek, tk, other) in
+    rw t em
+
+-- red, green, blue and alpha, one by one
+pub told_is : (format to : Format) (gamma to_gamma : GammaMode) (r g b a r' g' b' a' : ℕ)
+    → a' ≡ at_depth format.layout.max to.layout.max a
+    → r' ≡ recoded to.layout.max format.alpha_mode gamma to.alpha_mode to_gamma a' (at_depth format.layout.max to.layout.max r)
+    → g' ≡ recoded to.layout.max format.alpha_mode gamma to.alpha_mode to_gamma a' (at_depth format.layout.max to.layout.max g)
+    → b' ≡ recoded to.layout.max format.alpha_mode gamma to.alpha_mode to_gamma a' (at_depth format.layout.max to.layout.max b)
+    → r' ∷ g' ∷ b' ∷ a' ∷ [] ≡ within_model (rgba_format format) gamma (rgba_format to) to_gamma (r ∷ g ∷ b ∷ a ∷ [])
+told_is format to gamma to_gamma r g b a r' g' b' a' ea er eg eb = rw (er, eg, eb, ea) refl

@@ -1,0 +1,77 @@
+//! Pixels made of their channels.
+ghost use Rattle.std.specs.Prelude.{◌≡◌, List, [], ◌∷◌};
+
+use crate::el::Pix;
+use std::marker::PhantomData;
+
+impl<const N: usize, C, M, A, G> Pix<N, C, M, A, G> {
+    /// The pixel of these channels.
+    pub const fn with_channels(channels: [C; N]) -> Self
+        ensures { result.channels ≡ channels }
+    {
+        Pix {
+            channels,
+            _model: PhantomData,
+            _alpha: PhantomData,
+            _gamma: PhantomData,
+        }
+    }
+}
+
+impl<C, M, A, G> Pix<1, C, M, A, G> {
+    /// The pixel of one channel.
+    pub fn new<H>(one: H) -> Self
+    where
+        C: From<H>,
+        ensures { (w : C) × C.from_gives one w × (result.channels ≡ w ∷ []) }
+    {
+        let one = C::from(one);
+        Self::with_channels([one])
+    }
+}
+
+impl<C, M, A, G> Pix<2, C, M, A, G> {
+    /// The pixel of two channels.
+    pub fn new<H>(one: H, two: H) -> Self
+    where
+        C: From<H>,
+        ensures { (w x : C) × C.from_gives one w × C.from_gives two x × (result.channels ≡
+            w ∷ x ∷ []) }
+    {
+        let one = C::from(one);
+        let two = C::from(two);
+        Self::with_channels([one, two])
+    }
+}
+
+impl<C, M, A, G> Pix<3, C, M, A, G> {
+    /// The pixel of three channels.
+    pub fn new<H>(one: H, two: H, three: H) -> Self
+    where
+        C: From<H>,
+        ensures { (w x y : C) × C.from_gives one w × C.from_gives two x × C.from_gives three y
+            × (result.channels ≡ w ∷ x ∷ y ∷ []) }
+    {
+        let one = C::from(one);
+        let two = C::from(two);
+        let three = C::from(three);
+        Self::with_channels([one, two, three])
+    }
+}
+
+impl<C, M, A, G> Pix<4, C, M, A, G> {
+    /// The pixel of four channels.
+    pub fn new<H>(one: H, two: H, three: H, four: H) -> Self
+    where
+        C: From<H>,
+        ensures { (w x y z : C) × C.from_gives one w × C.from_gives two x × C.from_gives three y
+            × C.from_gives four z
+            × (result.channels ≡ w ∷ x ∷ y ∷ z ∷ []) }
+    {
+        let one = C::from(one);
+        let two = C::from(two);
+        let three = C::from(three);
+        let four = C::from(four);
+        Self::with_channels([one, two, three, four])
+    }
+}
