@@ -1,0 +1,4 @@
+pub mod Narrow
+pub mod Nearest
+pub mod Sums
+pub mod ByTable

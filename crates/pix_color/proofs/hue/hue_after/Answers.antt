@@ -1,0 +1,29 @@
+use Rattle.std.specs.Prelude.{pos, min}
+use Rattle.std.proofs.Common.{◌≡◌, ℕ, zero, suc, ◌<◌, ◌≤◌, ◌+◌, ◌*◌, ◌/◌, ◌∙◌, sym, ap, arith, rules}
+use Rattle.std.proofs.lemmas.Nat.{div_below}
+use Rattle.std.proofs.Math.Nat.{div-zero, mul-div-mul_left, div-div-eq-div-mul}
+use Rattle.pix_chan.specs.Nearest.{nearest}
+use Rattle.pix_chan.proofs.Whole.{nearest_of_natural}
+use Rattle.pix_color.specs.Hexcone.{hue_at, hue_after}
+use Rattle.pix_color.proofs.hue.hue_after.Goals as goal
+
+-- six times both: the quotient that the hue is rounded by
+sixfold : (n m : ℕ) → (2 * (255 * n) + 6 * suc m) / (2 * (6 * suc m)) ≡ (85 * n + suc m) / suc m / 2
+sixfold n m =
+    let above : 2 * (255 * n) + 6 * suc m ≡ 6 * (85 * n + suc m) = omega arith in
+    let below : 2 * (6 * suc m) ≡ 6 * (suc m * 2) = omega arith in
+    rw (above, below) (mul-div-mul_left (85 * n + suc m) (suc m * 2) (omega arith) ∙ sym (div-div-eq-div-mul (85 * n + suc m) (suc m) 2))
+
+narrow_hue : (n c : ℕ) → n ≤ 6 * c → (85 * n + c) / c / 2 ≡ hue_after 255 n c
+narrow_hue n zero h = ap (λ q. q / 2) (div-zero (85 * n + 0))
+narrow_hue n (suc m) h =
+    let most : (85 * n + suc m) / suc m < 512 = div_below (85 * n + suc m) (suc m) 512 (omega arith) (omega (arith, h)) in
+    let hue : (85 * n + suc m) / suc m / 2 ≡ nearest 255 (pos (255 * n)) (pos (6 * suc m)) =
+    nearest_of_natural 255 (255 * n) (6 * suc m) ((85 * n + suc m) / suc m / 2) (omega (arith, most, sixfold n m)) in
+    search (rules, hue)
+
+pub returns-then-max-eq255 : goal.returns-then-max-eq255
+returns-then-max-eq255 g c =
+    let narrow : g.C.Channel.max ≡ 255 = omega (arith, c.max.ensures.value, c.if-max-eq255.true) in
+    c.exact.ensures ∙ ap (λ q. q / 2) c.quotient_by_byte.ensures ∙ narrow_hue c.args.n c.args.chroma c.requires.within
+    ∙ ap (λ m. hue_after m c.args.n c.args.chroma) (sym narrow)

@@ -1,0 +1,6 @@
+-- Cmy: cyan, magenta and yellow, what red, green and blue lack of the maximum.
+use Rattle.std.specs.Prelude.{ℕ, ◌-◌, List, [], ◌∷◌}
+
+-- the maximum less each of the three channels, into Rgb and from it
+abbrev pub complements : ℕ → ℕ → ℕ → ℕ → List ℕ
+complements max one two three = (max - one) ∷ (max - two) ∷ (max - three) ∷ []

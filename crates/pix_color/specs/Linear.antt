@@ -1,0 +1,25 @@
+-- Weighted sums of three channels and of the maximum, of which the models Gray, YCbCr and Xyz are made.
+use Rattle.std.specs.Prelude.{ℕ, ℤ, pos, neg_ℤ, ◌+ℤ◌, ◌*ℤ◌}
+use Rattle.pix_chan.specs.Nearest.{nearest}
+
+-- the weights of three channels and of the maximum, and the whole that their sum is divided by
+pub record Weights : Type 0 where
+  pub first : ℤ
+  pub second : ℤ
+  pub third : ℤ
+  pub offset : ℤ
+  pub whole : ℕ
+
+-- the sum of three channels and the maximum, each times its weight, over the whole: rounded to the nearest channel, ties up
+abbrev pub weighted_sum : ℕ → Weights → ℕ → ℕ → ℕ → ℕ
+weighted_sum max w x y z =
+    nearest max (w.first *ℤ pos x +ℤ w.second *ℤ pos y +ℤ w.third *ℤ pos z +ℤ w.offset *ℤ pos max) (pos w.whole)
+
+-- a line of a table: the weights of three channels and of the maximum, and the whole
+abbrev pub weights : ℤ → ℤ → ℤ → ℤ → ℕ → Weights
+weights first second third offset whole =
+    record { first = first; second = second; third = third; offset = offset; whole = whole }
+
+-- a weight that takes away
+abbrev pub less : ℕ → ℤ
+less n = neg_ℤ (pos n)

@@ -1,0 +1,19 @@
+//! Eight color models, beside those of red, green and blue and of mattes, and the hexcone.
+//!
+//! Each model is converted into red, green and blue and from them by whole numbers, rounded to the nearest, in the type of the pixel's
+//! channels. A color of `Bgr` or `Cmy` comes back from red, green and blue as it was, and so does a red, green and blue from them; a
+//! `Gray` comes back from red, green and blue. The other models do not promise it, since their formulas round.
+#![tactic(auto)]
+
+pub mod bgr;
+pub mod cmy;
+pub mod gray;
+pub mod hsl;
+pub mod hsv;
+pub mod hue;
+pub mod hwb;
+mod linear;
+mod numbers;
+mod reciprocals;
+pub mod xyz;
+pub mod ycc;
