@@ -1,0 +1,47 @@
+-- The match of a color among the entries of a palette.
+use Rattle.std.specs.Prelude.{◌≡◌, ◌≢◌, ℕ, ◌<◌, Bool, true, false, not, ◌&&◌, nat_eq, List, [], ◌∷◌, length, take, slice_index_or}
+use Rattle.std.specs.Cmp.Lexicographic.{pointwise}
+use Rattle.pix_el.specs.Color.{rgba_difference, is_within}
+
+-- the absolute differences of two colors in red, green and blue
+abbrev pub color_difference : List ℕ → List ℕ → List ℕ
+color_difference p q = take 3 (rgba_difference 255 p q)
+
+-- the difference of a color to the entry of an index
+abbrev pub difference_to : List (List ℕ) → List ℕ → ℕ → List ℕ
+difference_to entries color i = color_difference (slice_index_or entries i []) color
+
+-- whether a difference is no greater than another in every channel, and not equal to it
+abbrev pub is_closer : List ℕ → List ℕ → Bool
+is_closer p q = is_within 255 p q && not (pointwise nat_eq p q)
+
+-- of the differences `d` of so many entries, that of j is the first after that of i that is closer
+pub record IsNext (d : ℕ → List ℕ) (count i j : ℕ) : Type 0 where
+  pub later : i < j
+  pub stands : j < count
+  pub closer : is_closer (d j) (d i) ≡ true
+  pub first : (k : ℕ) → i < k → k < j → is_closer (d k) (d i) ≡ false
+
+-- the entry i is a record, the indices in the list are the records after it, and m is the last of them: each is the next of the one before,
+-- and no entry after the last is closer
+abbrev pub AreRecords : (ℕ → List ℕ) → ℕ → ℕ → List ℕ → ℕ → Type 0
+AreRecords d count i [] m = (m ≡ i) × ((k : ℕ) → i < k → k < count → is_closer (d k) (d i) ≡ false)
+AreRecords d count i (j ∷ records) m = IsNext d count i j × AreRecords d count j records m
+
+-- the match of a color: the last of its records, of which index 0 is the first
+pub record IsMatch (entries : List (List ℕ)) (color : List ℕ) (m : ℕ) : Type 0 where
+  pub some : 0 < length entries
+  pub records : List ℕ
+  pub last : AreRecords (difference_to entries color) (length entries) 0 records m
+
+-- an entry that is nearest to a color: none is closer, none before it differs as much in every channel, and it differs by no more than entry 0 in any
+pub record IsNearest (entries : List (List ℕ)) (color : List ℕ) (m : ℕ) : Type 0 where
+  pub none_closer : (k : ℕ) → k < length entries → is_closer (difference_to entries color k) (difference_to entries color m) ≡ false
+  pub first : (k : ℕ) → k < m → difference_to entries color k ≢ difference_to entries color m
+  pub no_worse : is_within 255 (difference_to entries color m) (difference_to entries color 0) ≡ true
+
+-- the entry i is the first that is the color: the first that differs in no channel
+pub record IsFirstOf (entries : List (List ℕ)) (color : List ℕ) (i : ℕ) : Type 0 where
+  pub stands : i < length entries
+  pub same : difference_to entries color i ≡ 0 ∷ 0 ∷ 0 ∷ []
+  pub first : (k : ℕ) → k < i → difference_to entries color k ≢ 0 ∷ 0 ∷ 0 ∷ []

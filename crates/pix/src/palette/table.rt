@@ -1,0 +1,27 @@
+//! The fields of a palette.
+ghost use Rattle.std.specs.Prelude.{◌≡◌, ◌≤◌, ℕ, vec_len, vec_capacity};
+ghost use Rattle.std.specs.Option.{ForSome};
+
+use pix_el::rgb::SRgb8;
+
+/// A function that answers a threshold for a number of entries.
+pub type Threshold = fn(usize) -> SRgb8;
+
+/// A threshold function that may be called for every number of entries up to a limit.
+#[derive(Clone, Copy)]
+pub struct Kept {
+    pub(super) f: Threshold,
+    pub(super) limit: usize,
+    ghost callable: { (n : ℕ) → n ≤ limit → Threshold.pre f n },
+}
+
+/// A list of colors, as many as a limit at most, to which a color is matched by a threshold.
+#[derive(Drop)]
+pub struct Palette {
+    pub(super) colors: Vec<SRgb8>,
+    pub(super) limit: usize,
+    pub(super) threshold: Option<Kept>,
+    ghost bounded: { vec_len colors ≤ limit },
+    ghost reserved: { limit ≤ vec_capacity colors },
+    ghost callable: { ForSome threshold (λ kept. kept.limit ≡ limit) },
+}
