@@ -4,8 +4,13 @@ pub mod Places
 pub mod Clear
 pub mod Steps
 pub mod Copies
-pub mod Paired
-pub mod PairedPoints
+pub mod Overlaps
 pub mod Views
 pub mod RunBounds
+pub mod Transparent
 pub mod Points
+pub mod Samples
+pub mod Converted
+pub mod PaletteMatches
+pub mod PaletteSets
+pub mod HistogramLemmas

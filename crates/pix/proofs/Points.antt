@@ -14,9 +14,9 @@ use Rattle.pix.specs.Region.{Rectangle, right, bottom, has_row, between}
 use Rattle.pix.specs.Reach.{natural}
 use Rattle.pix.specs.Rows.{clipped}
 use Rattle.pix.specs.Views.{with_run, IsRow}
-use Rattle.pix.specs.Frames.{row_start, row_end}
+use Rattle.pix.specs.Clip.{row_start, row_end}
 use Rattle.pix.proofs.Rectangles.{gap_leads}
-use Rattle.pix.proofs.Views.{some_column, row_is}
+use Rattle.pix.proofs.Views.{row_has_pixels, row_is}
 
 -- one run, of a list of pixels that has room for it
 module _ {P : Type 0} (image : Image P) (a : ℕ) (ws : List P) (fits : a + length ws ≤ length image.pixels) where
@@ -82,16 +82,16 @@ between_across l t r b w false e h k = rw e (omega arith)
 
 -- the pixels of a row that a rectangle has, and what is written over them
 pub row_written : {P : Type 0} (image : Image P) (r : Rectangle) (y : ℤ) (row : List P) → has_row (clipped image r) y ≡ true
-    → row ≡ slice_range image.pixels (row_start image.width image.height r y) (row_end image.width image.height r y)
-    → length row + row_start image.width image.height r y ≡ row_end image.width image.height r y → IsRow image r y row
+    → row ≡ slice_range image.pixels (row_start image.width (clipped image r) y) (row_end image.width (clipped image r) y)
+    → length row + row_start image.width (clipped image r) y ≡ row_end image.width (clipped image r) y → IsRow image r y row
 row_written image r y row there now long =
     let c = clipped image r in
     let s : Rectangle = record { left = pos 0; top = pos 0; width = image.width; height = image.height } in
     let start : ℕ = natural y * image.width + natural c.left in
-    let begins : row_start image.width image.height r y ≡ start = rw there refl in
-    let ends : row_end image.width image.height r y ≡ natural y * image.width + (natural c.left + c.width) = rw there refl in
+    let begins : row_start image.width (clipped image r) y ≡ start = rw there refl in
+    let ends : row_end image.width (clipped image r) y ≡ natural y * image.width + (natural c.left + c.width) = rw there refl in
     let wide : length row ≡ c.width = omega arith in
-    let some : 0 < c.width = some_column (int_max r.left s.left) (int_max r.top s.top) (int_min (right r) (right s)) (int_min (bottom r) (bottom s)) y _ refl there in
+    let some : 0 < c.width = row_has_pixels image r y there in
     let inside : natural c.left + c.width ≤ image.width =
     between_across (int_max r.left s.left) (int_max r.top s.top) (int_min (right r) (right s)) (int_min (bottom r) (bottom s)) image.width _ refl (omega (arith, ints, clamps)) (omega (arith, ints, clamps)) in
     let read : row ≡ take c.width (drop start image.pixels) = now ∙ row_is image r y there in

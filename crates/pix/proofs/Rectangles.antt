@@ -1,5 +1,5 @@
 -- rectangles between two columns and two rows
-use Rattle.std.proofs.Common.{◌≡◌, ℕ, ◌<◌, ◌≤◌, ℤ, pos, ◌+ℤ◌, ◌-ℤ◌, ◌<ℤ◌, ◌≤ℤ◌, Bool, true, false, arith, ◌⊎◌, refl, sym, ◌∙◌, ap}
+use Rattle.std.proofs.Common.{◌≡◌, ℕ, ◌+◌, ◌<◌, ◌≤◌, ℤ, pos, ◌+ℤ◌, ◌-ℤ◌, ◌<ℤ◌, ◌≤ℤ◌, Bool, true, false, arith, ◌⊎◌, refl, sym, ◌∙◌, ap}
 use Rattle.std.specs.Bool.{Decides}
 use Rattle.std.specs.Prelude.{not, ◌&&◌, int_lt}
 use Rattle.std.specs.Int.{int_min, int_max, int_gap}
@@ -8,6 +8,8 @@ use Rattle.std.proofs.lemmas.Bool.Decides.{Decides-and, Decides-like, same_from_
 use Rattle.std.proofs.lemmas.Int.{ints, clamps}
 use lib.IntN.{negsuc}
 use Rattle.pix.specs.Image.{Image, IsInside, region_of}
+use Rattle.pix.specs.Reach.{natural}
+use Rattle.pix.specs.Clip.{whole}
 use Rattle.pix.specs.Region.{Rectangle, right, bottom, has_column, has_row, covers, no_points, between, intersection_of}
 
 -- the test whether a whole number is below another
@@ -202,3 +204,34 @@ pub covers_image : {P : Type 0} (image : Image P) (x y : ℕ) → image.width �
 covers_image image x y hw hh lx ly =
     (Decides-lies (pos 0) (pos 0) (right (region_of image)) (bottom (region_of image)) (pos x) (pos y)).1
     ((omega (arith, ints, clamps), omega (arith, ints, clamps)), (omega (arith, ints, clamps), omega (arith, ints, clamps)))
+
+-- a rectangle lies in a raster of that width and height
+pub record IsIn (r : Rectangle) (width height : ℕ) : Type 0 where
+  pub left : pos 0 ≤ℤ r.left
+  pub top : pos 0 ≤ℤ r.top
+  pub across : (r.left +ℤ pos r.width) ≤ℤ pos width
+  pub down : (r.top +ℤ pos r.height) ≤ℤ pos height
+
+between_in : (l t r b : ℤ) (width height : ℕ) → pos 0 ≤ℤ l → pos 0 ≤ℤ t → r ≤ℤ pos width → b ≤ℤ pos height
+    → (p : Bool) → open_between l t r b ≡ p → IsIn (between l t r b) width height
+between_in l t r b width height hl ht hr hb true e =
+    let h = (Decides-open l t r b).0 e in
+    let h0 : l <ℤ r = h.0 in let h1 : t <ℤ b = h.1 in
+    let er = gap_leads l r (omega (arith, ints)) in
+    let eb = gap_leads t b (omega (arith, ints)) in
+    rw e (record { left = hl; top = ht; across = rw er hr; down = rw eb hb })
+between_in l t r b width height hl ht hr hb false e =
+    rw e (record { left = omega (arith, ints); top = omega (arith, ints); across = omega (arith, ints); down = omega (arith, ints) })
+
+-- what a rectangle shares with a raster lies in the raster
+pub clipped_in : (r : Rectangle) (width height : ℕ) → IsIn (intersection_of r (whole width height)) width height
+clipped_in r width height =
+    let s : Rectangle = whole width height in
+    between_in (int_max r.left s.left) (int_max r.top s.top) (int_min (right r) (right s)) (int_min (bottom r) (bottom s)) width height
+    (omega (arith, ints, clamps)) (omega (arith, ints, clamps)) (omega (arith, ints, clamps)) (omega (arith, ints, clamps)) _ refl
+
+-- the far edge of such a side
+pub far_edge : (l : ℤ) (side limit edge : ℕ) → limit ≤ 2147483647 → pos 0 ≤ℤ l → (l +ℤ pos side) ≤ℤ pos limit
+    → pos edge ≡ int_min (l +ℤ pos side) (pos 2147483647) → (edge ≡ natural l + side) × (edge ≤ limit)
+far_edge (pos a) side limit edge small h k e = (omega (arith, ints, clamps, e, k, small), omega (arith, ints, clamps, e, k, small))
+far_edge (negsuc a) side limit edge small h k e = absurd (omega (arith, ints))

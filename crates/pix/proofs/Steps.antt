@@ -4,11 +4,11 @@ use Rattle.pix_el.specs.Pixel.{Layout}
 use Rattle.pix.specs.Region.{Rectangle, covers}
 use Rattle.pix.specs.Image.{Image, Changed, point, region_of}
 use Rattle.pix.specs.Reach.{from_pair}
-use Rattle.pix.specs.Pairs.{where_covered, where_paired}
+use Rattle.pix.specs.Clip.{where_covered, where_paired}
 use Rattle.std.proofs.lemmas.List.{drop_more, append-nil, append_assoc}
 use Rattle.std.proofs.lemmas.List.Sums.{fold-append}
 use Rattle.pix.specs.declared.command.Command.{Command}
-use Rattle.pix.specs.Run.{Effect, effect_at, effects_at, apply, run_at, AreExchanged}
+use Rattle.pix.specs.Run.{Effect, effect_at, effects_at, apply, run_at, HasSwappedNeighbours}
 
 -- the run of the command at place i and then of those after it is the run of those from place i on
 pub run_more : {P M : Type 0} (layout : Layout) (n : P → List ℕ) (m : M → List ℕ) (dest : Rectangle) (commands : List (Command P M)) (i : ℕ) (command : Command P M) (x y : ℕ) (pixel : List ℕ)
@@ -71,11 +71,11 @@ swapped : (one two rest : List Effect) → (one ≡ []) ⊎ (two ≡ []) → one
 swapped one two rest (inl e) = rw e refl
 swapped one two rest (inr e) = rw e refl
 
--- the run of a list is that of a list in which two neighbours that reach no common point are exchanged
-pub changed_exchanged : {P M : Type 0} (layout : Layout) (n : P → List ℕ) (m : M → List ℕ) (old new : Image P) (commands others : List (Command P M))
-    → Changed n old new (run_at layout n m (region_of old) commands) → AreExchanged n m old commands others
+-- the run of a list is that of a list in which two neighbours that reach no common point are swapped
+pub changed_swapped : {P M : Type 0} (layout : Layout) (n : P → List ℕ) (m : M → List ℕ) (old new : Image P) (commands others : List (Command P M))
+    → Changed n old new (run_at layout n m (region_of old) commands) → HasSwappedNeighbours n m old commands others
     → Changed n old new (run_at layout n m (region_of old) others)
-changed_exchanged {P = P} {M = M} layout n m old new commands others changed e = record {
+changed_swapped {P = P} {M = M} layout n m old new commands others changed e = record {
   same_width = changed.same_width;
   same_height = changed.same_height;
   points = λ x y hx hy.
@@ -83,7 +83,7 @@ changed_exchanged {P = P} {M = M} layout n m old new commands others changed e =
       let same : effects_at n m dest commands x y ≡ effects_at n m dest others x y =
       ap (λ (cs : List (Command P M)). effects_at n m dest cs x y) e.here
       ∙ effects_at-append n m dest e.before (e.one ∷ e.two ∷ e.after) x y
-      ∙ ap (λ (es : List Effect). effects_at n m dest e.before x y ++ es) (swapped _ _ (effects_at n m dest e.after x y) (e.apart x y hx hy))
+      ∙ ap (λ (es : List Effect). effects_at n m dest e.before x y ++ es) (swapped _ _ (effects_at n m dest e.after x y) (e.disjoint x y hx hy))
       ∙ sym (effects_at-append n m dest e.before (e.two ∷ e.one ∷ e.after) x y)
       ∙ sym (ap (λ (cs : List (Command P M)). effects_at n m dest cs x y) e.there) in
       changed.points x y hx hy ∙ ap (λ (es : List Effect). fold (apply layout) (point n old x y) es) same;

@@ -2,7 +2,7 @@
 use Rattle.std.specs.Prelude.{◌≢◌, ℕ, ◌<◌, List, [], ◌∷◌, All, ⊤}
 use Rattle.pix_chan.specs.declared.ops.Op.TheVariants.{Plus}
 use Rattle.pix_el.specs.Pixel.{Layout}
-use Rattle.pix_el.specs.PixelComposite.{matted, matte_value}
+use Rattle.pix_el.specs.PixelComposite.{matted_color, matte_value}
 use Rattle.pix_el.specs.Premultiplied.{IsPremultiplied, IsUncut}
 use Rattle.pix.specs.Image.{Image, point, region_of}
 use Rattle.pix.specs.Run.{Effect, Cleared, Copied, Composited, Matted, effects_at, apply}
@@ -20,7 +20,7 @@ abbrev pub CutsNoSum : Layout → List ℕ → Effect → Type 0
 CutsNoSum layout pixel Cleared = ⊤
 CutsNoSum layout pixel (Copied source) = ⊤
 CutsNoSum layout pixel (Composited op source) = op ≢ Plus → IsUncut layout op source pixel
-CutsNoSum layout pixel (Matted op matte source) = op ≢ Plus → IsUncut layout op (matted layout (matte_value layout matte) source) pixel
+CutsNoSum layout pixel (Matted op matte source) = op ≢ Plus → IsUncut layout op (matted_color layout (matte_value layout matte) source) pixel
 
 -- none of the effects does, each on the pixel that those before it left
 abbrev pub CutNoSum : Layout → List ℕ → List Effect → Type 0

@@ -1,6 +1,7 @@
--- What a list of commands makes of the pixel at one point.
+-- The run of a list of commands at one point.
 use Rattle.std.specs.Prelude.{◌≡◌, ◌<◌, ◌⊎◌, ℕ, pos, List, [], ◌∷◌, ◌++◌, fold, replicate, if◌then◌else◌}
 use Rattle.pix_chan.specs.declared.ops.Op.{Op}
+use Rattle.pix_chan.specs.declared.ops.Op.TheVariants.{Src}
 use Rattle.pix_el.specs.Pixel.{Layout}
 use Rattle.pix_el.specs.PixelComposite.{pixel_composite, matted_composite, matte_value}
 use Rattle.pix.specs.Region.{Rectangle, covers}
@@ -9,8 +10,8 @@ use Rattle.pix.specs.Reach.{from_pair}
 use Rattle.pix.specs.declared.command.Command.{Command}
 use Rattle.pix.specs.declared.command.Command.TheVariants as commands
 
--- what a command brings to a point that it reaches: nothing but a clear pixel, a pixel to stand there, or a source to be composited
--- with the pixel there, as it is or through a matte
+-- the effect of a command at a point that it reaches: a clear pixel, a copied pixel, or a source composited with the pixel there,
+-- without a matte or through one
 pub data Effect : Type 0 where
   Cleared : Effect
   Copied : (source : List ℕ) → Effect
@@ -35,7 +36,7 @@ abbrev pub effects_at : {P M : Type 0} → (P → List ℕ) → (M → List ℕ)
 effects_at numbers mattes dest [] x y = []
 effects_at numbers mattes dest (command ∷ commands) x y = effect_at numbers mattes dest command x y ++ effects_at numbers mattes dest commands x y
 
--- what an effect makes of a pixel
+-- a pixel after an effect
 abbrev pub apply : Layout → List ℕ → Effect → List ℕ
 apply layout pixel Cleared = replicate layout.count 0
 apply layout pixel (Copied source) = source
@@ -46,22 +47,29 @@ apply layout pixel (Matted op matte source) = matted_composite layout op (matte_
 abbrev pub run_at : {P M : Type 0} → Layout → (P → List ℕ) → (M → List ℕ) → Rectangle → List (Command P M) → ℕ → ℕ → List ℕ → List ℕ
 run_at layout numbers mattes dest commands x y pixel = fold (apply layout) pixel (effects_at numbers mattes dest commands x y)
 
+-- the operator of a command, Src for one that does not composite
+abbrev pub op_of : {P M : Type 0} → Command P M → Op
+op_of (commands.Color reg clr op) = op
+op_of (commands.Raster to src from op) = op
+op_of (commands.Matte to src from clr op) = op
+op_of command = Src
+
 -- the same for one command that takes no mattes
 abbrev pub done_at : {P : Type 0} → Layout → (P → List ℕ) → Rectangle → Command P P → ℕ → ℕ → List ℕ → List ℕ
 done_at layout numbers dest command = run_at layout numbers numbers dest (command ∷ [])
 
--- no point of the image is reached by both commands
-abbrev pub AreApart : {P M : Type 0} → (P → List ℕ) → (M → List ℕ) → Image P → Command P M → Command P M → Type 0
-AreApart numbers mattes image one two =
+-- the two commands are disjoint: they reach no common point of the image
+abbrev pub AreDisjoint : {P M : Type 0} → (P → List ℕ) → (M → List ℕ) → Image P → Command P M → Command P M → Type 0
+AreDisjoint numbers mattes image one two =
     (x y : ℕ) → x < image.width → y < image.height
     → (effect_at numbers mattes (region_of image) one x y ≡ []) ⊎ (effect_at numbers mattes (region_of image) two x y ≡ [])
 
--- the two lists have the same commands, but for two neighbours that are exchanged, of which no point of the image is reached by both
-pub record AreExchanged {P M : Type 0} (numbers : P → List ℕ) (mattes : M → List ℕ) (image : Image P) (commands others : List (Command P M)) : Type 0 where
+-- the two lists have the same commands, but for two disjoint neighbours that are swapped
+pub record HasSwappedNeighbours {P M : Type 0} (numbers : P → List ℕ) (mattes : M → List ℕ) (image : Image P) (commands others : List (Command P M)) : Type 0 where
   pub before : List (Command P M)
   pub one : Command P M
   pub two : Command P M
   pub after : List (Command P M)
   pub here : commands ≡ before ++ (one ∷ two ∷ after)
   pub there : others ≡ before ++ (two ∷ one ∷ after)
-  pub apart : AreApart numbers mattes image one two
+  pub disjoint : AreDisjoint numbers mattes image one two

@@ -1,60 +1,76 @@
-//! What a raster can be told.
+//! Commands: changes of a raster as values.
+ghost use Rattle.std.specs.Prelude.{◌≡◌};
+ghost use Rattle.pix.specs.Run.{op_of};
+
 use crate::raster::Raster;
 use crate::region::Region;
 use pix_chan::ops::Op;
 
-/// A change of a raster whose pixels are of the format `P`; `M` is the format of mattes.
+/// A change of a raster of pixels `P`, as a value. `M` is the format of the coverage masks.
 #[derive(Drop)]
 pub enum Command<'a, P, M> {
-    /// Makes every pixel clear, as [`Raster::clear`] does.
+    /// Clears the raster, as [`Raster::clear`] does.
     Clear,
-    /// Copies a color to the points of a region, as [`Raster::copy_color`] does.
+    /// Copies a color to a region, as [`Raster::copy_color`] does.
     CopyColor {
-        /// Where.
+        /// The region.
         reg: Region,
-        /// The pixel to stand at each point.
+        /// The color.
         clr: P,
     },
     /// Copies a region of another raster, as [`Raster::copy_raster`] does.
     CopyRaster {
-        /// Where to.
+        /// The region of the destination.
         to: Region,
-        /// The raster that is copied from.
+        /// The source.
         src: &'a Raster<P>,
-        /// From where.
+        /// The region of the source.
         from: Region,
     },
-    /// Composites a color with the points of a region, as [`Raster::composite_color`] does.
+    /// Composites a color with a region, as [`Raster::composite_color`] does.
     Color {
-        /// Where.
+        /// The region.
         reg: Region,
-        /// The source at each point.
+        /// The color.
         clr: P,
-        /// By which operator.
+        /// The operator.
         op: Op,
     },
     /// Composites a region of another raster, as [`Raster::composite_raster`] does.
     Raster {
-        /// Where to.
+        /// The region of the destination.
         to: Region,
-        /// The raster of the sources.
+        /// The source.
         src: &'a Raster<P>,
-        /// From where.
+        /// The region of the source.
         from: Region,
-        /// By which operator.
+        /// The operator.
         op: Op,
     },
     /// Composites a color through a region of a raster of mattes, as [`Raster::composite_matte`] does.
     Matte {
-        /// Where to.
+        /// The region of the destination.
         to: Region,
-        /// The raster of the mattes.
+        /// The coverage masks.
         src: &'a Raster<M>,
-        /// From where.
+        /// The region of the source.
         from: Region,
-        /// The source at each point.
+        /// The color.
         clr: P,
-        /// By which operator.
+        /// The operator.
         op: Op,
     },
+}
+
+impl<'a, P, M> Command<'a, P, M> {
+    /// Returns the operator; `Src` for a command that does not composite.
+    pub(crate) fn op(&self) -> Op
+        ensures { result ≡ op_of self.now }
+    {
+        match self {
+            Command::Color { op, .. } | Command::Raster { op, .. } | Command::Matte { op, .. } =>
+                *op,
+            _ => Op::Src,
+        }
+    }
 }

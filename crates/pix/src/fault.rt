@@ -1,4 +1,4 @@
-//! Why a raster cannot be made.
+//! Refusals of rasters.
 ghost use Rattle.std.specs.Prelude.{◌≡◌, ℕ, ◌*◌, ◌≤◌, ◌↔◌, IfOk, IfErr, IsOk, Some, None};
 ghost use Rattle.pix.specs.Region.{limit};
 ghost use Rattle.pix.specs.Sizes.{size_fault};
@@ -6,7 +6,7 @@ ghost use Rattle.pix.specs.Sizes.{size_fault};
 use crate::region::LIMIT;
 use thiserror::Error;
 
-/// Why a raster was not made. The first that applies, in this order, is answered.
+/// The reason why a raster or a buffer was not made: the first that applies, in this order.
 #[derive(Clone, Copy, Debug, PartialEq, Eq, Error)]
 pub enum RasterFault {
     /// The width is above 2147483647.
@@ -18,18 +18,18 @@ pub enum RasterFault {
     /// Width times height is above 2147483647.
     #[error("Raster too big")]
     TooBig,
-    /// A buffer of channels was handed in for a raster without points.
+    /// A buffer of channels was passed for a raster without points.
     #[error("Raster buffer empty")]
     EmptyBuffer,
-    /// The buffer that was handed in has another length than the raster needs.
+    /// The length of the buffer is not the one that the raster needs.
     #[error("Raster buffer has wrong length")]
     WrongLength,
-    /// A request for memory was refused.
+    /// An allocation failed.
     #[error("out of memory")]
     Memory,
 }
 
-/// The number of points of a size, at most 2147483647, or the size's first fault.
+/// Returns the number of points of a size, at most 2147483647, or the size's first fault.
 pub(crate) fn point_count(width: u32, height: u32) -> Result<usize, RasterFault>
     ensures ok { IfOk result (λ count. count ≡ height * width) }
     ensures small { IfOk result (λ count. count ≤ limit) }

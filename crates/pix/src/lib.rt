@@ -1,20 +1,23 @@
-//! Raster images: regions, rasters and what is painted on them.
+//! Raster images: regions, rasters, commands, runs and palettes.
 //!
-//! The modules of channels, operators, pixels and color models stand here too, so that a user names `pix` alone.
+//! The modules of channels, operators, pixels and color models are re-exported, so that a user names `pix` alone.
 #![tactic(auto)]
 
+pub use pix_color::{bgr, cmy, gray, hsl, hsv, hue, hwb, xyz, ycc};
 pub use pix_el::model::ColorModel;
-pub use pix_el::{chan, el, gray, hsl, hsv, hwb, matte, ops, rgb};
+pub use pix_el::{chan, el, matte, ops, rgb};
 
+mod clip;
 mod command;
 mod fault;
-mod pairs;
+mod palette;
 mod raster;
 mod region;
 mod rows;
 
 pub use command::Command;
 pub use fault::RasterFault;
+pub use palette::Palette;
 pub use raster::Raster;
 pub use region::Region;
 pub use rows::{Rows, RowsMut};

@@ -1,12 +1,11 @@
-//! Changes of some columns in some rows of an image, row by row.
+//! Changes of a clipped rectangle or an overlap, row by row.
 ghost use Rattle.std.specs.Prelude.{◌≡◌, ℕ, ◌+◌, ◌-◌, ◌*◌, ◌<◌, ◌≤◌, List, length, map, slice_index_or, [], ⊤};
 ghost use Rattle.pix_chan.specs.declared.ops.Op.{Op};
 ghost use Rattle.pix_el.specs.PixelComposite.{pixel_composite, matted_composite, matte_value, over};
 ghost use Rattle.pix.specs.Region.{limit};
-ghost use Rattle.pix.specs.Spans.{where_in};
+ghost use Rattle.pix.specs.Clip.{where_in};
 
-use crate::pairs::Pairs;
-use crate::region::Span;
+use crate::clip::{ClippedRect, Overlap};
 use pix_chan::chan::{Alpha, Linear, Premultiplied};
 use pix_chan::ops::Blend;
 use pix_el::el::{Pix, Pixel};
@@ -37,7 +36,8 @@ pub(crate) trait Blit<P: Pixel, S: Pixel> {
     /// Changes each pixel of a row by the pixel of the source at the same place.
     fn blit(&self, row: &mut [P], src: &[S])
         requires { can_blit }
-        ensures { map P.numbers row.new ≡ over (makes self.now) (map S.numbers src.now) (map P.numbers row.old) };
+        ensures { map P.numbers row.new ≡ over (makes self.now) (map S.numbers src.now)
+            (map P.numbers row.old) };
 }
 
 /// Copies a color.
@@ -116,65 +116,71 @@ impl<const N: usize, A: Alpha, P: Pixel<Alpha = Premultiplied, Gamma = Linear>, 
 > for MattedColor<P, O> {
     ghost can_blit = { P.layout.count ≡ P.layout.alpha + 1 };
 
-    ghost makes = { λ it matte. matted_composite P.layout O.op (matte_value P.layout matte) (P.numbers it.clr) };
+    ghost makes = { λ it matte. matted_composite P.layout O.op
+        (matte_value P.layout matte) (P.numbers it.clr) };
 
     fn blit(&self, row: &mut [P], src: &[Pix<N, P::Chan, Matte, A, Linear>]) {
         P::composite_matte(row, src, &self.clr, self.op);
     }
 }
 
-/// Changes the pixels of some columns in some rows of an image `width` wide.
+/// Changes the pixels of a clipped rectangle of an image `width` wide.
 pub(crate) fn fill_rows<P: Pixel, F: Fill<P>>(
     pixels: &mut [P],
     width: usize,
-    columns: Span,
-    rows: Span,
+    clipped: ClippedRect,
     change: &F,
 )
     requires can_fill { F.can_fill }
-    requires ordered { columns.from ≤ columns.to }
-    requires from_top { rows.from ≤ rows.to }
-    requires across { columns.to ≤ width }
-    requires down { rows.to * width ≤ length pixels.old }
+    requires ordered { clipped.columns.start ≤ clipped.columns.end }
+    requires from_top { clipped.rows.start ≤ clipped.rows.end }
+    requires across { clipped.columns.end ≤ width }
+    requires down { clipped.rows.end * width ≤ length pixels.old }
     ensures { (x y : ℕ) → x < width → slice_index_or (map P.numbers pixels.new) (y * width + x) [] ≡
-        where_in columns rows (λ a b. F.makes change.now) x y
+        where_in clipped.columns clipped.rows (λ a b. F.makes change.now) x y
         (slice_index_or (map P.numbers pixels.old) (y * width + x) []) }
 {
-    for y in rows.from..rows.to {
+    for y in clipped.rows.start..clipped.rows.end {
         let start = y * width;
-        change.fill(&mut pixels[start + columns.from..start + columns.to]);
+        change.fill(&mut pixels[start + clipped.columns.start..start + clipped.columns.end]);
     }
 }
 
-/// Changes the pixels of some columns in some rows of an image `width` wide by those of an image `src_width` wide that they are
-/// paired with.
+/// Changes the pixels of an overlap, in an image `width` wide, each by its pixel of a source `src_width` wide.
 pub(crate) fn blit_rows<P: Pixel, S: Pixel, B: Blit<P, S>>(
     pixels: &mut [P],
     width: usize,
     src: &[S],
     src_width: usize,
-    columns: Pairs,
-    rows: Pairs,
+    overlap: Overlap,
     change: &B,
 )
     requires can_blit { B.can_blit }
-    requires ordered { columns.to.from ≤ columns.to.to }
-    requires from_top { rows.to.from ≤ rows.to.to }
-    requires across { columns.to.to ≤ width }
-    requires down { rows.to.to * width ≤ length pixels.old }
-    requires src_rows { rows.from + (rows.to.to - rows.to.from) ≤ limit }
-    requires src_across { columns.from + (columns.to.to - columns.to.from) ≤ src_width }
-    requires src_down { (rows.from + (rows.to.to - rows.to.from)) * src_width ≤ length src.now }
+    requires ordered { overlap.columns.dst.start ≤ overlap.columns.dst.end }
+    requires from_top { overlap.rows.dst.start ≤ overlap.rows.dst.end }
+    requires across { overlap.columns.dst.end ≤ width }
+    requires down { overlap.rows.dst.end * width ≤ length pixels.old }
+    requires src_rows { overlap.rows.src_start
+        + (overlap.rows.dst.end - overlap.rows.dst.start) ≤ limit }
+    requires src_across { overlap.columns.src_start
+        + (overlap.columns.dst.end - overlap.columns.dst.start) ≤ src_width }
+    requires src_down { (overlap.rows.src_start
+        + (overlap.rows.dst.end - overlap.rows.dst.start)) * src_width ≤ length src.now }
     ensures { (x y : ℕ) → x < width → slice_index_or (map P.numbers pixels.new) (y * width + x) [] ≡
-        where_in columns.to rows.to
+        where_in overlap.columns.dst overlap.rows.dst
         (λ a b. B.makes change.now (slice_index_or (map S.numbers src.now)
-        ((rows.from + (b - rows.to.from)) * src_width + (columns.from + (a - columns.to.from))) []))
+        ((overlap.rows.src_start + (b - overlap.rows.dst.start)) * src_width
+        + (overlap.columns.src_start + (a - overlap.columns.dst.start))) []))
         x y (slice_index_or (map P.numbers pixels.old) (y * width + x) []) }
 {
-    let count = columns.to.to - columns.to.from;
-    for y in rows.to.from..rows.to.to {
-        let start = y * width + columns.to.from;
-        let from = (rows.from + (y - rows.to.from)) * src_width + columns.from;
-        change.blit(&mut pixels[start..start + count], &src[from..from + count]);
+    let count = overlap.columns.dst.end - overlap.columns.dst.start;
+    for y in overlap.rows.dst.start..overlap.rows.dst.end {
+        let start = y * width + overlap.columns.dst.start;
+        let src_y = overlap.rows.src_start + (y - overlap.rows.dst.start);
+        let src_start = src_y * src_width + overlap.columns.src_start;
+        change.blit(
+            &mut pixels[start..start + count],
+            &src[src_start..src_start + count],
+        );
     }
 }

@@ -1,11 +1,10 @@
-use Rattle.std.proofs.Common.{◌≡◌, ◌+◌, ◌*◌, ◌<◌, SFits, w32, get_or, refl, ap, rules}
+use Rattle.std.proofs.Common.{◌≡◌, ◌+◌, ◌*◌, SFits, w32, get_or, refl, ap, rules}
 use Rattle.std.specs.Prelude.{vec_len}
 use lib.IntN.{nat_abs}
-use Rattle.std.proofs.lemmas.Option.{slice_get_read}
 use Rattle.std.proofs.lemmas.Int.{to_z-of_z}
 use Rattle.pix.specs.Image.{Image, IsPoint}
 use Rattle.pix.specs.Views.{with_pixel}
-use Rattle.pix.proofs.Places.{point_within}
+use Rattle.pix.proofs.Places.{point_within, pixel_read}
 use Rattle.pix.proofs.Views.{point_place}
 use Rattle.pix.proofs.raster.Raster.pixel_mut.Goals as goal
 
@@ -19,18 +18,12 @@ pub returns : goal.returns
 returns g c =
     let fx : SFits w32 c.args.x = c.ranges.x in
     let fy : SFits w32 c.args.y = c.ranges.y in
-    let items = c.self.inside.pixels.items in
-    let w = c.self.inside.width in
-    let image : Image g.row.P.Denot = record { width = w; height = c.self.inside.height; pixels = items } in
+    let a = c.self.inside in
+    let image : Image g.row.P.Denot = record { width = a.width; height = a.height; pixels = a.pixels.items } in
     let r = c.index_mut.result.now in
     let there : IsPoint image c.args.x c.args.y = rw (← c.self.view_is) at c.requires in
-    let read : r ≡ get_or items (nat_abs c.args.y * w + nat_abs c.args.x) r = simp to_z-of_z at c.index_mut.ensures.value in
-    let long = vec_len c.self.inside.pixels in
-    let within : nat_abs c.args.y * w + nat_abs c.args.x < long = rw c.self.invariant.0 (point_within image c.args.x c.args.y there) in
+    let read : r ≡ get_or a.pixels.items (nat_abs c.args.y * a.width + nat_abs c.args.x) r = simp to_z-of_z at c.index_mut.ensures.value in
     rw (← c.self.view_is) (
       (refl, λ v. simp to_z-of_z (ap (λ k. with_pixel image k v) (point_place image c.args.x c.args.y there))),
-      record {
-        lends = tt;
-        now = λ column row ex ey. slice_get_read items long (row * w + column) r (search rules) (rw (ex, ey) at within) (rw (ex, ey) at read);
-      },
+      record { lends = tt; now = pixel_read image c.args.x c.args.y (vec_len a.pixels) r there (search rules) c.self.invariant.0 read },
     )

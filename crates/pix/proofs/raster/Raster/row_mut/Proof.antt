@@ -46,7 +46,7 @@ use Rattle.pix.specs.Image.{Image}
 use Rattle.pix.specs.Region.{has_row}
 use Rattle.pix.specs.Rows.{clipped}
 use Rattle.pix.specs.Views.{place_of, with_run}
-use Rattle.pix.specs.Frames.{row_start, row_end}
+use Rattle.pix.specs.Clip.{row_start, row_end}
 use Rattle.pix.specs.contracts.raster.Raster.{the_row as Raster-row}
 use Rattle.pix.specs.contracts.region.Region as Reg
 use Rattle.pix.proofs.region.Region.TheLaws.{the_told, the_row_laws}
@@ -110,12 +110,12 @@ row_mut_spec 𝓤 𝓛 𝓜 𝓡 wired P L =
     let z : W.Ghost = ((κs, qs, bounds, a, (mut_vals self, (sint_vals w32 y, (the_told.val reg ∷ [], tt)))), tt) in
     let G = triple_of 𝓛 (g.signature P) (g.spec P 𝓛 𝓜.mem 𝓡.returns) in
     let Post : Val → SProp 𝓤 = W.post z in
-    let start : ℕ = row_start self.now.width self.now.height reg y in
-    let stop_at : ℕ = row_end self.now.width self.now.height reg y in
+    let start : ℕ = row_start self.now.width (clipped self.now reg) y in
+    let stop_at : ℕ = row_end self.now.width (clipped self.now reg) y in
     let F = with_run self.now start in
     let begins : has_row (clipped self.now reg) y ≡ true → start ≡ place_of self.now (clipped self.now reg).left y = row_start_is self.now reg y in
     let there : (xs : List P.Denot) → length xs + start ≡ stop_at → T (not (eqb (length xs) 0)) → has_row (clipped self.now reg) y ≡ true =
-    λ xs long t. some_there self.now.width self.now.height reg y (length xs) long (above-0 (length xs) t) in
+    λ xs long t. some_there self.now reg y (length xs) long (above-0 (length xs) t) in
     let Part = MutSlice (named 0) κ (R P) in
     qed 𝓛 (raw (G.pre z) ∷ []) ∵ enter ! _ _ (function P) _ _ $
     alloc_all ! (λ l. pass_all ! refl ((tt, tt), (((sint_Lawful 𝓛 w32).typed y _ are.1.0).0, (((the_row_laws.lawful 𝓛).typed reg _ are.1.1.0).0, tt))) $
@@ -149,7 +149,7 @@ row_mut_spec 𝓤 𝓛 𝓜 𝓡 wired P L =
     keep ! (3 ∷ 0 ∷ []) $ use0 𝓛 (‵ ((OP.the_row Part).own_val None (live 0 (of_list []) ∷ []))) (none_of 𝓛 Part) $
     suffices ! _ (ends_at 𝓛 (f.ended P) (stayed P) c z (live 0 (of_list [])) None (tt, (tt, (tt, tt))) (tt, (tt, (tt, tt)))) $
     nothing ! $ nothing ! $ fjoin ! $ nothing ! $ fjoin ! $ nothing ! $ fjoin ! $ join ! $ move ! (1 ∷ []) $ join ! $ frame ! $
-    says ! (none_there self.now.width self.now.height reg y (length r.now) long (eqb→eq (length r.now) 0 t)) $ done !)
+    says ! (none_there self.now reg y (length r.now) long (eqb→eq (length r.now) 0 t)) $ done !)
     (λ t.
     sets ! (addr ! (from ! (fld ! refl (hop ! (look_in_at ! 4 (sub ! 0 refl (whole !))) (stop !))))) refl (tt, tt) $
     sets ! (agg ! (and_then ! (get ! refl) (and_then ! (get_in ! (fld ! refl (stop !)) (sub ! 1 refl (whole !))) (no_more !)))) refl (tt, (tt, (record { fits = is.0.1.0 }, tt))) $

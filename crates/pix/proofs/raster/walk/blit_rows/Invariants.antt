@@ -1,6 +1,6 @@
 use Rattle.std.proofs.Common.{◌≡◌, ℕ, ◌<◌, ◌+◌, ◌-◌, ◌*◌, length, map, []}
 use Rattle.std.specs.Prelude.{slice_index_or}
-use Rattle.pix.specs.Spans.{where_in}
+use Rattle.pix.specs.Clip.{where_in}
 use Rattle.pix.proofs.raster.walk.blit_rows.Given as goal
 
 -- the rows above y are done
@@ -11,8 +11,8 @@ invariant-loop-y g l =
     record {
       long : length l.pixels ≡ length l.initial.pixels;
       done : (x y : ℕ) → x < l.width → slice_index_or (map n l.pixels) (y * l.width + x) []
-          ≡ where_in l.columns.to (record { from = l.fn.rows.to.from; to = l.y })
+          ≡ where_in l.fn.overlap.columns.dst (record { start = l.fn.overlap.rows.dst.start; end = l.y })
           (λ a b. g.B.Blit.makes l.change (slice_index_or (map m l.src)
-          ((l.fn.rows.from + (b - l.fn.rows.to.from)) * l.src_width + (l.columns.from + (a - l.columns.to.from))) []))
+          ((l.fn.overlap.rows.src_start + (b - l.fn.overlap.rows.dst.start)) * l.src_width + (l.fn.overlap.columns.src_start + (a - l.fn.overlap.columns.dst.start))) []))
           x y (slice_index_or (map n l.initial.pixels) (y * l.width + x) []);
     }

@@ -1,0 +1,37 @@
+-- pixels and the numbers of their channels, one pixel after the other
+use Rattle.std.proofs.Common.{◌≡◌, ℕ, ◌<◌, ◌≤◌, ◌+◌, ◌*◌, List, [], ◌++◌, length, get_or, set, take, drop, map, sym, ap, ◌∙◌, arith}
+use Rattle.std.specs.List.{flat_map}
+use Rattle.std.proofs.lemmas.List.{take-map, drop-map, map-append, take_more, take_more_set, flat_map_more}
+use Rattle.std.proofs.lemmas.Slice.{take-put_mid}
+use Rattle.std.proofs.Math.Seq.{take-add}
+use borrow.Rule.Slice.PartMut.{put_mid}
+
+-- one more pixel was set to the next numbers
+pub unpacked_more : {P S : Type 0} (n : P → List ℕ) (m : S → ℕ) (pixels : List P) (samples : List S) (i count start wide : ℕ) (p : P) → i < length pixels
+    → start ≡ i * count → wide ≡ count → flat_map n (take i pixels) ≡ take (i * count) (map m samples) → n p ≡ map m (take wide (drop start samples))
+    → flat_map n (take (i + 1) (set pixels i p)) ≡ take ((i + 1) * count) (map m samples)
+unpacked_more n m pixels samples i count start wide p lt at span so_far new =
+    let next : map m (take wide (drop start samples)) ≡ take count (drop (i * count) (map m samples)) =
+    rw (at, span) (sym (take-map m count (drop (i * count) samples)) ∙ ap (take count) (sym (drop-map m (i * count) samples))) in
+    let end : i * count + count ≡ (i + 1) * count = omega arith in
+    ap (flat_map n) (take_more_set pixels i p lt)
+    ∙ sym (flat_map_more n [] (take i pixels) p)
+    ∙ ap (λ l. l ++ n p) so_far
+    ∙ ap (λ l. take (i * count) (map m samples) ++ l) (new ∙ next)
+    ∙ sym (take-add (i * count) count (map m samples))
+    ∙ ap (λ k. take k (map m samples)) end
+
+-- the next numbers were set to those of one more pixel
+pub packed_more : {P S : Type 0} (n : P → List ℕ) (m : S → ℕ) (pixels : List P) (samples part : List S) (i count start wide : ℕ) (d : P) → i < length pixels
+    → start ≡ i * count → start ≤ length samples → length part ≡ count
+    → take (i * count) (map m samples) ≡ flat_map n (take i pixels) → map m part ≡ n (get_or pixels i d)
+    → take ((i + 1) * count) (map m (put_mid start wide samples part)) ≡ flat_map n (take (i + 1) pixels)
+packed_more n m pixels samples part i count start wide d lt at fits long so_far new =
+    let end : (i + 1) * count ≡ start + length part = omega arith in
+    take-map m ((i + 1) * count) (put_mid start wide samples part)
+    ∙ ap (map m) (take-put_mid start wide samples part ((i + 1) * count) end fits)
+    ∙ map-append m (take start samples) part
+    ∙ ap (λ l. l ++ map m part) (sym (take-map m start samples) ∙ ap (λ k. take k (map m samples)) at ∙ so_far)
+    ∙ ap (λ l. flat_map n (take i pixels) ++ l) new
+    ∙ flat_map_more n [] (take i pixels) (get_or pixels i d)
+    ∙ ap (flat_map n) (sym (take_more pixels i d lt))
