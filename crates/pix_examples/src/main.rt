@@ -1,15 +1,23 @@
-//! Paints each script of the folder `examples`, and says whether it gives what stands in the file beside it.
+//! Renders each script of the folder `examples`, and prints whether the result is that of the file beside it.
 #![tactic(auto)]
 
 use pix_script::paint_text;
 use std::alloc::{AllocError, Global};
 use std::{fs, io};
 
-/// The scripts NAME.paint, each with its outcome in NAME.txt.
-const EXAMPLES: [&str; 4] = [
+/// The scripts NAME.paint, each with its result in NAME.txt.
+const EXAMPLES: [&str; 12] = [
+    "image",
+    "clear",
+    "fill",
+    "paint",
+    "keep",
+    "copy",
+    "comp",
+    "operators",
     "two-pixels",
     "beyond-the-edges",
-    "worn-down",
+    "faint-color",
     "unknown-operator",
 ];
 
@@ -29,7 +37,7 @@ fn main(rt: HostRuntime) -> io::Result<()> {
     Ok(())
 }
 
-/// The text of the image that a script paints, or of its fault.
+/// Returns the text of a script's image, or of its fault.
 fn outcome(alloc: Global, script: &[u8]) -> Result<Vec<u8>, AllocError> {
     match paint_text(alloc, script) {
         Ok(text) => Ok(text),

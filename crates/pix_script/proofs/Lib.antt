@@ -1,6 +1,7 @@
 pub mod NumberLemmas
 pub mod TextLemmas
 pub mod PictureLemmas
+pub mod DrawLemmas
 pub mod ReadingLemmas
-pub mod PaintLemmas
 pub mod OutcomeLemmas
+pub mod StopLemmas

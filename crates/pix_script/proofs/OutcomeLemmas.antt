@@ -1,5 +1,5 @@
 -- The outcome of a script, and its first fault by the places of lines.
-use Rattle.std.proofs.Common.{◌≡◌, ℕ, zero, suc, ◌+◌, ◌<◌, ◌≤◌, List, [], ◌∷◌, ◌++◌, length, get_or, take, filter, true, false, ltb, Option, Some, None, Result, Ok, Err, refl, sym, ap, ◌∙◌, ◌⊎◌, inl, inr, subst, append_assoc, arith}
+use Rattle.std.proofs.Common.{◌≡◌, ℕ, zero, suc, ◌+◌, ◌<◌, ◌≤◌, List, [], ◌∷◌, ◌++◌, length, get_or, take, true, false, ltb, Option, Some, None, Result, Ok, Err, refl, sym, ap, ◌∙◌, ◌⊎◌, inl, inr, subst, append_assoc, arith}
 use Rattle.std.specs.Prelude.{IfOk, IfErr}
 use Rattle.std.proofs.lemmas.Bool.{le-ltb, lt-ltb}
 use Rattle.std.proofs.lemmas.List.{append-nil, length-append}
@@ -10,10 +10,8 @@ use Rattle.pix_script.specs.declared.fault.PaintFault.TheVariants as faults
 use Rattle.pix_script.specs.declared.script.Script.{Script}
 use Rattle.pix_script.specs.Lines.{lines_of}
 use Rattle.pix_script.specs.Commands.{problem_of}
-use Rattle.pix_script.specs.Meaning.{Meaning}
-use Rattle.pix_script.specs.Script.{stands, first_fault, or_later, IsFirstFault, text_of, size_of, meanings, outcome_of, outcome_of_lines, Gives, Fails}
-use Rattle.pix_script.specs.Reading.{Reading, paints, reading_of, held, ReadsLines}
-use Rattle.pix_script.proofs.PaintLemmas.{paintings_text}
+use Rattle.pix_script.specs.Script.{earlier_of, first_fault, or_later, IsFirstFault, text_of, outcome_of, outcome_of_lines, Gives, Fails}
+use Rattle.pix_script.specs.Reading.{held, commands_in, ReadsLines}
 
 -- a script that is too long
 pub too_long : (script : List ℕ) → 1048576 < length script → outcome_of script ≡ Err faults.TooLong
@@ -32,27 +30,16 @@ fault_outcome script faults.OutOfMemory le h = tt
 fault_outcome script faults.TooLong le h = absurd h
 fault_outcome script (faults.Line number problem) le h = line_outcome script number problem le h
 
--- the text of what was painted is that of all lines
-text_same : (size : Option (ℕ × ℕ)) (ms : List Meaning) → text_of size (filter paints ms) ≡ text_of size ms
-text_same None ms = refl
-text_same (Some size) ms = paintings_text size.0 size.1 ms
-
--- the text of a script that was read whole
-ok_outcome : (script : List ℕ) (reading : Reading) → length script ≤ 1048576 → first_fault [] (lines_of script) ≡ None → reading ≡ reading_of (lines_of script)
-    → outcome_of script ≡ Ok (text_of reading.size reading.paintings)
-unfolding outcome_of outcome_of_lines
-ok_outcome script reading le none is =
-    let ms = meanings (lines_of script) in
-    let short : ltb 1048576 (length script) ≡ false = le-ltb _ _ le in
-    rw (short, none, is, text_same (size_of ms) ms) refl
-
-pub painted_outcome : {X : Type 0} (view : X → List ℕ) (script : List ℕ) (read : Script) (r : Result X PaintFault) → length script ≤ 1048576
+-- the outcome of a script that was read whole, given what was answered then
+pub rendered_outcome : {X : Type 0} (view : X → List ℕ) (script : List ℕ) (read : Script) (r : Result X PaintFault) → length script ≤ 1048576
     → ReadsLines (lines_of script) (Ok read)
-    → IfOk r (λ text. view text ≡ text_of (held read).size (held read).paintings) → IfErr r (λ fault. fault ≡ faults.OutOfMemory)
+    → IfOk r (λ text. view text ≡ text_of (commands_in (held read))) → IfErr r (λ fault. fault ≡ faults.OutOfMemory)
     → Gives view r (outcome_of script)
-painted_outcome view script read (Ok text) le h is memory =
-    ok_outcome script (held read) le h.0 h.1 ∙ ap (λ (t : List ℕ). let r : Result (List ℕ) PaintFault = Ok t in r) (sym is)
-painted_outcome view script read (Err fault) le h is memory =
+unfolding outcome_of outcome_of_lines
+rendered_outcome view script read (Ok text) le h is memory =
+    let short : ltb 1048576 (length script) ≡ false = le-ltb _ _ le in
+    rw (short, h.0, is, h.1) refl
+rendered_outcome view script read (Err fault) le h is memory =
     let P : PaintFault → Type 0 = λ f. Fails f (outcome_of script) in subst P (sym memory) tt
 
 cases_option : {X : Type 0} (o : Option X) → ((x : X) × (o ≡ Some x)) ⊎ (o ≡ None)
@@ -64,20 +51,20 @@ record IsFirstAfter (earlier more : List (List (List ℕ))) (number : ℕ) (prob
   place : ℕ
   number_is : number ≡ length earlier + place + 1
   within : place < length more
-  here : problem_of (stands (earlier ++ take place more)) (get_or more place []) ≡ Some problem
-  before : (j : ℕ) → j < place → problem_of (stands (earlier ++ take j more)) (get_or more j []) ≡ None
+  here : problem_of (earlier_of (earlier ++ take place more)) (get_or more place []) ≡ Some problem
+  before : (j : ℕ) → j < place → problem_of (earlier_of (earlier ++ take j more)) (get_or more j []) ≡ None
 
-before_more : (earlier : List (List (List ℕ))) (words : List (List ℕ)) (more : List (List (List ℕ))) (place : ℕ) → problem_of (stands earlier) words ≡ None
-    → ((j : ℕ) → j < place → problem_of (stands ((earlier ++ words ∷ []) ++ take j more)) (get_or more j []) ≡ None)
-    → (j : ℕ) → j < suc place → problem_of (stands (earlier ++ take j (words ∷ more))) (get_or (words ∷ more) j []) ≡ None
+before_more : (earlier : List (List (List ℕ))) (words : List (List ℕ)) (more : List (List (List ℕ))) (place : ℕ) → problem_of (earlier_of earlier) words ≡ None
+    → ((j : ℕ) → j < place → problem_of (earlier_of ((earlier ++ words ∷ []) ++ take j more)) (get_or more j []) ≡ None)
+    → (j : ℕ) → j < suc place → problem_of (earlier_of (earlier ++ take j (words ∷ more))) (get_or (words ∷ more) j []) ≡ None
 before_more earlier words more place none before zero lt = rw append-nil none
 before_more earlier words more place none before (suc j) lt =
-    ap (λ (l : List (List (List ℕ))). problem_of (stands l) (get_or more j [])) (sym (append_assoc earlier (words ∷ []) (take j more))) ∙ before j (omega arith)
+    ap (λ (l : List (List (List ℕ))). problem_of (earlier_of l) (get_or more j [])) (sym (append_assoc earlier (words ∷ []) (take j more))) ∙ before j (omega arith)
 
 first_after : (earlier more : List (List (List ℕ))) (number : ℕ) (problem : Problem) → first_fault earlier more ≡ Some (number, problem) → IsFirstAfter earlier more number problem
 first_after earlier [] number problem h = absurd cc
 first_after earlier (words ∷ more) number problem h =
-    elim (cases_option (problem_of (stands earlier) words)) [
+    elim (cases_option (problem_of (earlier_of earlier) words)) [
       | inl w ↦
           let e : or_later (length earlier + 1) (Some w.0) (first_fault (earlier ++ words ∷ []) more) ≡ Some (number, problem) = rw w.1 at h in
           let parts = some_pair_parts _ _ _ _ e in
@@ -95,7 +82,7 @@ first_after earlier (words ∷ more) number problem h =
             place = suc r.place;
             number_is = omega (arith, r.number_is, len);
             within = omega (arith, r.within);
-            here = ap (λ (l : List (List (List ℕ))). problem_of (stands l) (get_or more r.place [])) (sym (append_assoc earlier (words ∷ []) (take r.place more))) ∙ r.here;
+            here = ap (λ (l : List (List (List ℕ))). problem_of (earlier_of l) (get_or more r.place [])) (sym (append_assoc earlier (words ∷ []) (take r.place more))) ∙ r.here;
             before = λ j. before_more earlier words more r.place none r.before j;
           }
     ]

@@ -1,7 +1,8 @@
 -- The commands of a script, and the problems of its lines.
 use Rattle.std.specs.Prelude.{ℕ, List, [], ◌∷◌, length, Bool, true, false, ◌&&◌, ◌||◌, not, Option, Some, None, nat_lt, is_none, ◌==◌, if◌then◌else◌, codes, slice_index}
 use Rattle.pix_script.specs.declared.fault.Problem.{Problem}
-use Rattle.pix_script.specs.declared.fault.Problem.TheVariants.{NoImage, SecondImage, UnknownWord, WrongCount, BadNumber, BadColor, TooBig}
+use Rattle.pix_script.specs.declared.fault.Problem.TheVariants.{NoImage, SecondImage, UnknownWord, WrongCount, BadNumber, BadColor, TooBig, NothingKept}
+use Rattle.pix_script.specs.declared.command.Earlier.{Earlier}
 use Rattle.pix_script.specs.Numbers.{side_of, coordinate_of, color_of}
 use Rattle.pix_script.specs.Operators.{operator_of, named}
 
@@ -12,24 +13,34 @@ pub data Kind : Type 0 where
   Side : Kind
   Color : Kind
 
--- a command's words after its name, and whether it makes the image or needs one
+-- a command's words after its name, whether it makes the image, and whether it reads a kept one
 pub record Shape : Type 0 where
   pub words : List Kind
   pub makes_image : Bool
+  pub reads_kept : Bool
 
 -- the shape of a command that makes the image
 abbrev pub new_image : List Kind → Shape
-new_image words = record { words = words; makes_image = true }
+new_image words = record { words = words; makes_image = true; reads_kept = false }
 
--- the shape of a command that needs an image
+-- the shape of a command that works on the image alone
 abbrev pub on_image : List Kind → Shape
-on_image words = record { words = words; makes_image = false }
+on_image words = record { words = words; makes_image = false; reads_kept = false }
+
+-- the shape of a command that works on the image and reads the kept one
+abbrev pub from_kept : List Kind → Shape
+from_kept words = record { words = words; makes_image = false; reads_kept = true }
 
 -- each command's shape beside its name
 abbrev pub shapes : List (List ℕ × Shape)
 shapes =
     (codes "image", new_image (Side ∷ Side ∷ []))
+    ∷ (codes "clear", on_image [])
+    ∷ (codes "fill", on_image (Coordinate ∷ Coordinate ∷ Side ∷ Side ∷ Color ∷ []))
     ∷ (codes "paint", on_image (Operator ∷ Coordinate ∷ Coordinate ∷ Side ∷ Side ∷ Color ∷ []))
+    ∷ (codes "keep", on_image [])
+    ∷ (codes "copy", from_kept (Coordinate ∷ Coordinate ∷ Coordinate ∷ Coordinate ∷ Side ∷ Side ∷ []))
+    ∷ (codes "comp", from_kept (Operator ∷ Coordinate ∷ Coordinate ∷ Coordinate ∷ Coordinate ∷ Side ∷ Side ∷ []))
     ∷ []
 
 -- a word in an operator's place that names none
@@ -74,26 +85,27 @@ abbrev pub first_met : List (Bool × Problem) → Option Problem
 first_met [] = None
 first_met (entry ∷ entries) = if entry.0 then Some entry.1 else first_met entries
 
--- The problem of a command with these arguments, where an image stands or doesn't.
+-- The problem of a command with these arguments after these earlier commands.
 -- Of several problems the first of this order counts. A side of an image is at most 1024.
-abbrev pub problem_of_shape : Bool → List (List ℕ) → Option Shape → Option Problem
-problem_of_shape stands arguments None = Some UnknownWord
-problem_of_shape stands arguments (Some shape) = first_met (
+abbrev pub problem_of_shape : Earlier → List (List ℕ) → Option Shape → Option Problem
+problem_of_shape earlier arguments None = Some UnknownWord
+problem_of_shape earlier arguments (Some shape) = first_met (
     (any_fails is_bad_operator shape.words arguments, UnknownWord)
     ∷ (not (length arguments == length shape.words), WrongCount)
-    ∷ (not shape.makes_image && not stands, NoImage)
-    ∷ (shape.makes_image && stands, SecondImage)
+    ∷ (not shape.makes_image && not earlier.image, NoImage)
+    ∷ (shape.makes_image && earlier.image, SecondImage)
     ∷ (any_fails is_bad_number shape.words arguments, BadNumber)
     ∷ (any_fails is_bad_color shape.words arguments, BadColor)
     ∷ (shape.makes_image && any_side_above 1024 arguments, TooBig)
+    ∷ (shape.reads_kept && not earlier.keep, NothingKept)
     ∷ [])
 
 -- whether a first word begins a comment, by '#'
 abbrev pub is_comment : List ℕ → Bool
 is_comment name = slice_index name 0 == 35
 
--- the problem of a line with these words, where a line before it has made an image or hasn't
-unfoldable pub problem_of : Bool → List (List ℕ) → Option Problem
-problem_of stands [] = None
-problem_of stands (name ∷ arguments) =
-    if is_comment name then None else problem_of_shape stands arguments (named name shapes)
+-- the problem of a line with these words after these earlier commands; a line without words and a comment have none
+unfoldable pub problem_of : Earlier → List (List ℕ) → Option Problem
+problem_of earlier [] = None
+problem_of earlier (name ∷ arguments) =
+    if is_comment name then None else problem_of_shape earlier arguments (named name shapes)

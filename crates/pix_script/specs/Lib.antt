@@ -4,8 +4,10 @@ pub mod Operators
 pub mod Commands
 pub mod Pixels
 pub mod Meaning
+pub mod Picture
 pub mod Seen
 pub mod Text
 pub mod Fault
 pub mod Script
 pub mod Reading
+pub mod Stop

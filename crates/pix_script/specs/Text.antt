@@ -1,6 +1,7 @@
--- The text of pixels, each given by the numbers of its bytes.
+-- The text of pixels and of pictures.
 use Rattle.std.specs.Prelude.{ℕ, ◌+◌, ◌/◌, ◌%◌, List, [], ◌∷◌, ◌++◌, map, nat_lt, if◌then◌else◌}
 use Rattle.std.specs.List.{flat_map, join_with_byte, range_with_len}
+use Rattle.pix_script.specs.Picture.{Picture}
 
 -- the lower-case letter of a hexadecimal digit
 abbrev pub hex_digit : ℕ → ℕ
@@ -18,6 +19,7 @@ pixel_text pixel = flat_map hex_byte pixel
 unfoldable pub row_text : List (List ℕ) → List ℕ
 row_text row = join_with_byte 32 (map pixel_text row) ++ 10 ∷ []
 
--- the text of a picture that has `at x y` at each point: the texts of its rows from top to bottom
-abbrev pub picture_text : ℕ → ℕ → (ℕ → ℕ → List ℕ) → List ℕ
-picture_text width height at = flat_map (λ y. row_text (map (λ x. at x y) (range_with_len 0 width))) (range_with_len 0 height)
+-- the text of a picture: the texts of its rows from top to bottom
+abbrev pub picture_text : Picture → List ℕ
+picture_text picture =
+    flat_map (λ y. row_text (map (λ x. picture.at x y) (range_with_len 0 picture.width))) (range_with_len 0 picture.height)

@@ -1,53 +1,46 @@
-//! Why a script paints nothing.
-ghost use Rattle.std.specs.Prelude.{◌≡◌};
-ghost use Rattle.pix_script.specs.Fault.{problem_number, fault_number, fault_line};
+//! Why a script gives no image.
+ghost use Rattle.std.specs.Prelude.{◌≡◌, Some};
+ghost use Rattle.pix_script.specs.Fault.{problem_number, problem_text, fault_number, fault_line, fault_text};
 ghost use Rattle.pix_script.specs.declared.fault.PaintFault.TheVariants.{OutOfMemory};
 
 use std::alloc::AllocError;
-use thiserror::Error;
+use std::error::Error;
+use std::fmt;
 
-/// What is wrong with a line.
-#[derive(Clone, Copy, Debug, PartialEq, Eq, Error)]
+/// The problem of a faulty line.
+#[derive(Clone, Copy, Debug, PartialEq, Eq)]
 pub enum Problem {
-    /// A command that works on an image, and no line before makes one.
-    #[error("no image")]
+    /// Another command comes before `image`.
     NoImage,
-    /// A line that makes an image, and a line before has made one.
-    #[error("second image")]
+    /// `image` comes again.
     SecondImage,
-    /// A first word that names no command, or a word that names no operator.
-    #[error("unknown word")]
+    /// The first word names no command, or the word in an operator's place names no operator.
     UnknownWord,
-    /// More or fewer words than the command takes.
-    #[error("wrong number of words")]
+    /// The command takes fewer or more words.
     WrongCount,
-    /// A word that is no coordinate, or no side.
-    #[error("bad number")]
+    /// A word is no coordinate, or no side.
     BadNumber,
-    /// A word that isn't eight hexadecimal digits.
-    #[error("bad color")]
+    /// A word isn't eight hexadecimal digits.
     BadColor,
-    /// A side of the image above the limit.
-    #[error("image too big")]
+    /// A side of the image is above 1024.
     TooBig,
+    /// `copy` or `comp` comes before `keep`.
+    NothingKept,
 }
 
-/// Why a script paints nothing.
-#[derive(Clone, Copy, Debug, PartialEq, Eq, Error)]
+/// Why a script gives no image.
+#[derive(Clone, Copy, Debug, PartialEq, Eq)]
 pub enum PaintFault {
-    /// The number of the first faulty line, counted from 1 on, and its problem.
-    #[error("line {0}: {1}")]
+    /// The number of the first faulty line, counted from 1, and its problem.
     Line(usize, Problem),
-    /// An allocation was refused.
-    #[error("out of memory")]
+    /// An allocation failed.
     OutOfMemory,
-    /// The script has too many bytes.
-    #[error("input too long")]
+    /// The script has more than [`MAX_SCRIPT`](crate::MAX_SCRIPT) bytes.
     TooLong,
 }
 
 impl Problem {
-    /// The problem's number, which is the number of a fault that has it.
+    /// Returns the problem's number, from 1 to 8.
     fn number(&self) -> u32
         ensures { result ≡ problem_number self.now }
     {
@@ -59,12 +52,46 @@ impl Problem {
             Problem::BadNumber => 5,
             Problem::BadColor => 6,
             Problem::TooBig => 7,
+            Problem::NothingKept => 8,
         }
     }
 }
 
+impl fmt::Display for Problem {
+    ghost output = { λ problem. Some (problem_text problem) };
+
+    fn fmt<W: fmt::Write>(&self, f: &mut fmt::Formatter<W>) -> fmt::Result {
+        f.write_str(match self {
+            Problem::NoImage => "no image",
+            Problem::SecondImage => "second image",
+            Problem::UnknownWord => "unknown word",
+            Problem::WrongCount => "wrong number of words",
+            Problem::BadNumber => "bad number",
+            Problem::BadColor => "bad color",
+            Problem::TooBig => "image too big",
+            Problem::NothingKept => "nothing kept",
+        })
+    }
+}
+
+impl fmt::Display for PaintFault {
+    ghost output = { λ fault. Some (fault_text fault) };
+
+    fn fmt<W: fmt::Write>(&self, f: &mut fmt::Formatter<W>) -> fmt::Result {
+        match self {
+            PaintFault::Line(line, problem) => write!(f, "line {line}: {problem}"),
+            PaintFault::OutOfMemory => f.write_str("out of memory"),
+            PaintFault::TooLong => f.write_str("input too long"),
+        }
+    }
+}
+
+impl Error for Problem {}
+
+impl Error for PaintFault {}
+
 impl PaintFault {
-    /// The fault's number, the same for each line that has the problem.
+    /// Returns the fault's number: 1 to 8 for the problem of a line, 9 for an allocation failure, 10 for a script that is too long.
     pub fn number(&self) -> u32
         ensures { result ≡ fault_number self.now }
     {
@@ -75,7 +102,7 @@ impl PaintFault {
         }
     }
 
-    /// The number of the faulty line, counted from 1 on.
+    /// Returns the number of the faulty line, counted from 1, or `None` where the fault is not one of a line.
     pub fn line(&self) -> Option<usize>
         ensures { result ≡ fault_line self.now }
     {

@@ -1,13 +1,18 @@
-//! Paint scripts: lines of text that paint an image, whose pixels are printed as text.
+//! Paint scripts: lines of text that draw an image, whose pixels are printed as text.
 #![tactic(auto)]
 
 mod command;
 mod fault;
 mod lines;
 mod number;
+mod operator;
+mod parse;
+mod picture;
 mod pixel;
 mod script;
+mod stop;
 mod text;
 
 pub use fault::{PaintFault, Problem};
 pub use script::{MAX_SCRIPT, paint_text};
+pub use stop::{PaintStop, paint_io};

@@ -1,39 +1,25 @@
-//! Readers and writers that fail, and the statuses.
-use crate::{Stop, paint, status};
-use pix_script::{PaintFault, Problem};
+//! Runs over readers and writers, with the statuses and the reports.
+use crate::run::run;
+use std::alloc::Global;
 use std::io;
 use std::io::{ErrorKind, Read, Write};
 use std::test::Fail;
 
-/// Gives its bytes one at a time, and fails once no reads are left.
+/// Fails at each read.
 #[derive(Drop)]
-struct FailingReader<'a> {
-    bytes: &'a [u8],
-    reads_left: u32,
-}
+struct FailingReader;
 
-impl Read for FailingReader<'_> {
-    fn read(&mut self, buf: &mut [u8]) -> io::Result<usize> {
-        if self.reads_left == 0 {
-            return Err(ErrorKind::Interrupted.into());
-        }
-        self.reads_left -= 1;
-        match (self.bytes, buf) {
-            ([first, rest @ ..], [place, ..]) => {
-                *place = *first;
-                self.bytes = rest;
-                Ok(1)
-            }
-            _ => Ok(0),
-        }
+impl Read for FailingReader {
+    fn read(&mut self, _buf: &mut [u8]) -> io::Result<usize> {
+        Err(ErrorKind::Interrupted.into())
     }
 }
 
 /// Has room for nothing.
 #[derive(Drop)]
-struct FailingWriter;
+struct FullWriter;
 
-impl Write for FailingWriter {
+impl Write for FullWriter {
     fn write(&mut self, _buf: &[u8]) -> io::Result<usize> {
         Err(ErrorKind::StorageFull.into())
     }
@@ -43,61 +29,68 @@ impl Write for FailingWriter {
     }
 }
 
-#[test]
-fn a_script_read_byte_by_byte(rt: HostRuntime) {
-    let mut reader = FailingReader {
-        bytes: b"image 1 1",
-        reads_left: 100,
-    };
-    let mut out = Vec::new(rt.alloc());
-    assert!(rt; paint(rt.alloc(), &mut reader, &mut out) == Ok(()));
-    assert!(rt; out.as_slice() == b"00000000\n".as_slice());
-}
-
-/// A failed read prints nothing, also after half of the script.
-#[test]
-fn reads_that_fail(rt: HostRuntime) {
-    for reads_left in [0, 4] {
-        let mut reader = FailingReader {
-            bytes: b"image 1 1",
-            reads_left,
-        };
-        let mut out = Vec::new(rt.alloc());
-        assert!(rt; paint(rt.alloc(), &mut reader, &mut out) == Err(Stop::Read));
-        assert!(rt; out.is_empty());
-    }
+/// The status, the output and the report of a run on these bytes.
+fn outcome(alloc: Global, script: &[u8]) -> (u8, Vec<u8>, Vec<u8>) {
+    let mut input = script;
+    let mut output = Vec::new(alloc);
+    let mut errors = Vec::new(alloc);
+    let status = run(alloc, &mut input, &mut output, &mut errors);
+    (status, output, errors)
 }
 
 #[test]
-fn a_write_that_fails(rt: HostRuntime) {
-    let mut script = b"image 1 1".as_slice();
-    assert!(rt; paint(rt.alloc(), &mut script, &mut FailingWriter) == Err(Stop::Write));
-}
-
-#[test]
-fn a_script_with_a_fault(rt: HostRuntime) {
-    let mut script = b"image 1 1\nclear".as_slice();
-    let mut out = Vec::new(rt.alloc());
-    let stop = Stop::Script(PaintFault::Line(2, Problem::UnknownWord));
-    assert!(rt; paint(rt.alloc(), &mut script, &mut out) == Err(stop));
-    assert!(rt; out.is_empty());
-}
-
-#[test]
-fn statuses_and_texts(rt: HostRuntime) -> Result<(), Fail> {
-    for (stop, wanted, text) in [
+fn statuses_and_reports(rt: HostRuntime) -> Result<(), Fail> {
+    for (script, wanted, text, report) in [
+        ("image 1 1", 0, "00000000\n", ""),
+        ("", 0, "", ""),
         (
-            Stop::Script(PaintFault::Line(7, Problem::BadColor)),
+            "image 1 1\nclear 1",
             1,
-            "line 7: bad color",
+            "",
+            "line 2: wrong number of words\n",
         ),
-        (Stop::Script(PaintFault::TooLong), 1, "input too long"),
-        (Stop::Script(PaintFault::OutOfMemory), 2, "out of memory"),
-        (Stop::Read, 3, "read failed"),
-        (Stop::Write, 3, "write failed"),
+        ("image 1025 1", 1, "", "line 1: image too big\n"),
     ] {
-        assert_eq!(rt; status(stop), wanted, "{text}");
-        assert_eq!(rt; stop.to_string(rt.alloc())?.as_str(), text);
+        let (status, output, errors) = outcome(rt.alloc(), script.as_bytes());
+        assert_eq!(rt; status, wanted, "{script:?}");
+        assert!(rt; output.as_slice() == text.as_bytes(), "{script:?}");
+        assert!(rt; errors.as_slice() == report.as_bytes(), "{script:?}");
     }
     Ok(())
+}
+
+#[test]
+fn an_input_that_is_too_long(rt: HostRuntime) -> Result<(), Fail> {
+    let spaces = vec![in rt.alloc(); b' '; 1_048_577]?;
+    let (status, output, errors) = outcome(rt.alloc(), &spaces);
+    assert_eq!(rt; status, 1);
+    assert!(rt; output.is_empty());
+    assert!(rt; errors.as_slice() == b"input too long\n".as_slice());
+    Ok(())
+}
+
+#[test]
+fn a_failed_read(rt: HostRuntime) {
+    let mut output = Vec::new(rt.alloc());
+    let mut errors = Vec::new(rt.alloc());
+    assert!(rt; run(rt.alloc(), &mut FailingReader, &mut output, &mut errors) == 3);
+    assert!(rt; output.is_empty());
+    assert!(rt; errors.as_slice() == b"read failed\n".as_slice());
+}
+
+#[test]
+fn a_failed_write(rt: HostRuntime) {
+    let mut input = b"image 1 1".as_slice();
+    let mut errors = Vec::new(rt.alloc());
+    assert!(rt; run(rt.alloc(), &mut input, &mut FullWriter, &mut errors) == 3);
+    assert!(rt; errors.as_slice() == b"write failed\n".as_slice());
+}
+
+/// The status tells of a stop that can't be reported.
+#[test]
+fn a_failed_report(rt: HostRuntime) {
+    let mut input = b"clear".as_slice();
+    let mut output = Vec::new(rt.alloc());
+    assert!(rt; run(rt.alloc(), &mut input, &mut output, &mut FullWriter) == 1);
+    assert!(rt; output.is_empty());
 }

@@ -2,7 +2,7 @@ use Rattle.std.proofs.Common.{◌≡◌}
 use Rattle.std.proofs.lemmas.Result.{err_from_is_err_and}
 use Rattle.pix_script.specs.declared.fault.PaintFault.TheVariants.{Line}
 use Rattle.pix_script.specs.Lines.{lines_of}
-use Rattle.pix_script.proofs.OutcomeLemmas.{too_long, fault_outcome, painted_outcome, first_of_fault}
+use Rattle.pix_script.proofs.OutcomeLemmas.{too_long, fault_outcome, rendered_outcome, first_of_fault}
 use Rattle.pix_script.proofs.script.paint_text.Goals as goal
 
 pub returns-then-script-gt-MAX_SCRIPT-clause-outcome : goal.returns-then-script-gt-MAX_SCRIPT-clause-outcome
@@ -22,4 +22,4 @@ returns-in_err-read-clause-first c =
 
 pub returns-clause-outcome : goal.returns-clause-outcome
 returns-clause-outcome c =
-    painted_outcome (λ text. text.items) c.args.script.now c.in_ok-read.read c.paint.result c.if-script-gt-MAX_SCRIPT.false c.in_ok-read.ensures c.paint.ensures.text c.paint.ensures.memory
+    rendered_outcome (λ text. text.items) c.args.script.now c.in_ok-read.read c.render.result c.if-script-gt-MAX_SCRIPT.false c.in_ok-read.ensures c.render.ensures.text c.render.ensures.memory
