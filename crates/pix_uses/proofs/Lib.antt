@@ -1,0 +1,4 @@
+pub mod Reached
+pub mod Points
+pub mod Within
+pub mod Steps

@@ -1,0 +1,3 @@
+pub mod Rgba
+pub mod Pictures
+pub mod Photos

@@ -1,0 +1,13 @@
+//! Callers of the library, as a user would write them: each is proved, and tried by a test.
+#![tactic(auto)]
+
+pub mod bytes;
+pub mod colors;
+pub mod lists;
+pub mod models;
+pub mod photos;
+pub mod pixels;
+pub mod rows;
+pub mod sprites;
+#[cfg(test)]
+mod tests;

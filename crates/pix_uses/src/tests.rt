@@ -1,0 +1,222 @@
+//! Each caller on a small picture.
+use crate::bytes::tint_bytes;
+use crate::colors::{glazed, sunrise, tint_top};
+use crate::lists::{draw, glaze_twice};
+use crate::models::{luminance, red_of};
+use crate::photos;
+use crate::pixels::{fill, opacity};
+use crate::rows::{crop, underline};
+use crate::sprites::{draw_glyph, paste};
+use pix::chan::Ch8;
+use pix::gray::Gray8;
+use pix::matte::Matte8;
+use pix::ops::Op;
+use pix::rgb::{Rgb8, Rgba8p, SRgb8};
+use pix::{Command, Raster, RasterFault, Region};
+use std::alloc::Global;
+use std::test::Fail;
+
+/// A pixel of full alpha.
+fn opaque(red: u8, green: u8, blue: u8) -> Rgba8p {
+    Rgba8p::new(red, green, blue, 255)
+}
+
+/// A blue that covers 64/255 of what is below it.
+fn glass() -> Rgba8p {
+    Rgba8p::new(0, 0, 64, 64)
+}
+
+/// A picture of these pixels, row by row.
+fn picture(
+    alloc: Global,
+    width: u32,
+    height: u32,
+    pixels: &[Rgba8p],
+) -> Result<Raster<Rgba8p>, RasterFault> {
+    let mut picture = Raster::with_clear(alloc, width, height)?;
+    for (dst, src) in picture.pixels_mut().iter_mut().zip(pixels) {
+        *dst = *src;
+    }
+    Ok(picture)
+}
+
+#[test]
+fn a_sun_in_the_sky(rt: HostRuntime) -> Result<(), Fail> {
+    let sky = opaque(200, 100, 50);
+    let picture = sunrise(rt.alloc(), sky, glass())?;
+    assert_eq!(rt; (picture.width(), picture.height()), (32, 16));
+    for (y, row) in picture.pixels().chunks(32).enumerate() {
+        for (x, pixel) in row.iter().enumerate() {
+            let inside = (20..26).contains(&x) && (2..8).contains(&y);
+            let want = if inside { opaque(150, 75, 101) } else { sky };
+            assert_eq!(rt; *pixel, want, "({x}, {y})");
+        }
+    }
+    Ok(())
+}
+
+/// 200 * 191 / 255 = 149.8, 100 * 191 / 255 = 74.9, 64 + 50 * 191 / 255 = 101.5 with 37.45 rounded first, 64 + 191 = 255.
+#[test]
+fn a_glaze_over_a_ground(rt: HostRuntime) -> Result<(), Fail> {
+    let pixel = glazed(rt.alloc(), opaque(200, 100, 50), glass())?;
+    assert_eq!(rt; pixel, opaque(150, 75, 101));
+    Ok(())
+}
+
+#[test]
+fn a_tint_of_the_top(rt: HostRuntime) -> Result<(), Fail> {
+    let sand = opaque(200, 100, 50);
+    let mut sky = Raster::with_color(rt.alloc(), 2, 2, sand)?;
+    tint_top(&mut sky, 1, glass());
+    let tinted = opaque(150, 75, 101);
+    assert_eq!(rt; sky.pixels(), [tinted, tinted, sand, sand].as_slice());
+    Ok(())
+}
+
+#[test]
+fn a_sprite_over_the_edges(rt: HostRuntime) -> Result<(), Fail> {
+    let [a, b, c, d] = [1, 2, 3, 4].map(|shade| opaque(shade, shade, shade));
+    let sprite = picture(rt.alloc(), 2, 2, &[a, b, c, d])?;
+    let sand = opaque(200, 100, 50);
+    let mut ground = Raster::with_color(rt.alloc(), 3, 2, sand)?;
+    paste(&mut ground, &sprite, -1, -1);
+    paste(&mut ground, &sprite, 2, 0);
+    paste(&mut ground, &sprite, 3, 0);
+    paste(&mut ground, &sprite, -2147483648, 2147483647);
+    assert_eq!(rt; ground.pixels(), [d, sand, a, sand, sand, c].as_slice());
+    Ok(())
+}
+
+#[test]
+fn a_glyph_at_a_corner(rt: HostRuntime) -> Result<(), Fail> {
+    let mut glyph = Raster::with_clear(rt.alloc(), 2, 2)?;
+    *glyph.pixel_mut(0, 0) = Matte8::new(0xFF);
+    *glyph.pixel_mut(1, 0) = Matte8::new(0x80);
+    *glyph.pixel_mut(0, 1) = Matte8::new(0x40);
+    let ink = Rgba8p::new(0x40, 0x80, 0x60, 0x80);
+    let mut page = Raster::with_clear(rt.alloc(), 2, 2)?;
+    draw_glyph(&mut page, &glyph, 0, 0, ink);
+    let half = Rgba8p::new(0x20, 0x40, 0x30, 0x40);
+    let quarter = Rgba8p::new(0x10, 0x20, 0x18, 0x20);
+    let clear = Rgba8p::default();
+    assert_eq!(rt; page.pixels(), [ink, half, quarter, clear].as_slice());
+    draw_glyph(&mut page, &glyph, 1, 1, ink);
+    Ok(())
+}
+
+#[test]
+fn a_list_of_commands(rt: HostRuntime) -> Result<(), Fail> {
+    let ink = opaque(10, 20, 30);
+    let mut page = Raster::with_color(rt.alloc(), 2, 1, opaque(200, 100, 50))?;
+    let commands: [Command<'_, Rgba8p, Matte8>; 3] = [
+        Command::Clear,
+        Command::Color {
+            reg: Region::from(()),
+            clr: glass(),
+            op: Op::SrcOver,
+        },
+        Command::CopyColor {
+            reg: Region::from((1, 0)),
+            clr: ink,
+        },
+    ];
+    draw(&mut page, &commands);
+    assert_eq!(rt; page.pixels(), [glass(), ink].as_slice());
+    Ok(())
+}
+
+/// After the first glaze (150, 75, 101, 255); 150 * 191 / 255 = 112.4, 75 * 191 / 255 = 56.2, 64 + 101 * 191 / 255 = 139.7.
+#[test]
+fn two_glazes(rt: HostRuntime) -> Result<(), Fail> {
+    let sand = opaque(200, 100, 50);
+    let mut page = Raster::with_color(rt.alloc(), 2, 1, sand)?;
+    glaze_twice(&mut page, Region::new(0, 0, 1, 1), glass(), glass());
+    assert_eq!(rt; page.pixels(), [opaque(112, 56, 140), sand].as_slice());
+    Ok(())
+}
+
+#[test]
+fn the_opacity_of_points(rt: HostRuntime) -> Result<(), Fail> {
+    let page = Raster::with_color(rt.alloc(), 2, 1, glass())?;
+    assert_eq!(rt; opacity(&page, 1, 0), 64);
+    for (x, y) in [(-1, 0), (0, -1), (2, 0), (0, 1)] {
+        assert_eq!(rt; opacity(&page, x, y), 0, "({x}, {y})");
+    }
+    Ok(())
+}
+
+#[test]
+fn a_filled_picture(rt: HostRuntime) -> Result<(), Fail> {
+    let mut page = Raster::with_clear(rt.alloc(), 3, 2)?;
+    fill(&mut page, glass());
+    assert_eq!(rt; page.pixels(), [glass(); 6].as_slice());
+    Ok(())
+}
+
+#[test]
+fn a_region_cut_out(rt: HostRuntime) -> Result<(), Fail> {
+    let [a, b, c, d] = [1, 2, 3, 4].map(|shade| opaque(shade, shade, shade));
+    let page = picture(rt.alloc(), 2, 2, &[a, b, c, d])?;
+    for (reg, want) in [
+        (Region::from(()), [a, b, c, d].as_slice()),
+        (Region::new(1, -5, 9, 9), [b, d].as_slice()),
+        (Region::new(-1, 1, 2, 1), [c].as_slice()),
+        (Region::new(2, 0, 1, 1), [].as_slice()),
+    ] {
+        let pixels = crop(rt.alloc(), &page, reg)?;
+        assert_eq!(rt; pixels.as_slice(), want, "{reg:?}");
+    }
+    Ok(())
+}
+
+#[test]
+fn a_row_written_over(rt: HostRuntime) -> Result<(), Fail> {
+    let sand = opaque(200, 100, 50);
+    let ink = opaque(10, 20, 30);
+    let mut page = Raster::with_color(rt.alloc(), 3, 2, sand)?;
+    assert!(rt; underline(&mut page, Region::new(1, 0, 5, 5), 1, ink));
+    assert!(rt; !underline(&mut page, Region::new(1, 0, 5, 1), 1, ink));
+    assert!(rt; !underline(&mut page, Region::from(()), -1, ink));
+    assert_eq!(rt;
+        page.pixels(),
+        [sand, sand, sand, sand, ink, ink].as_slice()
+    );
+    Ok(())
+}
+
+/// Half of white over black: 128 + 0 * 127 / 255.
+#[test]
+fn bytes_in_and_bytes_out(rt: HostRuntime) -> Result<(), Fail> {
+    let bytes = vec![in rt.alloc(); 0, 0, 0, 255, 0, 0, 0, 255]?;
+    let white = Rgba8p::new(128, 128, 128, 128);
+    let made = tint_bytes(rt.alloc(), 2, 1, bytes, Region::new(1, 0, 9, 9), white)?;
+    assert_eq!(rt;
+        made.as_slice(),
+        [0, 0, 0, 255, 128, 128, 128, 255].as_slice()
+    );
+
+    let bytes = vec![in rt.alloc(); 0, 0, 0]?;
+    let refused = tint_bytes(rt.alloc(), 2, 1, bytes, Region::new(1, 0, 9, 9), white);
+    assert_eq!(rt; refused.err(), Some(RasterFault::WrongLength));
+    Ok(())
+}
+
+/// (2126 * 255) / 10000 is 54.2.
+#[test]
+fn luminance_of_red(rt: HostRuntime) {
+    let red = Rgb8::new(255, 0, 0);
+    assert_eq!(rt; red_of(red), Ch8::new(255));
+    assert_eq!(rt; luminance(red), Gray8::new(54));
+}
+
+/// 0xEF, 0x8C, 0xC7 are 0xDC, 0x43, 0x92 in light. Half a black over them leaves 127/255 of each: 110, 33 and 73, which are 0xAF, 0x65 and 0x92.
+#[test]
+fn a_glaze_over_a_photograph(rt: HostRuntime) -> Result<(), Fail> {
+    let photo = Raster::with_color(rt.alloc(), 3, 2, SRgb8::new::<u8>(0xEF, 0x8C, 0xC7))?;
+    let shown = photos::glaze(rt.alloc(), &photo, Rgba8p::new(0, 0, 0, 128))?;
+    assert_eq!(rt; (shown.width(), shown.height()), (3, 2));
+    for pixel in shown.pixels() {
+        assert_eq!(rt; *pixel, SRgb8::new::<u8>(0xAF, 0x65, 0x92));
+    }
+    Ok(())
+}
