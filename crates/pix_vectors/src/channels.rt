@@ -1,4 +1,4 @@
-//! Rows and whole ranges of both channel widths.
+//! Arithmetic of channels of both widths, on single numbers and on whole ranges.
 ghost use Rattle.std.specs.Prelude.{ℤ, pos, ◌<◌, ◌<ℤ◌};
 
 use pix::chan::{Ch8, Ch16, Channel};
@@ -6,17 +6,22 @@ use pix::chan::{Ch8, Ch16, Channel};
 #[test]
 fn products(rt: HostRuntime) {
     for (x, y, want) in [
-        (1_u8, 255_u8, 0_u8),
+        (1_u8, 255_u8, 1_u8),
         (16, 255, 16),
-        (248, 248, 242),
+        (248, 248, 241),
         (128, 128, 64),
+        (1, 127, 0),
+        (1, 128, 1),
     ] {
         assert_eq!(rt; Ch8::new(x) * y, Ch8::new(want), "{x} * {y}");
     }
     for (x, y, want) in [
-        (255_u16, 65535_u16, 254_u16),
+        (255_u16, 65535_u16, 255_u16),
         (256, 65535, 256),
         (32768, 32768, 16384),
+        (1, 32767, 0),
+        (1, 32768, 1),
+        (40000, 50000, 30518),
     ] {
         assert_eq!(rt; Ch16::new(x) * y, Ch16::new(want), "{x} * {y}");
     }
@@ -109,44 +114,39 @@ fn constants_order_and_equality_are_by_the_number(rt: HostRuntime) {
     );
 }
 
-/// `c` / `most` rounded down, but -k where `c` is -(k * `most` + 1) and k isn't 0.
-pub(crate) fn plain_step(c: i64, most: i64) -> i64
-    requires { pos 1 <ℤ most }
+/// `c` / `max` rounded down, but -k where `c` is -(k * `max` + 1) and k isn't 0.
+pub(crate) fn plain_step(c: i64, max: i64) -> i64
+    requires { pos 1 <ℤ max }
 {
-    if c < -1 && (c + 1) % most == 0 {
-        (c + 1) / most
+    if c < -1 && (c + 1) % max == 0 {
+        (c + 1) / max
     } else {
-        c.div_euclid(most)
+        c.div_euclid(max)
     }
 }
 
 /// The lerp in plain whole numbers.
-fn plain_lerp(start: u32, end: u32, t: u32, most: i64) -> i64
-    requires { pos 1 <ℤ most }
+fn plain_lerp(start: u32, end: u32, t: u32, max: i64) -> i64
+    requires { pos 1 <ℤ max }
 {
-    let way = i64::from(end) - i64::from(start);
-    i64::from(start).wrapping_add(plain_step(i64::from(t).wrapping_mul(way), most))
+    let difference = i64::from(end) - i64::from(start);
+    i64::from(start).wrapping_add(plain_step(i64::from(t).wrapping_mul(difference), max))
 }
 
-/// The quotient in plain whole numbers, where `whole` is one more than the greatest.
-fn plain_quotient(x: u32, y: u32, whole: u64) -> u64
-    requires { 0 < whole }
-{
+/// The quotient in plain whole numbers: (`max` + 1) * `x` / `y` rounded down, at most `max`, and 0 where `y` is 0.
+fn plain_quotient(x: u32, y: u32, max: u64) -> u64 {
     match u64::from(y) {
         0 => 0,
-        y => (whole.wrapping_mul(u64::from(x)) / y).min(whole - 1),
+        y => (max.wrapping_add(1).wrapping_mul(u64::from(x)) / y).min(max),
     }
 }
 
-/// The product in plain whole numbers, where `root` * `root` is one more than the greatest.
-fn plain_product(x: u32, y: u32, root: u64) -> u64
-    requires { 0 < root }
+/// The product in plain whole numbers: (2 * `x` * `y` + `max`) / (2 * `max`) rounded down.
+fn plain_product(x: u32, y: u32, max: u64) -> u64
+    requires { 0 < max }
 {
-    let wide = |x: u32| -> u64 {
-        root.wrapping_mul(u64::from(x))
-            .wrapping_add(u64::from(x) / root)
-    };
-    wide(x).wrapping_mul(wide(y)) / root / root / root / root
+    let twice = u64::from(x).wrapping_mul(u64::from(y)).wrapping_mul(2);
+    twice.wrapping_add(max) / 2 / max
 }
 
 #[test]
@@ -157,12 +157,12 @@ fn all_pairs_of_eight_bits(rt: HostRuntime) {
             let (p, q) = (u32::from(x), u32::from(y));
             assert_eq!(rt;
                 u64::from((a * b).to_u32()),
-                plain_product(p, q, 16),
+                plain_product(p, q, 255),
                 "{x} * {y}"
             );
             assert_eq!(rt;
                 u64::from((a / b).to_u32()),
-                plain_quotient(p, q, 256),
+                plain_quotient(p, q, 255),
                 "{x} / {y}"
             );
             for t in [0_u8, 1, 2, 16, 64, 127, 128, 129, 200, 253, 254, 255] {
@@ -177,11 +177,11 @@ fn all_pairs_of_eight_bits(rt: HostRuntime) {
     }
 }
 
-/// The first or the last number with the upper half `place` / 2.
-fn range_end(place: u16) -> u16
-    requires { place < 512 }
+/// The first or the last number whose upper byte is `index` / 2.
+fn range_end(index: u16) -> u16
+    requires { index < 512 }
 {
-    place / 2 * 256 + place % 2 * 255
+    index / 2 * 256 + index % 2 * 255
 }
 
 #[test]
@@ -193,12 +193,12 @@ fn ends_of_all_ranges_of_sixteen_bits(rt: HostRuntime) {
             let (p, q) = (u32::from(x), u32::from(y));
             assert_eq!(rt;
                 u64::from((a * b).to_u32()),
-                plain_product(p, q, 256),
+                plain_product(p, q, 65535),
                 "{x} * {y}"
             );
             assert_eq!(rt;
                 u64::from((a / b).to_u32()),
-                plain_quotient(p, q, 65536),
+                plain_quotient(p, q, 65535),
                 "{x} / {y}"
             );
             for t in [0_u16, 1, 255, 256, 32767, 32768, 65534, 65535] {

@@ -2,17 +2,47 @@
 #![tactic(auto)]
 
 #[cfg(test)]
+mod aliases;
+#[cfg(test)]
+mod aliases_srgb;
+#[cfg(test)]
 mod bounds;
+#[cfg(test)]
+mod buffers;
 #[cfg(test)]
 mod channels;
 #[cfg(test)]
+mod conversions;
+#[cfg(test)]
+mod corners16;
+#[cfg(test)]
+mod corners8;
+#[cfg(test)]
+mod devices;
+#[cfg(test)]
+mod ends;
+#[cfg(test)]
+mod exact;
+#[cfg(test)]
+mod getters;
+#[cfg(test)]
 mod hues;
+#[cfg(test)]
+mod kinds;
+#[cfg(test)]
+mod lanes;
 #[cfg(test)]
 mod mattes;
 #[cfg(test)]
+mod models;
+#[cfg(test)]
 mod operators;
 #[cfg(test)]
+mod palettes;
+#[cfg(test)]
 mod pictures;
+#[cfg(test)]
+mod random_lists;
 #[cfg(test)]
 mod rasters;
 #[cfg(test)]
@@ -21,3 +51,11 @@ mod rows;
 mod runs;
 #[cfg(test)]
 mod scripts;
+#[cfg(test)]
+mod sixteen_bits;
+#[cfg(test)]
+mod sizes;
+#[cfg(test)]
+mod srgb_tables;
+#[cfg(test)]
+mod transparent;

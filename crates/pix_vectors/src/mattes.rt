@@ -1,4 +1,4 @@
-//! Colors through rasters of mattes.
+//! Colors composited through rasters of mattes.
 use crate::pictures::{graya, matte, picture, rgba};
 use pix::chan::Ch8;
 use pix::el::Pixel;

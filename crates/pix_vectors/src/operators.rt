@@ -10,96 +10,185 @@ use pix::ops::{
 };
 use pix::rgb::Rgba16p;
 
-/// What of one side enters a composite: `Alpha` and `Rest` are by the other side's alpha.
+/// The coefficient of one side of a composite: `Alpha` and `OneMinusAlpha` are by the other side's alpha.
 #[derive(Clone, Copy)]
-pub(crate) enum Share {
-    Nothing,
-    All,
+pub(crate) enum Coefficient {
+    Zero,
+    One,
     Alpha,
-    Rest,
+    OneMinusAlpha,
 }
 
-/// Each operator with the shares of its source and of its destination.
-pub(crate) const TABLE: [(Op, Share, Share); 13] = [
-    (Op::Src, Share::All, Share::Nothing),
-    (Op::Dest, Share::Nothing, Share::All),
-    (Op::SrcOver, Share::All, Share::Rest),
-    (Op::DestOver, Share::Rest, Share::All),
-    (Op::SrcOut, Share::Rest, Share::Nothing),
-    (Op::DestOut, Share::Nothing, Share::Rest),
-    (Op::SrcIn, Share::Alpha, Share::Nothing),
-    (Op::DestIn, Share::Nothing, Share::Alpha),
-    (Op::SrcAtop, Share::Alpha, Share::Rest),
-    (Op::DestAtop, Share::Rest, Share::Alpha),
-    (Op::Xor, Share::Rest, Share::Rest),
-    (Op::Clear, Share::Nothing, Share::Nothing),
-    (Op::Plus, Share::All, Share::All),
+/// Each operator with the coefficients of its source and of its destination.
+pub(crate) const TABLE: [(Op, Coefficient, Coefficient); 13] = [
+    (Op::Src, Coefficient::One, Coefficient::Zero),
+    (Op::Dest, Coefficient::Zero, Coefficient::One),
+    (Op::SrcOver, Coefficient::One, Coefficient::OneMinusAlpha),
+    (Op::DestOver, Coefficient::OneMinusAlpha, Coefficient::One),
+    (Op::SrcOut, Coefficient::OneMinusAlpha, Coefficient::Zero),
+    (Op::DestOut, Coefficient::Zero, Coefficient::OneMinusAlpha),
+    (Op::SrcIn, Coefficient::Alpha, Coefficient::Zero),
+    (Op::DestIn, Coefficient::Zero, Coefficient::Alpha),
+    (Op::SrcAtop, Coefficient::Alpha, Coefficient::OneMinusAlpha),
+    (Op::DestAtop, Coefficient::OneMinusAlpha, Coefficient::Alpha),
+    (
+        Op::Xor,
+        Coefficient::OneMinusAlpha,
+        Coefficient::OneMinusAlpha,
+    ),
+    (Op::Clear, Coefficient::Zero, Coefficient::Zero),
+    (Op::Plus, Coefficient::One, Coefficient::One),
 ];
 
-/// A channel of eight bits widened to twelve.
-fn widened(channel: u8) -> u32
-    ensures { result < 4096 }
-{
-    u32::from(channel) * 16 + u32::from(channel) / 16
-}
-
-/// The product of two channels.
+/// The product of two channels: `channel * alpha / 255`, rounded to the nearest.
 fn product(channel: u8, alpha: u8) -> u32
     ensures { result < 256 }
 {
-    widened(channel) * widened(alpha) / 65536
+    (2 * u32::from(channel) * u32::from(alpha) + 255) / 510
 }
 
-/// What the share leaves of a channel, where `alpha` is the other side's.
-fn entering(share: Share, channel: u8, alpha: u8) -> u32
+/// A channel times its coefficient, where `alpha` is the other side's.
+fn term(coefficient: Coefficient, channel: u8, alpha: u8) -> u32
     ensures { result < 256 }
 {
-    match share {
-        Share::Nothing => 0,
-        Share::All => u32::from(channel),
-        Share::Alpha => product(channel, alpha),
-        Share::Rest => product(channel, 255 - alpha),
+    match coefficient {
+        Coefficient::Zero => 0,
+        Coefficient::One => u32::from(channel),
+        Coefficient::Alpha => product(channel, alpha),
+        Coefficient::OneMinusAlpha => product(channel, 255 - alpha),
     }
 }
 
-/// The row's source composited with its destination by the operator's type.
-fn by_type<O: Blend>(op: O) -> Graya8p {
-    let mut pixel = Graya8p::new(64, 128);
-    pixel.composite_channels(&Graya8p::new(100, 200), op);
+/// `source` composited with `dest` by the operator's type.
+fn by_type<O: Blend>(op: O, source: Graya8p, dest: Graya8p) -> Graya8p {
+    let mut pixel = dest;
+    pixel.composite_channels(&source, op);
     pixel
 }
 
 /// The same by the operator as a value, on each channel.
-fn by_value(op: Op) -> Graya8p {
-    let mut gray = Ch8::new(64);
-    let mut alpha = Ch8::new(128);
-    let da1 = Ch8::MAX - Ch8::new(128);
-    let sa1 = Ch8::MAX - Ch8::new(200);
-    op.composite(&mut gray, da1, &Ch8::new(100), sa1);
-    op.composite(&mut alpha, da1, &Ch8::new(200), sa1);
+fn by_value(op: Op, source: Graya8p, dest: Graya8p) -> Graya8p {
+    let mut gray = dest.get(0);
+    let mut alpha = dest.get(1);
+    let da1 = Ch8::MAX - dest.get(1);
+    let sa1 = Ch8::MAX - source.get(1);
+    op.composite(&mut gray, da1, &source.get(0), sa1);
+    op.composite(&mut alpha, da1, &source.get(1), sa1);
     Graya8p::with_channels([gray, alpha])
 }
 
 #[test]
 fn each_operator_on_a_pixel(rt: HostRuntime) {
+    let (source, dest) = (Graya8p::new(100, 200), Graya8p::new(64, 128));
     for (op, made, gray, alpha) in [
-        (Op::Src, by_type(Src), 100, 200),
-        (Op::Dest, by_type(Dest), 64, 128),
-        (Op::SrcOver, by_type(SrcOver), 113, 227),
-        (Op::DestOver, by_type(DestOver), 113, 227),
-        (Op::SrcOut, by_type(SrcOut), 49, 99),
-        (Op::DestOut, by_type(DestOut), 13, 27),
-        (Op::SrcIn, by_type(SrcIn), 50, 100),
-        (Op::DestIn, by_type(DestIn), 50, 100),
-        (Op::SrcAtop, by_type(SrcAtop), 63, 127),
-        (Op::DestAtop, by_type(DestAtop), 99, 199),
-        (Op::Xor, by_type(Xor), 62, 126),
-        (Op::Clear, by_type(Clear), 0, 0),
-        (Op::Plus, by_type(Plus), 164, 255),
+        (Op::Src, by_type(Src, source, dest), 100, 200),
+        (Op::Dest, by_type(Dest, source, dest), 64, 128),
+        (Op::SrcOver, by_type(SrcOver, source, dest), 114, 228),
+        (Op::DestOver, by_type(DestOver, source, dest), 114, 228),
+        (Op::SrcOut, by_type(SrcOut, source, dest), 50, 100),
+        (Op::DestOut, by_type(DestOut, source, dest), 14, 28),
+        (Op::SrcIn, by_type(SrcIn, source, dest), 50, 100),
+        (Op::DestIn, by_type(DestIn, source, dest), 50, 100),
+        (Op::SrcAtop, by_type(SrcAtop, source, dest), 64, 128),
+        (Op::DestAtop, by_type(DestAtop, source, dest), 100, 200),
+        (Op::Xor, by_type(Xor, source, dest), 64, 128),
+        (Op::Clear, by_type(Clear, source, dest), 0, 0),
+        (Op::Plus, by_type(Plus, source, dest), 164, 255),
     ] {
         let row = Graya8p::new(gray, alpha);
         assert_eq!(rt; made, row, "{op:?} by its type");
-        assert_eq!(rt; by_value(op), row, "{op:?} by its value");
+        assert_eq!(rt; by_value(op, source, dest), row, "{op:?} by its value");
+    }
+}
+
+/// Gray and alpha are in another ratio in the source than in the destination, so that no two operators give the same pixel.
+#[test]
+fn each_operator_on_a_pixel_of_another_ratio(rt: HostRuntime) {
+    let (source, dest) = (Graya8p::new(40, 200), Graya8p::new(90, 100));
+    let rows = [
+        (Op::Src, by_type(Src, source, dest), Graya8p::new(40, 200)),
+        (Op::Dest, by_type(Dest, source, dest), Graya8p::new(90, 100)),
+        (
+            Op::SrcOver,
+            by_type(SrcOver, source, dest),
+            Graya8p::new(59, 222),
+        ),
+        (
+            Op::DestOver,
+            by_type(DestOver, source, dest),
+            Graya8p::new(114, 222),
+        ),
+        (
+            Op::SrcOut,
+            by_type(SrcOut, source, dest),
+            Graya8p::new(24, 122),
+        ),
+        (
+            Op::DestOut,
+            by_type(DestOut, source, dest),
+            Graya8p::new(19, 22),
+        ),
+        (
+            Op::SrcIn,
+            by_type(SrcIn, source, dest),
+            Graya8p::new(16, 78),
+        ),
+        (
+            Op::DestIn,
+            by_type(DestIn, source, dest),
+            Graya8p::new(71, 78),
+        ),
+        (
+            Op::SrcAtop,
+            by_type(SrcAtop, source, dest),
+            Graya8p::new(35, 100),
+        ),
+        (
+            Op::DestAtop,
+            by_type(DestAtop, source, dest),
+            Graya8p::new(95, 200),
+        ),
+        (Op::Xor, by_type(Xor, source, dest), Graya8p::new(43, 144)),
+        (Op::Clear, by_type(Clear, source, dest), Graya8p::new(0, 0)),
+        (
+            Op::Plus,
+            by_type(Plus, source, dest),
+            Graya8p::new(130, 255),
+        ),
+    ];
+    for (op, made, row) in rows {
+        assert_eq!(rt; made, row, "{op:?} by its type");
+        assert_eq!(rt; by_value(op, source, dest), row, "{op:?} by its value");
+        for (other, _, pixel) in rows {
+            assert!(rt; op == other || row != pixel, "{op:?} and {other:?}");
+        }
+    }
+}
+
+/// The same in sixteen bits.
+#[test]
+fn each_operator_on_a_pixel_of_sixteen_bits(rt: HostRuntime) {
+    for (op, gray, alpha) in [
+        (Op::Src, 10000_u16, 50000_u16),
+        (Op::Dest, 20000, 30000),
+        (Op::SrcOver, 14741, 57111),
+        (Op::DestOver, 25422, 57111),
+        (Op::SrcOut, 5422, 27111),
+        (Op::DestOut, 4741, 7111),
+        (Op::SrcIn, 4578, 22889),
+        (Op::DestIn, 15259, 22889),
+        (Op::SrcAtop, 9319, 30000),
+        (Op::DestAtop, 20681, 50000),
+        (Op::Xor, 10163, 34222),
+        (Op::Clear, 0, 0),
+        (Op::Plus, 30000, 65535),
+    ] {
+        let mut pixel = [Ch16::new(20000), Ch16::new(30000)];
+        let da1 = Ch16::MAX - Ch16::new(30000);
+        let sa1 = Ch16::MAX - Ch16::new(50000);
+        op.composite(&mut pixel[0], da1, &Ch16::new(10000), sa1);
+        op.composite(&mut pixel[1], da1, &Ch16::new(50000), sa1);
+        assert_eq!(rt; pixel, [Ch16::new(gray), Ch16::new(alpha)], "{op:?}");
     }
 }
 
@@ -107,8 +196,8 @@ fn each_operator_on_a_pixel(rt: HostRuntime) {
 fn a_gray_pixel_over_another(rt: HostRuntime) {
     let before = Graya8p::new(0x20, 0x40);
     for (source, after) in [
-        (Graya8p::new(0x60, 0xA0), Graya8p::new(0x6B, 0xB7)),
-        (Graya8p::new(0x80, 0x80), Graya8p::new(0x8F, 0x9F)),
+        (Graya8p::new(0x60, 0xA0), Graya8p::new(0x6C, 0xB8)),
+        (Graya8p::new(0x80, 0x80), Graya8p::new(0x90, 0xA0)),
     ] {
         let mut pixel = before;
         pixel.composite_channels(&source, SrcOver);
@@ -120,9 +209,9 @@ fn a_gray_pixel_over_another(rt: HostRuntime) {
 fn slices_of_pixels(rt: HostRuntime) {
     let before = Graya8p::new(0x20, 0x40);
     let one = Graya8p::new(0x60, 0xA0);
-    let over_one = Graya8p::new(0x6B, 0xB7);
+    let over_one = Graya8p::new(0x6C, 0xB8);
     let two = Graya8p::new(0x80, 0x80);
-    let over_two = Graya8p::new(0x8F, 0x9F);
+    let over_two = Graya8p::new(0x90, 0xA0);
 
     let mut pixels = [before, before, before];
     Graya8p::composite_slice(&mut pixels, &[one, two], SrcOver);
@@ -149,7 +238,7 @@ fn every_operator_on_a_grid(rt: HostRuntime) {
                         let da1 = Ch8::new(255 - da);
                         let sa1 = Ch8::new(255 - sa);
                         op.composite(&mut channel, da1, &Ch8::new(s), sa1);
-                        let sum = entering(source, s, da) + entering(dest, d, sa);
+                        let sum = term(source, s, da) + term(dest, d, sa);
                         let want = sum.min(255);
                         assert_eq!(rt; channel.to_u32(), want, "{op:?} {s} {sa} {d} {da}");
                     }
@@ -159,7 +248,7 @@ fn every_operator_on_a_grid(rt: HostRuntime) {
     }
 }
 
-/// A color over a clear pixel is that color, and the greatest alpha hides what lies below.
+/// A color over a clear pixel is that color, and an opaque one hides what lies below.
 #[test]
 fn pixels_of_sixteen_bits(rt: HostRuntime) {
     let color = Rgba16p::new(100_u16, 200_u16, 300_u16, 400_u16);
@@ -171,4 +260,13 @@ fn pixels_of_sixteen_bits(rt: HostRuntime) {
     gray.composite_channels(&opaque, SrcOver);
     assert!(rt; gray == opaque);
     assert!(rt; gray.alpha() == Ch16::MAX);
+}
+
+#[test]
+fn operators_are_equal_to_themselves_alone(rt: HostRuntime) {
+    for (i, (op, _, _)) in TABLE.iter().enumerate() {
+        for (j, (other, _, _)) in TABLE.iter().enumerate() {
+            assert_eq!(rt; op == other, i == j, "{op:?} and {other:?}");
+        }
+    }
 }

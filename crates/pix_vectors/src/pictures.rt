@@ -23,12 +23,12 @@ pub(crate) fn picture<P: Pixel>(
     Ok(raster)
 }
 
-/// A pixel of one lightness.
+/// A pixel of one gray value.
 pub(crate) fn gray(value: u8) -> Gray8 {
     Gray8::new(value)
 }
 
-/// A pixel of a lightness and an alpha.
+/// A pixel of a gray value and an alpha.
 pub(crate) fn graya((value, alpha): (u8, u8)) -> Graya8p {
     Graya8p::new(value, alpha)
 }

@@ -1,4 +1,4 @@
-//! Pixels, regions and rasters, all named through `pix`.
+//! Pixels, regions and rasters.
 use pix::chan::{Ch8, Channel};
 use pix::el::Pixel;
 use pix::matte::Matte8;
@@ -7,7 +7,7 @@ use pix::rgb::Rgba8p;
 use pix::{Command, Raster, RasterFault, Region};
 use std::test::Fail;
 
-/// A pixel of four zeros, which changes nothing where it is composited over.
+/// The transparent pixel of four zeros.
 fn clear() -> Rgba8p {
     Rgba8p::new(0, 0, 0, 0)
 }
@@ -19,7 +19,7 @@ fn a_color_over_a_pixel(rt: HostRuntime) {
     let mix = Rgba8p::new(20, 40, 80, 160);
     for (before, color, times, after) in [
         (white, clear(), 1, white),
-        (five, clear(), 3, Rgba8p::new(2, 2, 2, 2)),
+        (five, clear(), 3, five),
         (clear(), mix, 1, mix),
         (mix, clear(), 1, mix),
     ] {
@@ -77,7 +77,7 @@ fn the_texts_of_faults(rt: HostRuntime) -> Result<(), Fail> {
 }
 
 #[test]
-fn points_that_two_regions_share(rt: HostRuntime) {
+fn intersections_of_two_regions(rt: HostRuntime) {
     let all = Region::new(0, 0, 5, 5);
     let last = Region::new(2147483646, 0, 10, 1);
     for (one, other, want) in [
@@ -97,8 +97,8 @@ fn points_that_two_regions_share(rt: HostRuntime) {
 /// Each region with its left, top, width, height, right and bottom.
 #[test]
 fn the_sides_of_regions(rt: HostRuntime) {
-    const MOST: u32 = 2147483647;
-    const END: i32 = 2147483647;
+    const LONGEST: u32 = 2147483647;
+    const LAST: i32 = 2147483647;
     for (region, left, top, width, height, right, bottom) in [
         (
             Region::new(2147483646, 0, 10, 1),
@@ -106,7 +106,7 @@ fn the_sides_of_regions(rt: HostRuntime) {
             0,
             10,
             1,
-            END,
+            LAST,
             1,
         ),
         (
@@ -116,19 +116,27 @@ fn the_sides_of_regions(rt: HostRuntime) {
             1,
             10,
             1,
-            END,
+            LAST,
         ),
         (Region::new(-3, -4, 2, 9), -3, -4, 2, 9, -1, 5),
-        (Region::from(()), 0, 0, MOST, MOST, END, END),
-        (Region::from((-7, 8)), -7, 8, MOST, MOST, 2147483640, END),
+        (Region::from(()), 0, 0, LONGEST, LONGEST, LAST, LAST),
+        (
+            Region::from((-7, 8)),
+            -7,
+            8,
+            LONGEST,
+            LONGEST,
+            2147483640,
+            LAST,
+        ),
         (
             Region::from((1, 2, 4294967295, 4294967295)),
             1,
             2,
-            MOST,
-            MOST,
-            END,
-            END,
+            LONGEST,
+            LONGEST,
+            LAST,
+            LAST,
         ),
         (Region::from((1, 2, 3, 4)), 1, 2, 3, 4, 4, 6),
         (Region::default(), 0, 0, 0, 0, 0, 0),
@@ -148,11 +156,11 @@ fn the_sides_of_regions(rt: HostRuntime) {
 }
 
 #[test]
-fn regions_with_a_side_too_long(rt: HostRuntime) {
+fn regions_with_too_long_a_side(rt: HostRuntime) {
     assert_eq!(rt; Region::try_new(0, 0, 2147483648, 1), None);
     assert_eq!(rt; Region::try_new(0, 0, 1, 2147483648), None);
-    let most = Region::try_new(0, 0, 2147483647, 2147483647);
-    assert_eq!(rt; most, Some(Region::from(())));
+    let longest = Region::try_new(0, 0, 2147483647, 2147483647);
+    assert_eq!(rt; longest, Some(Region::from(())));
 }
 
 #[test]
@@ -173,7 +181,7 @@ fn a_color_over_one_of_two_points(rt: HostRuntime) -> Result<(), Fail> {
     Ok(())
 }
 
-/// The command of a color over a region.
+/// The command that composites a color over a region.
 fn over(reg: Region, clr: Rgba8p) -> Command<'static, Rgba8p, Matte8> {
     Command::Color {
         reg,
@@ -208,7 +216,7 @@ fn a_run_is_its_commands_one_by_one(rt: HostRuntime) -> Result<(), Fail> {
 }
 
 #[test]
-fn a_faint_color_fades(rt: HostRuntime) -> Result<(), Fail> {
+fn a_faint_color_stays(rt: HostRuntime) -> Result<(), Fail> {
     let first = Region::new(0, 0, 1, 1);
     let mut raster = Raster::<Rgba8p>::with_clear(rt.alloc(), 2, 1)?;
     raster.run(&[
@@ -219,7 +227,7 @@ fn a_faint_color_fades(rt: HostRuntime) -> Result<(), Fail> {
     ]);
     assert_eq!(rt;
         raster.pixels(),
-        [Rgba8p::new(2, 2, 2, 2), clear()].as_slice()
+        [Rgba8p::new(5, 5, 5, 5), clear()].as_slice()
     );
     Ok(())
 }

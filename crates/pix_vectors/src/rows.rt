@@ -46,7 +46,7 @@ fn rows_of_regions(rt: HostRuntime) -> Result<(), Fail> {
 }
 
 #[test]
-fn one_row_to_be_written(rt: HostRuntime) -> Result<(), Fail> {
+fn writing_one_row(rt: HostRuntime) -> Result<(), Fail> {
     let mut raster = picture(rt.alloc(), 3, 3, &NINE.map(gray))?;
     let row = raster.row_mut(1, Region::new(1, 0, 9, 9)).ok_or("no row")?;
     assert_eq!(rt; row.len(), 2);
@@ -68,7 +68,7 @@ fn one_row_to_be_written(rt: HostRuntime) -> Result<(), Fail> {
     Ok(())
 }
 
-/// Writes 101, 102 and so on to the points of a region, row by row, and answers how many rows there were.
+/// Writes 101, 102 and so on to the points of a region, row by row, and returns the number of rows.
 fn number_points(raster: &mut Raster<Gray8>, reg: Region) -> usize {
     let mut count = 0_usize;
     let mut number = 100_u8;
@@ -83,7 +83,7 @@ fn number_points(raster: &mut Raster<Gray8>, reg: Region) -> usize {
 }
 
 #[test]
-fn rows_to_be_written(rt: HostRuntime) -> Result<(), Fail> {
+fn writing_rows(rt: HostRuntime) -> Result<(), Fail> {
     for (reg, count, want) in [
         (
             Region::from(()),
@@ -114,6 +114,59 @@ fn rows_to_be_written(rt: HostRuntime) -> Result<(), Fail> {
     Ok(())
 }
 
+/// The whole raster, five columns by three rows, after writing the rows of regions that begin at the third column or later.
+#[test]
+fn writing_rows_from_the_third_column(rt: HostRuntime) -> Result<(), Fail> {
+    let before = [1, 2, 3, 4, 5, 6, 7, 8, 9, 10, 11, 12, 13, 14, 15];
+    for (reg, count, want) in [
+        (
+            Region::new(2, 0, 2, 3),
+            3,
+            [1, 2, 101, 102, 5, 6, 7, 103, 104, 10, 11, 12, 105, 106, 15],
+        ),
+        (
+            Region::new(2, 1, 9, 9),
+            2,
+            [1, 2, 3, 4, 5, 6, 7, 101, 102, 103, 11, 12, 104, 105, 106],
+        ),
+        (
+            Region::new(3, -1, 1, 3),
+            2,
+            [1, 2, 3, 101, 5, 6, 7, 8, 102, 10, 11, 12, 13, 14, 15],
+        ),
+        (
+            Region::new(3, 2, 2, 1),
+            1,
+            [1, 2, 3, 4, 5, 6, 7, 8, 9, 10, 11, 12, 13, 101, 102],
+        ),
+        (
+            Region::from((4, 0)),
+            3,
+            [1, 2, 3, 4, 101, 6, 7, 8, 9, 102, 11, 12, 13, 14, 103],
+        ),
+        (Region::from((5, 0)), 0, before),
+    ] {
+        let mut raster = picture(rt.alloc(), 5, 3, &before.map(gray))?;
+        assert_eq!(rt; number_points(&mut raster, reg), count, "{reg:?}");
+        assert_eq!(rt; raster.pixels(), want.map(gray).as_slice(), "{reg:?}");
+    }
+    Ok(())
+}
+
+/// The rows that are handed out have the clipped width, and begin with the pixels of the region's first column.
+#[test]
+fn the_rows_that_are_written(rt: HostRuntime) -> Result<(), Fail> {
+    let before = [1, 2, 3, 4, 5, 6, 7, 8, 9, 10, 11, 12, 13, 14, 15];
+    let mut raster = picture(rt.alloc(), 5, 3, &before.map(gray))?;
+    let mut rows = raster.rows_mut(Region::new(2, 1, 2, 9));
+    for want in [[8, 9], [13, 14]] {
+        let row = rows.next().ok_or("a row is missing")?;
+        assert_eq!(rt; *row, *want.map(gray).as_slice());
+    }
+    assert!(rt; rows.next().is_none());
+    Ok(())
+}
+
 #[test]
 fn rows_of_rasters_without_points(rt: HostRuntime) -> Result<(), Fail> {
     let all = Region::from(());
@@ -129,7 +182,7 @@ fn rows_of_rasters_without_points(rt: HostRuntime) -> Result<(), Fail> {
 }
 
 #[test]
-fn one_pixel_to_be_written(rt: HostRuntime) -> Result<(), Fail> {
+fn writing_one_pixel(rt: HostRuntime) -> Result<(), Fail> {
     let mut raster = picture(rt.alloc(), 3, 2, &NINE.map(gray))?;
     *raster.pixel_mut(2, 0) = gray(30);
     *raster.pixel_mut(0, 1) = gray(40);

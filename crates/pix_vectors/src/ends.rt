@@ -1,0 +1,212 @@
+//! Regions at the ends of the coordinates of 32 bits, and rasters with a side of 0.
+use crate::pictures::{gray, picture};
+use pix::gray::Gray8;
+use pix::{Raster, RasterFault, Region};
+use std::alloc::{AllocError, Global};
+use std::test::Fail;
+
+/// The greatest side.
+const MOST: u32 = 2147483647;
+
+#[test]
+fn regions_from_the_least_coordinate(rt: HostRuntime) {
+    assert_eq!(rt; Region::new(-2147483648, 0, MOST, 1).right(), -1);
+    assert_eq!(rt; Region::try_new(0, 0, 2147483648, 0), None);
+    let cut = Region::from((-2147483648, 0, 4294967295, 1));
+    assert_eq!(rt; cut.width(), MOST);
+    assert_eq!(rt; cut.right(), -1);
+}
+
+/// Each pair of regions with the pixel of a raster of one point after a copy of another such raster, whose pixel is 7.
+#[test]
+fn copies_of_one_point(rt: HostRuntime) -> Result<(), Fail> {
+    let source = Raster::with_color(rt.alloc(), 1, 1, gray(7))?;
+    for (to, from, want) in [
+        (
+            Region::new(-2147483646, 0, MOST, 1),
+            Region::new(-2147483646, 0, MOST, 1),
+            7,
+        ),
+        (
+            Region::new(-2147483647, 0, MOST, 1),
+            Region::new(-2147483646, 0, MOST, 1),
+            0,
+        ),
+        (
+            Region::new(-2147483646, 0, MOST, 1),
+            Region::new(-2147483645, 0, MOST, 1),
+            0,
+        ),
+        (Region::from(()), Region::from((2147483647, 0)), 0),
+    ] {
+        let mut raster = Raster::with_clear(rt.alloc(), 1, 1)?;
+        raster.copy_raster(to, &source, from);
+        assert_eq!(rt; raster.pixel(0, 0), gray(want), "{from:?} to {to:?}");
+    }
+    Ok(())
+}
+
+/// The widest raster, which has no rows.
+fn no_rows(alloc: Global) -> Result<Raster<Gray8>, RasterFault> {
+    Raster::with_clear(alloc, MOST, 0)
+}
+
+#[test]
+fn a_wide_raster_of_no_rows(rt: HostRuntime) -> Result<(), Fail> {
+    let raster = no_rows(rt.alloc())?;
+    assert_eq!(rt; (raster.width(), raster.height()), (MOST, 0));
+    assert!(rt; raster.pixels().is_empty());
+    Ok(())
+}
+
+#[test]
+fn rows_of_no_rows(rt: HostRuntime) -> Result<(), Fail> {
+    let raster = no_rows(rt.alloc())?;
+    assert!(rt; raster.rows(Region::from(())).next().is_none());
+    Ok(())
+}
+
+#[test]
+fn a_row_of_no_rows(rt: HostRuntime) -> Result<(), Fail> {
+    let mut raster = no_rows(rt.alloc())?;
+    assert!(rt; raster.row_mut(0, Region::from(())).is_none());
+    Ok(())
+}
+
+#[test]
+fn no_rows_cleared(rt: HostRuntime) -> Result<(), Fail> {
+    let mut raster = no_rows(rt.alloc())?;
+    raster.clear();
+    assert_eq!(rt; (raster.width(), raster.height()), (MOST, 0));
+    assert!(rt; raster.pixels().is_empty());
+    Ok(())
+}
+
+#[test]
+fn no_rows_under_a_color(rt: HostRuntime) -> Result<(), Fail> {
+    let mut raster = no_rows(rt.alloc())?;
+    raster.copy_color(Region::from(()), gray(7));
+    assert_eq!(rt; (raster.width(), raster.height()), (MOST, 0));
+    assert!(rt; raster.pixels().is_empty());
+    Ok(())
+}
+
+#[test]
+fn no_rows_under_a_raster(rt: HostRuntime) -> Result<(), Fail> {
+    let mut raster = no_rows(rt.alloc())?;
+    let source = Raster::with_color(rt.alloc(), 2, 2, gray(7))?;
+    raster.copy_raster(Region::from(()), &source, Region::from(()));
+    assert_eq!(rt; (raster.width(), raster.height()), (MOST, 0));
+    assert!(rt; raster.pixels().is_empty());
+    Ok(())
+}
+
+#[test]
+fn a_high_raster_of_no_columns(rt: HostRuntime) -> Result<(), Fail> {
+    let raster = Raster::<Gray8>::with_clear(rt.alloc(), 0, 7)?;
+    let copy = raster.try_clone(rt.alloc())?;
+    assert_eq!(rt; (copy.width(), copy.height()), (0, 7));
+    assert!(rt; copy.pixels().is_empty());
+    assert!(rt; copy.to_u8_vec(rt.alloc())?.is_empty());
+    assert!(rt; copy.into_pixels().is_empty());
+    let bytes = raster.into_u8_vec(rt.alloc()).map_err(|(fault, _)| fault)?;
+    assert!(rt; bytes.is_empty());
+    Ok(())
+}
+
+/// Coordinates at the ends, and round the points of a small raster.
+const COORDINATES: [i32; 9] = [
+    -2147483648,
+    -2147483647,
+    -1,
+    0,
+    1,
+    2,
+    2147483645,
+    2147483646,
+    2147483647,
+];
+
+/// The shortest and the longest sides.
+const SIDES: [u32; 5] = [0, 1, 2, 2147483646, 2147483647];
+
+/// What a region of the destination and one of the source have in one direction: where they start, and how long they are.
+#[derive(Clone, Copy, Debug)]
+struct Axis {
+    to: i32,
+    to_len: u32,
+    from: i32,
+    from_len: u32,
+}
+
+/// Every two of the coordinates, with these lengths.
+fn axes(alloc: Global, to_len: u32, from_len: u32) -> Result<Vec<Axis>, AllocError> {
+    let mut all = Vec::new(alloc);
+    for to in COORDINATES {
+        for from in COORDINATES {
+            all.push(Axis {
+                to,
+                to_len,
+                from,
+                from_len,
+            })?;
+        }
+    }
+    Ok(all)
+}
+
+/// Whether a number lies in a region's direction, which ends before 2147483647.
+fn lies_in(start: i32, len: u32, at: i64) -> bool {
+    let start = i64::from(start);
+    start <= at && at < (start + i64::from(len)).min(2147483647)
+}
+
+/// The number in a source of two that is paired with a number in a destination of two: the one at the same offset, which is at least
+/// 0 and below both lengths, where both lie in their regions and rasters.
+fn paired(axis: Axis, at: i32) -> Option<i64> {
+    let offset = i64::from(at) - i64::from(axis.to);
+    let there = i64::from(axis.from) + offset;
+    let below = 0 <= offset && offset < i64::from(axis.to_len) && offset < i64::from(axis.from_len);
+    let inside = lies_in(axis.to, axis.to_len, i64::from(at))
+        && lies_in(axis.from, axis.from_len, there);
+    if below && inside && (there == 0 || there == 1) {
+        Some(there)
+    } else {
+        None
+    }
+}
+
+/// What a copy brings to a point of a raster of zeros from a source of 1, 2 in the first row and 3, 4 in the second.
+fn brought(columns: Axis, rows: Axis, x: i32, y: i32) -> u8 {
+    match (paired(columns, x), paired(rows, y)) {
+        (Some(0), Some(0)) => 1,
+        (Some(1), Some(0)) => 2,
+        (Some(0), Some(1)) => 3,
+        (Some(1), Some(1)) => 4,
+        _ => 0,
+    }
+}
+
+#[test]
+fn copies_between_all_ends(rt: HostRuntime) -> Result<(), Fail> {
+    let source = picture(rt.alloc(), 2, 2, &[1, 2, 3, 4].map(gray))?;
+    let mut raster = Raster::<Gray8>::with_clear(rt.alloc(), 2, 2)?;
+    for side in SIDES {
+        for other in SIDES {
+            let all_columns = axes(rt.alloc(), side, other)?;
+            let all_rows = axes(rt.alloc(), other, side)?;
+            for columns in &all_columns {
+                for rows in &all_rows {
+                    let to = Region::from((columns.to, rows.to, side, other));
+                    let from = Region::from((columns.from, rows.from, other, side));
+                    raster.clear();
+                    raster.copy_raster(to, &source, from);
+                    let points = [(0, 0), (1, 0), (0, 1), (1, 1)];
+                    let want = points.map(|(x, y)| gray(brought(*columns, *rows, x, y)));
+                    assert_eq!(rt; raster.pixels(), want.as_slice(), "{from:?} to {to:?}");
+                }
+            }
+        }
+    }
+    Ok(())
+}

@@ -1,0 +1,134 @@
+//! Transparent sources, which change nothing under `SrcOver`: their alpha is 0, and so is each channel other than a hue.
+use crate::pictures::{matte, picture, rgba};
+use pix::chan::{Ch8, Ch16};
+use pix::el::Pixel;
+use pix::hsv::{Hsva8p, Hsva16p};
+use pix::matte::Matte8;
+use pix::ops::{Op, SrcOver};
+use pix::rgb::Rgba8p;
+use pix::{Command, Raster, Region};
+use std::test::Fail;
+
+/// A pixel of hue, saturation, value and alpha.
+fn hsva([hue, saturation, value, alpha]: [u8; 4]) -> Hsva8p {
+    Hsva8p::new(hue, saturation, value, alpha)
+}
+
+/// The channels of six pixels. Some aren't premultiplied.
+const PIXELS: [[u8; 4]; 6] = [
+    [0, 0, 0, 0],
+    [200, 5, 5, 5],
+    [128, 1, 254, 255],
+    [77, 255, 255, 255],
+    [255, 127, 128, 0],
+    [1, 15, 16, 17],
+];
+
+/// The matte values of three columns by two rows.
+const MATTES: [u8; 6] = [0, 1, 127, 128, 254, 255];
+
+#[test]
+fn calls_with_transparent_sources(rt: HostRuntime) -> Result<(), Fail> {
+    let all = Region::from(());
+    let mattes = picture(rt.alloc(), 3, 2, &MATTES.map(matte))?;
+
+    let before = PIXELS.map(rgba);
+    let clear = Raster::with_clear(rt.alloc(), 3, 2)?;
+    let mut raster = picture(rt.alloc(), 3, 2, &before)?;
+    raster.composite_color(all, rgba([0; 4]), SrcOver);
+    assert_eq!(rt; raster.pixels(), before.as_slice(), "a color");
+    raster.composite_raster(all, &clear, all, SrcOver);
+    assert_eq!(rt; raster.pixels(), before.as_slice(), "a raster");
+    raster.composite_matte(all, &mattes, all, rgba([0; 4]), SrcOver);
+    assert_eq!(rt; raster.pixels(), before.as_slice(), "a matte");
+
+    let before = PIXELS.map(hsva);
+    for hue in [0, 1, 127, 128, 129, 200, 255] {
+        let transparent = hsva([hue, 0, 0, 0]);
+        let hues = Raster::with_color(rt.alloc(), 3, 2, transparent)?;
+        let mut raster = picture(rt.alloc(), 3, 2, &before)?;
+        raster.composite_color(all, transparent, SrcOver);
+        assert_eq!(rt; raster.pixels(), before.as_slice(), "a color of hue {hue}");
+        raster.composite_raster(all, &hues, all, SrcOver);
+        assert_eq!(rt; raster.pixels(), before.as_slice(), "a raster of hue {hue}");
+        raster.composite_matte(all, &mattes, all, transparent, SrcOver);
+        assert_eq!(rt; raster.pixels(), before.as_slice(), "a matte of hue {hue}");
+    }
+    Ok(())
+}
+
+/// A transparent color, a transparent raster, that color through mattes, and once more the color: each under `SrcOver`.
+fn list<'a>(
+    clr: Hsva8p,
+    src: &'a Raster<Hsva8p>,
+    mattes: &'a Raster<Matte8>,
+) -> [Command<'a, Hsva8p, Matte8>; 4] {
+    let all = Region::from(());
+    let op = Op::SrcOver;
+    [
+        Command::Color { reg: all, clr, op },
+        Command::Raster {
+            to: all,
+            src,
+            from: all,
+            op,
+        },
+        Command::Matte {
+            to: all,
+            src: mattes,
+            from: all,
+            clr,
+            op,
+        },
+        Command::Color { reg: all, clr, op },
+    ]
+}
+
+#[test]
+fn a_list_of_transparent_sources(rt: HostRuntime) -> Result<(), Fail> {
+    let before = [
+        [0, 0, 0, 0],
+        [200, 5, 5, 5],
+        [77, 255, 255, 255],
+        [255, 127, 128, 0],
+    ]
+    .map(hsva);
+    let mut raster = picture(rt.alloc(), 2, 2, &before)?;
+    let clear = Raster::with_color(rt.alloc(), 2, 2, hsva([129, 0, 0, 0]))?;
+    let mattes = picture(rt.alloc(), 2, 2, &[0, 1, 128, 255].map(matte))?;
+    raster.run(&list(hsva([200, 0, 0, 0]), &clear, &mattes));
+    assert_eq!(rt; raster.pixels(), before.as_slice());
+    Ok(())
+}
+
+/// Each channel of each number stays, in one pixel and in slices.
+#[test]
+fn all_pixels_of_one_number(rt: HostRuntime) {
+    for number in 0..=255_u8 {
+        let before = hsva([number; 4]);
+        let source = hsva([number ^ 0x80, 0, 0, 0]);
+        let mut pixel = before;
+        pixel.composite_channels(&source, SrcOver);
+        assert_eq!(rt; pixel, before);
+        pixel.composite_channels_alpha(&source, SrcOver, &Ch8::new(number));
+        assert_eq!(rt; pixel, before);
+        let mut pixels = [before; 3];
+        Hsva8p::composite_slice(&mut pixels, &[source; 2], SrcOver);
+        Hsva8p::composite_color(&mut pixels, &source, SrcOver);
+        Hsva8p::composite_matte(&mut pixels, &[matte(number); 2], &source, SrcOver);
+        assert_eq!(rt; pixels, [before; 3]);
+    }
+}
+
+#[test]
+fn pixels_of_sixteen_bits(rt: HostRuntime) {
+    for number in [0_u16, 1, 255, 256, 32767, 32768, 65280, 65534, 65535] {
+        let before = Hsva16p::new(number, number, number, number);
+        let source = Hsva16p::new(number ^ 0x8000, 0, 0, 0);
+        let mut pixel = before;
+        pixel.composite_channels(&source, SrcOver);
+        assert_eq!(rt; pixel, before);
+        pixel.composite_channels_alpha(&source, SrcOver, &Ch16::new(number));
+        assert_eq!(rt; pixel, before);
+    }
+}
