@@ -1,0 +1,54 @@
+//! Palettes that are made, copied and counted by.
+use pix::rgb::SRgb8;
+use pix::{Palette, RasterFault};
+use std::alloc::Global;
+
+/// The colors of a palette.
+fn colors() -> [SRgb8; 2] {
+    [SRgb8::new(1u8, 2u8, 3u8), SRgb8::new(200u8, 100u8, 50u8)]
+}
+
+/// Makes a palette of these colors, with room for one more.
+fn palette(alloc: Global) -> Result<Palette, RasterFault> {
+    let mut palette = Palette::new(alloc, 3)?;
+    for clr in colors() {
+        palette.set_entry(clr);
+    }
+    Ok(palette)
+}
+
+/// Whether the palette has just these colors.
+fn is_whole(palette: &Palette) -> bool {
+    palette.colors() == colors().as_slice()
+}
+
+pub(crate) fn new(alloc: Global) -> bool {
+    match palette(alloc) {
+        Ok(palette) => is_whole(&palette),
+        Err(fault) => fault == RasterFault::Memory,
+    }
+}
+
+/// The palette that is copied stays as it was, and the copy has its room.
+pub(crate) fn try_clone(alloc: Global) -> bool {
+    let Ok(palette) = palette(alloc) else {
+        return true;
+    };
+    let right = match palette.try_clone(alloc) {
+        Ok(mut copy) => is_whole(&copy) && copy.set_entry(SRgb8::new(9u8, 9u8, 9u8)) == Some(2),
+        Err(fault) => fault == RasterFault::Memory,
+    };
+    right && is_whole(&palette)
+}
+
+pub(crate) fn histogram(alloc: Global) -> bool {
+    let Ok(palette) = palette(alloc) else {
+        return true;
+    };
+    let right = match palette.histogram(alloc, &[0u8, 0u8, 1u8]) {
+        Ok(Some(counts)) => counts.as_slice() == [2usize, 1usize].as_slice(),
+        Ok(None) => false,
+        Err(fault) => fault == RasterFault::Memory,
+    };
+    right && is_whole(&palette)
+}
