@@ -1,4 +1,7 @@
 //! Palettes that are made, copied and counted by.
+//!
+//! Each function makes its own palette of [`colors`], with room for one more: a palette may hold a function pointer, and the gate refuses
+//! a function that makes one and hands it out.
 use pix::rgb::SRgb8;
 use pix::{Palette, RasterFault};
 use std::alloc::Global;
@@ -8,32 +11,31 @@ fn colors() -> [SRgb8; 2] {
     [SRgb8::new(1u8, 2u8, 3u8), SRgb8::new(200u8, 100u8, 50u8)]
 }
 
-/// Makes a palette of these colors, with room for one more.
-fn palette(alloc: Global) -> Result<Palette, RasterFault> {
-    let mut palette = Palette::new(alloc, 3)?;
-    for clr in colors() {
-        palette.set_entry(clr);
-    }
-    Ok(palette)
-}
-
 /// Whether the palette has just these colors.
 fn is_whole(palette: &Palette) -> bool {
     palette.colors() == colors().as_slice()
 }
 
 pub(crate) fn new(alloc: Global) -> bool {
-    match palette(alloc) {
-        Ok(palette) => is_whole(&palette),
+    match Palette::new(alloc, 3) {
+        Ok(mut palette) => {
+            for clr in colors() {
+                palette.set_entry(clr);
+            }
+            is_whole(&palette)
+        }
         Err(fault) => fault == RasterFault::Memory,
     }
 }
 
 /// The palette that is copied stays as it was, and the copy has its room.
 pub(crate) fn try_clone(alloc: Global) -> bool {
-    let Ok(palette) = palette(alloc) else {
+    let Ok(mut palette) = Palette::new(alloc, 3) else {
         return true;
     };
+    for clr in colors() {
+        palette.set_entry(clr);
+    }
     let right = match palette.try_clone(alloc) {
         Ok(mut copy) => is_whole(&copy) && copy.set_entry(SRgb8::new(9u8, 9u8, 9u8)) == Some(2),
         Err(fault) => fault == RasterFault::Memory,
@@ -42,9 +44,12 @@ pub(crate) fn try_clone(alloc: Global) -> bool {
 }
 
 pub(crate) fn histogram(alloc: Global) -> bool {
-    let Ok(palette) = palette(alloc) else {
+    let Ok(mut palette) = Palette::new(alloc, 3) else {
         return true;
     };
+    for clr in colors() {
+        palette.set_entry(clr);
+    }
     let right = match palette.histogram(alloc, &[0u8, 0u8, 1u8]) {
         Ok(Some(counts)) => counts.as_slice() == [2usize, 1usize].as_slice(),
         Ok(None) => false,
