@@ -2,3 +2,5 @@ pub mod Models
 pub mod Written
 pub mod Composited
 pub mod Conversions
+pub mod FourPlanes
+pub mod TwoPlanes
