@@ -4,3 +4,4 @@ pub mod Composited
 pub mod Conversions
 pub mod FourPlanes
 pub mod TwoPlanes
+pub mod MattePlanes

@@ -1,19 +1,17 @@
--- Pixels of two channels by planes, and a color through mattes.
+-- Pixels of two channels by planes.
 use Rattle.std.proofs.Common.{◌≡◌, ℕ, zero, suc, ◌+◌, ◌-◌, ◌≤◌, List, [], ◌∷◌, ◌++◌, length, map, drop, refl, ap, sym, subst, ◌∙◌, arith, set, replicate}
 use lib.Lanes.{Each1}
 use borrow.Rule.Slice.PartMut.{put_mid}
 use Rattle.std.specs.declared.ops.Range.{Range}
 use Rattle.std.proofs.lemmas.List.{length-map}
 use Rattle.pix_chan.specs.declared.ops.Op.{Op}
-use Rattle.pix_chan.specs.Product.{channel_product}
 use Rattle.pix_chan.specs.Composite.{channel_composite}
 use Rattle.pix_chan.specs.Runs.{over, triples, run_composite}
 use Rattle.pix_chan.specs.Planes.{both_in_turn}
-use Rattle.pix_el.specs.Planes.{by_twos, ArePlanes, AreTwoPlanes}
+use Rattle.pix_el.specs.Planes.{by_twos, AreTwoPlanes}
 use Rattle.pix_el.specs.Pixel.{Layout, channel}
-use Rattle.pix_el.specs.PixelComposite.{pixel_composite, matted_color}
+use Rattle.pix_el.specs.PixelComposite.{pixel_composite}
 use Rattle.pix_chan.proofs.Sixteen.{is_eight, is_sixteen}
-use Rattle.pix_el.proofs.FourPlanes.{four_of}
 
 cons : {A : Type 0} {x y : A} {xs ys : List A} → x ≡ y → xs ≡ ys → x ∷ xs ≡ y ∷ ys
 cons e f = cc
@@ -107,37 +105,7 @@ module _ (max : ℕ) (op : Op) where
       let gs = subst (Each1 (λ v. v ≤ max)) q.second g in
       rw (i, j, m, n, p.first, p.second, q.first, q.second) (all_composited ss ds long fs gs)
 
--- one channel times each of a list
-pub each_product : {C : Type 0} (number : C → ℕ) (f : ℕ → ℕ → ℕ) (a : C) (n : ℕ) (ms : List ℕ) → length ms ≡ n
-    → over (λ y x. f x y) ms (map number (replicate n a)) ≡ map (f (number a)) ms
-each_product number f a zero [] h = refl
-each_product number f a zero (m ∷ ms) h = absurd (omega arith)
-each_product number f a (suc n) [] h = absurd (omega arith)
-each_product number f a (suc n) (m ∷ ms) h = ap (λ (l : List ℕ). f (number a) m ∷ l) (each_product number f a n ms (omega arith))
-
--- what is made of each of a list, and the list of those
-pub map-mapped : {A B C : Type 0} (f : B → C) (g : A → B) (xs : List A) → map (λ x. f (g x)) xs ≡ map f (map g xs)
-map-mapped f g [] = refl
-map-mapped {C = C} f g (x ∷ xs) = ap (λ (l : List C). f (g x) ∷ l) (map-mapped f g xs)
-
-pub over-mapped : {A B C : Type 0} (f : B → C → C) (g : A → B) (xs : List A) (ys : List C) → over f (map g xs) ys ≡ over (λ x. f (g x)) xs ys
-over-mapped f g xs [] = refl
-over-mapped f g [] (y ∷ ys) = refl
-over-mapped {C = C} f g (x ∷ xs) (y ∷ ys) = ap (λ (l : List C). f (g x) y ∷ l) (over-mapped f g xs ys)
-
--- the planes of a color through mattes
-pub matted_planes : (max a b c e : ℕ) (ms : List ℕ) {w x y z : List ℕ}
-    → w ≡ map (channel_product max a) ms → x ≡ map (channel_product max b) ms → y ≡ map (channel_product max c) ms → z ≡ map (channel_product max e) ms
-    → ArePlanes max (map (λ m. matted_color (four_of max 0) m (a ∷ b ∷ c ∷ e ∷ [])) ms) w x y z
-matted_planes max a b c e ms h i j k =
-    let g = λ (m : ℕ). matted_color (four_of max 0) m (a ∷ b ∷ c ∷ e ∷ []) in
-    record {
-      first = h ∙ map-mapped (λ (p : List ℕ). channel max p 0) g ms;
-      second = i ∙ map-mapped (λ (p : List ℕ). channel max p 1) g ms;
-      third = j ∙ map-mapped (λ (p : List ℕ). channel max p 2) g ms;
-      fourth = k ∙ map-mapped (λ (p : List ℕ). channel max p 3) g ms;
-    }
-
+-- the planes of one color
 pub color_are_two_planes : {C : Type 0} (max : ℕ) (number : C → ℕ) (a b : C) (color : List ℕ) → number a ∷ number b ∷ [] ≡ color
     → AreTwoPlanes max (replicate 16 color) (map number (replicate 16 a)) (map number (replicate 16 b))
 color_are_two_planes max number a b color e = rw (← e) (record { first = refl; second = refl })

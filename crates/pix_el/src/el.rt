@@ -17,7 +17,7 @@ use crate::conversion::{at_depth, channel_at_depth, converted_within, recoded_co
 use crate::each::{composite_each, scale_each};
 use crate::matte::Matte;
 use crate::model::ColorModel;
-use crate::planes::{color_planes, composite_planes};
+use crate::planes::{color_planes, composite_planes, matte_planes};
 use crate::private::Sealed;
 use crate::rgb::Rgb;
 use pix_chan::chan::{Alpha, Channel, Gamma, Linear, Premultiplied};
@@ -349,7 +349,9 @@ pub trait Pixel: Sealed + Clone + Copy + Debug + Default + PartialEq {
             (matte_value layout matte) (numbers clr.now))
             (map (matte_numbers Self.Chan.number) src.now) (map numbers dst.old) }
     {
-        for i in 0..src.len().min(dst.len()) {
+        let count = src.len().min(dst.len());
+        let start = matte_planes::<N, A, O, Self>(dst, src, clr, count);
+        for i in start..count {
             dst[i].composite_channels_alpha(clr, op, &src[i].alpha());
         }
     }

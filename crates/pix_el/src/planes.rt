@@ -4,12 +4,14 @@
 ghost use Rattle.std.specs.Prelude.{◌≡◌, ◌≤◌, ◌+◌, ◌-◌, ℕ, length, map, take, true, replicate};
 ghost use Rattle.pix_chan.specs.Runs.{over, triples};
 ghost use Rattle.pix_el.specs.Planes.{run_hue, run_first};
-ghost use Rattle.pix_el.specs.PixelComposite.{pixel_composite};
+ghost use Rattle.pix_el.specs.Pixel.{channel};
+ghost use Rattle.pix_el.specs.PixelComposite.{pixel_composite, matted_composite, matte_numbers, matte_value};
 
-use crate::el::Pixel;
+use crate::el::{Pix, Pixel};
 use crate::hue::composite_hue;
+use crate::matte::Matte;
 use crate::model::{ColorModel, is_hue};
-use pix_chan::chan::Channel;
+use pix_chan::chan::{Alpha, Channel, Linear};
 use pix_chan::ops::Blend;
 
 mod four;
@@ -141,6 +143,75 @@ pub(crate) fn color_planes<O: Blend, P: Pixel>(dst: &mut [P], clr: &P) -> usize
         let count = dst.len();
         for j in 0..count / 16 {
             two::composite_sixteen::<O, P, 1>(&mut dst[16 * j..16 * j + 16], [a; 16], [b; 16]);
+        }
+        count / 16 * 16
+    } else {
+        0
+    }
+}
+
+/// Returns whether a model has four channels, of which none is a hue.
+#[inline(always)]
+fn has_plain_four<P: Pixel>() -> bool
+    ensures alpha { result ≡ true → P.layout.alpha ≡ 3 }
+    ensures no_hue { result ≡ true → P.layout.hues.end ≡ 0 }
+{
+    let hues = P::Model::CIRCULAR;
+    P::Model::ALPHA == 3 && hues.end == 0
+}
+
+/// Returns the values of sixteen mattes.
+#[inline(always)]
+fn matte_values<const N: usize, A: Alpha, C: Channel>(
+    src: &[Pix<N, C, Matte, A, Linear>],
+) -> [C; 16]
+    requires { length src.now ≡ 16 }
+    ensures { map C.number result ≡
+        map (λ matte. channel C.max matte 0) (map (matte_numbers C.number) src.now) }
+{
+    [
+        src[0].alpha(),
+        src[1].alpha(),
+        src[2].alpha(),
+        src[3].alpha(),
+        src[4].alpha(),
+        src[5].alpha(),
+        src[6].alpha(),
+        src[7].alpha(),
+        src[8].alpha(),
+        src[9].alpha(),
+        src[10].alpha(),
+        src[11].alpha(),
+        src[12].alpha(),
+        src[13].alpha(),
+        src[14].alpha(),
+        src[15].alpha(),
+    ]
+}
+
+/// Composites `clr` through mattes with as many of the first `count` pixels as go by planes, and returns how many these are.
+///
+/// Condition: the format has an alpha channel, and both slices have `count` elements.
+#[inline(always)]
+pub(crate) fn matte_planes<const N: usize, A: Alpha, O: Blend, P: Pixel>(
+    dst: &mut [P],
+    src: &[Pix<N, P::Chan, Matte, A, Linear>],
+    clr: &P,
+    count: usize,
+) -> usize
+    requires has_alpha { P.layout.count ≡ P.layout.alpha + 1 }
+    requires dst_has { count ≤ length dst.old }
+    requires src_has { count ≤ length src.now }
+    ensures some { result ≤ count }
+    ensures composite { map P.numbers dst.new ≡ over (λ matte. matted_composite P.layout O.op
+        (matte_value P.layout matte) (P.numbers clr.now))
+        (take result (map (matte_numbers P.Chan.number) src.now)) (map P.numbers dst.old) }
+{
+    if has_plain_four::<P>() {
+        let (a, b, c, d) = four::four_channels(clr);
+        for k in 0..count / 16 {
+            let mattes = matte_values(&src[16 * k..16 * k + 16]);
+            four::composite_matted::<O, P, 3>(&mut dst[16 * k..16 * k + 16], &mattes, a, b, c, d);
         }
         count / 16 * 16
     } else {

@@ -3,7 +3,7 @@ ghost use Rattle.std.specs.Prelude.{◌≡◌, ◌≤◌, ℕ, List, [], ◌∷�
 ghost use Rattle.pix_chan.specs.Planes.{in_turn};
 ghost use Rattle.pix_chan.specs.Runs.{over};
 ghost use Rattle.pix_el.specs.Planes.{by_fours, ArePlanes};
-ghost use Rattle.pix_el.specs.PixelComposite.{pixel_composite};
+ghost use Rattle.pix_el.specs.PixelComposite.{pixel_composite, matted_composite};
 
 use crate::el::Pixel;
 use crate::planes::{complement, composite_first};
@@ -136,4 +136,36 @@ pub(super) fn composite_sixteen<O: Blend, P: Pixel, const CALLER: usize>(
     O::composite_run(&mut to_three, &da1, &three, &sa1);
     O::composite_run(&mut to_four, &da1, &four, &sa1);
     put_planes(dst, to_one, to_two, to_three, to_four);
+}
+
+/// Composites the color of these channels with sixteen pixels, each through the matte value of the same index.
+///
+/// Condition: the alpha is the last channel, and there is no hue.
+#[inline(always)]
+pub(super) fn composite_matted<O: Blend, P: Pixel, const CALLER: usize>(
+    dst: &mut [P],
+    mattes: &[P::Chan],
+    a: P::Chan,
+    b: P::Chan,
+    c: P::Chan,
+    d: P::Chan,
+)
+    requires count { P.layout.count ≡ 4 }
+    requires alpha { P.layout.alpha ≡ 3 }
+    requires no_hue { P.layout.hues.end ≡ 0 }
+    requires size { length dst.old ≡ 16 }
+    requires whole { length mattes.now ≡ 16 }
+    ensures { map P.numbers dst.new ≡ over (λ m. matted_composite P.layout O.op m
+        (P.Chan.number a ∷ P.Chan.number b ∷ P.Chan.number c ∷ P.Chan.number d ∷ []))
+        (map P.Chan.number mattes.now) (map P.numbers dst.old) }
+{
+    let mut one = [a; 16];
+    let mut two = [b; 16];
+    let mut three = [c; 16];
+    let mut four = [d; 16];
+    P::Chan::mul_run(&mut one, mattes);
+    P::Chan::mul_run(&mut two, mattes);
+    P::Chan::mul_run(&mut three, mattes);
+    P::Chan::mul_run(&mut four, mattes);
+    composite_sixteen::<O, P, CALLER>(dst, one, two, three, four);
 }
