@@ -103,6 +103,7 @@ pub trait Channel: Sealed
         ensures { number result ≡ nearest max n d };
 
     /// Multiplies each channel of `dst` by the channel of `by` of the same index; the shorter length decides, and the rest stays.
+    #[inline(always)]
     fn mul_run(dst: &mut [Self], by: &[Self])
         ensures { map number dst.new ≡
             over (λ y x. channel_product max x y) (map number by.now) (map number dst.old) }
@@ -114,6 +115,7 @@ pub trait Channel: Sealed
 
     /// Adds to each channel of `dst` the channel of `by` of the same index, saturating at `MAX`; the shorter length decides, and the
     /// rest stays.
+    #[inline(always)]
     fn add_run(dst: &mut [Self], by: &[Self])
         ensures { map number dst.new ≡
             over (λ y x. saturating_sum max x y) (map number by.now) (map number dst.old) }

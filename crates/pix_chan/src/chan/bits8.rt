@@ -206,6 +206,7 @@ impl Channel for Ch8 {
         }
     }
 
+    #[inline(always)]
     fn mul_run(dst: &mut [Ch8], by: &[Ch8]) {
         let count = dst.len().min(by.len());
         for k in 0..count / 16 {
@@ -216,6 +217,7 @@ impl Channel for Ch8 {
         }
     }
 
+    #[inline(always)]
     fn add_run(dst: &mut [Ch8], by: &[Ch8]) {
         let count = dst.len().min(by.len());
         for k in 0..count / 16 {
