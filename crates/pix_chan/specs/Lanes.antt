@@ -1,4 +1,4 @@
--- Lanes by their indexes.
+-- Lanes by their indexes. No public clause cites this file.
 use Rattle.std.specs.Prelude.{ℕ, zero, suc, ◌+◌, List, [], ◌∷◌}
 
 -- m indexes from `first` on, each n after the one before

@@ -1,4 +1,4 @@
--- Pixels by planes: a plane holds the channels of one number.
+-- Pixels by planes: a plane holds the channels of one number. No public clause cites this file.
 use Rattle.std.specs.Prelude.{◌≡◌, ℕ, ◌-◌, List, [], ◌∷◌, map, if◌then◌else◌}
 use Rattle.std.specs.declared.ops.Range.{Range}
 use Rattle.pix_chan.specs.declared.ops.Op.{Op}
