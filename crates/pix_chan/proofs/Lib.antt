@@ -15,5 +15,6 @@ pub mod Rising
 pub mod LaneProduct
 pub mod Lanes
 pub mod Slices
+pub mod Planes
 pub mod Sixteen
 pub mod RunTerms

@@ -1,5 +1,8 @@
--- A list of sixteen, element by element.
-use Rattle.std.proofs.Common.{◌≡◌, List, [], ◌∷◌, length, get_or, refl, arith}
+-- Lists of four, eight and sixteen, element by element.
+use Rattle.std.proofs.Common.{◌≡◌, ℕ, List, [], ◌∷◌, ◌++◌, length, map, take, drop, get_or, refl, ap, arith}
+use lib.Lanes.{pick_l}
+use Rattle.pix_chan.specs.Lanes.{indexes}
+use Rattle.pix_chan.specs.Planes.{both_in_turn}
 
 -- a list of 16 is its elements, whatever is named for places past its end
 pub whole16 : {A : Type 0} (xs : List A) (d0 d1 d2 d3 d4 d5 d6 d7 d8 d9 d10 d11 d12 d13 d14 d15 : A) → length xs ≡ 16 → get_or xs 0 d0 ∷ get_or xs 1 d1 ∷ get_or xs 2 d2 ∷ get_or xs 3 d3 ∷ get_or xs 4 d4 ∷ get_or xs 5 d5 ∷ get_or xs 6 d6 ∷ get_or xs 7 d7 ∷ get_or xs 8 d8 ∷ get_or xs 9 d9 ∷ get_or xs 10 d10 ∷ get_or xs 11 d11 ∷ get_or xs 12 d12 ∷ get_or xs 13 d13 ∷ get_or xs 14 d14 ∷ get_or xs 15 d15 ∷ [] ≡ xs
@@ -21,3 +24,70 @@ whole16 (x0 ∷ x1 ∷ x2 ∷ x3 ∷ x4 ∷ x5 ∷ x6 ∷ x7 ∷ x8 ∷ x9 ∷ x
 whole16 (x0 ∷ x1 ∷ x2 ∷ x3 ∷ x4 ∷ x5 ∷ x6 ∷ x7 ∷ x8 ∷ x9 ∷ x10 ∷ x11 ∷ x12 ∷ x13 ∷ x14 ∷ []) d0 d1 d2 d3 d4 d5 d6 d7 d8 d9 d10 d11 d12 d13 d14 d15 h = absurd (omega arith)
 whole16 (x0 ∷ x1 ∷ x2 ∷ x3 ∷ x4 ∷ x5 ∷ x6 ∷ x7 ∷ x8 ∷ x9 ∷ x10 ∷ x11 ∷ x12 ∷ x13 ∷ x14 ∷ x15 ∷ []) d0 d1 d2 d3 d4 d5 d6 d7 d8 d9 d10 d11 d12 d13 d14 d15 h = refl
 whole16 (x0 ∷ x1 ∷ x2 ∷ x3 ∷ x4 ∷ x5 ∷ x6 ∷ x7 ∷ x8 ∷ x9 ∷ x10 ∷ x11 ∷ x12 ∷ x13 ∷ x14 ∷ x15 ∷ y ∷ ys) d0 d1 d2 d3 d4 d5 d6 d7 d8 d9 d10 d11 d12 d13 d14 d15 h = absurd (omega arith)
+
+-- a list of 8 as the tuple of its elements
+pub is_eight : {A : Type 0} (p : List A) → length p ≡ 8 → (w : A × A × A × A × A × A × A × A) × (w.0 ∷ w.1 ∷ w.2 ∷ w.3 ∷ w.4 ∷ w.5 ∷ w.6 ∷ w.7 ∷ [] ≡ p)
+is_eight ([]) h = absurd (omega arith)
+is_eight (x0 ∷ []) h = absurd (omega arith)
+is_eight (x0 ∷ x1 ∷ []) h = absurd (omega arith)
+is_eight (x0 ∷ x1 ∷ x2 ∷ []) h = absurd (omega arith)
+is_eight (x0 ∷ x1 ∷ x2 ∷ x3 ∷ []) h = absurd (omega arith)
+is_eight (x0 ∷ x1 ∷ x2 ∷ x3 ∷ x4 ∷ []) h = absurd (omega arith)
+is_eight (x0 ∷ x1 ∷ x2 ∷ x3 ∷ x4 ∷ x5 ∷ []) h = absurd (omega arith)
+is_eight (x0 ∷ x1 ∷ x2 ∷ x3 ∷ x4 ∷ x5 ∷ x6 ∷ []) h = absurd (omega arith)
+is_eight (x0 ∷ x1 ∷ x2 ∷ x3 ∷ x4 ∷ x5 ∷ x6 ∷ x7 ∷ []) h = ((x0, x1, x2, x3, x4, x5, x6, x7), refl)
+is_eight (x0 ∷ x1 ∷ x2 ∷ x3 ∷ x4 ∷ x5 ∷ x6 ∷ x7 ∷ y ∷ ys) h = absurd (omega arith)
+
+-- a list of 16 as the tuple of its elements
+pub is_sixteen : {A : Type 0} (p : List A) → length p ≡ 16 → (w : A × A × A × A × A × A × A × A × A × A × A × A × A × A × A × A) × (w.0 ∷ w.1 ∷ w.2 ∷ w.3 ∷ w.4 ∷ w.5 ∷ w.6 ∷ w.7 ∷ w.8 ∷ w.9 ∷ w.10 ∷ w.11 ∷ w.12 ∷ w.13 ∷ w.14 ∷ w.15 ∷ [] ≡ p)
+is_sixteen ([]) h = absurd (omega arith)
+is_sixteen (x0 ∷ []) h = absurd (omega arith)
+is_sixteen (x0 ∷ x1 ∷ []) h = absurd (omega arith)
+is_sixteen (x0 ∷ x1 ∷ x2 ∷ []) h = absurd (omega arith)
+is_sixteen (x0 ∷ x1 ∷ x2 ∷ x3 ∷ []) h = absurd (omega arith)
+is_sixteen (x0 ∷ x1 ∷ x2 ∷ x3 ∷ x4 ∷ []) h = absurd (omega arith)
+is_sixteen (x0 ∷ x1 ∷ x2 ∷ x3 ∷ x4 ∷ x5 ∷ []) h = absurd (omega arith)
+is_sixteen (x0 ∷ x1 ∷ x2 ∷ x3 ∷ x4 ∷ x5 ∷ x6 ∷ []) h = absurd (omega arith)
+is_sixteen (x0 ∷ x1 ∷ x2 ∷ x3 ∷ x4 ∷ x5 ∷ x6 ∷ x7 ∷ []) h = absurd (omega arith)
+is_sixteen (x0 ∷ x1 ∷ x2 ∷ x3 ∷ x4 ∷ x5 ∷ x6 ∷ x7 ∷ x8 ∷ []) h = absurd (omega arith)
+is_sixteen (x0 ∷ x1 ∷ x2 ∷ x3 ∷ x4 ∷ x5 ∷ x6 ∷ x7 ∷ x8 ∷ x9 ∷ []) h = absurd (omega arith)
+is_sixteen (x0 ∷ x1 ∷ x2 ∷ x3 ∷ x4 ∷ x5 ∷ x6 ∷ x7 ∷ x8 ∷ x9 ∷ x10 ∷ []) h = absurd (omega arith)
+is_sixteen (x0 ∷ x1 ∷ x2 ∷ x3 ∷ x4 ∷ x5 ∷ x6 ∷ x7 ∷ x8 ∷ x9 ∷ x10 ∷ x11 ∷ []) h = absurd (omega arith)
+is_sixteen (x0 ∷ x1 ∷ x2 ∷ x3 ∷ x4 ∷ x5 ∷ x6 ∷ x7 ∷ x8 ∷ x9 ∷ x10 ∷ x11 ∷ x12 ∷ []) h = absurd (omega arith)
+is_sixteen (x0 ∷ x1 ∷ x2 ∷ x3 ∷ x4 ∷ x5 ∷ x6 ∷ x7 ∷ x8 ∷ x9 ∷ x10 ∷ x11 ∷ x12 ∷ x13 ∷ []) h = absurd (omega arith)
+is_sixteen (x0 ∷ x1 ∷ x2 ∷ x3 ∷ x4 ∷ x5 ∷ x6 ∷ x7 ∷ x8 ∷ x9 ∷ x10 ∷ x11 ∷ x12 ∷ x13 ∷ x14 ∷ []) h = absurd (omega arith)
+is_sixteen (x0 ∷ x1 ∷ x2 ∷ x3 ∷ x4 ∷ x5 ∷ x6 ∷ x7 ∷ x8 ∷ x9 ∷ x10 ∷ x11 ∷ x12 ∷ x13 ∷ x14 ∷ x15 ∷ []) h = ((x0, x1, x2, x3, x4, x5, x6, x7, x8, x9, x10, x11, x12, x13, x14, x15), refl)
+is_sixteen (x0 ∷ x1 ∷ x2 ∷ x3 ∷ x4 ∷ x5 ∷ x6 ∷ x7 ∷ x8 ∷ x9 ∷ x10 ∷ x11 ∷ x12 ∷ x13 ∷ x14 ∷ x15 ∷ y ∷ ys) h = absurd (omega arith)
+
+module _ {A : Type 0} (f : A → ℕ) (a b : List A) (d0 d1 d2 d3 d4 d5 d6 d7 d8 d9 d10 d11 d12 d13 d14 d15 : A) where
+  pub evens_are : length a ≡ 16 → length b ≡ 16 → f (get_or a 0 d0) ∷ f (get_or a 2 d1) ∷ f (get_or a 4 d2) ∷ f (get_or a 6 d3) ∷ f (get_or a 8 d4) ∷ f (get_or a 10 d5) ∷ f (get_or a 12 d6) ∷ f (get_or a 14 d7) ∷ f (get_or b 0 d8) ∷ f (get_or b 2 d9) ∷ f (get_or b 4 d10) ∷ f (get_or b 6 d11) ∷ f (get_or b 8 d12) ∷ f (get_or b 10 d13) ∷ f (get_or b 12 d14) ∷ f (get_or b 14 d15) ∷ [] ≡ pick_l 0 (map f a ++ map f b) (indexes 2 0)
+  evens_are h k = rw (← (is_sixteen a h).1, ← (is_sixteen b k).1) refl
+
+  pub odds_are : length a ≡ 16 → length b ≡ 16 → f (get_or a 1 d0) ∷ f (get_or a 3 d1) ∷ f (get_or a 5 d2) ∷ f (get_or a 7 d3) ∷ f (get_or a 9 d4) ∷ f (get_or a 11 d5) ∷ f (get_or a 13 d6) ∷ f (get_or a 15 d7) ∷ f (get_or b 1 d8) ∷ f (get_or b 3 d9) ∷ f (get_or b 5 d10) ∷ f (get_or b 7 d11) ∷ f (get_or b 9 d12) ∷ f (get_or b 11 d13) ∷ f (get_or b 13 d14) ∷ f (get_or b 15 d15) ∷ [] ≡ pick_l 0 (map f a ++ map f b) (indexes 2 1)
+  odds_are h k = rw (← (is_sixteen a h).1, ← (is_sixteen b k).1) refl
+
+  pub both_are : length a ≡ 8 → length b ≡ 8 → f (get_or a 0 d0) ∷ f (get_or b 0 d1) ∷ f (get_or a 1 d2) ∷ f (get_or b 1 d3) ∷ f (get_or a 2 d4) ∷ f (get_or b 2 d5) ∷ f (get_or a 3 d6) ∷ f (get_or b 3 d7) ∷ f (get_or a 4 d8) ∷ f (get_or b 4 d9) ∷ f (get_or a 5 d10) ∷ f (get_or b 5 d11) ∷ f (get_or a 6 d12) ∷ f (get_or b 6 d13) ∷ f (get_or a 7 d14) ∷ f (get_or b 7 d15) ∷ [] ≡ both_in_turn (map f a) (map f b)
+  both_are h k = rw (← (is_eight a h).1, ← (is_eight b k).1) refl
+
+pub halves : {A : Type 0} (p : List A) → length p ≡ 16 → take 8 p ++ take 8 (drop 8 p) ≡ p
+halves p h = rw (← (is_sixteen p h).1) refl
+
+-- a list of 8 is its elements, whatever is named for places past its end
+pub whole8 : {A : Type 0} (xs : List A) (d0 d1 d2 d3 d4 d5 d6 d7 : A) → length xs ≡ 8 → get_or xs 0 d0 ∷ get_or xs 1 d1 ∷ get_or xs 2 d2 ∷ get_or xs 3 d3 ∷ get_or xs 4 d4 ∷ get_or xs 5 d5 ∷ get_or xs 6 d6 ∷ get_or xs 7 d7 ∷ [] ≡ xs
+whole8 ([]) d0 d1 d2 d3 d4 d5 d6 d7 h = absurd (omega arith)
+whole8 (x0 ∷ []) d0 d1 d2 d3 d4 d5 d6 d7 h = absurd (omega arith)
+whole8 (x0 ∷ x1 ∷ []) d0 d1 d2 d3 d4 d5 d6 d7 h = absurd (omega arith)
+whole8 (x0 ∷ x1 ∷ x2 ∷ []) d0 d1 d2 d3 d4 d5 d6 d7 h = absurd (omega arith)
+whole8 (x0 ∷ x1 ∷ x2 ∷ x3 ∷ []) d0 d1 d2 d3 d4 d5 d6 d7 h = absurd (omega arith)
+whole8 (x0 ∷ x1 ∷ x2 ∷ x3 ∷ x4 ∷ []) d0 d1 d2 d3 d4 d5 d6 d7 h = absurd (omega arith)
+whole8 (x0 ∷ x1 ∷ x2 ∷ x3 ∷ x4 ∷ x5 ∷ []) d0 d1 d2 d3 d4 d5 d6 d7 h = absurd (omega arith)
+whole8 (x0 ∷ x1 ∷ x2 ∷ x3 ∷ x4 ∷ x5 ∷ x6 ∷ []) d0 d1 d2 d3 d4 d5 d6 d7 h = absurd (omega arith)
+whole8 (x0 ∷ x1 ∷ x2 ∷ x3 ∷ x4 ∷ x5 ∷ x6 ∷ x7 ∷ []) d0 d1 d2 d3 d4 d5 d6 d7 h = refl
+whole8 (x0 ∷ x1 ∷ x2 ∷ x3 ∷ x4 ∷ x5 ∷ x6 ∷ x7 ∷ y ∷ ys) d0 d1 d2 d3 d4 d5 d6 d7 h = absurd (omega arith)
+
+-- what is made of each of eight
+pub mapped8 : {A B : Type 0} (f : A → B) (xs : List A) (d0 d1 d2 d3 d4 d5 d6 d7 : A) {r0 r1 r2 r3 r4 r5 r6 r7 : B} → length xs ≡ 8
+    → r0 ≡ f (get_or xs 0 d0) → r1 ≡ f (get_or xs 1 d1) → r2 ≡ f (get_or xs 2 d2) → r3 ≡ f (get_or xs 3 d3) → r4 ≡ f (get_or xs 4 d4) → r5 ≡ f (get_or xs 5 d5) → r6 ≡ f (get_or xs 6 d6) → r7 ≡ f (get_or xs 7 d7)
+    → r0 ∷ r1 ∷ r2 ∷ r3 ∷ r4 ∷ r5 ∷ r6 ∷ r7 ∷ [] ≡ map f xs
+mapped8 {B = B} f xs d0 d1 d2 d3 d4 d5 d6 d7 h e0 e1 e2 e3 e4 e5 e6 e7 =
+    rw (e0, e1, e2, e3, e4, e5, e6, e7) (ap (map f) (whole8 xs d0 d1 d2 d3 d4 d5 d6 d7 h))

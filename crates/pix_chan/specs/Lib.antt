@@ -11,6 +11,8 @@ pub mod Operators
 pub mod OpNumber
 pub mod Composite
 pub mod Runs
+pub mod Planes
+pub mod Lanes
 pub mod ExactComposite
 pub mod ExactRun
 pub mod Hue

@@ -1,5 +1,5 @@
 //! Channels: whole numbers of units from 0 to the maximum of their width.
-ghost use Rattle.std.specs.Prelude.{◌≡◌, ℕ, ◌+◌, ◌*◌, ◌^◌, ◌<◌, nat_eq, pos, ◌+ℤ◌, ◌*ℤ◌, ◌<ℤ◌, map};
+ghost use Rattle.std.specs.Prelude.{◌≡◌, ℕ, ◌+◌, ◌*◌, ◌^◌, ◌<◌, nat_eq, pos, ◌+ℤ◌, ◌*ℤ◌, ◌<ℤ◌, map, ◌++◌};
 ghost use Rattle.std.specs.Ordering.{nat_cmp};
 ghost use prog.Memory.{size};
 ghost use denote.Memory.{lone};
@@ -11,6 +11,7 @@ ghost use Rattle.pix_chan.specs.Depth.{to_16_bit, from_16_bit};
 ghost use Rattle.pix_chan.specs.Laws.{ChannelLaws};
 ghost use Rattle.pix_chan.specs.Channel.{IsNumbered, IsTotal, Answers};
 ghost use Rattle.pix_chan.specs.Runs.{over};
+ghost use Rattle.pix_chan.specs.Planes.{in_turn, both_in_turn};
 
 use crate::private::Sealed;
 use std::fmt::Debug;
@@ -102,6 +103,7 @@ pub trait Channel: Sealed
         ensures { number result ≡ nearest max n d };
 
     /// Multiplies each channel of `dst` by the channel of `by` of the same index; the shorter length decides, and the rest stays.
+    #[inline(always)]
     fn mul_run(dst: &mut [Self], by: &[Self])
         ensures { map number dst.new ≡
             over (λ y x. channel_product max x y) (map number by.now) (map number dst.old) }
@@ -113,6 +115,7 @@ pub trait Channel: Sealed
 
     /// Adds to each channel of `dst` the channel of `by` of the same index, saturating at `MAX`; the shorter length decides, and the
     /// rest stays.
+    #[inline(always)]
     fn add_run(dst: &mut [Self], by: &[Self])
         ensures { map number dst.new ≡
             over (λ y x. saturating_sum max x y) (map number by.now) (map number dst.old) }
@@ -121,6 +124,42 @@ pub trait Channel: Sealed
             dst[i] = dst[i] + by[i];
         }
     }
+
+    /// Returns the planes of sixteen pixels of four channels: `a` to `d` are four pixels each.
+    #[doc(hidden)]
+    fn split4(
+        a: [Self; 16],
+        b: [Self; 16],
+        c: [Self; 16],
+        d: [Self; 16],
+    ) -> ([Self; 16], [Self; 16], [Self; 16], [Self; 16])
+        ensures { in_turn (map number result.0) (map number result.1)
+            (map number result.2) (map number result.3)
+            ≡ (map number a ++ map number b) ++ (map number c ++ map number d) };
+
+    /// Returns sixteen pixels of four channels, four in each array, from their planes.
+    #[doc(hidden)]
+    fn join4(
+        one: [Self; 16],
+        two: [Self; 16],
+        three: [Self; 16],
+        four: [Self; 16],
+    ) -> ([Self; 16], [Self; 16], [Self; 16], [Self; 16])
+        ensures { (map number result.0 ++ map number result.1)
+            ++ (map number result.2 ++ map number result.3)
+            ≡ in_turn (map number one) (map number two) (map number three) (map number four) };
+
+    /// Returns the planes of sixteen pixels of two channels: `a` and `b` are eight pixels each.
+    #[doc(hidden)]
+    fn split2(a: [Self; 16], b: [Self; 16]) -> ([Self; 16], [Self; 16])
+        ensures { both_in_turn (map number result.0) (map number result.1)
+            ≡ map number a ++ map number b };
+
+    /// Returns sixteen pixels of two channels, eight in each array, from their planes.
+    #[doc(hidden)]
+    fn join2(one: [Self; 16], two: [Self; 16]) -> ([Self; 16], [Self; 16])
+        ensures { map number result.0 ++ map number result.1
+            ≡ both_in_turn (map number one) (map number two) };
 
     /// The maximum is above 1.
     ghost wide: { 1 < max };

@@ -183,6 +183,7 @@ impl Blend for Src {
         *dst = *src;
     }
 
+    #[inline(always)]
     fn composite_run<C: Channel>(dst: &mut [C], da1: &[C], src: &[C], sa1: &[C]) {
         run::composite::<One, Zero, C>(dst, da1, src, sa1);
     }
@@ -201,6 +202,7 @@ impl Blend for Dest {
         let _ = dst;
     }
 
+    #[inline(always)]
     fn composite_run<C: Channel>(dst: &mut [C], da1: &[C], src: &[C], sa1: &[C]) {
         run::composite::<Zero, One, C>(dst, da1, src, sa1);
     }
@@ -219,6 +221,7 @@ impl Blend for SrcOver {
         *dst = *src + *dst * sa1;
     }
 
+    #[inline(always)]
     fn composite_run<C: Channel>(dst: &mut [C], da1: &[C], src: &[C], sa1: &[C]) {
         run::composite::<One, OneMinusAlpha, C>(dst, da1, src, sa1);
     }
@@ -237,6 +240,7 @@ impl Blend for DestOver {
         *dst = *src * da1 + *dst;
     }
 
+    #[inline(always)]
     fn composite_run<C: Channel>(dst: &mut [C], da1: &[C], src: &[C], sa1: &[C]) {
         run::composite::<OneMinusAlpha, One, C>(dst, da1, src, sa1);
     }
@@ -255,6 +259,7 @@ impl Blend for SrcOut {
         *dst = *src * da1;
     }
 
+    #[inline(always)]
     fn composite_run<C: Channel>(dst: &mut [C], da1: &[C], src: &[C], sa1: &[C]) {
         run::composite::<OneMinusAlpha, Zero, C>(dst, da1, src, sa1);
     }
@@ -273,6 +278,7 @@ impl Blend for DestOut {
         *dst = *dst * sa1;
     }
 
+    #[inline(always)]
     fn composite_run<C: Channel>(dst: &mut [C], da1: &[C], src: &[C], sa1: &[C]) {
         run::composite::<Zero, OneMinusAlpha, C>(dst, da1, src, sa1);
     }
@@ -291,6 +297,7 @@ impl Blend for SrcIn {
         *dst = *src * (C::MAX - da1);
     }
 
+    #[inline(always)]
     fn composite_run<C: Channel>(dst: &mut [C], da1: &[C], src: &[C], sa1: &[C]) {
         run::composite::<Alpha, Zero, C>(dst, da1, src, sa1);
     }
@@ -309,6 +316,7 @@ impl Blend for DestIn {
         *dst = *dst * (C::MAX - sa1);
     }
 
+    #[inline(always)]
     fn composite_run<C: Channel>(dst: &mut [C], da1: &[C], src: &[C], sa1: &[C]) {
         run::composite::<Zero, Alpha, C>(dst, da1, src, sa1);
     }
@@ -327,6 +335,7 @@ impl Blend for SrcAtop {
         *dst = *src * (C::MAX - da1) + *dst * sa1;
     }
 
+    #[inline(always)]
     fn composite_run<C: Channel>(dst: &mut [C], da1: &[C], src: &[C], sa1: &[C]) {
         run::composite::<Alpha, OneMinusAlpha, C>(dst, da1, src, sa1);
     }
@@ -345,6 +354,7 @@ impl Blend for DestAtop {
         *dst = *src * da1 + *dst * (C::MAX - sa1);
     }
 
+    #[inline(always)]
     fn composite_run<C: Channel>(dst: &mut [C], da1: &[C], src: &[C], sa1: &[C]) {
         run::composite::<OneMinusAlpha, Alpha, C>(dst, da1, src, sa1);
     }
@@ -363,6 +373,7 @@ impl Blend for Xor {
         *dst = *src * da1 + *dst * sa1;
     }
 
+    #[inline(always)]
     fn composite_run<C: Channel>(dst: &mut [C], da1: &[C], src: &[C], sa1: &[C]) {
         run::composite::<OneMinusAlpha, OneMinusAlpha, C>(dst, da1, src, sa1);
     }
@@ -381,6 +392,7 @@ impl Blend for Clear {
         *dst = C::MIN;
     }
 
+    #[inline(always)]
     fn composite_run<C: Channel>(dst: &mut [C], da1: &[C], src: &[C], sa1: &[C]) {
         run::composite::<Zero, Zero, C>(dst, da1, src, sa1);
     }
@@ -399,6 +411,7 @@ impl Blend for Plus {
         *dst = *src + *dst;
     }
 
+    #[inline(always)]
     fn composite_run<C: Channel>(dst: &mut [C], da1: &[C], src: &[C], sa1: &[C]) {
         run::composite::<One, One, C>(dst, da1, src, sa1);
     }

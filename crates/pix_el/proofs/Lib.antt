@@ -2,3 +2,6 @@ pub mod Models
 pub mod Written
 pub mod Composited
 pub mod Conversions
+pub mod FourPlanes
+pub mod TwoPlanes
+pub mod MattePlanes

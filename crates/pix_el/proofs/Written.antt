@@ -2,6 +2,7 @@
 use Rattle.std.proofs.Common.{◌≡◌, ℕ, zero, suc, [], ◌∷◌, min, ◌+◌, ◌<◌, ◌≤◌, List, length, get_or, set, map, take, drop, ◌++◌, sym, ap, ◌∙◌, arith, length-set, inl, inr, refl, replicate}
 use Rattle.std.specs.List.{range_with_len}
 use Rattle.pix_el.specs.PixelComposite.{over}
+use Rattle.pix_chan.specs.Runs as runs
 use Rattle.std.proofs.lemmas.Bool.{cases_lt}
 use Rattle.std.proofs.lemmas.List.{get_or-set_same, get_or-set_other, length-map, get_or-map}
 use Rattle.std.proofs.lemmas.List.FromFn.{fill_by_all}
@@ -101,3 +102,9 @@ over_copied [] (d ∷ dest) = let none : min (length (d ∷ dest)) 0 ≡ 0 = ome
 over_copied {X = X} (s ∷ source) (d ∷ dest) =
     let less : min (length (d ∷ dest)) (length (s ∷ source)) ≡ suc (min (length dest) (length source)) = omega arith in
     rw less (ap (λ (l : List X). s ∷ l) (over_copied source dest))
+
+-- runs of channels and of pixels leave the same
+pub same_over : {X Y : Type 0} (f : X → Y → Y) (source : List X) (dest : List Y) → runs.over f source dest ≡ over f source dest
+same_over f source [] = refl
+same_over f [] (d ∷ dest) = refl
+same_over {Y = Y} f (s ∷ source) (d ∷ dest) = ap (λ (l : List Y). f s d ∷ l) (same_over f source dest)

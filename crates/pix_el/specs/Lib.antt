@@ -14,6 +14,7 @@ pub mod Pixel
 pub mod Color
 pub mod Conversion
 pub mod PixelComposite
+pub mod Planes
 pub mod Premultiplied
 pub mod Transparent
 pub mod ExactPixel

@@ -17,6 +17,7 @@ use crate::conversion::{at_depth, channel_at_depth, converted_within, recoded_co
 use crate::each::{composite_each, scale_each};
 use crate::matte::Matte;
 use crate::model::ColorModel;
+use crate::planes::{color_planes, composite_planes, matte_planes};
 use crate::private::Sealed;
 use crate::rgb::Rgb;
 use pix_chan::chan::{Alpha, Channel, Gamma, Linear, Premultiplied};
@@ -81,14 +82,6 @@ impl<const N: usize, C: Copy, M: Copy, A: Copy, G: Copy> Clone for Pix<N, C, M, 
 
     fn clone(&self) -> Result<Self, AllocError> {
         Ok(*self)
-    }
-}
-
-impl<const N: usize, C: Channel, M, A, G> Default for Pix<N, C, M, A, G> {
-    ghost is_default = { λ p. p.channels ≡ replicate N C.MIN };
-
-    fn default() -> Self {
-        Self::with_channels([C::MIN; N])
     }
 }
 
@@ -316,8 +309,9 @@ pub trait Pixel: Sealed + Clone + Copy + Debug + Default + PartialEq {
         ensures { map numbers dst.new ≡
             map (pixel_composite layout O.op (numbers clr.now)) (map numbers dst.old) }
     {
-        for d in dst.iter_mut() {
-            d.composite_channels(clr, op);
+        let start = color_planes::<O, Self>(dst, clr);
+        for i in start..dst.len() {
+            dst[i].composite_channels(clr, op);
         }
     }
 
@@ -331,7 +325,9 @@ pub trait Pixel: Sealed + Clone + Copy + Debug + Default + PartialEq {
         ensures { map numbers dst.new ≡
             over (pixel_composite layout O.op) (map numbers src.now) (map numbers dst.old) }
     {
-        for i in 0..dst.len().min(src.len()) {
+        let count = dst.len().min(src.len());
+        let start = composite_planes::<O, Self>(dst, src, count);
+        for i in start..count {
             dst[i].composite_channels(&src[i], op);
         }
     }
@@ -353,7 +349,9 @@ pub trait Pixel: Sealed + Clone + Copy + Debug + Default + PartialEq {
             (matte_value layout matte) (numbers clr.now))
             (map (matte_numbers Self.Chan.number) src.now) (map numbers dst.old) }
     {
-        for i in 0..src.len().min(dst.len()) {
+        let count = src.len().min(dst.len());
+        let start = matte_planes::<N, A, O, Self>(dst, src, clr, count);
+        for i in start..count {
             dst[i].composite_channels_alpha(clr, op, &src[i].alpha());
         }
     }

@@ -9,6 +9,7 @@ pub mod el;
 mod hue;
 pub mod matte;
 pub mod model;
+mod planes;
 mod private;
 pub mod rgb;
 pub mod seal;

@@ -42,6 +42,8 @@ mod palettes;
 #[cfg(test)]
 mod pictures;
 #[cfg(test)]
+mod planes;
+#[cfg(test)]
 mod random_lists;
 #[cfg(test)]
 mod rasters;

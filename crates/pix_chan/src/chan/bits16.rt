@@ -1,13 +1,16 @@
 //! Channels of 16 bits.
-ghost use Rattle.std.specs.Prelude.{◌≡◌, ◌+◌, ◌*◌, ◌/◌, ◌<◌};
+ghost use Rattle.std.specs.Prelude.{◌≡◌, ◌+◌, ◌*◌, ◌/◌, ◌<◌, ◌++◌, map};
 ghost use Rattle.pix_chan.specs.Number.{saturating_sum, saturating_difference};
 ghost use Rattle.pix_chan.specs.Product.{channel_product, channel_quotient};
 ghost use Rattle.pix_chan.specs.Channel.{AnswersFrom};
 ghost use Rattle.pix_chan.specs.Depth.{to_16_bit, from_16_bit};
+ghost use Rattle.pix_chan.specs.Planes.{in_turn, both_in_turn};
 
 use crate::chan::{Ch8, Channel, whole};
 use crate::private::Sealed;
 use std::ops::{Add, Div, Mul, Sub};
+
+mod planes;
 
 /// A channel of 16 bits: a whole number of units from 0 to 65535.
 #[derive(Clone, Copy, Debug, PartialEq, Eq, PartialOrd, Ord)]
@@ -199,6 +202,65 @@ impl Channel for Ch16 {
         Ch16 {
             value: whole::nearest(n, d, 65535) as u16,
         }
+    }
+
+    #[inline(always)]
+    fn split4(
+        a: [Ch16; 16],
+        b: [Ch16; 16],
+        c: [Ch16; 16],
+        d: [Ch16; 16],
+    ) -> ([Ch16; 16], [Ch16; 16], [Ch16; 16], [Ch16; 16])
+        ensures { in_turn (map (λ x. x.value) result.0) (map (λ x. x.value) result.1)
+            (map (λ x. x.value) result.2) (map (λ x. x.value) result.3)
+            ≡ (map (λ x. x.value) a ++ map (λ x. x.value) b)
+            ++ (map (λ x. x.value) c ++ map (λ x. x.value) d) }
+    {
+        let (first_low, second_low) = Ch16::split2(a, b);
+        let (first_high, second_high) = Ch16::split2(c, d);
+        let (one, three) = Ch16::split2(first_low, first_high);
+        let (two, four) = Ch16::split2(second_low, second_high);
+        (one, two, three, four)
+    }
+
+    #[inline(always)]
+    fn join4(
+        one: [Ch16; 16],
+        two: [Ch16; 16],
+        three: [Ch16; 16],
+        four: [Ch16; 16],
+    ) -> ([Ch16; 16], [Ch16; 16], [Ch16; 16], [Ch16; 16])
+        ensures { (map (λ x. x.value) result.0 ++ map (λ x. x.value) result.1)
+            ++ (map (λ x. x.value) result.2 ++ map (λ x. x.value) result.3)
+            ≡ in_turn (map (λ x. x.value) one) (map (λ x. x.value) two)
+            (map (λ x. x.value) three) (map (λ x. x.value) four) }
+    {
+        let (first_low, first_high) = Ch16::join2(one, three);
+        let (second_low, second_high) = Ch16::join2(two, four);
+        let (a, b) = Ch16::join2(first_low, second_low);
+        let (c, d) = Ch16::join2(first_high, second_high);
+        (a, b, c, d)
+    }
+
+    #[inline(always)]
+    fn split2(a: [Ch16; 16], b: [Ch16; 16]) -> ([Ch16; 16], [Ch16; 16])
+        ensures { both_in_turn (map (λ x. x.value) result.0) (map (λ x. x.value) result.1)
+            ≡ map (λ x. x.value) a ++ map (λ x. x.value) b }
+    {
+        (planes::evens(&a, &b), planes::odds(&a, &b))
+    }
+
+    #[inline(always)]
+    fn join2(one: [Ch16; 16], two: [Ch16; 16]) -> ([Ch16; 16], [Ch16; 16])
+        ensures { map (λ x. x.value) result.0 ++ map (λ x. x.value) result.1
+            ≡ both_in_turn (map (λ x. x.value) one) (map (λ x. x.value) two) }
+    {
+        let one = &one[..];
+        let two = &two[..];
+        (
+            planes::both(&one[..8], &two[..8]),
+            planes::both(&one[8..16], &two[8..16]),
+        )
     }
 
     ghost wide = { lit< tt };

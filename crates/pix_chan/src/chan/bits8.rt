@@ -1,15 +1,18 @@
 //! Channels of 8 bits.
-ghost use Rattle.std.specs.Prelude.{◌≡◌, ◌+◌, ◌*◌, ◌/◌, ◌<◌};
+ghost use Rattle.std.specs.Prelude.{◌≡◌, ◌+◌, ◌*◌, ◌/◌, ◌<◌, ◌++◌, map};
 ghost use Rattle.pix_chan.specs.Number.{saturating_sum, saturating_difference};
 ghost use Rattle.pix_chan.specs.Product.{channel_product, channel_quotient};
 ghost use Rattle.pix_chan.specs.Channel.{AnswersFrom};
 ghost use Rattle.pix_chan.specs.Depth.{to_16_bit, from_16_bit};
+ghost use Rattle.pix_chan.specs.Planes.{in_turn, both_in_turn};
 
+use crate::chan::bits8::lanes::{channels, units};
 use crate::chan::{Ch16, Channel, whole};
 use crate::private::Sealed;
 use std::ops::{Add, Div, Mul, Sub};
 
 mod lanes;
+mod planes;
 
 /// A channel of 8 bits: a whole number of units from 0 to 255.
 #[derive(Clone, Copy, Debug, PartialEq, Eq, PartialOrd, Ord)]
@@ -203,6 +206,7 @@ impl Channel for Ch8 {
         }
     }
 
+    #[inline(always)]
     fn mul_run(dst: &mut [Ch8], by: &[Ch8]) {
         let count = dst.len().min(by.len());
         for k in 0..count / 16 {
@@ -213,6 +217,7 @@ impl Channel for Ch8 {
         }
     }
 
+    #[inline(always)]
     fn add_run(dst: &mut [Ch8], by: &[Ch8]) {
         let count = dst.len().min(by.len());
         for k in 0..count / 16 {
@@ -221,6 +226,66 @@ impl Channel for Ch8 {
         for i in count / 16 * 16..count {
             dst[i] = dst[i] + by[i];
         }
+    }
+
+    #[inline(always)]
+    fn split4(
+        a: [Ch8; 16],
+        b: [Ch8; 16],
+        c: [Ch8; 16],
+        d: [Ch8; 16],
+    ) -> ([Ch8; 16], [Ch8; 16], [Ch8; 16], [Ch8; 16])
+        ensures { in_turn (map (λ x. x.value) result.0) (map (λ x. x.value) result.1)
+            (map (λ x. x.value) result.2) (map (λ x. x.value) result.3)
+            ≡ (map (λ x. x.value) a ++ map (λ x. x.value) b)
+            ++ (map (λ x. x.value) c ++ map (λ x. x.value) d) }
+    {
+        let (one, two, three, four) = planes::split_four(
+            units(&a),
+            units(&b),
+            units(&c),
+            units(&d),
+        );
+        (
+            channels(one),
+            channels(two),
+            channels(three),
+            channels(four),
+        )
+    }
+
+    #[inline(always)]
+    fn join4(
+        one: [Ch8; 16],
+        two: [Ch8; 16],
+        three: [Ch8; 16],
+        four: [Ch8; 16],
+    ) -> ([Ch8; 16], [Ch8; 16], [Ch8; 16], [Ch8; 16])
+        ensures { (map (λ x. x.value) result.0 ++ map (λ x. x.value) result.1)
+            ++ (map (λ x. x.value) result.2 ++ map (λ x. x.value) result.3)
+            ≡ in_turn (map (λ x. x.value) one) (map (λ x. x.value) two)
+            (map (λ x. x.value) three) (map (λ x. x.value) four) }
+    {
+        let (a, b, c, d) = planes::join_four(units(&one), units(&two), units(&three), units(&four));
+        (channels(a), channels(b), channels(c), channels(d))
+    }
+
+    #[inline(always)]
+    fn split2(a: [Ch8; 16], b: [Ch8; 16]) -> ([Ch8; 16], [Ch8; 16])
+        ensures { both_in_turn (map (λ x. x.value) result.0) (map (λ x. x.value) result.1)
+            ≡ map (λ x. x.value) a ++ map (λ x. x.value) b }
+    {
+        let (one, two) = planes::cut(units(&a), units(&b));
+        (channels(one), channels(two))
+    }
+
+    #[inline(always)]
+    fn join2(one: [Ch8; 16], two: [Ch8; 16]) -> ([Ch8; 16], [Ch8; 16])
+        ensures { map (λ x. x.value) result.0 ++ map (λ x. x.value) result.1
+            ≡ both_in_turn (map (λ x. x.value) one) (map (λ x. x.value) two) }
+    {
+        let (a, b) = planes::join_two(units(&one), units(&two));
+        (channels(a), channels(b))
     }
 
     ghost wide = { lit< tt };

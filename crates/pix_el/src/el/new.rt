@@ -1,7 +1,8 @@
 //! Pixels made of their channels.
-ghost use Rattle.std.specs.Prelude.{◌≡◌, List, [], ◌∷◌};
+ghost use Rattle.std.specs.Prelude.{◌≡◌, List, [], ◌∷◌, replicate};
 
 use crate::el::Pix;
+use pix_chan::chan::Channel;
 use std::marker::PhantomData;
 
 impl<const N: usize, C, M, A, G> Pix<N, C, M, A, G> {
@@ -15,6 +16,14 @@ impl<const N: usize, C, M, A, G> Pix<N, C, M, A, G> {
             _alpha: PhantomData,
             _gamma: PhantomData,
         }
+    }
+}
+
+impl<const N: usize, C: Channel, M, A, G> Default for Pix<N, C, M, A, G> {
+    ghost is_default = { λ p. p.channels ≡ replicate N C.MIN };
+
+    fn default() -> Self {
+        Self::with_channels([C::MIN; N])
     }
 }
 

@@ -32,7 +32,7 @@ fn sum_lanes(x: u8x16, y: u8x16) -> u8x16
 
 /// Returns the numbers of sixteen channels.
 #[inline(always)]
-fn units(c: &[Ch8]) -> u8x16
+pub(super) fn units(c: &[Ch8]) -> u8x16
     requires { length c.now ≡ 16 }
     ensures { result ≡ map (λ x. x.value) c.now }
 {
@@ -58,7 +58,7 @@ fn units(c: &[Ch8]) -> u8x16
 
 /// Returns the channels of sixteen numbers.
 #[inline(always)]
-fn channels(v: u8x16) -> [Ch8; 16]
+pub(super) fn channels(v: u8x16) -> [Ch8; 16]
     ensures { map (λ x. x.value) result ≡ v }
 {
     let c = v.to_array();

@@ -1,11 +1,10 @@
-use Rattle.std.proofs.Common.{[], map}
+use Rattle.std.proofs.Common.{◌≡◌, take, map, replicate, length}
+use Rattle.pix_chan.specs.Runs.{over}
 use Rattle.pix_el.specs.PixelComposite.{pixel_composite}
-use Rattle.pix_el.proofs.Written.{Written}
 use Rattle.pix_el.proofs.el.Pixel.composite_color.Given as goal
 
 -- the pixels below the index are composited
-abbrev pub invariant-loop-d : goal.invariant-loop-d
-invariant-loop-d g l =
+abbrev pub invariant-loop-i : goal.invariant-loop-i
+invariant-loop-i g l =
     let n = g.Self.Pixel.numbers in
-    Written (λ _. pixel_composite g.Self.Pixel.layout g.O.Blend.op (n l.clr))
-    [] (map n l.initial.dst) (map n l.dst) l.d-index
+    map n l.dst ≡ over (pixel_composite g.Self.Pixel.layout g.O.Blend.op) (take l.i (replicate (length l.fn.dst) (n l.clr))) (map n l.fn.dst)

@@ -1,0 +1,16 @@
+-- Planes: the channels of one number of several pixels.
+use Rattle.std.specs.Prelude.{List, [], ◌∷◌}
+
+-- the first elements of all four lists, then the second ones, and so on
+abbrev pub in_turn : {A : Type 0} → List A → List A → List A → List A → List A
+in_turn [] xs ys zs = []
+in_turn (w ∷ ws) [] ys zs = []
+in_turn (w ∷ ws) (x ∷ xs) [] zs = []
+in_turn (w ∷ ws) (x ∷ xs) (y ∷ ys) [] = []
+in_turn (w ∷ ws) (x ∷ xs) (y ∷ ys) (z ∷ zs) = w ∷ x ∷ y ∷ z ∷ in_turn ws xs ys zs
+
+-- the first elements of both lists, then the second ones, and so on
+abbrev pub both_in_turn : {A : Type 0} → List A → List A → List A
+both_in_turn [] xs = []
+both_in_turn (w ∷ ws) [] = []
+both_in_turn (w ∷ ws) (x ∷ xs) = w ∷ x ∷ both_in_turn ws xs

@@ -1,0 +1,49 @@
+use Rattle.std.proofs.Common.{◌≡◌, ◌+◌, ◌*◌, ◌-◌, ◌∙◌, length, take, drop, sym, ap, arith, map, refl, replicate, List, ℕ}
+use Rattle.pix_el.proofs.FourPlanes.{color_are_planes}
+use Rattle.pix_el.proofs.TwoPlanes.{color_are_two_planes}
+use Rattle.pix_el.specs.PixelComposite.{pixel_composite}
+use Rattle.pix_chan.proofs.Slices.{run, over-nil, mapped_run_step, part_of_same, length-replicate}
+use Rattle.pix_el.proofs.planes.color_planes.Goals as goal
+
+pub loop-k-init : goal.loop-k-init
+loop-k-init g c = sym (over-nil _ (map g.P.Pixel.numbers c.args.dst.now))
+
+pub loop-k-preserved : goal.loop-k-preserved
+loop-k-preserved g c =
+    let v = g.P.Pixel.numbers in
+    let w = g.P.Chan.Channel.number in
+    let f = λ (d s : List ℕ). pixel_composite g.P.Pixel.layout g.O.Blend.op s d in
+    let at = 16 * c.loop-k.k in
+    let k' = 16 * c.loop-k.k + 16 - 16 * c.loop-k.k in
+    let m : 16 * c.loop-k.k + 16 ≡ 16 * (c.loop-k.k + 1) = omega arith in
+    let e : 16 ≡ k' = omega arith in
+    let n = length c.args.dst.now in
+    let ys = replicate n (v c.args.clr.now) in
+    mapped_run_step v f at 16 (at + 16) c.args.dst.now c.loop-k.dst c.composite_sixteen.new.dst ys
+    c.loop-k.invariant refl (omega arith) (omega (arith, length-replicate n (v c.args.clr.now)))
+    (c.composite_sixteen.ensures (replicate 16 (v c.args.clr.now)) (color_are_planes g.P.Chan.Channel.max w c.four_channels-a.result.0 c.four_channels-a.result.1 c.four_channels-a.result.2 c.four_channels-a.result.3 (v c.args.clr.now) c.four_channels-a.ensures)
+    ∙ ap (λ (l : List (List ℕ)). run f (map v (take k' (drop at c.loop-k.dst))) l) (ap (λ z. replicate z (v c.args.clr.now)) e ∙ part_of_same at k' n (v c.args.clr.now) (omega arith)))
+    ∙ ap (λ k. run f (map v c.args.dst.now) (take k ys)) m
+
+pub loop-j-init : goal.loop-j-init
+loop-j-init g c = sym (over-nil _ (map g.P.Pixel.numbers c.args.dst.now))
+
+pub loop-j-preserved : goal.loop-j-preserved
+loop-j-preserved g c =
+    let v = g.P.Pixel.numbers in
+    let w = g.P.Chan.Channel.number in
+    let f = λ (d s : List ℕ). pixel_composite g.P.Pixel.layout g.O.Blend.op s d in
+    let at = 16 * c.loop-j.j in
+    let k' = 16 * c.loop-j.j + 16 - 16 * c.loop-j.j in
+    let m : 16 * c.loop-j.j + 16 ≡ 16 * (c.loop-j.j + 1) = omega arith in
+    let e : 16 ≡ k' = omega arith in
+    let n = length c.args.dst.now in
+    let ys = replicate n (v c.args.clr.now) in
+    mapped_run_step v f at 16 (at + 16) c.args.dst.now c.loop-j.dst c.composite_sixteen-in-loop-j.new.dst ys
+    c.loop-j.invariant refl (omega arith) (omega (arith, length-replicate n (v c.args.clr.now)))
+    (c.composite_sixteen-in-loop-j.ensures (replicate 16 (v c.args.clr.now)) (color_are_two_planes g.P.Chan.Channel.max w c.two_channels-a.result.0 c.two_channels-a.result.1 (v c.args.clr.now) c.two_channels-a.ensures)
+    ∙ ap (λ (l : List (List ℕ)). run f (map v (take k' (drop at c.loop-j.dst))) l) (ap (λ z. replicate z (v c.args.clr.now)) e ∙ part_of_same at k' n (v c.args.clr.now) (omega arith)))
+    ∙ ap (λ k. run f (map v c.args.dst.now) (take k ys)) m
+
+pub returns-else-has_two-clause-composite : goal.returns-else-has_two-clause-composite
+returns-else-has_two-clause-composite g c = sym (over-nil _ (map g.P.Pixel.numbers c.args.dst.now))

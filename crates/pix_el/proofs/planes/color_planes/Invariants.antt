@@ -1,0 +1,14 @@
+use Rattle.std.proofs.Common.{◌≡◌, ◌*◌, take, map, replicate, length}
+use Rattle.pix_chan.specs.Runs.{over}
+use Rattle.pix_el.specs.PixelComposite.{pixel_composite}
+use Rattle.pix_el.proofs.planes.color_planes.Given as goal
+
+abbrev pub invariant-loop-k : goal.invariant-loop-k
+invariant-loop-k g l =
+    let v = g.P.Pixel.numbers in
+    map v l.dst ≡ over (pixel_composite g.P.Pixel.layout g.O.Blend.op) (take (16 * l.k) (replicate (length l.fn.dst) (v l.clr))) (map v l.fn.dst)
+
+abbrev pub invariant-loop-j : goal.invariant-loop-j
+invariant-loop-j g l =
+    let v = g.P.Pixel.numbers in
+    map v l.dst ≡ over (pixel_composite g.P.Pixel.layout g.O.Blend.op) (take (16 * l.j) (replicate (length l.fn.dst) (v l.clr))) (map v l.fn.dst)

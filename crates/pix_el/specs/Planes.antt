@@ -1,0 +1,45 @@
+-- Pixels by planes: a plane holds the channels of one number. No public clause cites this file.
+use Rattle.std.specs.Prelude.{◌≡◌, ℕ, ◌-◌, List, [], ◌∷◌, map, if◌then◌else◌}
+use Rattle.std.specs.declared.ops.Range.{Range}
+use Rattle.pix_chan.specs.declared.ops.Op.{Op}
+use Rattle.pix_chan.specs.Hue.{hue_composite}
+use Rattle.pix_chan.specs.Runs.{run_composite}
+use Rattle.pix_el.specs.Pixel.{lies_in, channel}
+
+-- the channels of pixels of four channels, pixel by pixel
+abbrev pub by_fours : {A : Type 0} → List A → List (List A)
+by_fours [] = []
+by_fours (w ∷ []) = []
+by_fours (w ∷ x ∷ []) = []
+by_fours (w ∷ x ∷ y ∷ []) = []
+by_fours (w ∷ x ∷ y ∷ z ∷ r) = (w ∷ x ∷ y ∷ z ∷ []) ∷ by_fours r
+
+-- the channels of pixels of two channels, pixel by pixel
+abbrev pub by_twos : {A : Type 0} → List A → List (List A)
+by_twos [] = []
+by_twos (w ∷ []) = []
+by_twos (w ∷ x ∷ r) = (w ∷ x ∷ []) ∷ by_twos r
+
+-- the plane of a channel number
+abbrev pub plane_of : ℕ → List (List ℕ) → ℕ → List ℕ
+plane_of max pixels ch = map (λ p. channel max p ch) pixels
+
+-- the lists are the planes of pixels of four channels
+pub record ArePlanes (max : ℕ) (pixels : List (List ℕ)) (one two three four : List ℕ) : Type 0 where
+  pub first : one ≡ plane_of max pixels 0
+  pub second : two ≡ plane_of max pixels 1
+  pub third : three ≡ plane_of max pixels 2
+  pub fourth : four ≡ plane_of max pixels 3
+
+-- the lists are the planes of pixels of two channels
+pub record AreTwoPlanes (max : ℕ) (pixels : List (List ℕ)) (one two : List ℕ) : Type 0 where
+  pub first : one ≡ plane_of max pixels 0
+  pub second : two ≡ plane_of max pixels 1
+
+-- the source's hue s composited with the destination's hue d, where da1 and sa1 are one minus the alphas
+abbrev pub run_hue : ℕ → Op → ℕ × ℕ × ℕ → ℕ → ℕ
+run_hue max op (da1, s, sa1) d = hue_composite max op s (max - sa1) d (max - da1)
+
+-- the same for the first channel, a hue or not
+abbrev pub run_first : ℕ → Range ℕ → Op → ℕ × ℕ × ℕ → ℕ → ℕ
+run_first max hues op t d = if lies_in hues 0 then run_hue max op t d else run_composite max op t d

@@ -1,0 +1,220 @@
+//! Composites of pixels by planes: arrays of sixteen channels of one number, each composited by one run.
+//!
+//! Pixels of four channels with at most a hue at the first go by planes, and so do pixels of two channels without a hue.
+ghost use Rattle.std.specs.Prelude.{◌≡◌, ◌≤◌, ◌+◌, ◌-◌, ℕ, length, map, take, true, replicate};
+ghost use Rattle.pix_chan.specs.Runs.{over, triples};
+ghost use Rattle.pix_el.specs.Planes.{run_hue, run_first};
+ghost use Rattle.pix_el.specs.Pixel.{channel};
+ghost use Rattle.pix_el.specs.PixelComposite.{pixel_composite, matted_composite, matte_numbers, matte_value};
+
+use crate::el::{Pix, Pixel};
+use crate::hue::composite_hue;
+use crate::matte::Matte;
+use crate::model::{ColorModel, is_hue};
+use pix_chan::chan::{Alpha, Channel, Linear};
+use pix_chan::ops::Blend;
+
+mod four;
+mod two;
+
+/// Replaces each channel by one minus it.
+#[inline(always)]
+fn complement<C: Channel>(channels: &mut [C])
+    ensures { map C.number channels.new ≡ map (λ x. C.max - x) (map C.number channels.old) }
+{
+    for i in 0..channels.len() {
+        channels[i] = C::MAX - channels[i];
+    }
+}
+
+/// Composites the hues of the same index of all four, one after the other; the shortest length decides.
+#[inline(always)]
+fn composite_hues<O: Blend, C: Channel>(dst: &mut [C], da1: &[C], src: &[C], sa1: &[C])
+    ensures { map C.number dst.new ≡ over (run_hue C.max O.op)
+        (triples (map C.number da1.now) (map C.number src.now) (map C.number sa1.now))
+        (map C.number dst.old) }
+{
+    let count = dst.len().min(da1.len()).min(src.len()).min(sa1.len());
+    for i in 0..count {
+        let rest = sa1[i];
+        composite_hue::<C, O>(&mut dst[i], da1[i], &src[i], C::MAX - rest, rest);
+    }
+}
+
+/// Composites the first channels of the same index of all four, which may be hues; the shortest length decides.
+#[inline(always)]
+fn composite_first<O: Blend, M: ColorModel, C: Channel>(
+    dst: &mut [C],
+    da1: &[C],
+    src: &[C],
+    sa1: &[C],
+)
+    ensures { map C.number dst.new ≡ over (run_first C.max M.CIRCULAR O.op)
+        (triples (map C.number da1.now) (map C.number src.now) (map C.number sa1.now))
+        (map C.number dst.old) }
+{
+    if is_hue::<M>(0) {
+        composite_hues::<O, C>(dst, da1, src, sa1);
+    } else {
+        O::composite_run(dst, da1, src, sa1);
+    }
+}
+
+/// Returns whether a model has four channels, of which only the first may be a hue.
+#[inline(always)]
+fn has_four<P: Pixel>() -> bool
+    ensures alpha { result ≡ true → P.layout.alpha ≡ 3 }
+    ensures hue { result ≡ true → P.layout.hues.end ≤ 1 }
+{
+    let hues = P::Model::CIRCULAR;
+    P::Model::ALPHA == 3 && hues.end <= 1
+}
+
+/// Returns whether a model has two channels, of which none is a hue.
+#[inline(always)]
+fn has_two<P: Pixel>() -> bool
+    ensures alpha { result ≡ true → P.layout.alpha ≡ 1 }
+    ensures no_hue { result ≡ true → P.layout.hues.end ≡ 0 }
+{
+    let hues = P::Model::CIRCULAR;
+    P::Model::ALPHA == 1 && hues.end == 0
+}
+
+/// Composites as many of the first `count` pixels as go by planes, and returns how many these are.
+///
+/// Condition: the format has an alpha channel, and both slices have `count` pixels.
+#[inline(always)]
+pub(crate) fn composite_planes<O: Blend, P: Pixel>(dst: &mut [P], src: &[P], count: usize) -> usize
+    requires has_alpha { P.layout.count ≡ P.layout.alpha + 1 }
+    requires dst_has { count ≤ length dst.old }
+    requires src_has { count ≤ length src.now }
+    ensures some { result ≤ count }
+    ensures composite { map P.numbers dst.new ≡ over (pixel_composite P.layout O.op)
+        (take result (map P.numbers src.now)) (map P.numbers dst.old) }
+{
+    if has_four::<P>() {
+        for k in 0..count / 16 {
+            let (one, two, three, four) = four::planes::<P, 2>(&src[16 * k..16 * k + 16]);
+            four::composite_sixteen::<O, P, 0>(
+                &mut dst[16 * k..16 * k + 16],
+                one,
+                two,
+                three,
+                four,
+            );
+        }
+        count / 16 * 16
+    } else if has_two::<P>() {
+        for j in 0..count / 16 {
+            let (one, two) = two::planes::<P, 2>(&src[16 * j..16 * j + 16]);
+            two::composite_sixteen::<O, P, 0>(&mut dst[16 * j..16 * j + 16], one, two);
+        }
+        count / 16 * 16
+    } else {
+        0
+    }
+}
+
+/// Composites `clr` with as many of the first pixels as go by planes, and returns how many these are.
+///
+/// Condition: the format has an alpha channel.
+#[inline(always)]
+pub(crate) fn color_planes<O: Blend, P: Pixel>(dst: &mut [P], clr: &P) -> usize
+    requires has_alpha { P.layout.count ≡ P.layout.alpha + 1 }
+    ensures some { result ≤ length dst.old }
+    ensures composite { map P.numbers dst.new ≡ over (pixel_composite P.layout O.op)
+        (take result (replicate (length dst.old) (P.numbers clr.now))) (map P.numbers dst.old) }
+{
+    if has_four::<P>() {
+        let (a, b, c, d) = four::four_channels(clr);
+        let count = dst.len();
+        for k in 0..count / 16 {
+            four::composite_sixteen::<O, P, 1>(
+                &mut dst[16 * k..16 * k + 16],
+                [a; 16],
+                [b; 16],
+                [c; 16],
+                [d; 16],
+            );
+        }
+        count / 16 * 16
+    } else if has_two::<P>() {
+        let (a, b) = two::two_channels(clr);
+        let count = dst.len();
+        for j in 0..count / 16 {
+            two::composite_sixteen::<O, P, 1>(&mut dst[16 * j..16 * j + 16], [a; 16], [b; 16]);
+        }
+        count / 16 * 16
+    } else {
+        0
+    }
+}
+
+/// Returns whether a model has four channels, of which none is a hue.
+#[inline(always)]
+fn has_plain_four<P: Pixel>() -> bool
+    ensures alpha { result ≡ true → P.layout.alpha ≡ 3 }
+    ensures no_hue { result ≡ true → P.layout.hues.end ≡ 0 }
+{
+    let hues = P::Model::CIRCULAR;
+    P::Model::ALPHA == 3 && hues.end == 0
+}
+
+/// Returns the values of sixteen mattes.
+#[inline(always)]
+fn matte_values<const N: usize, A: Alpha, C: Channel>(
+    src: &[Pix<N, C, Matte, A, Linear>],
+) -> [C; 16]
+    requires { length src.now ≡ 16 }
+    ensures { map C.number result ≡
+        map (λ matte. channel C.max matte 0) (map (matte_numbers C.number) src.now) }
+{
+    [
+        src[0].alpha(),
+        src[1].alpha(),
+        src[2].alpha(),
+        src[3].alpha(),
+        src[4].alpha(),
+        src[5].alpha(),
+        src[6].alpha(),
+        src[7].alpha(),
+        src[8].alpha(),
+        src[9].alpha(),
+        src[10].alpha(),
+        src[11].alpha(),
+        src[12].alpha(),
+        src[13].alpha(),
+        src[14].alpha(),
+        src[15].alpha(),
+    ]
+}
+
+/// Composites `clr` through mattes with as many of the first `count` pixels as go by planes, and returns how many these are.
+///
+/// Condition: the format has an alpha channel, and both slices have `count` elements.
+#[inline(always)]
+pub(crate) fn matte_planes<const N: usize, A: Alpha, O: Blend, P: Pixel>(
+    dst: &mut [P],
+    src: &[Pix<N, P::Chan, Matte, A, Linear>],
+    clr: &P,
+    count: usize,
+) -> usize
+    requires has_alpha { P.layout.count ≡ P.layout.alpha + 1 }
+    requires dst_has { count ≤ length dst.old }
+    requires src_has { count ≤ length src.now }
+    ensures some { result ≤ count }
+    ensures composite { map P.numbers dst.new ≡ over (λ matte. matted_composite P.layout O.op
+        (matte_value P.layout matte) (P.numbers clr.now))
+        (take result (map (matte_numbers P.Chan.number) src.now)) (map P.numbers dst.old) }
+{
+    if has_plain_four::<P>() {
+        let (a, b, c, d) = four::four_channels(clr);
+        for k in 0..count / 16 {
+            let mattes = matte_values(&src[16 * k..16 * k + 16]);
+            four::composite_matted::<O, P, 3>(&mut dst[16 * k..16 * k + 16], &mattes, a, b, c, d);
+        }
+        count / 16 * 16
+    } else {
+        0
+    }
+}

@@ -1,0 +1,171 @@
+//! Pixels of four channels by planes, sixteen at a time.
+ghost use Rattle.std.specs.Prelude.{◌≡◌, ◌≤◌, ℕ, List, [], ◌∷◌, length, map};
+ghost use Rattle.pix_chan.specs.Planes.{in_turn};
+ghost use Rattle.pix_chan.specs.Runs.{over};
+ghost use Rattle.pix_el.specs.Planes.{by_fours, ArePlanes};
+ghost use Rattle.pix_el.specs.PixelComposite.{pixel_composite, matted_composite};
+
+use crate::el::Pixel;
+use crate::planes::{complement, composite_first};
+use pix_chan::chan::Channel;
+use pix_chan::ops::Blend;
+
+/// Returns the four channels of a pixel.
+#[inline(always)]
+pub(super) fn four_channels<P: Pixel>(p: &P) -> (P::Chan, P::Chan, P::Chan, P::Chan)
+    requires { P.layout.count ≡ 4 }
+    ensures { P.Chan.number result.0 ∷ P.Chan.number result.1
+        ∷ P.Chan.number result.2 ∷ P.Chan.number result.3 ∷ [] ≡ P.numbers p.now }
+{
+    let c = p.channels();
+    (c[0], c[1], c[2], c[3])
+}
+
+/// Returns the channels of four pixels, pixel by pixel.
+#[inline(always)]
+fn four_pixels<P: Pixel>(p: &[P]) -> [P::Chan; 16]
+    requires count { P.layout.count ≡ 4 }
+    requires size { length p.now ≡ 4 }
+    ensures { by_fours (map P.Chan.number result) ≡ map P.numbers p.now }
+{
+    let (a, b, c, d) = four_channels(&p[0]);
+    let (e, f, g, h) = four_channels(&p[1]);
+    let (i, j, k, l) = four_channels(&p[2]);
+    let (m, n, o, q) = four_channels(&p[3]);
+    [a, b, c, d, e, f, g, h, i, j, k, l, m, n, o, q]
+}
+
+/// Returns the planes of sixteen pixels. Each `CALLER` has a copy of its own, since LLVM inlines what is called once.
+#[inline(always)]
+pub(super) fn planes<P: Pixel, const CALLER: usize>(
+    p: &[P],
+) -> ([P::Chan; 16], [P::Chan; 16], [P::Chan; 16], [P::Chan; 16])
+    requires count { P.layout.count ≡ 4 }
+    requires size { length p.now ≡ 16 }
+    ensures { ArePlanes P.Chan.max (map P.numbers p.now)
+        (map P.Chan.number result.0) (map P.Chan.number result.1)
+        (map P.Chan.number result.2) (map P.Chan.number result.3) }
+{
+    P::Chan::split4(
+        four_pixels(&p[..4]),
+        four_pixels(&p[4..8]),
+        four_pixels(&p[8..12]),
+        four_pixels(&p[12..16]),
+    )
+}
+
+/// Writes the four channels of a pixel.
+#[inline(always)]
+fn put_pixel<P: Pixel>(p: &mut P, one: P::Chan, two: P::Chan, three: P::Chan, four: P::Chan)
+    requires { P.layout.count ≡ 4 }
+    ensures { P.numbers p.new ≡ P.Chan.number one ∷ P.Chan.number two
+        ∷ P.Chan.number three ∷ P.Chan.number four ∷ [] }
+{
+    let to = p.channels_mut();
+    to[0] = one;
+    to[1] = two;
+    to[2] = three;
+    to[3] = four;
+}
+
+/// Writes four pixels from their channels, pixel by pixel.
+#[inline(always)]
+fn put_four_pixels<P: Pixel>(p: &mut [P], c: [P::Chan; 16])
+    requires count { P.layout.count ≡ 4 }
+    requires size { length p.old ≡ 4 }
+    ensures size { length p.new ≡ 4 }
+    ensures pixels { map P.numbers p.new ≡ by_fours (map P.Chan.number c) }
+{
+    let c = &c[..];
+    put_pixel(&mut p[0], c[0], c[1], c[2], c[3]);
+    put_pixel(&mut p[1], c[4], c[5], c[6], c[7]);
+    put_pixel(&mut p[2], c[8], c[9], c[10], c[11]);
+    put_pixel(&mut p[3], c[12], c[13], c[14], c[15]);
+}
+
+/// Writes sixteen pixels from their planes.
+#[inline(always)]
+fn put_planes<P: Pixel>(
+    p: &mut [P],
+    one: [P::Chan; 16],
+    two: [P::Chan; 16],
+    three: [P::Chan; 16],
+    four: [P::Chan; 16],
+)
+    requires count { P.layout.count ≡ 4 }
+    requires size { length p.old ≡ 16 }
+    ensures { map P.numbers p.new ≡
+        by_fours (in_turn (map P.Chan.number one) (map P.Chan.number two)
+        (map P.Chan.number three) (map P.Chan.number four)) }
+{
+    let (a, b, c, d) = P::Chan::join4(one, two, three, four);
+    put_four_pixels(&mut p[..4], a);
+    put_four_pixels(&mut p[4..8], b);
+    put_four_pixels(&mut p[8..12], c);
+    put_four_pixels(&mut p[12..16], d);
+}
+
+/// Composites the sixteen pixels of these planes with those of `dst`. All alphas are read before a plane is written.
+///
+/// Condition: the alpha is the last channel, and only the first may be a hue.
+#[inline(always)]
+pub(super) fn composite_sixteen<O: Blend, P: Pixel, const CALLER: usize>(
+    dst: &mut [P],
+    one: [P::Chan; 16],
+    two: [P::Chan; 16],
+    three: [P::Chan; 16],
+    four: [P::Chan; 16],
+)
+    requires count { P.layout.count ≡ 4 }
+    requires alpha { P.layout.alpha ≡ 3 }
+    requires hue { P.layout.hues.end ≤ 1 }
+    requires size { length dst.old ≡ 16 }
+    ensures { (pixels : List (List ℕ))
+        → ArePlanes P.Chan.max pixels (map P.Chan.number one) (map P.Chan.number two)
+        (map P.Chan.number three) (map P.Chan.number four)
+        → map P.numbers dst.new ≡
+        over (pixel_composite P.layout O.op) pixels (map P.numbers dst.old) }
+{
+    let (mut to_one, mut to_two, mut to_three, mut to_four) = planes::<P, CALLER>(dst);
+    let mut da1 = to_four;
+    complement(&mut da1);
+    let mut sa1 = four;
+    complement(&mut sa1);
+    composite_first::<O, P::Model, P::Chan>(&mut to_one, &da1, &one, &sa1);
+    O::composite_run(&mut to_two, &da1, &two, &sa1);
+    O::composite_run(&mut to_three, &da1, &three, &sa1);
+    O::composite_run(&mut to_four, &da1, &four, &sa1);
+    put_planes(dst, to_one, to_two, to_three, to_four);
+}
+
+/// Composites the color of these channels with sixteen pixels, each through the matte value of the same index.
+///
+/// Condition: the alpha is the last channel, and there is no hue.
+#[inline(always)]
+pub(super) fn composite_matted<O: Blend, P: Pixel, const CALLER: usize>(
+    dst: &mut [P],
+    mattes: &[P::Chan],
+    a: P::Chan,
+    b: P::Chan,
+    c: P::Chan,
+    d: P::Chan,
+)
+    requires count { P.layout.count ≡ 4 }
+    requires alpha { P.layout.alpha ≡ 3 }
+    requires no_hue { P.layout.hues.end ≡ 0 }
+    requires size { length dst.old ≡ 16 }
+    requires whole { length mattes.now ≡ 16 }
+    ensures { map P.numbers dst.new ≡ over (λ m. matted_composite P.layout O.op m
+        (P.Chan.number a ∷ P.Chan.number b ∷ P.Chan.number c ∷ P.Chan.number d ∷ []))
+        (map P.Chan.number mattes.now) (map P.numbers dst.old) }
+{
+    let mut one = [a; 16];
+    let mut two = [b; 16];
+    let mut three = [c; 16];
+    let mut four = [d; 16];
+    P::Chan::mul_run(&mut one, mattes);
+    P::Chan::mul_run(&mut two, mattes);
+    P::Chan::mul_run(&mut three, mattes);
+    P::Chan::mul_run(&mut four, mattes);
+    composite_sixteen::<O, P, CALLER>(dst, one, two, three, four);
+}

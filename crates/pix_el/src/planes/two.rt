@@ -1,0 +1,121 @@
+//! Pixels of two channels by planes, sixteen at a time.
+ghost use Rattle.std.specs.Prelude.{◌≡◌, ℕ, List, [], ◌∷◌, length, map};
+ghost use Rattle.pix_chan.specs.Planes.{both_in_turn};
+ghost use Rattle.pix_chan.specs.Runs.{over};
+ghost use Rattle.pix_el.specs.Planes.{by_twos, AreTwoPlanes};
+ghost use Rattle.pix_el.specs.PixelComposite.{pixel_composite};
+
+use crate::el::Pixel;
+use crate::planes::complement;
+use pix_chan::chan::Channel;
+use pix_chan::ops::Blend;
+
+/// Returns the two channels of a pixel.
+#[inline(always)]
+pub(super) fn two_channels<P: Pixel>(p: &P) -> (P::Chan, P::Chan)
+    requires { P.layout.count ≡ 2 }
+    ensures { P.Chan.number result.0 ∷ P.Chan.number result.1 ∷ [] ≡ P.numbers p.now }
+{
+    let c = p.channels();
+    (c[0], c[1])
+}
+
+/// Returns the channels of eight pixels, pixel by pixel.
+#[inline(always)]
+fn eight_pixels<P: Pixel>(p: &[P]) -> [P::Chan; 16]
+    requires count { P.layout.count ≡ 2 }
+    requires size { length p.now ≡ 8 }
+    ensures { by_twos (map P.Chan.number result) ≡ map P.numbers p.now }
+{
+    let (a, b) = two_channels(&p[0]);
+    let (c, d) = two_channels(&p[1]);
+    let (e, f) = two_channels(&p[2]);
+    let (g, h) = two_channels(&p[3]);
+    let (i, j) = two_channels(&p[4]);
+    let (k, l) = two_channels(&p[5]);
+    let (m, n) = two_channels(&p[6]);
+    let (o, q) = two_channels(&p[7]);
+    [a, b, c, d, e, f, g, h, i, j, k, l, m, n, o, q]
+}
+
+/// Returns the planes of sixteen pixels. Each `CALLER` has a copy of its own, since LLVM inlines what is called once.
+#[inline(always)]
+pub(super) fn planes<P: Pixel, const CALLER: usize>(p: &[P]) -> ([P::Chan; 16], [P::Chan; 16])
+    requires count { P.layout.count ≡ 2 }
+    requires size { length p.now ≡ 16 }
+    ensures { AreTwoPlanes P.Chan.max (map P.numbers p.now)
+        (map P.Chan.number result.0) (map P.Chan.number result.1) }
+{
+    P::Chan::split2(eight_pixels(&p[..8]), eight_pixels(&p[8..16]))
+}
+
+/// Writes the two channels of a pixel.
+#[inline(always)]
+fn put_pixel<P: Pixel>(p: &mut P, one: P::Chan, two: P::Chan)
+    requires { P.layout.count ≡ 2 }
+    ensures { P.numbers p.new ≡ P.Chan.number one ∷ P.Chan.number two ∷ [] }
+{
+    let to = p.channels_mut();
+    to[0] = one;
+    to[1] = two;
+}
+
+/// Writes eight pixels from their channels, pixel by pixel.
+#[inline(always)]
+fn put_eight_pixels<P: Pixel>(p: &mut [P], c: [P::Chan; 16])
+    requires count { P.layout.count ≡ 2 }
+    requires size { length p.old ≡ 8 }
+    ensures size { length p.new ≡ 8 }
+    ensures pixels { map P.numbers p.new ≡ by_twos (map P.Chan.number c) }
+{
+    let c = &c[..];
+    put_pixel(&mut p[0], c[0], c[1]);
+    put_pixel(&mut p[1], c[2], c[3]);
+    put_pixel(&mut p[2], c[4], c[5]);
+    put_pixel(&mut p[3], c[6], c[7]);
+    put_pixel(&mut p[4], c[8], c[9]);
+    put_pixel(&mut p[5], c[10], c[11]);
+    put_pixel(&mut p[6], c[12], c[13]);
+    put_pixel(&mut p[7], c[14], c[15]);
+}
+
+/// Writes sixteen pixels from their planes.
+#[inline(always)]
+fn put_planes<P: Pixel>(p: &mut [P], one: [P::Chan; 16], two: [P::Chan; 16])
+    requires count { P.layout.count ≡ 2 }
+    requires size { length p.old ≡ 16 }
+    ensures { map P.numbers p.new ≡
+        by_twos (both_in_turn (map P.Chan.number one) (map P.Chan.number two)) }
+{
+    let (a, b) = P::Chan::join2(one, two);
+    put_eight_pixels(&mut p[..8], a);
+    put_eight_pixels(&mut p[8..16], b);
+}
+
+/// Composites the sixteen pixels of these planes with those of `dst`. Both alphas are read before a plane is written.
+///
+/// Condition: the alpha is the second channel, and there is no hue.
+#[inline(always)]
+pub(super) fn composite_sixteen<O: Blend, P: Pixel, const CALLER: usize>(
+    dst: &mut [P],
+    one: [P::Chan; 16],
+    two: [P::Chan; 16],
+)
+    requires count { P.layout.count ≡ 2 }
+    requires alpha { P.layout.alpha ≡ 1 }
+    requires no_hue { P.layout.hues.end ≡ 0 }
+    requires size { length dst.old ≡ 16 }
+    ensures { (pixels : List (List ℕ))
+        → AreTwoPlanes P.Chan.max pixels (map P.Chan.number one) (map P.Chan.number two)
+        → map P.numbers dst.new ≡
+        over (pixel_composite P.layout O.op) pixels (map P.numbers dst.old) }
+{
+    let (mut to_one, mut to_two) = planes::<P, CALLER>(dst);
+    let mut da1 = to_two;
+    complement(&mut da1);
+    let mut sa1 = two;
+    complement(&mut sa1);
+    O::composite_run(&mut to_one, &da1, &one, &sa1);
+    O::composite_run(&mut to_two, &da1, &two, &sa1);
+    put_planes(dst, to_one, to_two);
+}
