@@ -14,3 +14,5 @@ pub mod Converted
 pub mod PaletteMatches
 pub mod PaletteSets
 pub mod HistogramLemmas
+pub mod IndexingSets
+pub mod IndexingLaws

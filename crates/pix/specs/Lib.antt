@@ -21,3 +21,4 @@ pub mod Clip
 pub mod PaletteMatch
 pub mod Palette
 pub mod Histogram
+pub mod Indexing

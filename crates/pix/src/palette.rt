@@ -8,6 +8,7 @@ ghost use Rattle.pix.specs.declared.fault.RasterFault.{RasterFault};
 
 mod closest;
 mod index;
+mod indexing;
 mod table;
 
 use self::closest::closest;
