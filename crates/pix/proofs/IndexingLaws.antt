@@ -37,12 +37,12 @@ pub set_grows : (answers : ℕ → List ℕ → Type 0) (limit : ℕ) (old : Lis
 set_grows answers limit old color answer new h = grows_by limit old color h.standing new h.same_colors
 
 -- an entry stays
-entry_stays : (old new : List Color) (i : ℕ) → Grows old new → i < length (map numbers old) → get_or (map numbers new) i [] ≡ get_or (map numbers old) i []
+pub entry_stays : (old new : List Color) (i : ℕ) → Grows old new → i < length (map numbers old) → get_or (map numbers new) i [] ≡ get_or (map numbers old) i []
 entry_stays old new i g below =
     ap (λ l. get_or (map numbers l) i []) g.same ∙ ap (λ l. get_or l i []) (map-append numbers old g.more)
     ∙ get_or_append_left (map numbers old) (map numbers g.more) [] i below
 
-longer : (old new : List Color) → Grows old new → length (map numbers old) ≤ length (map numbers new)
+pub longer : (old new : List Color) → Grows old new → length (map numbers old) ≤ length (map numbers new)
 longer old new g =
     let e : length new ≡ length old + length g.more = ap length g.same ∙ length-append old g.more in
     omega (arith, length-map old numbers, length-map new numbers)
@@ -74,7 +74,7 @@ no_difference x y z =
     let g : z - z + (z - z) ≡ 0 = omega arith in
     rw (e, f, g) refl
 
-itself : (p : List ℕ) → color_difference p p ≡ 0 ∷ 0 ∷ 0 ∷ []
+pub itself : (p : List ℕ) → color_difference p p ≡ 0 ∷ 0 ∷ 0 ∷ []
 itself p = no_difference _ _ _
 
 -- the entry at the index of a color that is set represents it

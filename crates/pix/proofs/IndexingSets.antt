@@ -7,7 +7,7 @@ use Rattle.pix_el.specs.Conversion.{Format, converted}
 use Rattle.std.proofs.Math.Seq.{drop-cons, take-length}
 use Rattle.std.proofs.Math.ListN.{drop}
 use Rattle.pix.specs.Palette.{Color}
-use Rattle.pix.specs.Indexing.{Setting, IsSetUpTo, AreSet, IsStopped, color_format, colors_of, values}
+use Rattle.pix.specs.Indexing.{Setting, IsSetUpTo, AreSet, IsStopped, AreGray, color_format, colors_of, values}
 
 -- one color more that has an index
 pub set_more : (setting : Setting) (greatest : ℕ) (old : List Color) (pixels : List (List ℕ)) (indices : List ℕ) (between : List Color) (pixel : List ℕ) (i : ℕ)
@@ -84,3 +84,28 @@ many_values read pixels = length-map pixels (λ q. get_or (read q) 0 0)
 pub refilled : {X : Type 0} (xs ws : List X) → length ws ≡ length xs → take (length xs) (ws ++ drop (length ws) xs) ≡ ws
 refilled xs ws e =
     take-append-le (length xs) ws (drop (length ws) xs) (omega arith) ∙ ap (λ n. take n ws) (sym e) ∙ take-length ws
+
+-- one pixel more that has its gray value alone
+pub gray_more : {P : Type 0} (read : P → List ℕ) (pixels : List P) (i : ℕ) (p : P) (k : ℕ) → i < length pixels → read p ≡ k ∷ []
+    → take i (map read pixels) ≡ take i (map (λ n. n ∷ []) (values read pixels))
+    → take (i + 1) (map read (set pixels i p)) ≡ take (i + 1) (map (λ n. n ∷ []) (values read (set pixels i p)))
+gray_more {P = P} read pixels i p k below e h =
+    let f : P → ℕ = λ q. get_or (read q) 0 0 in
+    let alone : ℕ → List ℕ = λ n. n ∷ [] in
+    let left : take (i + 1) (map read (set pixels i p)) ≡ take i (map read pixels) ++ read p ∷ [] =
+    ap (take (i + 1)) (map-set read pixels i p) ∙ take_more_set (map read pixels) i (read p) (omega (arith, length-map pixels read)) in
+    let right : take (i + 1) (map alone (map f (set pixels i p))) ≡ take i (map alone (map f pixels)) ++ alone (f p) ∷ [] =
+    ap (λ l. take (i + 1) (map alone l)) (map-set f pixels i p) ∙ ap (take (i + 1)) (map-set alone (map f pixels) i (f p))
+    ∙ take_more_set (map alone (map f pixels)) i (alone (f p)) (omega (arith, length-map pixels f, length-map (map f pixels) alone)) in
+    let same : read p ≡ alone (f p) = e ∙ ap (λ l. alone (get_or l 0 0)) (sym e) in
+    left ∙ ap (λ l. l ++ read p ∷ []) h ∙ ap (λ q. take i (map alone (map f pixels)) ++ q ∷ []) same ∙ sym right
+
+pub all_gray : {P : Type 0} (read : P → List ℕ) (pixels : List P) (i : ℕ) → length pixels ≤ i
+    → take i (map read pixels) ≡ take i (map (λ n. n ∷ []) (values read pixels)) → AreGray read pixels
+all_gray {P = P} read pixels i above h =
+    let f : P → ℕ = λ q. get_or (read q) 0 0 in
+    let alone : ℕ → List ℕ = λ n. n ∷ [] in
+    record {
+      alone = sym (take_all i (map read pixels) (omega (arith, length-map pixels read))) ∙ h
+          ∙ take_all i (map alone (map f pixels)) (omega (arith, length-map pixels f, length-map (map f pixels) alone));
+    }

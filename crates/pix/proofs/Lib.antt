@@ -16,3 +16,4 @@ pub mod PaletteSets
 pub mod HistogramLemmas
 pub mod IndexingSets
 pub mod IndexingLaws
+pub mod KnownColors

@@ -60,6 +60,10 @@ AreIndexed set greatest old pixels None new = IsStopped set greatest old pixels 
 abbrev pub values : {P : Type 0} → (P → List ℕ) → List P → List ℕ
 values read pixels = map (λ p. slice_index_or (read p) 0 0) pixels
 
+-- each pixel has its gray value as its only number
+pub record AreGray {P : Type 0} (read : P → List ℕ) (pixels : List P) : Type 0 where
+  pub alone : map read pixels ≡ map (λ i. i ∷ []) (values read pixels)
+
 -- an index has an entry, which is the color or within a threshold that may be answered for a number of entries up to the final one
 pub record Represents (answers : ℕ → List ℕ → Type 0) (entries : List (List ℕ)) (color : List ℕ) (i : ℕ) : Type 0 where
   pub stands : i < length entries

@@ -22,3 +22,4 @@ pub mod PaletteMatch
 pub mod Palette
 pub mod Histogram
 pub mod Indexing
+pub mod Known

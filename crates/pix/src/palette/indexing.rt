@@ -2,10 +2,12 @@
 ghost use Rattle.std.specs.Prelude.{◌≡◌, ◌≤◌, ◌<◌, ℕ, Option, Some, None, [], ◌∷◌, length, map, true, false, if◌then◌else◌, IfOk, IfErr, IfSome};
 ghost use Rattle.std.specs.Option.{option_map};
 ghost use Rattle.pix.specs.Palette.{Answers, IsSet, numbers};
-ghost use Rattle.pix.specs.Indexing.{IsSetUpTo, AreIndexed, colors_of, values, AllRepresented, AllEqual};
+ghost use Rattle.pix.specs.Indexing.{IsSetUpTo, AreIndexed, AreGray, colors_of, values, AllRepresented, AllEqual};
+ghost use Rattle.pix.specs.Known.{AreKnown};
 ghost use Rattle.pix.specs.declared.fault.RasterFault.{RasterFault};
 
 use super::index::IndexPixel;
+use super::known::{Known, PLACES};
 use super::table::{Palette, Threshold};
 use crate::fault::RasterFault;
 use crate::raster::Raster;
@@ -38,6 +40,8 @@ impl Palette {
             (colors_of S.format ⟦<S::Gamma as Gamma<Ch8>>⟧.mode S.numbers raster.pixels)
             (option_map (λ image. values ⟦<Gray8 as Pixel>⟧.numbers image.pixels) answer)
             self.new.colors.items) }
+        ensures gray { IfOk result (λ answer. IfSome answer (λ image.
+            AreGray ⟦<Gray8 as Pixel>⟧.numbers image.pixels)) }
         ensures size { IfOk result (λ answer. IfSome answer (λ image.
             (image.width ≡ raster.width) × (image.height ≡ raster.height))) }
 
@@ -84,6 +88,8 @@ impl Palette {
             (colors_of S.format ⟦<S::Gamma as Gamma<Ch8>>⟧.mode S.numbers raster.pixels)
             (option_map (λ image. values ⟦<Gray16 as Pixel>⟧.numbers image.pixels) answer)
             self.new.colors.items) }
+        ensures gray { IfOk result (λ answer. IfSome answer (λ image.
+            AreGray ⟦<Gray16 as Pixel>⟧.numbers image.pixels)) }
         ensures size { IfOk result (λ answer. IfSome answer (λ image.
             (image.width ≡ raster.width) × (image.height ≡ raster.height))) }
 
@@ -109,15 +115,23 @@ impl Palette {
     }
 
     /// Sets a color: answers its index, or `None` where there is none up to `greatest`.
-    fn set_index(&mut self, clr: SRgb8, greatest: usize) -> Option<usize>
+    fn set_index(
+        &mut self,
+        places: &mut [Option<Known>],
+        clr: SRgb8,
+        greatest: usize,
+    ) -> Option<usize>
+        requires long { length places.old ≡ 1028 }
+        requires known { AreKnown (map numbers self.old.colors.items) places.old }
         ensures set { IsSetUpTo
             (IsSet (Answers Threshold.post (option_map (λ kept. kept.f) self.old.threshold))
             self.old.limit)
             greatest self.old.colors.items (numbers clr) result self.new.colors.items }
+        ensures known { AreKnown (map numbers self.new.colors.items) places.new }
         ensures limit { self.new.limit ≡ self.old.limit }
         ensures threshold { self.new.threshold ≡ self.old.threshold }
     {
-        match self.set_entry(clr) {
+        match self.set_known(places, clr) {
             Some(index) if index <= greatest => Some(index),
             _ => None,
         }
@@ -139,6 +153,7 @@ impl Palette {
             (colors_of S.format ⟦<S::Gamma as Gamma<Ch8>>⟧.mode S.numbers pixels.now)
             (if result then Some (values P.numbers indices.new) else None)
             self.new.colors.items }
+        ensures gray { result ≡ true → AreGray P.numbers indices.new }
         ensures represented { result ≡ true → AllRepresented
             (Answers Threshold.post (option_map (λ kept. kept.f) self.old.threshold))
             (map numbers self.new.colors.items)
@@ -151,8 +166,9 @@ impl Palette {
         ensures limit { self.new.limit ≡ self.old.limit }
         ensures threshold { self.new.threshold ≡ self.old.threshold }
     {
+        let mut places = [None; PLACES];
         for i in 0..pixels.len() {
-            match self.set_index(pixels[i].convert::<SRgb8>(), P::GREATEST) {
+            match self.set_index(&mut places, pixels[i].convert::<SRgb8>(), P::GREATEST) {
                 Some(index) => indices[i] = P::of_index(index),
                 None => return false,
             }
@@ -182,6 +198,8 @@ impl Palette {
             (colors_of S.format ⟦<S::Gamma as Gamma<Ch8>>⟧.mode S.numbers raster.pixels)
             (option_map (λ image. values P.numbers image.pixels) answer)
             self.new.colors.items) }
+        ensures gray { IfOk result (λ answer. IfSome answer (λ image.
+            AreGray P.numbers image.pixels)) }
         ensures size { IfOk result (λ answer. IfSome answer (λ image.
             (image.width ≡ raster.width) × (image.height ≡ raster.height))) }
         ensures represented { IfOk result (λ answer. IfSome answer (λ image. AllRepresented
