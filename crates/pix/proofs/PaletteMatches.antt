@@ -148,7 +148,7 @@ match_nearest entries color m h =
     }
 
 -- a difference that is not farther than 0 is 0
-zero_least : (p : List ℕ) → is_closer (0 ∷ 0 ∷ 0 ∷ []) (three p) ≡ false → three p ≡ 0 ∷ 0 ∷ 0 ∷ []
+pub zero_least : (p : List ℕ) → is_closer (0 ∷ 0 ∷ 0 ∷ []) (three p) ≡ false → three p ≡ 0 ∷ 0 ∷ 0 ∷ []
 zero_least p h =
     let red : slice_index_or p 0 0 ≡ 0 = grind (arith, nat_tests) in
     let green : slice_index_or p 1 0 ≡ 0 = grind (arith, nat_tests) in

@@ -24,7 +24,7 @@ answers_thresholds post (Some f) count threshold h =
     subst (λ t. is_within 255 (0 ∷ 0 ∷ 0 ∷ []) t ≡ true) (sym h.2) (zero_within (numbers h.0))
 
 -- a match that is the color itself fits
-zero_fits : (answers : ℕ → List ℕ → Type 0) → AreThresholds answers → (count : ℕ) (difference : List ℕ) → difference ≡ 0 ∷ 0 ∷ 0 ∷ []
+pub zero_fits : (answers : ℕ → List ℕ → Type 0) → AreThresholds answers → (count : ℕ) (difference : List ℕ) → difference ≡ 0 ∷ 0 ∷ 0 ∷ []
     → Fits answers count difference false → true ≡ false
 zero_fits answers are count difference zero (inl both) = sym both.1
 zero_fits answers are count difference zero (inr asked) =

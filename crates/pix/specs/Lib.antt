@@ -21,3 +21,5 @@ pub mod Clip
 pub mod PaletteMatch
 pub mod Palette
 pub mod Histogram
+pub mod Indexing
+pub mod Known

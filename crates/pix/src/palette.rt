@@ -8,6 +8,8 @@ ghost use Rattle.pix.specs.declared.fault.RasterFault.{RasterFault};
 
 mod closest;
 mod index;
+mod indexing;
+mod known;
 mod table;
 
 use self::closest::closest;

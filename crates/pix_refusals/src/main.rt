@@ -29,6 +29,8 @@ fn main(rt: HostRuntime) -> ExitCode {
         ("Palette::new", palettes::new(alloc)),
         ("Palette::try_clone", palettes::try_clone(alloc)),
         ("histogram", palettes::histogram(alloc)),
+        ("make_indexed", palettes::make_indexed(alloc)),
+        ("make_indexed_wide", palettes::make_indexed_wide(alloc)),
     ] {
         if !right {
             let _ = println!(rt; "{name}: another answer");

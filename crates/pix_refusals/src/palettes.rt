@@ -2,8 +2,9 @@
 //!
 //! Each function makes its own palette of [`colors`], with room for one more: a palette may hold a function pointer, and the gate refuses
 //! a function that makes one and hands it out.
+use pix::gray::{Gray8, Gray16};
 use pix::rgb::SRgb8;
-use pix::{Palette, RasterFault};
+use pix::{Palette, Raster, RasterFault};
 use std::alloc::Global;
 
 /// The colors of a palette.
@@ -56,4 +57,60 @@ pub(crate) fn histogram(alloc: Global) -> bool {
         Err(fault) => fault == RasterFault::Memory,
     };
     right && is_whole(&palette)
+}
+
+/// A raster of the second color, the first and a new one.
+fn raster(alloc: Global) -> Result<Raster<SRgb8>, RasterFault> {
+    let [first, second] = colors();
+    let mut raster = Raster::with_color(alloc, 3, 1, first)?;
+    *raster.pixel_mut(0, 0) = second;
+    *raster.pixel_mut(2, 0) = SRgb8::new(9u8, 9u8, 9u8);
+    Ok(raster)
+}
+
+/// Whether the raster is as it was made.
+fn is_as_made(raster: &Raster<SRgb8>) -> bool {
+    let [first, second] = colors();
+    raster.pixels() == [second, first, SRgb8::new(9u8, 9u8, 9u8)].as_slice()
+}
+
+/// A refusal leaves the palette, and hands the raster back.
+pub(crate) fn make_indexed(alloc: Global) -> bool {
+    let (Ok(mut palette), Ok(raster)) = (Palette::new(alloc, 3), raster(alloc)) else {
+        return true;
+    };
+    for clr in colors() {
+        palette.set_entry(clr);
+    }
+    match palette.make_indexed(alloc, raster) {
+        Ok(Some(image)) => {
+            palette.len() == 3
+                && image.pixels() == [Gray8::new(1u8), Gray8::new(0u8), Gray8::new(2u8)].as_slice()
+        }
+        Ok(None) => false,
+        Err((fault, raster)) => {
+            fault == RasterFault::Memory && is_whole(&palette) && is_as_made(&raster)
+        }
+    }
+}
+
+/// A refusal leaves the palette, and hands the raster back.
+pub(crate) fn make_indexed_wide(alloc: Global) -> bool {
+    let (Ok(mut palette), Ok(raster)) = (Palette::new(alloc, 3), raster(alloc)) else {
+        return true;
+    };
+    for clr in colors() {
+        palette.set_entry(clr);
+    }
+    match palette.make_indexed_wide(alloc, raster) {
+        Ok(Some(image)) => {
+            palette.len() == 3
+                && image.pixels()
+                    == [Gray16::new(1u16), Gray16::new(0u16), Gray16::new(2u16)].as_slice()
+        }
+        Ok(None) => false,
+        Err((fault, raster)) => {
+            fault == RasterFault::Memory && is_whole(&palette) && is_as_made(&raster)
+        }
+    }
 }

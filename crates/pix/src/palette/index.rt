@@ -1,6 +1,10 @@
 //! Indices into a palette, and how often each stands in a list.
-ghost use Rattle.std.specs.Prelude.{◌≡◌, ◌≤◌, ◌<◌, ◌^◌, ℕ, length, replicate, true, false, All, Any};
+ghost use Rattle.std.specs.Prelude.{◌≡◌, ◌≤◌, ◌<◌, ◌^◌, ℕ, length, replicate, true, false, All, Any, [], ◌∷◌};
 ghost use Rattle.pix.specs.Histogram.{IsHistogram};
+
+use pix_chan::chan::{Ch8, Ch16};
+use pix_color::gray::{Gray8, Gray16};
+use pix_el::el::{Pix, Pixel};
 
 /// Seals [`PaletteIndex`].
 pub trait SealedIndex {}
@@ -42,6 +46,40 @@ impl PaletteIndex for usize {
 
     fn index(self) -> usize {
         self
+    }
+}
+
+/// A gray pixel whose value is an index.
+pub(super) trait IndexPixel: Pixel {
+    /// The greatest index.
+    ghost GREATEST: { ℕ };
+
+    /// The greatest index.
+    const GREATEST: usize;
+
+    /// Returns the pixel of an index.
+    fn of_index(index: usize) -> Self
+        requires { index ≤ GREATEST }
+        ensures { Self.numbers result ≡ index ∷ [] };
+}
+
+impl IndexPixel for Gray8 {
+    ghost GREATEST = { 255 };
+
+    const GREATEST: usize = 255;
+
+    fn of_index(index: usize) -> Gray8 {
+        Pix::with_channels([Ch8::new(index as u8)])
+    }
+}
+
+impl IndexPixel for Gray16 {
+    ghost GREATEST = { 65535 };
+
+    const GREATEST: usize = 65535;
+
+    fn of_index(index: usize) -> Gray16 {
+        Pix::with_channels([Ch16::new(index as u16)])
     }
 }
 

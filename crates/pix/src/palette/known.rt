@@ -1,0 +1,109 @@
+//! A small table of colors that stand in a palette, each with its index: a color is kept near the place that its channels give.
+ghost use Rattle.std.specs.Prelude.{◌≡◌, ◌≤◌, ◌<◌, nat_eq, length, map, IfSome};
+ghost use Rattle.std.specs.Cmp.Lexicographic.{pointwise};
+ghost use Rattle.std.specs.Option.{option_map};
+ghost use Rattle.pix.specs.Palette.{Answers, IsSet, numbers};
+ghost use Rattle.pix.specs.PaletteMatch.{IsFirstOf};
+ghost use Rattle.pix.specs.Known.{AreKnown};
+
+use super::table::{Palette, Threshold};
+use pix_el::el::Pixel;
+use pix_el::rgb::{Rgb, SRgb8};
+
+/// The number of places of a table.
+pub(super) const PLACES: usize = 1028;
+
+/// How many places in a row a color may be kept at.
+const TRIES: usize = 8;
+
+/// A color that stands in a palette, and its index.
+#[derive(Clone, Copy)]
+pub(super) struct Known {
+    clr: SRgb8,
+    index: u16,
+}
+
+/// Returns the first place that a color may be kept at.
+fn first_place(clr: SRgb8) -> usize
+    ensures { result ≤ 1020 }
+{
+    let red = u8::from(Rgb::red(clr)).wrapping_mul(37);
+    let green = u8::from(Rgb::green(clr)).wrapping_mul(101);
+    let blue = u8::from(Rgb::blue(clr)).wrapping_mul(167);
+    usize::from(red.wrapping_add(green).wrapping_add(blue)) * 4
+}
+
+/// Returns whether two pixels are equal.
+fn is_same<P: Pixel>(p: P, q: P) -> bool
+    ensures { result ≡ pointwise nat_eq (P.numbers p) (P.numbers q) }
+{
+    p == q
+}
+
+impl Palette {
+    /// Returns the index of a color that is kept.
+    pub(super) fn known(&self, places: &[Option<Known>], clr: SRgb8) -> Option<usize>
+        requires long { length places.now ≡ 1028 }
+        requires known { AreKnown (map numbers self.now.colors.items) places.now }
+        ensures { IfSome result (IsFirstOf (map numbers self.now.colors.items) (numbers clr)) }
+    {
+        let start = first_place(clr);
+        for at in start..start + TRIES {
+            if let Some(known) = places[at] {
+                if is_same(known.clr, clr) {
+                    return Some(usize::from(known.index));
+                }
+            }
+        }
+        None
+    }
+
+    /// Keeps a color whose entry it is, at an empty place of its own or the first, unless its index is above 65535.
+    pub(super) fn keep(&self, places: &mut [Option<Known>], clr: SRgb8, index: usize)
+        requires long { length places.old ≡ 1028 }
+        requires known { AreKnown (map numbers self.now.colors.items) places.old }
+        requires first { IsFirstOf (map numbers self.now.colors.items) (numbers clr) index }
+        ensures { AreKnown (map numbers self.now.colors.items) places.new }
+    {
+        let Ok(index) = u16::try_from(index) else {
+            return;
+        };
+        let at = empty_place(places, first_place(clr));
+        places[at] = Some(Known { clr, index });
+    }
+
+    /// Sets a color as `set_entry` does; a color that is kept takes no search.
+    pub(super) fn set_known(&mut self, places: &mut [Option<Known>], clr: SRgb8) -> Option<usize>
+        requires long { length places.old ≡ 1028 }
+        requires known { AreKnown (map numbers self.old.colors.items) places.old }
+        ensures set { IsSet
+            (Answers Threshold.post (option_map (λ kept. kept.f) self.old.threshold))
+            self.old.limit self.old.colors.items clr result self.new.colors.items }
+        ensures known { AreKnown (map numbers self.new.colors.items) places.new }
+        ensures limit { self.new.limit ≡ self.old.limit }
+        ensures threshold { self.new.threshold ≡ self.old.threshold }
+    {
+        if let Some(index) = self.known(places, clr) {
+            return Some(index);
+        }
+        let index = self.set_entry(clr)?;
+        if index < self.colors.len() && is_same(self.colors[index], clr) {
+            self.keep(places, clr, index);
+        }
+        Some(index)
+    }
+}
+
+/// Returns the first empty place from a place on, or that place where none of them is empty.
+fn empty_place(places: &[Option<Known>], start: usize) -> usize
+    requires long { length places.now ≡ 1028 }
+    requires from { start ≤ 1020 }
+    ensures { result < 1028 }
+{
+    for at in start..start + TRIES {
+        if places[at].is_none() {
+            return at;
+        }
+    }
+    start
+}
