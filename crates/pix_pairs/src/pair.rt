@@ -67,6 +67,7 @@ impl Tally {
 }
 
 /// What the library makes of the pixel that has these channels, and no channels where a format has more than its model.
+#[inline(never)]
 fn converted_by_the_library<S, D>(numbers: [u32; 4]) -> Channels
 where
     S: Pixel,
