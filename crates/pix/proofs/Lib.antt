@@ -10,7 +10,6 @@ pub mod RunBounds
 pub mod Transparent
 pub mod Points
 pub mod Samples
-pub mod Converted
 pub mod PaletteMatches
 pub mod PaletteSets
 pub mod HistogramLemmas

@@ -56,11 +56,27 @@ where
     ensures count { IfOk result (λ made. vec_len made ≡ length src.now) }
     ensures memory { IfErr result (λ fault. fault ≡ RasterFault.Memory) }
 {
-    let mut pixels = Vec::with_capacity(alloc, src.len()).map_err(|_| RasterFault::Memory)?;
-    for p in src {
-        pixels
-            .push(p.convert::<P>())
-            .map_err(|_| RasterFault::Memory)?;
-    }
+    let mut pixels = vec![in alloc; P::default(); src.len()].map_err(|_| RasterFault::Memory)?;
+    convert_each::<S, P>(&mut pixels, src);
     Ok(pixels)
+}
+
+/// Converts each pixel of `src` in the place of that of `dst` at its index.
+///
+/// Condition: there are as many of both, and this format has no more channels than its model.
+fn convert_each<S, P>(dst: &mut [P], src: &[S])
+where
+    S: Pixel,
+    P: Pixel,
+    P::Chan: From<S::Chan>,
+    S::Gamma: Gamma<P::Chan>,
+    requires few { P.layout.count ≤ P.layout.alpha + 1 }
+    requires as_many { length dst.old ≡ length src.now }
+    ensures { map P.numbers dst.new ≡
+        map (converted S.format ⟦<S::Gamma as Gamma<P::Chan>>⟧.mode P.format P.Gamma.mode)
+        (map S.numbers src.now) }
+{
+    for i in 0..dst.len() {
+        dst[i] = src[i].convert::<P>();
+    }
 }
