@@ -1,12 +1,14 @@
 -- The planes of a color through mattes.
-use Rattle.std.proofs.Common.{◌≡◌, ℕ, zero, suc, List, [], ◌∷◌, length, map, get_or, refl, ap, ◌∙◌, arith, replicate}
+use Rattle.std.proofs.Common.{◌≡◌, ℕ, zero, suc, List, [], ◌∷◌, length, map, get_or, refl, ap, ◌∙◌, arith, replicate, sym, ◌≤◌, Bool, if◌then◌else◌}
 use Rattle.pix_chan.specs.Product.{channel_product}
 use Rattle.pix_chan.specs.Runs.{over}
 use Rattle.pix_chan.proofs.Sixteen.{whole16}
-use Rattle.pix_el.specs.Planes.{ArePlanes}
-use Rattle.pix_el.specs.Pixel.{channel}
+use Rattle.std.specs.declared.ops.Range.{Range}
+use Rattle.pix_el.specs.Planes.{ArePlanes, AreTwoPlanes, matted_first}
+use Rattle.pix_el.specs.Pixel.{channel, lies_in}
 use Rattle.pix_el.specs.PixelComposite.{matted_color}
 use Rattle.pix_el.proofs.FourPlanes.{four_of}
+use Rattle.pix_el.proofs.TwoPlanes.{two_of}
 
 -- one channel times each of a list
 pub each_product : {C : Type 0} (number : C → ℕ) (f : ℕ → ℕ → ℕ) (a : C) (n : ℕ) (ms : List ℕ) → length ms ≡ n
@@ -26,17 +28,56 @@ over-mapped f g xs [] = refl
 over-mapped f g [] (y ∷ ys) = refl
 over-mapped {C = C} f g (x ∷ xs) (y ∷ ys) = ap (λ (l : List C). f (g x) y ∷ l) (over-mapped f g xs ys)
 
+-- equal functions of each of a list
+all_alike : {A B : Type 0} {f g : A → B} (xs : List A) → ((x : A) → f x ≡ g x) → map f xs ≡ map g xs
+all_alike [] h = refl
+all_alike {B = B} {f} {g} (x ∷ xs) h = ap (λ (y : B). y ∷ map f xs) (h x) ∙ ap (λ (l : List B). g x ∷ l) (all_alike xs h)
+
+-- what every first channel becomes
+pub first_matted : {C : Type 0} (max : ℕ) (hues : Range ℕ) (number : C → ℕ) (a : C) (n : ℕ) (ms : List ℕ) → length ms ≡ n
+    → over (matted_first max hues) ms (map number (replicate n a)) ≡ map (λ m. matted_first max hues m (number a)) ms
+first_matted max hues number a zero [] h = refl
+first_matted max hues number a zero (m ∷ ms) h = absurd (omega arith)
+first_matted max hues number a (suc n) [] h = absurd (omega arith)
+first_matted max hues number a (suc n) (m ∷ ms) h = ap (λ (l : List ℕ). matted_first max hues m (number a) ∷ l) (first_matted max hues number a n ms (omega arith))
+
+-- the first channels are all hues, or none is
+pub matted_first_is : (max : ℕ) (hues : Range ℕ) (b : Bool) → lies_in hues 0 ≡ b → (ms xs : List ℕ)
+    → over (λ m x. if b then x else channel_product max x m) ms xs ≡ over (matted_first max hues) ms xs
+matted_first_is max hues b e ms xs = ap (λ (z : Bool). over (λ m x. if z then x else channel_product max x m) ms xs) (sym e)
+
 -- the planes of a color through mattes
-pub matted_planes : (max a b c e : ℕ) (ms : List ℕ) {w x y z : List ℕ}
-    → w ≡ map (channel_product max a) ms → x ≡ map (channel_product max b) ms → y ≡ map (channel_product max c) ms → z ≡ map (channel_product max e) ms
-    → ArePlanes max (map (λ m. matted_color (four_of max 0) m (a ∷ b ∷ c ∷ e ∷ [])) ms) w x y z
-matted_planes max a b c e ms h i j k =
-    let g = λ (m : ℕ). matted_color (four_of max 0) m (a ∷ b ∷ c ∷ e ∷ []) in
+module _ (max a b c e : ℕ) where
+  matted_by : (h : ℕ) (ms : List ℕ) {w x y z : List ℕ}
+      → ((m : ℕ) → matted_first max (record { start = 0; end = h }) m a ∷ channel_product max b m ∷ channel_product max c m ∷ channel_product max e m ∷ []
+      ≡ matted_color (four_of max h) m (a ∷ b ∷ c ∷ e ∷ []))
+      → w ≡ map (λ m. matted_first max (record { start = 0; end = h }) m a) ms → x ≡ map (channel_product max b) ms → y ≡ map (channel_product max c) ms → z ≡ map (channel_product max e) ms
+      → ArePlanes max (map (λ m. matted_color (four_of max h) m (a ∷ b ∷ c ∷ e ∷ [])) ms) w x y z
+  matted_by h ms same p q r s =
+      let g = λ (m : ℕ). matted_color (four_of max h) m (a ∷ b ∷ c ∷ e ∷ []) in
+      let each = λ (k : ℕ). λ (m : ℕ). ap (λ (l : List ℕ). channel max l k) (same m) in
+      record {
+        first = p ∙ all_alike ms (each 0) ∙ map-mapped (λ (l : List ℕ). channel max l 0) g ms;
+        second = q ∙ all_alike ms (each 1) ∙ map-mapped (λ (l : List ℕ). channel max l 1) g ms;
+        third = r ∙ all_alike ms (each 2) ∙ map-mapped (λ (l : List ℕ). channel max l 2) g ms;
+        fourth = s ∙ all_alike ms (each 3) ∙ map-mapped (λ (l : List ℕ). channel max l 3) g ms;
+      }
+
+  pub matted_planes : (h : ℕ) → h ≤ 1 → (ms : List ℕ) {w x y z : List ℕ}
+      → w ≡ map (λ m. matted_first max (record { start = 0; end = h }) m a) ms → x ≡ map (channel_product max b) ms → y ≡ map (channel_product max c) ms → z ≡ map (channel_product max e) ms
+      → ArePlanes max (map (λ m. matted_color (four_of max h) m (a ∷ b ∷ c ∷ e ∷ [])) ms) w x y z
+  matted_planes zero le ms = matted_by zero ms (λ m. refl)
+  matted_planes (suc zero) le ms = matted_by 1 ms (λ m. refl)
+  matted_planes (suc (suc h)) le ms = absurd (omega arith)
+
+-- the same of a color of two channels
+pub matted_two_planes : (max a b : ℕ) (ms : List ℕ) {w x : List ℕ} → w ≡ map (channel_product max a) ms → x ≡ map (channel_product max b) ms
+    → AreTwoPlanes max (map (λ m. matted_color (two_of max) m (a ∷ b ∷ [])) ms) w x
+matted_two_planes max a b ms p q =
+    let g = λ (m : ℕ). matted_color (two_of max) m (a ∷ b ∷ []) in
     record {
-      first = h ∙ map-mapped (λ (p : List ℕ). channel max p 0) g ms;
-      second = i ∙ map-mapped (λ (p : List ℕ). channel max p 1) g ms;
-      third = j ∙ map-mapped (λ (p : List ℕ). channel max p 2) g ms;
-      fourth = k ∙ map-mapped (λ (p : List ℕ). channel max p 3) g ms;
+      first = p ∙ map-mapped (λ (l : List ℕ). channel max l 0) g ms;
+      second = q ∙ map-mapped (λ (l : List ℕ). channel max l 1) g ms;
     }
 
 -- what is made of each of sixteen

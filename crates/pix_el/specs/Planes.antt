@@ -2,6 +2,7 @@
 use Rattle.std.specs.Prelude.{◌≡◌, ℕ, ◌-◌, List, [], ◌∷◌, map, if◌then◌else◌}
 use Rattle.std.specs.declared.ops.Range.{Range}
 use Rattle.pix_chan.specs.declared.ops.Op.{Op}
+use Rattle.pix_chan.specs.Product.{channel_product}
 use Rattle.pix_chan.specs.Hue.{hue_composite}
 use Rattle.pix_chan.specs.Runs.{run_composite}
 use Rattle.pix_el.specs.Pixel.{lies_in, channel}
@@ -43,3 +44,7 @@ run_hue max op (da1, s, sa1) d = hue_composite max op s (max - sa1) d (max - da1
 -- the same for the first channel, a hue or not
 abbrev pub run_first : ℕ → Range ℕ → Op → ℕ × ℕ × ℕ → ℕ → ℕ
 run_first max hues op t d = if lies_in hues 0 then run_hue max op t d else run_composite max op t d
+
+-- the first channel x multiplied by a matte, but a hue as it is
+abbrev pub matted_first : ℕ → Range ℕ → ℕ → ℕ → ℕ
+matted_first max hues matte x = if lies_in hues 0 then x else channel_product max x matte

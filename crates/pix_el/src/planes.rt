@@ -3,7 +3,7 @@
 //! Pixels of four channels with at most a hue at the first go by planes, and so do pixels of two channels without a hue.
 ghost use Rattle.std.specs.Prelude.{◌≡◌, ◌≤◌, ◌+◌, ◌-◌, ℕ, length, map, take, true, replicate};
 ghost use Rattle.pix_chan.specs.Runs.{over, triples};
-ghost use Rattle.pix_el.specs.Planes.{run_hue, run_first};
+ghost use Rattle.pix_el.specs.Planes.{run_hue, run_first, matted_first};
 ghost use Rattle.pix_el.specs.Pixel.{channel};
 ghost use Rattle.pix_el.specs.PixelComposite.{pixel_composite, matted_composite, matte_numbers, matte_value};
 
@@ -150,14 +150,15 @@ pub(crate) fn color_planes<O: Blend, P: Pixel>(dst: &mut [P], clr: &P) -> usize
     }
 }
 
-/// Returns whether a model has four channels, of which none is a hue.
+/// Multiplies the first channels by the mattes of the same index, but hues as they are.
 #[inline(always)]
-fn has_plain_four<P: Pixel>() -> bool
-    ensures alpha { result ≡ true → P.layout.alpha ≡ 3 }
-    ensures no_hue { result ≡ true → P.layout.hues.end ≡ 0 }
+fn scale_first<M: ColorModel, C: Channel>(channels: &mut [C], mattes: &[C])
+    ensures { map C.number channels.new ≡ over (matted_first C.max M.CIRCULAR)
+        (map C.number mattes.now) (map C.number channels.old) }
 {
-    let hues = P::Model::CIRCULAR;
-    P::Model::ALPHA == 3 && hues.end == 0
+    if !is_hue::<M>(0) {
+        C::mul_run(channels, mattes);
+    }
 }
 
 /// Returns the values of sixteen mattes.
@@ -207,11 +208,18 @@ pub(crate) fn matte_planes<const N: usize, A: Alpha, O: Blend, P: Pixel>(
         (matte_value P.layout matte) (P.numbers clr.now))
         (take result (map (matte_numbers P.Chan.number) src.now)) (map P.numbers dst.old) }
 {
-    if has_plain_four::<P>() {
+    if has_four::<P>() {
         let (a, b, c, d) = four::four_channels(clr);
         for k in 0..count / 16 {
             let mattes = matte_values(&src[16 * k..16 * k + 16]);
             four::composite_matted::<O, P, 3>(&mut dst[16 * k..16 * k + 16], &mattes, a, b, c, d);
+        }
+        count / 16 * 16
+    } else if has_two::<P>() {
+        let (a, b) = two::two_channels(clr);
+        for j in 0..count / 16 {
+            let mattes = matte_values(&src[16 * j..16 * j + 16]);
+            two::composite_matted::<O, P, 3>(&mut dst[16 * j..16 * j + 16], &mattes, a, b);
         }
         count / 16 * 16
     } else {

@@ -2,10 +2,10 @@
 ghost use Rattle.std.specs.Prelude.{◌≡◌, ◌≤◌, ◌+◌};
 
 use pix::chan::{Channel, Linear, Premultiplied};
-use pix::el::Pixel;
+use pix::el::{Pix, Pixel};
 use pix::gray::Graya8p;
 use pix::hsv::Hsva8p;
-use pix::matte::Matte8;
+use pix::matte::{Matte, Matte8, Matte16};
 use pix::ops::{
     Blend, Clear, Dest, DestAtop, DestIn, DestOut, DestOver, Plus, Src, SrcAtop, SrcIn, SrcOut,
     SrcOver, Xor,
@@ -16,6 +16,9 @@ use std::process::Abort;
 
 /// The lengths of the slices.
 const LENGTHS: [usize; 9] = [0, 1, 15, 16, 17, 31, 32, 33, 100];
+
+/// The mattes of the channels of `P`.
+type Mattes<P> = Pix<1, <P as Pixel>::Chan, Matte, Premultiplied, Linear>;
 
 /// Returns the next of a series of pseudorandom numbers.
 fn after(state: u32) -> u32 {
@@ -102,6 +105,58 @@ where
     Ok(())
 }
 
+/// Asserts that a color is composited through these mattes with so many pixels as with each of them.
+fn assert_mattes<P, O: Blend>(
+    rt: &impl Abort,
+    alloc: Global,
+    op: O,
+    dst_len: usize,
+    src: &[Mattes<P>],
+) -> Result<(), AllocError>
+where
+    P: Pixel<Alpha = Premultiplied, Gamma = Linear>,
+    requires few { P.layout.count ≤ 4 }
+    requires has_alpha { P.layout.count ≡ P.layout.alpha + 1 }
+{
+    let mut dst = pixels::<P>(alloc, dst_len, 6)?;
+    let mut want = pixels::<P>(alloc, dst_len, 6)?;
+    for clr in pixels::<P>(alloc, 1, 7)?.iter() {
+        for (w, s) in want.iter_mut().zip(src.iter()) {
+            w.composite_channels_alpha(clr, op, &s.alpha());
+        }
+        P::composite_matte(&mut dst, src, clr, op);
+    }
+    for (d, w) in dst.iter().zip(want.iter()) {
+        assert!(rt;
+            *d == *w,
+            "{dst_len} pixels through mattes: {d:?} for {w:?}"
+        );
+    }
+    Ok(())
+}
+
+/// Asserts that a color is composited through the first so many of these mattes, for all lengths, as with each pixel.
+fn assert_matted_lengths<P>(
+    rt: &impl Abort,
+    alloc: Global,
+    mattes: &[Mattes<P>],
+) -> Result<(), AllocError>
+where
+    P: Pixel<Alpha = Premultiplied, Gamma = Linear>,
+    requires few { P.layout.count ≤ 4 }
+    requires has_alpha { P.layout.count ≡ P.layout.alpha + 1 }
+{
+    for dst_len in LENGTHS {
+        for src_len in LENGTHS {
+            let src = &mattes[..src_len.min(mattes.len())];
+            assert_mattes::<P, SrcOver>(rt, alloc, SrcOver, dst_len, src)?;
+            assert_mattes::<P, SrcAtop>(rt, alloc, SrcAtop, dst_len, src)?;
+            assert_mattes::<P, DestIn>(rt, alloc, DestIn, dst_len, src)?;
+        }
+    }
+    Ok(())
+}
+
 /// Asserts that an operator composites slices of all these lengths, and a color with each, as their pixels.
 fn assert_lengths<P, O: Blend>(rt: &impl Abort, alloc: Global, op: O) -> Result<(), AllocError>
 where
@@ -161,21 +216,26 @@ fn slices_with_a_hue(rt: HostRuntime) -> Result<(), AllocError> {
     assert_operators::<Hsva8p>(&rt, rt.alloc())
 }
 
-/// A color through mattes, on a slice of pixels with and without planes.
 #[test]
-fn a_color_through_slices_of_mattes(rt: HostRuntime) -> Result<(), AllocError> {
-    let clr = Rgba8p::new(40_u8, 200, 90, 220);
-    for dst_len in LENGTHS {
-        for src_len in LENGTHS {
-            let mattes = pixels::<Matte8>(rt.alloc(), src_len, 5)?;
-            let mut dst = pixels::<Rgba8p>(rt.alloc(), dst_len, 6)?;
-            let mut want = pixels::<Rgba8p>(rt.alloc(), dst_len, 6)?;
-            for (w, m) in want.iter_mut().zip(mattes.iter()) {
-                w.composite_channels_alpha(&clr, SrcAtop, &m.alpha());
-            }
-            Rgba8p::composite_matte(&mut dst, &mattes, &clr, SrcAtop);
-            assert_eq!(rt; dst, want, "{dst_len} pixels, {src_len} mattes");
-        }
-    }
-    Ok(())
+fn mattes_on_rgba8(rt: HostRuntime) -> Result<(), AllocError> {
+    let mattes = pixels::<Matte8>(rt.alloc(), 100, 5)?;
+    assert_matted_lengths::<Rgba8p>(&rt, rt.alloc(), &mattes)
+}
+
+#[test]
+fn mattes_on_rgba16(rt: HostRuntime) -> Result<(), AllocError> {
+    let mattes = pixels::<Matte16>(rt.alloc(), 100, 5)?;
+    assert_matted_lengths::<Rgba16p>(&rt, rt.alloc(), &mattes)
+}
+
+#[test]
+fn mattes_on_gray_and_alpha(rt: HostRuntime) -> Result<(), AllocError> {
+    let mattes = pixels::<Matte8>(rt.alloc(), 100, 5)?;
+    assert_matted_lengths::<Graya8p>(&rt, rt.alloc(), &mattes)
+}
+
+#[test]
+fn mattes_on_a_hue(rt: HostRuntime) -> Result<(), AllocError> {
+    let mattes = pixels::<Matte8>(rt.alloc(), 100, 5)?;
+    assert_matted_lengths::<Hsva8p>(&rt, rt.alloc(), &mattes)
 }

@@ -6,7 +6,7 @@ ghost use Rattle.pix_el.specs.Planes.{by_fours, ArePlanes};
 ghost use Rattle.pix_el.specs.PixelComposite.{pixel_composite, matted_composite};
 
 use crate::el::Pixel;
-use crate::planes::{complement, composite_first};
+use crate::planes::{complement, composite_first, scale_first};
 use pix_chan::chan::Channel;
 use pix_chan::ops::Blend;
 
@@ -140,7 +140,7 @@ pub(super) fn composite_sixteen<O: Blend, P: Pixel, const CALLER: usize>(
 
 /// Composites the color of these channels with sixteen pixels, each through the matte value of the same index.
 ///
-/// Condition: the alpha is the last channel, and there is no hue.
+/// Condition: the alpha is the last channel, and only the first may be a hue.
 #[inline(always)]
 pub(super) fn composite_matted<O: Blend, P: Pixel, const CALLER: usize>(
     dst: &mut [P],
@@ -152,7 +152,7 @@ pub(super) fn composite_matted<O: Blend, P: Pixel, const CALLER: usize>(
 )
     requires count { P.layout.count ≡ 4 }
     requires alpha { P.layout.alpha ≡ 3 }
-    requires no_hue { P.layout.hues.end ≡ 0 }
+    requires hue { P.layout.hues.end ≤ 1 }
     requires size { length dst.old ≡ 16 }
     requires whole { length mattes.now ≡ 16 }
     ensures { map P.numbers dst.new ≡ over (λ m. matted_composite P.layout O.op m
@@ -163,7 +163,7 @@ pub(super) fn composite_matted<O: Blend, P: Pixel, const CALLER: usize>(
     let mut two = [b; 16];
     let mut three = [c; 16];
     let mut four = [d; 16];
-    P::Chan::mul_run(&mut one, mattes);
+    scale_first::<P::Model, P::Chan>(&mut one, mattes);
     P::Chan::mul_run(&mut two, mattes);
     P::Chan::mul_run(&mut three, mattes);
     P::Chan::mul_run(&mut four, mattes);

@@ -3,7 +3,7 @@ ghost use Rattle.std.specs.Prelude.{◌≡◌, ℕ, List, [], ◌∷◌, length,
 ghost use Rattle.pix_chan.specs.Planes.{both_in_turn};
 ghost use Rattle.pix_chan.specs.Runs.{over};
 ghost use Rattle.pix_el.specs.Planes.{by_twos, AreTwoPlanes};
-ghost use Rattle.pix_el.specs.PixelComposite.{pixel_composite};
+ghost use Rattle.pix_el.specs.PixelComposite.{pixel_composite, matted_composite};
 
 use crate::el::Pixel;
 use crate::planes::complement;
@@ -118,4 +118,30 @@ pub(super) fn composite_sixteen<O: Blend, P: Pixel, const CALLER: usize>(
     O::composite_run(&mut to_one, &da1, &one, &sa1);
     O::composite_run(&mut to_two, &da1, &two, &sa1);
     put_planes(dst, to_one, to_two);
+}
+
+/// Composites the color of these channels with sixteen pixels, each through the matte value of the same index.
+///
+/// Condition: the alpha is the second channel, and there is no hue.
+#[inline(always)]
+pub(super) fn composite_matted<O: Blend, P: Pixel, const CALLER: usize>(
+    dst: &mut [P],
+    mattes: &[P::Chan],
+    a: P::Chan,
+    b: P::Chan,
+)
+    requires count { P.layout.count ≡ 2 }
+    requires alpha { P.layout.alpha ≡ 1 }
+    requires no_hue { P.layout.hues.end ≡ 0 }
+    requires size { length dst.old ≡ 16 }
+    requires whole { length mattes.now ≡ 16 }
+    ensures { map P.numbers dst.new ≡ over (λ m. matted_composite P.layout O.op m
+        (P.Chan.number a ∷ P.Chan.number b ∷ []))
+        (map P.Chan.number mattes.now) (map P.numbers dst.old) }
+{
+    let mut one = [a; 16];
+    let mut two = [b; 16];
+    P::Chan::mul_run(&mut one, mattes);
+    P::Chan::mul_run(&mut two, mattes);
+    composite_sixteen::<O, P, CALLER>(dst, one, two);
 }
