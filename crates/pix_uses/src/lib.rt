@@ -9,5 +9,6 @@ pub mod photos;
 pub mod pixels;
 pub mod rows;
 pub mod sprites;
+pub mod tables;
 #[cfg(test)]
 mod tests;

@@ -7,6 +7,7 @@ use crate::photos;
 use crate::pixels::{fill, opacity};
 use crate::rows::{crop, underline};
 use crate::sprites::{draw_glyph, paste};
+use crate::tables::table_and_bytes;
 use pix::chan::Ch8;
 use pix::gray::Gray8;
 use pix::matte::Matte8;
@@ -198,6 +199,21 @@ fn bytes_in_and_bytes_out(rt: HostRuntime) -> Result<(), Fail> {
     let bytes = vec![in rt.alloc(); 0, 0, 0]?;
     let refused = tint_bytes(rt.alloc(), 2, 1, bytes, Region::new(1, 0, 9, 9), white);
     assert_eq!(rt; refused.err(), Some(RasterFault::WrongLength));
+    Ok(())
+}
+
+#[test]
+fn a_table_of_three_colors(rt: HostRuntime) -> Result<(), Fail> {
+    let red = SRgb8::new::<u8>(200, 0, 0);
+    let mut picture = Raster::with_color(rt.alloc(), 2, 2, red)?;
+    *picture.pixel_mut(1, 0) = SRgb8::new::<u8>(0, 9, 0);
+    *picture.pixel_mut(0, 1) = SRgb8::new::<u8>(0, 0, 7);
+    let made = table_and_bytes(rt.alloc(), picture)?;
+    assert!(rt;
+        made.is_some_and(|(table, bytes)| {
+            table.len() == 3 && bytes.as_slice() == [0u8, 1u8, 2u8, 0u8].as_slice()
+        })
+    );
     Ok(())
 }
 
