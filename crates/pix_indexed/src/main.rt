@@ -1,0 +1,124 @@
+//! Prints a picture of many colors, beside it the same picture indexed by a palette of few, and below them that palette: red, green, blue and
+//! alpha of each pixel in hexadecimal.
+#![tactic(auto)]
+
+use pix::el::Pixel;
+use pix::gray::{Gray, Gray8};
+use pix::hsl::SHsl8;
+use pix::rgb::{Rgb, SRgb8, SRgba8};
+use pix::{Palette, Raster, RasterFault, Region};
+use std::alloc::Global;
+use std::io;
+
+/// The sides of the picture.
+const SIDE: u32 = 32;
+
+/// The most colors of the palette.
+const LIMIT: usize = 256;
+
+fn main(rt: HostRuntime) -> io::Result<()> {
+    match page(rt.alloc()) {
+        Ok(Some(page)) => print_rows(&rt, &page),
+        Ok(None) => println!(rt; "too many colors"),
+        Err(fault) => println!(rt; "{fault}"),
+    }
+}
+
+/// Makes the page that is printed.
+fn page(alloc: Global) -> Result<Option<Raster<SRgba8>>, RasterFault> {
+    let picture = picture(alloc)?;
+    let mut page = Raster::<SRgba8>::with_clear(alloc, 68, 68)?;
+    let left = Raster::<SRgba8>::with_raster(alloc, &picture)?;
+    page.copy_raster(Region::new(0, 0, SIDE, SIDE), &left, Region::from(()));
+    let Some((indices, table)) = indexed(alloc, picture)? else {
+        return Ok(None);
+    };
+    let right = looked_up(alloc, &indices, &table)?;
+    page.copy_raster(Region::new(36, 0, SIDE, SIDE), &right, Region::from(()));
+    copy_table(&mut page, &table);
+    Ok(Some(page))
+}
+
+/// Makes the picture: its hue turns from left to right, and it grows darker from top to bottom.
+fn picture(alloc: Global) -> Result<Raster<SHsl8>, RasterFault> {
+    let mut picture = Raster::<SHsl8>::with_clear(alloc, SIDE, SIDE)?;
+    let mut lightness = 255_u8;
+    for row in picture.rows_mut(Region::from(())) {
+        let mut hue = 0_u8;
+        for pixel in row.iter_mut() {
+            *pixel = SHsl8::new(hue, 128u8, lightness);
+            hue = hue.wrapping_add(8);
+        }
+        lightness = lightness.wrapping_sub(4);
+    }
+    Ok(picture)
+}
+
+/// A color may stand for those that are at most 48 away in every channel, however many there are.
+fn threshold(_size: usize) -> SRgb8 {
+    SRgb8::new(48u8, 48u8, 48u8)
+}
+
+/// Returns the indices of the picture's pixels, and the palette's colors.
+fn indexed(
+    alloc: Global,
+    picture: Raster<SHsl8>,
+) -> Result<Option<(Raster<Gray8>, Vec<SRgb8>)>, RasterFault> {
+    let mut palette = Palette::new(alloc, LIMIT)?;
+    palette.set_threshold_fn(threshold);
+    match palette.make_indexed(alloc, picture) {
+        Err((fault, _)) => Err(fault),
+        Ok(None) => Ok(None),
+        Ok(Some(indices)) => {
+            let Ok(table) = Vec::from_slice(alloc, palette.colors()) else {
+                return Err(RasterFault::Memory);
+            };
+            Ok(Some((indices, table)))
+        }
+    }
+}
+
+/// Returns the color of each index.
+fn looked_up(
+    alloc: Global,
+    indices: &Raster<Gray8>,
+    table: &[SRgb8],
+) -> Result<Raster<SRgba8>, RasterFault> {
+    let mut shown = Raster::<SRgb8>::with_clear(alloc, SIDE, SIDE)?;
+    for (pixel, index) in shown.pixels_mut().iter_mut().zip(indices.pixels()) {
+        if let Some(clr) = table.get(usize::from(u8::from(Gray::value(*index)))) {
+            *pixel = *clr;
+        }
+    }
+    Raster::<SRgba8>::with_raster(alloc, &shown)
+}
+
+/// Copies the colors of a table to squares below the pictures, sixteen in a row.
+fn copy_table(page: &mut Raster<SRgba8>, table: &[SRgb8]) {
+    let (mut x, mut y) = (0_i32, 36_i32);
+    for clr in table {
+        let clr = clr.convert::<SRgba8>();
+        page.copy_color(Region::new(x, y, 4, 4), clr);
+        x = x.wrapping_add(4);
+        if x == 64 {
+            x = 0;
+            y = y.wrapping_add(4);
+        }
+    }
+}
+
+/// Prints each row of pixels.
+fn print_rows(rt: &HostRuntime, page: &Raster<SRgba8>) -> io::Result<()> {
+    for row in page.rows(Region::from(())) {
+        for (place, pixel) in row.iter().enumerate() {
+            let gap = if place > 0 { " " } else { "" };
+            let red = u8::from(Rgb::red(*pixel));
+            let green = u8::from(Rgb::green(*pixel));
+            let blue = u8::from(Rgb::blue(*pixel));
+            let alpha = u8::from(pixel.alpha());
+            print!(rt; "{gap}{red:02x}{green:02x}{blue:02x}{alpha:02x}")?;
+        }
+        println!(rt; "")?;
+    }
+    Ok(())
+}
