@@ -17,6 +17,7 @@ bool pix_bench(uint32_t work, uint32_t times, const uint8_t *dst, size_t dst_len
                uint8_t *out, size_t out_len);
 
 static uint8_t dst[4 * PIXELS], src[4 * PIXELS], mask[PIXELS], out[4 * PIXELS], other[4 * PIXELS];
+static uint8_t few[3 * PIXELS], few_runs[3 * PIXELS]; /* pixels of 256 colors: at random, and in runs of 8 */
 static const uint8_t color[4] = {96, 32, 64, 128};
 
 static uint32_t below(uint32_t n) {
@@ -34,6 +35,16 @@ static void fill(uint8_t *p) {
         for (int k = 0; k < 3; k++)
             p[4 * i + k] = (uint8_t)below(alpha + 1);
         p[4 * i + 3] = (uint8_t)alpha;
+    }
+}
+
+/* Pixels of 256 colors in runs of this length. */
+static void fill_few(uint8_t *p, const uint8_t *colors, int run) {
+    const uint8_t *one = colors;
+    for (int i = 0; i < PIXELS; i++) {
+        if (i % run == 0)
+            one = colors + 3 * below(256);
+        memcpy(p + 3 * i, one, 3);
     }
 }
 
@@ -150,6 +161,11 @@ int main(int argc, char **argv) {
     fill(src);
     for (int i = 0; i < PIXELS; i++)
         mask[i] = (uint8_t)below(256);
+    uint8_t colors[3 * 256];
+    for (int i = 0; i < 3 * 256; i++)
+        colors[i] = (uint8_t)below(256);
+    fill_few(few, colors, 1);
+    fill_few(few_runs, colors, 8);
     begin();
     printf("nanoseconds a pixel, %d by %d, the least of %d rounds\n", SIDE, SIDE, rounds);
     row("SrcOver of a raster", 0, src, 4, over, false);
@@ -168,6 +184,8 @@ int main(int argc, char **argv) {
     row("Rgb8 to Hsv8", 13, src, 3, 0, false);
     row("YCbCr8 to Rgb8", 14, src, 3, 0, false);
     row("Rgb8 to YCbCr8", 15, src, 3, 0, false);
+    row("make_indexed, at random", 16, few, 3, 0, false);
+    row("make_indexed, in runs of 8", 16, few_runs, 3, 0, false);
     compare("SrcOver of a raster", 0, src, over);
     compare("Xor of a raster", 1, src, xor);
     compare("SrcOver of a color", 5, src, one_color);

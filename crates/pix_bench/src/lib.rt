@@ -6,6 +6,7 @@
 
 mod composites;
 mod conversions;
+mod indexed;
 mod sides;
 
 use std::alloc::Global;
@@ -22,10 +23,10 @@ pub extern "C" fn pix_bench(
     src: &[u8],
     out: &mut [u8],
 ) -> bool {
-    let done = if work < 10 {
-        composites::composite(alloc, work, times, dst, src, out)
-    } else {
-        conversions::convert(alloc, work, times, src, out)
+    let done = match work {
+        0..10 => composites::composite(alloc, work, times, dst, src, out),
+        16 => indexed::indexed(alloc, times, src, out),
+        _ => conversions::convert(alloc, work, times, src, out),
     };
     done.is_some()
 }
