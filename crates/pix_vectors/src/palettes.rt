@@ -1,6 +1,6 @@
 //! Palettes: entries, matches, thresholds, counts and copies.
 use pix::el::Pixel;
-use pix::gray::{Gray8, Gray16};
+use pix::gray::{Gray, Gray8, Gray16};
 use pix::rgb::SRgb8;
 use pix::{Palette, Raster, RasterFault};
 use std::alloc::Global;
@@ -241,24 +241,32 @@ fn indexed_wide(
 
 /// Whether there is a raster of just the indices from 0 on.
 fn counts_up(answer: Option<Raster<Gray8>>) -> bool {
-    answer.is_some_and(|raster| {
-        raster
-            .pixels()
-            .iter()
-            .enumerate()
-            .all(|(i, pixel)| *pixel == Gray8::new(i as u8))
-    })
+    let Some(raster) = answer else {
+        return false;
+    };
+    let mut want = 0_u8;
+    for pixel in raster.pixels() {
+        if *pixel != Gray8::new(want) {
+            return false;
+        }
+        want = want.wrapping_add(1);
+    }
+    true
 }
 
 /// Whether there is a raster of just the indices from 0 on.
 fn counts_up_wide(answer: Option<Raster<Gray16>>) -> bool {
-    answer.is_some_and(|raster| {
-        raster
-            .pixels()
-            .iter()
-            .enumerate()
-            .all(|(i, pixel)| *pixel == Gray16::new(i as u16))
-    })
+    let Some(raster) = answer else {
+        return false;
+    };
+    let mut want = 0_u16;
+    for pixel in raster.pixels() {
+        if *pixel != Gray16::new(want) {
+            return false;
+        }
+        want = want.wrapping_add(1);
+    }
+    true
 }
 
 #[test]
@@ -416,12 +424,18 @@ fn colliding_colors(alloc: Global) -> Result<Raster<SRgb8>, RasterFault> {
 
 /// Whether the values are the indices that setting the colors one by one answers.
 fn are_set_one_by_one(palette: &mut Palette, colors: &[SRgb8], values: &[Gray16]) -> bool {
-    colors.len() == values.len()
-        && colors.iter().zip(values).all(|(color, value)| {
-            palette
-                .set_entry(*color)
-                .is_some_and(|index| *value == Gray16::new(index as u16))
-        })
+    if colors.len() != values.len() {
+        return false;
+    }
+    for (color, value) in colors.iter().zip(values) {
+        let Some(index) = palette.set_entry(*color) else {
+            return false;
+        };
+        if usize::from(u16::from(Gray::value(*value))) != index {
+            return false;
+        }
+    }
+    true
 }
 
 #[test]
@@ -431,9 +445,10 @@ fn colliding_colors_are_indexed_as_set(rt: HostRuntime) -> Result<(), Fail> {
     let raster = colliding_colors(rt.alloc())?;
     let image = indexed_wide(rt.alloc(), &mut palette, raster)?;
     let raster = colliding_colors(rt.alloc())?;
-    assert!(rt;
-        image.is_some_and(|image| are_set_one_by_one(&mut other, raster.pixels(), image.pixels()))
-    );
+    let Some(image) = image else {
+        return Err("no image".into());
+    };
+    assert!(rt; are_set_one_by_one(&mut other, raster.pixels(), image.pixels()));
     assert!(rt; palette.colors() == other.colors());
     Ok(())
 }
@@ -447,9 +462,10 @@ fn colliding_colors_within_a_threshold_are_indexed_as_set(rt: HostRuntime) -> Re
     let raster = colliding_colors(rt.alloc())?;
     let image = indexed_wide(rt.alloc(), &mut palette, raster)?;
     let raster = colliding_colors(rt.alloc())?;
-    assert!(rt;
-        image.is_some_and(|image| are_set_one_by_one(&mut other, raster.pixels(), image.pixels()))
-    );
+    let Some(image) = image else {
+        return Err("no image".into());
+    };
+    assert!(rt; are_set_one_by_one(&mut other, raster.pixels(), image.pixels()));
     assert!(rt; palette.colors() == other.colors());
     Ok(())
 }
