@@ -3,7 +3,7 @@ ghost use Rattle.std.specs.Prelude.{◌≤◌, ◌<◌};
 
 /// A color model.
 #[derive(Clone, Copy, Debug, PartialEq)]
-pub enum Model {
+pub(crate) enum Model {
     Rgb,
     Bgr,
     Cmy,
@@ -18,7 +18,7 @@ pub enum Model {
 
 impl Model {
     /// How many color channels it has, before the alpha.
-    pub fn colors(self) -> usize
+    pub(crate) fn colors(self) -> usize
         ensures { result ≤ 3 }
     {
         match self {
@@ -29,21 +29,21 @@ impl Model {
     }
 
     /// Whether its first channel is a hue.
-    pub fn has_hue(self) -> bool {
+    pub(crate) fn has_hue(self) -> bool {
         matches!(self, Model::Hsv | Model::Hsl | Model::Hwb)
     }
 }
 
 /// A width of channels.
 #[derive(Clone, Copy, Debug, PartialEq)]
-pub enum Depth {
+pub(crate) enum Depth {
     Eight,
     Sixteen,
 }
 
 impl Depth {
     /// The number that stands for one.
-    pub fn max(self) -> u32
+    pub(crate) fn max(self) -> u32
         ensures positive { 0 < result }
         ensures small { result < 65536 }
     {
@@ -56,7 +56,7 @@ impl Depth {
 
 /// A format: its color model, the width of its channels, whether it has an alpha, and how its colors are stored.
 #[derive(Clone, Copy, Debug)]
-pub struct Format {
+pub(crate) struct Format {
     pub model: Model,
     pub depth: Depth,
     pub has_alpha: bool,
@@ -66,7 +66,7 @@ pub struct Format {
 
 impl Format {
     /// The linear format of a model and a width with no alpha.
-    pub fn new(model: Model, depth: Depth) -> Format {
+    pub(crate) fn new(model: Model, depth: Depth) -> Format {
         Format {
             model,
             depth,
@@ -77,7 +77,7 @@ impl Format {
     }
 
     /// This format with an alpha.
-    pub fn with_alpha(self) -> Format {
+    pub(crate) fn with_alpha(self) -> Format {
         Format {
             has_alpha: true,
             ..self
@@ -85,7 +85,7 @@ impl Format {
     }
 
     /// This format with an alpha, by which its colors are multiplied.
-    pub fn premultiplied(self) -> Format {
+    pub(crate) fn premultiplied(self) -> Format {
         Format {
             has_alpha: true,
             is_premultiplied: true,
@@ -94,7 +94,7 @@ impl Format {
     }
 
     /// This format in sRGB.
-    pub fn srgb(self) -> Format {
+    pub(crate) fn srgb(self) -> Format {
         Format {
             is_srgb: true,
             ..self

@@ -64,7 +64,7 @@ fn hue_chroma_greatest([r, g, b]: [u32; 3], depth: Depth) -> (u32, u32, u32) {
 }
 
 /// Red, green and blue of the colors of a model.
-pub fn into_rgb(model: Model, colors: [u32; 3], depth: Depth) -> [u32; 3] {
+pub(crate) fn into_rgb(model: Model, colors: [u32; 3], depth: Depth) -> [u32; 3] {
     let max = depth.max();
     let [one, two, three] = colors;
     match model {
@@ -85,7 +85,7 @@ pub fn into_rgb(model: Model, colors: [u32; 3], depth: Depth) -> [u32; 3] {
 }
 
 /// The colors of a model of red, green and blue.
-pub fn from_rgb(model: Model, rgb: [u32; 3], depth: Depth) -> [u32; 3] {
+pub(crate) fn from_rgb(model: Model, rgb: [u32; 3], depth: Depth) -> [u32; 3] {
     let max = depth.max();
     let [red, green, blue] = rgb;
     let (hue, chroma, greatest) = hue_chroma_greatest(rgb, depth);

@@ -7,14 +7,14 @@ use pix_el::model::ColorModel;
 
 /// How many pairs were converted, and the first conversion that is not that of the rule.
 #[derive(Clone, Copy, Debug)]
-pub struct Tally {
+pub(crate) struct Tally {
     pub pairs: u32,
     pub wrong: Option<Case>,
 }
 
 /// A conversion: two formats, the channels of a pixel, and those that were made of them.
 #[derive(Clone, Copy, Debug)]
-pub struct Case {
+pub(crate) struct Case {
     pub from: Format,
     pub to: Format,
     pub numbers: [u32; 4],
@@ -23,7 +23,7 @@ pub struct Case {
 
 impl Tally {
     /// Before the first pair.
-    pub fn new() -> Tally {
+    pub(crate) fn new() -> Tally {
         Tally {
             pairs: 0,
             wrong: None,
@@ -45,7 +45,7 @@ impl Tally {
     }
 
     /// Converts three pixels of the format `S`, described by `from`, to the format `D`, described by `to`, and compares with the rule.
-    pub fn pair<S, D>(&mut self, from: Format, to: Format)
+    pub(crate) fn pair<S, D>(&mut self, from: Format, to: Format)
     where
         S: Pixel,
         D: Pixel,

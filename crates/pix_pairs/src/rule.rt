@@ -5,7 +5,7 @@ use pix_chan::chan::Ch8;
 
 /// The numbers of a pixel's channels in order, and 0 past the last.
 #[derive(Clone, Copy, Debug, PartialEq)]
-pub struct Channels {
+pub(crate) struct Channels {
     pub count: usize,
     pub numbers: [u32; 4],
 }
@@ -37,14 +37,14 @@ fn encoded(x: u32) -> u32 {
 }
 
 /// The number nearest to `x` times `y` over the maximum.
-pub fn product(x: u32, y: u32, depth: Depth) -> u32 {
+pub(crate) fn product(x: u32, y: u32, depth: Depth) -> u32 {
     let max = u128::from(depth.max());
     let nearest = (2 * u128::from(x) * u128::from(y) + max) / (2 * max);
     u32::try_from(nearest).unwrap_or(0)
 }
 
 /// `x` over `y`, as a part of one more than the maximum, rounded down; at most the maximum, and 0 over 0.
-pub fn quotient(x: u32, y: u32, depth: Depth) -> u32 {
+pub(crate) fn quotient(x: u32, y: u32, depth: Depth) -> u32 {
     let max = depth.max();
     if y == 0 {
         return 0;
@@ -125,7 +125,7 @@ fn written(format: Format, pixel: Pixel) -> Channels {
 }
 
 /// What a conversion makes of the pixel that has these channels.
-pub fn converted(from: Format, to: Format, numbers: [u32; 4]) -> Channels {
+pub(crate) fn converted(from: Format, to: Format, numbers: [u32; 4]) -> Channels {
     let pixel = read(from, numbers);
     if from.model == to.model {
         let mut deep = deepened_pixel(pixel, from, to);

@@ -63,7 +63,7 @@ where
 }
 
 /// Converts to each of the 49 formats of eight bits.
-pub fn to_eight_bits<S>(tally: &mut Tally, from: Format)
+pub(crate) fn to_eight_bits<S>(tally: &mut Tally, from: Format)
 where
     S: Pixel,
     Ch8: From<S::Chan>,
@@ -114,7 +114,7 @@ where
 }
 
 /// Converts to each of the 28 formats of sixteen bits.
-pub fn to_sixteen_bits<S>(tally: &mut Tally, from: Format)
+pub(crate) fn to_sixteen_bits<S>(tally: &mut Tally, from: Format)
 where
     S: Pixel,
     Ch16: From<S::Chan>,

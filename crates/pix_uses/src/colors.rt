@@ -65,7 +65,8 @@ pub fn tint_top(picture: &mut Raster<Rgba8p>, end: u32, clr: Rgba8p)
     ensures above { (x y : ℕ) → x < picture.old.width → y < picture.old.height → y < end →
         point numbers picture.new x y
         ≡ pixel_composite rgba8 Op.SrcOver (numbers clr) (point numbers picture.old x y) }
-    ensures below { (x y : ℕ) → x < picture.old.width → y < picture.old.height → end ≤ y →
+    ensures below { (x y : ℕ) → x < picture.old.width →
+        y < picture.old.height → end ≤ y →
         point numbers picture.new x y ≡ point numbers picture.old x y }
 {
     let width = picture.width();

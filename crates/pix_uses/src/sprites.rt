@@ -17,7 +17,8 @@ pub fn paste(picture: &mut Raster<Rgba8p>, sprite: &Raster<Rgba8p>, x: i32, y: i
     ensures width { picture.new.width ≡ picture.old.width }
     ensures height { picture.new.height ≡ picture.old.height }
     ensures pasted { (column row i j : ℕ) → has_point picture.old column row ≡ true
-        → has_point sprite.now i j ≡ true → pos column ≡ x +ℤ pos i → pos row ≡ y +ℤ pos j
+        → has_point sprite.now i j ≡ true
+        → pos column ≡ x +ℤ pos i → pos row ≡ y +ℤ pos j
         → point numbers picture.new column row ≡ pixel_composite rgba8 Op.SrcOver
         (point numbers sprite.now i j) (point numbers picture.old column row) }
     ensures kept { (column row : ℕ) → has_point picture.old column row ≡ true
@@ -32,7 +33,8 @@ pub fn draw_glyph(picture: &mut Raster<Rgba8p>, glyph: &Raster<Matte8>, x: i32, 
     ensures width { picture.new.width ≡ picture.old.width }
     ensures height { picture.new.height ≡ picture.old.height }
     ensures drawn { (column row i j : ℕ) → has_point picture.old column row ≡ true
-        → has_point glyph.now i j ≡ true → pos column ≡ x +ℤ pos i → pos row ≡ y +ℤ pos j
+        → has_point glyph.now i j ≡ true
+        → pos column ≡ x +ℤ pos i → pos row ≡ y +ℤ pos j
         → point numbers picture.new column row ≡ matted_composite rgba8 Op.SrcOver
         (matte_value rgba8 (point mattes glyph.now i j)) (numbers ink)
         (point numbers picture.old column row) }

@@ -28,6 +28,8 @@ mod getters;
 #[cfg(test)]
 mod hues;
 #[cfg(test)]
+mod indexed;
+#[cfg(test)]
 mod kinds;
 #[cfg(test)]
 mod lanes;

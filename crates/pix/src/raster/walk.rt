@@ -136,7 +136,8 @@ pub(crate) fn fill_rows<P: Pixel, F: Fill<P>>(
     requires from_top { clipped.rows.start ≤ clipped.rows.end }
     requires across { clipped.columns.end ≤ width }
     requires down { clipped.rows.end * width ≤ length pixels.old }
-    ensures { (x y : ℕ) → x < width → slice_index_or (map P.numbers pixels.new) (y * width + x) [] ≡
+    ensures { (x y : ℕ) → x < width →
+        slice_index_or (map P.numbers pixels.new) (y * width + x) [] ≡
         where_in clipped.columns clipped.rows (λ a b. F.makes change.now) x y
         (slice_index_or (map P.numbers pixels.old) (y * width + x) []) }
 {
@@ -166,7 +167,8 @@ pub(crate) fn blit_rows<P: Pixel, S: Pixel, B: Blit<P, S>>(
         + (overlap.columns.dst.end - overlap.columns.dst.start) ≤ src_width }
     requires src_down { (overlap.rows.src_start
         + (overlap.rows.dst.end - overlap.rows.dst.start)) * src_width ≤ length src.now }
-    ensures { (x y : ℕ) → x < width → slice_index_or (map P.numbers pixels.new) (y * width + x) [] ≡
+    ensures { (x y : ℕ) → x < width →
+        slice_index_or (map P.numbers pixels.new) (y * width + x) [] ≡
         where_in overlap.columns.dst overlap.rows.dst
         (λ a b. B.makes change.now (slice_index_or (map S.numbers src.now)
         ((overlap.rows.src_start + (b - overlap.rows.dst.start)) * src_width
