@@ -18,3 +18,5 @@ pub mod Slices
 pub mod Planes
 pub mod Sixteen
 pub mod RunTerms
+pub mod ByTable
+pub mod Quotient

@@ -4,3 +4,5 @@
 pub mod chan;
 pub mod ops;
 mod private;
+#[doc(hidden)]
+pub mod reciprocals;

@@ -1,4 +1,3 @@
 pub mod Narrow
 pub mod Nearest
 pub mod Sums
-pub mod ByTable

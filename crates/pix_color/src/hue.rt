@@ -3,7 +3,7 @@ ghost use Rattle.std.specs.Prelude.{◌≡◌, ◌+◌, ◌*◌, ◌-◌, ◌<�
 ghost use Rattle.pix_color.specs.Hexcone.{numbered, hexcone_of, rgb_of_hexcone, lifted_rgb, turn, hue_at, hue_after, hue_of, chroma_of, value_of};
 
 use crate::numbers::{complement, exact, max, nearest, number, product, sum};
-use crate::reciprocals::quotient_by_byte;
+use pix_chan::reciprocals::quotient_by_byte;
 use pix_el::chan::Channel;
 
 /// A sixth of the hexcone, the circle of hues, from the color that it is named for on. Its weight says how far on.

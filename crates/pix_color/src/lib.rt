@@ -14,6 +14,5 @@ pub mod hue;
 pub mod hwb;
 mod linear;
 mod numbers;
-mod reciprocals;
 pub mod xyz;
 pub mod ycc;

@@ -121,7 +121,7 @@ impl Palette {
         clr: SRgb8,
         greatest: usize,
     ) -> Option<usize>
-        requires long { length places.old ≡ 1028 }
+        requires long { length places.old ≡ 2056 }
         requires known { AreKnown (map numbers self.old.colors.items) places.old }
         ensures set { IsSetUpTo
             (IsSet (Answers Threshold.post (option_map (λ kept. kept.f) self.old.threshold))

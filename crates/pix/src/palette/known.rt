@@ -11,7 +11,7 @@ use pix_el::el::Pixel;
 use pix_el::rgb::{Rgb, SRgb8};
 
 /// The number of places of a table.
-pub(super) const PLACES: usize = 1028;
+pub(super) const PLACES: usize = 2056;
 
 /// How many places in a row a color may be kept at.
 const TRIES: usize = 8;
@@ -25,12 +25,12 @@ pub(super) struct Known {
 
 /// Returns the first place that a color may be kept at.
 fn first_place(clr: SRgb8) -> usize
-    ensures { result ≤ 1020 }
+    ensures { result < 2048 }
 {
-    let red = u8::from(Rgb::red(clr)).wrapping_mul(37);
-    let green = u8::from(Rgb::green(clr)).wrapping_mul(101);
-    let blue = u8::from(Rgb::blue(clr)).wrapping_mul(167);
-    usize::from(red.wrapping_add(green).wrapping_add(blue)) * 4
+    let red = usize::from(u8::from(Rgb::red(clr)));
+    let green = usize::from(u8::from(Rgb::green(clr)));
+    let blue = usize::from(u8::from(Rgb::blue(clr)));
+    (red * 37 + green * 101 + blue * 167) % 2048
 }
 
 /// Returns whether two pixels are equal.
@@ -43,7 +43,7 @@ fn is_same<P: Pixel>(p: P, q: P) -> bool
 impl Palette {
     /// Returns the index of a color that is kept.
     pub(super) fn known(&self, places: &[Option<Known>], clr: SRgb8) -> Option<usize>
-        requires long { length places.now ≡ 1028 }
+        requires long { length places.now ≡ 2056 }
         requires known { AreKnown (map numbers self.now.colors.items) places.now }
         ensures { IfSome result (IsFirstOf (map numbers self.now.colors.items) (numbers clr)) }
     {
@@ -60,7 +60,7 @@ impl Palette {
 
     /// Keeps a color whose entry it is, at an empty place of its own or the first, unless its index is above 65535.
     pub(super) fn keep(&self, places: &mut [Option<Known>], clr: SRgb8, index: usize)
-        requires long { length places.old ≡ 1028 }
+        requires long { length places.old ≡ 2056 }
         requires known { AreKnown (map numbers self.now.colors.items) places.old }
         requires first { IsFirstOf (map numbers self.now.colors.items) (numbers clr) index }
         ensures { AreKnown (map numbers self.now.colors.items) places.new }
@@ -74,7 +74,7 @@ impl Palette {
 
     /// Sets a color as `set_entry` does; a color that is kept takes no search.
     pub(super) fn set_known(&mut self, places: &mut [Option<Known>], clr: SRgb8) -> Option<usize>
-        requires long { length places.old ≡ 1028 }
+        requires long { length places.old ≡ 2056 }
         requires known { AreKnown (map numbers self.old.colors.items) places.old }
         ensures set { IsSet
             (Answers Threshold.post (option_map (λ kept. kept.f) self.old.threshold))
@@ -96,9 +96,9 @@ impl Palette {
 
 /// Returns the first empty place from a place on, or that place where none of them is empty.
 fn empty_place(places: &[Option<Known>], start: usize) -> usize
-    requires long { length places.now ≡ 1028 }
-    requires from { start ≤ 1020 }
-    ensures { result < 1028 }
+    requires long { length places.now ≡ 2056 }
+    requires from { start < 2048 }
+    ensures { result < 2056 }
 {
     for at in start..start + TRIES {
         if places[at].is_none() {

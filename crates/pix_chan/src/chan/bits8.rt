@@ -9,6 +9,7 @@ ghost use Rattle.pix_chan.specs.Planes.{in_turn, both_in_turn};
 use crate::chan::bits8::lanes::{channels, units};
 use crate::chan::{Ch16, Channel, whole};
 use crate::private::Sealed;
+use crate::reciprocals::quotient_by_byte;
 use std::ops::{Add, Div, Mul, Sub};
 
 mod lanes;
@@ -129,10 +130,7 @@ where
 
     fn div(self, rhs: R) -> Ch8 {
         let rhs = Ch8::from(rhs);
-        if rhs.value == 0 {
-            return Ch8 { value: 0 };
-        }
-        let ratio = (u32::from(self.value) << 8) / u32::from(rhs.value);
+        let ratio = quotient_by_byte(u64::from(self.value) << 8, u64::from(rhs.value));
         Ch8 {
             value: ratio.min(255) as u8,
         }

@@ -7,7 +7,7 @@ use Rattle.pix.proofs.IndexingLaws.{all_represented, all_equal}
 use Rattle.pix.proofs.palette.table.Palette.index_pixels.Goals as goal
 
 pub loop-i-init : goal.loop-i-init
-loop-i-init g c = record { set = none_set _ _ _ _ _; gray = refl; known = none_known (map numbers c.args.self.now.colors.items) 1028; limit = refl; threshold = refl }
+loop-i-init g c = record { set = none_set _ _ _ _ _; gray = refl; known = none_known (map numbers c.args.self.now.colors.items) 2056; limit = refl; threshold = refl }
 
 pub returns-in-None-clause-indexed : goal.returns-in-None-clause-indexed
 returns-in-None-clause-indexed g c =

@@ -38,7 +38,7 @@ fn reciprocal(d: u64) -> u64
 
 /// Returns `n` / `d` rounded down, or 0 where `d` is 0. Condition: `n` is below 2^17, and `d` is below 256.
 #[inline(always)]
-pub(crate) fn quotient_by_byte(n: u64, d: u64) -> u64
+pub fn quotient_by_byte(n: u64, d: u64) -> u64
     requires n_fits { n < 2 ^ 17 }
     requires d_fits { d < 256 }
     ensures { result ≡ n / d }
