@@ -1,5 +1,5 @@
 //! Channels: whole numbers of units from 0 to the maximum of their width.
-ghost use Rattle.std.specs.Prelude.{◌≡◌, ℕ, ◌+◌, ◌*◌, ◌^◌, ◌<◌, nat_eq, pos, ◌+ℤ◌, ◌*ℤ◌, ◌<ℤ◌, map, ◌++◌};
+ghost use Rattle.std.specs.Prelude.{◌≡◌, ℕ, ◌+◌, ◌-◌, ◌*◌, ◌^◌, ◌<◌, nat_eq, pos, ◌+ℤ◌, ◌*ℤ◌, ◌<ℤ◌, map, ◌++◌};
 ghost use Rattle.std.specs.Ordering.{nat_cmp};
 ghost use prog.Memory.{size};
 ghost use denote.Memory.{lone};
@@ -124,6 +124,11 @@ pub trait Channel: Sealed
             dst[i] = dst[i] + by[i];
         }
     }
+
+    /// Returns one minus each of sixteen channels.
+    #[doc(hidden)]
+    fn less16(plane: [Self; 16]) -> [Self; 16]
+        ensures { map number result ≡ map (λ x. max - x) (map number plane) };
 
     /// Returns the planes of sixteen pixels of four channels: `a` to `d` are four pixels each.
     #[doc(hidden)]

@@ -17,16 +17,6 @@ use pix_chan::ops::Blend;
 mod four;
 mod two;
 
-/// Replaces each channel by one minus it.
-#[inline(always)]
-fn complement<C: Channel>(channels: &mut [C])
-    ensures { map C.number channels.new ≡ map (λ x. C.max - x) (map C.number channels.old) }
-{
-    for i in 0..channels.len() {
-        channels[i] = C::MAX - channels[i];
-    }
-}
-
 /// Composites the hues of the same index of all four, one after the other; the shortest length decides.
 #[inline(always)]
 fn composite_hues<O: Blend, C: Channel>(dst: &mut [C], da1: &[C], src: &[C], sa1: &[C])

@@ -1,5 +1,5 @@
 //! Channels of 16 bits.
-ghost use Rattle.std.specs.Prelude.{◌≡◌, ◌+◌, ◌*◌, ◌/◌, ◌<◌, ◌++◌, map};
+ghost use Rattle.std.specs.Prelude.{◌≡◌, ◌+◌, ◌-◌, ◌*◌, ◌/◌, ◌<◌, ◌++◌, map};
 ghost use Rattle.pix_chan.specs.Number.{saturating_sum, saturating_difference};
 ghost use Rattle.pix_chan.specs.Product.{channel_product, channel_quotient};
 ghost use Rattle.pix_chan.specs.Channel.{AnswersFrom};
@@ -202,6 +202,63 @@ impl Channel for Ch16 {
         Ch16 {
             value: whole::nearest(n, d, 65535) as u16,
         }
+    }
+
+    #[inline(always)]
+    fn less16(plane: [Ch16; 16]) -> [Ch16; 16]
+        ensures { map (λ x. x.value) result ≡ map (λ x. 65535 - x) (map (λ x. x.value) plane) }
+    {
+        let p = &plane[..];
+        [
+            Ch16 {
+                value: 65535 - p[0].value,
+            },
+            Ch16 {
+                value: 65535 - p[1].value,
+            },
+            Ch16 {
+                value: 65535 - p[2].value,
+            },
+            Ch16 {
+                value: 65535 - p[3].value,
+            },
+            Ch16 {
+                value: 65535 - p[4].value,
+            },
+            Ch16 {
+                value: 65535 - p[5].value,
+            },
+            Ch16 {
+                value: 65535 - p[6].value,
+            },
+            Ch16 {
+                value: 65535 - p[7].value,
+            },
+            Ch16 {
+                value: 65535 - p[8].value,
+            },
+            Ch16 {
+                value: 65535 - p[9].value,
+            },
+            Ch16 {
+                value: 65535 - p[10].value,
+            },
+            Ch16 {
+                value: 65535 - p[11].value,
+            },
+            Ch16 {
+                value: 65535 - p[12].value,
+            },
+            Ch16 {
+                value: 65535 - p[13].value,
+            },
+            Ch16 {
+                value: 65535 - p[14].value,
+            },
+            Ch16 {
+                value: 65535 - p[15].value,
+            },
+        ]
     }
 
     #[inline(always)]

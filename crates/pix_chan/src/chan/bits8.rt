@@ -1,5 +1,5 @@
 //! Channels of 8 bits.
-ghost use Rattle.std.specs.Prelude.{◌≡◌, ◌+◌, ◌*◌, ◌/◌, ◌<◌, ◌++◌, map};
+ghost use Rattle.std.specs.Prelude.{◌≡◌, ◌+◌, ◌-◌, ◌*◌, ◌/◌, ◌<◌, ◌++◌, map};
 ghost use Rattle.pix_chan.specs.Number.{saturating_sum, saturating_difference};
 ghost use Rattle.pix_chan.specs.Product.{channel_product, channel_quotient};
 ghost use Rattle.pix_chan.specs.Channel.{AnswersFrom};
@@ -224,6 +224,13 @@ impl Channel for Ch8 {
         for i in count / 16 * 16..count {
             dst[i] = dst[i] + by[i];
         }
+    }
+
+    #[inline(always)]
+    fn less16(plane: [Ch8; 16]) -> [Ch8; 16]
+        ensures { map (λ x. x.value) result ≡ map (λ x. 255 - x) (map (λ x. x.value) plane) }
+    {
+        channels(!units(&plane))
     }
 
     #[inline(always)]

@@ -6,7 +6,7 @@ ghost use Rattle.pix_el.specs.Planes.{by_fours, ArePlanes};
 ghost use Rattle.pix_el.specs.PixelComposite.{pixel_composite, matted_composite};
 
 use crate::el::Pixel;
-use crate::planes::{complement, composite_first, scale_first};
+use crate::planes::{composite_first, scale_first};
 use pix_chan::chan::Channel;
 use pix_chan::ops::Blend;
 
@@ -127,10 +127,8 @@ pub(super) fn composite_sixteen<O: Blend, P: Pixel, const CALLER: usize>(
         over (pixel_composite P.layout O.op) pixels (map P.numbers dst.old) }
 {
     let (mut to_one, mut to_two, mut to_three, mut to_four) = planes::<P, CALLER>(dst);
-    let mut da1 = to_four;
-    complement(&mut da1);
-    let mut sa1 = four;
-    complement(&mut sa1);
+    let da1 = P::Chan::less16(to_four);
+    let sa1 = P::Chan::less16(four);
     composite_first::<O, P::Model, P::Chan>(&mut to_one, &da1, &one, &sa1);
     O::composite_run(&mut to_two, &da1, &two, &sa1);
     O::composite_run(&mut to_three, &da1, &three, &sa1);

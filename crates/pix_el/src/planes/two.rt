@@ -6,7 +6,6 @@ ghost use Rattle.pix_el.specs.Planes.{by_twos, AreTwoPlanes};
 ghost use Rattle.pix_el.specs.PixelComposite.{pixel_composite, matted_composite};
 
 use crate::el::Pixel;
-use crate::planes::complement;
 use pix_chan::chan::Channel;
 use pix_chan::ops::Blend;
 
@@ -111,10 +110,8 @@ pub(super) fn composite_sixteen<O: Blend, P: Pixel, const CALLER: usize>(
         over (pixel_composite P.layout O.op) pixels (map P.numbers dst.old) }
 {
     let (mut to_one, mut to_two) = planes::<P, CALLER>(dst);
-    let mut da1 = to_two;
-    complement(&mut da1);
-    let mut sa1 = two;
-    complement(&mut sa1);
+    let da1 = P::Chan::less16(to_two);
+    let sa1 = P::Chan::less16(two);
     O::composite_run(&mut to_one, &da1, &one, &sa1);
     O::composite_run(&mut to_two, &da1, &two, &sa1);
     put_planes(dst, to_one, to_two);

@@ -21,8 +21,8 @@ returns g c = λ pixels are.
     c.requires.count c.requires.alpha (placed_by_row g.P.Model.ColorModel.model _ g.met.P.Model.ColorModel.stands).hue_first in
     let same : hues ≡ record { start = 0; end = g.P.Pixel.layout.hues.end } = sym (ap (λ (l : Layout). l.hues) g.met.P.Pixel.laid_out) ∙ ap (λ (l : Layout). l.hues) four in
     c.put_planes.ensures
-    ∙ planes_composited max op g.P.Pixel.layout.hues.end c.requires.hue pixels (map n c.args.dst.now) are c.planes-to_one.ensures c.complement.ensures c.complement-2.ensures
-    (c.composite_first.ensures ∙ ap (λ (r : Range ℕ). over (run_first max r op) (triples (map v c.complement.new.channels) (map v c.args.one) (map v c.complement-2.new.channels)) (map v c.planes-to_one.result.0)) same)
+    ∙ planes_composited max op g.P.Pixel.layout.hues.end c.requires.hue pixels (map n c.args.dst.now) are c.planes-to_one.ensures c.less16-da1.ensures c.less16-sa1.ensures
+    (c.composite_first.ensures ∙ ap (λ (r : Range ℕ). over (run_first max r op) (triples (map v c.less16-da1.result) (map v c.args.one) (map v c.less16-sa1.result)) (map v c.planes-to_one.result.0)) same)
     c.composite_run.ensures c.composite_run-2.ensures c.composite_run-3.ensures
     (omega (arith, length-map c.args.four v, length-map c.planes-to_one.result.3 v))
     (numbers_fit max v laws.numbered c.args.four) (numbers_fit max v laws.numbered c.planes-to_one.result.3)
