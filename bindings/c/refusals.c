@@ -160,22 +160,25 @@ static void strides(void) {
     pix_image image = pix_image_of(padded, WIDE, HIGH);
     pix_source source = pix_source_of(rows, WIDE, HIGH);
     pix_matte matte = pix_matte_of(mask, WIDE, HIGH);
-    const pix_region whole = pix_region_of(0, 0, WIDE, HIGH);
+    const pix_region whole = pix_region_of(0, 0, WIDE, HIGH), large = pix_region_of(0, 0, 9, 9);
+    const pix_rgba8 color = pix_rgba8_of(7, 7, 7, 255);
     image.stride = source.stride = matte.stride = APART;
     for (int i = 0; i < LENGTH; i++) {
         padded[i] = pix_rgba8_of(1, 2, 3, 4);
         rows[i] = pix_rgba8_of((uint8_t)i, 0, 0, 255);
         mask[i] = i % APART < WIDE ? 255 : 0;
     }
-    CHECK(pix_do(image, pix_copy_image(pix_region_of(-1, -1, 9, 9), source, whole)) == PIX_OK);
+    CHECK(pix_do(image, pix_copy_image(pix_region_of(-1, -1, 9, 9), source, large)) == PIX_OK);
     for (int i = 0; i < LENGTH; i++) {
         int x = i % APART, y = i / APART, inside = x < WIDE - 1 && y < HIGH - 1;
         CHECK(padded[i].r == (inside ? i + APART + 1 : 1) && padded[i].a == (inside ? 255 : 4));
     }
-    const pix_rgba8 color = pix_rgba8_of(7, 7, 7, 255);
     CHECK(pix_do(image, pix_composite_matte(whole, matte, whole, color, PIX_OP_SRC_OVER)) == PIX_OK);
     for (int i = 0; i < LENGTH; i++)
         CHECK(padded[i].r == (i % APART < WIDE ? 7 : 1));
+    CHECK(pix_do(image, pix_composite_color(pix_region_of(-1, 1, 9, 9), color, PIX_OP_CLEAR)) == PIX_OK);
+    for (int i = 0; i < LENGTH; i++)
+        CHECK(padded[i].r == (i % APART >= WIDE ? 1 : i / APART == 0 ? 7 : 0));
     CHECK(pix_do(image, pix_clear()) == PIX_OK);
     for (int i = 0; i < LENGTH; i++)
         CHECK(padded[i].r == (i % APART < WIDE ? 0 : 1) && padded[i].a == (i % APART < WIDE ? 0 : 4));

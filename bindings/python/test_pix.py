@@ -100,9 +100,12 @@ class Paintings(unittest.TestCase):
         pixels = bytearray(b"\x01\x02\x03\x04" * 13)
         rows = bytes(channel for i in range(13) for channel in (i, 0, 0, 255))
         source = pix.Image(rows, 3, 3, 5)
-        pix.Image(pixels, 3, 3, 5).run(pix.copy_image((-1, -1, 9, 9), source))
+        image = pix.Image(pixels, 3, 3, 5)
+        image.run(pix.copy_image((-1, -1, 9, 9), source, (0, 0, 9, 9)))
         expected = [i + 6 if i % 5 < 2 and i // 5 < 2 else 1 for i in range(13)]
         self.assertEqual(list(pixels[::4]), expected)
+        image.run(pix.copy_color((0, 0, 9, 9), COLOR))
+        self.assertEqual(list(pixels[::4]), [9 if i % 5 < 3 else 1 for i in range(13)])
 
     def test_operators(self):
         source, dest = (90, 17, 0, 130), (5, 20, 30, 200)

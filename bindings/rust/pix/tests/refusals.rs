@@ -146,14 +146,19 @@ fn lengths_are_tested() {
 fn what_lies_between_rows_stays() {
     let mut padded = [Rgba8::new(1, 2, 3, 4); 13];
     let rows: Vec<Rgba8> = (0..13).map(|i| Rgba8::new(i, 0, 0, 255)).collect();
-    let whole = Region::new(0, 0, 3, 3);
+    let large = Region::new(0, 0, 9, 9);
     let source = Image::with_stride(&rows, 3, 3, 5);
     let mut image = ImageMut::with_stride(&mut padded, 3, 3, 5);
-    let copy = Command::copy_image(Region::new(-1, -1, 9, 9), source, whole);
+    let copy = Command::copy_image(Region::new(-1, -1, 9, 9), source, large);
     assert_eq!(image.run(&[copy]), Ok(()));
     for (i, pixel) in padded.iter().enumerate() {
         let is_inside = i % 5 < 2 && i / 5 < 2;
         assert_eq!(usize::from(pixel.r), if is_inside { i + 6 } else { 1 });
+    }
+    let mut image = ImageMut::with_stride(&mut padded, 3, 3, 5);
+    assert_eq!(image.run(&[Command::copy_color(large, COLOR)]), Ok(()));
+    for (i, pixel) in padded.iter().enumerate() {
+        assert_eq!(*pixel == COLOR, i % 5 < 3);
     }
 }
 
