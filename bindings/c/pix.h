@@ -53,7 +53,7 @@ extern "C" {
 
 /* ---- Pixels and regions ---- */
 
-/* A pixel of 8 bits a channel, from 0 (none) to 255 (all). No color channel should exceed the alpha. */
+/* A pixel of 8 bits a channel, from 0 (none) to 255 (all). No color channel should exceed the alpha, though any may. */
 typedef struct { uint8_t r, g, b, a; } pix_rgba8;
 
 /* A pixel of 16 bits a channel, from 0 to 65535, in the byte order of the machine. */
@@ -125,7 +125,7 @@ typedef enum {
 /* What a call answers. */
 typedef enum {
     PIX_OK = 0,         /* done */
-    PIX_BAD_SIZE = 1,   /* the image that is written: a side above 2147483647, or a stride below the width */
+    PIX_BAD_SIZE = 1,   /* the image: a side above 2147483647, a stride below the width, or more than memory can hold */
     PIX_BAD_KIND = 2,   /* a command that no function of this header made */
     PIX_BAD_REGION = 3, /* a region of a command has a side above 2147483647 */
     PIX_BAD_OP = 4,     /* no such operator */
@@ -341,11 +341,11 @@ static inline pix_status pix_apart_(const void *written, size_t written_bytes, c
 static inline const char *pix_status_text(pix_status status) {
     switch (status) {
     case PIX_OK: return "done";
-    case PIX_BAD_SIZE: return "the image has a side above 2147483647, or a stride below its width";
+    case PIX_BAD_SIZE: return "the image has a side above 2147483647, a stride below its width, or too many pixels";
     case PIX_BAD_KIND: return "no such kind of command";
     case PIX_BAD_REGION: return "a region has a side above 2147483647";
     case PIX_BAD_OP: return "no such operator";
-    case PIX_BAD_SOURCE: return "a source has a side above 2147483647, or a stride below its width";
+    case PIX_BAD_SOURCE: return "a source has a side above 2147483647, a stride below its width, or too many pixels";
     case PIX_BAD_FORMAT: return "no such format";
     case PIX_BAD_LENGTH: return "too many pixels to convert";
     case PIX_NULL: return "a pointer is null";
