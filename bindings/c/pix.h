@@ -234,7 +234,8 @@ static inline size_t pix_format_size(pix_format format);
 
 /* Converts `count` pixels of the format `from` at `src` to the format `to` at `dst`. Both are bytes without padding:
  * count * pix_format_size(from) and count * pix_format_size(to) of them. They must not share memory, not even where
- * both formats are of one size. An alpha that the source lacks is 255; a missing alpha is dropped.
+ * both formats are of one size. An alpha that `from` lacks is 255. One that `to` lacks is dropped, and colors that were
+ * multiplied by it stay so.
  *
  * Answers PIX_OK, PIX_BAD_FORMAT, PIX_BAD_LENGTH, PIX_NULL or PIX_OVERLAP. */
 static inline pix_status pix_convert(pix_format from, pix_format to, const void *src, void *dst, size_t count);

@@ -384,8 +384,9 @@ def composite_matte(to, matte, color, from_=None, op=Op.SRC_OVER):
 def convert(from_, src, to, dst=None):
     """Converts all pixels of the buffer `src` to the format of `dst`, which has room for just as many; returns `dst`.
 
-    Without `dst` a new bytearray is returned. An alpha that the source lacks is 255; a missing alpha is dropped. Raises
-    PixError where the lengths don't fit, TypeError where `dst` is read-only and ValueError where the two overlap.
+    Without `dst` a new bytearray is returned. An alpha that `from_` lacks is 255. One that `to` lacks is dropped, and
+    colors that were multiplied by it stay so. Raises PixError where the lengths don't fit, TypeError where `dst` is
+    read-only and ValueError where the two overlap.
     """
     from_, to = Format(from_), Format(to)
     source = _Bytes(src)

@@ -38,7 +38,7 @@ impl Format {
 
 /// Converts all pixels of `src` to the format of `dst`, which has room for just as many.
 ///
-/// An alpha that the source lacks is 255; a missing alpha is dropped.
+/// An alpha that `from` lacks is 255. One that `to` lacks is dropped, and colors that were multiplied by it stay so.
 pub fn convert(from: Format, src: &[u8], to: Format, dst: &mut [u8]) -> Result<(), Error> {
     let count = src.len() / from.size();
     if src.len() != count * from.size() || Some(dst.len()) != count.checked_mul(to.size()) {
