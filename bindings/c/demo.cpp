@@ -1,0 +1,130 @@
+// Paints the picture of demo.c in C++, and writes it as a PPM file: demo FILE
+#include "pix.h"
+
+#include <algorithm>
+#include <cstdlib>
+#include <fstream>
+#include <iostream>
+#include <stdexcept>
+#include <string>
+#include <vector>
+
+namespace {
+
+const int width = 192, height = 128, sun_side = 48, letter_side = 32, letters = 3, swatches = 13, step = 14;
+
+void insist(pix_status status) {
+    if (status != PIX_OK)
+        throw std::runtime_error(pix_status_text(status));
+}
+
+// Pixels in rows without padding.
+struct Picture {
+    std::uint32_t width, height;
+    std::vector<pix_rgba8> pixels;
+
+    Picture(std::uint32_t w, std::uint32_t h) : width(w), height(h), pixels(std::size_t{w} * h) {}
+
+    pix_source source() const { return pix_source_of(pixels.data(), width, height); }
+    pix_region whole() const { return {0, 0, width, height}; }
+
+    void run(const std::vector<pix_command> &list) {
+        insist(pix_run(pix_image_of(pixels.data(), width, height), list.data(), list.size(), nullptr));
+    }
+};
+
+// A disk that fades to its rim, decoded from sRGB with a straight alpha.
+Picture make_sun() {
+    Picture sun(sun_side, sun_side);
+    std::vector<std::uint8_t> bytes;
+    const int last = sun_side - 1, rim = last * last;
+    for (int y = 0; y < sun_side; y++)
+        for (int x = 0; x < sun_side; x++) {
+            const int dx = 2 * x - last, dy = 2 * y - last, from_center = dx * dx + dy * dy;
+            int channels[4] = {0, 0, 0, 0};
+            if (from_center < rim) {
+                channels[0] = 255;
+                channels[1] = 220 - 120 * from_center / rim;
+                channels[2] = 40;
+                channels[3] = std::min((rim - from_center) / 4, 255);
+            }
+            for (int channel : channels)
+                bytes.push_back(static_cast<std::uint8_t>(channel));
+        }
+    insist(pix_convert(PIX_FORMAT_SRGBA8, PIX_FORMAT_RGBA8P, bytes.data(), sun.pixels.data(), sun.pixels.size()));
+    return sun;
+}
+
+// A mask of the letters P, I and X side by side, paler to the bottom.
+std::vector<std::uint8_t> make_letters() {
+    const int rows[letters][8] = {{0xFC, 0x66, 0x66, 0x7C, 0x60, 0x60, 0xF0, 0x00},
+                                  {0x3C, 0x18, 0x18, 0x18, 0x18, 0x18, 0x3C, 0x00},
+                                  {0xC6, 0xC6, 0x6C, 0x38, 0x6C, 0xC6, 0xC6, 0x00}};
+    std::vector<std::uint8_t> values;
+    for (int y = 0; y < letter_side; y++)
+        for (int x = 0; x < letters * letter_side; x++) {
+            const int row = rows[x / letter_side][8 * y / letter_side], bit = 7 - 8 * (x % letter_side) / letter_side;
+            values.push_back(static_cast<std::uint8_t>((row >> bit & 1) != 0 ? 255 - 4 * y : 0));
+        }
+    return values;
+}
+
+// Two squares for each operator: an orange one, and a blue one that is composited with its corner.
+Picture make_swatches() {
+    Picture picture(step * swatches, 12);
+    std::vector<pix_command> list;
+    for (int op = 0; op < swatches; op++) {
+        list.push_back(pix_copy_color({step * op, 0, 8, 8}, {160, 60, 0, 200}));
+        list.push_back(pix_composite_color({step * op + 4, 4, 8, 8}, {0, 40, 140, 160}, static_cast<pix_op>(op)));
+    }
+    picture.run(list);
+    return picture;
+}
+
+Picture paint() {
+    const Picture sun = make_sun(), squares = make_swatches();
+    const std::vector<std::uint8_t> values = make_letters();
+    const pix_matte mask = pix_matte_of(values.data(), letters * letter_side, letter_side);
+    Picture picture(width, height);
+    std::vector<pix_command> list;
+    list.push_back(pix_copy_color(picture.whole(), {8, 12, 48, 255}));
+    for (int band = 0; band < 10; band++)
+        list.push_back(pix_composite_color({-10, 40 + 7 * band, 400, 400}, {20, 4, 0, 24}, PIX_OP_SRC_OVER));
+    list.push_back(pix_composite_image({160, -14, sun_side, sun_side}, sun.source(), sun.whole(), PIX_OP_SRC_OVER));
+    list.push_back(pix_composite_image({-20, 76, sun_side, sun_side}, sun.source(), sun.whole(), PIX_OP_PLUS));
+    for (int i = 0; i < letters; i++) {
+        const pix_region letter{letter_side * i, 0, letter_side, letter_side};
+        list.push_back(pix_composite_matte({41 + 42 * i, 44, letter_side, letter_side}, mask, letter, {0, 0, 0, 160},
+                                           PIX_OP_SRC_OVER));
+        list.push_back(pix_composite_matte({38 + 42 * i, 41, letter_side, letter_side}, mask, letter,
+                                           {255, 240, 200, 255}, PIX_OP_SRC_OVER));
+    }
+    list.push_back(pix_composite_image({6, 110, squares.width, squares.height}, squares.source(), squares.whole(),
+                                       PIX_OP_SRC_OVER));
+    picture.run(list);
+    return picture;
+}
+
+// Writes the picture, encoded by the sRGB curve; its alpha is 255 everywhere.
+void save(const Picture &picture, const std::string &name) {
+    std::string bytes(4 * picture.pixels.size(), '\0');
+    insist(pix_convert(PIX_FORMAT_RGBA8P, PIX_FORMAT_SRGBA8, picture.pixels.data(), &bytes[0], picture.pixels.size()));
+    std::ofstream file(name, std::ios::binary);
+    file << "P6\n" << picture.width << ' ' << picture.height << "\n255\n";
+    for (std::size_t i = 0; i < bytes.size(); i += 4)
+        file.write(&bytes[i], 3);
+    if (!file.flush())
+        throw std::runtime_error(name + " can't be written");
+}
+
+} // namespace
+
+int main(int argc, char **argv) {
+    try {
+        save(paint(), argc > 1 ? argv[1] : "demo.ppm");
+    } catch (const std::exception &error) {
+        std::cerr << "demo: " << error.what() << '\n';
+        return EXIT_FAILURE;
+    }
+    return EXIT_SUCCESS;
+}

@@ -1,0 +1,499 @@
+/* pix.h - compositing of raster images in the caller's own memory.
+ *
+ * A program makes commands (copy a color, composite an image, composite a color through a mask, ..) and runs a list of
+ * them on an image. The library changes the image's pixels in place. It takes no memory, keeps nothing after a call,
+ * has no global state, and sets neither errno nor signals, so there is nothing to initialize and nothing to free.
+ *
+ *     pix_rgba8 pixels[64 * 64];
+ *     pix_image image = pix_image_of(pixels, 64, 64);
+ *     pix_command list[2];
+ *     list[0] = pix_copy_color(pix_region_of(0, 0, 64, 64), pix_rgba8_of(0, 0, 64, 255));
+ *     list[1] = pix_composite_color(pix_region_of(50, -8, 20, 20), pix_rgba8_of(90, 40, 0, 128), PIX_OP_SRC_OVER);
+ *     if (pix_run(image, list, 2, NULL) != PIX_OK) ..
+ *
+ * Pixels. Compositing works on premultiplied, linear pixels: the color channels are multiplied by the alpha, and they
+ * are proportional to light. Images as files hold them are mostly sRGB and not premultiplied; pix_convert turns one
+ * into the other. There are three kinds of images, and each function on them stands three times:
+ *
+ *     pix_image          pix_rgba8    8 bits a channel: red, green, blue, alpha
+ *     pix_image_rgba16   pix_rgba16   16 bits a channel; its functions and types end in _rgba16
+ *     pix_image_graya8   pix_graya8   8 bits a channel: gray, alpha; its functions and types end in _graya8
+ *
+ * They are documented for the first kind; the others differ in their types alone.
+ *
+ * Regions lie anywhere, also partly or wholly outside an image: only points inside are read and written.
+ *
+ * Statuses. A call that answers PIX_OK has done all that was asked for. A call that answers anything else has changed
+ * no pixel: all commands of a list are tested before the first one is run.
+ *
+ * Duties of the caller, which no function can test. Breaking one is undefined behavior:
+ *
+ *   - A pointer is valid for as many elements as the sizes beside it say, and aligned for its type. An image has
+ *     (height - 1) * stride + width pixels, from its first to its last one, and none where its height is 0.
+ *   - While an image is written, all of these pixels belong to the call, those between its rows too: no other thread
+ *     reads or writes them. What is only read may be read by others, and is written by none.
+ *   - Commands are made by the functions of this header. What they point to lives until they have run.
+ *
+ * Calls on different images may run at once in different threads.
+ *
+ * A source must not share memory with the image that is written. That is tested: see PIX_OVERLAP.
+ *
+ * Needs C99 or C++11. Link the program with libpix_c.a; it needs memset, memcpy and memmove, and nothing else.
+ */
+#ifndef PIX_H
+#define PIX_H
+
+#include <stddef.h>
+#include <stdint.h>
+#include <string.h>
+
+#ifdef __cplusplus
+extern "C" {
+#endif
+
+/* ---- Pixels and regions ---- */
+
+/* A pixel of 8 bits a channel, from 0 (none) to 255 (all). No color channel should exceed the alpha, though any may. */
+typedef struct { uint8_t r, g, b, a; } pix_rgba8;
+
+/* A pixel of 16 bits a channel, from 0 to 65535, in the byte order of the machine. */
+typedef struct { uint16_t r, g, b, a; } pix_rgba16;
+
+/* A gray pixel of 8 bits a channel. */
+typedef struct { uint8_t value, a; } pix_graya8;
+
+/* A rectangle of points: x grows to the right, y downwards, and (0, 0) is the upper left point of an image.
+ * A side of at most 2147483647 is accepted. */
+typedef struct { int32_t x, y; uint32_t width, height; } pix_region;
+
+/* ---- Images: views of the caller's memory, passed by value ---- */
+
+/* Rows of pixels from top to bottom. `stride` is the distance from a row to the next, in pixels and not in bytes. It is
+ * at least the width, or 0, which means the width: rows without padding. Pixels between rows are not changed. */
+typedef struct { pix_rgba8 *pixels; uint32_t width, height, stride; } pix_image;
+typedef struct { pix_rgba16 *pixels; uint32_t width, height, stride; } pix_image_rgba16;
+typedef struct { pix_graya8 *pixels; uint32_t width, height, stride; } pix_image_graya8;
+
+/* An image that is only read. */
+typedef struct { const pix_rgba8 *pixels; uint32_t width, height, stride; } pix_source;
+typedef struct { const pix_rgba16 *pixels; uint32_t width, height, stride; } pix_source_rgba16;
+typedef struct { const pix_graya8 *pixels; uint32_t width, height, stride; } pix_source_graya8;
+
+/* A mask: how much of a color enters at each point, from 0 (none) to 255 (all), or to 65535 in pix_matte16.
+ * pix_matte goes with images of 8 bits a channel, pix_matte16 with those of 16. The stride is counted in values. */
+typedef struct { const uint8_t *values; uint32_t width, height, stride; } pix_matte;
+typedef struct { const uint16_t *values; uint32_t width, height, stride; } pix_matte16;
+
+/* ---- Operators, formats, statuses ---- */
+
+/* The operators of Porter and Duff, and the sum. Each channel of the outcome, the alpha too, is that of the term beside
+ * it, where s and d are the channels of source and destination and sa and da the alphas as fractions. Products are
+ * rounded to the nearest, and a sum stops at the greatest value. */
+typedef enum {
+    PIX_OP_SRC = 0,        /* s */
+    PIX_OP_DEST = 1,       /* d */
+    PIX_OP_SRC_OVER = 2,   /* s + d * (1 - sa): the usual one */
+    PIX_OP_DEST_OVER = 3,  /* s * (1 - da) + d */
+    PIX_OP_SRC_OUT = 4,    /* s * (1 - da) */
+    PIX_OP_DEST_OUT = 5,   /* d * (1 - sa) */
+    PIX_OP_SRC_IN = 6,     /* s * da */
+    PIX_OP_DEST_IN = 7,    /* d * sa */
+    PIX_OP_SRC_ATOP = 8,   /* s * da + d * (1 - sa) */
+    PIX_OP_DEST_ATOP = 9,  /* s * (1 - da) + d * sa */
+    PIX_OP_XOR = 10,       /* s * (1 - da) + d * (1 - sa) */
+    PIX_OP_CLEAR = 11,     /* 0 */
+    PIX_OP_PLUS = 12       /* s + d */
+} pix_op;
+
+/* Formats of pix_convert: one byte a channel, in the order of the name. S: the colors are encoded by the sRGB curve, as
+ * in most files; without S they are linear. P at the end: the colors are multiplied by the alpha. */
+typedef enum {
+    PIX_FORMAT_SRGBA8 = 0,
+    PIX_FORMAT_SRGBA8P = 1,
+    PIX_FORMAT_RGBA8 = 2,
+    PIX_FORMAT_RGBA8P = 3, /* the format of pix_rgba8 */
+    PIX_FORMAT_BGRA8 = 4,
+    PIX_FORMAT_BGRA8P = 5,
+    PIX_FORMAT_RGB8 = 6,
+    PIX_FORMAT_GRAY8 = 7,
+    PIX_FORMAT_SBGRA8 = 8,
+    PIX_FORMAT_SBGRA8P = 9,
+    PIX_FORMAT_SRGB8 = 10,
+    PIX_FORMAT_SGRAY8 = 11
+} pix_format;
+
+/* What a call answers. */
+typedef enum {
+    PIX_OK = 0,         /* done */
+    PIX_BAD_SIZE = 1,   /* the image: a side above 2147483647, a stride below the width, or more than memory can hold */
+    PIX_BAD_KIND = 2,   /* a command that no function of this header made */
+    PIX_BAD_REGION = 3, /* a region of a command has a side above 2147483647 */
+    PIX_BAD_OP = 4,     /* no such operator */
+    PIX_BAD_SOURCE = 5, /* the source or the matte of a command: as PIX_BAD_SIZE */
+    PIX_BAD_FORMAT = 6, /* no such format */
+    PIX_BAD_LENGTH = 7, /* more pixels to convert than memory can hold */
+    PIX_NULL = 8,       /* a pointer is null, and what it points to is not empty */
+    PIX_OVERLAP = 9     /* a source, a matte or the list of commands shares memory with what is written */
+} pix_status;
+
+/* A line of English that says what a status means. */
+static inline const char *pix_status_text(pix_status status);
+
+/* ---- Values and views ---- */
+
+static inline pix_rgba8 pix_rgba8_of(uint8_t r, uint8_t g, uint8_t b, uint8_t a) {
+    pix_rgba8 pixel = {r, g, b, a};
+    return pixel;
+}
+
+static inline pix_rgba16 pix_rgba16_of(uint16_t r, uint16_t g, uint16_t b, uint16_t a) {
+    pix_rgba16 pixel = {r, g, b, a};
+    return pixel;
+}
+
+static inline pix_graya8 pix_graya8_of(uint8_t value, uint8_t a) {
+    pix_graya8 pixel = {value, a};
+    return pixel;
+}
+
+static inline pix_region pix_region_of(int32_t x, int32_t y, uint32_t width, uint32_t height) {
+    pix_region region = {x, y, width, height};
+    return region;
+}
+
+/* Views of rows without padding; set `stride` afterwards where there is some. */
+static inline pix_image pix_image_of(pix_rgba8 *pixels, uint32_t width, uint32_t height);
+static inline pix_source pix_source_of(const pix_rgba8 *pixels, uint32_t width, uint32_t height);
+
+static inline pix_matte pix_matte_of(const uint8_t *values, uint32_t width, uint32_t height) {
+    pix_matte matte = {values, width, height, width};
+    return matte;
+}
+
+static inline pix_matte16 pix_matte16_of(const uint16_t *values, uint32_t width, uint32_t height) {
+    pix_matte16 matte = {values, width, height, width};
+    return matte;
+}
+
+/* An image as a source for another one. */
+static inline pix_source pix_source_of_image(pix_image image);
+
+/* ---- Commands ----
+ *
+ * A command holds the pointers of its source, and not the pixels. Making one tests nothing; pix_run does.
+ *
+ * Where there are two regions, the point of `from` that is as far from its upper left corner as a point of `to` is from
+ * its own goes there. A point is changed where both regions and both images have it: the two corners are always
+ * paired, also where one of them lies outside its image. */
+
+/* A command, laid out as the library reads it: make it by the functions below, and don't touch its members. */
+typedef struct {
+    uint32_t kind, op;
+    pix_region to, from;
+    pix_rgba8 color;
+    const pix_rgba8 *pixels; size_t pixel_count;
+    const uint8_t *mattes; size_t matte_count;
+    uint32_t width, height, stride;
+} pix_command;
+
+/* Makes all pixels of the image transparent: all channels 0. */
+static inline pix_command pix_clear(void);
+
+/* Replaces the pixels of `to` by a color. */
+static inline pix_command pix_copy_color(pix_region to, pix_rgba8 color);
+
+/* Replaces the pixels of `to` by those of `from` in a source. */
+static inline pix_command pix_copy_image(pix_region to, pix_source source, pix_region from);
+
+/* Composites a color with the pixels of `to`. */
+static inline pix_command pix_composite_color(pix_region to, pix_rgba8 color, pix_op op);
+
+/* Composites the pixels of `from` in a source with those of `to`: a sprite. */
+static inline pix_command pix_composite_image(pix_region to, pix_source source, pix_region from, pix_op op);
+
+/* Composites a color, multiplied by the values of `from` in a matte, with the pixels of `to`: a glyph. */
+static inline pix_command pix_composite_matte(pix_region to, pix_matte matte, pix_region from, pix_rgba8 color,
+                                              pix_op op);
+
+/* ---- Calls ---- */
+
+/* Runs a list of `count` commands on an image, in order, or none of them.
+ *
+ * `done`, which may be null, is set to `count` after PIX_OK, and else to the index of the first command that was
+ * refused, or to 0 where the image or the list itself was. Pointers and overlaps are tested for the whole list before
+ * all else. `commands` may be null where `count` is 0.
+ *
+ * Answers PIX_OK, PIX_BAD_SIZE, PIX_BAD_KIND, PIX_BAD_REGION, PIX_BAD_OP, PIX_BAD_SOURCE, PIX_NULL or PIX_OVERLAP. */
+static inline pix_status pix_run(pix_image image, const pix_command *commands, size_t count, size_t *done);
+
+/* Runs one command. */
+static inline pix_status pix_do(pix_image image, pix_command command);
+
+/* How many bytes a pixel of a format has, from 1 to 4, and 0 where there is no such format. */
+static inline size_t pix_format_size(pix_format format);
+
+/* Converts `count` pixels of the format `from` at `src` to the format `to` at `dst`. Both are bytes without padding:
+ * count * pix_format_size(from) and count * pix_format_size(to) of them. They must not share memory, not even where
+ * both formats are of one size. An alpha that `from` lacks is 255. One that `to` lacks is dropped, and colors that were
+ * multiplied by it stay so.
+ *
+ * Answers PIX_OK, PIX_BAD_FORMAT, PIX_BAD_LENGTH, PIX_NULL or PIX_OVERLAP. */
+static inline pix_status pix_convert(pix_format from, pix_format to, const void *src, void *dst, size_t count);
+
+/* ---- The other kinds of pixels ---- */
+
+typedef struct {
+    uint32_t kind, op;
+    pix_region to, from;
+    pix_rgba16 color;
+    const pix_rgba16 *pixels; size_t pixel_count;
+    const uint16_t *mattes; size_t matte_count;
+    uint32_t width, height, stride;
+} pix_command_rgba16;
+
+typedef struct {
+    uint32_t kind, op;
+    pix_region to, from;
+    pix_graya8 color;
+    const pix_graya8 *pixels; size_t pixel_count;
+    const uint8_t *mattes; size_t matte_count;
+    uint32_t width, height, stride;
+} pix_command_graya8;
+
+/* pix_image_of_rgba16, pix_source_of_rgba16, pix_source_of_image_rgba16, pix_clear_rgba16, pix_copy_color_rgba16,
+ * pix_copy_image_rgba16, pix_composite_color_rgba16, pix_composite_image_rgba16, pix_composite_matte_rgba16 (through a
+ * pix_matte16), pix_run_rgba16, pix_do_rgba16; and the same with _graya8 (through a pix_matte). They are defined below
+ * together with those above. */
+
+/* ---- What libpix_c.a has ----
+ *
+ * The functions above go through these four, which are proved. They test sizes, kinds, regions, operators, sources,
+ * formats and lengths; no pointer may be null here, also where its length is 0, and nothing may overlap. `stride` is
+ * at least the width. */
+
+uint32_t pix_run_commands(pix_rgba8 *pixels, size_t pixel_count, uint32_t width, uint32_t height, uint32_t stride,
+                          const pix_command *commands, size_t command_count, size_t *done);
+uint32_t pix_run_commands_rgba16(pix_rgba16 *pixels, size_t pixel_count, uint32_t width, uint32_t height,
+                                 uint32_t stride, const pix_command_rgba16 *commands, size_t command_count,
+                                 size_t *done);
+uint32_t pix_run_commands_graya8(pix_graya8 *pixels, size_t pixel_count, uint32_t width, uint32_t height,
+                                 uint32_t stride, const pix_command_graya8 *commands, size_t command_count,
+                                 size_t *done);
+uint32_t pix_convert_bytes(uint32_t from, uint32_t to, const uint8_t *src, size_t src_len, uint8_t *dst, size_t dst_len,
+                           size_t count);
+
+/* ---- Definitions. Nothing below is for callers. ---- */
+
+/* The layout that the library was compiled for, at any size of pointers. */
+#if defined(__cplusplus)
+#define PIX_ASSERT_(name, condition) static_assert(condition, #name)
+#elif defined(__STDC_VERSION__) && __STDC_VERSION__ >= 201112L
+#define PIX_ASSERT_(name, condition) _Static_assert(condition, #name)
+#else
+#define PIX_ASSERT_(name, condition) typedef char pix_assert_##name##_[(condition) ? 1 : -1]
+#endif
+
+PIX_ASSERT_(lengths, sizeof(size_t) == sizeof(void *));
+PIX_ASSERT_(rgba8, sizeof(pix_rgba8) == 4 && offsetof(pix_rgba8, g) == 1 && offsetof(pix_rgba8, a) == 3);
+PIX_ASSERT_(rgba16, sizeof(pix_rgba16) == 8 && offsetof(pix_rgba16, g) == 2 && offsetof(pix_rgba16, a) == 6);
+PIX_ASSERT_(graya8, sizeof(pix_graya8) == 2 && offsetof(pix_graya8, a) == 1);
+PIX_ASSERT_(region, sizeof(pix_region) == 16 && offsetof(pix_region, width) == 8);
+
+/* The next multiple of a pointer's size, and the offset of word number `n` after the color of a command. */
+#define PIX_ROUND_(n) (((n) + sizeof(void *) - 1) / sizeof(void *) * sizeof(void *))
+#define PIX_WORD_(n, PIXEL) (PIX_ROUND_(40 + sizeof(PIXEL)) + (n) * sizeof(void *))
+#define PIX_LAYOUT_(command, PIXEL)                                                                                    \
+    PIX_ASSERT_(kind_##command, offsetof(command, kind) == 0 && offsetof(command, op) == 4);                           \
+    PIX_ASSERT_(to_##command, offsetof(command, to) == 8 && offsetof(command, from) == 24);                            \
+    PIX_ASSERT_(color_##command, offsetof(command, color) == 40);                                                      \
+    PIX_ASSERT_(pixels_##command, offsetof(command, pixels) == PIX_WORD_(0, PIXEL));                                   \
+    PIX_ASSERT_(pixel_count_##command, offsetof(command, pixel_count) == PIX_WORD_(1, PIXEL));                         \
+    PIX_ASSERT_(mattes_##command, offsetof(command, mattes) == PIX_WORD_(2, PIXEL));                                   \
+    PIX_ASSERT_(matte_count_##command, offsetof(command, matte_count) == PIX_WORD_(3, PIXEL));                         \
+    PIX_ASSERT_(width_##command, offsetof(command, width) == PIX_WORD_(4, PIXEL));                                     \
+    PIX_ASSERT_(height_##command, offsetof(command, height) == PIX_WORD_(4, PIXEL) + 4);                               \
+    PIX_ASSERT_(stride_##command, offsetof(command, stride) == PIX_WORD_(4, PIXEL) + 8);                               \
+    PIX_ASSERT_(size_of_##command, sizeof(command) == PIX_ROUND_(PIX_WORD_(4, PIXEL) + 12))
+
+PIX_LAYOUT_(pix_command, pix_rgba8);
+PIX_LAYOUT_(pix_command_rgba16, pix_rgba16);
+PIX_LAYOUT_(pix_command_graya8, pix_graya8);
+
+/* An address for slices of no elements, aligned for every type above. It is never read. */
+static const uint64_t pix_nothing_ = 0;
+
+/* How many elements an image has from its first to its last one; 0 where no memory could hold them, and then the
+ * library refuses the size. */
+static inline size_t pix_extent_(uint32_t width, uint32_t height, uint32_t stride, size_t element) {
+    uint64_t extent = height == 0 ? 0 : (uint64_t)(height - 1) * stride + width;
+    return extent <= (uint64_t)PTRDIFF_MAX / element ? (size_t)extent : 0;
+}
+
+/* Tests what is read beside what is written: both lengths are in bytes. */
+static inline pix_status pix_apart_(const void *written, size_t written_bytes, const void *read, size_t read_bytes) {
+    uintptr_t w = (uintptr_t)written, r = (uintptr_t)read;
+    if (!written || !read)
+        return PIX_NULL;
+    if (!written_bytes || !read_bytes)
+        return PIX_OK;
+    return (w < r ? r - w < written_bytes : w - r < read_bytes) ? PIX_OVERLAP : PIX_OK;
+}
+
+static inline const char *pix_status_text(pix_status status) {
+    switch (status) {
+    case PIX_OK: return "done";
+    case PIX_BAD_SIZE: return "the image has a side above 2147483647, a stride below its width, or too many pixels";
+    case PIX_BAD_KIND: return "no such kind of command";
+    case PIX_BAD_REGION: return "a region has a side above 2147483647";
+    case PIX_BAD_OP: return "no such operator";
+    case PIX_BAD_SOURCE: return "a source has a side above 2147483647, a stride below its width, or too many pixels";
+    case PIX_BAD_FORMAT: return "no such format";
+    case PIX_BAD_LENGTH: return "too many pixels to convert";
+    case PIX_NULL: return "a pointer is null";
+    case PIX_OVERLAP: return "a source shares memory with what is written";
+    }
+    return "no such status";
+}
+
+/* Notes a source in `command`: its size, and its elements by address and number. */
+#define PIX_NOTE_(source, elements, source_elements, count)                                                            \
+    command.width = source.width;                                                                                      \
+    command.height = source.height;                                                                                    \
+    command.stride = source.stride ? source.stride : source.width;                                                     \
+    command.count = pix_extent_(command.width, command.height, command.stride, sizeof *command.elements);              \
+    if (source.source_elements || command.count)                                                                       \
+        command.elements = source.source_elements
+
+/* The views and commands of one kind of pixels: the end of their names, the pixel, the matte and its values. */
+#define PIX_COMMANDS_(S, PIXEL, MATTE, VALUE)                                                                          \
+    static inline pix_image##S pix_image_of##S(PIXEL *pixels, uint32_t width, uint32_t height) {                       \
+        pix_image##S image = {pixels, width, height, width};                                                           \
+        return image;                                                                                                  \
+    }                                                                                                                  \
+    static inline pix_source##S pix_source_of##S(const PIXEL *pixels, uint32_t width, uint32_t height) {               \
+        pix_source##S source = {pixels, width, height, width};                                                         \
+        return source;                                                                                                 \
+    }                                                                                                                  \
+    static inline pix_source##S pix_source_of_image##S(pix_image##S image) {                                           \
+        pix_source##S source = {image.pixels, image.width, image.height, image.stride};                                \
+        return source;                                                                                                 \
+    }                                                                                                                  \
+    /* A command without a source. */                                                                                  \
+    static inline pix_command##S pix_command_of_##S(uint32_t kind, pix_op op, pix_region to, pix_region from) {        \
+        pix_command##S command;                                                                                        \
+        memset(&command, 0, sizeof command);                                                                           \
+        command.kind = kind;                                                                                           \
+        command.op = (uint32_t)op;                                                                                     \
+        command.to = to;                                                                                               \
+        command.from = from;                                                                                           \
+        command.pixels = (const PIXEL *)(const void *)&pix_nothing_;                                                   \
+        command.mattes = (const VALUE *)(const void *)&pix_nothing_;                                                   \
+        return command;                                                                                                \
+    }                                                                                                                  \
+    static inline pix_command##S pix_clear##S(void) {                                                                  \
+        return pix_command_of_##S(0, PIX_OP_SRC, pix_region_of(0, 0, 0, 0), pix_region_of(0, 0, 0, 0));                \
+    }                                                                                                                  \
+    static inline pix_command##S pix_copy_color##S(pix_region to, PIXEL color) {                                       \
+        pix_command##S command = pix_command_of_##S(1, PIX_OP_SRC, to, pix_region_of(0, 0, 0, 0));                     \
+        command.color = color;                                                                                         \
+        return command;                                                                                                \
+    }                                                                                                                  \
+    static inline pix_command##S pix_copy_image##S(pix_region to, pix_source##S source, pix_region from) {             \
+        pix_command##S command = pix_command_of_##S(2, PIX_OP_SRC, to, from);                                          \
+        PIX_NOTE_(source, pixels, pixels, pixel_count);                                                                \
+        return command;                                                                                                \
+    }                                                                                                                  \
+    static inline pix_command##S pix_composite_color##S(pix_region to, PIXEL color, pix_op op) {                       \
+        pix_command##S command = pix_command_of_##S(3, op, to, pix_region_of(0, 0, 0, 0));                             \
+        command.color = color;                                                                                         \
+        return command;                                                                                                \
+    }                                                                                                                  \
+    static inline pix_command##S pix_composite_image##S(pix_region to, pix_source##S source, pix_region from,          \
+                                                        pix_op op) {                                                   \
+        pix_command##S command = pix_command_of_##S(4, op, to, from);                                                  \
+        PIX_NOTE_(source, pixels, pixels, pixel_count);                                                                \
+        return command;                                                                                                \
+    }                                                                                                                  \
+    static inline pix_command##S pix_composite_matte##S(pix_region to, MATTE matte, pix_region from, PIXEL color,      \
+                                                        pix_op op) {                                                   \
+        pix_command##S command = pix_command_of_##S(5, op, to, from);                                                  \
+        command.color = color;                                                                                         \
+        PIX_NOTE_(matte, mattes, values, matte_count);                                                                 \
+        return command;                                                                                                \
+    }
+
+/* The calls of one kind of pixels. */
+#define PIX_CALLS_(S, PIXEL, VALUE)                                                                                    \
+    /* Tests the pointers of a command beside the bytes that are written. */                                           \
+    static inline pix_status pix_beside_##S(const void *written, size_t bytes, const pix_command##S *command) {        \
+        pix_status status = pix_apart_(written, bytes, command->pixels, command->pixel_count * sizeof(PIXEL));         \
+        if (status != PIX_OK)                                                                                          \
+            return status;                                                                                             \
+        return pix_apart_(written, bytes, command->mattes, command->matte_count * sizeof(VALUE));                      \
+    }                                                                                                                  \
+    static inline pix_status pix_run##S(pix_image##S image, const pix_command##S *commands, size_t count,              \
+                                         size_t *done) {                                                               \
+        uint32_t stride = image.stride ? image.stride : image.width;                                                   \
+        size_t extent = pix_extent_(image.width, image.height, stride, sizeof(PIXEL)), at = 0;                         \
+        uint64_t nothing = 0;                                                                                          \
+        void *pixels = image.pixels || extent ? (void *)image.pixels : (void *)&nothing;                               \
+        const void *list = commands || count ? (const void *)commands : (const void *)&pix_nothing_;                   \
+        pix_status status = pix_apart_(pixels, extent * sizeof(PIXEL), list, count * sizeof *commands);                \
+        while (status == PIX_OK && at < count) {                                                                       \
+            status = pix_beside_##S(pixels, extent * sizeof(PIXEL), &commands[at]);                                    \
+            at += status == PIX_OK;                                                                                    \
+        }                                                                                                              \
+        if (status == PIX_OK)                                                                                          \
+            status = (pix_status)pix_run_commands##S((PIXEL *)pixels, extent, image.width, image.height, stride,       \
+                                                     (const pix_command##S *)list, count, &at);                        \
+        if (done)                                                                                                      \
+            *done = at;                                                                                                \
+        return status;                                                                                                 \
+    }                                                                                                                  \
+    static inline pix_status pix_do##S(pix_image##S image, pix_command##S command) {                                   \
+        return pix_run##S(image, &command, 1, NULL);                                                                   \
+    }
+
+PIX_COMMANDS_(, pix_rgba8, pix_matte, uint8_t)
+PIX_COMMANDS_(_rgba16, pix_rgba16, pix_matte16, uint16_t)
+PIX_COMMANDS_(_graya8, pix_graya8, pix_matte, uint8_t)
+PIX_CALLS_(, pix_rgba8, uint8_t)
+PIX_CALLS_(_rgba16, pix_rgba16, uint16_t)
+PIX_CALLS_(_graya8, pix_graya8, uint8_t)
+
+static inline size_t pix_format_size(pix_format format) {
+    static const uint8_t sizes[] = {4, 4, 4, 4, 4, 4, 3, 1, 4, 4, 3, 1};
+    return (size_t)format < sizeof sizes ? sizes[format] : 0;
+}
+
+static inline pix_status pix_convert(pix_format from, pix_format to, const void *src, void *dst, size_t count) {
+    size_t src_size = pix_format_size(from), dst_size = pix_format_size(to);
+    uint64_t nothing = 0;
+    pix_status status;
+    if (!src_size || !dst_size)
+        return PIX_BAD_FORMAT;
+    if (count > (size_t)PTRDIFF_MAX / 4)
+        return PIX_BAD_LENGTH;
+    if (!count) {
+        src = &pix_nothing_;
+        dst = &nothing;
+    }
+    status = pix_apart_(dst, count * dst_size, src, count * src_size);
+    if (status != PIX_OK)
+        return status;
+    return (pix_status)pix_convert_bytes((uint32_t)from, (uint32_t)to, (const uint8_t *)src, count * src_size,
+                                         (uint8_t *)dst, count * dst_size, count);
+}
+
+#undef PIX_ASSERT_
+#undef PIX_ROUND_
+#undef PIX_WORD_
+#undef PIX_LAYOUT_
+#undef PIX_NOTE_
+#undef PIX_COMMANDS_
+#undef PIX_CALLS_
+
+#ifdef __cplusplus
+}
+#endif
+#endif

@@ -1,0 +1,217 @@
+//! The C interface of the library `pix`: the four functions of `libpix_c.a` and the types that cross to it.
+//!
+//! `bindings/c/pix.h` documents it. Programs in Rust use the crate `pix` above this one, which is safe.
+#![no_std]
+
+use core::mem::{offset_of, size_of};
+
+/// Red, green, blue and alpha of 8 bits, premultiplied and linear.
+#[repr(C)]
+#[derive(Clone, Copy, Debug, Default, PartialEq, Eq, Hash)]
+pub struct Rgba8 {
+    pub r: u8,
+    pub g: u8,
+    pub b: u8,
+    pub a: u8,
+}
+
+impl Rgba8 {
+    pub const fn new(r: u8, g: u8, b: u8, a: u8) -> Rgba8 {
+        Rgba8 { r, g, b, a }
+    }
+}
+
+/// Red, green, blue and alpha of 16 bits, premultiplied and linear.
+#[repr(C)]
+#[derive(Clone, Copy, Debug, Default, PartialEq, Eq, Hash)]
+pub struct Rgba16 {
+    pub r: u16,
+    pub g: u16,
+    pub b: u16,
+    pub a: u16,
+}
+
+impl Rgba16 {
+    pub const fn new(r: u16, g: u16, b: u16, a: u16) -> Rgba16 {
+        Rgba16 { r, g, b, a }
+    }
+}
+
+/// Gray and alpha of 8 bits, premultiplied and linear.
+#[repr(C)]
+#[derive(Clone, Copy, Debug, Default, PartialEq, Eq, Hash)]
+pub struct Graya8 {
+    pub value: u8,
+    pub a: u8,
+}
+
+impl Graya8 {
+    pub const fn new(value: u8, a: u8) -> Graya8 {
+        Graya8 { value, a }
+    }
+}
+
+/// A rectangle of points, anywhere; a side of at most 2147483647 is accepted.
+#[repr(C)]
+#[derive(Clone, Copy, Debug, Default, PartialEq, Eq, Hash)]
+pub struct Region {
+    pub x: i32,
+    pub y: i32,
+    pub width: u32,
+    pub height: u32,
+}
+
+impl Region {
+    pub const fn new(x: i32, y: i32, width: u32, height: u32) -> Region {
+        Region {
+            x,
+            y,
+            width,
+            height,
+        }
+    }
+}
+
+/// A command on pixels `P` with mattes `M`. No pointer is null, also where its count is 0.
+#[repr(C)]
+#[derive(Clone, Copy, Debug)]
+pub struct Command<P, M> {
+    pub kind: u32,
+    pub op: u32,
+    pub to: Region,
+    pub from: Region,
+    pub color: P,
+    pub pixels: *const P,
+    pub pixel_count: usize,
+    pub mattes: *const M,
+    pub matte_count: usize,
+    pub width: u32,
+    pub height: u32,
+    pub stride: u32,
+}
+
+/// Kinds of commands.
+pub mod kind {
+    pub const CLEAR: u32 = 0;
+    pub const COPY_COLOR: u32 = 1;
+    pub const COPY_IMAGE: u32 = 2;
+    pub const COMPOSITE_COLOR: u32 = 3;
+    pub const COMPOSITE_IMAGE: u32 = 4;
+    pub const COMPOSITE_MATTE: u32 = 5;
+}
+
+/// What the functions answer.
+pub mod status {
+    pub const OK: u32 = 0;
+    pub const BAD_SIZE: u32 = 1;
+    pub const BAD_KIND: u32 = 2;
+    pub const BAD_REGION: u32 = 3;
+    pub const BAD_OP: u32 = 4;
+    pub const BAD_SOURCE: u32 = 5;
+    pub const BAD_FORMAT: u32 = 6;
+    pub const BAD_LENGTH: u32 = 7;
+}
+
+/// A function that runs commands on pixels `P` with mattes `M`.
+pub type RunCommands<P, M> = unsafe extern "C" fn(
+    *mut P,
+    usize,
+    u32,
+    u32,
+    u32,
+    *const Command<P, M>,
+    usize,
+    *mut usize,
+) -> u32;
+
+#[link(name = "pix_c", kind = "static")]
+unsafe extern "C" {
+    /// Runs all commands on an image of `Rgba8`, or none; `done` is their number, or the index of the refused one.
+    ///
+    /// # Safety
+    ///
+    /// The pointers are valid for their counts, aligned and not null, those of the commands too. Nothing else reads
+    /// or writes the pixels during the call.
+    pub fn pix_run_commands(
+        pixels: *mut Rgba8,
+        pixel_count: usize,
+        width: u32,
+        height: u32,
+        stride: u32,
+        commands: *const Command<Rgba8, u8>,
+        command_count: usize,
+        done: *mut usize,
+    ) -> u32;
+
+    /// The same on an image of `Rgba16`.
+    ///
+    /// # Safety
+    ///
+    /// As `pix_run_commands`.
+    pub fn pix_run_commands_rgba16(
+        pixels: *mut Rgba16,
+        pixel_count: usize,
+        width: u32,
+        height: u32,
+        stride: u32,
+        commands: *const Command<Rgba16, u16>,
+        command_count: usize,
+        done: *mut usize,
+    ) -> u32;
+
+    /// The same on an image of `Graya8`.
+    ///
+    /// # Safety
+    ///
+    /// As `pix_run_commands`.
+    pub fn pix_run_commands_graya8(
+        pixels: *mut Graya8,
+        pixel_count: usize,
+        width: u32,
+        height: u32,
+        stride: u32,
+        commands: *const Command<Graya8, u8>,
+        command_count: usize,
+        done: *mut usize,
+    ) -> u32;
+
+    /// Converts `count` pixels from a format to another one.
+    ///
+    /// # Safety
+    ///
+    /// The pointers are valid for their lengths and not null, and what is written shares no byte with what is read.
+    pub fn pix_convert_bytes(
+        from: u32,
+        to: u32,
+        src: *const u8,
+        src_len: usize,
+        dst: *mut u8,
+        dst_len: usize,
+        count: usize,
+    ) -> u32;
+}
+
+/// Whether a command is laid out as the library reads it.
+const fn is_laid_out<P, M>() -> bool {
+    let word = size_of::<usize>();
+    let slices = (40 + size_of::<P>()).next_multiple_of(word);
+    let sizes = slices + 4 * word;
+    offset_of!(Command<P, M>, kind) == 0
+        && offset_of!(Command<P, M>, op) == 4
+        && offset_of!(Command<P, M>, to) == 8
+        && offset_of!(Command<P, M>, from) == 24
+        && offset_of!(Command<P, M>, color) == 40
+        && offset_of!(Command<P, M>, pixels) == slices
+        && offset_of!(Command<P, M>, pixel_count) == slices + word
+        && offset_of!(Command<P, M>, mattes) == slices + 2 * word
+        && offset_of!(Command<P, M>, matte_count) == slices + 3 * word
+        && offset_of!(Command<P, M>, width) == sizes
+        && offset_of!(Command<P, M>, height) == sizes + 4
+        && offset_of!(Command<P, M>, stride) == sizes + 8
+        && size_of::<Command<P, M>>() == (sizes + 12).next_multiple_of(word)
+}
+
+const _: () = assert!(is_laid_out::<Rgba8, u8>() && size_of::<Rgba8>() == 4);
+const _: () = assert!(is_laid_out::<Rgba16, u16>() && size_of::<Rgba16>() == 8);
+const _: () = assert!(is_laid_out::<Graya8, u8>() && size_of::<Graya8>() == 2);
+const _: () = assert!(size_of::<Region>() == 16 && offset_of!(Region, width) == 8);

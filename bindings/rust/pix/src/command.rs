@@ -1,0 +1,162 @@
+//! Commands: changes of an image as values.
+
+use crate::image::Image;
+use crate::pixel::{Pixel, Region};
+use core::marker::PhantomData;
+use core::ptr::NonNull;
+use pix_sys::kind;
+
+/// An operator of Porter and Duff, or the sum.
+///
+/// Each channel of the outcome, the alpha too, is that of the term here, where s and d are the channels of source and
+/// destination and sa and da the alphas as fractions. Products are rounded to the nearest, and a sum stops at the
+/// greatest value.
+#[repr(u32)]
+#[derive(Clone, Copy, Debug, PartialEq, Eq, Hash)]
+pub enum Op {
+    /// s
+    Src = 0,
+    /// d
+    Dest = 1,
+    /// s + d * (1 - sa): the usual one
+    SrcOver = 2,
+    /// s * (1 - da) + d
+    DestOver = 3,
+    /// s * (1 - da)
+    SrcOut = 4,
+    /// d * (1 - sa)
+    DestOut = 5,
+    /// s * da
+    SrcIn = 6,
+    /// d * sa
+    DestIn = 7,
+    /// s * da + d * (1 - sa)
+    SrcAtop = 8,
+    /// s * (1 - da) + d * sa
+    DestAtop = 9,
+    /// s * (1 - da) + d * (1 - sa)
+    Xor = 10,
+    /// 0
+    Clear = 11,
+    /// s + d
+    Plus = 12,
+}
+
+impl Op {
+    /// All operators, in the order of their numbers.
+    pub const ALL: [Op; 13] = [
+        Op::Src,
+        Op::Dest,
+        Op::SrcOver,
+        Op::DestOver,
+        Op::SrcOut,
+        Op::DestOut,
+        Op::SrcIn,
+        Op::DestIn,
+        Op::SrcAtop,
+        Op::DestAtop,
+        Op::Xor,
+        Op::Clear,
+        Op::Plus,
+    ];
+}
+
+/// A change of an image of pixels `P`. It borrows its source until it has run.
+///
+/// Where there are two regions, the point of `from` that is as far from its upper left corner as a point of `to` is
+/// from its own goes there. A point is changed where both regions and both images have it.
+#[repr(transparent)]
+#[derive(Clone, Copy, Debug)]
+pub struct Command<'a, P: Pixel> {
+    raw: pix_sys::Command<P, P::Matte>,
+    source: PhantomData<(&'a [P], &'a [P::Matte])>,
+}
+
+// SAFETY: a command is numbers and shared borrows of numbers.
+unsafe impl<P: Pixel> Send for Command<'_, P> {}
+// SAFETY: as above.
+unsafe impl<P: Pixel> Sync for Command<'_, P> {}
+
+impl<'a, P: Pixel> Command<'a, P> {
+    /// Makes all pixels of the image transparent: all channels 0.
+    pub fn clear() -> Command<'a, P> {
+        Command::plain(kind::CLEAR, Op::Src, Region::default(), P::default())
+    }
+
+    /// Replaces the pixels of `to` by a color.
+    pub fn copy_color(to: Region, color: P) -> Command<'a, P> {
+        Command::plain(kind::COPY_COLOR, Op::Src, to, color)
+    }
+
+    /// Replaces the pixels of `to` by those of `from` in a source.
+    pub fn copy_image(to: Region, source: Image<'a, P>, from: Region) -> Command<'a, P> {
+        Command::plain(kind::COPY_IMAGE, Op::Src, to, P::default()).with_pixels(source, from)
+    }
+
+    /// Composites a color with the pixels of `to`.
+    pub fn composite_color(to: Region, color: P, op: Op) -> Command<'a, P> {
+        Command::plain(kind::COMPOSITE_COLOR, op, to, color)
+    }
+
+    /// Composites the pixels of `from` in a source with those of `to`: a sprite.
+    pub fn composite_image(
+        to: Region,
+        source: Image<'a, P>,
+        from: Region,
+        op: Op,
+    ) -> Command<'a, P> {
+        Command::plain(kind::COMPOSITE_IMAGE, op, to, P::default()).with_pixels(source, from)
+    }
+
+    /// Composites a color, multiplied by the values of `from` in a mask, with the pixels of `to`: a glyph.
+    pub fn composite_matte(
+        to: Region,
+        matte: Image<'a, P::Matte>,
+        from: Region,
+        color: P,
+        op: Op,
+    ) -> Command<'a, P> {
+        let mut command = Command::plain(kind::COMPOSITE_MATTE, op, to, color);
+        command.raw.mattes = matte.pixels.as_ptr();
+        command.raw.matte_count = matte.pixels.len();
+        command.with_size(matte, from)
+    }
+
+    /// A command without a source.
+    fn plain(kind: u32, op: Op, to: Region, color: P) -> Command<'a, P> {
+        let raw = pix_sys::Command {
+            kind,
+            op: op as u32,
+            to,
+            from: Region::default(),
+            color,
+            pixels: NonNull::dangling().as_ptr(),
+            pixel_count: 0,
+            mattes: NonNull::dangling().as_ptr(),
+            matte_count: 0,
+            width: 0,
+            height: 0,
+            stride: 0,
+        };
+        Command {
+            raw,
+            source: PhantomData,
+        }
+    }
+
+    /// The command with a source.
+    fn with_pixels(mut self, source: Image<'a, P>, from: Region) -> Command<'a, P> {
+        self.raw.pixels = source.pixels.as_ptr();
+        self.raw.pixel_count = source.pixels.len();
+        self.with_size(source, from)
+    }
+
+    /// The command with the size of its source.
+    fn with_size<T>(mut self, source: Image<'a, T>, from: Region) -> Command<'a, P> {
+        self.raw.from = from;
+        self.raw.width = source.width;
+        self.raw.height = source.height;
+        self.raw.stride = source.stride;
+        self
+    }
+}

@@ -1,0 +1,56 @@
+//! Why nothing was done.
+
+use core::fmt;
+use pix_sys::status;
+
+/// Why a call was refused. It has changed nothing then.
+///
+/// `index` is that of the refused command in its list; those before it are as they should be.
+#[non_exhaustive]
+#[derive(Clone, Copy, Debug, PartialEq, Eq)]
+pub enum Error {
+    /// The image has a side above 2147483647, a stride below its width, or too few pixels.
+    Size,
+    /// A region has a side above 2147483647.
+    Region { index: usize },
+    /// The source or the mask has a side above 2147483647, a stride below its width, or too few pixels.
+    Source { index: usize },
+    /// The bytes to convert, or those to write, are not those of so many whole pixels.
+    Length,
+    /// A status that this crate doesn't know.
+    Unknown { status: u32, index: usize },
+}
+
+impl Error {
+    /// The error of a status that is not 0.
+    pub(crate) fn of(status: u32, index: usize) -> Error {
+        match status {
+            status::BAD_SIZE => Error::Size,
+            status::BAD_REGION => Error::Region { index },
+            status::BAD_SOURCE => Error::Source { index },
+            status::BAD_LENGTH => Error::Length,
+            _ => Error::Unknown { status, index },
+        }
+    }
+}
+
+impl fmt::Display for Error {
+    fn fmt(&self, f: &mut fmt::Formatter<'_>) -> fmt::Result {
+        match self {
+            Error::Size => f.write_str("the image has a bad size or stride, or too few pixels"),
+            Error::Region { index } => {
+                write!(f, "command {index}: a region has a side above 2147483647")
+            }
+            Error::Source { index } => {
+                write!(
+                    f,
+                    "command {index}: its source has a bad size or stride, or too few pixels"
+                )
+            }
+            Error::Length => f.write_str("the bytes are not those of so many pixels"),
+            Error::Unknown { status, index } => write!(f, "command {index}: status {status}"),
+        }
+    }
+}
+
+impl core::error::Error for Error {}

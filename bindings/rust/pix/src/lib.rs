@@ -1,0 +1,36 @@
+//! Compositing of raster images in the caller's own memory.
+//!
+//! A program makes [`Command`]s and runs a list of them on an [`ImageMut`], which borrows its pixels. The pixels are
+//! changed in place; nothing is allocated and nothing is kept. Below stands a static library that is proved to do what
+//! it says, and this crate is a thin and safe layer over it: borrows see to what the library can't test.
+//!
+//! ```
+//! use pix::{Command, ImageMut, Op, Region, Rgba8};
+//!
+//! let mut pixels = vec![Rgba8::default(); 64 * 64];
+//! let mut image = ImageMut::new(&mut pixels, 64, 64);
+//! image.run(&[
+//!     Command::copy_color(Region::new(0, 0, 64, 64), Rgba8::new(0, 0, 64, 255)),
+//!     Command::composite_color(Region::new(50, -8, 20, 20), Rgba8::new(90, 40, 0, 128), Op::SrcOver),
+//! ])?;
+//! assert_eq!(pixels[63], Rgba8::new(90, 40, 32, 255));
+//! # Ok::<(), pix::Error>(())
+//! ```
+//!
+//! Pixels are premultiplied and linear: the color channels are multiplied by the alpha and proportional to light.
+//! [`convert`] makes them of what image files hold, and back. Regions lie anywhere; what is outside an image is
+//! neither read nor written. A list is tested as a whole before its first command runs, so that an [`Error`] means
+//! that no pixel was changed.
+#![no_std]
+
+mod command;
+mod error;
+mod format;
+mod image;
+mod pixel;
+
+pub use crate::command::{Command, Op};
+pub use crate::error::Error;
+pub use crate::format::{Format, convert};
+pub use crate::image::{Image, ImageMut};
+pub use crate::pixel::{Graya8, Pixel, Region, Rgba8, Rgba16, bytes, bytes_mut};

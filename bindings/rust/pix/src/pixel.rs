@@ -1,0 +1,56 @@
+//! Pixels and regions.
+
+use core::slice;
+
+pub use pix_sys::{Graya8, Region, Rgba8, Rgba16};
+
+/// A pixel that can be composited: [`Rgba8`], [`Rgba16`] or [`Graya8`].
+pub trait Pixel: Copy + Default + private::Calls<Self::Matte> {
+    /// A value of a mask, from 0 (no color enters) to the greatest number (all of it).
+    type Matte: Copy;
+}
+
+pub(crate) mod private {
+    use pix_sys::RunCommands;
+
+    /// The library's call for a kind of pixels.
+    pub trait Calls<M>: Sized {
+        const RUN: RunCommands<Self, M>;
+    }
+}
+
+impl Pixel for Rgba8 {
+    type Matte = u8;
+}
+
+impl private::Calls<u8> for Rgba8 {
+    const RUN: pix_sys::RunCommands<Rgba8, u8> = pix_sys::pix_run_commands;
+}
+
+impl Pixel for Rgba16 {
+    type Matte = u16;
+}
+
+impl private::Calls<u16> for Rgba16 {
+    const RUN: pix_sys::RunCommands<Rgba16, u16> = pix_sys::pix_run_commands_rgba16;
+}
+
+impl Pixel for Graya8 {
+    type Matte = u8;
+}
+
+impl private::Calls<u8> for Graya8 {
+    const RUN: pix_sys::RunCommands<Graya8, u8> = pix_sys::pix_run_commands_graya8;
+}
+
+/// The bytes of pixels, in the order of their channels; those of a channel of 16 bits in the machine's order.
+pub fn bytes<P: Pixel>(pixels: &[P]) -> &[u8] {
+    // SAFETY: the three kinds of pixels are numbers without padding, and the slice is borrowed as long as the pixels.
+    unsafe { slice::from_raw_parts(pixels.as_ptr().cast(), size_of_val(pixels)) }
+}
+
+/// The bytes of pixels, to be written: [`convert`](crate::convert) decodes a picture into them.
+pub fn bytes_mut<P: Pixel>(pixels: &mut [P]) -> &mut [u8] {
+    // SAFETY: as in `bytes`; any bytes are pixels, and the borrow is exclusive.
+    unsafe { slice::from_raw_parts_mut(pixels.as_mut_ptr().cast(), size_of_val(pixels)) }
+}

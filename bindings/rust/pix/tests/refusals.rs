@@ -1,0 +1,239 @@
+//! What is refused, that a refusal changes nothing, and what strides, operators and the other pixels do.
+#![forbid(unsafe_code)]
+
+use pix::{
+    Command, Error, Format, Graya8, Image, ImageMut, Op, Region, Rgba8, Rgba16, bytes, bytes_mut,
+    convert,
+};
+use std::thread;
+
+const LONG: u32 = 1 << 31;
+const WHOLE: Region = Region::new(0, 0, 4, 4);
+const COLOR: Rgba8 = Rgba8::new(9, 9, 9, 9);
+
+/// Sixteen pixels that differ.
+fn pixels() -> Vec<Rgba8> {
+    (0..16).map(|i| Rgba8::new(i, 20, 30, 200)).collect()
+}
+
+/// What a list of a good command and this one answers, after a test that nothing was changed.
+#[track_caller]
+fn answer(command: Command<'_, Rgba8>) -> Option<Error> {
+    let mut image = pixels();
+    let list = [Command::copy_color(WHOLE, COLOR), command];
+    let error = ImageMut::new(&mut image, 4, 4).run(&list).err();
+    assert_eq!(image, pixels());
+    error
+}
+
+#[test]
+fn images_are_tested() {
+    let mut image = pixels();
+    let clear = [Command::clear()];
+    assert_eq!(
+        ImageMut::new(&mut image, LONG, 0).run(&clear),
+        Err(Error::Size)
+    );
+    assert_eq!(
+        ImageMut::new(&mut image, 0, LONG).run(&clear),
+        Err(Error::Size)
+    );
+    assert_eq!(
+        ImageMut::new(&mut image, 4, 5).run(&clear),
+        Err(Error::Size)
+    );
+    assert_eq!(
+        ImageMut::new(&mut image, u32::MAX, u32::MAX).run(&clear),
+        Err(Error::Size)
+    );
+    assert_eq!(
+        ImageMut::with_stride(&mut image, 4, 4, 3).run(&clear),
+        Err(Error::Size)
+    );
+    assert_eq!(
+        ImageMut::with_stride(&mut image, 4, 4, 5).run(&clear),
+        Err(Error::Size)
+    );
+    assert_eq!(image, pixels());
+    assert_eq!(ImageMut::new(&mut [], 0, 7).run(&clear), Ok(()));
+    assert_eq!(ImageMut::new(&mut [], 7, 0).run(&clear), Ok(()));
+    assert_eq!(ImageMut::new(&mut image, 4, 4).run(&[]), Ok(()));
+    assert_eq!(image, pixels());
+}
+
+#[test]
+fn regions_are_tested() {
+    let other = pixels();
+    let source = Image::new(&other, 4, 4);
+    let refused = Some(Error::Region { index: 1 });
+    let wide = Region::new(0, 0, LONG, 1);
+    let high = Region::new(0, 0, 1, u32::MAX);
+    assert_eq!(answer(Command::copy_color(wide, COLOR)), refused);
+    assert_eq!(
+        answer(Command::composite_color(high, COLOR, Op::Xor)),
+        refused
+    );
+    assert_eq!(answer(Command::copy_image(wide, source, WHOLE)), refused);
+    assert_eq!(
+        answer(Command::composite_image(WHOLE, source, high, Op::Plus)),
+        refused
+    );
+}
+
+#[test]
+fn sources_are_tested() {
+    let other = pixels();
+    let refused = Some(Error::Source { index: 1 });
+    for source in [
+        Image::new(&other, LONG, 0),
+        Image::new(&other, 0, LONG),
+        Image::new(&other, 4, 5),
+        Image::with_stride(&other, 4, 4, 3),
+        Image::with_stride(&other, 4, 4, 5),
+    ] {
+        assert_eq!(answer(Command::copy_image(WHOLE, source, WHOLE)), refused);
+        assert_eq!(
+            answer(Command::composite_image(WHOLE, source, WHOLE, Op::SrcOver)),
+            refused
+        );
+    }
+    let matte = Image::new(&[255; 15], 4, 4);
+    let command = Command::composite_matte(WHOLE, matte, WHOLE, COLOR, Op::SrcOver);
+    assert_eq!(answer(command), refused);
+}
+
+#[test]
+fn errors_have_texts() {
+    let text = Error::Region { index: 3 }.to_string();
+    assert_eq!(text, "command 3: a region has a side above 2147483647");
+}
+
+#[test]
+fn lengths_are_tested() {
+    let mut dst = [7; 8];
+    let refused = Err(Error::Length);
+    assert_eq!(
+        convert(Format::Rgba8, &[1; 7], Format::Bgra8, &mut dst),
+        refused
+    );
+    assert_eq!(
+        convert(Format::Rgba8, &[1; 4], Format::Bgra8, &mut dst),
+        refused
+    );
+    assert_eq!(
+        convert(Format::Rgba8, &[1; 12], Format::Bgra8, &mut dst),
+        refused
+    );
+    assert_eq!(
+        convert(Format::Rgba8, &[1; 8], Format::Bgra8, &mut dst[..7]),
+        refused
+    );
+    assert_eq!(dst, [7; 8]);
+    assert_eq!(convert(Format::Rgba8, &[], Format::Gray8, &mut []), Ok(()));
+    assert_eq!(
+        convert(
+            Format::Rgba8,
+            &[1, 2, 3, 4, 5, 6, 7, 8],
+            Format::Bgra8,
+            &mut dst
+        ),
+        Ok(())
+    );
+    assert_eq!(dst, [3, 2, 1, 4, 7, 6, 5, 8]);
+}
+
+#[test]
+fn what_lies_between_rows_stays() {
+    let mut padded = [Rgba8::new(1, 2, 3, 4); 13];
+    let rows: Vec<Rgba8> = (0..13).map(|i| Rgba8::new(i, 0, 0, 255)).collect();
+    let large = Region::new(0, 0, 9, 9);
+    let source = Image::with_stride(&rows, 3, 3, 5);
+    let mut image = ImageMut::with_stride(&mut padded, 3, 3, 5);
+    let copy = Command::copy_image(Region::new(-1, -1, 9, 9), source, large);
+    assert_eq!(image.run(&[copy]), Ok(()));
+    for (i, pixel) in padded.iter().enumerate() {
+        let is_inside = i % 5 < 2 && i / 5 < 2;
+        assert_eq!(usize::from(pixel.r), if is_inside { i + 6 } else { 1 });
+    }
+    let mut image = ImageMut::with_stride(&mut padded, 3, 3, 5);
+    assert_eq!(image.run(&[Command::copy_color(large, COLOR)]), Ok(()));
+    for (i, pixel) in padded.iter().enumerate() {
+        assert_eq!(*pixel == COLOR, i % 5 < 3);
+    }
+}
+
+/// One channel by the two terms of each operator.
+fn composite(op: usize, s: u32, d: u32, sa: u32, da: u32) -> u32 {
+    let times = |a: u32, b: u32| (2 * a * b + 255) / 510;
+    let (na, nb) = (255 - sa, 255 - da);
+    let by_source = [255, 0, 255, nb, nb, 0, da, 0, da, nb, nb, 0, 255];
+    let by_dest = [0, 255, na, 255, 0, na, 0, sa, na, sa, na, 0, 255];
+    (times(s, by_source[op]) + times(d, by_dest[op])).min(255)
+}
+
+#[test]
+fn operators_are_those_of_their_names() {
+    for (number, op) in Op::ALL.into_iter().enumerate() {
+        let (s, d) = (Rgba8::new(90, 17, 0, 130), Rgba8::new(5, 20, 30, 200));
+        let mut pixel = [d];
+        let list = [Command::composite_color(WHOLE, s, op)];
+        assert_eq!(ImageMut::new(&mut pixel, 1, 1).run(&list), Ok(()));
+        let expected = |s: u8, d: u8| composite(number, s.into(), d.into(), 130, 200) as u8;
+        let channels = [
+            expected(s.r, d.r),
+            expected(s.g, d.g),
+            expected(s.b, d.b),
+            expected(s.a, d.a),
+        ];
+        assert_eq!(bytes(&pixel), channels);
+    }
+}
+
+#[test]
+fn wide_and_gray_pixels() {
+    let whole = Region::new(0, 0, 2, 1);
+    let mut wide = [Rgba16::new(1000, 2000, 3000, 65535); 2];
+    let matte = Image::new(&[0, 32768], 2, 1);
+    let color = Rgba16::new(65535, 0, 0, 65535);
+    let list = [Command::composite_matte(
+        whole,
+        matte,
+        whole,
+        color,
+        Op::SrcOver,
+    )];
+    assert_eq!(ImageMut::new(&mut wide, 2, 1).run(&list), Ok(()));
+    assert_eq!(
+        wide,
+        [
+            Rgba16::new(1000, 2000, 3000, 65535),
+            Rgba16::new(33268, 1000, 1500, 65535)
+        ]
+    );
+    let mut gray = [Graya8::new(50, 255); 2];
+    let source = [Graya8::new(100, 200), Graya8::new(0, 0)];
+    let list = [Command::composite_image(
+        whole,
+        Image::new(&source, 2, 1),
+        whole,
+        Op::SrcOver,
+    )];
+    assert_eq!(ImageMut::new(&mut gray, 2, 1).run(&list), Ok(()));
+    assert_eq!(gray, [Graya8::new(111, 255), Graya8::new(50, 255)]);
+    bytes_mut(&mut gray)[0] = 7;
+    assert_eq!(gray[0].value, 7);
+}
+
+#[test]
+fn one_list_paints_in_two_threads() {
+    let other = pixels();
+    let source = Image::new(&other, 4, 4);
+    let list = [Command::copy_image(WHOLE, source, WHOLE)];
+    let (mut first, mut second) = (vec![COLOR; 16], vec![COLOR; 16]);
+    thread::scope(|scope| {
+        scope.spawn(|| ImageMut::new(&mut first, 4, 4).run(&list));
+        scope.spawn(|| ImageMut::new(&mut second, 4, 4).run(&list));
+    });
+    assert_eq!(first, other);
+    assert_eq!(second, other);
+}
