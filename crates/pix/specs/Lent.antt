@@ -15,7 +15,7 @@ pub record IsShaped (shape : Shape) (count : ℕ) : Type 0 where
   pub apart : shape.width ≤ shape.stride
   pub last : (y : ℕ) → y < shape.height → y * shape.stride + shape.width ≤ count
 
--- the new pixels have at each point of the image f of the point and of what stood there, and what stood there between and below the rows
+-- at each point of the image the new pixels have f of the point and of what stood there; beside the image and below it, they have what stood there
 pub record ChangedIn {D : Type 0} (reads : D → List ℕ) (shape : Shape) (old new : List D) (f : ℕ → ℕ → List ℕ → List ℕ) : Type 0 where
   pub points : (x y : ℕ) → x < shape.width → y < shape.height
       → read_at reads shape.stride new x y ≡ f x y (read_at reads shape.stride old x y)
