@@ -3,6 +3,7 @@
 
 pub mod bytes;
 pub mod colors;
+pub mod frames;
 pub mod lists;
 pub mod models;
 pub mod photos;

@@ -1,6 +1,7 @@
 //! Each caller on a small picture.
 use crate::bytes::tint_bytes;
 use crate::colors::{glazed, sunrise, tint_top};
+use crate::frames::flood;
 use crate::lists::{draw, glaze_twice};
 use crate::models::{luminance, red_of};
 use crate::photos;
@@ -10,6 +11,7 @@ use crate::sprites::{draw_glyph, paste};
 use crate::tables::table_and_bytes;
 use pix::chan::Ch8;
 use pix::gray::Gray8;
+use pix::lent::Shape;
 use pix::matte::Matte8;
 use pix::ops::Op;
 use pix::rgb::{Rgb8, Rgba8p, SRgb8};
@@ -234,5 +236,19 @@ fn a_glaze_over_a_photograph(rt: HostRuntime) -> Result<(), Fail> {
     for pixel in shown.pixels() {
         assert_eq!(rt; *pixel, SRgb8::new::<u8>(0xAF, 0x65, 0x92));
     }
+    Ok(())
+}
+
+#[test]
+fn a_window_of_a_frame(rt: HostRuntime) -> Result<(), Fail> {
+    // Three rows of four words, five apart; the region hangs over the right side.
+    let mut words = [7u32; 14];
+    let frame = Shape {
+        width: 4,
+        height: 3,
+        stride: 5,
+    };
+    flood(&mut words, frame, Region::new(2, 1, 9, 9), 1);
+    assert_eq!(rt; words, [7, 7, 7, 7, 7, 7, 7, 1, 1, 7, 7, 7, 1, 1]);
     Ok(())
 }
