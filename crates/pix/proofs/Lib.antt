@@ -4,6 +4,7 @@ pub mod Places
 pub mod Clear
 pub mod Steps
 pub mod Copies
+pub mod Shaped
 pub mod Overlaps
 pub mod Views
 pub mod RunBounds

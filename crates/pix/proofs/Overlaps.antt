@@ -1,18 +1,20 @@
 -- The overlap of two regions: each axis from the offsets that lie in its raster, and the points from both axes.
-use Rattle.std.proofs.Common.{◌≡◌, ℕ, ◌<◌, ◌≤◌, ◌+◌, ◌-◌, ◌*◌, ℤ, pos, ◌+ℤ◌, ◌-ℤ◌, ◌<ℤ◌, ◌≤ℤ◌, Bool, true, false, arith, min, max, List, [], ◌∷◌, map, refl, sym, ap, ◌∙◌, subst}
+use Rattle.std.proofs.Common.{◌≡◌, ℕ, ◌<◌, ◌≤◌, ◌+◌, ◌-◌, ℤ, pos, ◌+ℤ◌, ◌-ℤ◌, ◌<ℤ◌, ◌≤ℤ◌, Bool, true, false, arith, min, max, List, [], ◌∷◌, refl, sym, ap, ◌∙◌, subst}
 use Rattle.std.specs.Bool.{Decides}
-use Rattle.std.specs.Prelude.{nat_le, not, ◌&&◌, int_lt, if◌then◌else◌, fold, slice_index_or}
+use Rattle.std.specs.Prelude.{nat_le, not, ◌&&◌, int_lt, if◌then◌else◌, fold}
 use Rattle.std.specs.Int.{int_min}
 use Rattle.std.proofs.lemmas.Bool.Decides.{nat_tests, Decides-and, Decides-like, Decides-ltb, same_from_decides}
 use Rattle.std.proofs.lemmas.Int.{ints, clamps}
 use Rattle.std.specs.declared.ops.Range.{Range}
 use lib.IntN.{negsuc}
 use Rattle.pix_el.specs.Pixel.{lies_in}
-use Rattle.pix.specs.Region.{Rectangle, has_column, has_row}
-use Rattle.pix.specs.Image.{Image, point, region_of, Changed}
+use Rattle.pix.specs.Region.{Rectangle, has_column, has_row, whole}
 use Rattle.pix.specs.Reach.{is_below, is_paired, natural}
-use Rattle.pix.specs.Clip.{whole, in_box, where_in, where_paired, is_offset}
+use Rattle.pix.specs.Lent.{read_at, ChangedIn, where_paired}
+use Rattle.pix.specs.Clip.{in_box, where_in, is_offset}
 use Rattle.pix.specs.declared.clip.Overlap.{Overlap}
+use Rattle.pix.specs.declared.lent.Shape.{Shape}
+use Rattle.pix.proofs.Shaped.{changed_in_box}
 use Rattle.pix.proofs.Rectangles.{Decides-int_lt, Decides-not_int_lt, both}
 
 -- the test whether a number is at most another
@@ -178,27 +180,21 @@ one_or_none get f old a b m n true false hc hr = refl
 one_or_none get f old a b m n false r hc hr = refl
 
 -- what is changed in an overlap, pixel by pixel, is changed where points are paired
-pub changed_in_overlap : {P S : Type 0} (to from : Rectangle) (reads : P → List ℕ) (old new : Image P) (numbers : S → List ℕ) (src : Image S)
+pub changed_in_overlap : {D S : Type 0} (to from : Rectangle) (reads : D → List ℕ) (shape : Shape) (old new : List D) (source_reads : S → List ℕ) (src_shape : Shape) (src : List S)
     (f : List ℕ → List ℕ → List ℕ) (o : Overlap)
-    → ((x y : ℕ) → in_box o.columns.dst o.rows.dst x y ≡ is_paired to (region_of old) from (region_of src) (pos x -ℤ to.left) (pos y -ℤ to.top))
+    → o.columns.dst.end ≤ shape.width → o.rows.dst.end ≤ shape.height → shape.width ≤ shape.stride
+    → ((x y : ℕ) → in_box o.columns.dst o.rows.dst x y ≡ is_paired to (whole shape.width shape.height) from (whole src_shape.width src_shape.height) (pos x -ℤ to.left) (pos y -ℤ to.top))
     → ((x : ℕ) → lies_in o.columns.dst x ≡ true → o.columns.src_start + (x - o.columns.dst.start) ≡ natural (from.left +ℤ (pos x -ℤ to.left)))
     → ((y : ℕ) → lies_in o.rows.dst y ≡ true → o.rows.src_start + (y - o.rows.dst.start) ≡ natural (from.top +ℤ (pos y -ℤ to.top)))
-    → new.width ≡ old.width → new.height ≡ old.height
-    → ((x y : ℕ) → x < old.width → slice_index_or (map reads new.pixels) (y * old.width + x) []
+    → ((x y : ℕ) → x < shape.stride → read_at reads shape.stride new x y
     ≡ where_in o.columns.dst o.rows.dst
-    (λ a b. f (slice_index_or (map numbers src.pixels) ((o.rows.src_start + (b - o.rows.dst.start)) * src.width + (o.columns.src_start + (a - o.columns.dst.start))) []))
-    x y (slice_index_or (map reads old.pixels) (y * old.width + x) []))
-    → Changed reads old new (where_paired to (region_of old) from numbers src f)
-changed_in_overlap to from reads old new numbers src f o points columns rows ew eh changed = record {
-  same_width = ew;
-  same_height = eh;
-  points = λ x y lx _.
-      let stood : List ℕ = slice_index_or (map reads old.pixels) (y * old.width + x) [] in
-      let here : where_in o.columns.dst o.rows.dst
-      (λ a b. f (slice_index_or (map numbers src.pixels) ((o.rows.src_start + (b - o.rows.dst.start)) * src.width + (o.columns.src_start + (a - o.columns.dst.start))) []))
-      x y stood ≡ where_paired to (region_of old) from numbers src f x y stood =
-      one_or_none (point numbers src) f stood (o.columns.src_start + (x - o.columns.dst.start)) (o.rows.src_start + (y - o.rows.dst.start))
-      (natural (from.left +ℤ (pos x -ℤ to.left))) (natural (from.top +ℤ (pos y -ℤ to.top))) (lies_in o.columns.dst x) (lies_in o.rows.dst y) (columns x) (rows y)
-      ∙ rw (points x y) refl in
-      rw ew (changed x y lx ∙ here);
-}
+    (λ a b. f (read_at source_reads src_shape.stride src (o.columns.src_start + (a - o.columns.dst.start)) (o.rows.src_start + (b - o.rows.dst.start))))
+    x y (read_at reads shape.stride old x y))
+    → ChangedIn reads shape old new (where_paired to (whole shape.width shape.height) from (whole src_shape.width src_shape.height) (read_at source_reads src_shape.stride src) f)
+changed_in_overlap to from reads shape old new source_reads src_shape src f o across down apart points columns rows changed =
+    let get = read_at source_reads src_shape.stride src in
+    changed_in_box reads shape old new o.columns.dst o.rows.dst (λ a b. f (get (o.columns.src_start + (a - o.columns.dst.start)) (o.rows.src_start + (b - o.rows.dst.start)))) _ across down apart changed
+    (λ x y pixel _ _.
+    one_or_none get f pixel (o.columns.src_start + (x - o.columns.dst.start)) (o.rows.src_start + (y - o.rows.dst.start))
+    (natural (from.left +ℤ (pos x -ℤ to.left))) (natural (from.top +ℤ (pos y -ℤ to.top))) (lies_in o.columns.dst x) (lies_in o.rows.dst y) (columns x) (rows y)
+    ∙ rw (points x y) refl)

@@ -9,8 +9,7 @@ use Rattle.std.proofs.lemmas.Int.{ints, clamps}
 use lib.IntN.{negsuc}
 use Rattle.pix.specs.Image.{Image, IsInside, region_of}
 use Rattle.pix.specs.Reach.{natural}
-use Rattle.pix.specs.Clip.{whole}
-use Rattle.pix.specs.Region.{Rectangle, right, bottom, has_column, has_row, covers, no_points, between, intersection_of}
+use Rattle.pix.specs.Region.{Rectangle, right, bottom, has_column, has_row, covers, whole, no_points, between, intersection_of}
 
 -- the test whether a whole number is below another
 pub Decides-int_lt : (a b : ℤ) → Decides (int_lt a b) (a <ℤ b)
@@ -198,11 +197,11 @@ inside_image r image =
     (omega (arith, ints, clamps)) (omega (arith, ints, clamps)) (omega (arith, ints, clamps)) (omega (arith, ints, clamps))
     (omega (arith, ints, clamps)) (omega (arith, ints, clamps)) _ refl
 
--- a point of the image lies in its region
-pub covers_image : {P : Type 0} (image : Image P) (x y : ℕ) → image.width ≤ 2147483647 → image.height ≤ 2147483647 → x < image.width → y < image.height
-    → covers (region_of image) (pos x) (pos y) ≡ true
-covers_image image x y hw hh lx ly =
-    (Decides-lies (pos 0) (pos 0) (right (region_of image)) (bottom (region_of image)) (pos x) (pos y)).1
+-- a point of a raster lies in the rectangle of all of them
+pub covers_whole : (width height x y : ℕ) → width ≤ 2147483647 → height ≤ 2147483647 → x < width → y < height
+    → covers (whole width height) (pos x) (pos y) ≡ true
+covers_whole width height x y hw hh lx ly =
+    (Decides-lies (pos 0) (pos 0) (right (whole width height)) (bottom (whole width height)) (pos x) (pos y)).1
     ((omega (arith, ints, clamps), omega (arith, ints, clamps)), (omega (arith, ints, clamps), omega (arith, ints, clamps)))
 
 -- a rectangle lies in a raster of that width and height

@@ -4,7 +4,7 @@ use Rattle.pix_el.specs.Pixel.{Layout}
 use Rattle.pix.specs.Region.{Rectangle, covers}
 use Rattle.pix.specs.Image.{Image, Changed, point, region_of}
 use Rattle.pix.specs.Reach.{from_pair}
-use Rattle.pix.specs.Clip.{where_covered, where_paired}
+use Rattle.pix.specs.Lent.{where_covered, where_paired}
 use Rattle.std.proofs.lemmas.List.{drop_more, append-nil, append_assoc}
 use Rattle.std.proofs.lemmas.List.Sums.{fold-append}
 use Rattle.pix.specs.declared.command.Command.{Command}
@@ -50,7 +50,7 @@ changed_where_covered layout n old new reg f effect changed is = record {
 
 -- a change of the points that are paired with others is the run of a command with those effects
 pub changed_where_paired : {P S : Type 0} (layout : Layout) (n : P → List ℕ) (s : S → List ℕ) (old new : Image P) (to from : Rectangle) (src : Image S) (f : List ℕ → List ℕ → List ℕ) (effect : List ℕ → Effect)
-    → Changed n old new (where_paired to (region_of old) from s src f) → ((source p : List ℕ) → f source p ≡ apply layout p (effect source))
+    → Changed n old new (where_paired to (region_of old) from (region_of src) (point s src) f) → ((source p : List ℕ) → f source p ≡ apply layout p (effect source))
     → Changed n old new (λ x y pixel. fold (apply layout) pixel (from_pair to (region_of old) from (region_of src) (λ a b. effect (point s src a b)) x y ++ []))
 changed_where_paired layout n s old new to from src f effect changed is = record {
   same_width = changed.same_width;

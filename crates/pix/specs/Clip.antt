@@ -1,15 +1,10 @@
 -- Columns, rows and overlaps in rasters, as the code finds and walks them. No clause of a public call cites this file.
 use Rattle.std.proofs.Common.{zero, suc}
-use Rattle.std.specs.Prelude.{ℕ, ◌+◌, ◌*◌, ℤ, pos, ◌+ℤ◌, Bool, ◌&&◌, if◌then◌else◌, List, [], ◌∷◌, drop, slice_range, fold}
+use Rattle.std.specs.Prelude.{ℕ, ◌+◌, ◌*◌, ℤ, ◌+ℤ◌, Bool, ◌&&◌, if◌then◌else◌, List, [], ◌∷◌, drop, slice_range}
 use Rattle.std.specs.declared.ops.Range.{Range}
 use Rattle.pix_el.specs.Pixel.{lies_in}
-use Rattle.pix.specs.Region.{Rectangle, has_row, covers}
-use Rattle.pix.specs.Image.{Image, point, region_of}
-use Rattle.pix.specs.Reach.{is_below, natural, from_pair}
-
--- the rectangle of all points of a raster of that width and height
-abbrev pub whole : ℕ → ℕ → Rectangle
-whole width height = record { left = pos 0; top = pos 0; width = width; height = height }
+use Rattle.pix.specs.Region.{Rectangle, has_row}
+use Rattle.pix.specs.Reach.{is_below, natural}
 
 -- whether the point lies in both half-open ranges
 abbrev pub in_box : (columns rows : Range ℕ) → ℕ → ℕ → Bool
@@ -18,15 +13,6 @@ in_box columns rows x y = lies_in columns x && lies_in rows y
 -- f of the point and of what stands there, where it lies in both ranges, and what stands elsewhere
 abbrev pub where_in : {X : Type 0} → (columns rows : Range ℕ) → (ℕ → ℕ → X → X) → ℕ → ℕ → X → X
 where_in columns rows f x y pixel = if in_box columns rows x y then f x y pixel else pixel
-
--- f of what stands at each point of a rectangle, and what stands elsewhere
-abbrev pub where_covered : {X : Type 0} → Rectangle → (X → X) → ℕ → ℕ → X → X
-where_covered r f x y pixel = if covers r (pos x) (pos y) then f pixel else pixel
-
--- f of the pixel that a point is paired with and of what stands there, and what stands elsewhere
-abbrev pub where_paired : {S : Type 0} → (to dest from : Rectangle) → (S → List ℕ) → Image S → (List ℕ → List ℕ → List ℕ) → ℕ → ℕ → List ℕ → List ℕ
-where_paired to dest from numbers src f x y pixel =
-    fold (λ p source. f source p) pixel (from_pair to dest from (region_of src) (point numbers src) x y)
 
 -- whether the offset is below the length, and leads from the start to one of the columns, or rows, of a raster that has `limit`
 abbrev pub is_offset : (start : ℤ) → (len limit : ℕ) → ℤ → Bool

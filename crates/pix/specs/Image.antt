@@ -1,6 +1,6 @@
 -- Images: a pixel at each point, kept as a list row by row.
 use Rattle.std.specs.Prelude.{◌≡◌, ℕ, ◌+◌, ◌*◌, ◌<◌, ℤ, pos, ◌≤ℤ◌, ◌<ℤ◌, List, [], map, slice_index_or}
-use Rattle.pix.specs.Region.{Rectangle, right, bottom}
+use Rattle.pix.specs.Region.{Rectangle, right, bottom, whole}
 
 -- an image: the pixel of the point (x, y), for x < width and y < height, stands in its list at place y * width + x
 pub record Image (P : Type 0) : Type 0 where
@@ -21,7 +21,7 @@ pub record IsPoint {P : Type 0} (image : Image P) (x y : ℤ) : Type 0 where
 
 -- the rectangle of all points of an image
 abbrev pub region_of : {P : Type 0} → Image P → Rectangle
-region_of image = record { left = pos 0; top = pos 0; width = image.width; height = image.height }
+region_of image = whole image.width image.height
 
 -- no side of the rectangle lies outside the image
 pub record IsInside {P : Type 0} (r : Rectangle) (image : Image P) : Type 0 where

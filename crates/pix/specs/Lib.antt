@@ -11,6 +11,7 @@ pub mod Image
 pub mod Sizes
 pub mod Buffers
 pub mod Reach
+pub mod Lent
 pub mod Rows
 pub mod Views
 pub mod Run

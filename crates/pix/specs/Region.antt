@@ -33,6 +33,10 @@ has_row r y = not (int_lt y r.top) && int_lt y (bottom r)
 abbrev pub covers : Rectangle → ℤ → ℤ → Bool
 covers r x y = has_column r x && has_row r y
 
+-- the rectangle of all points of a raster of that width and height
+abbrev pub whole : ℕ → ℕ → Rectangle
+whole width height = record { left = pos 0; top = pos 0; width = width; height = height }
+
 -- the rectangle that stands for no points
 abbrev pub no_points : Rectangle
 no_points = record { left = pos 0; top = pos 0; width = 0; height = 0 }

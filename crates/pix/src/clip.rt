@@ -3,9 +3,9 @@
 //! Columns, rows and offsets are half-open ranges.
 ghost use Rattle.std.specs.Prelude.{◌≡◌, ℕ, pos, ◌+ℤ◌, ◌-ℤ◌, ◌≤ℤ◌, ◌+◌, ◌-◌, ◌*◌, ◌≤◌, ◌&&◌, true};
 ghost use Rattle.pix_el.specs.Pixel.{lies_in};
-ghost use Rattle.pix.specs.Region.{limit, right, bottom, has_column, has_row, covers, intersection_of};
+ghost use Rattle.pix.specs.Region.{limit, right, bottom, has_column, has_row, covers, intersection_of, whole};
 ghost use Rattle.pix.specs.Reach.{natural, is_paired};
-ghost use Rattle.pix.specs.Clip.{whole, in_box, is_offset, row_start, row_end};
+ghost use Rattle.pix.specs.Clip.{in_box, is_offset, row_start, row_end};
 
 use crate::region::Region;
 use std::ops::Range;

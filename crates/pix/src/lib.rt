@@ -10,6 +10,7 @@ pub use pix_el::{chan, el, matte, ops, rgb};
 mod clip;
 mod command;
 mod fault;
+pub mod lent;
 mod palette;
 mod raster;
 mod region;

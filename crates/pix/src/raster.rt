@@ -21,8 +21,8 @@ use std::marker::Model;
 mod buffers;
 mod change;
 mod convert;
+mod row_change;
 mod samples;
-mod walk;
 
 /// An image: `width` times `height` pixels of the format `P`, row by row from the top.
 #[derive(Drop)]

@@ -1,22 +1,21 @@
 //! Changes of a raster: clears, copies, composites, and runs of them.
-ghost use Rattle.std.specs.Prelude.{◌≡◌, ℕ, List, ◌+◌, ◌∷◌, []};
+ghost use Rattle.std.specs.Prelude.{◌≡◌, ℕ, List, length, ◌+◌, ◌∷◌, []};
 ghost use Rattle.pix_el.specs.PixelComposite.{matte_numbers};
-ghost use Rattle.pix.specs.Image.{region_of, Changed};
+ghost use Rattle.pix.specs.Image.{point, region_of, Changed};
 ghost use Rattle.pix.specs.Run.{run_at, done_at, op_of, HasSwappedNeighbours};
 ghost use Rattle.pix_chan.specs.ExactRun.{IsWithinBudget, IsWithinPremultipliedBound, HasSmallBudget};
 ghost use Rattle.pix.specs.Bounds.{OfEachChannel};
 ghost use Rattle.pix.specs.Kept.{KeepsPremultiplied};
 ghost use Rattle.pix.specs.Transparent.{StaysUnderTransparent};
-ghost use Rattle.pix.specs.Clip.{where_covered, where_paired};
+ghost use Rattle.pix.specs.Lent.{IsShaped, where_covered, where_paired};
 ghost use Rattle.pix.specs.declared.command.Command.{Command};
 
 use super::Raster;
-use super::walk::{
-    Blit, CompositedColor, CompositedPixels, CopiedColor, CopiedPixels, Fill, MattedColor,
-    blit_rows, fill_rows,
+use super::row_change::{
+    CompositedColor, CompositedPixels, CopiedColor, CopiedPixels, MattedColor,
 };
-use crate::clip::{ClippedRect, Overlap};
 use crate::command::Command;
+use crate::lent::{self, Blit, Fill, Shape};
 use crate::region::Region;
 use pix_chan::chan::{Alpha, Linear, Premultiplied};
 use pix_chan::ops::{Blend, OpVisitor};
@@ -50,19 +49,36 @@ impl<P: Pixel> Raster<P> {
     {
         self.blit_region(to, src, from, &CopiedPixels {});
     }
+}
+
+impl<P> Raster<P> {
+    /// Returns the shape of the pixels: the rows follow one another.
+    fn shape(&self) -> Shape
+        ensures value { result ≡ record {
+          width = self.now.width;
+          height = self.now.height;
+          stride = self.now.width;
+        } }
+        ensures fits { IsShaped result (length self.now.pixels) }
+    {
+        Shape {
+            width: self.width,
+            height: self.height,
+            stride: self.width as usize,
+        }
+    }
 
     /// Changes each point of `reg`, clipped to the raster.
     fn fill_region<F: Fill<P>>(&mut self, reg: Region, change: &F)
         requires { F.can_fill }
-        ensures { Changed P.numbers self.old self.new (where_covered reg (F.makes change.now)) }
+        ensures { Changed F.reads self.old self.new (where_covered reg (F.makes change.now)) }
     {
-        let clipped = ClippedRect::new(reg, self.width, self.height);
-        let width = self.width as usize;
-        fill_rows(&mut self.pixels, width, clipped, change);
+        let shape = self.shape();
+        lent::fill_region(&mut self.pixels, shape, reg, change);
     }
 
     /// Changes each point of the overlap of two regions by its point of the source.
-    fn blit_region<S: Pixel, B: Blit<P, S>>(
+    fn blit_region<S, B: Blit<P, S>>(
         &mut self,
         to: Region,
         src: &Raster<S>,
@@ -70,16 +86,18 @@ impl<P: Pixel> Raster<P> {
         change: &B,
     )
         requires { B.can_blit }
-        ensures { Changed P.numbers self.old self.new (where_paired to
-            (region_of self.old) from S.numbers src.now (B.makes change.now)) }
+        ensures { Changed B.reads self.old self.new (where_paired to
+            (region_of self.old) from (region_of src.now)
+            (point B.source_reads src.now) (B.makes change.now)) }
     {
-        let overlap = Overlap::new(to, self.width, self.height, from, src.width, src.height);
-        blit_rows(
+        let shape = self.shape();
+        lent::blit_region(
             &mut self.pixels,
-            self.width as usize,
+            shape,
+            to,
             &src.pixels,
-            src.width as usize,
-            overlap,
+            src.shape(),
+            from,
             change,
         );
     }

@@ -1,7 +1,6 @@
 use Rattle.std.proofs.Common.{◌≡◌, false, refl, SFits, w32}
 use Rattle.std.proofs.lemmas.Int.{to_z-of_z}
-use Rattle.pix.specs.Region.{has_row, intersection_of}
-use Rattle.pix.specs.Clip.{whole}
+use Rattle.pix.specs.Region.{has_row, whole, intersection_of}
 use Rattle.pix.proofs.Views.{no_row}
 use Rattle.pix.proofs.clip.row_places.Goals as goal
 

@@ -1,7 +1,6 @@
 use Rattle.std.proofs.Common.{◌≡◌, ◌≤◌, ◌+◌, pos}
-use Rattle.pix.specs.Region.{Rectangle, right, bottom, intersection_of}
+use Rattle.pix.specs.Region.{Rectangle, right, bottom, whole, intersection_of}
 use Rattle.pix.specs.Reach.{natural}
-use Rattle.pix.specs.Clip.{whole}
 use Rattle.pix.proofs.Rectangles.{clipped_in, far_edge}
 use Rattle.pix.proofs.clip.ClippedRect.new.Goals as goal
 
