@@ -1,5 +1,6 @@
 -- Pixels and mattes as C lays them out, by the numbers of their channels.
 use Rattle.std.specs.Prelude.{ℕ, List, [], ◌∷◌, map, min}
+use Rattle.pix_el.specs.Pixel.{Layout}
 use Rattle.pix_c.specs.declared.format.PixRgba8.{PixRgba8}
 use Rattle.pix_c.specs.declared.format.PixRgba16.{PixRgba16}
 use Rattle.pix_c.specs.declared.format.PixGraya8.{PixGraya8}
@@ -28,3 +29,13 @@ matte8_numbers value = bytes (value ∷ [])
 
 abbrev pub matte16_numbers : ℕ → List ℕ
 matte16_numbers value = words (value ∷ [])
+
+-- the layouts of the pixels
+abbrev pub rgba8 : Layout
+rgba8 = record { max = 255; count = 4; hues = record { start = 0; end = 0 }; alpha = 3 }
+
+abbrev pub rgba16 : Layout
+rgba16 = record { max = 65535; count = 4; hues = record { start = 0; end = 0 }; alpha = 3 }
+
+abbrev pub graya8 : Layout
+graya8 = record { max = 255; count = 2; hues = record { start = 0; end = 0 }; alpha = 1 }
