@@ -1,9 +1,13 @@
 -- Faults of commands, one command on.
-use Rattle.std.proofs.Common.{◌≡◌, ℕ, suc, ◌+◌, ◌<◌, ◌≢◌, List, [], ◌∷◌, length, map, get_or, drop, arith, ap, sym, ◌∙◌, refl, Bool, true, false, nat_eq, ◌⊎◌, inl, inr}
+use Rattle.std.proofs.Common.{◌≡◌, ℕ, zero, suc, ◌+◌, ◌<◌, ◌≢◌, List, [], ◌∷◌, length, map, get_or, drop, arith, ap, sym, ◌∙◌, refl, Bool, true, false, nat_eq, ◌⊎◌, inl, inr}
 use Rattle.std.proofs.lemmas.List.{drop_more, drop_all, length-map, get_or-map}
 use Rattle.std.proofs.lemmas.Bool.Decides.{nat_tests}
 use Rattle.pix_c.specs.declared.command.FlatCommand.{FlatCommand}
 use Rattle.pix_c.specs.Status.{fault_of, first_fault, count_before_fault}
+
+cases_zero : (n : ℕ) → (n ≡ 0) ⊎ (n ≢ 0)
+cases_zero zero = inl refl
+cases_zero (suc n) = inr (λ e. absurd (omega arith))
 
 module _ {D M : Type 0} where
   -- a command that is not refused
@@ -26,3 +30,15 @@ module _ {D M : Type 0} where
   left_from flat commands i command lt is =
       drop_more (map flat commands) i (flat command) (omega (arith, length-map commands flat))
       ∙ ap (λ (c : FlatCommand D M). c ∷ drop (i + 1) (map flat commands)) (get_or-map flat commands i command (flat command) lt ∙ ap flat (sym is))
+
+  -- where none is refused, the first is not, nor is another
+  none_first : (c : FlatCommand D M) (cs : List (FlatCommand D M)) → first_fault (c ∷ cs) ≡ 0 → fault_of c ≡ 0
+  none_first c cs e = elim (cases_zero (fault_of c)) [
+    | inl here ↦ here
+    | inr ne ↦ sym (first_fault_here c cs ne) ∙ e
+  ]
+
+  pub none_at : (cs : List (FlatCommand D M)) (i : ℕ) (d : FlatCommand D M) → first_fault cs ≡ 0 → i < length cs → fault_of (get_or cs i d) ≡ 0
+  none_at [] i d e lt = absurd (omega arith)
+  none_at (c ∷ cs) zero d e lt = none_first c cs e
+  none_at (c ∷ cs) (suc i) d e lt = none_at cs i d (sym (first_fault_on c cs (none_first c cs e)) ∙ e) (omega arith)

@@ -49,3 +49,45 @@ pub extern "C" fn pix_run_commands(
 {
     run::run::<Rgba8p, PixRgba8, u8, PixCommand<'_>>(pixels, width, height, stride, commands, done)
 }
+
+/// Does what [`pix_run_commands`] does, on 16-bit pixels of red, green, blue and alpha.
+#[unsafe(no_mangle)]
+pub extern "C" fn pix_run_commands_rgba16(
+    pixels: &mut [PixRgba16],
+    width: u32,
+    height: u32,
+    stride: u32,
+    commands: &[PixCommandRgba16<'_>],
+    done: &mut usize,
+) -> u32
+    ensures status { result ≡ status_of width height stride (length pixels.old)
+        (map rgba16_command commands.now) }
+    ensures done { done.new ≡ done_of width height stride (length pixels.old)
+        (map rgba16_command commands.now) }
+    ensures refused { result ≢ 0 → pixels.new ≡ pixels.old }
+    ensures run { result ≡ 0 → IsRun rgba16 rgba16_numbers matte16_numbers width height stride
+        (map rgba16_command commands.now) pixels.old pixels.new }
+{
+    run::run::<Rgba16p, PixRgba16, u16, PixCommandRgba16<'_>>(pixels, width, height, stride, commands, done)
+}
+
+/// Does what [`pix_run_commands`] does, on 8-bit pixels of gray and alpha.
+#[unsafe(no_mangle)]
+pub extern "C" fn pix_run_commands_graya8(
+    pixels: &mut [PixGraya8],
+    width: u32,
+    height: u32,
+    stride: u32,
+    commands: &[PixCommandGraya8<'_>],
+    done: &mut usize,
+) -> u32
+    ensures status { result ≡ status_of width height stride (length pixels.old)
+        (map graya8_command commands.now) }
+    ensures done { done.new ≡ done_of width height stride (length pixels.old)
+        (map graya8_command commands.now) }
+    ensures refused { result ≢ 0 → pixels.new ≡ pixels.old }
+    ensures run { result ≡ 0 → IsRun graya8 graya8_numbers matte8_numbers width height stride
+        (map graya8_command commands.now) pixels.old pixels.new }
+{
+    run::run::<Graya8p, PixGraya8, u8, PixCommandGraya8<'_>>(pixels, width, height, stride, commands, done)
+}
