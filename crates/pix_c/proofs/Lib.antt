@@ -1,0 +1,6 @@
+pub mod Rows
+pub mod Faults
+pub mod Images
+pub mod Effects
+pub mod Painted
+pub mod Ran

@@ -1,0 +1,129 @@
+-- What each kind of command does to rows in memory.
+use Rattle.std.proofs.Common.{◌≡◌, ℕ, ◌+◌, ◌<◌, ◌≤◌, List, [], ◌∷◌, length, arith, ap, sym, subst, ◌∙◌, refl, true, false, Bool, cond}
+use Rattle.std.specs.Prelude.{replicate, not, ◌&&◌, ◌||◌, nat_eq, nat_lt}
+use Rattle.std.proofs.lemmas.Bool.Decides.{nat_tests}
+use Rattle.pix_chan.specs.declared.ops.Op.{Op}
+use Rattle.pix_el.specs.Pixel.{Layout}
+use Rattle.pix_el.specs.PixelComposite.{pixel_composite, matted_composite, matte_value}
+use Rattle.pix.specs.Region.{Rectangle, whole}
+use Rattle.pix.specs.Lent.{read_at, where_covered, where_paired, IsShaped, ChangedIn}
+use Rattle.pix.specs.Run.{Effect, Cleared, Copied, Composited, Matted, apply, run_at}
+use Rattle.pix.specs.declared.command.Command.{Command}
+use Rattle.pix.specs.declared.command.Command.TheVariants as commands
+use Rattle.pix.specs.declared.lent.Shape.{Shape}
+use Rattle.pix_c.specs.declared.command.FlatCommand.{FlatCommand}
+use Rattle.pix_c.specs.Command.{image_of, op_at, rectangle, lent, command_of}
+use Rattle.pix_c.specs.Status.{is_sized, fits, has_source, fault_of}
+use Rattle.pix_c.proofs.Images.{sized_is_shaped}
+use Rattle.pix_c.proofs.Effects.{changed_alike, covered_effect, whole_effect, paired_effect}
+
+-- a command that is not refused
+pub record IsSound {D M : Type 0} (c : FlatCommand D M) : Type 0 where
+  pub kind : c.kind < 6
+  pub to : fits c.to ≡ true
+  pub from : fits c.from ≡ true
+  pub op : c.op < 13
+  pub source : has_source c ≡ true
+
+-- the fault by the tests of a command
+abbrev fault_by : (kind to from op source : Bool) → ℕ
+fault_by kind to from op source = cond kind 2 (cond (not (to && from)) 3 (cond op 4 (cond source 0 5)))
+
+tests_pass : (kind to from op source : Bool) → fault_by kind to from op source ≡ 0
+    → (kind ≡ false) × (to ≡ true) × (from ≡ true) × (op ≡ false) × (source ≡ true)
+tests_pass true to from op source e = absurd (omega arith)
+tests_pass false false from op source e = absurd (omega arith)
+tests_pass false true false op source e = absurd (omega arith)
+tests_pass false true true true source e = absurd (omega arith)
+tests_pass false true true false false e = absurd (omega arith)
+tests_pass false true true false true e = (refl, refl, refl, refl, refl)
+
+pub sound : {D M : Type 0} (c : FlatCommand D M) → fault_of c ≡ 0 → IsSound c
+sound c e =
+    let t = tests_pass (nat_lt 5 c.kind) (fits c.to) (fits c.from) (nat_lt 12 c.op) (has_source c) e in
+    let k : nat_lt 5 c.kind ≡ false = t.0 in
+    let o : nat_lt 12 c.op ≡ false = t.3 in
+    record { kind = grind (arith, nat_tests); to = t.1; from = t.2; op = grind (arith, nat_tests); source = t.4 }
+
+-- the sources that are read
+pub pixels_shaped : {D M : Type 0} (c : FlatCommand D M) → fault_of c ≡ 0 → (nat_eq c.kind 2 || nat_eq c.kind 4) ≡ true
+    → IsShaped (record { width = c.width; height = c.height; stride = c.stride }) (length c.pixels.now)
+pixels_shaped c e k = sized_is_shaped c.width c.height c.stride (length c.pixels.now) (rw k at (sound c e).source)
+
+pub mattes_shaped : {D M : Type 0} (c : FlatCommand D M) → fault_of c ≡ 0 → c.kind ≡ 5
+    → IsShaped (record { width = c.width; height = c.height; stride = c.stride }) (length c.mattes.now)
+mattes_shaped c e k = sized_is_shaped c.width c.height c.stride (length c.mattes.now) (rw k at (sound c e).source)
+
+module _ {D M : Type 0} (layout : Layout) (n : D → List ℕ) (m : M → List ℕ) (shape : Shape) (c : FlatCommand D M) (old new : List D) where
+  -- it was done
+  abbrev pub Painted : Command D M → Type 0
+  Painted command = ChangedIn n shape old new (run_at layout n m (whole shape.width shape.height) (command ∷ []))
+
+  -- a color in the place of each pixel
+  pub painted_clear : c.kind ≡ 0 → shape.width ≤ 2147483647 → shape.height ≤ 2147483647 → (reg : Rectangle) (f : List ℕ → List ℕ) → reg ≡ whole shape.width shape.height
+      → ((p : List ℕ) → f p ≡ replicate layout.count 0) → ChangedIn n shape old new (where_covered reg f) → Painted (command_of c)
+  painted_clear kind wide high reg f er is changed =
+      let e : commands.Clear ≡ command_of c = rw kind refl in
+      subst Painted e
+      (changed_alike n shape old new (where_covered reg f) _
+      (λ x y pixel lx ly. ap (λ r. where_covered r f x y pixel) er ∙ whole_effect layout shape.width shape.height f Cleared x y pixel wide high lx ly is) changed)
+
+  -- a color in the place of each pixel of a region
+  pub painted_copy_color : c.kind ≡ 1 → (reg : Rectangle) (f : List ℕ → List ℕ) → reg ≡ rectangle c.to
+      → ((p : List ℕ) → f p ≡ n c.color) → ChangedIn n shape old new (where_covered reg f) → Painted (command_of c)
+  painted_copy_color kind reg f er is changed =
+      let e : commands.CopyColor (rectangle c.to) c.color ≡ command_of c = rw kind refl in
+      subst Painted e
+      (changed_alike n shape old new (where_covered reg f) _
+      (λ x y pixel lx ly. ap (λ r. where_covered r f x y pixel) er ∙ covered_effect layout (rectangle c.to) f (Copied (n c.color)) x y pixel is) changed)
+
+  -- a color that is composited
+  pub painted_color : c.kind ≡ 3 → (reg : Rectangle) (f : List ℕ → List ℕ) → reg ≡ rectangle c.to
+      → ((p : List ℕ) → f p ≡ pixel_composite layout (op_at c.op) (n c.color) p) → ChangedIn n shape old new (where_covered reg f) → Painted (command_of c)
+  painted_color kind reg f er is changed =
+      let e : commands.Color (rectangle c.to) c.color (op_at c.op) ≡ command_of c = rw kind refl in
+      subst Painted e
+      (changed_alike n shape old new (where_covered reg f) _
+      (λ x y pixel lx ly. ap (λ r. where_covered r f x y pixel) er ∙ covered_effect layout (rectangle c.to) f (Composited (op_at c.op) (n c.color)) x y pixel is) changed)
+
+  -- the shape of a source
+  abbrev pub source : Shape
+  source = record { width = c.width; height = c.height; stride = c.stride }
+
+  -- what a blit makes of an image
+  abbrev pub blitted : {S : Type 0} → (S → List ℕ) → List S → (List ℕ → List ℕ → List ℕ) → Rectangle → Rectangle → Shape → ℕ → ℕ → List ℕ → List ℕ
+  blitted reads src f to from of_source = where_paired to (whole shape.width shape.height) from (whole of_source.width of_source.height) (read_at reads of_source.stride src) f
+
+  -- pixels that are copied
+  pub painted_copy_image : c.kind ≡ 2 → fault_of c ≡ 0 → (to from : Rectangle) (of_source : Shape) (f : List ℕ → List ℕ → List ℕ)
+      → to ≡ rectangle c.to → from ≡ rectangle c.from → of_source ≡ source → ((s p : List ℕ) → f s p ≡ s)
+      → ChangedIn n shape old new (blitted n c.pixels.now f to from of_source) → Painted (command_of c)
+  painted_copy_image kind none to from of_source f et ef es is changed =
+      let e : commands.CopyRaster (rectangle c.to) (lent (image_of c.width c.height c.stride c.pixels.now)) (rectangle c.from) ≡ command_of c = rw kind refl in
+      subst Painted e
+      (changed_alike n shape old new (blitted n c.pixels.now f to from of_source) _
+      (λ x y pixel lx ly. rw (et, ef, es)
+      (paired_effect layout (rectangle c.to) (whole shape.width shape.height) (rectangle c.from) n c.width c.height c.stride c.pixels.now f Copied x y pixel (pixels_shaped c none (rw kind refl)) is)) changed)
+
+  -- pixels that are composited
+  pub painted_image : c.kind ≡ 4 → fault_of c ≡ 0 → (to from : Rectangle) (of_source : Shape) (f : List ℕ → List ℕ → List ℕ)
+      → to ≡ rectangle c.to → from ≡ rectangle c.from → of_source ≡ source → ((s p : List ℕ) → f s p ≡ pixel_composite layout (op_at c.op) s p)
+      → ChangedIn n shape old new (blitted n c.pixels.now f to from of_source) → Painted (command_of c)
+  painted_image kind none to from of_source f et ef es is changed =
+      let e : commands.Raster (rectangle c.to) (lent (image_of c.width c.height c.stride c.pixels.now)) (rectangle c.from) (op_at c.op) ≡ command_of c = rw kind refl in
+      subst Painted e
+      (changed_alike n shape old new (blitted n c.pixels.now f to from of_source) _
+      (λ x y pixel lx ly. rw (et, ef, es)
+      (paired_effect layout (rectangle c.to) (whole shape.width shape.height) (rectangle c.from) n c.width c.height c.stride c.pixels.now f (Composited (op_at c.op)) x y pixel (pixels_shaped c none (rw kind refl)) is)) changed)
+
+  -- a color that is composited through mattes
+  pub painted_matte : c.kind ≡ 5 → fault_of c ≡ 0 → (to from : Rectangle) (of_source : Shape) (f : List ℕ → List ℕ → List ℕ)
+      → to ≡ rectangle c.to → from ≡ rectangle c.from → of_source ≡ source
+      → ((s p : List ℕ) → f s p ≡ matted_composite layout (op_at c.op) (matte_value layout s) (n c.color) p)
+      → ChangedIn n shape old new (blitted m c.mattes.now f to from of_source) → Painted (command_of c)
+  painted_matte kind none to from of_source f et ef es is changed =
+      let e : commands.Matte (rectangle c.to) (lent (image_of c.width c.height c.stride c.mattes.now)) (rectangle c.from) c.color (op_at c.op) ≡ command_of c = rw kind refl in
+      subst Painted e
+      (changed_alike n shape old new (blitted m c.mattes.now f to from of_source) _
+      (λ x y pixel lx ly. rw (et, ef, es)
+      (paired_effect layout (rectangle c.to) (whole shape.width shape.height) (rectangle c.from) m c.width c.height c.stride c.mattes.now f (λ s. Matted (op_at c.op) s (n c.color)) x y pixel (mattes_shaped c none kind) is)) changed)

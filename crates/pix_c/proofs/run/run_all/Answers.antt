@@ -1,0 +1,62 @@
+use Rattle.std.proofs.Common.{◌≡◌, ℕ, ◌<◌, ◌+◌, List, ◌∷◌, [], length, map, drop, get_or, sym, ap, ◌∙◌, arith, refl, subst}
+use Rattle.std.proofs.lemmas.List.{length-map, get_or-map, drop_all}
+use Rattle.pix.specs.Region.{whole}
+use Rattle.pix.specs.Run.{run_at}
+use Rattle.pix.specs.Lent.{read_at, ChangedIn}
+use Rattle.pix.specs.declared.command.Command.{Command}
+use Rattle.pix.proofs.Steps.{run_more}
+use Rattle.pix_c.specs.declared.command.FlatCommand.{FlatCommand}
+use Rattle.pix_c.specs.Command.{command_of}
+use Rattle.pix_c.specs.Status.{fault_of}
+use Rattle.pix_c.proofs.Faults.{none_at}
+use Rattle.pix_c.proofs.run.run_all.Goals as goal
+
+pub paint-requires-clause-sound : goal.paint-requires-clause-sound
+paint-requires-clause-sound g c =
+    let flat = g.C.Flatten.flat in
+    let i = c.loop-command.command-index in
+    let item = c.command-item.result in
+    let commands = c.args.commands.now in
+    let here : get_or (map flat commands) i (flat item) ≡ flat item = get_or-map flat commands i item (flat item) c.loop-command-test.true ∙ ap flat (sym c.command-item.is) in
+    ap fault_of (c.flat.ensures ∙ sym here) ∙ none_at (map flat commands) i (flat item) c.requires.sound (omega (arith, length-map commands flat))
+
+pub loop-command-init : goal.loop-command-init
+loop-command-init g c = record { rest = λ x y lx ly. refl; kept = λ x y lx far. refl }
+
+pub loop-command-preserved : goal.loop-command-preserved
+loop-command-preserved g c =
+    let flat = g.C.Flatten.flat in
+    let layout = g.P.Pixel.layout in
+    let n = g.D.Numbered.numbers in
+    let m = g.M.Numbered.numbers in
+    let i = c.loop-command.command-index in
+    let item = c.command-item.result in
+    let commands = c.args.commands.now in
+    let shape = c.args.shape in
+    let dest = whole shape.width shape.height in
+    let all = map command_of (map flat commands) in
+    let command = command_of (flat item) in
+    let within : i < length all = omega (arith, length-map commands flat, length-map (map flat commands) (command_of {D = g.row.D.Denot} {M = g.row.M.Denot}), c.loop-command-test.true) in
+    let is : command ≡ get_or all i command =
+    sym (get_or-map command_of (map flat commands) i (flat item) command (omega (arith, length-map commands flat, c.loop-command-test.true))
+    ∙ ap command_of (get_or-map flat commands i item (flat item) c.loop-command-test.true ∙ ap flat (sym c.command-item.is))) in
+    let done : ChangedIn n shape c.loop-command.pixels c.paint.new.pixels (run_at layout n m dest (command ∷ [])) =
+    subst (λ (f : FlatCommand g.row.D.Denot g.row.M.Denot). ChangedIn n shape c.loop-command.pixels c.paint.new.pixels (run_at layout n m dest (command_of f ∷ []))) c.flat.ensures c.paint.ensures in
+    record {
+      rest = λ x y lx ly.
+          ap (run_at layout n m dest (drop (i + 1) all) x y) (done.points x y lx ly)
+          ∙ run_more layout n m dest all i command x y (read_at n shape.stride c.loop-command.pixels x y) within is
+          ∙ c.loop-command.invariant.rest x y lx ly;
+      kept = λ x y lx far. done.kept x y lx far ∙ c.loop-command.invariant.kept x y lx far;
+    }
+
+pub returns : goal.returns
+returns g c =
+    let flat = g.C.Flatten.flat in
+    let commands = c.args.commands.now in
+    let all = map command_of (map flat commands) in
+    record {
+      points = λ x y lx ly.
+          rw (drop_all c.loop-command.command-index all (omega (arith, length-map commands flat, length-map (map flat commands) (command_of {D = g.row.D.Denot} {M = g.row.M.Denot})))) at (c.loop-command.invariant.rest x y lx ly);
+      kept = c.loop-command.invariant.kept;
+    }

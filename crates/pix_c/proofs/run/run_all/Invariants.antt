@@ -1,0 +1,20 @@
+use Rattle.std.proofs.Common.{◌≡◌, ℕ, ◌<◌, ◌≤◌, ◌⊎◌, drop, map}
+use Rattle.pix.specs.Region.{whole}
+use Rattle.pix.specs.Run.{run_at}
+use Rattle.pix.specs.Lent.{read_at}
+use Rattle.pix_c.specs.Command.{command_of}
+use Rattle.pix_c.proofs.run.run_all.Given as goal
+
+-- what the commands that are left make of the image now is what all of them make of it at the start, and all else stays
+abbrev pub invariant-loop-command : goal.invariant-loop-command
+invariant-loop-command g l =
+    let n = g.D.Numbered.numbers in
+    let run = run_at g.P.Pixel.layout n g.M.Numbered.numbers (whole l.fn.shape.width l.fn.shape.height) in
+    let all = map command_of (map g.C.Flatten.flat l.commands) in
+    let read = read_at n l.fn.shape.stride in
+    record {
+      rest : (x y : ℕ) → x < l.fn.shape.width → y < l.fn.shape.height
+          → run (drop l.command-index all) x y (read l.pixels x y) ≡ run all x y (read l.initial.pixels x y);
+      kept : (x y : ℕ) → x < l.fn.shape.stride → (l.fn.shape.width ≤ x) ⊎ (l.fn.shape.height ≤ y)
+          → read l.pixels x y ≡ read l.initial.pixels x y;
+    }

@@ -1,0 +1,12 @@
+use Rattle.std.proofs.Common.{◌≡◌, ◌+◌, drop, map}
+use Rattle.pix_c.specs.Status.{first_fault, count_before_fault}
+use Rattle.pix_c.proofs.status.first_fault.Given as goal
+
+-- the first fault is among the commands that are left
+abbrev pub invariant-loop-index : goal.invariant-loop-index
+invariant-loop-index g l =
+    let all = map g.C.Flatten.flat l.commands in
+    record {
+      fault : first_fault all ≡ first_fault (drop l.index all);
+      count : count_before_fault all ≡ l.index + count_before_fault (drop l.index all);
+    }

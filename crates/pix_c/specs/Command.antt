@@ -1,0 +1,95 @@
+-- Commands by their numbers, as commands of the library on images in memory.
+use Rattle.std.specs.Prelude.{ℕ, zero, suc, List, [], ◌∷◌, ◌++◌, take, drop, nat_eq, slice_index_or, if◌then◌else◌}
+use denote.Bor.{Bor}
+use Rattle.pix_chan.specs.declared.ops.Op.{Op}
+use Rattle.pix_chan.specs.declared.ops.Op.TheVariants as ops
+use Rattle.pix.specs.Region.{Rectangle}
+use Rattle.pix.specs.Image.{Image}
+use Rattle.pix.specs.declared.command.Command.{Command}
+use Rattle.pix.specs.declared.command.Command.TheVariants as commands
+use Rattle.pix_c.specs.declared.command.PixRegion.{PixRegion}
+use Rattle.pix_c.specs.declared.command.PixCommand.{PixCommand}
+use Rattle.pix_c.specs.declared.command.PixCommandRgba16.{PixCommandRgba16}
+use Rattle.pix_c.specs.declared.command.PixCommandGraya8.{PixCommandGraya8}
+use Rattle.pix_c.specs.declared.command.FlatCommand.{FlatCommand}
+use Rattle.pix_c.specs.declared.format.PixRgba8.{PixRgba8}
+use Rattle.pix_c.specs.declared.format.PixRgba16.{PixRgba16}
+use Rattle.pix_c.specs.declared.format.PixGraya8.{PixGraya8}
+
+-- the first `width` elements of each of `height` rows that start `stride` elements apart
+abbrev pub rows_of : {D : Type 0} → ℕ → ℕ → ℕ → List D → List D
+rows_of width zero stride items = []
+rows_of width (suc height) stride items = take width items ++ rows_of width height stride (drop stride items)
+
+-- the image of that width and height in rows that start `stride` elements apart
+abbrev pub image_of : {D : Type 0} → ℕ → ℕ → ℕ → List D → Image D
+image_of width height stride items = record { width = width; height = height; pixels = rows_of width height stride items }
+
+-- the operators in the order of their numbers
+abbrev pub op_at : ℕ → Op
+op_at number = slice_index_or
+    (ops.Src ∷ ops.Dest ∷ ops.SrcOver ∷ ops.DestOver ∷ ops.SrcOut ∷ ops.DestOut ∷ ops.SrcIn ∷ ops.DestIn
+    ∷ ops.SrcAtop ∷ ops.DestAtop ∷ ops.Xor ∷ ops.Clear ∷ ops.Plus ∷ []) number ops.Plus
+
+-- the rectangle of a region
+abbrev pub rectangle : PixRegion → Rectangle
+rectangle r = record { left = r.x; top = r.y; width = r.width; height = r.height }
+
+-- an image as a source of a command of the library
+abbrev pub lent : {D : Type 0} → Image D → Bor (Image D)
+lent image = record { ref_ptr = (0, 0); now = image }
+
+-- a command by the number of its kind, as one of the library
+abbrev pub command_of : {D M : Type 0} → FlatCommand D M → Command D M
+command_of c =
+    let pixels = lent (image_of c.width c.height c.stride c.pixels.now) in
+    let mattes = lent (image_of c.width c.height c.stride c.mattes.now) in
+    if nat_eq c.kind 0 then commands.Clear
+    else (if nat_eq c.kind 1 then commands.CopyColor (rectangle c.to) c.color
+    else (if nat_eq c.kind 2 then commands.CopyRaster (rectangle c.to) pixels (rectangle c.from)
+    else (if nat_eq c.kind 3 then commands.Color (rectangle c.to) c.color (op_at c.op)
+    else (if nat_eq c.kind 4 then commands.Raster (rectangle c.to) pixels (rectangle c.from) (op_at c.op)
+    else commands.Matte (rectangle c.to) mattes (rectangle c.from) c.color (op_at c.op)))))
+
+-- the commands of each format, in the layout of all formats
+abbrev pub rgba8_command : PixCommand → FlatCommand PixRgba8 ℕ
+rgba8_command c = record {
+  kind = c.kind;
+  op = c.op;
+  to = c.to;
+  from = c.from;
+  color = c.color;
+  pixels = c.pixels;
+  mattes = c.mattes;
+  width = c.width;
+  height = c.height;
+  stride = c.stride;
+}
+
+abbrev pub rgba16_command : PixCommandRgba16 → FlatCommand PixRgba16 ℕ
+rgba16_command c = record {
+  kind = c.kind;
+  op = c.op;
+  to = c.to;
+  from = c.from;
+  color = c.color;
+  pixels = c.pixels;
+  mattes = c.mattes;
+  width = c.width;
+  height = c.height;
+  stride = c.stride;
+}
+
+abbrev pub graya8_command : PixCommandGraya8 → FlatCommand PixGraya8 ℕ
+graya8_command c = record {
+  kind = c.kind;
+  op = c.op;
+  to = c.to;
+  from = c.from;
+  color = c.color;
+  pixels = c.pixels;
+  mattes = c.mattes;
+  width = c.width;
+  height = c.height;
+  stride = c.stride;
+}

@@ -1,0 +1,5 @@
+pub mod Format
+pub mod FormatLaws
+pub mod Command
+pub mod Status
+pub mod Run

@@ -1,0 +1,93 @@
+//! The library for C and other languages: a list of commands is run on the caller's own pixels, in place.
+//!
+//! It takes no memory, keeps nothing between two calls, and answers every refusal by a status.
+#![tactic(auto)]
+
+ghost use Rattle.std.specs.Prelude.{◌≡◌, ◌≢◌, length, map};
+ghost use Rattle.pix_c.specs.Format.{rgba8, rgba8_numbers, rgba16, rgba16_numbers, graya8, graya8_numbers};
+ghost use Rattle.pix_c.specs.Format.{matte8_numbers, matte16_numbers};
+ghost use Rattle.pix_c.specs.Command.{rgba8_command, rgba16_command, graya8_command};
+ghost use Rattle.pix_c.specs.Status.{status_of, done_of};
+ghost use Rattle.pix_c.specs.Run.{IsRun};
+
+mod command;
+mod copy;
+mod format;
+mod operator;
+mod paint;
+mod run;
+mod sixteen;
+mod size;
+mod status;
+
+pub use crate::command::{PixCommand, PixCommandGraya8, PixCommandRgba16, PixRegion};
+pub use crate::format::{PixGraya8, PixRgba8, PixRgba16};
+pub use crate::status::{BAD_KIND, BAD_OP, BAD_REGION, BAD_SIZE, BAD_SOURCE, DONE};
+use pix::gray::Graya8p;
+use pix::rgb::{Rgba8p, Rgba16p};
+
+/// Runs `commands` in order on an image of `width` columns and `height` rows, which start `stride` pixels apart in `pixels`.
+///
+/// Returns 0 when all are done. Else nothing was painted, and the status says why: the image is not in `pixels`, or the first command
+/// that is refused. `done` is the number of commands before that one, and of all of them when they are done.
+#[unsafe(no_mangle)]
+pub extern "C" fn pix_run_commands(
+    pixels: &mut [PixRgba8],
+    width: u32,
+    height: u32,
+    stride: u32,
+    commands: &[PixCommand<'_>],
+    done: &mut usize,
+) -> u32
+    ensures status { result ≡ status_of width height stride (length pixels.old)
+        (map rgba8_command commands.now) }
+    ensures done { done.new ≡ done_of width height stride (length pixels.old)
+        (map rgba8_command commands.now) }
+    ensures refused { result ≢ 0 → pixels.new ≡ pixels.old }
+    ensures run { result ≡ 0 → IsRun rgba8 rgba8_numbers matte8_numbers width height stride
+        (map rgba8_command commands.now) pixels.old pixels.new }
+{
+    run::run::<Rgba8p, PixRgba8, u8, PixCommand<'_>>(pixels, width, height, stride, commands, done)
+}
+
+/// Does what [`pix_run_commands`] does, on 16-bit pixels of red, green, blue and alpha.
+#[unsafe(no_mangle)]
+pub extern "C" fn pix_run_commands_rgba16(
+    pixels: &mut [PixRgba16],
+    width: u32,
+    height: u32,
+    stride: u32,
+    commands: &[PixCommandRgba16<'_>],
+    done: &mut usize,
+) -> u32
+    ensures status { result ≡ status_of width height stride (length pixels.old)
+        (map rgba16_command commands.now) }
+    ensures done { done.new ≡ done_of width height stride (length pixels.old)
+        (map rgba16_command commands.now) }
+    ensures refused { result ≢ 0 → pixels.new ≡ pixels.old }
+    ensures run { result ≡ 0 → IsRun rgba16 rgba16_numbers matte16_numbers width height stride
+        (map rgba16_command commands.now) pixels.old pixels.new }
+{
+    run::run::<Rgba16p, PixRgba16, u16, PixCommandRgba16<'_>>(pixels, width, height, stride, commands, done)
+}
+
+/// Does what [`pix_run_commands`] does, on 8-bit pixels of gray and alpha.
+#[unsafe(no_mangle)]
+pub extern "C" fn pix_run_commands_graya8(
+    pixels: &mut [PixGraya8],
+    width: u32,
+    height: u32,
+    stride: u32,
+    commands: &[PixCommandGraya8<'_>],
+    done: &mut usize,
+) -> u32
+    ensures status { result ≡ status_of width height stride (length pixels.old)
+        (map graya8_command commands.now) }
+    ensures done { done.new ≡ done_of width height stride (length pixels.old)
+        (map graya8_command commands.now) }
+    ensures refused { result ≢ 0 → pixels.new ≡ pixels.old }
+    ensures run { result ≡ 0 → IsRun graya8 graya8_numbers matte8_numbers width height stride
+        (map graya8_command commands.now) pixels.old pixels.new }
+{
+    run::run::<Graya8p, PixGraya8, u8, PixCommandGraya8<'_>>(pixels, width, height, stride, commands, done)
+}

@@ -1,0 +1,74 @@
+//! The run of a list of commands on the caller's pixels, for any format.
+ghost use Rattle.std.specs.Prelude.{◌≡◌, ◌≢◌, length, map};
+ghost use Rattle.pix.specs.Lent.{IsShaped};
+ghost use Rattle.pix_c.specs.Status.{status_of, done_of, first_fault};
+ghost use Rattle.pix_c.specs.Run.{IsRun, IsRunIn};
+
+use crate::command::Flatten;
+use crate::format::{Flat, FlatPixel};
+use crate::paint::paint;
+use crate::size::is_sized;
+use crate::status::{BAD_SIZE, DONE, first_fault};
+use pix::chan::{Linear, Premultiplied};
+use pix::el::{Pix, Pixel};
+use pix::lent::Shape;
+use pix::matte::Matte;
+
+/// Runs `commands` in order on the image of that width, height and stride in `pixels`.
+///
+/// Returns 0 when all are done. Else nothing was painted, and the status says why: the image is not in `pixels`, or the first command
+/// that is refused. `done` is the number of commands before that one, and of all of them when they are done.
+pub(crate) fn run<
+    P: Pixel<Alpha = Premultiplied, Gamma = Linear>,
+    D: FlatPixel<P>,
+    M: Flat<Pix<1, P::Chan, Matte, Premultiplied, Linear>>,
+    C: Flatten<D, M>,
+>(
+    pixels: &mut [D],
+    width: u32,
+    height: u32,
+    stride: u32,
+    commands: &[C],
+    done: &mut usize,
+) -> u32
+    ensures status { result ≡ status_of width height stride (length pixels.old)
+        (map C.flat commands.now) }
+    ensures done { done.new ≡ done_of width height stride (length pixels.old)
+        (map C.flat commands.now) }
+    ensures refused { result ≢ 0 → pixels.new ≡ pixels.old }
+    ensures run { result ≡ 0 → IsRun P.layout D.numbers M.numbers width height stride
+        (map C.flat commands.now) pixels.old pixels.new }
+{
+    if !is_sized(width, height, stride, pixels.len()) {
+        *done = 0;
+        return BAD_SIZE;
+    }
+    let fault = first_fault(commands, done);
+    if fault == DONE && width > 0 {
+        let stride = stride as usize;
+        let shape = Shape {
+            width,
+            height,
+            stride,
+        };
+        run_all::<P, D, M, C>(pixels, shape, commands);
+    }
+    fault
+}
+
+/// Runs commands of which none is refused.
+fn run_all<
+    P: Pixel<Alpha = Premultiplied, Gamma = Linear>,
+    D: FlatPixel<P>,
+    M: Flat<Pix<1, P::Chan, Matte, Premultiplied, Linear>>,
+    C: Flatten<D, M>,
+>(pixels: &mut [D], shape: Shape, commands: &[C])
+    requires shaped { IsShaped shape (length pixels.old) }
+    requires sound { first_fault (map C.flat commands.now) ≡ 0 }
+    ensures { IsRunIn P.layout D.numbers M.numbers shape
+        (map C.flat commands.now) pixels.old pixels.new }
+{
+    for command in commands {
+        paint::<P, D, M>(pixels, shape, &command.flat());
+    }
+}

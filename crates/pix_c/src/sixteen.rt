@@ -1,0 +1,238 @@
+//! Composites in a row of pixels in memory: sixteen at a time are read, composited by planes and written back.
+ghost use Rattle.std.specs.Prelude.{◌≡◌, ◌+◌, List, ℕ, length, map, ⊤};
+ghost use Rattle.pix_el.specs.PixelComposite.{pixel_composite, matted_composite, matte_value, over};
+
+use crate::format::{Flat, FlatPixel};
+use pix::chan::{Linear, Premultiplied};
+use pix::el::{Pix, Pixel};
+use pix::lent::{Blit, Fill};
+use pix::matte::Matte;
+use pix::ops::Blend;
+use std::marker::PhantomData;
+
+/// Returns sixteen pixels of the library.
+#[inline(always)]
+fn read_sixteen<P: Pixel, S: Flat<P>>(part: &[S]) -> [P; 16]
+    requires { length part.now ≡ 16 }
+    ensures { map P.numbers result ≡ map S.numbers part.now }
+{
+    [
+        part[0].read(),
+        part[1].read(),
+        part[2].read(),
+        part[3].read(),
+        part[4].read(),
+        part[5].read(),
+        part[6].read(),
+        part[7].read(),
+        part[8].read(),
+        part[9].read(),
+        part[10].read(),
+        part[11].read(),
+        part[12].read(),
+        part[13].read(),
+        part[14].read(),
+        part[15].read(),
+    ]
+}
+
+/// Writes as many pixels of the library.
+#[inline(always)]
+fn write_pixels<P: Pixel, D: FlatPixel<P>>(part: &mut [D], pixels: &[P])
+    requires { length pixels.now ≡ length part.old }
+    ensures { map D.numbers part.new ≡ map P.numbers pixels.now }
+{
+    for i in 0..part.len() {
+        part[i] = D::write(&pixels[i]);
+    }
+}
+
+/// A change of the pixels of a row, each by a pixel of another row.
+trait Merge<P: Pixel, Q: Pixel> {
+    /// What it makes of a source and a pixel.
+    ghost makes: { Self → List ℕ → List ℕ → List ℕ };
+
+    /// Changes each pixel of a row by the pixel of the source at the same place.
+    fn merge(&self, row: &mut [P], src: &[Q])
+        requires { P.layout.count ≡ P.layout.alpha + 1 }
+        ensures { map P.numbers row.new ≡ over (makes self.now) (map Q.numbers src.now)
+            (map P.numbers row.old) };
+
+    /// Changes one pixel by one of the source.
+    fn merge_one(&self, pixel: &mut P, src: &Q)
+        requires { P.layout.count ≡ P.layout.alpha + 1 }
+        ensures { P.numbers pixel.new ≡ makes self.now (Q.numbers src.now) (P.numbers pixel.old) };
+}
+
+/// Changes sixteen pixels in memory.
+#[inline(always)]
+fn merge_sixteen<P: Pixel, D: FlatPixel<P>, Q: Pixel, S: Flat<Q>, B: Merge<P, Q>>(
+    part: &mut [D],
+    src: &[S],
+    change: &B,
+)
+    requires size { length part.old ≡ 16 }
+    requires src_size { length src.now ≡ 16 }
+    ensures { map D.numbers part.new ≡ over (B.makes change.now) (map S.numbers src.now)
+        (map D.numbers part.old) }
+{
+    let mut pixels = read_sixteen::<P, D>(part);
+    change.merge(&mut pixels, &read_sixteen::<Q, S>(src));
+    write_pixels(part, &pixels);
+}
+
+/// Changes each pixel of a row by the pixel of the source at the same place.
+#[inline(always)]
+fn merge_row<P: Pixel, D: FlatPixel<P>, Q: Pixel, S: Flat<Q>, B: Merge<P, Q>>(
+    row: &mut [D],
+    src: &[S],
+    change: &B,
+)
+    ensures { map D.numbers row.new ≡ over (B.makes change.now) (map S.numbers src.now)
+        (map D.numbers row.old) }
+{
+    let count = row.len().min(src.len());
+    for k in 0..count / 16 {
+        merge_sixteen(
+            &mut row[16 * k..16 * k + 16],
+            &src[16 * k..16 * k + 16],
+            change,
+        );
+    }
+    for i in count / 16 * 16..count {
+        let mut pixel = row[i].read();
+        change.merge_one(&mut pixel, &src[i].read());
+        row[i] = D::write(&pixel);
+    }
+}
+
+/// Composites pixels.
+#[derive(Clone, Copy)]
+pub(crate) struct CompositedPixels<P, O> {
+    pub(crate) op: O,
+    pub(crate) format: PhantomData<P>,
+}
+
+impl<P: Pixel<Alpha = Premultiplied, Gamma = Linear>, O: Blend> Merge<P, P> for CompositedPixels<
+    P,
+    O,
+> {
+    ghost makes = { λ _. pixel_composite P.layout O.op };
+
+    #[inline(always)]
+    fn merge(&self, row: &mut [P], src: &[P]) {
+        P::composite_slice(row, src, self.op);
+    }
+
+    #[inline(always)]
+    fn merge_one(&self, pixel: &mut P, src: &P) {
+        pixel.composite_channels(src, self.op);
+    }
+}
+
+impl<P: Pixel<Alpha = Premultiplied, Gamma = Linear>, D: FlatPixel<P>, O: Blend> Blit<
+    D,
+    D,
+> for CompositedPixels<P, O> {
+    ghost can_blit = { ⊤ };
+
+    ghost reads = { D.numbers };
+
+    ghost source_reads = { D.numbers };
+
+    ghost makes = { λ _. pixel_composite P.layout O.op };
+
+    fn blit(&self, row: &mut [D], src: &[D]) {
+        merge_row::<P, D, P, D, Self>(row, src, self);
+    }
+}
+
+/// Composites a color through mattes.
+#[derive(Clone, Copy)]
+pub(crate) struct MattedColor<P, O> {
+    pub(crate) clr: P,
+    pub(crate) op: O,
+}
+
+impl<P: Pixel<Alpha = Premultiplied, Gamma = Linear>, O: Blend> Merge<
+    P,
+    Pix<1, P::Chan, Matte, Premultiplied, Linear>,
+> for MattedColor<P, O> {
+    ghost makes = { λ it matte. matted_composite P.layout O.op
+        (matte_value P.layout matte) (P.numbers it.clr) };
+
+    #[inline(always)]
+    fn merge(&self, row: &mut [P], src: &[Pix<1, P::Chan, Matte, Premultiplied, Linear>]) {
+        P::composite_matte(row, src, &self.clr, self.op);
+    }
+
+    #[inline(always)]
+    fn merge_one(&self, pixel: &mut P, src: &Pix<1, P::Chan, Matte, Premultiplied, Linear>) {
+        pixel.composite_channels_alpha(&self.clr, self.op, &src.alpha());
+    }
+}
+
+impl<
+    P: Pixel<Alpha = Premultiplied, Gamma = Linear>,
+    D: FlatPixel<P>,
+    M: Flat<Pix<1, P::Chan, Matte, Premultiplied, Linear>>,
+    O: Blend,
+> Blit<D, M> for MattedColor<P, O> {
+    ghost can_blit = { ⊤ };
+
+    ghost reads = { D.numbers };
+
+    ghost source_reads = { M.numbers };
+
+    ghost makes = { λ it matte. matted_composite P.layout O.op
+        (matte_value P.layout matte) (P.numbers it.clr) };
+
+    fn blit(&self, row: &mut [D], src: &[M]) {
+        merge_row::<P, D, Pix<1, P::Chan, Matte, Premultiplied, Linear>, M, Self>(row, src, self);
+    }
+}
+
+/// Composites a color.
+#[derive(Clone, Copy)]
+pub(crate) struct CompositedColor<P, O> {
+    pub(crate) clr: P,
+    pub(crate) op: O,
+}
+
+/// Composites a color with sixteen pixels in memory.
+#[inline(always)]
+fn color_sixteen<
+    P: Pixel<Alpha = Premultiplied, Gamma = Linear>,
+    D: FlatPixel<P>,
+    O: Blend,
+>(part: &mut [D], clr: &P, op: O)
+    requires { length part.old ≡ 16 }
+    ensures { map D.numbers part.new ≡
+        map (pixel_composite P.layout O.op (P.numbers clr.now)) (map D.numbers part.old) }
+{
+    let mut pixels = read_sixteen::<P, D>(part);
+    P::composite_color(&mut pixels, clr, op);
+    write_pixels(part, &pixels);
+}
+
+impl<P: Pixel<Alpha = Premultiplied, Gamma = Linear>, D: FlatPixel<P>, O: Blend> Fill<
+    D,
+> for CompositedColor<P, O> {
+    ghost can_fill = { ⊤ };
+
+    ghost reads = { D.numbers };
+
+    ghost makes = { λ it. pixel_composite P.layout O.op (P.numbers it.clr) };
+
+    fn fill(&self, row: &mut [D]) {
+        let count = row.len();
+        for k in 0..count / 16 {
+            color_sixteen(&mut row[16 * k..16 * k + 16], &self.clr, self.op);
+        }
+        for i in count / 16 * 16..count {
+            let mut pixel = row[i].read();
+            pixel.composite_channels(&self.clr, self.op);
+            row[i] = D::write(&pixel);
+        }
+    }
+}

@@ -1,0 +1,17 @@
+//! Whether the rows of an image lie in memory that was passed.
+ghost use Rattle.std.specs.Prelude.{◌≡◌};
+ghost use Rattle.pix_c.specs.Status.{is_sized};
+
+/// The maximum width and height of an image or a region.
+pub(crate) const LIMIT: u32 = 2147483647;
+
+/// Returns whether the rows of an image of that width and height, `stride` apart, lie in `count` elements.
+pub(crate) fn is_sized(width: u32, height: u32, stride: u32, count: usize) -> bool
+    ensures { result ≡ is_sized width height stride count }
+{
+    width <= LIMIT
+        && height <= LIMIT
+        && width <= stride
+        && (height == 0
+            || u64::from(height - 1) * u64::from(stride) + u64::from(width) <= count as u64)
+}
