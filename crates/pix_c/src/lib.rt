@@ -1,0 +1,4 @@
+//! The calls of the library for programs in other languages.
+#![tactic(auto)]
+
+mod convert;
