@@ -12,6 +12,8 @@ use pix_el::el::Pixel;
 use pix_el::rgb::{Rgb8, Rgba8, Rgba8p, SRgb8, SRgba8, SRgba8p};
 
 mod bytes;
+#[cfg(test)]
+mod tests;
 
 /// The conversion is done.
 const DONE: u32 = 0;
