@@ -24,7 +24,13 @@ const BAD_FORMAT: u32 = 6;
 /// A length is not that of as many pixels.
 const BAD_LENGTH: u32 = 7;
 
-/// Converts `count` pixels of `src`, of the format of number `from`, to the format of number `to`, into `dst`.
+/// Converts `count` pixels of `src`, which have the format of number `from`, to the format of number `to`, and writes them to `dst`.
+///
+/// A pixel is its channels in order, one byte each, and no byte stands between two pixels. The formats are 0 `SRgba8`, 1 `SRgba8p`,
+/// 2 `Rgba8`, 3 `Rgba8p`, 4 `Bgra8`, 5 `Bgra8p`, 6 `Rgb8`, 7 `Gray8`, 8 `SBgra8`, 9 `SBgra8p`, 10 `SRgb8` and 11 `SGray8`.
+///
+/// Answers 0 where the pixels are converted. Nothing is written, and the answer is 6 where `from` or `to` is the number of no format,
+/// else 7 where `src` or `dst` is not as long as `count` pixels.
 #[unsafe(no_mangle)]
 pub extern "C" fn pix_convert_bytes(
     from: u32,
@@ -72,7 +78,7 @@ fn are_pixels(len: usize, wide: usize, count: usize) -> bool
     count.checked_mul(wide) == Some(len)
 }
 
-/// Converts pixels of the format of number `from` to the format of number `to`. Conditions: there are so many in both buffers.
+/// Converts pixels of the format of number `from` to the format of number `to`. Condition: there are `count` in both buffers.
 fn convert(from: u32, to: u32, src: &[u8], dst: &mut [u8], count: usize)
     requires src { length src.now ≡ count * channels_of from }
     requires dst { length dst.old ≡ count * channels_of to }
@@ -97,7 +103,9 @@ fn convert(from: u32, to: u32, src: &[u8], dst: &mut [u8], count: usize)
     }
 }
 
-/// Converts pixels of the format `S` to the format of number `to`. Conditions: there are so many in both buffers.
+/// Converts pixels of the format `S` to the format of number `to`.
+///
+/// Condition: there are `count` in both buffers, and `S` has at most four channels.
 fn convert_from<S>(to: u32, src: &[u8], dst: &mut [u8], count: usize)
 where
     S: Bytes,
@@ -127,7 +135,9 @@ where
     }
 }
 
-/// Converts pixels of the format `S` to the format `D`. Conditions: there are so many in both buffers.
+/// Converts pixels of the format `S` to the format `D`.
+///
+/// Condition: there are `count` in both buffers, `S` has at most four channels, and `D` no more than its model.
 fn convert_pixels<S, D>(src: &[u8], dst: &mut [u8], count: usize)
 where
     S: Bytes,

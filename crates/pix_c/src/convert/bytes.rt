@@ -36,9 +36,11 @@ where
 
     fn write(&self, bytes: &mut [u8]) {
         let channels = self.channels();
-        for place in 0..bytes.len() {
-            bytes[place] = channels[place].into();
+        let mut own = [0; N];
+        for place in 0..N {
+            own[place] = channels[place].into();
         }
+        bytes.copy_from_slice(&own);
     }
 }
 

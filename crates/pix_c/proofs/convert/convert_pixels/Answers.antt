@@ -1,4 +1,4 @@
-use Rattle.std.proofs.Common.{◌≡◌, ◌+◌, ◌-◌, ◌*◌, ◌≤◌, ◌<◌, length, slice_range, ap, ◌∙◌, sym, arith}
+use Rattle.std.proofs.Common.{◌≡◌, ◌+◌, ◌-◌, ◌*◌, ◌≤◌, length, slice_range, ap, ◌∙◌, sym, arith}
 use Rattle.std.proofs.Math.Nat.{mul-le-mul_right}
 use Rattle.pix_el.specs.Conversion.{Format, converted}
 use Rattle.pix_c.specs.Converted.{pixel_at}
@@ -13,7 +13,6 @@ loop-place-preserved g c =
     let to_wide : c.width-to_wide.result ≡ g.D.Pixel.format.layout.count = c.width-to_wide.ensures ∙ sym (ap count_of g.met.D.Pixel.formatted) in
     let at : place * c.width-to_wide.result ≡ place * g.D.Pixel.format.layout.count = ap (λ n. place * n) to_wide in
     let span : place * c.width-to_wide.result + c.width-to_wide.result - place * c.width-to_wide.result ≡ c.width-to_wide.result = omega arith in
-    let lt : place < c.args.count = c.loop-place-test.true in
     let up : place * g.D.Pixel.layout.count ≤ c.args.count * g.D.Pixel.layout.count = mul-le-mul_right g.D.Pixel.layout.count (let p : place ≤ c.args.count = omega arith in p) in
     let same : place * c.width-to_wide.result ≡ place * g.D.Pixel.layout.count = ap (λ n. place * n) c.width-to_wide.ensures in
     let within : place * c.width-to_wide.result ≤ length c.loop-place.dst = omega arith in
