@@ -4,3 +4,4 @@ pub mod Images
 pub mod Effects
 pub mod Painted
 pub mod Ran
+pub mod ConvertedPixels

@@ -3,3 +3,5 @@ pub mod FormatLaws
 pub mod Command
 pub mod Status
 pub mod Run
+pub mod Formats
+pub mod Converted

@@ -150,10 +150,7 @@ impl Flat<Graya8p> for PixGraya8 {
     #[inline(always)]
     fn read(&self) -> Graya8p {
         let [value, alpha] = self.channels;
-        Graya8p::with_channels([
-            Ch8::new(value),
-            Ch8::new(alpha),
-        ])
+        Graya8p::with_channels([Ch8::new(value), Ch8::new(alpha)])
     }
 
     ghost fits = { λ it. bytes_fit it.channels };
@@ -166,10 +163,7 @@ impl FlatPixel<Graya8p> for PixGraya8 {
     fn write(pixel: &Graya8p) -> PixGraya8 {
         let channels = pixel.channels();
         PixGraya8 {
-            channels: [
-                u8::from(channels[0]),
-                u8::from(channels[1]),
-            ],
+            channels: [u8::from(channels[0]), u8::from(channels[1])],
         }
     }
 

@@ -1,4 +1,5 @@
-//! The library for C and other languages: a list of commands is run on the caller's own pixels, in place.
+//! The library for C and other languages: a list of commands is run on the caller's own pixels, in place, and buffers of pixels are
+//! converted from one format to another.
 //!
 //! It takes no memory, keeps nothing between two calls, and answers every refusal by a status.
 #![tactic(auto)]
@@ -11,6 +12,7 @@ ghost use Rattle.pix_c.specs.Status.{status_of, done_of};
 ghost use Rattle.pix_c.specs.Run.{IsRun};
 
 mod command;
+mod convert;
 mod copy;
 mod format;
 mod operator;
@@ -21,8 +23,11 @@ mod size;
 mod status;
 
 pub use crate::command::{PixCommand, PixCommandGraya8, PixCommandRgba16, PixRegion};
+pub use crate::convert::pix_convert_bytes;
 pub use crate::format::{PixGraya8, PixRgba8, PixRgba16};
-pub use crate::status::{BAD_KIND, BAD_OP, BAD_REGION, BAD_SIZE, BAD_SOURCE, DONE};
+pub use crate::status::{
+    BAD_FORMAT, BAD_KIND, BAD_LENGTH, BAD_OP, BAD_REGION, BAD_SIZE, BAD_SOURCE, DONE,
+};
 use pix::gray::Graya8p;
 use pix::rgb::{Rgba8p, Rgba16p};
 
@@ -68,7 +73,9 @@ pub extern "C" fn pix_run_commands_rgba16(
     ensures run { result ≡ 0 → IsRun rgba16 rgba16_numbers matte16_numbers width height stride
         (map rgba16_command commands.now) pixels.old pixels.new }
 {
-    run::run::<Rgba16p, PixRgba16, u16, PixCommandRgba16<'_>>(pixels, width, height, stride, commands, done)
+    run::run::<Rgba16p, PixRgba16, u16, PixCommandRgba16<'_>>(
+        pixels, width, height, stride, commands, done,
+    )
 }
 
 /// Does what [`pix_run_commands`] does, on 8-bit pixels of gray and alpha.
@@ -89,5 +96,7 @@ pub extern "C" fn pix_run_commands_graya8(
     ensures run { result ≡ 0 → IsRun graya8 graya8_numbers matte8_numbers width height stride
         (map graya8_command commands.now) pixels.old pixels.new }
 {
-    run::run::<Graya8p, PixGraya8, u8, PixCommandGraya8<'_>>(pixels, width, height, stride, commands, done)
+    run::run::<Graya8p, PixGraya8, u8, PixCommandGraya8<'_>>(
+        pixels, width, height, stride, commands, done,
+    )
 }

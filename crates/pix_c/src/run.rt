@@ -23,14 +23,7 @@ pub(crate) fn run<
     D: FlatPixel<P>,
     M: Flat<Pix<1, P::Chan, Matte, Premultiplied, Linear>>,
     C: Flatten<D, M>,
->(
-    pixels: &mut [D],
-    width: u32,
-    height: u32,
-    stride: u32,
-    commands: &[C],
-    done: &mut usize,
-) -> u32
+>(pixels: &mut [D], width: u32, height: u32, stride: u32, commands: &[C], done: &mut usize) -> u32
     ensures status { result ≡ status_of width height stride (length pixels.old)
         (map C.flat commands.now) }
     ensures done { done.new ≡ done_of width height stride (length pixels.old)

@@ -113,10 +113,8 @@ pub(crate) struct CompositedPixels<P, O> {
     pub(crate) format: PhantomData<P>,
 }
 
-impl<P: Pixel<Alpha = Premultiplied, Gamma = Linear>, O: Blend> Merge<P, P> for CompositedPixels<
-    P,
-    O,
-> {
+impl<P: Pixel<Alpha = Premultiplied, Gamma = Linear>, O: Blend> Merge<P, P>
+    for CompositedPixels<P, O> {
     ghost makes = { λ _. pixel_composite P.layout O.op };
 
     #[inline(always)]
@@ -130,10 +128,8 @@ impl<P: Pixel<Alpha = Premultiplied, Gamma = Linear>, O: Blend> Merge<P, P> for 
     }
 }
 
-impl<P: Pixel<Alpha = Premultiplied, Gamma = Linear>, D: FlatPixel<P>, O: Blend> Blit<
-    D,
-    D,
-> for CompositedPixels<P, O> {
+impl<P: Pixel<Alpha = Premultiplied, Gamma = Linear>, D: FlatPixel<P>, O: Blend> Blit<D, D>
+    for CompositedPixels<P, O> {
     ghost can_blit = { ⊤ };
 
     ghost reads = { D.numbers };
@@ -201,11 +197,11 @@ pub(crate) struct CompositedColor<P, O> {
 
 /// Composites a color with sixteen pixels in memory.
 #[inline(always)]
-fn color_sixteen<
-    P: Pixel<Alpha = Premultiplied, Gamma = Linear>,
-    D: FlatPixel<P>,
-    O: Blend,
->(part: &mut [D], clr: &P, op: O)
+fn color_sixteen<P: Pixel<Alpha = Premultiplied, Gamma = Linear>, D: FlatPixel<P>, O: Blend>(
+    part: &mut [D],
+    clr: &P,
+    op: O,
+)
     requires { length part.old ≡ 16 }
     ensures { map D.numbers part.new ≡
         map (pixel_composite P.layout O.op (P.numbers clr.now)) (map D.numbers part.old) }
@@ -215,9 +211,8 @@ fn color_sixteen<
     write_pixels(part, &pixels);
 }
 
-impl<P: Pixel<Alpha = Premultiplied, Gamma = Linear>, D: FlatPixel<P>, O: Blend> Fill<
-    D,
-> for CompositedColor<P, O> {
+impl<P: Pixel<Alpha = Premultiplied, Gamma = Linear>, D: FlatPixel<P>, O: Blend> Fill<D>
+    for CompositedColor<P, O> {
     ghost can_fill = { ⊤ };
 
     ghost reads = { D.numbers };

@@ -1,4 +1,4 @@
-//! Which commands are refused, and by which status.
+//! Statuses, and which commands are refused.
 ghost use Rattle.std.specs.Prelude.{◌≡◌, map};
 ghost use Rattle.pix_c.specs.Status.{fits, has_source, fault_of, first_fault, count_before_fault};
 
@@ -22,6 +22,12 @@ pub const BAD_OP: u32 = 4;
 
 /// The source that the kind reads is refused for what [`BAD_SIZE`] says of the image.
 pub const BAD_SOURCE: u32 = 5;
+
+/// A number of a format is that of none.
+pub const BAD_FORMAT: u32 = 6;
+
+/// A buffer is not as long as its pixels.
+pub const BAD_LENGTH: u32 = 7;
 
 /// Returns whether the sides of a region are within the limit.
 fn fits(reg: PixRegion) -> bool

@@ -34,4 +34,4 @@ returns-then-width-gt0-clause-run g c =
     sized_is_shaped c.args.width c.args.height c.args.stride (length c.args.pixels.now) (sym c.is_sized.ensures ∙ c.if-not-is_sized.false) in
     let apart : 0 < c.args.stride = let h : c.args.width ≤ c.args.stride = shaped.apart in omega arith in
     λ e. ran_is_run g.P.Pixel.layout n mattes c.args.width c.args.height c.args.stride (map g.C.Flatten.flat c.args.commands.now) c.args.pixels.now c.run_all.new.pixels
-        apart format shaped c.run_all.auto.pixels c.run_all.ensures
+    apart format shaped c.run_all.auto.pixels c.run_all.ensures
