@@ -1,7 +1,7 @@
 //! Pixels as bytes, one a channel.
 ghost use Rattle.std.specs.Prelude.{◌≡◌, ◌≤◌, length, slice_index};
 
-use pix::chan::{Alpha, Ch8, Gamma};
+use pix::chan::{Alpha, Ch8, Channel, Gamma};
 use pix::el::{Pix, Pixel};
 use pix_el::model::ColorModel;
 
@@ -46,7 +46,7 @@ where
 
 /// Returns the channel of the byte at a place, and 0 where there is none.
 fn channel_at(bytes: &[u8], place: usize) -> Ch8
-    ensures { result.value ≡ slice_index bytes.now place }
+    ensures { ⟦<Ch8 as Channel>⟧.number result ≡ slice_index bytes.now place }
 {
     Ch8::new(*bytes.get(place).unwrap_or(&0))
 }
