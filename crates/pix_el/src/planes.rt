@@ -1,6 +1,7 @@
-//! Composites of pixels by planes: arrays of sixteen channels of one number, each composited by one run.
+//! Composites of pixels by runs of sixteen channels.
 //!
-//! Pixels of four channels with at most a hue at the first go by planes, and so do pixels of two channels without a hue.
+//! Pixels of four channels without a hue go four at a time. Pixels of four channels with a hue at the first go by planes, arrays of sixteen
+//! channels of one number, and so do pixels of two channels without a hue, and all of these through mattes.
 ghost use Rattle.std.specs.Prelude.{◌≡◌, ◌≤◌, ◌+◌, ◌-◌, ℕ, length, map, take, true, replicate};
 ghost use Rattle.pix_chan.specs.Runs.{over, triples};
 ghost use Rattle.pix_el.specs.Planes.{run_hue, run_first, matted_first};
