@@ -4,7 +4,7 @@ use Rattle.std.proofs.Common.{w8, Fits}
 use mir.Syntax.{w16}
 use Rattle.pix_chan.specs.Number.{saturating_sum}
 use Rattle.pix_chan.specs.Product.{channel_product}
-use Rattle.pix_chan.proofs.LaneProduct.{near_lane, near_fits, multiplier}
+use Rattle.pix_chan.proofs.LaneProduct.{near_lane, near_fits}
 use lib.Lanes.{zip2, Each1, sel_l, top}
 use mir.Val.{hbits, bits}
 use mir.Syntax.{Width}
@@ -61,20 +61,14 @@ Each1-near (x ∷ a) (y ∷ b) p q = (near_fits x y p.0 q.0, Each1-near a b p.1 
 
 -- the product of two vectors of bytes, as it is computed on wider lanes
 abbrev pub wide : ℕ × ℕ → ℕ
-wide v = v.0 * 2 ^ 8 % 2 ^ 16 * multiplier v.1 % 2 ^ 32 / 2 ^ 16
+wide v = (v.0 * v.1 % 2 ^ 16 + 128) % 2 ^ 16 * 257 % 2 ^ 32 / 2 ^ 16
 
 module _ (a b : List ℕ) (la : length a ≡ 16) (lb : length b ≡ 16) where
-  abbrev factors : List ℕ
-  factors = zip2 (shl (2 ^ 16)) (map same a) (replicate 16 8)
-
-  abbrev doubled : List ℕ
-  doubled = zip2 (mul (2 ^ 16)) (map same b) (replicate 16 257)
-
-  abbrev multipliers : List ℕ
-  multipliers = zip2 (add (2 ^ 16)) doubled (zip2 shr (zip2 (add (2 ^ 16)) doubled (replicate 16 1)) (replicate 16 15))
+  abbrev sums : List ℕ
+  sums = zip2 (add (2 ^ 16)) (zip2 (mul (2 ^ 16)) (map same a) (map same b)) (replicate 16 128)
 
   abbrev pub high_halves : List ℕ
-  high_halves = zip2 shr (zip2 (mul (2 ^ 32)) (map same factors) (map same multipliers)) (replicate 16 16)
+  high_halves = zip2 shr (zip2 (mul (2 ^ 32)) (map same sums) (replicate 16 257)) (replicate 16 16)
 
   pub high_halves_are : high_halves ≡ map wide (pairs a b)
   high_halves_are =
@@ -82,24 +76,15 @@ module _ (a b : List ℕ) (la : length a ≡ 16) (lb : length b ≡ 16) where
       let l = length-pairs a b 16 la lb in
       let x = ap (map same) (firsts a b (la ∙ sym lb)) ∙ map-map same (λ (v : ℕ × ℕ). v.0) vs in
       let y = ap (map same) (seconds a b (la ∙ sym lb)) ∙ map-map same (λ (v : ℕ × ℕ). v.1) vs in
-      let p = zip2_of_maps (shl (2 ^ 16)) _ _ vs x (splat_is_map vs 16 8 l) in
-      let q = zip2_of_maps (mul (2 ^ 16)) _ _ vs y (splat_is_map vs 16 257 l) in
-      let r = zip2_of_maps (add (2 ^ 16)) _ _ vs q (splat_is_map vs 16 1 l) in
-      let s = zip2_of_maps shr _ _ vs r (splat_is_map vs 16 15 l) in
-      let m = zip2_of_maps (add (2 ^ 16)) _ _ vs q s in
-      let pp = ap (map same) p ∙ map-map same _ vs in
-      let mm = ap (map same) m ∙ map-map same _ vs in
-      let t = zip2_of_maps (mul (2 ^ 32)) _ _ vs pp mm in
+      let p = zip2_of_maps (mul (2 ^ 16)) _ _ vs x y in
+      let s = zip2_of_maps (add (2 ^ 16)) _ _ vs p (splat_is_map vs 16 128 l) in
+      let ss = ap (map same) s ∙ map-map same _ vs in
+      let t = zip2_of_maps (mul (2 ^ 32)) _ _ vs ss (splat_is_map vs 16 257 l) in
       zip2_of_maps shr _ _ vs t (splat_is_map vs 16 16 l)
 
-  pub near_lanes : Each1 (Fits w8) a → Each1 (Fits w8) b
-      → zip2 shr (zip2 (add (2 ^ 16)) (map same high_halves) (replicate 16 128)) (replicate 16 8) ≡ zip2 (channel_product 255) a b
+  pub near_lanes : Each1 (Fits w8) a → Each1 (Fits w8) b → map same high_halves ≡ zip2 (channel_product 255) a b
   near_lanes fa fb =
-      let vs = pairs a b in
-      let l = length-pairs a b 16 la lb in
-      let h = ap (map same) high_halves_are ∙ map-map same wide vs in
-      let t = zip2_of_maps (add (2 ^ 16)) _ _ vs h (splat_is_map vs 16 128 l) in
-      zip2_of_maps shr _ _ vs t (splat_is_map vs 16 8 l)
+      ap (map same) high_halves_are ∙ map-map same wide (pairs a b)
       ∙ map_pairs (Fits w8) (Fits w8) _ _ (λ i j u k. near_lane i j u.fits k.fits) a b (la ∙ sym lb) fa fb
 
 mod-lt_two : (m : ℕ) → m % 2 ^ 32 < 2 ^ 32
@@ -109,7 +94,7 @@ high_fits : (m : ℕ) → m < 2 ^ 32 → Fits w16 (m / 2 ^ 16)
 high_fits m h = record { fits = omega arith }
 
 fits_wide : (v : ℕ × ℕ) → Fits w16 (wide v)
-fits_wide v = high_fits _ (mod-lt_two (v.0 * 2 ^ 8 % 2 ^ 16 * multiplier v.1))
+fits_wide v = high_fits _ (mod-lt_two ((v.0 * v.1 % 2 ^ 16 + 128) % 2 ^ 16 * 257))
 
 pub Each1-wide : (vs : List (ℕ × ℕ)) → Each1 (Fits w16) (map wide vs)
 Each1-wide [] = tt

@@ -2,7 +2,7 @@
 use Rattle.std.proofs.Common.{◌≡◌, ℕ, List, [], ◌∷◌, ◌++◌, length, map, take, drop, get_or, refl, ap, arith}
 use lib.Lanes.{pick_l}
 use Rattle.pix_chan.specs.Lanes.{indexes}
-use Rattle.pix_chan.specs.Planes.{both_in_turn}
+use Rattle.pix_chan.specs.Planes.{both_in_turn, last_of_four}
 
 -- a list of 16 is its elements, whatever is named for places past its end
 pub whole16 : {A : Type 0} (xs : List A) (d0 d1 d2 d3 d4 d5 d6 d7 d8 d9 d10 d11 d12 d13 d14 d15 : A) → length xs ≡ 16 → get_or xs 0 d0 ∷ get_or xs 1 d1 ∷ get_or xs 2 d2 ∷ get_or xs 3 d3 ∷ get_or xs 4 d4 ∷ get_or xs 5 d5 ∷ get_or xs 6 d6 ∷ get_or xs 7 d7 ∷ get_or xs 8 d8 ∷ get_or xs 9 d9 ∷ get_or xs 10 d10 ∷ get_or xs 11 d11 ∷ get_or xs 12 d12 ∷ get_or xs 13 d13 ∷ get_or xs 14 d14 ∷ get_or xs 15 d15 ∷ [] ≡ xs
@@ -91,3 +91,21 @@ pub mapped8 : {A B : Type 0} (f : A → B) (xs : List A) (d0 d1 d2 d3 d4 d5 d6 d
     → r0 ∷ r1 ∷ r2 ∷ r3 ∷ r4 ∷ r5 ∷ r6 ∷ r7 ∷ [] ≡ map f xs
 mapped8 {B = B} f xs d0 d1 d2 d3 d4 d5 d6 d7 h e0 e1 e2 e3 e4 e5 e6 e7 =
     rw (e0, e1, e2, e3, e4, e5, e6, e7) (ap (map f) (whole8 xs d0 d1 d2 d3 d4 d5 d6 d7 h))
+
+-- the last channels of four pixels, by their places
+pub spread_are : (u : List ℕ) → length u ≡ 16
+    → pick_l 0 (u ++ u) (3 ∷ 3 ∷ 3 ∷ 3 ∷ 7 ∷ 7 ∷ 7 ∷ 7 ∷ 11 ∷ 11 ∷ 11 ∷ 11 ∷ 15 ∷ 15 ∷ 15 ∷ 15 ∷ []) ≡ last_of_four u
+spread_are u h = rw (← (is_sixteen u h).1) refl
+
+alphas_at : {A : Type 0} (f : A → ℕ) (u : List A) (d0 d1 d2 d3 : A) → length u ≡ 16
+    → let a = f (get_or u 3 d0) in
+    let b = f (get_or u 7 d1) in
+    let c = f (get_or u 11 d2) in
+    let d = f (get_or u 15 d3) in
+    a ∷ a ∷ a ∷ a ∷ b ∷ b ∷ b ∷ b ∷ c ∷ c ∷ c ∷ c ∷ d ∷ d ∷ d ∷ d ∷ [] ≡ last_of_four (map f u)
+alphas_at f u d0 d1 d2 d3 h = rw (← (is_sixteen u h).1) refl
+
+pub alphas_are : {A : Type 0} (f : A → ℕ) (u : List A) (d0 d1 d2 d3 : A) {a b c d : ℕ} → length u ≡ 16
+    → a ≡ f (get_or u 3 d0) → b ≡ f (get_or u 7 d1) → c ≡ f (get_or u 11 d2) → d ≡ f (get_or u 15 d3)
+    → a ∷ a ∷ a ∷ a ∷ b ∷ b ∷ b ∷ b ∷ c ∷ c ∷ c ∷ c ∷ d ∷ d ∷ d ∷ d ∷ [] ≡ last_of_four (map f u)
+alphas_are f u d0 d1 d2 d3 h i j k l = rw (i, j, k, l) (alphas_at f u d0 d1 d2 d3 h)

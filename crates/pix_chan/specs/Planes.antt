@@ -14,3 +14,11 @@ abbrev pub both_in_turn : {A : Type 0} → List A → List A → List A
 both_in_turn [] xs = []
 both_in_turn (w ∷ ws) [] = []
 both_in_turn (w ∷ ws) (x ∷ xs) = w ∷ x ∷ both_in_turn ws xs
+
+-- of pixels of four channels, pixel by pixel: at each place the last channel of its pixel
+abbrev pub last_of_four : {A : Type 0} → List A → List A
+last_of_four [] = []
+last_of_four (w ∷ []) = []
+last_of_four (w ∷ x ∷ []) = []
+last_of_four (w ∷ x ∷ y ∷ []) = []
+last_of_four (w ∷ x ∷ y ∷ z ∷ r) = z ∷ z ∷ z ∷ z ∷ last_of_four r

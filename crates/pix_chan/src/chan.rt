@@ -11,7 +11,7 @@ ghost use Rattle.pix_chan.specs.Depth.{to_16_bit, from_16_bit};
 ghost use Rattle.pix_chan.specs.Laws.{ChannelLaws};
 ghost use Rattle.pix_chan.specs.Channel.{IsNumbered, IsTotal, Answers};
 ghost use Rattle.pix_chan.specs.Runs.{over};
-ghost use Rattle.pix_chan.specs.Planes.{in_turn, both_in_turn};
+ghost use Rattle.pix_chan.specs.Planes.{in_turn, both_in_turn, last_of_four};
 
 use crate::private::Sealed;
 use std::fmt::Debug;
@@ -129,6 +129,11 @@ pub trait Channel: Sealed
     #[doc(hidden)]
     fn less16(plane: [Self; 16]) -> [Self; 16]
         ensures { map number result ≡ map (λ x. max - x) (map number plane) };
+
+    /// Returns, for four pixels of four channels, at each index the last channel of its pixel.
+    #[doc(hidden)]
+    fn alphas4(pixels: [Self; 16]) -> [Self; 16]
+        ensures { map number result ≡ last_of_four (map number pixels) };
 
     /// Returns the planes of sixteen pixels of four channels: `a` to `d` are four pixels each.
     #[doc(hidden)]

@@ -5,3 +5,4 @@ pub mod Conversions
 pub mod FourPlanes
 pub mod TwoPlanes
 pub mod MattePlanes
+pub mod FourPixels

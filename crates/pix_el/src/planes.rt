@@ -1,6 +1,7 @@
-//! Composites of pixels by planes: arrays of sixteen channels of one number, each composited by one run.
+//! Composites of pixels by runs of sixteen channels.
 //!
-//! Pixels of four channels with at most a hue at the first go by planes, and so do pixels of two channels without a hue.
+//! Pixels of four channels without a hue go four at a time. Pixels of four channels with a hue at the first go by planes, arrays of sixteen
+//! channels of one number, and so do pixels of two channels without a hue, and all of these through mattes.
 ghost use Rattle.std.specs.Prelude.{◌≡◌, ◌≤◌, ◌+◌, ◌-◌, ℕ, length, map, take, true, replicate};
 ghost use Rattle.pix_chan.specs.Runs.{over, triples};
 ghost use Rattle.pix_el.specs.Planes.{run_hue, run_first, matted_first};
@@ -15,6 +16,7 @@ use pix_chan::chan::{Alpha, Channel, Linear};
 use pix_chan::ops::Blend;
 
 mod four;
+mod fours;
 mod two;
 
 /// Composites the hues of the same index of all four, one after the other; the shortest length decides.
@@ -50,6 +52,16 @@ fn composite_first<O: Blend, M: ColorModel, C: Channel>(
     }
 }
 
+/// Returns whether a model has four channels, of which none is a hue.
+#[inline(always)]
+fn has_fours<P: Pixel>() -> bool
+    ensures alpha { result ≡ true → P.layout.alpha ≡ 3 }
+    ensures no_hue { result ≡ true → P.layout.hues.end ≡ 0 }
+{
+    let hues = P::Model::CIRCULAR;
+    P::Model::ALPHA == 3 && hues.end == 0
+}
+
 /// Returns whether a model has four channels, of which only the first may be a hue.
 #[inline(always)]
 fn has_four<P: Pixel>() -> bool
@@ -82,7 +94,13 @@ pub(crate) fn composite_planes<O: Blend, P: Pixel>(dst: &mut [P], src: &[P], cou
     ensures composite { map P.numbers dst.new ≡ over (pixel_composite P.layout O.op)
         (take result (map P.numbers src.now)) (map P.numbers dst.old) }
 {
-    if has_four::<P>() {
+    if has_fours::<P>() {
+        for i in 0..count / 4 {
+            let four = fours::four_pixels(&src[4 * i..4 * i + 4]);
+            fours::composite_four::<O, P>(&mut dst[4 * i..4 * i + 4], four);
+        }
+        count / 4 * 4
+    } else if has_four::<P>() {
         for k in 0..count / 16 {
             let (one, two, three, four) = four::planes::<P, 2>(&src[16 * k..16 * k + 16]);
             four::composite_sixteen::<O, P, 0>(
@@ -115,8 +133,15 @@ pub(crate) fn color_planes<O: Blend, P: Pixel>(dst: &mut [P], clr: &P) -> usize
     ensures composite { map P.numbers dst.new ≡ over (pixel_composite P.layout O.op)
         (take result (replicate (length dst.old) (P.numbers clr.now))) (map P.numbers dst.old) }
 {
-    if has_four::<P>() {
-        let (a, b, c, d) = four::four_channels(clr);
+    if has_fours::<P>() {
+        let four = fours::four_times(clr);
+        let count = dst.len();
+        for i in 0..count / 4 {
+            fours::composite_four::<O, P>(&mut dst[4 * i..4 * i + 4], four);
+        }
+        count / 4 * 4
+    } else if has_four::<P>() {
+        let (a, b, c, d) = fours::four_channels(clr);
         let count = dst.len();
         for k in 0..count / 16 {
             four::composite_sixteen::<O, P, 1>(
@@ -199,7 +224,7 @@ pub(crate) fn matte_planes<const N: usize, A: Alpha, O: Blend, P: Pixel>(
         (take result (map (matte_numbers P.Chan.number) src.now)) (map P.numbers dst.old) }
 {
     if has_four::<P>() {
-        let (a, b, c, d) = four::four_channels(clr);
+        let (a, b, c, d) = fours::four_channels(clr);
         for k in 0..count / 16 {
             let mattes = matte_values(&src[16 * k..16 * k + 16]);
             four::composite_matted::<O, P, 3>(&mut dst[16 * k..16 * k + 16], &mattes, a, b, c, d);

@@ -1,4 +1,4 @@
-//! Slices of all lengths around sixteen, which go by planes, compared with the composites of single pixels.
+//! Slices of all lengths around four and sixteen, which go by runs, compared with the composites of single pixels.
 ghost use Rattle.std.specs.Prelude.{◌≡◌, ◌≤◌, ◌+◌};
 
 use pix::chan::{Channel, Linear, Premultiplied};
@@ -15,7 +15,7 @@ use std::alloc::{AllocError, Global};
 use std::process::Abort;
 
 /// The lengths of the slices.
-const LENGTHS: [usize; 9] = [0, 1, 15, 16, 17, 31, 32, 33, 100];
+const LENGTHS: [usize; 12] = [0, 1, 4, 5, 7, 15, 16, 17, 31, 32, 33, 100];
 
 /// The mattes of the channels of `P`.
 type Mattes<P> = Pix<1, <P as Pixel>::Chan, Matte, Premultiplied, Linear>;

@@ -4,7 +4,7 @@ ghost use Rattle.pix_chan.specs.Number.{saturating_sum, saturating_difference};
 ghost use Rattle.pix_chan.specs.Product.{channel_product, channel_quotient};
 ghost use Rattle.pix_chan.specs.Channel.{AnswersFrom};
 ghost use Rattle.pix_chan.specs.Depth.{to_16_bit, from_16_bit};
-ghost use Rattle.pix_chan.specs.Planes.{in_turn, both_in_turn};
+ghost use Rattle.pix_chan.specs.Planes.{in_turn, both_in_turn, last_of_four};
 
 use crate::chan::{Ch8, Channel, whole};
 use crate::private::Sealed;
@@ -259,6 +259,15 @@ impl Channel for Ch16 {
                 value: 65535 - p[15].value,
             },
         ]
+    }
+
+    #[inline(always)]
+    fn alphas4(pixels: [Ch16; 16]) -> [Ch16; 16]
+        ensures { map (λ x. x.value) result ≡ last_of_four (map (λ x. x.value) pixels) }
+    {
+        let p = &pixels[..];
+        let (a, b, c, d) = (p[3], p[7], p[11], p[15]);
+        [a, a, a, a, b, b, b, b, c, c, c, c, d, d, d, d]
     }
 
     #[inline(always)]

@@ -4,7 +4,7 @@ ghost use Rattle.pix_chan.specs.Number.{saturating_sum, saturating_difference};
 ghost use Rattle.pix_chan.specs.Product.{channel_product, channel_quotient};
 ghost use Rattle.pix_chan.specs.Channel.{AnswersFrom};
 ghost use Rattle.pix_chan.specs.Depth.{to_16_bit, from_16_bit};
-ghost use Rattle.pix_chan.specs.Planes.{in_turn, both_in_turn};
+ghost use Rattle.pix_chan.specs.Planes.{in_turn, both_in_turn, last_of_four};
 
 use crate::chan::bits8::lanes::{channels, units};
 use crate::chan::{Ch16, Channel, whole};
@@ -231,6 +231,13 @@ impl Channel for Ch8 {
         ensures { map (λ x. x.value) result ≡ map (λ x. 255 - x) (map (λ x. x.value) plane) }
     {
         channels(!units(&plane))
+    }
+
+    #[inline(always)]
+    fn alphas4(pixels: [Ch8; 16]) -> [Ch8; 16]
+        ensures { map (λ x. x.value) result ≡ last_of_four (map (λ x. x.value) pixels) }
+    {
+        channels(planes::spread(units(&pixels)))
     }
 
     #[inline(always)]

@@ -6,34 +6,10 @@ ghost use Rattle.pix_el.specs.Planes.{by_fours, ArePlanes};
 ghost use Rattle.pix_el.specs.PixelComposite.{pixel_composite, matted_composite};
 
 use crate::el::Pixel;
+use crate::planes::fours::{four_pixels, put_four_pixels};
 use crate::planes::{composite_first, scale_first};
 use pix_chan::chan::Channel;
 use pix_chan::ops::Blend;
-
-/// Returns the four channels of a pixel.
-#[inline(always)]
-pub(super) fn four_channels<P: Pixel>(p: &P) -> (P::Chan, P::Chan, P::Chan, P::Chan)
-    requires { P.layout.count ≡ 4 }
-    ensures { P.Chan.number result.0 ∷ P.Chan.number result.1
-        ∷ P.Chan.number result.2 ∷ P.Chan.number result.3 ∷ [] ≡ P.numbers p.now }
-{
-    let c = p.channels();
-    (c[0], c[1], c[2], c[3])
-}
-
-/// Returns the channels of four pixels, pixel by pixel.
-#[inline(always)]
-fn four_pixels<P: Pixel>(p: &[P]) -> [P::Chan; 16]
-    requires count { P.layout.count ≡ 4 }
-    requires size { length p.now ≡ 4 }
-    ensures { by_fours (map P.Chan.number result) ≡ map P.numbers p.now }
-{
-    let (a, b, c, d) = four_channels(&p[0]);
-    let (e, f, g, h) = four_channels(&p[1]);
-    let (i, j, k, l) = four_channels(&p[2]);
-    let (m, n, o, q) = four_channels(&p[3]);
-    [a, b, c, d, e, f, g, h, i, j, k, l, m, n, o, q]
-}
 
 /// Returns the planes of sixteen pixels. Each `CALLER` has a copy of its own, since LLVM inlines what is called once.
 #[inline(always)]
@@ -52,35 +28,6 @@ pub(super) fn planes<P: Pixel, const CALLER: usize>(
         four_pixels(&p[8..12]),
         four_pixels(&p[12..16]),
     )
-}
-
-/// Writes the four channels of a pixel.
-#[inline(always)]
-fn put_pixel<P: Pixel>(p: &mut P, one: P::Chan, two: P::Chan, three: P::Chan, four: P::Chan)
-    requires { P.layout.count ≡ 4 }
-    ensures { P.numbers p.new ≡ P.Chan.number one ∷ P.Chan.number two
-        ∷ P.Chan.number three ∷ P.Chan.number four ∷ [] }
-{
-    let to = p.channels_mut();
-    to[0] = one;
-    to[1] = two;
-    to[2] = three;
-    to[3] = four;
-}
-
-/// Writes four pixels from their channels, pixel by pixel.
-#[inline(always)]
-fn put_four_pixels<P: Pixel>(p: &mut [P], c: [P::Chan; 16])
-    requires count { P.layout.count ≡ 4 }
-    requires size { length p.old ≡ 4 }
-    ensures size { length p.new ≡ 4 }
-    ensures pixels { map P.numbers p.new ≡ by_fours (map P.Chan.number c) }
-{
-    let c = &c[..];
-    put_pixel(&mut p[0], c[0], c[1], c[2], c[3]);
-    put_pixel(&mut p[1], c[4], c[5], c[6], c[7]);
-    put_pixel(&mut p[2], c[8], c[9], c[10], c[11]);
-    put_pixel(&mut p[3], c[12], c[13], c[14], c[15]);
 }
 
 /// Writes sixteen pixels from their planes.

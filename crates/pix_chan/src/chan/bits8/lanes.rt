@@ -9,17 +9,15 @@ use std::simd::prelude::*;
 
 /// Returns the channel product of the bytes of each lane.
 ///
-/// With m = 257 y, and one more for y in 128 to 254, the product of x and y is (m x + 2^15) / 2^16: here the high half of 256 x times m,
-/// and that rounded. This takes three steps for eight lanes, and m is made once where several runs are multiplied by the same one.
+/// With t = x y + 128, the product is 257 t / 2^16 rounded down: the high half of a product of 16 bits. This takes three steps for eight
+/// lanes, and what is made of y for them is only wider.
 #[inline(always)]
 fn product_lanes(a: u8x16, b: u8x16) -> u8x16
     ensures { result ≡ zip2 (channel_product 255) a b }
 {
-    let x = a.cast::<u16>() << u16x16::splat(8);
-    let y = b.cast::<u16>() * u16x16::splat(257);
-    let y = y + ((y + u16x16::splat(1)) >> u16x16::splat(15));
-    let t = ((x.cast::<u32>() * y.cast::<u32>()) >> u32x16::splat(16)).cast::<u16>();
-    ((t + u16x16::splat(128)) >> u16x16::splat(8)).cast::<u8>()
+    let t = a.cast::<u16>() * b.cast::<u16>() + u16x16::splat(128);
+    let high = (t.cast::<u32>() * u32x16::splat(257)) >> u32x16::splat(16);
+    high.cast::<u16>().cast::<u8>()
 }
 
 /// Returns the saturating sum of the bytes of each lane.

@@ -1,7 +1,7 @@
 //! Planes of sixteen pixels of 8 bits, cut out and put together on lanes.
 ghost use Rattle.std.specs.Prelude.{◌≡◌, ◌++◌};
 ghost use Rattle.std.specs.Simd.Lanes.{pick_l};
-ghost use Rattle.pix_chan.specs.Planes.{in_turn, both_in_turn};
+ghost use Rattle.pix_chan.specs.Planes.{in_turn, both_in_turn, last_of_four};
 ghost use Rattle.pix_chan.specs.Lanes.{even_lanes, odd_lanes, low_pairs, high_pairs};
 
 use std::simd::prelude::*;
@@ -37,6 +37,17 @@ fn mesh(a: u8x16, b: u8x16) -> (u8x16, u8x16)
         | (u16x8::from_le_bytes(b).cast::<u32>() << u32x8::splat(16));
     let all = words.to_le_bytes();
     (all.extract::<0, 16>(), all.extract::<16, 16>())
+}
+
+/// Returns, for four pixels of four channels, at each lane the last channel of its pixel.
+#[inline(always)]
+pub(super) fn spread(pixels: u8x16) -> u8x16
+    ensures { result ≡ last_of_four pixels }
+{
+    pixels.shuffle(
+        pixels,
+        [3, 3, 3, 3, 7, 7, 7, 7, 11, 11, 11, 11, 15, 15, 15, 15],
+    )
 }
 
 /// Returns the planes of sixteen pixels of four channels: each vector is four pixels.

@@ -5,6 +5,25 @@ use Rattle.pix_el.specs.PixelComposite.{pixel_composite}
 use Rattle.pix_chan.proofs.Slices.{run, over-nil, mapped_run_step, part_of_same, length-replicate}
 use Rattle.pix_el.proofs.planes.color_planes.Goals as goal
 
+pub loop-i-init : goal.loop-i-init
+loop-i-init g c = sym (over-nil _ (map g.P.Pixel.numbers c.args.dst.now))
+
+pub loop-i-preserved : goal.loop-i-preserved
+loop-i-preserved g c =
+    let v = g.P.Pixel.numbers in
+    let f = λ (d s : List ℕ). pixel_composite g.P.Pixel.layout g.O.Blend.op s d in
+    let at = 4 * c.loop-i.i in
+    let k' = 4 * c.loop-i.i + 4 - 4 * c.loop-i.i in
+    let m : 4 * c.loop-i.i + 4 ≡ 4 * (c.loop-i.i + 1) = omega arith in
+    let e : 4 ≡ k' = omega arith in
+    let n = length c.args.dst.now in
+    let ys = replicate n (v c.args.clr.now) in
+    mapped_run_step v f at 4 (at + 4) c.args.dst.now c.loop-i.dst c.composite_four.new.dst ys
+    c.loop-i.invariant refl (omega arith) (omega (arith, length-replicate n (v c.args.clr.now)))
+    (c.composite_four.ensures
+    ∙ ap (λ (l : List (List ℕ)). run f (map v (take k' (drop at c.loop-i.dst))) l) (c.four_times-four.ensures ∙ ap (λ z. replicate z (v c.args.clr.now)) e ∙ part_of_same at k' n (v c.args.clr.now) (omega arith)))
+    ∙ ap (λ k. run f (map v c.args.dst.now) (take k ys)) m
+
 pub loop-k-init : goal.loop-k-init
 loop-k-init g c = sym (over-nil _ (map g.P.Pixel.numbers c.args.dst.now))
 

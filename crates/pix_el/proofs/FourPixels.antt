@@ -1,0 +1,49 @@
+-- Four pixels of four channels in pixel order.
+use Rattle.std.proofs.Common.{◌≡◌, ℕ, zero, suc, ◌-◌, ◌≤◌, List, [], ◌∷◌, length, map, refl, ap, arith, replicate}
+use lib.Lanes.{Each1}
+use Rattle.pix_chan.specs.declared.ops.Op.{Op}
+use Rattle.pix_chan.specs.Runs.{over, triples, run_composite}
+use Rattle.pix_chan.specs.Planes.{last_of_four}
+use Rattle.pix_el.specs.Planes.{by_fours}
+use Rattle.pix_el.specs.PixelComposite.{pixel_composite}
+use Rattle.pix_chan.proofs.Planes.{four_times}
+use Rattle.pix_el.proofs.FourPlanes.{four_of}
+
+cons : {A : Type 0} {x y : A} {xs ys : List A} → x ≡ y → xs ≡ ys → x ∷ xs ≡ y ∷ ys
+cons e f = cc
+
+-- one color four times
+pub color_four_times : {C : Type 0} (number : C → ℕ) (a b c d : C) (color : List ℕ) → number a ∷ number b ∷ number c ∷ number d ∷ [] ≡ color
+    → by_fours (map number (a ∷ b ∷ c ∷ d ∷ a ∷ b ∷ c ∷ d ∷ a ∷ b ∷ c ∷ d ∷ a ∷ b ∷ c ∷ d ∷ [])) ≡ replicate 4 color
+color_four_times number a b c d color e = rw (← e) refl
+
+module _ (max : ℕ) (op : Op) where
+  -- one minus the alpha of its pixel, at each place
+  abbrev pub rests : List ℕ → List ℕ
+  rests cs = map (λ x. max - x) (last_of_four cs)
+
+  twice : (a : ℕ) → a ≤ max → max - (max - a) ≡ a
+  twice a h = omega arith
+
+  one_pixel : (s0 s1 s2 s3 d0 d1 d2 d3 : ℕ) → s3 ≤ max → d3 ≤ max
+      → run_composite max op (max - d3, s0, max - s3) d0 ∷ run_composite max op (max - d3, s1, max - s3) d1
+      ∷ run_composite max op (max - d3, s2, max - s3) d2 ∷ run_composite max op (max - d3, s3, max - s3) d3 ∷ []
+      ≡ pixel_composite (four_of max 0) op (s0 ∷ s1 ∷ s2 ∷ s3 ∷ []) (d0 ∷ d1 ∷ d2 ∷ d3 ∷ [])
+  one_pixel s0 s1 s2 s3 d0 d1 d2 d3 h i = rw (twice s3 h, twice d3 i) refl
+
+  pub fours_composited : (n : ℕ) (ss ds : List ℕ) → length ss ≡ four_times n → length ds ≡ four_times n
+      → Each1 (λ v. v ≤ max) ss → Each1 (λ v. v ≤ max) ds
+      → by_fours (over (run_composite max op) (triples (rests ds) ss (rests ss)) ds) ≡ over (pixel_composite (four_of max 0) op) (by_fours ss) (by_fours ds)
+  fours_composited zero [] [] h i p q = refl
+  fours_composited zero [] (d ∷ ds) h i p q = absurd (omega arith)
+  fours_composited zero (s ∷ ss) ds h i p q = absurd (omega arith)
+  fours_composited (suc n) [] ds h i p q = absurd (omega arith)
+  fours_composited (suc n) (s0 ∷ []) ds h i p q = absurd (omega arith)
+  fours_composited (suc n) (s0 ∷ s1 ∷ []) ds h i p q = absurd (omega arith)
+  fours_composited (suc n) (s0 ∷ s1 ∷ s2 ∷ []) ds h i p q = absurd (omega arith)
+  fours_composited (suc n) (s0 ∷ s1 ∷ s2 ∷ s3 ∷ ss) [] h i p q = absurd (omega arith)
+  fours_composited (suc n) (s0 ∷ s1 ∷ s2 ∷ s3 ∷ ss) (d0 ∷ []) h i p q = absurd (omega arith)
+  fours_composited (suc n) (s0 ∷ s1 ∷ s2 ∷ s3 ∷ ss) (d0 ∷ d1 ∷ []) h i p q = absurd (omega arith)
+  fours_composited (suc n) (s0 ∷ s1 ∷ s2 ∷ s3 ∷ ss) (d0 ∷ d1 ∷ d2 ∷ []) h i p q = absurd (omega arith)
+  fours_composited (suc n) (s0 ∷ s1 ∷ s2 ∷ s3 ∷ ss) (d0 ∷ d1 ∷ d2 ∷ d3 ∷ ds) h i p q =
+      cons (one_pixel s0 s1 s2 s3 d0 d1 d2 d3 p.1.1.1.0 q.1.1.1.0) (fours_composited n ss ds (omega arith) (omega arith) p.1.1.1.1 q.1.1.1.1)

@@ -1,0 +1,92 @@
+//! Pixels of four channels without a hue, four at a time and with no planes: sixteen channels, pixel by pixel.
+ghost use Rattle.std.specs.Prelude.{◌≡◌, [], ◌∷◌, length, map, replicate};
+ghost use Rattle.pix_chan.specs.Runs.{over};
+ghost use Rattle.pix_el.specs.Planes.{by_fours};
+ghost use Rattle.pix_el.specs.PixelComposite.{pixel_composite};
+
+use crate::el::Pixel;
+use pix_chan::chan::Channel;
+use pix_chan::ops::Blend;
+
+/// Returns the four channels of a pixel.
+#[inline(always)]
+pub(super) fn four_channels<P: Pixel>(p: &P) -> (P::Chan, P::Chan, P::Chan, P::Chan)
+    requires { P.layout.count ≡ 4 }
+    ensures { P.Chan.number result.0 ∷ P.Chan.number result.1
+        ∷ P.Chan.number result.2 ∷ P.Chan.number result.3 ∷ [] ≡ P.numbers p.now }
+{
+    let c = p.channels();
+    (c[0], c[1], c[2], c[3])
+}
+
+/// Returns the channels of four pixels, pixel by pixel.
+#[inline(always)]
+pub(super) fn four_pixels<P: Pixel>(p: &[P]) -> [P::Chan; 16]
+    requires count { P.layout.count ≡ 4 }
+    requires size { length p.now ≡ 4 }
+    ensures { by_fours (map P.Chan.number result) ≡ map P.numbers p.now }
+{
+    let (a, b, c, d) = four_channels(&p[0]);
+    let (e, f, g, h) = four_channels(&p[1]);
+    let (i, j, k, l) = four_channels(&p[2]);
+    let (m, n, o, q) = four_channels(&p[3]);
+    [a, b, c, d, e, f, g, h, i, j, k, l, m, n, o, q]
+}
+
+/// Returns the channels of four pixels of one color, pixel by pixel.
+#[inline(always)]
+pub(super) fn four_times<P: Pixel>(clr: &P) -> [P::Chan; 16]
+    requires { P.layout.count ≡ 4 }
+    ensures { by_fours (map P.Chan.number result) ≡ replicate 4 (P.numbers clr.now) }
+{
+    let (a, b, c, d) = four_channels(clr);
+    [a, b, c, d, a, b, c, d, a, b, c, d, a, b, c, d]
+}
+
+/// Writes the four channels of a pixel.
+#[inline(always)]
+fn put_pixel<P: Pixel>(p: &mut P, one: P::Chan, two: P::Chan, three: P::Chan, four: P::Chan)
+    requires { P.layout.count ≡ 4 }
+    ensures { P.numbers p.new ≡ P.Chan.number one ∷ P.Chan.number two
+        ∷ P.Chan.number three ∷ P.Chan.number four ∷ [] }
+{
+    let to = p.channels_mut();
+    to[0] = one;
+    to[1] = two;
+    to[2] = three;
+    to[3] = four;
+}
+
+/// Writes four pixels from their channels, pixel by pixel.
+#[inline(always)]
+pub(super) fn put_four_pixels<P: Pixel>(p: &mut [P], c: [P::Chan; 16])
+    requires count { P.layout.count ≡ 4 }
+    requires size { length p.old ≡ 4 }
+    ensures size { length p.new ≡ 4 }
+    ensures pixels { map P.numbers p.new ≡ by_fours (map P.Chan.number c) }
+{
+    let c = &c[..];
+    put_pixel(&mut p[0], c[0], c[1], c[2], c[3]);
+    put_pixel(&mut p[1], c[4], c[5], c[6], c[7]);
+    put_pixel(&mut p[2], c[8], c[9], c[10], c[11]);
+    put_pixel(&mut p[3], c[12], c[13], c[14], c[15]);
+}
+
+/// Composites the four pixels of these channels with those of `dst`: at each index, the alphas are those of its own pixel.
+///
+/// Condition: the alpha is the last channel, and none is a hue.
+#[inline(always)]
+pub(super) fn composite_four<O: Blend, P: Pixel>(dst: &mut [P], src: [P::Chan; 16])
+    requires count { P.layout.count ≡ 4 }
+    requires alpha { P.layout.alpha ≡ 3 }
+    requires no_hue { P.layout.hues.end ≡ 0 }
+    requires size { length dst.old ≡ 4 }
+    ensures { map P.numbers dst.new ≡ over (pixel_composite P.layout O.op)
+        (by_fours (map P.Chan.number src)) (map P.numbers dst.old) }
+{
+    let mut to = four_pixels(dst);
+    let da1 = P::Chan::less16(P::Chan::alphas4(to));
+    let sa1 = P::Chan::less16(P::Chan::alphas4(src));
+    O::composite_run(&mut to, &da1, &src, &sa1);
+    put_four_pixels(dst, to);
+}
