@@ -210,53 +210,33 @@ impl Channel for Ch16 {
     {
         let p = &plane[..];
         [
+            Ch16 { value: !p[0].value },
+            Ch16 { value: !p[1].value },
+            Ch16 { value: !p[2].value },
+            Ch16 { value: !p[3].value },
+            Ch16 { value: !p[4].value },
+            Ch16 { value: !p[5].value },
+            Ch16 { value: !p[6].value },
+            Ch16 { value: !p[7].value },
+            Ch16 { value: !p[8].value },
+            Ch16 { value: !p[9].value },
             Ch16 {
-                value: 65535 - p[0].value,
+                value: !p[10].value,
             },
             Ch16 {
-                value: 65535 - p[1].value,
+                value: !p[11].value,
             },
             Ch16 {
-                value: 65535 - p[2].value,
+                value: !p[12].value,
             },
             Ch16 {
-                value: 65535 - p[3].value,
+                value: !p[13].value,
             },
             Ch16 {
-                value: 65535 - p[4].value,
+                value: !p[14].value,
             },
             Ch16 {
-                value: 65535 - p[5].value,
-            },
-            Ch16 {
-                value: 65535 - p[6].value,
-            },
-            Ch16 {
-                value: 65535 - p[7].value,
-            },
-            Ch16 {
-                value: 65535 - p[8].value,
-            },
-            Ch16 {
-                value: 65535 - p[9].value,
-            },
-            Ch16 {
-                value: 65535 - p[10].value,
-            },
-            Ch16 {
-                value: 65535 - p[11].value,
-            },
-            Ch16 {
-                value: 65535 - p[12].value,
-            },
-            Ch16 {
-                value: 65535 - p[13].value,
-            },
-            Ch16 {
-                value: 65535 - p[14].value,
-            },
-            Ch16 {
-                value: 65535 - p[15].value,
+                value: !p[15].value,
             },
         ]
     }
