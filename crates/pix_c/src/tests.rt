@@ -23,20 +23,48 @@ fn region(x: i32, y: i32, width: u32, height: u32) -> PixRegion {
     }
 }
 
-/// A command of that kind on a region, by an operator and a color, without a source.
-fn command(kind: u32, op: u32, to: PixRegion, color: PixRgba8) -> PixCommand<'static> {
+/// The source of a command, for every kind.
+#[derive(Clone, Copy)]
+struct Source<'a> {
+    pixels: &'a [PixRgba8],
+    mattes: &'a [u8],
+    width: u32,
+    height: u32,
+    stride: u32,
+}
+
+/// A command of that kind on a region, by an operator and a color, with a source.
+fn sourced<'a>(
+    kind: u32,
+    op: u32,
+    to: PixRegion,
+    color: PixRgba8,
+    source: Source<'a>,
+) -> PixCommand<'a> {
     PixCommand {
         kind,
         op,
         to,
         from: region(0, 0, 9, 9),
         color,
+        pixels: source.pixels,
+        mattes: source.mattes,
+        width: source.width,
+        height: source.height,
+        stride: source.stride,
+    }
+}
+
+/// The same without a source.
+fn command(kind: u32, op: u32, to: PixRegion, color: PixRgba8) -> PixCommand<'static> {
+    let source = Source {
         pixels: &[],
         mattes: &[],
         width: 0,
         height: 0,
         stride: 0,
-    }
+    };
+    sourced(kind, op, to, color, source)
 }
 
 /// The numbers of the operators that are used here.
@@ -69,32 +97,28 @@ fn each_kind_on_two_pixels(rt: HostRuntime) -> Result<(), Fail> {
     assert_eq!(rt; pixels, [rgba(1, 2, 3, 4), rgba(96, 0, 0, 192)]);
 
     // A copied image, a composited one, a color through mattes, and a clear.
-    let source = [rgba(5, 6, 7, 255), half];
-    let mut copy = command(2, SRC, all, half);
-    copy.pixels = &source;
-    copy.width = 2;
-    copy.height = 1;
-    copy.stride = 2;
-    let mut composite = copy;
-    composite.kind = 4;
-    composite.op = SRC_OVER;
-    let mattes = [0, 255];
-    let mut matted = command(5, SRC_OVER, all, half);
-    matted.mattes = &mattes;
-    matted.width = 2;
-    matted.height = 1;
-    matted.stride = 2;
+    let both = [rgba(5, 6, 7, 255), half];
+    let source = Source {
+        pixels: &both,
+        mattes: &[0, 255],
+        width: 2,
+        height: 1,
+        stride: 2,
+    };
+    let copy = sourced(2, SRC, all, half, source);
+    let composite = sourced(4, SRC_OVER, all, half, source);
+    let matted = sourced(5, SRC_OVER, all, half, source);
     assert_eq!(rt;
         pix_run_commands(&mut pixels, 2, 1, 2, &[copy], &mut done),
         DONE
     );
-    assert_eq!(rt; pixels, source);
+    assert_eq!(rt; pixels, both);
     assert_eq!(rt;
         pix_run_commands(&mut pixels, 2, 1, 2, &[composite], &mut done),
         DONE
     );
     assert_eq!(rt; pixels, [rgba(5, 6, 7, 255), rgba(96, 0, 0, 192)]);
-    pixels = source;
+    pixels = both;
     assert_eq!(rt;
         pix_run_commands(&mut pixels, 2, 1, 2, &[matted], &mut done),
         DONE
@@ -141,13 +165,14 @@ fn each_refusal_changes_nothing(rt: HostRuntime) -> Result<(), Fail> {
 
 /// The status of one command whose source has these sizes and one pixel or matte.
 fn status_of_source(kind: u32, width: u32, height: u32, stride: u32) -> u32 {
-    let source = [rgba(1, 2, 3, 4)];
-    let mut list = [command(kind, SRC, region(0, 0, 1, 1), rgba(0, 0, 0, 0))];
-    list[0].pixels = &source;
-    list[0].mattes = &[7];
-    list[0].width = width;
-    list[0].height = height;
-    list[0].stride = stride;
+    let source = Source {
+        pixels: &[rgba(1, 2, 3, 4)],
+        mattes: &[7],
+        width,
+        height,
+        stride,
+    };
+    let list = [sourced(kind, SRC, region(0, 0, 1, 1), rgba(0, 0, 0, 0), source)];
     let mut pixels = [rgba(0, 0, 0, 0)];
     let mut done = 0;
     pix_run_commands(&mut pixels, 1, 1, 1, &list, &mut done)
