@@ -1,12 +1,14 @@
 -- Four pixels of four channels in pixel order.
-use Rattle.std.proofs.Common.{◌≡◌, ℕ, zero, suc, ◌-◌, ◌≤◌, List, [], ◌∷◌, length, map, refl, ap, arith, replicate}
+use Rattle.std.proofs.Common.{◌≡◌, ℕ, zero, suc, ◌-◌, ◌≤◌, ◌∙◌, List, [], ◌∷◌, length, map, refl, ap, arith, replicate}
 use lib.Lanes.{Each1}
 use Rattle.pix_chan.specs.declared.ops.Op.{Op}
 use Rattle.pix_chan.specs.Runs.{over, triples, run_composite}
 use Rattle.pix_chan.specs.Planes.{last_of_four}
 use Rattle.pix_el.specs.Planes.{by_fours}
-use Rattle.pix_el.specs.PixelComposite.{pixel_composite}
+use Rattle.pix_el.specs.PixelComposite.{pixel_composite, matted_color}
+use Rattle.pix_chan.specs.Product.{channel_product}
 use Rattle.pix_chan.proofs.Planes.{four_times}
+use Rattle.pix_chan.proofs.Sixteen.{is_sixteen}
 use Rattle.pix_el.proofs.FourPlanes.{four_of}
 
 cons : {A : Type 0} {x y : A} {xs ys : List A} → x ≡ y → xs ≡ ys → x ∷ xs ≡ y ∷ ys
@@ -47,3 +49,14 @@ module _ (max : ℕ) (op : Op) where
   fours_composited (suc n) (s0 ∷ s1 ∷ s2 ∷ s3 ∷ ss) (d0 ∷ d1 ∷ d2 ∷ []) h i p q = absurd (omega arith)
   fours_composited (suc n) (s0 ∷ s1 ∷ s2 ∷ s3 ∷ ss) (d0 ∷ d1 ∷ d2 ∷ d3 ∷ ds) h i p q =
       cons (one_pixel s0 s1 s2 s3 d0 d1 d2 d3 p.1.1.1.0 q.1.1.1.0) (fours_composited n ss ds (omega arith) (omega arith) p.1.1.1.1 q.1.1.1.1)
+
+-- four pixels, each multiplied by a matte
+each_matted : (max a b c d : ℕ) (cs : List ℕ) → length cs ≡ 16
+    → by_fours (over (λ y x. channel_product max x y) (a ∷ a ∷ a ∷ a ∷ b ∷ b ∷ b ∷ b ∷ c ∷ c ∷ c ∷ c ∷ d ∷ d ∷ d ∷ d ∷ []) cs)
+    ≡ over (matted_color (four_of max 0)) (a ∷ b ∷ c ∷ d ∷ []) (by_fours cs)
+each_matted max a b c d cs h = rw (← (is_sixteen cs h).1) refl
+
+pub color_matted : (max a b c d : ℕ) (color cs : List ℕ) → length cs ≡ 16 → by_fours cs ≡ replicate 4 color
+    → by_fours (over (λ y x. channel_product max x y) (a ∷ a ∷ a ∷ a ∷ b ∷ b ∷ b ∷ b ∷ c ∷ c ∷ c ∷ c ∷ d ∷ d ∷ d ∷ d ∷ []) cs)
+    ≡ map (λ m. matted_color (four_of max 0) m color) (a ∷ b ∷ c ∷ d ∷ [])
+color_matted max a b c d color cs h e = each_matted max a b c d cs h ∙ ap (over (matted_color (four_of max 0)) (a ∷ b ∷ c ∷ d ∷ [])) e

@@ -1,7 +1,7 @@
 //! Composites of pixels by runs of sixteen channels.
 //!
 //! Pixels of four channels without a hue go four at a time. Pixels of four channels with a hue at the first go by planes, arrays of sixteen
-//! channels of one number, and so do pixels of two channels without a hue, and all of these through mattes.
+//! channels of one number, and so do pixels of two channels without a hue. Mattes go by planes as far as there are sixteen.
 ghost use Rattle.std.specs.Prelude.{◌≡◌, ◌≤◌, ◌+◌, ◌-◌, ℕ, length, map, take, true, replicate};
 ghost use Rattle.pix_chan.specs.Runs.{over, triples};
 ghost use Rattle.pix_el.specs.Planes.{run_hue, run_first, matted_first};
@@ -229,7 +229,14 @@ pub(crate) fn matte_planes<const N: usize, A: Alpha, O: Blend, P: Pixel>(
             let mattes = matte_values(&src[16 * k..16 * k + 16]);
             four::composite_matted::<O, P, 3>(&mut dst[16 * k..16 * k + 16], &mattes, a, b, c, d);
         }
-        count / 16 * 16
+        if !has_fours::<P>() {
+            return count / 16 * 16;
+        }
+        for i in count / 16 * 4..count / 4 {
+            let mattes = &src[4 * i..4 * i + 4];
+            fours::composite_matted::<N, A, O, P>(&mut dst[4 * i..4 * i + 4], mattes, clr);
+        }
+        count / 4 * 4
     } else if has_two::<P>() {
         let (a, b) = two::two_channels(clr);
         for j in 0..count / 16 {

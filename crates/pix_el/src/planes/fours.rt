@@ -2,10 +2,12 @@
 ghost use Rattle.std.specs.Prelude.{◌≡◌, [], ◌∷◌, length, map, replicate};
 ghost use Rattle.pix_chan.specs.Runs.{over};
 ghost use Rattle.pix_el.specs.Planes.{by_fours};
-ghost use Rattle.pix_el.specs.PixelComposite.{pixel_composite};
+ghost use Rattle.pix_el.specs.Pixel.{channel};
+ghost use Rattle.pix_el.specs.PixelComposite.{pixel_composite, matted_composite, matte_numbers};
 
-use crate::el::Pixel;
-use pix_chan::chan::Channel;
+use crate::el::{Pix, Pixel};
+use crate::matte::Matte;
+use pix_chan::chan::{Alpha, Channel, Linear};
 use pix_chan::ops::Blend;
 
 /// Returns the four channels of a pixel.
@@ -89,4 +91,34 @@ pub(super) fn composite_four<O: Blend, P: Pixel>(dst: &mut [P], src: [P::Chan; 1
     let sa1 = P::Chan::less16(P::Chan::alphas4(src));
     O::composite_run(&mut to, &da1, &src, &sa1);
     put_four_pixels(dst, to);
+}
+
+/// Composites `clr` with four pixels, each through the matte of the same index.
+///
+/// Condition: the alpha is the last channel, and none is a hue.
+#[inline(always)]
+pub(super) fn composite_matted<const N: usize, A: Alpha, O: Blend, P: Pixel>(
+    dst: &mut [P],
+    src: &[Pix<N, P::Chan, Matte, A, Linear>],
+    clr: &P,
+)
+    requires count { P.layout.count ≡ 4 }
+    requires alpha { P.layout.alpha ≡ 3 }
+    requires no_hue { P.layout.hues.end ≡ 0 }
+    requires size { length dst.old ≡ 4 }
+    requires whole { length src.now ≡ 4 }
+    ensures { map P.numbers dst.new ≡ over (λ m. matted_composite P.layout O.op m (P.numbers clr.now))
+        (map (λ matte. channel P.Chan.max matte 0) (map (matte_numbers P.Chan.number) src.now))
+        (map P.numbers dst.old) }
+{
+    let (a, b, c, d) = (
+        src[0].alpha(),
+        src[1].alpha(),
+        src[2].alpha(),
+        src[3].alpha(),
+    );
+    let mattes = [a, a, a, a, b, b, b, b, c, c, c, c, d, d, d, d];
+    let mut color = four_times(clr);
+    P::Chan::mul_run(&mut color, &mattes);
+    composite_four::<O, P>(dst, color);
 }

@@ -38,6 +38,29 @@ loop-k-preserved g c =
     ∙ ap (λ (l : List (List ℕ)). run f old l) (part_of n (λ (x y : List ℕ). x) at k' c.args.src.now))
     ∙ ap (λ k. run f (map v c.args.dst.now) (take k ys)) m
 
+pub loop-i-preserved : goal.loop-i-preserved
+loop-i-preserved g c =
+    let v = g.P.Pixel.numbers in
+    let layout : Layout = g.P.Pixel.layout in
+    let op = g.O.Blend.op in
+    let color = v c.args.clr.now in
+    let n = λ (m : Pix g.row.N g.row.P-Chan.Denot Matte g.row.A.Denot Linear). matte_numbers g.P.Chan.Channel.number m in
+    let f = λ (d m : List ℕ). matted_composite layout op (matte_value layout m) color d in
+    let at = 4 * c.loop-i.i in
+    let k' = 4 * c.loop-i.i + 4 - 4 * c.loop-i.i in
+    let m : 4 * c.loop-i.i + 4 ≡ 4 * (c.loop-i.i + 1) = omega arith in
+    let ys = map n c.args.src.now in
+    let part = map n (take k' (drop at c.args.src.now)) in
+    let old = map v (take k' (drop at c.loop-i.dst)) in
+    let max : g.P.Chan.Channel.max ≡ layout.max = sym (ap (λ (l : Layout). l.max) g.met.P.Pixel.laid_out) in
+    mapped_run_step v f at 4 (at + 4) c.args.dst.now c.loop-i.dst c.composite_matted-in-loop-i.new.dst ys
+    c.loop-i.invariant refl (omega arith) (omega (arith, length-map c.args.src.now n))
+    (c.composite_matted-in-loop-i.ensures
+    ∙ over-mapped (λ (m : ℕ) (d : List ℕ). matted_composite layout op m color d) (λ (m : List ℕ). channel g.P.Chan.Channel.max m 0) part old
+    ∙ ap (λ (r : ℕ). over (λ (m d : List ℕ). matted_composite layout op (channel r m 0) color d) part old) max
+    ∙ ap (λ (l : List (List ℕ)). run f old l) (part_of n (λ (x y : List ℕ). x) at k' c.args.src.now))
+    ∙ ap (λ k. run f (map v c.args.dst.now) (take k ys)) m
+
 pub loop-j-init : goal.loop-j-init
 loop-j-init g c = sym (over-nil _ (map g.P.Pixel.numbers c.args.dst.now))
 

@@ -10,6 +10,13 @@ invariant-loop-k g l =
     map v l.dst ≡ over (λ matte. matted_composite layout g.O.Blend.op (matte_value layout matte) (v l.clr))
     (take (16 * l.k) (map (matte_numbers g.P.Chan.Channel.number) l.src)) (map v l.fn.dst)
 
+abbrev pub invariant-loop-i : goal.invariant-loop-i
+invariant-loop-i g l =
+    let v = g.P.Pixel.numbers in
+    let layout = g.P.Pixel.layout in
+    map v l.dst ≡ over (λ matte. matted_composite layout g.O.Blend.op (matte_value layout matte) (v l.clr))
+    (take (4 * l.i) (map (matte_numbers g.P.Chan.Channel.number) l.src)) (map v l.fn.dst)
+
 abbrev pub invariant-loop-j : goal.invariant-loop-j
 invariant-loop-j g l =
     let v = g.P.Pixel.numbers in
