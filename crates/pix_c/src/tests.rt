@@ -1,4 +1,4 @@
-//! Runs on small images; the values are worked out by hand.
+//! Calls as C makes them. The values are worked out by hand.
 use crate::{
     BAD_KIND, BAD_OP, BAD_REGION, BAD_SIZE, BAD_SOURCE, DONE, PixCommand, PixCommandGraya8,
     PixCommandRgba16, PixGraya8, PixRegion, PixRgba8, PixRgba16, pix_run_commands,
@@ -6,11 +6,9 @@ use crate::{
 };
 use std::test::Fail;
 
-/// A pixel.
-fn rgba(red: u8, green: u8, blue: u8, alpha: u8) -> PixRgba8 {
-    PixRgba8 {
-        channels: [red, green, blue, alpha],
-    }
+/// A pixel of these channels.
+fn pixel(channels: [u8; 4]) -> PixRgba8 {
+    PixRgba8 { channels }
 }
 
 /// A region.
@@ -23,289 +21,304 @@ fn region(x: i32, y: i32, width: u32, height: u32) -> PixRegion {
     }
 }
 
-/// The source of a command, for every kind.
-#[derive(Clone, Copy)]
-struct Source<'a> {
-    pixels: &'a [PixRgba8],
-    mattes: &'a [u8],
-    width: u32,
-    height: u32,
-    stride: u32,
-}
-
-/// A command of that kind on a region, by an operator and a color, with a source.
-fn sourced<'a>(
-    kind: u32,
-    op: u32,
-    to: PixRegion,
-    color: PixRgba8,
-    source: Source<'a>,
-) -> PixCommand<'a> {
+/// A command from the point (0, 0) of a source of one pixel to the point (1, 0), over by `SrcOver`.
+fn command<'a>(kind: u32, pixels: &'a [PixRgba8], mattes: &'a [u8]) -> PixCommand<'a> {
     PixCommand {
         kind,
-        op,
-        to,
-        from: region(0, 0, 9, 9),
-        color,
-        pixels: source.pixels,
-        mattes: source.mattes,
-        width: source.width,
-        height: source.height,
-        stride: source.stride,
-    }
-}
-
-/// The same without a source.
-fn command(kind: u32, op: u32, to: PixRegion, color: PixRgba8) -> PixCommand<'static> {
-    let source = Source {
-        pixels: &[],
-        mattes: &[],
-        width: 0,
-        height: 0,
-        stride: 0,
-    };
-    sourced(kind, op, to, color, source)
-}
-
-/// The numbers of the operators that are used here.
-const SRC: u32 = 0;
-
-const SRC_OVER: u32 = 2;
-
-#[test]
-fn each_kind_on_two_pixels(rt: HostRuntime) -> Result<(), Fail> {
-    let all = region(0, 0, 9, 9);
-    let half = rgba(64, 0, 0, 128);
-    let mut pixels = [rgba(1, 2, 3, 4), rgba(100, 100, 100, 255)];
-    let mut done = 9;
-
-    // A copied color, over the right pixel alone.
-    let list = [command(1, SRC, region(1, 0, 1, 1), half)];
-    assert_eq!(rt;
-        pix_run_commands(&mut pixels, 2, 1, 2, &list, &mut done),
-        DONE
-    );
-    assert_eq!(rt; done, 1);
-    assert_eq!(rt; pixels, [rgba(1, 2, 3, 4), half]);
-
-    // 64 + 64 * 127/255 is 64 + 32, and 128 + 128 * 127/255 is 128 + 64.
-    let list = [command(3, SRC_OVER, region(1, 0, 1, 1), half)];
-    assert_eq!(rt;
-        pix_run_commands(&mut pixels, 2, 1, 2, &list, &mut done),
-        DONE
-    );
-    assert_eq!(rt; pixels, [rgba(1, 2, 3, 4), rgba(96, 0, 0, 192)]);
-
-    // A copied image, a composited one, a color through mattes, and a clear.
-    let both = [rgba(5, 6, 7, 255), half];
-    let source = Source {
-        pixels: &both,
-        mattes: &[0, 255],
-        width: 2,
+        op: 2,
+        to: region(1, 0, 1, 1),
+        from: region(0, 0, 1, 1),
+        color: pixel([100, 50, 0, 128]),
+        pixels,
+        mattes,
+        width: 1,
         height: 1,
-        stride: 2,
-    };
-    let copy = sourced(2, SRC, all, half, source);
-    let composite = sourced(4, SRC_OVER, all, half, source);
-    let matted = sourced(5, SRC_OVER, all, half, source);
-    assert_eq!(rt;
-        pix_run_commands(&mut pixels, 2, 1, 2, &[copy], &mut done),
-        DONE
-    );
-    assert_eq!(rt; pixels, both);
-    assert_eq!(rt;
-        pix_run_commands(&mut pixels, 2, 1, 2, &[composite], &mut done),
-        DONE
-    );
-    assert_eq!(rt; pixels, [rgba(5, 6, 7, 255), rgba(96, 0, 0, 192)]);
-    pixels = both;
-    assert_eq!(rt;
-        pix_run_commands(&mut pixels, 2, 1, 2, &[matted], &mut done),
-        DONE
-    );
-    assert_eq!(rt; pixels, [rgba(5, 6, 7, 255), rgba(96, 0, 0, 192)]);
-    let list = [copy, command(0, SRC, region(0, 0, 0, 0), half)];
-    assert_eq!(rt;
-        pix_run_commands(&mut pixels, 2, 1, 2, &list, &mut done),
-        DONE
-    );
-    assert_eq!(rt; done, 2);
-    assert_eq!(rt; pixels, [rgba(0, 0, 0, 0), rgba(0, 0, 0, 0)]);
-    Ok(())
+        stride: 1,
+    }
 }
 
+const GROUND: PixRgba8 = PixRgba8 {
+    channels: [10, 20, 30, 255],
+};
+
 #[test]
-fn each_refusal_changes_nothing(rt: HostRuntime) -> Result<(), Fail> {
-    let white = rgba(255, 255, 255, 255);
-    let all = region(0, 0, 9, 9);
-    let fine = command(1, SRC, all, white);
-    let too_wide = region(0, 0, 2147483648, 1);
-    let cases = [
-        (command(6, SRC, all, white), BAD_KIND),
-        (command(u32::MAX, 99, too_wide, white), BAD_KIND),
-        (command(1, SRC, too_wide, white), BAD_REGION),
-        (command(1, 99, region(0, 0, 1, u32::MAX), white), BAD_REGION),
-        (command(3, 13, all, white), BAD_OP),
-        (command(1, 13, all, white), BAD_OP),
-    ];
-    let old = [rgba(1, 2, 3, 4)];
-    for (bad, status) in cases {
-        let mut pixels = old;
-        let mut done = 9;
-        let list = [fine, bad, fine];
-        assert_eq!(rt;
-            pix_run_commands(&mut pixels, 1, 1, 1, &list, &mut done),
-            status
-        );
+fn each_kind(rt: HostRuntime) {
+    let source = [pixel([60, 0, 0, 60])];
+    // SrcOver: 10 * (255 - 128) / 255 = 4.98, 20 * 127 / 255 = 9.96, 30 * 127 / 255 = 14.94, 255 * 127 / 255 = 127.
+    // With 60 in place of 128: 10 * 195 / 255 = 7.65, 15.29, 22.94, 195.
+    // Through the matte 51, a fifth: the color is (20, 10, 0, 25.6), and 10 * 229 / 255 = 8.98, 17.96, 26.94, 229.
+    for (kind, wanted, other) in [
+        (0, [0, 0, 0, 0], [0, 0, 0, 0]),
+        (1, [100, 50, 0, 128], [10, 20, 30, 255]),
+        (2, [60, 0, 0, 60], [10, 20, 30, 255]),
+        (3, [105, 60, 15, 255], [10, 20, 30, 255]),
+        (4, [68, 15, 23, 255], [10, 20, 30, 255]),
+        (5, [29, 28, 27, 255], [10, 20, 30, 255]),
+    ] {
+        let mut image = [GROUND, GROUND];
+        let mut done = 7;
+        let list = [command(kind, &source, &[51])];
+        let status = pix_run_commands(&mut image, 2, 1, 2, &list, &mut done);
+        assert_eq!(rt; status, DONE);
         assert_eq!(rt; done, 1);
-        assert_eq!(rt; pixels, old);
+        assert_eq!(rt; image[0], pixel(other), "kind {kind}");
+        assert_eq!(rt; image[1], pixel(wanted), "kind {kind}");
     }
-    Ok(())
-}
-
-/// The status of one command whose source has these sizes and one pixel or matte.
-fn status_of_source(kind: u32, width: u32, height: u32, stride: u32) -> u32 {
-    let source = Source {
-        pixels: &[rgba(1, 2, 3, 4)],
-        mattes: &[7],
-        width,
-        height,
-        stride,
-    };
-    let list = [sourced(kind, SRC, region(0, 0, 1, 1), rgba(0, 0, 0, 0), source)];
-    let mut pixels = [rgba(0, 0, 0, 0)];
-    let mut done = 0;
-    pix_run_commands(&mut pixels, 1, 1, 1, &list, &mut done)
 }
 
 #[test]
-fn sources_of_hostile_sizes(rt: HostRuntime) -> Result<(), Fail> {
-    for kind in [2, 4, 5] {
-        assert_eq!(rt; status_of_source(kind, 1, 1, 1), DONE);
-        assert_eq!(rt; status_of_source(kind, 1, 0, 1), DONE);
-        assert_eq!(rt; status_of_source(kind, 1, 1, u32::MAX), DONE);
-        assert_eq!(rt; status_of_source(kind, 2, 1, 2), BAD_SOURCE);
-        assert_eq!(rt; status_of_source(kind, 1, 2, 1), BAD_SOURCE);
-        assert_eq!(rt; status_of_source(kind, 1, 1, 0), BAD_SOURCE);
-        assert_eq!(rt; status_of_source(kind, 2147483648, 0, u32::MAX), BAD_SOURCE);
-        // 65536 * 65536 and 2147483647 * 4294967295 wrap in 32 bits.
-        assert_eq!(rt; status_of_source(kind, 1, 65537, 65536), BAD_SOURCE);
-        assert_eq!(rt; status_of_source(kind, 1, 2147483647, u32::MAX), BAD_SOURCE);
+fn each_operator(rt: HostRuntime) {
+    // The source has the alpha 51, a fifth; the destination the alpha 204, four fifths.
+    for (op, wanted) in [
+        (0, [50, 0, 0, 51]),
+        (1, [0, 100, 0, 204]),
+        (2, [50, 80, 0, 214]),
+        (3, [10, 100, 0, 214]),
+        (4, [10, 0, 0, 10]),
+        (5, [0, 80, 0, 163]),
+        (6, [40, 0, 0, 41]),
+        (7, [0, 20, 0, 41]),
+        (8, [40, 80, 0, 204]),
+        (9, [10, 20, 0, 51]),
+        (10, [10, 80, 0, 173]),
+        (11, [0, 0, 0, 0]),
+        (12, [50, 100, 0, 255]),
+    ] {
+        let mut image = [pixel([0, 100, 0, 204])];
+        let mut done = 7;
+        let mut one = command(3, &[], &[]);
+        one.op = op;
+        one.to = region(0, 0, 1, 1);
+        one.color = pixel([50, 0, 0, 51]);
+        let status = pix_run_commands(&mut image, 1, 1, 1, &[one], &mut done);
+        assert_eq!(rt; status, DONE);
+        assert_eq!(rt; image[0], pixel(wanted), "operator {op}");
     }
-    for kind in [0, 1, 3] {
-        assert_eq!(rt; status_of_source(kind, u32::MAX, u32::MAX, 0), DONE);
-    }
-    Ok(())
 }
 
 #[test]
-fn images_of_hostile_sizes(rt: HostRuntime) -> Result<(), Fail> {
-    let sizes = [
-        (1, 1, 0),
-        (2, 1, 2),
-        (1, 2, 1),
-        (2147483648, 0, u32::MAX),
-        (0, 2147483648, 0),
-        (1, 65537, 65536),
-        (1, 2147483647, u32::MAX),
-    ];
-    for (width, height, stride) in sizes {
-        let mut pixels = [rgba(1, 2, 3, 4)];
-        let mut done = 9;
-        let list = [command(6, SRC, region(0, 0, 1, 1), rgba(0, 0, 0, 0))];
-        let status = pix_run_commands(&mut pixels, width, height, stride, &list, &mut done);
-        assert_eq!(rt; status, BAD_SIZE);
-        assert_eq!(rt; done, 0);
-        assert_eq!(rt; pixels, [rgba(1, 2, 3, 4)]);
+fn what_is_refused(rt: HostRuntime) {
+    let good = command(1, &[], &[]);
+    let mut far_to = good;
+    far_to.to.width = 2147483648;
+    let mut far_from = good;
+    far_from.from.height = u32::MAX;
+    let mut no_op = good;
+    no_op.op = 13;
+    let mut far_and_no_op = no_op;
+    far_and_no_op.to.height = 2147483648;
+    let mut wide = command(4, &[GROUND], &[]);
+    wide.width = 2;
+    let mut narrow = command(5, &[], &[1, 2, 3, 4]);
+    narrow.width = 2;
+    narrow.height = 2;
+    let mut huge = command(2, &[GROUND], &[]);
+    huge.width = 2147483647;
+    huge.height = 2147483647;
+    huge.stride = u32::MAX;
+    for (bad, wanted) in [
+        (command(6, &[], &[]), BAD_KIND),
+        (command(u32::MAX, &[], &[]), BAD_KIND),
+        (far_to, BAD_REGION),
+        (far_from, BAD_REGION),
+        (far_and_no_op, BAD_REGION),
+        (no_op, BAD_OP),
+        (command(2, &[], &[1]), BAD_SOURCE),
+        (command(4, &[], &[1]), BAD_SOURCE),
+        (command(5, &[GROUND], &[]), BAD_SOURCE),
+        (wide, BAD_SOURCE),
+        (narrow, BAD_SOURCE),
+        (huge, BAD_SOURCE),
+    ] {
+        let mut image = [GROUND, GROUND];
+        let mut done = 7;
+        let status = pix_run_commands(&mut image, 2, 1, 2, &[good, bad, good], &mut done);
+        assert_eq!(rt; status, wanted);
+        assert_eq!(rt; done, 1);
+        assert_eq!(rt; image, [GROUND, GROUND]);
     }
-    Ok(())
 }
 
 #[test]
-fn rows_with_padding(rt: HostRuntime) -> Result<(), Fail> {
-    let old = rgba(9, 9, 9, 9);
-    let new = rgba(1, 2, 3, 4);
-    let mut pixels = [old; 8];
-    let mut done = 0;
-    // Two columns and two rows, five pixels apart: no pixel is needed after the last row.
-    let list = [command(1, SRC, region(-1, 0, 9, 9), new)];
+fn sizes(rt: HostRuntime) {
+    let clear = [command(0, &[], &[])];
+    for (width, height, stride, wanted) in [
+        (2, 2, 3, DONE),
+        (3, 2, 3, BAD_SIZE),
+        (2, 2, 4, BAD_SIZE),
+        (2, 2, 1, BAD_SIZE),
+        (2, 3, 3, BAD_SIZE),
+        (5, 1, u32::MAX, DONE),
+        (0, 2147483647, 0, DONE),
+        (0, 2, 5, DONE),
+        (0, 2, 6, BAD_SIZE),
+        (2147483647, 0, 2147483647, DONE),
+        (2147483648, 0, u32::MAX, BAD_SIZE),
+        (0, 2147483648, 0, BAD_SIZE),
+        (u32::MAX, u32::MAX, u32::MAX, BAD_SIZE),
+        (2147483647, 2147483647, u32::MAX, BAD_SIZE),
+        (0, 2147483647, 2147483650, BAD_SIZE),
+    ] {
+        let mut image = [GROUND; 5];
+        let mut done = 7;
+        let status = pix_run_commands(&mut image, width, height, stride, &clear, &mut done);
+        assert_eq!(rt; status, wanted, "{width} by {height}, {stride} apart");
+        assert_eq!(rt; done, if wanted == DONE { 1 } else { 0 });
+        if wanted == BAD_SIZE || width == 0 || height == 0 {
+            assert_eq!(rt; image, [GROUND; 5]);
+        }
+    }
+}
+
+#[test]
+fn what_stands_between_the_rows_stays(rt: HostRuntime) {
+    let none = pixel([0, 0, 0, 0]);
+    let mut image = [GROUND; 8];
+    let mut done = 7;
+    let status = pix_run_commands(&mut image, 2, 2, 4, &[command(0, &[], &[])], &mut done);
+    assert_eq!(rt; status, DONE);
     assert_eq!(rt;
-        pix_run_commands(&mut pixels, 2, 2, 5, &list, &mut done),
-        DONE
+        image,
+        [none, none, GROUND, GROUND, none, none, GROUND, GROUND]
     );
-    assert_eq!(rt; pixels, [new, new, old, old, old, new, new, old]);
-    Ok(())
+    // A window of one column into a source of three.
+    let source = [
+        pixel([1, 0, 0, 1]),
+        pixel([2, 0, 0, 2]),
+        pixel([3, 0, 0, 3]),
+        pixel([4, 0, 0, 4]),
+    ];
+    let mut copy = command(2, &source, &[]);
+    copy.to = region(1, 0, 2, 2);
+    copy.from = region(0, 0, 2, 2);
+    copy.height = 2;
+    copy.stride = 3;
+    let status = pix_run_commands(&mut image, 2, 2, 4, &[copy], &mut done);
+    assert_eq!(rt; status, DONE);
+    let (one, four) = (source[0], source[3]);
+    assert_eq!(rt;
+        image,
+        [none, one, GROUND, GROUND, none, four, GROUND, GROUND]
+    );
 }
 
 #[test]
-fn lists_and_images_of_nothing(rt: HostRuntime) -> Result<(), Fail> {
-    let mut pixels = [rgba(1, 2, 3, 4)];
-    let mut done = 9;
+fn regions_that_are_clipped(rt: HostRuntime) {
+    let color = pixel([100, 50, 0, 128]);
+    let mut image = [GROUND; 4];
+    let mut done = 7;
+    let mut far = command(1, &[], &[]);
+    far.to = region(-2147483648, -2147483648, 2147483647, 2147483647);
+    let mut corner = command(1, &[], &[]);
+    corner.to = region(-1, 1, 2, 2147483647);
+    let status = pix_run_commands(&mut image, 2, 2, 2, &[far, corner], &mut done);
+    assert_eq!(rt; status, DONE);
+    assert_eq!(rt; done, 2);
+    assert_eq!(rt; image, [GROUND, GROUND, color, GROUND]);
+}
+
+#[test]
+fn rows_of_more_than_sixteen(rt: HostRuntime) {
+    let mut image = [GROUND; 20];
+    let mut done = 7;
+    let source = [pixel([60, 0, 0, 60]); 20];
+    let mut over = command(4, &source, &[]);
+    over.to = region(1, 0, 18, 1);
+    over.from = region(0, 0, 20, 1);
+    over.width = 20;
+    over.stride = 20;
+    let status = pix_run_commands(&mut image, 20, 1, 20, &[over], &mut done);
+    assert_eq!(rt; status, DONE);
+    let made = pixel([68, 15, 23, 255]);
+    assert_eq!(rt; image[0], GROUND);
+    assert_eq!(rt; image[1], made);
+    assert_eq!(rt; image[16], made);
+    assert_eq!(rt; image[18], made);
+    assert_eq!(rt; image[19], GROUND);
+}
+
+#[test]
+fn an_empty_list(rt: HostRuntime) {
+    let mut image = [GROUND];
+    let mut done = 7;
+    assert_eq!(rt; pix_run_commands(&mut image, 1, 1, 1, &[], &mut done), DONE);
+    assert_eq!(rt; done, 0);
+    assert_eq!(rt; image, [GROUND]);
+    assert_eq!(rt; pix_run_commands(&mut [], 0, 0, 0, &[], &mut done), DONE);
     assert_eq!(rt;
-        pix_run_commands(&mut pixels, 1, 1, 1, &[], &mut done),
-        DONE
+        pix_run_commands(&mut [], 1, 1, 1, &[], &mut done),
+        BAD_SIZE
     );
     assert_eq!(rt; done, 0);
-    let list = [command(1, SRC, region(0, 0, 9, 9), rgba(0, 0, 0, 0))];
-    assert_eq!(rt;
-        pix_run_commands(&mut pixels, 0, 2147483647, 0, &list, &mut done),
-        DONE
-    );
-    assert_eq!(rt; done, 1);
-    assert_eq!(rt;
-        pix_run_commands(&mut pixels, 2147483647, 0, u32::MAX, &list, &mut done),
-        DONE
-    );
-    assert_eq!(rt; pixels, [rgba(1, 2, 3, 4)]);
-    Ok(())
 }
 
 #[test]
-fn the_other_formats(rt: HostRuntime) -> Result<(), Fail> {
-    // 0x8000 + 0x8000 * 0x7FFF/0xFFFF is 32768 + 16384.
-    let wide = PixRgba16 {
-        channels: [16384, 0, 0, 32768],
+fn sixteen_bits(rt: HostRuntime) {
+    // SrcOver with half an alpha: 20000 * 32767 / 65535 = 9999.85, 65535 * 32767 / 65535 = 32767.
+    let mut image = [PixRgba16 {
+        channels: [20000, 0, 65535, 65535],
+    }];
+    let mut done = 7;
+    let color = PixRgba16 {
+        channels: [1000, 300, 0, 32768],
     };
     let list = [PixCommandRgba16 {
-        kind: 3,
-        op: SRC_OVER,
+        kind: 5,
+        op: 2,
         to: region(0, 0, 1, 1),
-        from: region(0, 0, 0, 0),
-        color: wide,
+        from: region(0, 0, 1, 1),
+        color,
         pixels: &[],
-        mattes: &[],
-        width: 0,
-        height: 0,
-        stride: 0,
+        mattes: &[65535],
+        width: 1,
+        height: 1,
+        stride: 1,
     }];
-    let mut pixels = [wide];
-    let mut done = 0;
+    let status = pix_run_commands_rgba16(&mut image, 1, 1, 1, &list, &mut done);
+    assert_eq!(rt; status, DONE);
+    assert_eq!(rt; done, 1);
+    assert_eq!(rt; image[0].channels, [11000, 300, 32767, 65535]);
     assert_eq!(rt;
-        pix_run_commands_rgba16(&mut pixels, 1, 1, 1, &list, &mut done),
-        DONE
+        pix_run_commands_rgba16(&mut image, 1, 2, 1, &list, &mut done),
+        BAD_SIZE
     );
-    assert_eq!(rt; pixels[0].channels, [24576, 0, 0, 49152]);
+    let mut list = list;
+    list[0].mattes = &[];
+    assert_eq!(rt;
+        pix_run_commands_rgba16(&mut image, 1, 1, 1, &list, &mut done),
+        BAD_SOURCE
+    );
+}
 
-    let gray = PixGraya8 {
-        channels: [64, 128],
-    };
-    let list = [PixCommandGraya8 {
-        kind: 3,
-        op: SRC_OVER,
-        to: region(0, 0, 1, 1),
-        from: region(0, 0, 0, 0),
-        color: gray,
-        pixels: &[],
-        mattes: &[],
-        width: 0,
-        height: 0,
-        stride: 0,
+#[test]
+fn gray_and_alpha(rt: HostRuntime) {
+    // SrcOver with the alpha 51: 100 * 204 / 255 = 80, 204 * 204 / 255 = 163.2.
+    let mut image = [PixGraya8 {
+        channels: [100, 204],
     }];
-    let mut pixels = [gray];
+    let mut done = 7;
+    let source = [PixGraya8 { channels: [50, 51] }];
+    let list = [PixCommandGraya8 {
+        kind: 4,
+        op: 2,
+        to: region(0, 0, 1, 1),
+        from: region(0, 0, 1, 1),
+        color: source[0],
+        pixels: &source,
+        mattes: &[],
+        width: 1,
+        height: 1,
+        stride: 1,
+    }];
+    let status = pix_run_commands_graya8(&mut image, 1, 1, 1, &list, &mut done);
+    assert_eq!(rt; status, DONE);
+    assert_eq!(rt; done, 1);
+    assert_eq!(rt; image[0].channels, [130, 214]);
+    let mut list = list;
+    list[0].kind = 9;
     assert_eq!(rt;
-        pix_run_commands_graya8(&mut pixels, 1, 1, 1, &list, &mut done),
-        DONE
+        pix_run_commands_graya8(&mut image, 1, 1, 1, &list, &mut done),
+        BAD_KIND
     );
-    assert_eq!(rt; pixels[0].channels, [96, 192]);
-    Ok(())
+    assert_eq!(rt; done, 0);
 }
