@@ -2,7 +2,7 @@
 //!
 //! Each model is converted into red, green and blue and from them by whole numbers, rounded to the nearest, in the type of the pixel's
 //! channels. A color of `Bgr` or `Cmy` comes back from red, green and blue as it was, and so does a red, green and blue from them; a
-//! `Gray` comes back from red, green and blue. The other models do not promise it, since their formulas round.
+//! `Gray` comes back from red, green and blue. That follows from their formulas and is no clause; those of the other models round.
 #![tactic(auto)]
 
 pub mod bgr;
