@@ -182,7 +182,7 @@ one_or_none get f old a b m n false r hc hr = refl
 -- what is changed in an overlap, pixel by pixel, is changed where points are paired
 pub changed_in_overlap : {D S : Type 0} (to from : Rectangle) (reads : D → List ℕ) (shape : Shape) (old new : List D) (source_reads : S → List ℕ) (src_shape : Shape) (src : List S)
     (f : List ℕ → List ℕ → List ℕ) (o : Overlap)
-    → o.columns.dst.end ≤ shape.width → o.rows.dst.end ≤ shape.height → shape.width ≤ shape.stride
+    → o.columns.dst.end ≤ shape.width → o.rows.dst.end ≤ shape.height → shape.width ≤ shape.stride → 0 < shape.width
     → ((x y : ℕ) → in_box o.columns.dst o.rows.dst x y ≡ is_paired to (whole shape.width shape.height) from (whole src_shape.width src_shape.height) (pos x -ℤ to.left) (pos y -ℤ to.top))
     → ((x : ℕ) → lies_in o.columns.dst x ≡ true → o.columns.src_start + (x - o.columns.dst.start) ≡ natural (from.left +ℤ (pos x -ℤ to.left)))
     → ((y : ℕ) → lies_in o.rows.dst y ≡ true → o.rows.src_start + (y - o.rows.dst.start) ≡ natural (from.top +ℤ (pos y -ℤ to.top)))
@@ -191,9 +191,9 @@ pub changed_in_overlap : {D S : Type 0} (to from : Rectangle) (reads : D → Lis
     (λ a b. f (read_at source_reads src_shape.stride src (o.columns.src_start + (a - o.columns.dst.start)) (o.rows.src_start + (b - o.rows.dst.start))))
     x y (read_at reads shape.stride old x y))
     → ChangedIn reads shape old new (where_paired to (whole shape.width shape.height) from (whole src_shape.width src_shape.height) (read_at source_reads src_shape.stride src) f)
-changed_in_overlap to from reads shape old new source_reads src_shape src f o across down apart points columns rows changed =
+changed_in_overlap to from reads shape old new source_reads src_shape src f o across down apart some points columns rows changed =
     let get = read_at source_reads src_shape.stride src in
-    changed_in_box reads shape old new o.columns.dst o.rows.dst (λ a b. f (get (o.columns.src_start + (a - o.columns.dst.start)) (o.rows.src_start + (b - o.rows.dst.start)))) _ across down apart changed
+    changed_in_box reads shape old new o.columns.dst o.rows.dst (λ a b. f (get (o.columns.src_start + (a - o.columns.dst.start)) (o.rows.src_start + (b - o.rows.dst.start)))) _ across down apart some changed
     (λ x y pixel _ _.
     one_or_none get f pixel (o.columns.src_start + (x - o.columns.dst.start)) (o.rows.src_start + (y - o.rows.dst.start))
     (natural (from.left +ℤ (pos x -ℤ to.left))) (natural (from.top +ℤ (pos y -ℤ to.top))) (lies_in o.columns.dst x) (lies_in o.rows.dst y) (columns x) (rows y)

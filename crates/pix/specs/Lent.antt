@@ -1,5 +1,5 @@
 -- Images in memory that the caller owns: rows of pixels that lie a stride apart, and a change of them at each point.
-use Rattle.std.specs.Prelude.{◌≡◌, ℕ, pos, ◌+◌, ◌*◌, ◌<◌, ◌≤◌, ◌⊎◌, List, [], map, fold, slice_index_or, if◌then◌else◌}
+use Rattle.std.specs.Prelude.{◌≡◌, ◌≢◌, ℕ, pos, ◌+◌, ◌*◌, ◌<◌, ◌≤◌, List, [], map, fold, slice_index_or, if◌then◌else◌}
 use Rattle.pix.specs.Region.{Rectangle, limit, covers}
 use Rattle.pix.specs.Reach.{from_pair}
 use Rattle.pix.specs.declared.lent.Shape.{Shape}
@@ -8,19 +8,22 @@ use Rattle.pix.specs.declared.lent.Shape.{Shape}
 abbrev pub read_at : {D : Type 0} → (D → List ℕ) → ℕ → List D → ℕ → ℕ → List ℕ
 read_at reads stride pixels x y = slice_index_or (map reads pixels) (y * stride + x) []
 
--- the rows of an image of that shape lie in so many pixels; none is needed after the last row
+-- no side is above the limit, rows do not overlap, and all of them lie in so many pixels; none is needed after the last row
 pub record IsShaped (shape : Shape) (count : ℕ) : Type 0 where
   pub wide : shape.width ≤ limit
   pub high : shape.height ≤ limit
   pub apart : shape.width ≤ shape.stride
   pub last : (y : ℕ) → y < shape.height → y * shape.stride + shape.width ≤ count
 
--- at each point of the image the new pixels have f of the point and of what stood there; beside the image and below it, they have what stood there
+-- the place is that of no point of an image: it lies between two rows or after the last
+abbrev pub IsNoPoint : Shape → ℕ → Type 0
+IsNoPoint shape place = (x y : ℕ) → x < shape.width → y < shape.height → y * shape.stride + x ≢ place
+
+-- at each point of the image the new pixels have f of the point and of what stood there; at every other place, what stood there
 pub record ChangedIn {D : Type 0} (reads : D → List ℕ) (shape : Shape) (old new : List D) (f : ℕ → ℕ → List ℕ → List ℕ) : Type 0 where
   pub points : (x y : ℕ) → x < shape.width → y < shape.height
       → read_at reads shape.stride new x y ≡ f x y (read_at reads shape.stride old x y)
-  pub kept : (x y : ℕ) → x < shape.stride → (shape.width ≤ x) ⊎ (shape.height ≤ y)
-      → read_at reads shape.stride new x y ≡ read_at reads shape.stride old x y
+  pub kept : (place : ℕ) → IsNoPoint shape place → slice_index_or (map reads new) place [] ≡ slice_index_or (map reads old) place []
 
 -- f of what stands at each point of a rectangle, and what stands elsewhere
 abbrev pub where_covered : {X : Type 0} → Rectangle → (X → X) → ℕ → ℕ → X → X

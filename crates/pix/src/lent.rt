@@ -66,8 +66,10 @@ pub fn fill_region<D, F: Fill<D>>(pixels: &mut [D], shape: Shape, reg: Region, c
     ensures { ChangedIn F.reads shape pixels.old pixels.new
         (where_covered reg (F.makes change.now)) }
 {
-    let clipped = ClippedRect::new(reg, shape.width, shape.height);
-    fill_rows(pixels, shape.stride, clipped, change);
+    if shape.width > 0 {
+        let clipped = ClippedRect::new(reg, shape.width, shape.height);
+        fill_rows(pixels, shape.stride, clipped, change);
+    }
 }
 
 /// Changes the region `to` of an image by the region `from` of a source, each point by the point that it is paired with, as by
@@ -91,15 +93,17 @@ pub fn blit_region<D, S, B: Blit<D, S>>(
         from (whole src_shape.width src_shape.height)
         (read_at B.source_reads src_shape.stride src.now) (B.makes change.now)) }
 {
-    let overlap = Overlap::new(
-        to,
-        shape.width,
-        shape.height,
-        from,
-        src_shape.width,
-        src_shape.height,
-    );
-    blit_rows(pixels, shape.stride, src, src_shape.stride, overlap, change);
+    if shape.width > 0 {
+        let overlap = Overlap::new(
+            to,
+            shape.width,
+            shape.height,
+            from,
+            src_shape.width,
+            src_shape.height,
+        );
+        blit_rows(pixels, shape.stride, src, src_shape.stride, overlap, change);
+    }
 }
 
 /// Changes the pixels of a clipped rectangle of rows that lie `stride` pixels apart.

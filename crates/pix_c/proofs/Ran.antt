@@ -1,17 +1,16 @@
 -- A run on rows in memory, as one on images.
-use Rattle.std.proofs.Common.{◌≡◌, ℕ, ◌<◌, ◌≤◌, ◌+◌, ◌*◌, ◌/◌, ◌%◌, List, [], length, map, get_or, arith, ap, sym, ◌∙◌, refl, ◌⊎◌, inl, inr}
-use Rattle.std.proofs.lemmas.Bool.{cases_lt}
+use Rattle.std.proofs.Common.{◌≡◌, ℕ, List, length, map, ap, sym, ◌∙◌, refl}
 use Rattle.pix_el.specs.Pixel.{Layout}
 use Rattle.pix.specs.Region.{whole}
 use Rattle.pix.specs.Image.{Changed, region_of}
 use Rattle.pix.specs.Run.{run_at}
-use Rattle.pix.specs.Lent.{read_at, IsShaped, ChangedIn}
+use Rattle.pix.specs.Lent.{IsShaped, ChangedIn}
 use Rattle.pix.specs.declared.lent.Shape.{Shape}
 use Rattle.pix.proofs.RunBounds.{IsFormat, keeps_premultiplied, within_budget, small_budget, within_premultiplied_bound}
 use Rattle.pix.proofs.Transparent.{stays_under_transparent}
 use Rattle.pix_c.specs.declared.command.FlatCommand.{FlatCommand}
 use Rattle.pix_c.specs.Command.{image_of, command_of}
-use Rattle.pix_c.specs.Run.{IsNoPoint, IsRun}
+use Rattle.pix_c.specs.Run.{IsRun}
 use Rattle.pix_c.proofs.Images.{point_read}
 
 module _ {D M : Type 0} (layout : Layout) (n : D → List ℕ) (m : M → List ℕ) (width height stride : ℕ) (commands : List (FlatCommand D M)) (old new : List D) where
@@ -36,29 +35,9 @@ module _ {D M : Type 0} (layout : Layout) (n : D → List ℕ) (m : M → List �
             ∙ ap (run_at layout n m (whole width height) (map command_of commands) x y) (sym (point_read n width height stride old x y shaped lx ly));
       }
 
-  -- a place between the rows or after them is to the right of the image or below it
-  far : (x y : ℕ) → (x < width → y < height → ⊥) → (width ≤ x) ⊎ (height ≤ y)
-  far x y none = elim (cases_lt x width) [
-    | inl lx ↦ elim (cases_lt y height) [
-      | inl ly ↦ absurd (none lx ly)
-      | inr below ↦ inr below
-    ]
-    | inr right ↦ inl right
-  ]
-
-  kept : 0 < stride → Ran → (place : ℕ) → IsNoPoint width height stride place → get_or (map n new) place [] ≡ get_or (map n old) place []
-  kept apart ran place outside =
-      let x : ℕ = place % stride in
-      let y : ℕ = place / stride in
-      let within : x < stride = omega arith in
-      let e : y * stride + x ≡ place = omega arith in
-      ap (λ k. get_or (map n new) k []) (sym e)
-      ∙ ran.kept x y within (far x y (λ lx ly. outside x y lx ly e))
-      ∙ ap (λ k. get_or (map n old) k []) e
-
   -- and what follows of it
-  pub ran_is_run : 0 < stride → IsFormat layout n m → IsShaped shape (length old) → length new ≡ length old → Ran → IsRun layout n m width height stride commands old new
-  ran_is_run apart format shaped long ran =
+  pub ran_is_run : IsFormat layout n m → IsShaped shape (length old) → length new ≡ length old → Ran → IsRun layout n m width height stride commands old new
+  ran_is_run format shaped long ran =
       let cs = map command_of commands in
       let before = image_of width height stride old in
       let after = image_of width height stride new in
@@ -70,5 +49,5 @@ module _ {D M : Type 0} (layout : Layout) (n : D → List ℕ) (m : M → List �
         small_budget = small_budget layout n m cs before after;
         premultiplied_bound = within_premultiplied_bound layout n m cs before after format fold;
         transparent = stays_under_transparent layout n m cs before after format fold;
-        kept = kept apart ran;
+        kept = ran.kept;
       }

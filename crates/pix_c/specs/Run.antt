@@ -1,5 +1,5 @@
 -- The run of a list of commands on an image in memory.
-use Rattle.std.specs.Prelude.{◌≡◌, ◌≢◌, ℕ, ◌+◌, ◌*◌, ◌<◌, List, [], map, slice_index_or}
+use Rattle.std.specs.Prelude.{◌≡◌, ℕ, List, [], map, slice_index_or}
 use Rattle.pix_chan.specs.ExactRun.{IsWithinBudget, IsWithinPremultipliedBound, HasSmallBudget}
 use Rattle.pix_el.specs.Pixel.{Layout}
 use Rattle.pix.specs.Region.{whole}
@@ -8,14 +8,10 @@ use Rattle.pix.specs.Run.{run_at}
 use Rattle.pix.specs.Bounds.{OfEachChannel}
 use Rattle.pix.specs.Kept.{KeepsPremultiplied}
 use Rattle.pix.specs.Transparent.{StaysUnderTransparent}
-use Rattle.pix.specs.Lent.{ChangedIn}
+use Rattle.pix.specs.Lent.{IsNoPoint, ChangedIn}
 use Rattle.pix.specs.declared.lent.Shape.{Shape}
 use Rattle.pix_c.specs.declared.command.FlatCommand.{FlatCommand}
 use Rattle.pix_c.specs.Command.{image_of, command_of}
-
--- the place is that of no point of an image: it lies between two rows or after the last
-abbrev pub IsNoPoint : (width height stride : ℕ) → ℕ → Type 0
-IsNoPoint width height stride place = (x y : ℕ) → x < width → y < height → y * stride + x ≢ place
 
 -- The run of a list of commands on an image. `numbers` reads a pixel, and `mattes` a matte.
 pub record IsRun {D M : Type 0} (layout : Layout) (numbers : D → List ℕ) (mattes : M → List ℕ) (width height stride : ℕ)
@@ -39,7 +35,7 @@ pub record IsRun {D M : Type 0} (layout : Layout) (numbers : D → List ℕ) (ma
   pub transparent : StaysUnderTransparent layout numbers mattes (map command_of commands)
       (image_of width height stride old) (image_of width height stride new)
   -- what stands between the rows and after them stays
-  pub kept : (place : ℕ) → IsNoPoint width height stride place
+  pub kept : (place : ℕ) → IsNoPoint (record { width = width; height = height; stride = stride }) place
       → slice_index_or (map numbers new) place [] ≡ slice_index_or (map numbers old) place []
 
 -- the first and the last of these, at each point of rows in memory

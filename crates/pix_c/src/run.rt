@@ -37,7 +37,7 @@ pub(crate) fn run<
         return BAD_SIZE;
     }
     let fault = first_fault(commands, done);
-    if fault == DONE && width > 0 {
+    if fault == DONE {
         let stride = stride as usize;
         let shape = Shape {
             width,

@@ -172,7 +172,7 @@ impl<P: Pixel<Alpha = Premultiplied, Gamma = Linear>> Raster<P> {
             (matte_numbers P.Chan.number) (region_of self.old) others) }
 
         // Where every color and source pixel that reaches a premultiplied pixel is premultiplied, the pixel stays premultiplied, and
-        // only the sum of `Plus` is ever cut.
+        // only the sum of `Plus` ever saturates.
         ensures premultiplied { KeepsPremultiplied P.layout P.numbers
             (matte_numbers P.Chan.number) commands.now self.old self.new }
 

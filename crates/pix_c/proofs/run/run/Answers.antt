@@ -15,8 +15,8 @@ pub run_all-requires-clause-shaped : goal.run_all-requires-clause-shaped
 run_all-requires-clause-shaped g c =
     sized_is_shaped c.args.width c.args.height c.args.stride (length c.args.pixels.now) (sym c.is_sized.ensures ∙ c.if-not-is_sized.false)
 
-pub returns-then-width-gt0-clause-run : goal.returns-then-width-gt0-clause-run
-returns-then-width-gt0-clause-run g c =
+pub returns-then-fault-eq-DONE-clause-run : goal.returns-then-fault-eq-DONE-clause-run
+returns-then-fault-eq-DONE-clause-run g c =
     let n = g.D.Numbered.numbers in
     let mattes = g.M.Numbered.numbers in
     let max = g.P.Chan.Channel.max in
@@ -32,6 +32,5 @@ returns-then-width-gt0-clause-run g c =
     } in
     let shaped : IsShaped (record { width = c.args.width; height = c.args.height; stride = c.args.stride }) (length c.args.pixels.now) =
     sized_is_shaped c.args.width c.args.height c.args.stride (length c.args.pixels.now) (sym c.is_sized.ensures ∙ c.if-not-is_sized.false) in
-    let apart : 0 < c.args.stride = let h : c.args.width ≤ c.args.stride = shaped.apart in omega arith in
     λ e. ran_is_run g.P.Pixel.layout n mattes c.args.width c.args.height c.args.stride (map g.C.Flatten.flat c.args.commands.now) c.args.pixels.now c.run_all.new.pixels
-    apart format shaped c.run_all.auto.pixels c.run_all.ensures
+    format shaped c.run_all.auto.pixels c.run_all.ensures

@@ -1,7 +1,7 @@
-use Rattle.std.proofs.Common.{◌≡◌, ℕ, ◌<◌, ◌≤◌, ◌⊎◌, drop, map}
+use Rattle.std.proofs.Common.{◌≡◌, ℕ, ◌<◌, [], drop, map, get_or}
 use Rattle.pix.specs.Region.{whole}
 use Rattle.pix.specs.Run.{run_at}
-use Rattle.pix.specs.Lent.{read_at}
+use Rattle.pix.specs.Lent.{read_at, IsNoPoint}
 use Rattle.pix_c.specs.Command.{command_of}
 use Rattle.pix_c.proofs.run.run_all.Given as goal
 
@@ -15,6 +15,5 @@ invariant-loop-command g l =
     record {
       rest : (x y : ℕ) → x < l.fn.shape.width → y < l.fn.shape.height
           → run (drop l.command-index all) x y (read l.pixels x y) ≡ run all x y (read l.initial.pixels x y);
-      kept : (x y : ℕ) → x < l.fn.shape.stride → (l.fn.shape.width ≤ x) ⊎ (l.fn.shape.height ≤ y)
-          → read l.pixels x y ≡ read l.initial.pixels x y;
+      kept : (place : ℕ) → IsNoPoint l.fn.shape place → get_or (map n l.pixels) place [] ≡ get_or (map n l.initial.pixels) place [];
     }
