@@ -1,6 +1,5 @@
 -- Entries stay where they are, and each index has one that represents its color.
 use Rattle.std.specs.Prelude.{nat_lt, if◌then◌else◌}
-use Rattle.std.specs.Option.{option_map}
 use Rattle.std.proofs.Common.{◌≡◌, ℕ, zero, suc, ◌+◌, ◌-◌, ◌<◌, ◌≤◌, Bool, true, false, List, [], ◌∷◌, ◌++◌, length, map, get_or, refl, arith, sym, ap, ◌∙◌, subst, inl, inr, Some, None, Option, append_assoc, length-append}
 use Rattle.std.proofs.lemmas.Bool.Decides.{nat_tests}
 use Rattle.std.proofs.lemmas.List.{length-map, map-append, append-nil, get_or_append_left}
@@ -8,7 +7,8 @@ use Rattle.std.proofs.Math.Seq.{get_or-append_seam}
 use Rattle.pix_el.specs.Color.{is_within}
 use Rattle.pix.specs.PaletteMatch.{color_difference, difference_to, AreRecords, IsMatch}
 use Rattle.pix.specs.Palette.{Color, numbers, Answers, Fits, StandsFor, IsSet, set_answer, set_colors}
-use Rattle.pix.specs.Indexing.{AreSet, Represents, AllRepresented, AllEqual}
+use Rattle.pix.specs.Image.{Image}
+use Rattle.pix.specs.Indexing.{AreSet, AreGray, IsIndexed, Represents, AllRepresented, AllEqual, values}
 
 -- the new colors are the old ones and more
 pub record Grows (old new : List Color) : Type 0 where
@@ -134,7 +134,7 @@ represented_at answers limit greatest old (pixel ∷ pixels) (i ∷ indices) new
     represented_at answers limit greatest h.0 pixels indices new h.2 k (omega arith)
 represented_at answers limit greatest old (pixel ∷ pixels) [] new h k below = absurd h
 
-pub all_represented : (answers : ℕ → List ℕ → Type 0) (limit greatest : ℕ) (old : List Color) (pixels : List (List ℕ)) (indices : List ℕ) (new : List Color)
+all_represented : (answers : ℕ → List ℕ → Type 0) (limit greatest : ℕ) (old : List Color) (pixels : List (List ℕ)) (indices : List ℕ) (new : List Color)
     → AreSet (IsSet answers limit) greatest old pixels indices new → AllRepresented answers (map numbers new) pixels indices
 all_represented answers limit greatest old pixels indices new h = record { each = represented_at answers limit greatest old pixels indices new h }
 
@@ -152,9 +152,24 @@ fits_none post count p q (inr asked) =
     zero_only _ _ _ (subst (λ t. is_within 255 (color_difference p q) t ≡ true) asked.1 asked.2)
 
 -- where no threshold function was set, that entry is the pixel
-pub all_equal : {F K : Type 0} (post : F → ℕ → Color → Type 0) (read : K → F) (kept : Option K) (entries : List (List ℕ)) (pixels : List (List ℕ)) (indices : List ℕ)
-    → AllRepresented (Answers post (option_map read kept)) entries pixels indices → kept ≡ None → AllEqual entries pixels indices
-all_equal post read None entries pixels indices h e = record {
+all_equal : {F : Type 0} (post : F → ℕ → Color → Type 0) (function : Option F) (entries : List (List ℕ)) (pixels : List (List ℕ)) (indices : List ℕ)
+    → AllRepresented (Answers post function) entries pixels indices → function ≡ None → AllEqual entries pixels indices
+all_equal post None entries pixels indices h e = record {
   each = λ k below. fits_none post (h.each k below).count (get_or entries (get_or indices k 0) []) (get_or pixels k []) (h.each k below).fits;
 }
-all_equal post read (Some function) entries pixels indices h e = absurd (cc)
+all_equal post (Some function) entries pixels indices h e = absurd (cc)
+
+-- an image whose gray values are the indices of all colors
+pub all_indexed : {F P : Type 0} (post : F → ℕ → Color → Type 0) (function : Option F) (limit greatest : ℕ) (read : P → List ℕ) (width height : ℕ)
+    (pixels : List (List ℕ)) (old : List Color) (image : Image P) (new : List Color) → image.width ≡ width → image.height ≡ height
+    → AreSet (IsSet (Answers post function) limit) greatest old pixels (values read image.pixels) new → AreGray read image.pixels
+    → IsIndexed post function limit greatest read width height pixels old (Some image) new
+all_indexed post function limit greatest read width height pixels old image new wide high set gray =
+    let represented : AllRepresented (Answers post function) (map numbers new) pixels (values read image.pixels) = all_represented _ _ _ _ _ _ _ set in
+    record {
+      indices = set;
+      gray = gray;
+      size = (wide, high);
+      represented = represented;
+      equal = all_equal post function (map numbers new) pixels (values read image.pixels) represented;
+    }

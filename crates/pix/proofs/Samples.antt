@@ -1,10 +1,29 @@
--- pixels and the numbers of their channels, one pixel after the other
+-- channels and their numbers, and pixels and the numbers of their channels, one pixel after the other
 use Rattle.std.proofs.Common.{◌≡◌, ℕ, ◌<◌, ◌≤◌, ◌+◌, ◌*◌, List, [], ◌++◌, length, get_or, set, take, drop, map, sym, ap, ◌∙◌, arith}
 use Rattle.std.specs.List.{flat_map}
-use Rattle.std.proofs.lemmas.List.{take-map, drop-map, map-append, take_more, take_more_set, flat_map_more}
+use Rattle.std.proofs.lemmas.List.{length-map, map-set, get_or-map, take-map, drop-map, map-append, take_more, take_more_set, flat_map_more}
+use Rattle.std.proofs.lemmas.List.Edits.{fill_by_more}
+use Rattle.std.proofs.lemmas.Grind.{same_number_lists}
 use Rattle.std.proofs.lemmas.Slice.{take-put_mid}
 use Rattle.std.proofs.Math.Seq.{take-add}
 use borrow.Rule.Slice.PartMut.{put_mid}
+
+-- the elements below i have the numbers of those of the other list
+abbrev pub SameBelow : {X Y : Type 0} → (X → ℕ) → (Y → ℕ) → List X → List Y → ℕ → Type 0
+SameBelow n m xs ys i = (k : ℕ) → k < i → get_or (map n xs) k 0 ≡ get_or (map m ys) k 0
+
+-- one more element was set to one of the same number
+pub same_more : {X Y : Type 0} (n : X → ℕ) (m : Y → ℕ) (xs : List X) (ys : List Y) (i : ℕ) (x : X) (y : Y) → i < length xs → i < length ys
+    → y ≡ get_or ys i y → n x ≡ m y → SameBelow n m xs ys i → SameBelow n m (set xs i x) ys (i + 1)
+same_more n m xs ys i x y here there is same so_far =
+    let new : n x ≡ get_or (map m ys) i 0 = same ∙ ap m is ∙ sym (get_or-map m ys i y 0 there) in
+    rw (map-set, new) (fill_by_more (λ k. get_or (map m ys) k 0) (map n xs) i 0 (omega (arith, length-map xs n)) so_far)
+
+-- all elements were
+pub same_all : {X Y : Type 0} (n : X → ℕ) (m : Y → ℕ) (xs : List X) (ys : List Y) (i : ℕ) → length xs ≡ length ys → length xs ≤ i
+    → SameBelow n m xs ys i → map n xs ≡ map m ys
+same_all n m xs ys i long all so_far =
+    same_number_lists (map n xs) (map m ys) (omega (arith, length-map xs n, length-map ys m)) (λ k h. so_far k (omega (arith, length-map xs n)))
 
 -- one more pixel was set to the next numbers
 pub unpacked_more : {P S : Type 0} (n : P → List ℕ) (m : S → ℕ) (pixels : List P) (samples : List S) (i count start wide : ℕ) (p : P) → i < length pixels

@@ -1,11 +1,13 @@
 -- Indexing an image: each pixel's color is set in a palette, and the answer is its index.
 use Rattle.std.specs.Prelude.{◌≡◌, ℕ, ◌<◌, ◌≤◌, true, List, [], ◌∷◌, ◌++◌, map, length, slice_index_or, Option, Some, None, IfSome}
+use Rattle.std.specs.Option.{option_map}
 use Rattle.pix_chan.specs.Modes.{GammaMode, Srgb, Straight}
 use Rattle.pix_el.specs.Model.{row, Rgb}
 use Rattle.pix_el.specs.Color.{rgb_itself}
 use Rattle.pix_el.specs.Conversion.{Format, converted}
 use Rattle.pix.specs.PaletteMatch.{difference_to}
-use Rattle.pix.specs.Palette.{Color, numbers, Fits}
+use Rattle.pix.specs.Image.{Image}
+use Rattle.pix.specs.Palette.{Color, numbers, Answers, Fits, IsSet}
 
 -- the format of a palette's colors but for its gamma mode, which is sRGB
 abbrev pub color_format : Format
@@ -78,3 +80,16 @@ pub record AllRepresented (answers : ℕ → List ℕ → Type 0) (entries pixel
 -- the entry at each pixel's index is the pixel: it differs in no channel
 pub record AllEqual (entries pixels : List (List ℕ)) (indices : List ℕ) : Type 0 where
   pub each : (k : ℕ) → k < length pixels → difference_to entries (slice_index_or pixels k []) (slice_index_or indices k 0) ≡ 0 ∷ 0 ∷ 0 ∷ []
+
+-- The outcome of indexing an image of that size whose pixels have these colors: the image of indices, or none, and the colors of the palette
+-- before and afterwards. `function` is the palette's threshold function, of which `post` tells what it answers; `read` reads a pixel.
+pub record IsIndexed {F P : Type 0} (post : F → ℕ → Color → Type 0) (function : Option F) (limit greatest : ℕ) (read : P → List ℕ)
+    (width height : ℕ) (pixels : List (List ℕ)) (old : List Color) (answer : Option (Image P)) (new : List Color) : Type 0 where
+  -- the colors are set, one after the other, and the gray values are their indices; there are none where one has no index up to the greatest
+  pub indices : AreIndexed (IsSet (Answers post function) limit) greatest old pixels (option_map (λ image. values read image.pixels) answer) new
+  pub gray : IfSome answer (λ image. AreGray read image.pixels)
+  pub size : IfSome answer (λ image. (image.width ≡ width) × (image.height ≡ height))
+  -- the entry at each index is the color, or within a threshold
+  pub represented : IfSome answer (λ image. AllRepresented (Answers post function) (map numbers new) pixels (values read image.pixels))
+  -- without a threshold function it is the color
+  pub equal : function ≡ None → IfSome answer (λ image. AllEqual (map numbers new) pixels (values read image.pixels))

@@ -59,7 +59,7 @@ pub trait Blit<D, S> {
 
 /// Changes each point of `reg`, clipped to the image of that shape. No other pixel changes.
 ///
-/// Condition: the rows of the image lie in `pixels`.
+/// Condition: `shape` is as the docs of its fields say, its rows lie in `pixels`, and the change suits the format.
 pub fn fill_region<D, F: Fill<D>>(pixels: &mut [D], shape: Shape, reg: Region, change: &F)
     requires can_fill { F.can_fill }
     requires fits { IsShaped shape (length pixels.old) }
@@ -75,7 +75,8 @@ pub fn fill_region<D, F: Fill<D>>(pixels: &mut [D], shape: Shape, reg: Region, c
 /// Changes the region `to` of an image by the region `from` of a source, each point by the point that it is paired with, as by
 /// [`Raster::copy_raster`](crate::Raster::copy_raster). No other pixel changes.
 ///
-/// Condition: the rows of the image lie in `pixels`, and those of the source in `src`.
+/// Condition: both shapes are as the docs of their fields say, the rows of the image lie in `pixels` and those of the source in `src`, and the
+/// change suits both formats.
 pub fn blit_region<D, S, B: Blit<D, S>>(
     pixels: &mut [D],
     shape: Shape,

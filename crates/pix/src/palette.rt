@@ -25,7 +25,7 @@ impl Palette {
     ///
     /// # Errors
     ///
-    /// `Memory` on allocation failure.
+    /// `Memory` on allocation failure, and where the limit is too large to be reserved.
     pub fn new(alloc: Global, limit: usize) -> Result<Palette, RasterFault>
         ensures colors { IfOk result (λ p. length p.colors.items ≡ 0) }
         ensures limit { IfOk result (λ p. p.limit ≡ limit) }

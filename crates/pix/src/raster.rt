@@ -144,7 +144,9 @@ impl<P: Pixel> Raster<P> {
 }
 
 impl<P> Raster<P> {
-    /// Returns the pixel at (`x`, `y`) to be written; no other pixel changes. Condition: the point lies in the raster.
+    /// Returns the pixel at (`x`, `y`) as a mutable reference. What is written stands at that point, and no other pixel changes.
+    ///
+    /// Condition: the point lies in the raster.
     pub fn pixel_mut(&mut self, x: i32, y: i32) -> &mut P
         requires { IsPoint self.old x y }
         ensures* lends { sem 𝓛 (Lends (the_row P.row) P.row self.entry result
@@ -156,7 +158,7 @@ impl<P> Raster<P> {
         &mut self.pixels[place]
     }
 
-    /// Returns all pixels, row by row from the top, to be written.
+    /// Returns all pixels as a mutable slice, row by row from the top. What is written stands at those points.
     pub fn pixels_mut(&mut self) -> &mut [P]
         ensures* lends { sem 𝓛 (Lends (the_row P.row) (Array P.row 0) self.entry result
             (with_pixels self.old)) }

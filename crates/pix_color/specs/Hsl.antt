@@ -8,7 +8,7 @@ use Rattle.pix_color.specs.Hexcone.{lifted_rgb, hue_of, chroma_of, value_of}
 abbrev pub half : ℕ → ℕ
 half max = (max + 1) / 2
 
--- the greatest chroma of a lightness l: the maximum less the absolute_difference of 2l from it
+-- the greatest chroma of a lightness l: the maximum less the absolute difference of 2l and the maximum
 abbrev pub greatest_chroma : ℕ → ℕ → ℕ
 greatest_chroma max lightness = max - absolute_difference (2 * lightness) max
 

@@ -1,5 +1,5 @@
 -- Weighted sums of three channels and of the maximum, of which the models Gray, YCbCr and Xyz are made.
-use Rattle.std.specs.Prelude.{ℕ, ℤ, pos, neg_ℤ, ◌+ℤ◌, ◌*ℤ◌}
+use Rattle.std.specs.Prelude.{ℕ, ℤ, pos, neg_ℤ, ◌+ℤ◌, ◌*ℤ◌, List, [], ◌∷◌}
 use Rattle.pix_chan.specs.Nearest.{nearest}
 
 -- the weights of three channels and of the maximum, and the whole that their sum is divided by
@@ -14,6 +14,11 @@ pub record Weights : Type 0 where
 abbrev pub weighted_sum : ℕ → Weights → ℕ → ℕ → ℕ → ℕ
 weighted_sum max w x y z =
     nearest max (w.first *ℤ pos x +ℤ w.second *ℤ pos y +ℤ w.third *ℤ pos z +ℤ w.offset *ℤ pos max) (pos w.whole)
+
+-- three such sums of the same channels
+abbrev pub weighted_sums : Weights → Weights → Weights → ℕ → ℕ → ℕ → ℕ → List ℕ
+weighted_sums one two three max x y z =
+    weighted_sum max one x y z ∷ weighted_sum max two x y z ∷ weighted_sum max three x y z ∷ []
 
 -- a line of a table: the weights of three channels and of the maximum, and the whole
 abbrev pub weights : ℤ → ℤ → ℤ → ℤ → ℕ → Weights

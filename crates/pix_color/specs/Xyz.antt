@@ -1,6 +1,6 @@
 -- Xyz: the tristimulus values of linear red, green and blue.
-use Rattle.std.specs.Prelude.{ℕ, List, [], ◌∷◌, pos}
-use Rattle.pix_color.specs.Linear.{Weights, weights, less, weighted_sum}
+use Rattle.std.specs.Prelude.{ℕ, List, pos}
+use Rattle.pix_color.specs.Linear.{Weights, weights, less, weighted_sums}
 
 -- x, y and z from red, green and blue
 abbrev pub x_part : Weights
@@ -24,8 +24,8 @@ blue = weights (pos 557) (less 2040) (pos 10570) (pos 0) 10000
 
 -- into red, green and blue
 abbrev pub rgb_of_xyz : ℕ → ℕ → ℕ → ℕ → List ℕ
-rgb_of_xyz max x y z = weighted_sum max red x y z ∷ weighted_sum max green x y z ∷ weighted_sum max blue x y z ∷ []
+rgb_of_xyz = weighted_sums red green blue
 
 -- from red, green and blue
 abbrev pub xyz_of_rgb : ℕ → ℕ → ℕ → ℕ → List ℕ
-xyz_of_rgb max r g b = weighted_sum max x_part r g b ∷ weighted_sum max y_part r g b ∷ weighted_sum max z_part r g b ∷ []
+xyz_of_rgb = weighted_sums x_part y_part z_part

@@ -1,6 +1,6 @@
 -- YCbCr: the luma, and how far blue and red are from it.
-use Rattle.std.specs.Prelude.{ℕ, List, [], ◌∷◌, pos}
-use Rattle.pix_color.specs.Linear.{Weights, weights, less, weighted_sum}
+use Rattle.std.specs.Prelude.{ℕ, List, pos}
+use Rattle.pix_color.specs.Linear.{Weights, weights, less, weighted_sums}
 
 -- the luma, and the differences of blue and of red, from red, green and blue
 abbrev pub luma : Weights
@@ -24,9 +24,8 @@ blue = weights (pos 1000) (pos 1772) (pos 0) (less 886) 1000
 
 -- into red, green and blue
 abbrev pub rgb_of_ycc : ℕ → ℕ → ℕ → ℕ → List ℕ
-rgb_of_ycc max y cb cr = weighted_sum max red y cb cr ∷ weighted_sum max green y cb cr ∷ weighted_sum max blue y cb cr ∷ []
+rgb_of_ycc = weighted_sums red green blue
 
 -- from red, green and blue
 abbrev pub ycc_of_rgb : ℕ → ℕ → ℕ → ℕ → List ℕ
-ycc_of_rgb max r g b =
-    weighted_sum max luma r g b ∷ weighted_sum max blue_difference r g b ∷ weighted_sum max red_difference r g b ∷ []
+ycc_of_rgb = weighted_sums luma blue_difference red_difference

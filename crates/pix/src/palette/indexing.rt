@@ -1,8 +1,8 @@
 //! Images of indices into a palette.
-ghost use Rattle.std.specs.Prelude.{◌≡◌, ◌≤◌, ◌<◌, ℕ, Option, Some, None, [], ◌∷◌, length, map, true, false, if◌then◌else◌, IfOk, IfErr, IfSome};
+ghost use Rattle.std.specs.Prelude.{◌≡◌, Option, Some, None, length, map, true, false, if◌then◌else◌, IfOk, IfErr};
 ghost use Rattle.std.specs.Option.{option_map};
 ghost use Rattle.pix.specs.Palette.{Answers, IsSet, numbers};
-ghost use Rattle.pix.specs.Indexing.{IsSetUpTo, AreIndexed, AreGray, colors_of, values, AllRepresented, AllEqual};
+ghost use Rattle.pix.specs.Indexing.{IsIndexed, IsSetUpTo, AreIndexed, AreGray, colors_of, values};
 ghost use Rattle.pix.specs.Known.{AreKnown};
 ghost use Rattle.pix.specs.declared.fault.RasterFault.{RasterFault};
 
@@ -19,7 +19,8 @@ use std::alloc::Global;
 
 impl Palette {
     /// Makes a raster of indices: from left to right and row by row, the color of each pixel is set, and the value of the pixel at its place is its
-    /// index. Answers `None` at the first pixel whose color can't be set or whose index is above 255; what was set before stays.
+    /// index. Answers `None` at the first pixel whose color can't be set or whose index is above 255; the entries
+    /// that were added stay, one for this pixel included.
     ///
     /// # Errors
     ///
@@ -33,31 +34,13 @@ impl Palette {
         S: Pixel,
         Ch8: From<S::Chan>,
         S::Gamma: Gamma<Ch8>,
-        ensures indexed { IfOk result (λ answer. AreIndexed
-            (IsSet (Answers Threshold.post (option_map (λ kept. kept.f) self.old.threshold))
-            self.old.limit)
-            255 self.old.colors.items
-            (colors_of S.format ⟦<S::Gamma as Gamma<Ch8>>⟧.mode S.numbers raster.pixels)
-            (option_map (λ image. values ⟦<Gray8 as Pixel>⟧.numbers image.pixels) answer)
-            self.new.colors.items) }
-        ensures gray { IfOk result (λ answer. IfSome answer (λ image.
-            AreGray ⟦<Gray8 as Pixel>⟧.numbers image.pixels)) }
-        ensures size { IfOk result (λ answer. IfSome answer (λ image.
-            (image.width ≡ raster.width) × (image.height ≡ raster.height))) }
 
-        // The entry at each index is the color, or within a threshold.
-        ensures represented { IfOk result (λ answer. IfSome answer (λ image. AllRepresented
-            (Answers Threshold.post (option_map (λ kept. kept.f) self.old.threshold))
-            (map numbers self.new.colors.items)
+        // The entry at each index is the color, or within a threshold; without a threshold function it is the color.
+        ensures indexed { IfOk result (λ answer. IsIndexed Threshold.post
+            (option_map (λ kept. kept.f) self.old.threshold) self.old.limit 255
+            ⟦<Gray8 as Pixel>⟧.numbers raster.width raster.height
             (colors_of S.format ⟦<S::Gamma as Gamma<Ch8>>⟧.mode S.numbers raster.pixels)
-            (values ⟦<Gray8 as Pixel>⟧.numbers image.pixels))) }
-
-        // Without a threshold function it is the color.
-        ensures equal { self.old.threshold ≡ None
-            → IfOk result (λ answer. IfSome answer (λ image. AllEqual
-            (map numbers self.new.colors.items)
-            (colors_of S.format ⟦<S::Gamma as Gamma<Ch8>>⟧.mode S.numbers raster.pixels)
-            (values ⟦<Gray8 as Pixel>⟧.numbers image.pixels))) }
+            self.old.colors.items answer self.new.colors.items) }
         ensures memory { IfErr result (λ err. err ≡ (RasterFault.Memory, raster)) }
         ensures unchanged { IfErr result (λ err. self.new.colors.items ≡ self.old.colors.items) }
         ensures limit { self.new.limit ≡ self.old.limit }
@@ -67,7 +50,8 @@ impl Palette {
     }
 
     /// Makes a raster of indices: from left to right and row by row, the color of each pixel is set, and the value of the pixel at its place is its
-    /// index. Answers `None` at the first pixel whose color can't be set or whose index is above 65535; what was set before stays.
+    /// index. Answers `None` at the first pixel whose color can't be set or whose index is above 65535; the entries
+    /// that were added stay, one for this pixel included.
     ///
     /// # Errors
     ///
@@ -81,31 +65,13 @@ impl Palette {
         S: Pixel,
         Ch8: From<S::Chan>,
         S::Gamma: Gamma<Ch8>,
-        ensures indexed { IfOk result (λ answer. AreIndexed
-            (IsSet (Answers Threshold.post (option_map (λ kept. kept.f) self.old.threshold))
-            self.old.limit)
-            65535 self.old.colors.items
-            (colors_of S.format ⟦<S::Gamma as Gamma<Ch8>>⟧.mode S.numbers raster.pixels)
-            (option_map (λ image. values ⟦<Gray16 as Pixel>⟧.numbers image.pixels) answer)
-            self.new.colors.items) }
-        ensures gray { IfOk result (λ answer. IfSome answer (λ image.
-            AreGray ⟦<Gray16 as Pixel>⟧.numbers image.pixels)) }
-        ensures size { IfOk result (λ answer. IfSome answer (λ image.
-            (image.width ≡ raster.width) × (image.height ≡ raster.height))) }
 
-        // The entry at each index is the color, or within a threshold.
-        ensures represented { IfOk result (λ answer. IfSome answer (λ image. AllRepresented
-            (Answers Threshold.post (option_map (λ kept. kept.f) self.old.threshold))
-            (map numbers self.new.colors.items)
+        // The entry at each index is the color, or within a threshold; without a threshold function it is the color.
+        ensures indexed { IfOk result (λ answer. IsIndexed Threshold.post
+            (option_map (λ kept. kept.f) self.old.threshold) self.old.limit 65535
+            ⟦<Gray16 as Pixel>⟧.numbers raster.width raster.height
             (colors_of S.format ⟦<S::Gamma as Gamma<Ch8>>⟧.mode S.numbers raster.pixels)
-            (values ⟦<Gray16 as Pixel>⟧.numbers image.pixels))) }
-
-        // Without a threshold function it is the color.
-        ensures equal { self.old.threshold ≡ None
-            → IfOk result (λ answer. IfSome answer (λ image. AllEqual
-            (map numbers self.new.colors.items)
-            (colors_of S.format ⟦<S::Gamma as Gamma<Ch8>>⟧.mode S.numbers raster.pixels)
-            (values ⟦<Gray16 as Pixel>⟧.numbers image.pixels))) }
+            self.old.colors.items answer self.new.colors.items) }
         ensures memory { IfErr result (λ err. err ≡ (RasterFault.Memory, raster)) }
         ensures unchanged { IfErr result (λ err. self.new.colors.items ≡ self.old.colors.items) }
         ensures limit { self.new.limit ≡ self.old.limit }
@@ -154,15 +120,6 @@ impl Palette {
             (if result then Some (values P.numbers indices.new) else None)
             self.new.colors.items }
         ensures gray { result ≡ true → AreGray P.numbers indices.new }
-        ensures represented { result ≡ true → AllRepresented
-            (Answers Threshold.post (option_map (λ kept. kept.f) self.old.threshold))
-            (map numbers self.new.colors.items)
-            (colors_of S.format ⟦<S::Gamma as Gamma<Ch8>>⟧.mode S.numbers pixels.now)
-            (values P.numbers indices.new) }
-        ensures equal { result ≡ true → self.old.threshold ≡ None → AllEqual
-            (map numbers self.new.colors.items)
-            (colors_of S.format ⟦<S::Gamma as Gamma<Ch8>>⟧.mode S.numbers pixels.now)
-            (values P.numbers indices.new) }
         ensures limit { self.new.limit ≡ self.old.limit }
         ensures threshold { self.new.threshold ≡ self.old.threshold }
     {
@@ -191,27 +148,11 @@ impl Palette {
         P: IndexPixel,
         Ch8: From<S::Chan>,
         S::Gamma: Gamma<Ch8>,
-        ensures indexed { IfOk result (λ answer. AreIndexed
-            (IsSet (Answers Threshold.post (option_map (λ kept. kept.f) self.old.threshold))
-            self.old.limit)
-            P.GREATEST self.old.colors.items
+        ensures indexed { IfOk result (λ answer. IsIndexed Threshold.post
+            (option_map (λ kept. kept.f) self.old.threshold) self.old.limit P.GREATEST
+            P.numbers raster.width raster.height
             (colors_of S.format ⟦<S::Gamma as Gamma<Ch8>>⟧.mode S.numbers raster.pixels)
-            (option_map (λ image. values P.numbers image.pixels) answer)
-            self.new.colors.items) }
-        ensures gray { IfOk result (λ answer. IfSome answer (λ image.
-            AreGray P.numbers image.pixels)) }
-        ensures size { IfOk result (λ answer. IfSome answer (λ image.
-            (image.width ≡ raster.width) × (image.height ≡ raster.height))) }
-        ensures represented { IfOk result (λ answer. IfSome answer (λ image. AllRepresented
-            (Answers Threshold.post (option_map (λ kept. kept.f) self.old.threshold))
-            (map numbers self.new.colors.items)
-            (colors_of S.format ⟦<S::Gamma as Gamma<Ch8>>⟧.mode S.numbers raster.pixels)
-            (values P.numbers image.pixels))) }
-        ensures equal { self.old.threshold ≡ None
-            → IfOk result (λ answer. IfSome answer (λ image. AllEqual
-            (map numbers self.new.colors.items)
-            (colors_of S.format ⟦<S::Gamma as Gamma<Ch8>>⟧.mode S.numbers raster.pixels)
-            (values P.numbers image.pixels))) }
+            self.old.colors.items answer self.new.colors.items) }
         ensures memory { IfErr result (λ err. err ≡ (RasterFault.Memory, raster)) }
         ensures unchanged { IfErr result (λ err. self.new.colors.items ≡ self.old.colors.items) }
         ensures limit { self.new.limit ≡ self.old.limit }

@@ -58,7 +58,8 @@ impl Palette {
         None
     }
 
-    /// Keeps a color whose entry it is, at an empty place of its own or the first, unless its index is above 65535.
+    /// Keeps a color with the index of its entry: at the first of its places that is empty, or at the first of all where none is. It keeps
+    /// none whose index is above 65535.
     pub(super) fn keep(&self, places: &mut [Option<Known>], clr: SRgb8, index: usize)
         requires long { length places.old ≡ 2056 }
         requires known { AreKnown (map numbers self.now.colors.items) places.old }

@@ -15,7 +15,7 @@ pub struct Kept {
     ghost callable: { (n : ℕ) → n ≤ limit → Threshold.pre f n },
 }
 
-/// A list of colors, as many as a limit at most, to which a color is matched by a threshold.
+/// A list of colors, no more than its limit. A color is matched to one of them within a threshold.
 #[derive(Drop)]
 pub struct Palette {
     pub(super) colors: Vec<SRgb8>,

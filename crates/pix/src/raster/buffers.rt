@@ -16,7 +16,8 @@ impl<P: Pixel> Raster<P> {
     ///
     /// # Errors
     ///
-    /// `WidthTooBig`, `HeightTooBig`, `TooBig`, or `WrongLength` where the pixels are more or fewer, with the pixels.
+    /// `WidthTooBig`, `HeightTooBig`, `TooBig`, or `WrongLength` where there are more or fewer pixels: the first that applies. The pixels are
+    /// handed back.
     pub fn with_pixels(
         width: u32,
         height: u32,
@@ -55,7 +56,7 @@ impl<P: Pixel> Raster<P> {
     ///
     /// # Errors
     ///
-    /// `Memory` where a request for memory was refused.
+    /// `Memory` on allocation failure.
     pub fn try_clone(&self, alloc: Global) -> Result<Raster<P>, RasterFault>
         ensures ok { IfOk result (λ copy. copy ≡ self.now) }
         ensures refused { IfErr result (λ fault. fault ≡ RasterFault.Memory) }
@@ -104,12 +105,12 @@ where
     A: Alpha,
     G: Gamma<Ch8>,
 {
-    /// Makes a raster of bytes: row by row from the top, of each pixel its channels in order.
+    /// Makes a raster of bytes: the channels of each pixel in order, row by row from the top.
     ///
     /// # Errors
     ///
-    /// `WidthTooBig`, `HeightTooBig`, `TooBig`, `EmptyBuffer` where width or height is 0, `WrongLength` where the bytes are more or
-    /// fewer than the channels, or `Memory` where a request for memory was refused, with the bytes.
+    /// `WidthTooBig`, `HeightTooBig`, `TooBig`, `EmptyBuffer` where width or height is 0, or `WrongLength` where there are more or fewer
+    /// bytes than channels: the first that applies; else `Memory` on allocation failure. The bytes are handed back.
     pub fn with_u8_buffer(
         alloc: Global,
         width: u32,
@@ -130,11 +131,11 @@ where
         }
     }
 
-    /// Copies the channels to bytes: row by row from the top, of each pixel its channels in order.
+    /// Copies the channels to bytes: those of each pixel in order, row by row from the top.
     ///
     /// # Errors
     ///
-    /// `Memory` where a request for memory was refused, with the raster.
+    /// `Memory` on allocation failure; the raster is handed back.
     pub fn into_u8_vec(self, alloc: Global) -> Result<Vec<u8>, (RasterFault, Self)>
         ensures ok { IfOk result (λ bytes. bytes.items ≡
             channels_of ⟦<Pix<N, Ch8, M, A, G> as Pixel>⟧.numbers self) }
@@ -151,11 +152,11 @@ where
         }
     }
 
-    /// Copies the channels to bytes: row by row from the top, of each pixel its channels in order.
+    /// Copies the channels to bytes: those of each pixel in order, row by row from the top.
     ///
     /// # Errors
     ///
-    /// `Memory` where a request for memory was refused.
+    /// `Memory` on allocation failure.
     pub fn to_u8_vec(&self, alloc: Global) -> Result<Vec<u8>, RasterFault>
         ensures ok { IfOk result (λ bytes. bytes.items ≡
             channels_of ⟦<Pix<N, Ch8, M, A, G> as Pixel>⟧.numbers self.now) }
@@ -171,12 +172,12 @@ where
     A: Alpha,
     G: Gamma<Ch16>,
 {
-    /// Makes a raster of words: row by row from the top, of each pixel its channels in order.
+    /// Makes a raster of words: the channels of each pixel in order, row by row from the top.
     ///
     /// # Errors
     ///
-    /// `WidthTooBig`, `HeightTooBig`, `TooBig`, `EmptyBuffer` where width or height is 0, `WrongLength` where the words are more or
-    /// fewer than the channels, or `Memory` where a request for memory was refused, with the words.
+    /// `WidthTooBig`, `HeightTooBig`, `TooBig`, `EmptyBuffer` where width or height is 0, or `WrongLength` where there are more or fewer
+    /// words than channels: the first that applies; else `Memory` on allocation failure. The words are handed back.
     pub fn with_u16_buffer(
         alloc: Global,
         width: u32,
@@ -197,11 +198,11 @@ where
         }
     }
 
-    /// Copies the channels to words: row by row from the top, of each pixel its channels in order.
+    /// Copies the channels to words: those of each pixel in order, row by row from the top.
     ///
     /// # Errors
     ///
-    /// `Memory` where a request for memory was refused, with the raster.
+    /// `Memory` on allocation failure; the raster is handed back.
     pub fn into_u16_vec(self, alloc: Global) -> Result<Vec<u16>, (RasterFault, Self)>
         ensures ok { IfOk result (λ words. words.items ≡
             channels_of ⟦<Pix<N, Ch16, M, A, G> as Pixel>⟧.numbers self) }

@@ -1,10 +1,10 @@
-use Rattle.std.specs.Prelude.{pos, min}
+use Rattle.std.specs.Prelude.{pos}
 use Rattle.std.proofs.Common.{◌≡◌, ℕ, zero, suc, ◌<◌, ◌≤◌, ◌+◌, ◌*◌, ◌/◌, ◌∙◌, sym, ap, arith, rules}
 use Rattle.std.proofs.lemmas.Nat.{div_below}
 use Rattle.std.proofs.Math.Nat.{div-zero, mul-div-mul_left, div-div-eq-div-mul}
 use Rattle.pix_chan.specs.Nearest.{nearest}
 use Rattle.pix_chan.proofs.Whole.{nearest_of_natural}
-use Rattle.pix_color.specs.Hexcone.{hue_at, hue_after}
+use Rattle.pix_color.specs.Hexcone.{hue_after}
 use Rattle.pix_color.proofs.hue.hue_after.Goals as goal
 
 -- six times both: the quotient that the hue is rounded by

@@ -1,6 +1,6 @@
-use Rattle.std.proofs.Common.{◌≡◌, ℕ, ◌<◌, map, get_or}
+use Rattle.pix.proofs.Samples.{SameBelow}
 use Rattle.pix.proofs.raster.samples.write_channels.Given as goal
 
--- the channels below i have the numbers at their places
+-- the channels below i have the numbers of the samples at their places
 abbrev pub invariant-loop-i : goal.invariant-loop-i
-invariant-loop-i g l = (k : ℕ) → k < l.i → get_or (map g.C.Channel.number l.channels) k 0 ≡ get_or (map g.S.Sample.number l.samples) k 0
+invariant-loop-i g l = SameBelow g.C.Channel.number g.S.Sample.number l.channels l.samples l.i

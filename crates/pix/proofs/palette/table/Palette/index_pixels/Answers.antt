@@ -3,7 +3,6 @@ use Rattle.pix.specs.Palette.{numbers}
 use Rattle.pix.proofs.KnownColors.{none_known}
 use Rattle.pix.specs.Indexing.{values}
 use Rattle.pix.proofs.IndexingSets.{none_set, one_set, all_set, stopped, color_at, value_more, many_colors, many_values, gray_more, all_gray}
-use Rattle.pix.proofs.IndexingLaws.{all_represented, all_equal}
 use Rattle.pix.proofs.palette.table.Palette.index_pixels.Goals as goal
 
 pub loop-i-init : goal.loop-i-init
@@ -31,20 +30,11 @@ loop-i-preserved g c =
       threshold = c.set_index.ensures.threshold ∙ c.loop-i.invariant.threshold;
     }
 
-indexed : goal.returns-clause-indexed
-indexed g c =
+pub returns-clause-indexed : goal.returns-clause-indexed
+returns-clause-indexed g c =
     all_set _ _ _ _ c.loop-i.i _ _ c.loop-i.invariant.set
     (omega (arith, many_colors g.S.Pixel.format g.S.Gamma.Gamma-2.mode g.S.Pixel.numbers c.args.pixels.now))
     (omega (arith, many_values g.P.Pixel.numbers c.loop-i.indices))
-
-pub returns-clause-indexed : goal.returns-clause-indexed
-returns-clause-indexed g c = indexed g c
-
-pub returns-clause-represented : goal.returns-clause-represented
-returns-clause-represented g c = λ _. all_represented _ _ _ _ _ _ _ (indexed g c)
-
-pub returns-clause-equal : goal.returns-clause-equal
-returns-clause-equal g c = λ _ none. all_equal _ _ _ _ _ _ (all_represented _ _ _ _ _ _ _ (indexed g c)) none
 
 pub returns-clause-gray : goal.returns-clause-gray
 returns-clause-gray g c = λ _. all_gray g.P.Pixel.numbers c.loop-i.indices c.loop-i.i (omega arith) c.loop-i.invariant.gray
