@@ -180,6 +180,7 @@ int main(int argc, char **argv) {
     row("copy_color", 9, src, 4, filled, false);
     row("SRgba8 to Rgba8p", 10, src, 4, 0, false);
     row("Rgba8p to SRgba8", 11, src, 4, 0, false);
+    row("Rgba8 to Rgba8p", 17, src, 4, 0, false);
     row("Rgba8 to Bgra8", 12, src, 4, copied, true);
     row("Rgb8 to Hsv8", 13, src, 3, 0, false);
     row("YCbCr8 to Rgb8", 14, src, 3, 0, false);

@@ -34,6 +34,7 @@ pub(crate) fn convert(
         13 => hues(alloc, times, src, out),
         14 => from_luma(alloc, times, src, out),
         15 => to_luma(alloc, times, src, out),
+        17 => premultiplied(alloc, times, src, out),
         _ => None,
     }
 }
@@ -66,4 +67,9 @@ fn from_luma(alloc: Global, times: u32, src: &[u8], out: &mut [u8]) -> Option<()
 /// Red, green and blue to luma and two color differences.
 fn to_luma(alloc: Global, times: u32, src: &[u8], out: &mut [u8]) -> Option<()> {
     converted!(Rgb8, YCbCr8, alloc, times, src, out)
+}
+
+/// Straight to premultiplied.
+fn premultiplied(alloc: Global, times: u32, src: &[u8], out: &mut [u8]) -> Option<()> {
+    converted!(Rgba8, Rgba8p, alloc, times, src, out)
 }

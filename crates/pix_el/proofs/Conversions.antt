@@ -1,13 +1,15 @@
 -- Pixels made of four channels, and how they are converted.
-use Rattle.std.proofs.Common.{◌≡◌, ℕ, ◌≤◌, ◌+◌, List, [], ◌∷◌, map, take, refl, sym, ap, ◌∙◌, arith}
+use Rattle.std.proofs.Common.{◌≡◌, ℕ, ◌≤◌, ◌+◌, List, [], ◌∷◌, length, map, take, refl, sym, ap, ◌∙◌, arith}
 use Rattle.std.specs.Prelude.{nat_eq, true, false, ◌≢◌}
 use Rattle.std.specs.List.{range_with_len}
 use Rattle.std.proofs.lemmas.List.FromFn.{take-map-range_with_len}
-use Rattle.pix_chan.specs.Modes.{GammaMode}
+use Rattle.pix_chan.specs.Runs.{over}
+use Rattle.pix_chan.specs.Modes.{AlphaMode, Straight, Premultiplied, alpha_kind, GammaMode, Linear, Srgb, gamma_kind}
 use Rattle.pix_el.specs.Pixel.{Layout}
 use Rattle.pix_el.specs.Color.{rgba_of, of_rgba}
 use Rattle.pix_el.specs.Model.{Model, ModelRow, row}
 use Rattle.pix_el.specs.Conversion.{Format, at_depth, recoded, of_depth, channel_recoded, within_model, rgba_format, across_models, converted}
+use Rattle.pix_el.specs.Planes.{linear_four, premultiplied_four}
 use Rattle.pix_el.proofs.Models.{few_by_row}
 
 -- the first of four channels, each by its number
@@ -77,3 +79,45 @@ pub told_is : (format to : Format) (gamma to_gamma : GammaMode) (r g b a r' g' b
     → b' ≡ recoded to.layout.max format.alpha_mode gamma to.alpha_mode to_gamma a' (at_depth format.layout.max to.layout.max b)
     → r' ∷ g' ∷ b' ∷ a' ∷ [] ≡ within_model (rgba_format format) gamma (rgba_format to) to_gamma (r ∷ g ∷ b ∷ a ∷ [])
 told_is format to gamma to_gamma r g b a r' g' b' a' ea er eg eb = rw (er, eg, eb, ea) refl
+
+-- modes by their numbers
+straight_is : (mode : AlphaMode) → alpha_kind mode ≡ 0 → mode ≡ Straight
+straight_is Straight e = refl
+straight_is Premultiplied e = absurd (omega (arith, e))
+
+premultiplied_is : (mode : AlphaMode) → alpha_kind mode ≡ 1 → mode ≡ Premultiplied
+premultiplied_is Straight e = absurd (omega (arith, e))
+premultiplied_is Premultiplied e = refl
+
+linear_is : (mode : GammaMode) → gamma_kind mode ≡ 0 → mode ≡ Linear
+linear_is Linear e = refl
+linear_is Srgb e = absurd (omega (arith, e))
+
+-- from straight to premultiplied and linear, of four channels and within one model
+within_premultiplied : (format to : Format) (gamma to_gamma : GammaMode) (pixel : List ℕ)
+    → alpha_kind format.alpha_mode ≡ 0 → alpha_kind to.alpha_mode ≡ 1 → gamma_kind to_gamma ≡ 0
+    → to.layout.count ≡ 4 → to.layout.alpha ≡ 3 → to.colors.start ≡ 0 → to.colors.end ≡ 3
+    → within_model format gamma to to_gamma pixel ≡ premultiplied_four to.layout.max (linear_four format.layout.max to.layout.max gamma pixel)
+within_premultiplied format to gamma to_gamma pixel s p l count alpha start end =
+    rw (straight_is format.alpha_mode s, premultiplied_is to.alpha_mode p, linear_is to_gamma l, count, alpha, start, end) refl
+
+pub converted_premultiplied : (format to stated to_stated : Format) (gamma to_gamma : GammaMode) (pixel : List ℕ)
+    → format ≡ stated → to ≡ to_stated → stated.kind ≡ to_stated.kind
+    → alpha_kind stated.alpha_mode ≡ 0 → alpha_kind to_stated.alpha_mode ≡ 1 → gamma_kind to_gamma ≡ 0
+    → to_stated.layout.count ≡ 4 → to_stated.layout.alpha ≡ 3 → to_stated.colors.start ≡ 0 → to_stated.colors.end ≡ 3
+    → converted format gamma to to_gamma pixel ≡ premultiplied_four to_stated.layout.max (linear_four stated.layout.max to_stated.layout.max gamma pixel)
+converted_premultiplied format to stated to_stated gamma to_gamma pixel ef et same s p l count alpha start end =
+    ap (λ (f : Format). converted f gamma to to_gamma pixel) ef
+    ∙ ap (λ (t : Format). converted stated gamma t to_gamma pixel) et
+    ∙ sym (converted_same stated to_stated stated to_stated gamma to_gamma pixel (within_model stated gamma to_stated to_gamma pixel) refl refl same refl)
+    ∙ within_premultiplied stated to_stated gamma to_gamma pixel s p l count alpha start end
+
+-- the same of a list of pixels, written over others
+pub list_premultiplied : (convert linear premultiplied : List ℕ → List ℕ) → ((p : List ℕ) → convert p ≡ premultiplied (linear p))
+    → (source dest : List (List ℕ)) → length dest ≡ length source → map premultiplied (map linear source) ≡ over (λ p d. convert p) source dest
+list_premultiplied convert linear premultiplied is [] [] h = refl
+list_premultiplied convert linear premultiplied is (s ∷ source) [] h = absurd (omega arith)
+list_premultiplied convert linear premultiplied is [] (d ∷ dest) h = absurd (omega arith)
+list_premultiplied convert linear premultiplied is (s ∷ source) (d ∷ dest) h =
+    ap (λ (p : List ℕ). p ∷ map premultiplied (map linear source)) (sym (is s))
+    ∙ ap (λ (l : List (List ℕ)). convert s ∷ l) (list_premultiplied convert linear premultiplied is source dest (omega arith))

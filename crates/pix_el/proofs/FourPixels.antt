@@ -4,8 +4,9 @@ use lib.Lanes.{Each1}
 use Rattle.pix_chan.specs.declared.ops.Op.{Op}
 use Rattle.pix_chan.specs.Runs.{over, triples, run_composite}
 use Rattle.pix_chan.specs.Planes.{last_of_four}
-use Rattle.pix_el.specs.Planes.{by_fours}
+use Rattle.pix_el.specs.Planes.{by_fours, premultiplied_four}
 use Rattle.pix_el.specs.PixelComposite.{pixel_composite, matted_color}
+use Rattle.pix_chan.specs.Number.{saturating_sum}
 use Rattle.pix_chan.specs.Product.{channel_product}
 use Rattle.pix_chan.proofs.Planes.{four_times}
 use Rattle.pix_chan.proofs.Sixteen.{is_sixteen}
@@ -60,3 +61,33 @@ pub color_matted : (max a b c d : ℕ) (color cs : List ℕ) → length cs ≡ 1
     → by_fours (over (λ y x. channel_product max x y) (a ∷ a ∷ a ∷ a ∷ b ∷ b ∷ b ∷ b ∷ c ∷ c ∷ c ∷ c ∷ d ∷ d ∷ d ∷ d ∷ []) cs)
     ≡ map (λ m. matted_color (four_of max 0) m color) (a ∷ b ∷ c ∷ d ∷ [])
 color_matted max a b c d color cs h e = each_matted max a b c d cs h ∙ ap (over (matted_color (four_of max 0)) (a ∷ b ∷ c ∷ d ∷ [])) e
+
+-- what makes an alpha of one at the place of each alpha
+abbrev pub ones : ℕ → ℕ → ℕ → List ℕ
+ones lo hi zero = []
+ones lo hi (suc n) = lo ∷ lo ∷ lo ∷ hi ∷ ones lo hi n
+
+-- four pixels, each multiplied by its alpha
+module _ (max lo hi : ℕ) (lo_is : lo ≡ 0) (hi_is : hi ≡ max) (identity : (x : ℕ) → channel_product max x max ≡ x) where
+  alpha_stays : (a : ℕ) → a ≤ max → saturating_sum max a lo ≡ a
+  alpha_stays a h = omega (arith, lo_is)
+
+  alpha_is_one : (a : ℕ) → saturating_sum max a hi ≡ max
+  alpha_is_one a = omega (arith, hi_is)
+
+  one_premultiplied : (w x y a : ℕ) → a ≤ max
+      → channel_product max w (saturating_sum max a lo) ∷ channel_product max x (saturating_sum max a lo)
+      ∷ channel_product max y (saturating_sum max a lo) ∷ channel_product max a (saturating_sum max a hi) ∷ []
+      ≡ premultiplied_four max (w ∷ x ∷ y ∷ a ∷ [])
+  one_premultiplied w x y a h = rw (alpha_stays a h, alpha_is_one a, identity a) refl
+
+  pub fours_premultiplied : (n : ℕ) (cs : List ℕ) → length cs ≡ four_times n → Each1 (λ v. v ≤ max) cs
+      → by_fours (over (λ y x. channel_product max x y) (over (λ y x. saturating_sum max x y) (ones lo hi n) (last_of_four cs)) cs)
+      ≡ map (premultiplied_four max) (by_fours cs)
+  fours_premultiplied zero [] e p = refl
+  fours_premultiplied zero (c ∷ cs) e p = absurd (omega arith)
+  fours_premultiplied (suc n) [] e p = absurd (omega arith)
+  fours_premultiplied (suc n) (w ∷ []) e p = absurd (omega arith)
+  fours_premultiplied (suc n) (w ∷ x ∷ []) e p = absurd (omega arith)
+  fours_premultiplied (suc n) (w ∷ x ∷ y ∷ []) e p = absurd (omega arith)
+  fours_premultiplied (suc n) (w ∷ x ∷ y ∷ a ∷ cs) e p = cons (one_premultiplied w x y a p.1.1.1.0) (fours_premultiplied n cs (omega arith) p.1.1.1.1)

@@ -108,3 +108,15 @@ pub same_over : {X Y : Type 0} (f : X → Y → Y) (source : List X) (dest : Lis
 same_over f source [] = refl
 same_over f [] (d ∷ dest) = refl
 same_over {Y = Y} f (s ∷ source) (d ∷ dest) = ap (λ (l : List Y). f s d ∷ l) (same_over f source dest)
+
+-- runs that do not read the one list
+pub over_each : {X Y : Type 0} (f : Y → Y) (source : List X) (dest : List Y) → length dest ≤ length source → runs.over (λ s d. f d) source dest ≡ map f dest
+over_each f source [] h = refl
+over_each f [] (d ∷ dest) h = absurd (omega arith)
+over_each {Y = Y} f (s ∷ source) (d ∷ dest) h = ap (λ (l : List Y). f d ∷ l) (over_each f source dest (omega arith))
+
+pub over_written : {X Y : Type 0} (f : X → Y) (source : List X) (dest : List Y) → length dest ≡ length source → runs.over (λ s d. f s) source dest ≡ map f source
+over_written f [] [] h = refl
+over_written f (s ∷ source) [] h = absurd (omega arith)
+over_written f [] (d ∷ dest) h = absurd (omega arith)
+over_written {Y = Y} f (s ∷ source) (d ∷ dest) h = ap (λ (l : List Y). f s ∷ l) (over_written f source dest (omega arith))

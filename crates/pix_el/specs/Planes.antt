@@ -5,7 +5,9 @@ use Rattle.pix_chan.specs.declared.ops.Op.{Op}
 use Rattle.pix_chan.specs.Product.{channel_product}
 use Rattle.pix_chan.specs.Hue.{hue_composite}
 use Rattle.pix_chan.specs.Runs.{run_composite}
+use Rattle.pix_chan.specs.Modes.{GammaMode, to_linear}
 use Rattle.pix_el.specs.Pixel.{lies_in, channel}
+use Rattle.pix_el.specs.Conversion.{at_depth}
 
 -- the channels of pixels of four channels, pixel by pixel
 abbrev pub by_fours : {A : Type 0} → List A → List (List A)
@@ -48,3 +50,15 @@ run_first max hues op t d = if lies_in hues 0 then run_hue max op t d else run_c
 -- the first channel x multiplied by a matte, but a hue as it is
 abbrev pub matted_first : ℕ → Range ℕ → ℕ → ℕ → ℕ
 matted_first max hues matte x = if lies_in hues 0 then x else channel_product max x matte
+
+-- a straight pixel of four channels, premultiplied
+abbrev pub premultiplied_four : ℕ → List ℕ → List ℕ
+premultiplied_four max pixel =
+    channel_product max (channel max pixel 0) (channel max pixel 3) ∷ channel_product max (channel max pixel 1) (channel max pixel 3)
+    ∷ channel_product max (channel max pixel 2) (channel max pixel 3) ∷ channel max pixel 3 ∷ []
+
+-- a pixel of four channels at another depth, its colors linear
+abbrev pub linear_four : ℕ → ℕ → GammaMode → List ℕ → List ℕ
+linear_four max to_max gamma pixel =
+    to_linear gamma (at_depth max to_max (channel max pixel 0)) ∷ to_linear gamma (at_depth max to_max (channel max pixel 1))
+    ∷ to_linear gamma (at_depth max to_max (channel max pixel 2)) ∷ at_depth max to_max (channel max pixel 3) ∷ []

@@ -7,6 +7,8 @@ use crate::el::Pixel;
 use crate::model::ColorModel;
 use pix_chan::chan::{Alpha, Channel, Gamma};
 
+pub(crate) mod blocks;
+
 /// Returns a channel at another depth.
 pub(crate) fn at_depth<C: Channel, D: Channel>(c: C) -> D
     ensures { D.number result ≡ at_depth C.max D.max (C.number c) }

@@ -1,5 +1,5 @@
 //! Pixels of any format: channels of a color model, with an alpha mode and a gamma mode.
-ghost use Rattle.std.specs.Prelude.{◌≡◌, ◌≢◌, ℕ, ◌+◌, ◌-◌, ◌<◌, ◌≤◌, List, [], ◌∷◌, length, replicate, map, take, slice_get, slice_set, Some, ⊤, refl, nat_eq};
+ghost use Rattle.std.specs.Prelude.{◌≡◌, ◌≢◌, ℕ, ◌+◌, ◌-◌, ◌<◌, ◌≤◌, List, [], ◌∷◌, length, replicate, map, take, slice_get, slice_set, Some, refl, nat_eq};
 ghost use Rattle.std.specs.Cmp.Lexicographic.{pointwise};
 ghost use Rattle.std.proofs.Common.{ap};
 ghost use Rattle.std.specs.Borrow.{Lends, sem, Array};
@@ -13,6 +13,7 @@ ghost use Rattle.pix_el.specs.Transparent.{IsTransparent, IsUnchanged};
 ghost use Rattle.pix_el.specs.PixelLaws.{numbers_of_replicate, equal_numbers, equal_by_numbers};
 ghost use Rattle.pix_el.specs.contracts.el.Pix.{the_row};
 
+use crate::conversion::blocks::convert_blocks;
 use crate::conversion::{at_depth, channel_at_depth, converted_within, recoded_color};
 use crate::each::{composite_each, scale_each};
 use crate::matte::Matte;
@@ -22,7 +23,6 @@ use crate::private::Sealed;
 use crate::rgb::Rgb;
 use pix_chan::chan::{Alpha, Channel, Gamma, Linear, Premultiplied};
 use pix_chan::ops::Blend;
-use std::alloc::AllocError;
 use std::fmt::Debug;
 use std::marker::PhantomData;
 
@@ -74,24 +74,6 @@ fn item_mut<C>(items: &mut [C], index: usize) -> &mut C
 {
     &mut items[index]
 }
-
-impl<const N: usize, C: Copy, M: Copy, A: Copy, G: Copy> Clone for Pix<N, C, M, A, G> {
-    ghost is_clone = { λ x y. y ≡ x };
-
-    ghost is_infallible = { λ _. ⊤ };
-
-    fn clone(&self) -> Result<Self, AllocError> {
-        Ok(*self)
-    }
-}
-
-impl<const N: usize, C, M, A, G> Sealed for Pix<N, C, M, A, G>
-where
-    C: Channel,
-    M: ColorModel,
-    A: Alpha,
-    G: Gamma<C>,
-{}
 
 /// A pixel: its channels in the order of its color model. This trait is sealed: the pixels are [`Pix`].
 pub trait Pixel: Sealed + Clone + Copy + Debug + Default + PartialEq {
@@ -219,6 +201,25 @@ pub trait Pixel: Sealed + Clone + Copy + Debug + Default + PartialEq {
             let green = recoded_color::<Self, D>(green, alpha);
             let blue = recoded_color::<Self, D>(blue, alpha);
             <D::Model as ColorModel>::from_four::<D>(red, green, blue, alpha)
+        }
+    }
+
+    /// Converts each pixel of `src` in the place of that of `dst` at its index; the shorter length decides, and the rest stays.
+    ///
+    /// Condition: the format of `dst` has no more channels than its model.
+    final fn convert_slice<D>(dst: &mut [D], src: &[Self])
+    where
+        D: Pixel,
+        D::Chan: From<Self::Chan>,
+        Self::Gamma: Gamma<D::Chan>,
+        requires few { D.layout.count ≤ D.layout.alpha + 1 }
+        ensures { map D.numbers dst.new ≡ over (λ p d. converted format
+            ⟦<Self::Gamma as Gamma<D::Chan>>⟧.mode D.format D.Gamma.mode p)
+            (map numbers src.now) (map D.numbers dst.old) }
+    {
+        let count = dst.len().min(src.len());
+        for i in convert_blocks::<Self, D>(dst, src, count)..count {
+            dst[i] = src[i].convert::<D>();
         }
     }
 

@@ -16,7 +16,7 @@ use pix_chan::chan::{Alpha, Channel, Linear};
 use pix_chan::ops::Blend;
 
 mod four;
-mod fours;
+pub(crate) mod fours;
 mod two;
 
 /// Composites the hues of the same index of all four, one after the other; the shortest length decides.
@@ -54,7 +54,7 @@ fn composite_first<O: Blend, M: ColorModel, C: Channel>(
 
 /// Returns whether a model has four channels, of which none is a hue.
 #[inline(always)]
-fn has_fours<P: Pixel>() -> bool
+pub(crate) fn has_fours<P: Pixel>() -> bool
     ensures alpha { result ≡ true → P.layout.alpha ≡ 3 }
     ensures no_hue { result ≡ true → P.layout.hues.end ≡ 0 }
 {

@@ -46,6 +46,8 @@ mod pictures;
 #[cfg(test)]
 mod planes;
 #[cfg(test)]
+mod premultiplied;
+#[cfg(test)]
 mod random_lists;
 #[cfg(test)]
 mod rasters;

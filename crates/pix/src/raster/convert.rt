@@ -76,7 +76,5 @@ where
         map (converted S.format ⟦<S::Gamma as Gamma<P::Chan>>⟧.mode P.format P.Gamma.mode)
         (map S.numbers src.now) }
 {
-    for i in 0..dst.len() {
-        dst[i] = src[i].convert::<P>();
-    }
+    S::convert_slice::<P>(dst, src);
 }

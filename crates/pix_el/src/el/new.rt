@@ -1,8 +1,11 @@
-//! Pixels made of their channels.
-ghost use Rattle.std.specs.Prelude.{◌≡◌, List, [], ◌∷◌, replicate};
+//! Pixels made of their channels, and copies of them.
+ghost use Rattle.std.specs.Prelude.{◌≡◌, List, [], ◌∷◌, replicate, ⊤};
 
 use crate::el::Pix;
-use pix_chan::chan::Channel;
+use crate::model::ColorModel;
+use crate::private::Sealed;
+use pix_chan::chan::{Alpha, Channel, Gamma};
+use std::alloc::AllocError;
 use std::marker::PhantomData;
 
 impl<const N: usize, C, M, A, G> Pix<N, C, M, A, G> {
@@ -16,6 +19,24 @@ impl<const N: usize, C, M, A, G> Pix<N, C, M, A, G> {
             _alpha: PhantomData,
             _gamma: PhantomData,
         }
+    }
+}
+
+impl<const N: usize, C, M, A, G> Sealed for Pix<N, C, M, A, G>
+where
+    C: Channel,
+    M: ColorModel,
+    A: Alpha,
+    G: Gamma<C>,
+{}
+
+impl<const N: usize, C: Copy, M: Copy, A: Copy, G: Copy> Clone for Pix<N, C, M, A, G> {
+    ghost is_clone = { λ x y. y ≡ x };
+
+    ghost is_infallible = { λ _. ⊤ };
+
+    fn clone(&self) -> Result<Self, AllocError> {
+        Ok(*self)
     }
 }
 

@@ -1,7 +1,7 @@
 //! Pixels of four channels without a hue, four at a time and with no planes: sixteen channels, pixel by pixel.
 ghost use Rattle.std.specs.Prelude.{◌≡◌, [], ◌∷◌, length, map, replicate};
 ghost use Rattle.pix_chan.specs.Runs.{over};
-ghost use Rattle.pix_el.specs.Planes.{by_fours};
+ghost use Rattle.pix_el.specs.Planes.{by_fours, premultiplied_four};
 ghost use Rattle.pix_el.specs.Pixel.{channel};
 ghost use Rattle.pix_el.specs.PixelComposite.{pixel_composite, matted_composite, matte_numbers};
 
@@ -121,4 +121,24 @@ pub(super) fn composite_matted<const N: usize, A: Alpha, O: Blend, P: Pixel>(
     let mut color = four_times(clr);
     P::Chan::mul_run(&mut color, &mattes);
     composite_four::<O, P>(dst, color);
+}
+
+/// Multiplies the colors of four straight pixels by the alphas of their own pixels.
+#[inline(always)]
+pub(crate) fn premultiply_four<P: Pixel>(p: &mut [P])
+    requires count { P.layout.count ≡ 4 }
+    requires size { length p.old ≡ 4 }
+    ensures { map P.numbers p.new ≡
+        map (premultiplied_four P.Chan.max) (map P.numbers p.old) }
+{
+    let mut to = four_pixels(p);
+    let mut by = P::Chan::alphas4(to);
+    let (min, max) = (P::Chan::MIN, P::Chan::MAX);
+    // The alphas themselves are multiplied by one.
+    let ones = [
+        min, min, min, max, min, min, min, max, min, min, min, max, min, min, min, max,
+    ];
+    P::Chan::add_run(&mut by, &ones);
+    P::Chan::mul_run(&mut to, &by);
+    put_four_pixels(p, to);
 }

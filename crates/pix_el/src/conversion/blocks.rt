@@ -1,0 +1,122 @@
+//! Conversions of straight pixels of four channels to premultiplied linear ones, by blocks of pixels.
+//!
+//! A block goes twice: first each color is looked up, one pixel after the other, and then the products are made, four pixels at a time.
+//! It is short enough to stay in the nearest cache meanwhile.
+ghost use Rattle.std.specs.Prelude.{◌≡◌, ◌≤◌, ◌+◌, ℕ, List, length, map, take, true};
+ghost use Rattle.pix_chan.specs.Runs.{over};
+ghost use Rattle.pix_el.specs.Planes.{linear_four, premultiplied_four};
+ghost use Rattle.pix_el.specs.Conversion.{converted};
+
+use crate::conversion::channel_at_depth;
+use crate::el::Pixel;
+use crate::model::ColorModel;
+use crate::planes::fours::premultiply_four;
+use crate::planes::has_fours;
+use pix_chan::chan::{Alpha, Gamma, Linear, Premultiplied, Straight};
+
+/// How many pixels a block has.
+const BLOCK: usize = 64;
+
+/// Returns whether a format has four channels.
+#[inline(always)]
+fn has_four_channels<P: Pixel>() -> bool
+    ensures { result ≡ true → P.layout.count ≡ 4 }
+{
+    P::default().channels().len() == 4
+}
+
+/// Returns whether a conversion from `P` to `D` stays in one color model of four channels without a hue, and multiplies linear colors by the
+/// alpha.
+#[inline(always)]
+fn premultiplies<P: Pixel, D: Pixel>() -> bool
+    ensures model { result ≡ true → P.Model.KIND ≡ D.Model.KIND }
+    ensures straight { result ≡ true → P.Alpha.KIND ≡ 0 }
+    ensures premultiplied { result ≡ true → D.Alpha.KIND ≡ 1 }
+    ensures linear { result ≡ true → D.Gamma.KIND ≡ 0 }
+    ensures alpha { result ≡ true → D.layout.alpha ≡ 3 }
+    ensures no_hue { result ≡ true → D.layout.hues.end ≡ 0 }
+    ensures count { result ≡ true → D.layout.count ≡ 4 }
+{
+    <P::Model as ColorModel>::KIND == <D::Model as ColorModel>::KIND
+        && P::Alpha::KIND == Straight::KIND
+        && D::Alpha::KIND == Premultiplied::KIND
+        && <D::Gamma as Gamma<D::Chan>>::KIND == <Linear as Gamma<D::Chan>>::KIND
+        && has_fours::<D>()
+        && has_four_channels::<P>()
+        && has_four_channels::<D>()
+}
+
+/// Returns a pixel at the depth of `D`, its colors linear and the alpha mode as it is.
+#[inline(always)]
+fn linear_pixel<P, D>(p: &P) -> D
+where
+    P: Pixel,
+    D: Pixel,
+    P::Gamma: Gamma<D::Chan>,
+    requires { D.layout.count ≡ 4 }
+    ensures { D.numbers result ≡ linear_four P.Chan.max D.Chan.max
+        ⟦<P::Gamma as Gamma<D::Chan>>⟧.mode (P.numbers p.now) }
+{
+    let one = <P::Gamma as Gamma<D::Chan>>::to_linear(channel_at_depth::<P, D::Chan>(p, 0));
+    let two = <P::Gamma as Gamma<D::Chan>>::to_linear(channel_at_depth::<P, D::Chan>(p, 1));
+    let three = <P::Gamma as Gamma<D::Chan>>::to_linear(channel_at_depth::<P, D::Chan>(p, 2));
+    D::from_four(one, two, three, channel_at_depth::<P, D::Chan>(p, 3))
+}
+
+/// Writes each pixel of `src`, its colors linear, to the same index of `dst`. Condition: there are as many of both.
+#[inline(always)]
+fn linear_pixels<P, D>(dst: &mut [D], src: &[P])
+where
+    P: Pixel,
+    D: Pixel,
+    P::Gamma: Gamma<D::Chan>,
+    requires count { D.layout.count ≡ 4 }
+    requires as_many { length dst.old ≡ length src.now }
+    ensures size { length dst.new ≡ length dst.old }
+    ensures pixels { map D.numbers dst.new ≡ map (linear_four P.Chan.max D.Chan.max
+        ⟦<P::Gamma as Gamma<D::Chan>>⟧.mode) (map P.numbers src.now) }
+{
+    for i in 0..dst.len() {
+        dst[i] = linear_pixel::<P, D>(&src[i]);
+    }
+}
+
+/// Premultiplies the straight pixels of a block.
+#[inline(always)]
+fn premultiply_block<P: Pixel>(p: &mut [P])
+    requires count { P.layout.count ≡ 4 }
+    requires size { length p.old ≡ 64 }
+    ensures { map P.numbers p.new ≡
+        map (premultiplied_four P.Chan.max) (map P.numbers p.old) }
+{
+    for k in 0..BLOCK / 4 {
+        premultiply_four(&mut p[4 * k..4 * k + 4]);
+    }
+}
+
+/// Converts as many of the first `count` pixels as go by blocks, and returns how many these are.
+///
+/// Condition: both slices have `count` pixels.
+#[inline(always)]
+pub(crate) fn convert_blocks<P, D>(dst: &mut [D], src: &[P], count: usize) -> usize
+where
+    P: Pixel,
+    D: Pixel,
+    P::Gamma: Gamma<D::Chan>,
+    requires dst_has { count ≤ length dst.old }
+    requires src_has { count ≤ length src.now }
+    ensures some { result ≤ count }
+    ensures pixels { map D.numbers dst.new ≡ over (λ p d. converted P.format
+        ⟦<P::Gamma as Gamma<D::Chan>>⟧.mode D.format D.Gamma.mode p)
+        (take result (map P.numbers src.now)) (map D.numbers dst.old) }
+{
+    if !premultiplies::<P, D>() {
+        return 0;
+    }
+    for k in 0..count / BLOCK {
+        let block = &mut dst[BLOCK * k..BLOCK * k + BLOCK];
+        linear_pixels::<P, D>(block, &src[BLOCK * k..BLOCK * k + BLOCK]);
+        premultiply_block(block);
+    }
+    count / BLOCK * BLOCK
+}
