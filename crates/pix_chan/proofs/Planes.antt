@@ -52,7 +52,7 @@ low_of_pair x y z a b = and_mask (pair x y z % 65536) 8 ∙ (let e = pair_mod x 
 high_of_pair : (x y z : ℕ) → x < 256 → y < 256 → shr (pair x y z % 65536) 8 ≡ y
 high_of_pair x y z a b = let e = pair_mod x y z a b in omega arith
 
-cons : {A : Type 0} {x y : A} {xs ys : List A} → x ≡ y → xs ≡ ys → x ∷ xs ≡ y ∷ ys
+pub cons : {A : Type 0} {x y : A} {xs ys : List A} → x ≡ y → xs ≡ ys → x ∷ xs ≡ y ∷ ys
 cons e f = cc
 
 -- pairs of bytes as words, and what is made of each
