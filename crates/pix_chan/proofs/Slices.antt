@@ -237,6 +237,17 @@ part_of_same {A} zero (suc k) (suc n) x h = ap (λ (l : List A). x ∷ l) (part_
 part_of_same (suc at) k zero x h = absurd (omega arith)
 part_of_same (suc at) k (suc n) x h = part_of_same at k n x (omega arith)
 
+-- a run of one element with each, at the block after k blocks of b
+pub next_same_block : {C A B : Type 0} (number : C → A) (f : A → B → A) (b k n : ℕ) (xs ws new : List C) (y : B)
+    → map number ws ≡ run f (map number xs) (take (b * k) (replicate n y)) → b * k + b ≤ length xs → b * k + b ≤ n
+    → map number new ≡ run f (map number (take (b * k + b - b * k) (drop (b * k) ws))) (replicate b y)
+    → map number (put_mid (b * k) (b * k + b - b * k) ws new) ≡ run f (map number xs) (take (b * (k + 1)) (replicate n y))
+next_same_block number f b k n xs ws new y e h i j =
+    let m : b ≡ b * k + b - b * k = omega arith in
+    next_block number f b k xs ws new (replicate n y) e h (omega (arith, length-replicate n y))
+    (j ∙ ap (run f (map number (take (b * k + b - b * k) (drop (b * k) ws))))
+    (ap (λ c. replicate c y) m ∙ part_of_same (b * k) (b * k + b - b * k) n y (omega arith)))
+
 pub over_color : {A B : Type 0} (f : A → B → A) (i n : ℕ) (y : B) (xs : List A) → length xs ≤ i → length xs ≡ n → run f xs (take i (replicate n y)) ≡ map (λ x. f x y) xs
 over_color f i n y [] h e = refl
 over_color f zero n y (x ∷ xs) h e = absurd (omega arith)
