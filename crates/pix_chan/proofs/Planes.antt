@@ -1,52 +1,41 @@
 -- Planes cut out of pixels and put together again.
-use Rattle.std.proofs.Common.{◌≡◌, ℕ, zero, suc, ◌+◌, ◌*◌, ◌/◌, ◌%◌, ◌^◌, ◌<◌, List, [], ◌∷◌, ◌++◌, length, take, drop, refl, ap, sym, ◌∙◌, arith, replicate, w8, Fits, get_or, bit_and, bit_or}
+use Rattle.std.proofs.Common.{◌≡◌, ℕ, zero, suc, ◌+◌, ◌*◌, ◌/◌, ◌%◌, ◌^◌, ◌<◌, List, [], ◌∷◌, ◌++◌, length, take, refl, ap, sym, ◌∙◌, arith, replicate, w8, Fits, get_or, bit_and, bit_or}
 use lib.Lanes.{zip2, Each1, pick_l, number_l, digits_l}
 use Rattle.std.specs.List.{range_with_len}
 use Rattle.std.proofs.lemmas.Simd.{pick_l-range_with_len}
-use Rattle.std.proofs.lemmas.List.{take_all}
+use Rattle.std.proofs.lemmas.List.{take_all, take_at, drop_at, length-append}
 use Rattle.std.proofs.lemmas.Nat.{and_mask}
 use Rattle.std.specs.Int.Bits.{or_shifted_r}
 use Rattle.pix_chan.proofs.Lanes.{shr}
 use Rattle.pix_chan.specs.Planes.{in_turn, both_in_turn}
 
--- two lists joined, as a part of four
-pub take_joined : (n : ℕ) (u v : List ℕ) → length u ≡ n → take n (u ++ v) ≡ u
-take_joined zero [] [] h = refl
-take_joined zero [] (y ∷ v) h = refl
-take_joined zero (x ∷ u) v h = absurd (omega arith)
-take_joined (suc n) [] v h = absurd (omega arith)
-take_joined (suc n) (x ∷ u) v h = ap (λ (l : List ℕ). x ∷ l) (take_joined n u v (omega arith))
+-- two lists joined, as the parts of both
+pub front : (n : ℕ) (u v : List ℕ) → length u ≡ n → u ≡ pick_l 0 (u ++ v) (range_with_len 0 n)
+front n u v h = sym (pick_l-range_with_len 0 (u ++ v) 0 n (omega (arith, length-append u v)) ∙ take_at u v n h)
 
-pub drop_joined : (n : ℕ) (u v : List ℕ) → length u ≡ n → drop n (u ++ v) ≡ v
-drop_joined zero [] v h = refl
-drop_joined zero (x ∷ u) v h = absurd (omega arith)
-drop_joined (suc n) [] v h = absurd (omega arith)
-drop_joined (suc n) (x ∷ u) v h = drop_joined n u v (omega arith)
+pub back : (n : ℕ) (u v : List ℕ) → length u ≡ n → length v ≡ n → v ≡ pick_l 0 (u ++ v) (range_with_len n n)
+back n u v h k =
+    sym (pick_l-range_with_len 0 (u ++ v) n n (omega (arith, length-append u v)) ∙ ap (take n) (drop_at u v n h) ∙ take_all n v (omega arith))
 
-pub length-joined : (u v : List ℕ) → length (u ++ v) ≡ length u + length v
-length-joined [] v = omega arith
-length-joined (x ∷ u) v = let e = length-joined u v in omega arith
+-- a function of two halves, each of two lists of sixteen, as one of the parts of all
+pub through : (f : List ℕ → List ℕ → List ℕ) (a b c d : List ℕ) → length a ≡ 16 → length b ≡ 16 → length c ≡ 16 → length d ≡ 16
+    → let all = (a ++ b) ++ (c ++ d) in f (a ++ b) (c ++ d) ≡ f (pick_l 0 all (range_with_len 0 32)) (pick_l 0 all (range_with_len 32 32))
+through f a b c d i j k l =
+    let m : length (a ++ b) ≡ 32 = omega (arith, length-append a b) in
+    let n : length (c ++ d) ≡ 32 = omega (arith, length-append c d) in
+    ap (λ u. f u (c ++ d)) (front 32 (a ++ b) (c ++ d) m) ∙ ap (f _) (back 32 (a ++ b) (c ++ d) m n)
 
-pub front : (u v : List ℕ) → length u ≡ 32 → length v ≡ 32 → u ≡ pick_l 0 (u ++ v) (range_with_len 0 32)
-front u v h k =
-    let l = length-joined u v in
-    sym (pick_l-range_with_len 0 (u ++ v) 0 32 (omega arith) ∙ take_joined 32 u v h)
+-- one lane of each pair: the lanes at even places by `low`, and those at odd ones by `high`
+abbrev pub of_pairs : (ℕ → ℕ → ℕ) → List ℕ → List ℕ
+of_pairs g [] = []
+of_pairs g (x ∷ []) = []
+of_pairs g (x ∷ y ∷ r) = g x y ∷ of_pairs g r
 
-pub back : (u v : List ℕ) → length u ≡ 32 → length v ≡ 32 → v ≡ pick_l 0 (u ++ v) (range_with_len 32 32)
-back u v h k =
-    let l = length-joined u v in
-    sym (pick_l-range_with_len 0 (u ++ v) 32 32 (omega arith) ∙ ap (take 32) (drop_joined 32 u v h) ∙ take_all 32 v (omega arith))
+abbrev pub low : ℕ → ℕ → ℕ
+low x y = x
 
--- the lanes at even and at odd places
-abbrev pub evens : List ℕ → List ℕ
-evens [] = []
-evens (x ∷ []) = []
-evens (x ∷ y ∷ r) = x ∷ evens r
-
-abbrev pub odds : List ℕ → List ℕ
-odds [] = []
-odds (x ∷ []) = []
-odds (x ∷ y ∷ r) = y ∷ odds r
+abbrev pub high : ℕ → ℕ → ℕ
+high x y = y
 
 abbrev pair : ℕ → ℕ → ℕ → ℕ
 pair x y z = x + 256 * (y + 256 * z)
@@ -63,33 +52,31 @@ low_of_pair x y z a b = and_mask (pair x y z % 65536) 8 ∙ (let e = pair_mod x 
 high_of_pair : (x y z : ℕ) → x < 256 → y < 256 → shr (pair x y z % 65536) 8 ≡ y
 high_of_pair x y z a b = let e = pair_mod x y z a b in omega arith
 
-cons : {A : Type 0} {x y : A} {xs ys : List A} → x ≡ y → xs ≡ ys → x ∷ xs ≡ y ∷ ys
+pub cons : {A : Type 0} {x y : A} {xs ys : List A} → x ≡ y → xs ≡ ys → x ∷ xs ≡ y ∷ ys
 cons e f = cc
 
--- pairs of bytes as words, and the low and the high byte of each
+-- pairs of bytes as words, and what is made of each
+module _ (g f : ℕ → ℕ → ℕ) (k : ℕ) (is : (x y z : ℕ) → x < 256 → y < 256 → f (pair x y z % 65536) k ≡ g x y) where
+  of_words : (n : ℕ) (xs : List ℕ) → length xs ≡ n + n → Each1 (Fits w8) xs
+      → zip2 f (digits_l 65536 n (number_l 256 xs)) (replicate n k) ≡ of_pairs g xs
+  of_words zero [] h p = refl
+  of_words zero (x ∷ xs) h p = absurd (omega arith)
+  of_words (suc n) [] h p = absurd (omega arith)
+  of_words (suc n) (x ∷ []) h p = absurd (omega arith)
+  of_words (suc n) (x ∷ y ∷ r) h p =
+      let a : x < 256 = p.0.fits in
+      let b : y < 256 = p.1.0.fits in
+      cons (is x y (number_l 256 r) a b)
+      (ap (λ z. zip2 f (digits_l 65536 n z) (replicate n k)) (pair_rest x y (number_l 256 r) a b) ∙ of_words n r (omega arith) p.1.1)
+
+-- .. by the low byte, and by the high one
 pub lows : (n : ℕ) (xs : List ℕ) → length xs ≡ n + n → Each1 (Fits w8) xs
-    → zip2 bit_and (digits_l 65536 n (number_l 256 xs)) (replicate n 255) ≡ evens xs
-lows zero [] h f = refl
-lows zero (x ∷ xs) h f = absurd (omega arith)
-lows (suc n) [] h f = absurd (omega arith)
-lows (suc n) (x ∷ []) h f = absurd (omega arith)
-lows (suc n) (x ∷ y ∷ r) h f =
-    let a : x < 256 = f.0.fits in
-    let b : y < 256 = f.1.0.fits in
-    cons (low_of_pair x y (number_l 256 r) a b)
-    (ap (λ z. zip2 bit_and (digits_l 65536 n z) (replicate n 255)) (pair_rest x y (number_l 256 r) a b) ∙ lows n r (omega arith) f.1.1)
+    → zip2 bit_and (digits_l 65536 n (number_l 256 xs)) (replicate n 255) ≡ of_pairs low xs
+lows = of_words low bit_and 255 low_of_pair
 
 pub highs : (n : ℕ) (xs : List ℕ) → length xs ≡ n + n → Each1 (Fits w8) xs
-    → zip2 shr (digits_l 65536 n (number_l 256 xs)) (replicate n 8) ≡ odds xs
-highs zero [] h f = refl
-highs zero (x ∷ xs) h f = absurd (omega arith)
-highs (suc n) [] h f = absurd (omega arith)
-highs (suc n) (x ∷ []) h f = absurd (omega arith)
-highs (suc n) (x ∷ y ∷ r) h f =
-    let a : x < 256 = f.0.fits in
-    let b : y < 256 = f.1.0.fits in
-    cons (high_of_pair x y (number_l 256 r) a b)
-    (ap (λ z. zip2 shr (digits_l 65536 n z) (replicate n 8)) (pair_rest x y (number_l 256 r) a b) ∙ highs n r (omega arith) f.1.1)
+    → zip2 shr (digits_l 65536 n (number_l 256 xs)) (replicate n 8) ≡ of_pairs high xs
+highs = of_words high shr 8 high_of_pair
 
 pub Each1-joined : (u v : List ℕ) → Each1 (Fits w8) u → Each1 (Fits w8) v → Each1 (Fits w8) (u ++ v)
 Each1-joined [] v f g = g
@@ -104,17 +91,12 @@ pub Each1-picked : (u ks : List ℕ) → Each1 (Fits w8) u → Each1 (Fits w8) (
 Each1-picked u [] f = tt
 Each1-picked u (k ∷ ks) f = (at_fits u k f, Each1-picked u ks f)
 
-pub Each1-evens : (u : List ℕ) → Each1 (Fits w8) u → Each1 (Fits w8) (evens u)
-Each1-evens [] f = tt
-Each1-evens (x ∷ []) f = tt
-Each1-evens (x ∷ y ∷ r) f = (f.0, Each1-evens r f.1.1)
+pub Each1-of_pairs : (g : ℕ → ℕ → ℕ) → ((x y : ℕ) → Fits w8 x → Fits w8 y → Fits w8 (g x y)) → (u : List ℕ) → Each1 (Fits w8) u → Each1 (Fits w8) (of_pairs g u)
+Each1-of_pairs g is [] f = tt
+Each1-of_pairs g is (x ∷ []) f = tt
+Each1-of_pairs g is (x ∷ y ∷ r) f = (is x y f.0 f.1.0, Each1-of_pairs g is r f.1.1)
 
-pub Each1-odds : (u : List ℕ) → Each1 (Fits w8) u → Each1 (Fits w8) (odds u)
-Each1-odds [] f = tt
-Each1-odds (x ∷ []) f = tt
-Each1-odds (x ∷ y ∷ r) f = (f.1.0, Each1-odds r f.1.1)
-
--- ---- pairs of bytes of two lists in turn
+-- pairs of bytes of two lists in turn
 
 abbrev pub quad : ℕ → ℕ → ℕ → ℕ → ℕ
 quad x y u v = x + 256 * y + 65536 * (u + 256 * v)
@@ -203,36 +185,23 @@ mesh_bytes (suc n) (x ∷ y ∷ a) (u ∷ v ∷ b) h k f g =
     cons (first_byte x y u v z p q r s) (cons (second_byte x y u v z p q r s) (cons (third_byte x y u v z p q r s) (cons (fourth_byte x y u v z p q r s)
     (ap (digits_l 256 (four_times n)) (other_bytes x y u v z p q r s) ∙ mesh_bytes n a b (omega arith) (omega arith) f.1.1 g.1.1))))
 
-pub front16 : (u v : List ℕ) → length u ≡ 16 → length v ≡ 16 → u ≡ pick_l 0 (u ++ v) (range_with_len 0 16)
-front16 u v h k =
-    let l = length-joined u v in
-    sym (pick_l-range_with_len 0 (u ++ v) 0 16 (omega arith) ∙ take_joined 16 u v h)
-
-pub back16 : (u v : List ℕ) → length u ≡ 16 → length v ≡ 16 → v ≡ pick_l 0 (u ++ v) (range_with_len 16 16)
-back16 u v h k =
-    let l = length-joined u v in
-    sym (pick_l-range_with_len 0 (u ++ v) 16 16 (omega arith) ∙ ap (take 16) (drop_joined 16 u v h) ∙ take_all 16 v (omega arith))
-
+-- equal lists make equal ones
 pub same_turn : {A : Type 0} {a b c d e f g h : List A} → a ≡ e → b ≡ f → c ≡ g → d ≡ h → in_turn a b c d ≡ in_turn e f g h
-same_turn {A} {a} {b} {c} {d} {e} {f} {g} {h} p q r s =
-    ap (λ (x : List A). in_turn x b c d) p ∙ ap (λ (x : List A). in_turn e x c d) q
-    ∙ ap (λ (x : List A). in_turn e f x d) r ∙ ap (λ (x : List A). in_turn e f g x) s
+same_turn p q r s = cc
 
 pub same_both : {A : Type 0} {a b e f : List A} → a ≡ e → b ≡ f → both_in_turn a b ≡ both_in_turn e f
-same_both {A} {a} {b} {e} {f} p q = ap (λ (x : List A). both_in_turn x b) p ∙ ap (λ (x : List A). both_in_turn e x) q
+same_both p q = cc
+
+pub same_joined : {A : Type 0} {a b c d e f g h : List A} → a ≡ e → b ≡ f → c ≡ g → d ≡ h → (a ++ b) ++ (c ++ d) ≡ (e ++ f) ++ (g ++ h)
+same_joined p q r s = cc
+
+pub same_pair : {A : Type 0} {a b e f : List A} → a ≡ e → b ≡ f → a ++ b ≡ e ++ f
+same_pair p q = cc
 
 -- two lists of sixteen in turn
 pub both_picked : (a b : List ℕ) → length a ≡ 16 → length b ≡ 16
     → both_in_turn a b ≡ both_in_turn (pick_l 0 (a ++ b) (range_with_len 0 16)) (pick_l 0 (a ++ b) (range_with_len 16 16))
-both_picked a b h k = same_both (front16 a b h k) (back16 a b h k)
-
-pub same_joined : {A : Type 0} {a b c d e f g h : List A} → a ≡ e → b ≡ f → c ≡ g → d ≡ h → (a ++ b) ++ (c ++ d) ≡ (e ++ f) ++ (g ++ h)
-same_joined {A} {a} {b} {c} {d} {e} {f} {g} {h} p q r s =
-    ap (λ (x : List A). (x ++ b) ++ (c ++ d)) p ∙ ap (λ (x : List A). (e ++ x) ++ (c ++ d)) q
-    ∙ ap (λ (x : List A). (e ++ f) ++ (x ++ d)) r ∙ ap (λ (x : List A). (e ++ f) ++ (g ++ x)) s
-
-pub same_pair : {A : Type 0} {a b e f : List A} → a ≡ e → b ≡ f → a ++ b ≡ e ++ f
-same_pair {A} {a} {b} {e} {f} p q = ap (λ (x : List A). x ++ b) p ∙ ap (λ (x : List A). e ++ x) q
+both_picked a b h k = same_both (front 16 a b h) (back 16 a b h k)
 
 -- both of each half are both of all
 pub both-joined : {A : Type 0} (a b c d : List A) → length a ≡ length c → both_in_turn a c ++ both_in_turn b d ≡ both_in_turn (a ++ b) (c ++ d)

@@ -14,70 +14,33 @@ fraction value alpha whole = record { value = value; alpha = alpha; whole = whol
 abbrev units : ℕ → ℕ → Budget
 units channel alpha = record { channel = channel; alpha = alpha }
 
+-- what effects come to: rounded, in exact fractions, in budgets and in doubled counts
+abbrev Row : Rounded → List ChannelEffect → Rounded → Exact → Budget → ℕ → Type 0
+Row start effects rounded exact budget doubled =
+    (rounded_run 255 start effects ≡ rounded) × (exact_run 255 start effects ≡ exact)
+    × (rounding_budget effects ≡ budget) × (doubled_counts effects ≡ doubled)
+
 -- a transparent color over 5, three times, changes nothing
-abbrev thrice : List ChannelEffect
-thrice = Composited SrcOver 0 0 ∷ Composited SrcOver 0 0 ∷ Composited SrcOver 0 0 ∷ []
-
-thrice_rounded : rounded_run 255 (at 5 5) thrice ≡ at 5 5
+thrice : Row (at 5 5) (Composited SrcOver 0 0 ∷ Composited SrcOver 0 0 ∷ Composited SrcOver 0 0 ∷ [])
+    (at 5 5) (fraction 82906875 82906875 (255 ^ 3)) (units 3 3) 6
 unfolding channel_product
-thrice_rounded = refl
-
-thrice_exact : exact_run 255 (at 5 5) thrice ≡ fraction 82906875 82906875 (255 ^ 3)
-thrice_exact = refl
-
-thrice_budget : rounding_budget thrice ≡ units 3 3
-thrice_budget = refl
-
-thrice_doubled : doubled_counts thrice ≡ 6
-thrice_doubled = refl
+thrice = (refl, refl, refl, refl)
 
 -- then the greatest color where that is
-abbrev then_in : List ChannelEffect
-then_in = Composited SrcOver 0 0 ∷ Composited SrcOver 0 0 ∷ Composited SrcOver 0 0 ∷ Composited SrcIn 255 255 ∷ []
-
-then_in_rounded : rounded_run 255 (at 5 5) then_in ≡ at 5 5
+then_in : Row (at 5 5) (Composited SrcOver 0 0 ∷ Composited SrcOver 0 0 ∷ Composited SrcOver 0 0 ∷ Composited SrcIn 255 255 ∷ [])
+    (at 5 5) (fraction 21141253125 21141253125 (255 ^ 4)) (units 4 4) 8
 unfolding channel_product
-then_in_rounded = refl
-
-then_in_exact : exact_run 255 (at 5 5) then_in ≡ fraction 21141253125 21141253125 (255 ^ 4)
-then_in_exact = refl
-
-then_in_budget : rounding_budget then_in ≡ units 4 4
-then_in_budget = refl
-
-then_in_doubled : doubled_counts then_in ≡ 8
-then_in_doubled = refl
+then_in = (refl, refl, refl, refl)
 
 -- green of half the alpha over red of half the alpha, through a matte of half: the red channel
-abbrev red : List ChannelEffect
-red = Matted SrcOver 0x80 0 0x80 ∷ []
-
-red_rounded : rounded_run 255 (at 0x80 0x80) red ≡ at 96 160
+red : Row (at 0x80 0x80) (Matted SrcOver 0x80 0 0x80 ∷ []) (at 96 160) (fraction 6226048 10403968 (255 ^ 2)) (units 3 3) 6
 unfolding channel_product
-red_rounded = refl
-
-red_exact : exact_run 255 (at 0x80 0x80) red ≡ fraction 6226048 10403968 (255 ^ 2)
-red_exact = refl
-
-red_budget : rounding_budget red ≡ units 3 3
-red_budget = refl
-
-red_doubled : doubled_counts red ≡ 6
-red_doubled = refl
+red = (refl, refl, refl, refl)
 
 -- .. and the green one
-abbrev green : List ChannelEffect
-green = Matted SrcOver 0x80 0x80 0x80 ∷ []
-
-green_rounded : rounded_run 255 (at 0 0x80) green ≡ at 64 160
+green : Row (at 0 0x80) (Matted SrcOver 0x80 0x80 0x80 ∷ []) (at 64 160) (fraction 4177920 10403968 (255 ^ 2)) (units 3 3) 6
 unfolding channel_product
-green_rounded = refl
-
-green_exact : exact_run 255 (at 0 0x80) green ≡ fraction 4177920 10403968 (255 ^ 2)
-green_exact = refl
-
-green_budget : rounding_budget green ≡ units 3 3
-green_budget = refl
+green = (refl, refl, refl, refl)
 
 -- a copy ends what the budgets had, and not the doubled counts
 abbrev replaced : ℕ → ℕ → ℕ → ℕ → ℕ → List ChannelEffect

@@ -1,63 +1,47 @@
 -- Lists of four, eight and sixteen, element by element.
-use Rattle.std.proofs.Common.{◌≡◌, ℕ, List, [], ◌∷◌, ◌++◌, length, map, take, drop, get_or, refl, ap, arith}
+use Rattle.std.proofs.Common.{◌≡◌, ℕ, ◌+◌, List, [], ◌∷◌, ◌++◌, length, map, take, drop, get_or, refl, ap, arith}
 use lib.Lanes.{pick_l}
+use Rattle.std.proofs.lemmas.List.{length-take, length-drop, take-append-drop}
 use Rattle.pix_chan.specs.Lanes.{indexes}
 use Rattle.pix_chan.specs.Planes.{both_in_turn, last_of_four}
 
--- a list of 16 is its elements, whatever is named for places past its end
-pub whole16 : {A : Type 0} (xs : List A) (d0 d1 d2 d3 d4 d5 d6 d7 d8 d9 d10 d11 d12 d13 d14 d15 : A) → length xs ≡ 16 → get_or xs 0 d0 ∷ get_or xs 1 d1 ∷ get_or xs 2 d2 ∷ get_or xs 3 d3 ∷ get_or xs 4 d4 ∷ get_or xs 5 d5 ∷ get_or xs 6 d6 ∷ get_or xs 7 d7 ∷ get_or xs 8 d8 ∷ get_or xs 9 d9 ∷ get_or xs 10 d10 ∷ get_or xs 11 d11 ∷ get_or xs 12 d12 ∷ get_or xs 13 d13 ∷ get_or xs 14 d14 ∷ get_or xs 15 d15 ∷ [] ≡ xs
-whole16 ([]) d0 d1 d2 d3 d4 d5 d6 d7 d8 d9 d10 d11 d12 d13 d14 d15 h = absurd (omega arith)
-whole16 (x0 ∷ []) d0 d1 d2 d3 d4 d5 d6 d7 d8 d9 d10 d11 d12 d13 d14 d15 h = absurd (omega arith)
-whole16 (x0 ∷ x1 ∷ []) d0 d1 d2 d3 d4 d5 d6 d7 d8 d9 d10 d11 d12 d13 d14 d15 h = absurd (omega arith)
-whole16 (x0 ∷ x1 ∷ x2 ∷ []) d0 d1 d2 d3 d4 d5 d6 d7 d8 d9 d10 d11 d12 d13 d14 d15 h = absurd (omega arith)
-whole16 (x0 ∷ x1 ∷ x2 ∷ x3 ∷ []) d0 d1 d2 d3 d4 d5 d6 d7 d8 d9 d10 d11 d12 d13 d14 d15 h = absurd (omega arith)
-whole16 (x0 ∷ x1 ∷ x2 ∷ x3 ∷ x4 ∷ []) d0 d1 d2 d3 d4 d5 d6 d7 d8 d9 d10 d11 d12 d13 d14 d15 h = absurd (omega arith)
-whole16 (x0 ∷ x1 ∷ x2 ∷ x3 ∷ x4 ∷ x5 ∷ []) d0 d1 d2 d3 d4 d5 d6 d7 d8 d9 d10 d11 d12 d13 d14 d15 h = absurd (omega arith)
-whole16 (x0 ∷ x1 ∷ x2 ∷ x3 ∷ x4 ∷ x5 ∷ x6 ∷ []) d0 d1 d2 d3 d4 d5 d6 d7 d8 d9 d10 d11 d12 d13 d14 d15 h = absurd (omega arith)
-whole16 (x0 ∷ x1 ∷ x2 ∷ x3 ∷ x4 ∷ x5 ∷ x6 ∷ x7 ∷ []) d0 d1 d2 d3 d4 d5 d6 d7 d8 d9 d10 d11 d12 d13 d14 d15 h = absurd (omega arith)
-whole16 (x0 ∷ x1 ∷ x2 ∷ x3 ∷ x4 ∷ x5 ∷ x6 ∷ x7 ∷ x8 ∷ []) d0 d1 d2 d3 d4 d5 d6 d7 d8 d9 d10 d11 d12 d13 d14 d15 h = absurd (omega arith)
-whole16 (x0 ∷ x1 ∷ x2 ∷ x3 ∷ x4 ∷ x5 ∷ x6 ∷ x7 ∷ x8 ∷ x9 ∷ []) d0 d1 d2 d3 d4 d5 d6 d7 d8 d9 d10 d11 d12 d13 d14 d15 h = absurd (omega arith)
-whole16 (x0 ∷ x1 ∷ x2 ∷ x3 ∷ x4 ∷ x5 ∷ x6 ∷ x7 ∷ x8 ∷ x9 ∷ x10 ∷ []) d0 d1 d2 d3 d4 d5 d6 d7 d8 d9 d10 d11 d12 d13 d14 d15 h = absurd (omega arith)
-whole16 (x0 ∷ x1 ∷ x2 ∷ x3 ∷ x4 ∷ x5 ∷ x6 ∷ x7 ∷ x8 ∷ x9 ∷ x10 ∷ x11 ∷ []) d0 d1 d2 d3 d4 d5 d6 d7 d8 d9 d10 d11 d12 d13 d14 d15 h = absurd (omega arith)
-whole16 (x0 ∷ x1 ∷ x2 ∷ x3 ∷ x4 ∷ x5 ∷ x6 ∷ x7 ∷ x8 ∷ x9 ∷ x10 ∷ x11 ∷ x12 ∷ []) d0 d1 d2 d3 d4 d5 d6 d7 d8 d9 d10 d11 d12 d13 d14 d15 h = absurd (omega arith)
-whole16 (x0 ∷ x1 ∷ x2 ∷ x3 ∷ x4 ∷ x5 ∷ x6 ∷ x7 ∷ x8 ∷ x9 ∷ x10 ∷ x11 ∷ x12 ∷ x13 ∷ []) d0 d1 d2 d3 d4 d5 d6 d7 d8 d9 d10 d11 d12 d13 d14 d15 h = absurd (omega arith)
-whole16 (x0 ∷ x1 ∷ x2 ∷ x3 ∷ x4 ∷ x5 ∷ x6 ∷ x7 ∷ x8 ∷ x9 ∷ x10 ∷ x11 ∷ x12 ∷ x13 ∷ x14 ∷ []) d0 d1 d2 d3 d4 d5 d6 d7 d8 d9 d10 d11 d12 d13 d14 d15 h = absurd (omega arith)
-whole16 (x0 ∷ x1 ∷ x2 ∷ x3 ∷ x4 ∷ x5 ∷ x6 ∷ x7 ∷ x8 ∷ x9 ∷ x10 ∷ x11 ∷ x12 ∷ x13 ∷ x14 ∷ x15 ∷ []) d0 d1 d2 d3 d4 d5 d6 d7 d8 d9 d10 d11 d12 d13 d14 d15 h = refl
-whole16 (x0 ∷ x1 ∷ x2 ∷ x3 ∷ x4 ∷ x5 ∷ x6 ∷ x7 ∷ x8 ∷ x9 ∷ x10 ∷ x11 ∷ x12 ∷ x13 ∷ x14 ∷ x15 ∷ y ∷ ys) d0 d1 d2 d3 d4 d5 d6 d7 d8 d9 d10 d11 d12 d13 d14 d15 h = absurd (omega arith)
+-- a list of 4 as the tuple of its elements
+pub is_four : {A : Type 0} (p : List A) → length p ≡ 4 → (w : A × A × A × A) × (w.0 ∷ w.1 ∷ w.2 ∷ w.3 ∷ [] ≡ p)
+is_four [] h = absurd (omega arith)
+is_four (x0 ∷ []) h = absurd (omega arith)
+is_four (x0 ∷ x1 ∷ []) h = absurd (omega arith)
+is_four (x0 ∷ x1 ∷ x2 ∷ []) h = absurd (omega arith)
+is_four (x0 ∷ x1 ∷ x2 ∷ x3 ∷ []) h = ((x0, x1, x2, x3), refl)
+is_four (x0 ∷ x1 ∷ x2 ∷ x3 ∷ y ∷ ys) h = absurd (omega arith)
+
+-- a list by its two halves
+module _ {A : Type 0} (n : ℕ) (p : List A) where
+  first_half : length p ≡ n + n → length (take n p) ≡ n
+  first_half h = omega (arith, length-take n p)
+
+  second_half : length p ≡ n + n → length (drop n p) ≡ n
+  second_half h = omega (arith, length-drop n p)
+
+  both_halves : {u v : List A} → u ≡ take n p → v ≡ drop n p → u ++ v ≡ p
+  both_halves e f = rw (e, f) (take-append-drop n p)
 
 -- a list of 8 as the tuple of its elements
 pub is_eight : {A : Type 0} (p : List A) → length p ≡ 8 → (w : A × A × A × A × A × A × A × A) × (w.0 ∷ w.1 ∷ w.2 ∷ w.3 ∷ w.4 ∷ w.5 ∷ w.6 ∷ w.7 ∷ [] ≡ p)
-is_eight ([]) h = absurd (omega arith)
-is_eight (x0 ∷ []) h = absurd (omega arith)
-is_eight (x0 ∷ x1 ∷ []) h = absurd (omega arith)
-is_eight (x0 ∷ x1 ∷ x2 ∷ []) h = absurd (omega arith)
-is_eight (x0 ∷ x1 ∷ x2 ∷ x3 ∷ []) h = absurd (omega arith)
-is_eight (x0 ∷ x1 ∷ x2 ∷ x3 ∷ x4 ∷ []) h = absurd (omega arith)
-is_eight (x0 ∷ x1 ∷ x2 ∷ x3 ∷ x4 ∷ x5 ∷ []) h = absurd (omega arith)
-is_eight (x0 ∷ x1 ∷ x2 ∷ x3 ∷ x4 ∷ x5 ∷ x6 ∷ []) h = absurd (omega arith)
-is_eight (x0 ∷ x1 ∷ x2 ∷ x3 ∷ x4 ∷ x5 ∷ x6 ∷ x7 ∷ []) h = ((x0, x1, x2, x3, x4, x5, x6, x7), refl)
-is_eight (x0 ∷ x1 ∷ x2 ∷ x3 ∷ x4 ∷ x5 ∷ x6 ∷ x7 ∷ y ∷ ys) h = absurd (omega arith)
+is_eight p h =
+    let a = is_four (take 4 p) (first_half 4 p h) in
+    let b = is_four (drop 4 p) (second_half 4 p h) in
+    ((a.0.0, a.0.1, a.0.2, a.0.3, b.0.0, b.0.1, b.0.2, b.0.3), both_halves 4 p a.1 b.1)
 
 -- a list of 16 as the tuple of its elements
 pub is_sixteen : {A : Type 0} (p : List A) → length p ≡ 16 → (w : A × A × A × A × A × A × A × A × A × A × A × A × A × A × A × A) × (w.0 ∷ w.1 ∷ w.2 ∷ w.3 ∷ w.4 ∷ w.5 ∷ w.6 ∷ w.7 ∷ w.8 ∷ w.9 ∷ w.10 ∷ w.11 ∷ w.12 ∷ w.13 ∷ w.14 ∷ w.15 ∷ [] ≡ p)
-is_sixteen ([]) h = absurd (omega arith)
-is_sixteen (x0 ∷ []) h = absurd (omega arith)
-is_sixteen (x0 ∷ x1 ∷ []) h = absurd (omega arith)
-is_sixteen (x0 ∷ x1 ∷ x2 ∷ []) h = absurd (omega arith)
-is_sixteen (x0 ∷ x1 ∷ x2 ∷ x3 ∷ []) h = absurd (omega arith)
-is_sixteen (x0 ∷ x1 ∷ x2 ∷ x3 ∷ x4 ∷ []) h = absurd (omega arith)
-is_sixteen (x0 ∷ x1 ∷ x2 ∷ x3 ∷ x4 ∷ x5 ∷ []) h = absurd (omega arith)
-is_sixteen (x0 ∷ x1 ∷ x2 ∷ x3 ∷ x4 ∷ x5 ∷ x6 ∷ []) h = absurd (omega arith)
-is_sixteen (x0 ∷ x1 ∷ x2 ∷ x3 ∷ x4 ∷ x5 ∷ x6 ∷ x7 ∷ []) h = absurd (omega arith)
-is_sixteen (x0 ∷ x1 ∷ x2 ∷ x3 ∷ x4 ∷ x5 ∷ x6 ∷ x7 ∷ x8 ∷ []) h = absurd (omega arith)
-is_sixteen (x0 ∷ x1 ∷ x2 ∷ x3 ∷ x4 ∷ x5 ∷ x6 ∷ x7 ∷ x8 ∷ x9 ∷ []) h = absurd (omega arith)
-is_sixteen (x0 ∷ x1 ∷ x2 ∷ x3 ∷ x4 ∷ x5 ∷ x6 ∷ x7 ∷ x8 ∷ x9 ∷ x10 ∷ []) h = absurd (omega arith)
-is_sixteen (x0 ∷ x1 ∷ x2 ∷ x3 ∷ x4 ∷ x5 ∷ x6 ∷ x7 ∷ x8 ∷ x9 ∷ x10 ∷ x11 ∷ []) h = absurd (omega arith)
-is_sixteen (x0 ∷ x1 ∷ x2 ∷ x3 ∷ x4 ∷ x5 ∷ x6 ∷ x7 ∷ x8 ∷ x9 ∷ x10 ∷ x11 ∷ x12 ∷ []) h = absurd (omega arith)
-is_sixteen (x0 ∷ x1 ∷ x2 ∷ x3 ∷ x4 ∷ x5 ∷ x6 ∷ x7 ∷ x8 ∷ x9 ∷ x10 ∷ x11 ∷ x12 ∷ x13 ∷ []) h = absurd (omega arith)
-is_sixteen (x0 ∷ x1 ∷ x2 ∷ x3 ∷ x4 ∷ x5 ∷ x6 ∷ x7 ∷ x8 ∷ x9 ∷ x10 ∷ x11 ∷ x12 ∷ x13 ∷ x14 ∷ []) h = absurd (omega arith)
-is_sixteen (x0 ∷ x1 ∷ x2 ∷ x3 ∷ x4 ∷ x5 ∷ x6 ∷ x7 ∷ x8 ∷ x9 ∷ x10 ∷ x11 ∷ x12 ∷ x13 ∷ x14 ∷ x15 ∷ []) h = ((x0, x1, x2, x3, x4, x5, x6, x7, x8, x9, x10, x11, x12, x13, x14, x15), refl)
-is_sixteen (x0 ∷ x1 ∷ x2 ∷ x3 ∷ x4 ∷ x5 ∷ x6 ∷ x7 ∷ x8 ∷ x9 ∷ x10 ∷ x11 ∷ x12 ∷ x13 ∷ x14 ∷ x15 ∷ y ∷ ys) h = absurd (omega arith)
+is_sixteen p h =
+    let a = is_eight (take 8 p) (first_half 8 p h) in
+    let b = is_eight (drop 8 p) (second_half 8 p h) in
+    ((a.0.0, a.0.1, a.0.2, a.0.3, a.0.4, a.0.5, a.0.6, a.0.7, b.0.0, b.0.1, b.0.2, b.0.3, b.0.4, b.0.5, b.0.6, b.0.7), both_halves 8 p a.1 b.1)
+
+-- a list of 16 is its elements, whatever is named for places past its end
+pub whole16 : {A : Type 0} (xs : List A) (d0 d1 d2 d3 d4 d5 d6 d7 d8 d9 d10 d11 d12 d13 d14 d15 : A) → length xs ≡ 16 → get_or xs 0 d0 ∷ get_or xs 1 d1 ∷ get_or xs 2 d2 ∷ get_or xs 3 d3 ∷ get_or xs 4 d4 ∷ get_or xs 5 d5 ∷ get_or xs 6 d6 ∷ get_or xs 7 d7 ∷ get_or xs 8 d8 ∷ get_or xs 9 d9 ∷ get_or xs 10 d10 ∷ get_or xs 11 d11 ∷ get_or xs 12 d12 ∷ get_or xs 13 d13 ∷ get_or xs 14 d14 ∷ get_or xs 15 d15 ∷ [] ≡ xs
+whole16 xs d0 d1 d2 d3 d4 d5 d6 d7 d8 d9 d10 d11 d12 d13 d14 d15 h = rw (← (is_sixteen xs h).1) refl
 
 module _ {A : Type 0} (f : A → ℕ) (a b : List A) (d0 d1 d2 d3 d4 d5 d6 d7 d8 d9 d10 d11 d12 d13 d14 d15 : A) where
   pub evens_are : length a ≡ 16 → length b ≡ 16 → f (get_or a 0 d0) ∷ f (get_or a 2 d1) ∷ f (get_or a 4 d2) ∷ f (get_or a 6 d3) ∷ f (get_or a 8 d4) ∷ f (get_or a 10 d5) ∷ f (get_or a 12 d6) ∷ f (get_or a 14 d7) ∷ f (get_or b 0 d8) ∷ f (get_or b 2 d9) ∷ f (get_or b 4 d10) ∷ f (get_or b 6 d11) ∷ f (get_or b 8 d12) ∷ f (get_or b 10 d13) ∷ f (get_or b 12 d14) ∷ f (get_or b 14 d15) ∷ [] ≡ pick_l 0 (map f a ++ map f b) (indexes 2 0)
@@ -74,16 +58,7 @@ halves p h = rw (← (is_sixteen p h).1) refl
 
 -- a list of 8 is its elements, whatever is named for places past its end
 pub whole8 : {A : Type 0} (xs : List A) (d0 d1 d2 d3 d4 d5 d6 d7 : A) → length xs ≡ 8 → get_or xs 0 d0 ∷ get_or xs 1 d1 ∷ get_or xs 2 d2 ∷ get_or xs 3 d3 ∷ get_or xs 4 d4 ∷ get_or xs 5 d5 ∷ get_or xs 6 d6 ∷ get_or xs 7 d7 ∷ [] ≡ xs
-whole8 ([]) d0 d1 d2 d3 d4 d5 d6 d7 h = absurd (omega arith)
-whole8 (x0 ∷ []) d0 d1 d2 d3 d4 d5 d6 d7 h = absurd (omega arith)
-whole8 (x0 ∷ x1 ∷ []) d0 d1 d2 d3 d4 d5 d6 d7 h = absurd (omega arith)
-whole8 (x0 ∷ x1 ∷ x2 ∷ []) d0 d1 d2 d3 d4 d5 d6 d7 h = absurd (omega arith)
-whole8 (x0 ∷ x1 ∷ x2 ∷ x3 ∷ []) d0 d1 d2 d3 d4 d5 d6 d7 h = absurd (omega arith)
-whole8 (x0 ∷ x1 ∷ x2 ∷ x3 ∷ x4 ∷ []) d0 d1 d2 d3 d4 d5 d6 d7 h = absurd (omega arith)
-whole8 (x0 ∷ x1 ∷ x2 ∷ x3 ∷ x4 ∷ x5 ∷ []) d0 d1 d2 d3 d4 d5 d6 d7 h = absurd (omega arith)
-whole8 (x0 ∷ x1 ∷ x2 ∷ x3 ∷ x4 ∷ x5 ∷ x6 ∷ []) d0 d1 d2 d3 d4 d5 d6 d7 h = absurd (omega arith)
-whole8 (x0 ∷ x1 ∷ x2 ∷ x3 ∷ x4 ∷ x5 ∷ x6 ∷ x7 ∷ []) d0 d1 d2 d3 d4 d5 d6 d7 h = refl
-whole8 (x0 ∷ x1 ∷ x2 ∷ x3 ∷ x4 ∷ x5 ∷ x6 ∷ x7 ∷ y ∷ ys) d0 d1 d2 d3 d4 d5 d6 d7 h = absurd (omega arith)
+whole8 xs d0 d1 d2 d3 d4 d5 d6 d7 h = rw (← (is_eight xs h).1) refl
 
 -- what is made of each of eight
 pub mapped8 : {A B : Type 0} (f : A → B) (xs : List A) (d0 d1 d2 d3 d4 d5 d6 d7 : A) {r0 r1 r2 r3 r4 r5 r6 r7 : B} → length xs ≡ 8

@@ -1,8 +1,8 @@
 -- A run that has gone on for some blocks.
-use Rattle.std.proofs.Common.{◌≡◌, ℕ, zero, suc, ◌+◌, ◌-◌, ◌<◌, ◌≤◌, List, [], ◌∷◌, ◌++◌, length, map, take, drop, refl, ap, sym, ◌∙◌, arith, get_or, set, min, replicate}
+use Rattle.std.proofs.Common.{◌≡◌, ℕ, zero, suc, ◌+◌, ◌-◌, ◌*◌, ◌<◌, ◌≤◌, List, [], ◌∷◌, ◌++◌, length, map, take, drop, refl, ap, sym, ◌∙◌, arith, get_or, set, min, replicate}
 use lib.Lanes.{zip2}
 use borrow.Rule.Slice.PartMut.{put_mid}
-use Rattle.std.proofs.lemmas.List.{length-take, length-drop, length-map, map-set, get_or-map, take-map, drop-map}
+use Rattle.std.proofs.lemmas.List.{map-append, length-take, length-drop, length-map, map-set, get_or-map, take-map, drop-map}
 use Rattle.pix_chan.specs.Runs.{over, triples}
 
 module _ {A B : Type 0} (f : A → B → A) where
@@ -89,16 +89,12 @@ module _ {A B : Type 0} (f : A → B → A) where
       block_step n k (m - n) m xs ws new ys (take (m - n) (drop n ys)) e d j a b
       (ap (λ t. take t (drop n ys)) d) (i ∙ over_same (take (m - n) (drop n ws)) (take (m - n) (drop n ys)) p)
 
-pub map-joined : {C A : Type 0} (number : C → A) (u v : List C) → map number (u ++ v) ≡ map number u ++ map number v
-map-joined number [] v = refl
-map-joined {A = A} number (x ∷ u) v = ap (λ (l : List A). number x ∷ l) (map-joined number u v)
-
 -- the same by what stands for the elements
 module _ {C A B : Type 0} (number : C → A) (f : A → B → A) where
   pub map-put_mid : (n k : ℕ) (ws new : List C) → map number (put_mid n k ws new) ≡ put_mid n k (map number ws) (map number new)
   map-put_mid n k ws new =
-      map-joined number (take n ws) (new ++ drop k (drop n ws))
-      ∙ ap (λ (l : List A). map number (take n ws) ++ l) (map-joined number new (drop k (drop n ws)))
+      map-append number (take n ws) (new ++ drop k (drop n ws))
+      ∙ ap (λ (l : List A). map number (take n ws) ++ l) (map-append number new (drop k (drop n ws)))
       ∙ ap (λ (l : List A). l ++ (map number new ++ map number (drop k (drop n ws)))) (sym (take-map number n ws))
       ∙ ap (λ (l : List A). take n (map number ws) ++ (map number new ++ l)) (sym (drop-map number k (drop n ws)) ∙ ap (drop k) (sym (drop-map number n ws)))
 
@@ -117,10 +113,33 @@ module _ {C A B : Type 0} (number : C → A) (f : A → B → A) where
       map-put_mid n (m - n) ws new
       ∙ run_step f n k m (map number xs) (map number ws) (map number new) ys e j (omega (arith, length-map xs number)) b (i ∙ ap (λ (l : List A). run f l (take (m - n) (drop n ys))) (part_of n (m - n) ws))
 
+  same_length : (xs ws : List C) (ys : List B) → map number ws ≡ run f (map number xs) ys → length ws ≡ length xs
+  same_length xs ws ys e = sym (length-map ws number) ∙ ap length e ∙ length-run f (map number xs) ys ∙ length-map xs number
+
+  -- the block after k blocks of b
+  pub next_block : (b k : ℕ) (xs ws new : List C) (ys : List B) → map number ws ≡ run f (map number xs) (take (b * k) ys)
+      → b * k + b ≤ length xs → b * k + b ≤ length ys
+      → map number new ≡ run f (map number (take (b * k + b - b * k) (drop (b * k) ws))) (take (b * k + b - b * k) (drop (b * k) ys))
+      → map number (put_mid (b * k) (b * k + b - b * k) ws new) ≡ run f (map number xs) (take (b * (k + 1)) ys)
+  next_block b k xs ws new ys e l h i =
+      let m : b * k + b ≡ b * (k + 1) = omega arith in
+      mapped_run_step (b * k) b (b * k + b) xs ws new ys e refl l h i ∙ ap (λ n. run f (map number xs) (take n ys)) m
+
+  -- the same, where the second list stands for another one
+  pub next_mapped_block : {D : Type 0} (other : D → B) (b k : ℕ) (xs ws new : List C) (ys : List D)
+      → map number ws ≡ run f (map number xs) (take (b * k) (map other ys))
+      → b * k + b ≤ length xs → b * k + b ≤ length ys
+      → map number new ≡ run f (map number (take (b * k + b - b * k) (drop (b * k) ws))) (map other (take (b * k + b - b * k) (drop (b * k) ys)))
+      → map number (put_mid (b * k) (b * k + b - b * k) ws new) ≡ run f (map number xs) (take (b * (k + 1)) (map other ys))
+  next_mapped_block other b k xs ws new ys e l h i =
+      next_block b k xs ws new (map other ys) e l (omega (arith, length-map ys other))
+      (i ∙ ap (run f (map number (take (b * k + b - b * k) (drop (b * k) ws))))
+      (sym (take-map other (b * k + b - b * k) (drop (b * k) ys)) ∙ ap (take (b * k + b - b * k)) (sym (drop-map other (b * k) ys))))
+
   pub mapped_one_step : (n m : ℕ) (xs ws : List C) (x w : C) (d : A) (y c : B) (ys : List B) → map number ws ≡ run f (map number xs) (take n ys) → m ≡ n + 1 → n < length xs → n < length ys
       → y ≡ get_or ys n c → w ≡ get_or ws n w → number x ≡ f (number w) y → map number (set ws n x) ≡ run f (map number xs) (take m ys)
   mapped_one_step n m xs ws x w d y c ys e j a b h g i =
-      let l : length ws ≡ length xs = sym (length-map ws number) ∙ ap length e ∙ length-run f (map number xs) (take n ys) ∙ length-map xs number in
+      let l = same_length xs ws (take n ys) e in
       let k : number w ≡ get_or (map number ws) n d = ap number g ∙ sym (get_or-map number ws n w d (omega arith)) in
       rw map-set (one_step f n m (map number xs) (map number ws) (number x) d y c ys e j (omega (arith, length-map xs number)) b h (i ∙ ap (λ z. f z y) k))
 
@@ -130,12 +149,40 @@ read_within [] n d e h = absurd (omega arith)
 read_within (x ∷ xs) zero d e h = refl
 read_within (x ∷ xs) (suc n) d e h = read_within xs n d e (omega arith)
 
+-- both lists by what stands for their elements
+module _ {C : Type 0} (number : C → ℕ) (f : ℕ → ℕ → ℕ) (xs ws ys : List C) where
+  -- the element at n is made of the two that stand there
+  pub paired_step : (n : ℕ) (x w y : C) → map number ws ≡ run f (map number xs) (take n (map number ys)) → n < length xs → n < length ys
+      → w ≡ get_or ws n w → y ≡ get_or ys n y → number x ≡ f (number w) (number y)
+      → map number (set ws n x) ≡ run f (map number xs) (take (n + 1) (map number ys))
+  paired_step n x w y e a b g h i =
+      mapped_one_step number f n (n + 1) xs ws x w 0 (number y) 0 (map number ys) e refl a (omega (arith, length-map ys number))
+      (ap number h ∙ sym (get_or-map number ys n y 0 b)) g i
+
+  pub paired_whole : (n : ℕ) → map number ws ≡ run f (map number xs) (take n (map number ys)) → n ≡ min (length xs) (length ys)
+      → map number ws ≡ run f (map number xs) (map number ys)
+  paired_whole n e h = e ∙ over_both f n (map number xs) (map number ys) (omega (arith, length-map xs number, length-map ys number))
+
+  -- the block after k blocks of b, made element by element
+  pub next_paired_block : (b k : ℕ) (new : List C) → map number ws ≡ run f (map number xs) (take (b * k) (map number ys))
+      → b * k + b ≤ length xs → b * k + b ≤ length ys
+      → map number new ≡ zip2 f (map number (take (b * k + b - b * k) (drop (b * k) ws))) (map number (take (b * k + b - b * k) (drop (b * k) ys)))
+      → map number (put_mid (b * k) (b * k + b - b * k) ws new) ≡ run f (map number xs) (take (b * (k + 1)) (map number ys))
+  next_paired_block b k new e h i j =
+      let n = b * k + b - b * k in
+      let us = take n (drop (b * k) ws) in
+      let vs = take n (drop (b * k) ys) in
+      let l = same_length number f xs ws (take (b * k) (map number ys)) e in
+      next_mapped_block number f number b k xs ws new ys e h i
+      (j ∙ sym (over_same f (map number us) (map number vs)
+      (omega (arith, length-map us number, length-map vs number, length-take n (drop (b * k) ws), length-take n (drop (b * k) ys), length-drop (b * k) ws, length-drop (b * k) ys))))
+
 -- an element that does not depend on the old one
 pub mapped_put_step : {C B : Type 0} (number : C → ℕ) (f : B → ℕ) (n m : ℕ) (xs ws : List C) (x : C) (y c : B) (ys : List B)
     → map number ws ≡ over (λ y x. f y) (take n ys) (map number xs) → m ≡ n + 1 → n < length xs → n < length ys
     → y ≡ get_or ys n c → number x ≡ f y → map number (set ws n x) ≡ over (λ y x. f y) (take m ys) (map number xs)
 mapped_put_step number f n m xs ws x y c ys e j a b h i =
-    let l : length ws ≡ length xs = sym (length-map ws number) ∙ ap length e ∙ length-run (λ x y. f y) (map number xs) (take n ys) ∙ length-map xs number in
+    let l = same_length number (λ x y. f y) xs ws (take n ys) e in
     mapped_one_step number (λ x y. f y) n m xs ws x (get_or ws n x) 0 y c ys e j a b h (read_within ws n x (get_or ws n x) (omega arith)) i
 
 module _ {A : Type 0} where
@@ -189,6 +236,17 @@ part_of_same zero (suc k) zero x h = absurd (omega arith)
 part_of_same {A} zero (suc k) (suc n) x h = ap (λ (l : List A). x ∷ l) (part_of_same zero k n x (omega arith))
 part_of_same (suc at) k zero x h = absurd (omega arith)
 part_of_same (suc at) k (suc n) x h = part_of_same at k n x (omega arith)
+
+-- a run of one element with each, at the block after k blocks of b
+pub next_same_block : {C A B : Type 0} (number : C → A) (f : A → B → A) (b k n : ℕ) (xs ws new : List C) (y : B)
+    → map number ws ≡ run f (map number xs) (take (b * k) (replicate n y)) → b * k + b ≤ length xs → b * k + b ≤ n
+    → map number new ≡ run f (map number (take (b * k + b - b * k) (drop (b * k) ws))) (replicate b y)
+    → map number (put_mid (b * k) (b * k + b - b * k) ws new) ≡ run f (map number xs) (take (b * (k + 1)) (replicate n y))
+next_same_block number f b k n xs ws new y e h i j =
+    let m : b ≡ b * k + b - b * k = omega arith in
+    next_block number f b k xs ws new (replicate n y) e h (omega (arith, length-replicate n y))
+    (j ∙ ap (run f (map number (take (b * k + b - b * k) (drop (b * k) ws))))
+    (ap (λ c. replicate c y) m ∙ part_of_same (b * k) (b * k + b - b * k) n y (omega arith)))
 
 pub over_color : {A B : Type 0} (f : A → B → A) (i n : ℕ) (y : B) (xs : List A) → length xs ≤ i → length xs ≡ n → run f xs (take i (replicate n y)) ≡ map (λ x. f x y) xs
 over_color f i n y [] h e = refl

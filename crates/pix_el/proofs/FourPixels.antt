@@ -8,12 +8,9 @@ use Rattle.pix_el.specs.Planes.{by_fours, premultiplied_four}
 use Rattle.pix_el.specs.PixelComposite.{pixel_composite, matted_color}
 use Rattle.pix_chan.specs.Number.{saturating_sum}
 use Rattle.pix_chan.specs.Product.{channel_product}
-use Rattle.pix_chan.proofs.Planes.{four_times}
+use Rattle.pix_chan.proofs.Planes.{cons, four_times}
 use Rattle.pix_chan.proofs.Sixteen.{is_sixteen}
-use Rattle.pix_el.proofs.FourPlanes.{four_of}
-
-cons : {A : Type 0} {x y : A} {xs ys : List A} → x ≡ y → xs ≡ ys → x ∷ xs ≡ y ∷ ys
-cons e f = cc
+use Rattle.pix_el.proofs.FourPlanes.{four_of, one_channel}
 
 -- one color four times
 pub color_four_times : {C : Type 0} (number : C → ℕ) (a b c d : C) (color : List ℕ) → number a ∷ number b ∷ number c ∷ number d ∷ [] ≡ color
@@ -25,14 +22,13 @@ module _ (max : ℕ) (op : Op) where
   abbrev pub rests : List ℕ → List ℕ
   rests cs = map (λ x. max - x) (last_of_four cs)
 
-  twice : (a : ℕ) → a ≤ max → max - (max - a) ≡ a
-  twice a h = omega arith
-
   one_pixel : (s0 s1 s2 s3 d0 d1 d2 d3 : ℕ) → s3 ≤ max → d3 ≤ max
       → run_composite max op (max - d3, s0, max - s3) d0 ∷ run_composite max op (max - d3, s1, max - s3) d1
       ∷ run_composite max op (max - d3, s2, max - s3) d2 ∷ run_composite max op (max - d3, s3, max - s3) d3 ∷ []
       ≡ pixel_composite (four_of max 0) op (s0 ∷ s1 ∷ s2 ∷ s3 ∷ []) (d0 ∷ d1 ∷ d2 ∷ d3 ∷ [])
-  one_pixel s0 s1 s2 s3 d0 d1 d2 d3 h i = rw (twice s3 h, twice d3 i) refl
+  one_pixel s0 s1 s2 s3 d0 d1 d2 d3 h i =
+      let each = λ (s d : ℕ). one_channel max op s s3 d d3 h i in
+      cons (each s0 d0) (cons (each s1 d1) (cons (each s2 d2) (cons (each s3 d3) refl)))
 
   pub fours_composited : (n : ℕ) (ss ds : List ℕ) → length ss ≡ four_times n → length ds ≡ four_times n
       → Each1 (λ v. v ≤ max) ss → Each1 (λ v. v ≤ max) ds

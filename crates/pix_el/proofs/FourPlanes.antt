@@ -3,7 +3,7 @@ use Rattle.std.proofs.Common.{◌≡◌, ℕ, zero, suc, ◌-◌, ◌≤◌, Lis
 use lib.Lanes.{Each1}
 use borrow.Rule.Slice.PartMut.{put_mid}
 use Rattle.std.specs.declared.ops.Range.{Range}
-use Rattle.std.proofs.lemmas.List.{length-map}
+use Rattle.std.proofs.lemmas.List.{length-map, length-append, map-append}
 use Rattle.pix_chan.specs.declared.ops.Op.{Op}
 use Rattle.pix_chan.specs.Channel.{IsNumbered}
 use Rattle.pix_chan.specs.Composite.{channel_composite}
@@ -13,28 +13,15 @@ use Rattle.pix_chan.specs.Planes.{in_turn}
 use Rattle.pix_el.specs.Planes.{by_fours, ArePlanes, run_hue, run_first}
 use Rattle.pix_el.specs.Pixel.{Layout, channel, lies_in}
 use Rattle.pix_el.specs.PixelComposite.{pixel_composite}
-use Rattle.pix_chan.proofs.Planes.{four_times}
-use Rattle.pix_chan.proofs.Sixteen.{is_sixteen}
-
-cons : {A : Type 0} {x y : A} {xs ys : List A} → x ≡ y → xs ≡ ys → x ∷ xs ≡ y ∷ ys
-cons e f = cc
+use Rattle.pix_chan.proofs.Planes.{cons, four_times}
+use Rattle.pix_chan.proofs.Sixteen.{is_four, is_sixteen}
 
 pub all_set : {A : Type 0} (p : List A) (a b c d : A) → length p ≡ 4 → set (set (set (set p 0 a) 1 b) 2 c) 3 d ≡ a ∷ b ∷ c ∷ d ∷ []
-all_set [] a b c d h = absurd (omega arith)
-all_set (w ∷ []) a b c d h = absurd (omega arith)
-all_set (w ∷ x ∷ []) a b c d h = absurd (omega arith)
-all_set (w ∷ x ∷ y ∷ []) a b c d h = absurd (omega arith)
-all_set (w ∷ x ∷ y ∷ z ∷ []) a b c d h = refl
-all_set (w ∷ x ∷ y ∷ z ∷ v ∷ p) a b c d h = absurd (omega arith)
+all_set p a b c d h = rw (← (is_four p h).1) refl
 
 -- a list of four is its elements, whatever is named for places past its end
 whole4 : {A : Type 0} (xs : List A) (d0 d1 d2 d3 : A) → length xs ≡ 4 → get_or xs 0 d0 ∷ get_or xs 1 d1 ∷ get_or xs 2 d2 ∷ get_or xs 3 d3 ∷ [] ≡ xs
-whole4 [] d0 d1 d2 d3 h = absurd (omega arith)
-whole4 (x0 ∷ []) d0 d1 d2 d3 h = absurd (omega arith)
-whole4 (x0 ∷ x1 ∷ []) d0 d1 d2 d3 h = absurd (omega arith)
-whole4 (x0 ∷ x1 ∷ x2 ∷ []) d0 d1 d2 d3 h = absurd (omega arith)
-whole4 (x0 ∷ x1 ∷ x2 ∷ x3 ∷ []) d0 d1 d2 d3 h = refl
-whole4 (x0 ∷ x1 ∷ x2 ∷ x3 ∷ y ∷ ys) d0 d1 d2 d3 h = absurd (omega arith)
+whole4 xs d0 d1 d2 d3 h = rw (← (is_four xs h).1) refl
 
 -- what is made of each of four
 pub mapped4 : {A B : Type 0} (f : A → B) (xs : List A) (d0 d1 d2 d3 : A) {r0 r1 r2 r3 : B} → length xs ≡ 4
@@ -54,32 +41,25 @@ by_fours-joined {A = A} (suc n) (x ∷ y ∷ z ∷ w ∷ u) v h = ap (λ (l : Li
 
 -- what a list of sixteen is, by its parts of four
 pub parts : {A : Type 0} (p : List A) → length p ≡ 16 → (take 4 p ++ take 4 (drop 4 p)) ++ (take 4 (drop 8 p) ++ take 4 (drop 12 p)) ≡ p
-parts ([]) h = absurd (omega arith)
-parts (x0 ∷ []) h = absurd (omega arith)
-parts (x0 ∷ x1 ∷ []) h = absurd (omega arith)
-parts (x0 ∷ x1 ∷ x2 ∷ []) h = absurd (omega arith)
-parts (x0 ∷ x1 ∷ x2 ∷ x3 ∷ []) h = absurd (omega arith)
-parts (x0 ∷ x1 ∷ x2 ∷ x3 ∷ x4 ∷ []) h = absurd (omega arith)
-parts (x0 ∷ x1 ∷ x2 ∷ x3 ∷ x4 ∷ x5 ∷ []) h = absurd (omega arith)
-parts (x0 ∷ x1 ∷ x2 ∷ x3 ∷ x4 ∷ x5 ∷ x6 ∷ []) h = absurd (omega arith)
-parts (x0 ∷ x1 ∷ x2 ∷ x3 ∷ x4 ∷ x5 ∷ x6 ∷ x7 ∷ []) h = absurd (omega arith)
-parts (x0 ∷ x1 ∷ x2 ∷ x3 ∷ x4 ∷ x5 ∷ x6 ∷ x7 ∷ x8 ∷ []) h = absurd (omega arith)
-parts (x0 ∷ x1 ∷ x2 ∷ x3 ∷ x4 ∷ x5 ∷ x6 ∷ x7 ∷ x8 ∷ x9 ∷ []) h = absurd (omega arith)
-parts (x0 ∷ x1 ∷ x2 ∷ x3 ∷ x4 ∷ x5 ∷ x6 ∷ x7 ∷ x8 ∷ x9 ∷ x10 ∷ []) h = absurd (omega arith)
-parts (x0 ∷ x1 ∷ x2 ∷ x3 ∷ x4 ∷ x5 ∷ x6 ∷ x7 ∷ x8 ∷ x9 ∷ x10 ∷ x11 ∷ []) h = absurd (omega arith)
-parts (x0 ∷ x1 ∷ x2 ∷ x3 ∷ x4 ∷ x5 ∷ x6 ∷ x7 ∷ x8 ∷ x9 ∷ x10 ∷ x11 ∷ x12 ∷ []) h = absurd (omega arith)
-parts (x0 ∷ x1 ∷ x2 ∷ x3 ∷ x4 ∷ x5 ∷ x6 ∷ x7 ∷ x8 ∷ x9 ∷ x10 ∷ x11 ∷ x12 ∷ x13 ∷ []) h = absurd (omega arith)
-parts (x0 ∷ x1 ∷ x2 ∷ x3 ∷ x4 ∷ x5 ∷ x6 ∷ x7 ∷ x8 ∷ x9 ∷ x10 ∷ x11 ∷ x12 ∷ x13 ∷ x14 ∷ []) h = absurd (omega arith)
-parts (x0 ∷ x1 ∷ x2 ∷ x3 ∷ x4 ∷ x5 ∷ x6 ∷ x7 ∷ x8 ∷ x9 ∷ x10 ∷ x11 ∷ x12 ∷ x13 ∷ x14 ∷ x15 ∷ []) h = refl
-parts (x0 ∷ x1 ∷ x2 ∷ x3 ∷ x4 ∷ x5 ∷ x6 ∷ x7 ∷ x8 ∷ x9 ∷ x10 ∷ x11 ∷ x12 ∷ x13 ∷ x14 ∷ x15 ∷ y ∷ ys) h = absurd (omega arith)
+parts p h = rw (← (is_sixteen p h).1) refl
 
-is_four : {A : Type 0} (p : List A) → length p ≡ 4 → (w : A × A × A × A) × (w.0 ∷ w.1 ∷ w.2 ∷ w.3 ∷ [] ≡ p)
-is_four ([]) h = absurd (omega arith)
-is_four (x0 ∷ []) h = absurd (omega arith)
-is_four (x0 ∷ x1 ∷ []) h = absurd (omega arith)
-is_four (x0 ∷ x1 ∷ x2 ∷ []) h = absurd (omega arith)
-is_four (x0 ∷ x1 ∷ x2 ∷ x3 ∷ []) h = ((x0, x1, x2, x3), refl)
-is_four (x0 ∷ x1 ∷ x2 ∷ x3 ∷ y ∷ ys) h = absurd (omega arith)
+-- the pixels of four lists of sixteen channels
+pub by_parts : {X : Type 0} (f : X → List ℕ) (p q r s : List X) (a b c d : List ℕ) → length a ≡ 16 → length b ≡ 16 → length c ≡ 16 → length d ≡ 16
+    → map f p ≡ by_fours a → map f q ≡ by_fours b → map f r ≡ by_fours c → map f s ≡ by_fours d
+    → map f ((p ++ q) ++ (r ++ s)) ≡ by_fours ((a ++ b) ++ (c ++ d))
+by_parts f p q r s a b c d h i j k e l m n =
+    rw (
+      by_fours-joined 8 (a ++ b) (c ++ d) (omega (arith, length-append a b)),
+      by_fours-joined 4 a b h,
+      by_fours-joined 4 c d j,
+      map-append f (p ++ q) (r ++ s),
+      map-append f p q,
+      map-append f r s,
+      e,
+      l,
+      m,
+      n,
+    ) refl
 
 -- four parts of four, written one after the other
 pub parts_put : {A : Type 0} (p a b c d : List A) → length p ≡ 16 → length a ≡ 4 → length b ≡ 4 → length c ≡ 4 → length d ≡ 4
@@ -94,55 +74,31 @@ parts_put p a b c d h i j k l =
 
 -- the planes that pixels are made of are their planes
 module _ (max : ℕ) where
-  plane1 : (w x y z : List ℕ) → length x ≡ length w → length y ≡ length w → length z ≡ length w → w ≡ map (λ p. channel max p 0) (by_fours (in_turn w x y z))
-  plane1 [] [] [] [] h i j = refl
-  plane1 [] [] [] (z ∷ zs) h i j = absurd (omega arith)
-  plane1 [] [] (y ∷ ys) zs h i j = absurd (omega arith)
-  plane1 [] (x ∷ xs) ys zs h i j = absurd (omega arith)
-  plane1 (w ∷ ws) [] ys zs h i j = absurd (omega arith)
-  plane1 (w ∷ ws) (x ∷ xs) [] zs h i j = absurd (omega arith)
-  plane1 (w ∷ ws) (x ∷ xs) (y ∷ ys) [] h i j = absurd (omega arith)
-  plane1 (w ∷ ws) (x ∷ xs) (y ∷ ys) (z ∷ zs) h i j = ap (λ (l : List ℕ). w ∷ l) (plane1 ws xs ys zs (omega arith) (omega arith) (omega arith))
-
-  plane2 : (w x y z : List ℕ) → length x ≡ length w → length y ≡ length w → length z ≡ length w → x ≡ map (λ p. channel max p 1) (by_fours (in_turn w x y z))
-  plane2 [] [] [] [] h i j = refl
-  plane2 [] [] [] (z ∷ zs) h i j = absurd (omega arith)
-  plane2 [] [] (y ∷ ys) zs h i j = absurd (omega arith)
-  plane2 [] (x ∷ xs) ys zs h i j = absurd (omega arith)
-  plane2 (w ∷ ws) [] ys zs h i j = absurd (omega arith)
-  plane2 (w ∷ ws) (x ∷ xs) [] zs h i j = absurd (omega arith)
-  plane2 (w ∷ ws) (x ∷ xs) (y ∷ ys) [] h i j = absurd (omega arith)
-  plane2 (w ∷ ws) (x ∷ xs) (y ∷ ys) (z ∷ zs) h i j = ap (λ (l : List ℕ). x ∷ l) (plane2 ws xs ys zs (omega arith) (omega arith) (omega arith))
-
-  plane3 : (w x y z : List ℕ) → length x ≡ length w → length y ≡ length w → length z ≡ length w → y ≡ map (λ p. channel max p 2) (by_fours (in_turn w x y z))
-  plane3 [] [] [] [] h i j = refl
-  plane3 [] [] [] (z ∷ zs) h i j = absurd (omega arith)
-  plane3 [] [] (y ∷ ys) zs h i j = absurd (omega arith)
-  plane3 [] (x ∷ xs) ys zs h i j = absurd (omega arith)
-  plane3 (w ∷ ws) [] ys zs h i j = absurd (omega arith)
-  plane3 (w ∷ ws) (x ∷ xs) [] zs h i j = absurd (omega arith)
-  plane3 (w ∷ ws) (x ∷ xs) (y ∷ ys) [] h i j = absurd (omega arith)
-  plane3 (w ∷ ws) (x ∷ xs) (y ∷ ys) (z ∷ zs) h i j = ap (λ (l : List ℕ). y ∷ l) (plane3 ws xs ys zs (omega arith) (omega arith) (omega arith))
-
-  plane4 : (w x y z : List ℕ) → length x ≡ length w → length y ≡ length w → length z ≡ length w → z ≡ map (λ p. channel max p 3) (by_fours (in_turn w x y z))
-  plane4 [] [] [] [] h i j = refl
-  plane4 [] [] [] (z ∷ zs) h i j = absurd (omega arith)
-  plane4 [] [] (y ∷ ys) zs h i j = absurd (omega arith)
-  plane4 [] (x ∷ xs) ys zs h i j = absurd (omega arith)
-  plane4 (w ∷ ws) [] ys zs h i j = absurd (omega arith)
-  plane4 (w ∷ ws) (x ∷ xs) [] zs h i j = absurd (omega arith)
-  plane4 (w ∷ ws) (x ∷ xs) (y ∷ ys) [] h i j = absurd (omega arith)
-  plane4 (w ∷ ws) (x ∷ xs) (y ∷ ys) (z ∷ zs) h i j = ap (λ (l : List ℕ). z ∷ l) (plane4 ws xs ys zs (omega arith) (omega arith) (omega arith))
+  planes_in_turn : (w x y z : List ℕ) → length x ≡ length w → length y ≡ length w → length z ≡ length w → ArePlanes max (by_fours (in_turn w x y z)) w x y z
+  planes_in_turn [] [] [] [] h i j = record { first = refl; second = refl; third = refl; fourth = refl }
+  planes_in_turn [] [] [] (z ∷ zs) h i j = absurd (omega arith)
+  planes_in_turn [] [] (y ∷ ys) zs h i j = absurd (omega arith)
+  planes_in_turn [] (x ∷ xs) ys zs h i j = absurd (omega arith)
+  planes_in_turn (w ∷ ws) [] ys zs h i j = absurd (omega arith)
+  planes_in_turn (w ∷ ws) (x ∷ xs) [] zs h i j = absurd (omega arith)
+  planes_in_turn (w ∷ ws) (x ∷ xs) (y ∷ ys) [] h i j = absurd (omega arith)
+  planes_in_turn (w ∷ ws) (x ∷ xs) (y ∷ ys) (z ∷ zs) h i j =
+      let rest = planes_in_turn ws xs ys zs (omega arith) (omega arith) (omega arith) in
+      record { first = cons refl rest.first; second = cons refl rest.second; third = cons refl rest.third; fourth = cons refl rest.fourth }
 
   pub are_planes : (w x y z : List ℕ) (pixels : List (List ℕ)) → by_fours (in_turn w x y z) ≡ pixels → length x ≡ length w → length y ≡ length w → length z ≡ length w
       → ArePlanes max pixels w x y z
-  are_planes w x y z pixels e h i j = subst (λ (l : List (List ℕ)). ArePlanes max l w x y z) e
-      (record { first = plane1 w x y z h i j; second = plane2 w x y z h i j; third = plane3 w x y z h i j; fourth = plane4 w x y z h i j })
+  are_planes w x y z pixels e h i j = subst (λ (l : List (List ℕ)). ArePlanes max l w x y z) e (planes_in_turn w x y z h i j)
 
 -- no number of a channel passes the top
 pub numbers_fit : {C : Type 0} (max : ℕ) (number : C → ℕ) → IsNumbered max number → (cs : List C) → Each1 (λ v. v ≤ max) (map number cs)
 numbers_fit max number numbered [] = tt
 numbers_fit max number numbered (c ∷ cs) = (numbered.fits c, numbers_fit max number numbered cs)
+
+-- a layout by its parts
+pub is_layout : (l : Layout) {max count start end alpha : ℕ} → l.max ≡ max → l.count ≡ count → l.hues.start ≡ start → l.hues.end ≡ end → l.alpha ≡ alpha
+    → l ≡ record { max = max; count = count; hues = record { start = start; end = end }; alpha = alpha }
+is_layout l e f g h i = rw (← e, ← f, ← g, ← h, ← i) refl
 
 -- a layout of four channels, of which the first so many are hues
 abbrev pub four_of : ℕ → ℕ → Layout
@@ -150,20 +106,14 @@ four_of max h = record { max = max; count = 4; hues = record { start = 0; end = 
 
 pub is_four_of : (l : Layout) (max : ℕ) (hues : Range ℕ) (alpha : ℕ) → l ≡ record { max = max; count = l.count; hues = hues; alpha = alpha }
     → l.count ≡ 4 → l.alpha ≡ 3 → hues.start ≡ 0 → l ≡ four_of max l.hues.end
-is_four_of l max hues alpha e f g i =
-    let r : l.max ≡ max = ap (λ (m : Layout). m.max) e in
-    let s : l.hues.start ≡ 0 = ap (λ (m : Layout). m.hues.start) e ∙ i in
-    let a : l ≡ record { max = max; count = l.count; hues = l.hues; alpha = l.alpha } = ap (λ (x : ℕ). let m : Layout = record { max = x; count = l.count; hues = l.hues; alpha = l.alpha } in m) r in
-    let b = ap (λ (x : ℕ). let m : Layout = record { max = max; count = x; hues = l.hues; alpha = l.alpha } in m) f in
-    let c = ap (λ (x : ℕ). let m : Layout = record { max = max; count = 4; hues = l.hues; alpha = x } in m) g in
-    let d = ap (λ (x : ℕ). let m : Layout = record { max = max; count = 4; hues = record { start = x; end = l.hues.end }; alpha = 3 } in m) s in
-    a ∙ b ∙ c ∙ d
+is_four_of l max hues alpha e f g i = is_layout l (ap (λ (m : Layout). m.max) e) f (ap (λ (m : Layout). m.hues.start) e ∙ i) refl g
 
 module _ (max : ℕ) (op : Op) where
-  abbrev plane : ℕ → List (List ℕ) → List ℕ
+  abbrev pub plane : ℕ → List (List ℕ) → List ℕ
   plane k = map (λ p. channel max p k)
 
-  abbrev rests : List ℕ → List ℕ
+  -- one minus each
+  abbrev pub rests : List ℕ → List ℕ
   rests = map (λ x. max - x)
 
   abbrev made : (ℕ × ℕ × ℕ → ℕ → ℕ) → ℕ → List (List ℕ) → List (List ℕ) → List ℕ
@@ -172,7 +122,7 @@ module _ (max : ℕ) (op : Op) where
   twice : (a : ℕ) → a ≤ max → max - (max - a) ≡ a
   twice a h = omega arith
 
-  one_channel : (s sa d da : ℕ) → sa ≤ max → da ≤ max
+  pub one_channel : (s sa d da : ℕ) → sa ≤ max → da ≤ max
       → run_composite max op (max - da, s, max - sa) d ≡ channel_composite max op s sa d da
   one_channel s sa d da h i = rw (twice sa h, twice da i) refl
 

@@ -1,12 +1,13 @@
 -- The planes of a color through mattes.
 use Rattle.std.proofs.Common.{◌≡◌, ℕ, zero, suc, List, [], ◌∷◌, length, map, get_or, refl, ap, ◌∙◌, arith, replicate, sym, ◌≤◌, Bool, if◌then◌else◌}
+use Rattle.pix_chan.specs.declared.ops.Op.{Op}
 use Rattle.pix_chan.specs.Product.{channel_product}
 use Rattle.pix_chan.specs.Runs.{over}
 use Rattle.pix_chan.proofs.Sixteen.{whole16}
 use Rattle.std.specs.declared.ops.Range.{Range}
 use Rattle.pix_el.specs.Planes.{ArePlanes, AreTwoPlanes, matted_first}
-use Rattle.pix_el.specs.Pixel.{channel, lies_in}
-use Rattle.pix_el.specs.PixelComposite.{matted_color}
+use Rattle.pix_el.specs.Pixel.{Layout, channel, lies_in}
+use Rattle.pix_el.specs.PixelComposite.{matted_color, matted_composite, matte_value}
 use Rattle.pix_el.proofs.FourPlanes.{four_of}
 use Rattle.pix_el.proofs.TwoPlanes.{two_of}
 
@@ -27,6 +28,13 @@ pub over-mapped : {A B C : Type 0} (f : B → C → C) (g : A → B) (xs : List 
 over-mapped f g xs [] = refl
 over-mapped f g [] (y ∷ ys) = refl
 over-mapped {C = C} f g (x ∷ xs) (y ∷ ys) = ap (λ (l : List C). f (g x) y ∷ l) (over-mapped f g xs ys)
+
+-- a color composited through the values of mattes, by the mattes' own numbers
+pub by_values : (layout : Layout) (op : Op) (max : ℕ) → layout.max ≡ max → (mattes dest : List (List ℕ)) {values color numbers : List ℕ}
+    → color ≡ numbers → values ≡ map (λ matte. channel max matte 0) mattes
+    → over (λ m. matted_composite layout op m color) values dest ≡ over (λ matte. matted_composite layout op (matte_value layout matte) numbers) mattes dest
+by_values layout op max e mattes dest {numbers = numbers} f h =
+    rw (f, h, ← e) (over-mapped (λ m. matted_composite layout op m numbers) (matte_value layout) mattes dest)
 
 -- equal functions of each of a list
 all_alike : {A B : Type 0} {f g : A → B} (xs : List A) → ((x : A) → f x ≡ g x) → map f xs ≡ map g xs

@@ -1,20 +1,18 @@
 -- Pixels of two channels by planes.
-use Rattle.std.proofs.Common.{◌≡◌, ℕ, zero, suc, ◌+◌, ◌-◌, ◌≤◌, List, [], ◌∷◌, ◌++◌, length, map, drop, refl, ap, sym, subst, ◌∙◌, arith, set, replicate}
+use Rattle.std.proofs.Common.{◌≡◌, ℕ, zero, suc, ◌+◌, ◌≤◌, List, [], ◌∷◌, ◌++◌, length, map, drop, refl, ap, sym, subst, ◌∙◌, arith, set, replicate}
 use lib.Lanes.{Each1}
 use borrow.Rule.Slice.PartMut.{put_mid}
 use Rattle.std.specs.declared.ops.Range.{Range}
 use Rattle.std.proofs.lemmas.List.{length-map}
 use Rattle.pix_chan.specs.declared.ops.Op.{Op}
-use Rattle.pix_chan.specs.Composite.{channel_composite}
 use Rattle.pix_chan.specs.Runs.{over, triples, run_composite}
 use Rattle.pix_chan.specs.Planes.{both_in_turn}
 use Rattle.pix_el.specs.Planes.{by_twos, AreTwoPlanes}
 use Rattle.pix_el.specs.Pixel.{Layout, channel}
 use Rattle.pix_el.specs.PixelComposite.{pixel_composite}
 use Rattle.pix_chan.proofs.Sixteen.{is_eight, is_sixteen}
-
-cons : {A : Type 0} {x y : A} {xs ys : List A} → x ≡ y → xs ≡ ys → x ∷ xs ≡ y ∷ ys
-cons e f = cc
+use Rattle.pix_chan.proofs.Planes.{cons}
+use Rattle.pix_el.proofs.FourPlanes.{is_layout, plane, rests, one_channel}
 
 pub two_set : {A : Type 0} (p : List A) (a b : A) → length p ≡ 2 → set (set p 0 a) 1 b ≡ a ∷ b ∷ []
 two_set [] a b h = absurd (omega arith)
@@ -37,20 +35,16 @@ halves_put p a b h i j =
     rw (← e.1, ← f.1, ← q.1) refl
 
 module _ (max : ℕ) where
-  plane1 : (w x : List ℕ) → length x ≡ length w → w ≡ map (λ p. channel max p 0) (by_twos (both_in_turn w x))
-  plane1 [] [] h = refl
-  plane1 [] (x ∷ xs) h = absurd (omega arith)
-  plane1 (w ∷ ws) [] h = absurd (omega arith)
-  plane1 (w ∷ ws) (x ∷ xs) h = ap (λ (l : List ℕ). w ∷ l) (plane1 ws xs (omega arith))
-
-  plane2 : (w x : List ℕ) → length x ≡ length w → x ≡ map (λ p. channel max p 1) (by_twos (both_in_turn w x))
-  plane2 [] [] h = refl
-  plane2 [] (x ∷ xs) h = absurd (omega arith)
-  plane2 (w ∷ ws) [] h = absurd (omega arith)
-  plane2 (w ∷ ws) (x ∷ xs) h = ap (λ (l : List ℕ). x ∷ l) (plane2 ws xs (omega arith))
+  planes_in_turn : (w x : List ℕ) → length x ≡ length w → AreTwoPlanes max (by_twos (both_in_turn w x)) w x
+  planes_in_turn [] [] h = record { first = refl; second = refl }
+  planes_in_turn [] (x ∷ xs) h = absurd (omega arith)
+  planes_in_turn (w ∷ ws) [] h = absurd (omega arith)
+  planes_in_turn (w ∷ ws) (x ∷ xs) h =
+      let rest = planes_in_turn ws xs (omega arith) in
+      record { first = cons refl rest.first; second = cons refl rest.second }
 
   pub are_two_planes : (w x : List ℕ) (pixels : List (List ℕ)) → by_twos (both_in_turn w x) ≡ pixels → length x ≡ length w → AreTwoPlanes max pixels w x
-  are_two_planes w x pixels e h = subst (λ (l : List (List ℕ)). AreTwoPlanes max l w x) e (record { first = plane1 w x h; second = plane2 w x h })
+  are_two_planes w x pixels e h = subst (λ (l : List (List ℕ)). AreTwoPlanes max l w x) e (planes_in_turn w x h)
 
 -- a layout of two channels with no hue
 abbrev pub two_of : ℕ → Layout
@@ -58,44 +52,23 @@ two_of max = record { max = max; count = 2; hues = record { start = 0; end = 0 }
 
 pub is_two_of : (l : Layout) (max : ℕ) (hues : Range ℕ) (alpha : ℕ) → l ≡ record { max = max; count = l.count; hues = hues; alpha = alpha }
     → l.count ≡ 2 → l.alpha ≡ 1 → l.hues.end ≡ 0 → hues.start ≡ 0 → l ≡ two_of max
-is_two_of l max hues alpha e f g h i =
-    let r : l.max ≡ max = ap (λ (m : Layout). m.max) e in
-    let s : l.hues.start ≡ 0 = ap (λ (m : Layout). m.hues.start) e ∙ i in
-    let a : l ≡ record { max = max; count = l.count; hues = l.hues; alpha = l.alpha } = ap (λ (x : ℕ). let m : Layout = record { max = x; count = l.count; hues = l.hues; alpha = l.alpha } in m) r in
-    let b = ap (λ (x : ℕ). let m : Layout = record { max = max; count = x; hues = l.hues; alpha = l.alpha } in m) f in
-    let c = ap (λ (x : ℕ). let m : Layout = record { max = max; count = 2; hues = l.hues; alpha = x } in m) g in
-    let d = ap (λ (x : ℕ). let m : Layout = record { max = max; count = 2; hues = record { start = x; end = l.hues.end }; alpha = 1 } in m) s in
-    let k = ap (λ (x : ℕ). let m : Layout = record { max = max; count = 2; hues = record { start = 0; end = x }; alpha = 1 } in m) h in
-    a ∙ b ∙ c ∙ d ∙ k
+is_two_of l max hues alpha e f g h i = is_layout l (ap (λ (m : Layout). m.max) e) f (ap (λ (m : Layout). m.hues.start) e ∙ i) h g
 
 module _ (max : ℕ) (op : Op) where
-  abbrev plane : ℕ → List (List ℕ) → List ℕ
-  plane k = map (λ p. channel max p k)
-
-  abbrev rests : List ℕ → List ℕ
-  rests = map (λ x. max - x)
-
   abbrev made : ℕ → List (List ℕ) → List (List ℕ) → List ℕ
-  made k ss ds = over (run_composite max op) (triples (rests (plane 1 ds)) (plane k ss) (rests (plane 1 ss))) (plane k ds)
+  made k ss ds = over (run_composite max op) (triples (rests max op (plane max op 1 ds)) (plane max op k ss) (rests max op (plane max op 1 ss))) (plane max op k ds)
 
-  twice : (a : ℕ) → a ≤ max → max - (max - a) ≡ a
-  twice a h = omega arith
-
-  one_channel : (s sa d da : ℕ) → sa ≤ max → da ≤ max
-      → run_composite max op (max - da, s, max - sa) d ≡ channel_composite max op s sa d da
-  one_channel s sa d da h i = rw (twice sa h, twice da i) refl
-
-  all_composited : (ss ds : List (List ℕ)) → length ss ≡ length ds → Each1 (λ v. v ≤ max) (plane 1 ss) → Each1 (λ v. v ≤ max) (plane 1 ds)
+  all_composited : (ss ds : List (List ℕ)) → length ss ≡ length ds → Each1 (λ v. v ≤ max) (plane max op 1 ss) → Each1 (λ v. v ≤ max) (plane max op 1 ds)
       → by_twos (both_in_turn (made 0 ss ds) (made 1 ss ds)) ≡ over (pixel_composite (two_of max) op) ss ds
   all_composited [] [] h f g = refl
   all_composited [] (d ∷ ds) h f g = absurd (omega arith)
   all_composited (s ∷ ss) [] h f g = absurd (omega arith)
   all_composited (s ∷ ss) (d ∷ ds) h f g =
-      let each = λ (k : ℕ). one_channel (channel max s k) (channel max s 1) (channel max d k) (channel max d 1) f.0 g.0 in
+      let each = λ (k : ℕ). one_channel max op (channel max s k) (channel max s 1) (channel max d k) (channel max d 1) f.0 g.0 in
       cons (cons (each 0) (cons (each 1) refl)) (all_composited ss ds (omega arith) f.1 g.1)
 
   pub two_composited : (ss ds : List (List ℕ)) {a e w z da1 sa1 w' z' : List ℕ} → AreTwoPlanes max ss a e → AreTwoPlanes max ds w z
-      → da1 ≡ rests z → sa1 ≡ rests e
+      → da1 ≡ rests max op z → sa1 ≡ rests max op e
       → w' ≡ over (run_composite max op) (triples da1 a sa1) w → z' ≡ over (run_composite max op) (triples da1 e sa1) z
       → length e ≡ length z → Each1 (λ v. v ≤ max) e → Each1 (λ v. v ≤ max) z
       → by_twos (both_in_turn w' z') ≡ over (pixel_composite (two_of max) op) ss ds

@@ -100,7 +100,8 @@ impl Rgb {
         )
     }
 
-    /// Returns whether red, green, blue and alpha are each at most those of `rhs`. An alpha that is missing counts as the maximum.
+    /// Returns whether red, green, blue and alpha are each at most those of `rhs`. An alpha that is
+    /// missing counts as the maximum.
     pub fn within_threshold<P>(p: P, rhs: P) -> bool
     where
         P: Pixel<Model = Self>,

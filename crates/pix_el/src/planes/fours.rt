@@ -1,4 +1,5 @@
-//! Pixels of four channels without a hue, four at a time and with no planes: sixteen channels, pixel by pixel.
+//! Pixels of four channels without a hue, four at a time and with no planes: sixteen channels,
+//! pixel by pixel.
 ghost use Rattle.std.specs.Prelude.{◌≡◌, [], ◌∷◌, length, map, replicate};
 ghost use Rattle.pix_chan.specs.Runs.{over};
 ghost use Rattle.pix_el.specs.Planes.{by_fours, premultiplied_four};
@@ -74,7 +75,8 @@ pub(super) fn put_four_pixels<P: Pixel>(p: &mut [P], c: [P::Chan; 16])
     put_pixel(&mut p[3], c[12], c[13], c[14], c[15]);
 }
 
-/// Composites the four pixels of these channels with those of `dst`: at each index, the alphas are those of its own pixel.
+/// Composites the four pixels of these channels with those of `dst`: at each index, the
+/// alphas are those of its own pixel.
 ///
 /// Condition: the alpha is the last channel, and none is a hue.
 #[inline(always)]
@@ -107,7 +109,8 @@ pub(super) fn composite_matted<const N: usize, A: Alpha, O: Blend, P: Pixel>(
     requires no_hue { P.layout.hues.end ≡ 0 }
     requires size { length dst.old ≡ 4 }
     requires whole { length src.now ≡ 4 }
-    ensures { map P.numbers dst.new ≡ over (λ m. matted_composite P.layout O.op m (P.numbers clr.now))
+    ensures { map P.numbers dst.new ≡
+        over (λ m. matted_composite P.layout O.op m (P.numbers clr.now))
         (map (λ matte. channel P.Chan.max matte 0) (map (matte_numbers P.Chan.number) src.now))
         (map P.numbers dst.old) }
 {

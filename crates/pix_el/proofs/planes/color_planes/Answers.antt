@@ -1,8 +1,8 @@
-use Rattle.std.proofs.Common.{◌≡◌, ◌+◌, ◌*◌, ◌-◌, ◌∙◌, length, take, drop, sym, ap, arith, map, refl, replicate, List, ℕ}
+use Rattle.std.proofs.Common.{length, sym, arith, map}
 use Rattle.pix_el.proofs.FourPlanes.{color_are_planes}
 use Rattle.pix_el.proofs.TwoPlanes.{color_are_two_planes}
 use Rattle.pix_el.specs.PixelComposite.{pixel_composite}
-use Rattle.pix_chan.proofs.Slices.{run, over-nil, mapped_run_step, part_of_same, length-replicate}
+use Rattle.pix_chan.proofs.Slices.{over-nil, next_same_block}
 use Rattle.pix_el.proofs.planes.color_planes.Goals as goal
 
 pub loop-i-init : goal.loop-i-init
@@ -11,18 +11,9 @@ loop-i-init g c = sym (over-nil _ (map g.P.Pixel.numbers c.args.dst.now))
 pub loop-i-preserved : goal.loop-i-preserved
 loop-i-preserved g c =
     let v = g.P.Pixel.numbers in
-    let f = λ (d s : List ℕ). pixel_composite g.P.Pixel.layout g.O.Blend.op s d in
-    let at = 4 * c.loop-i.i in
-    let k' = 4 * c.loop-i.i + 4 - 4 * c.loop-i.i in
-    let m : 4 * c.loop-i.i + 4 ≡ 4 * (c.loop-i.i + 1) = omega arith in
-    let e : 4 ≡ k' = omega arith in
-    let n = length c.args.dst.now in
-    let ys = replicate n (v c.args.clr.now) in
-    mapped_run_step v f at 4 (at + 4) c.args.dst.now c.loop-i.dst c.composite_four.new.dst ys
-    c.loop-i.invariant refl (omega arith) (omega (arith, length-replicate n (v c.args.clr.now)))
-    (c.composite_four.ensures
-    ∙ ap (λ (l : List (List ℕ)). run f (map v (take k' (drop at c.loop-i.dst))) l) (c.four_times-four.ensures ∙ ap (λ z. replicate z (v c.args.clr.now)) e ∙ part_of_same at k' n (v c.args.clr.now) (omega arith)))
-    ∙ ap (λ k. run f (map v c.args.dst.now) (take k ys)) m
+    next_same_block v (λ d s. pixel_composite g.P.Pixel.layout g.O.Blend.op s d) 4 c.loop-i.i (length c.args.dst.now) c.args.dst.now c.loop-i.dst c.composite_four.new.dst (v c.args.clr.now)
+    c.loop-i.invariant (omega arith) (omega arith)
+    (rw (← c.four_times-four.ensures) c.composite_four.ensures)
 
 pub loop-k-init : goal.loop-k-init
 loop-k-init g c = sym (over-nil _ (map g.P.Pixel.numbers c.args.dst.now))
@@ -30,19 +21,9 @@ loop-k-init g c = sym (over-nil _ (map g.P.Pixel.numbers c.args.dst.now))
 pub loop-k-preserved : goal.loop-k-preserved
 loop-k-preserved g c =
     let v = g.P.Pixel.numbers in
-    let w = g.P.Chan.Channel.number in
-    let f = λ (d s : List ℕ). pixel_composite g.P.Pixel.layout g.O.Blend.op s d in
-    let at = 16 * c.loop-k.k in
-    let k' = 16 * c.loop-k.k + 16 - 16 * c.loop-k.k in
-    let m : 16 * c.loop-k.k + 16 ≡ 16 * (c.loop-k.k + 1) = omega arith in
-    let e : 16 ≡ k' = omega arith in
-    let n = length c.args.dst.now in
-    let ys = replicate n (v c.args.clr.now) in
-    mapped_run_step v f at 16 (at + 16) c.args.dst.now c.loop-k.dst c.composite_sixteen.new.dst ys
-    c.loop-k.invariant refl (omega arith) (omega (arith, length-replicate n (v c.args.clr.now)))
-    (c.composite_sixteen.ensures (replicate 16 (v c.args.clr.now)) (color_are_planes g.P.Chan.Channel.max w c.four_channels-a.result.0 c.four_channels-a.result.1 c.four_channels-a.result.2 c.four_channels-a.result.3 (v c.args.clr.now) c.four_channels-a.ensures)
-    ∙ ap (λ (l : List (List ℕ)). run f (map v (take k' (drop at c.loop-k.dst))) l) (ap (λ z. replicate z (v c.args.clr.now)) e ∙ part_of_same at k' n (v c.args.clr.now) (omega arith)))
-    ∙ ap (λ k. run f (map v c.args.dst.now) (take k ys)) m
+    next_same_block v (λ d s. pixel_composite g.P.Pixel.layout g.O.Blend.op s d) 16 c.loop-k.k (length c.args.dst.now) c.args.dst.now c.loop-k.dst c.composite_sixteen.new.dst (v c.args.clr.now)
+    c.loop-k.invariant (omega arith) (omega arith)
+    (c.composite_sixteen.ensures _ (color_are_planes g.P.Chan.Channel.max g.P.Chan.Channel.number c.four_channels-a.result.0 c.four_channels-a.result.1 c.four_channels-a.result.2 c.four_channels-a.result.3 (v c.args.clr.now) c.four_channels-a.ensures))
 
 pub loop-j-init : goal.loop-j-init
 loop-j-init g c = sym (over-nil _ (map g.P.Pixel.numbers c.args.dst.now))
@@ -50,19 +31,9 @@ loop-j-init g c = sym (over-nil _ (map g.P.Pixel.numbers c.args.dst.now))
 pub loop-j-preserved : goal.loop-j-preserved
 loop-j-preserved g c =
     let v = g.P.Pixel.numbers in
-    let w = g.P.Chan.Channel.number in
-    let f = λ (d s : List ℕ). pixel_composite g.P.Pixel.layout g.O.Blend.op s d in
-    let at = 16 * c.loop-j.j in
-    let k' = 16 * c.loop-j.j + 16 - 16 * c.loop-j.j in
-    let m : 16 * c.loop-j.j + 16 ≡ 16 * (c.loop-j.j + 1) = omega arith in
-    let e : 16 ≡ k' = omega arith in
-    let n = length c.args.dst.now in
-    let ys = replicate n (v c.args.clr.now) in
-    mapped_run_step v f at 16 (at + 16) c.args.dst.now c.loop-j.dst c.composite_sixteen-in-loop-j.new.dst ys
-    c.loop-j.invariant refl (omega arith) (omega (arith, length-replicate n (v c.args.clr.now)))
-    (c.composite_sixteen-in-loop-j.ensures (replicate 16 (v c.args.clr.now)) (color_are_two_planes g.P.Chan.Channel.max w c.two_channels-a.result.0 c.two_channels-a.result.1 (v c.args.clr.now) c.two_channels-a.ensures)
-    ∙ ap (λ (l : List (List ℕ)). run f (map v (take k' (drop at c.loop-j.dst))) l) (ap (λ z. replicate z (v c.args.clr.now)) e ∙ part_of_same at k' n (v c.args.clr.now) (omega arith)))
-    ∙ ap (λ k. run f (map v c.args.dst.now) (take k ys)) m
+    next_same_block v (λ d s. pixel_composite g.P.Pixel.layout g.O.Blend.op s d) 16 c.loop-j.j (length c.args.dst.now) c.args.dst.now c.loop-j.dst c.composite_sixteen-in-loop-j.new.dst (v c.args.clr.now)
+    c.loop-j.invariant (omega arith) (omega arith)
+    (c.composite_sixteen-in-loop-j.ensures _ (color_are_two_planes g.P.Chan.Channel.max g.P.Chan.Channel.number c.two_channels-a.result.0 c.two_channels-a.result.1 (v c.args.clr.now) c.two_channels-a.ensures))
 
 pub returns-else-has_two-clause-composite : goal.returns-else-has_two-clause-composite
 returns-else-has_two-clause-composite g c = sym (over-nil _ (map g.P.Pixel.numbers c.args.dst.now))

@@ -1,7 +1,6 @@
 use Rattle.std.proofs.Common.{◌≡◌, ◌∙◌, ◌++◌, ap, sym, arith, map, take, drop}
-use Rattle.std.proofs.lemmas.List.{length-map}
+use Rattle.std.proofs.lemmas.List.{length-map, map-append}
 use Rattle.pix_el.specs.Planes.{by_twos}
-use Rattle.pix_chan.proofs.Slices.{map-joined}
 use Rattle.pix_chan.proofs.Sixteen.{halves}
 use Rattle.pix_chan.proofs.Planes.{same_pair}
 use Rattle.pix_el.proofs.TwoPlanes.{are_two_planes, by_twos-joined}
@@ -15,5 +14,5 @@ returns g c =
     let all : by_twos (map v c.eight_pixels.result ++ map v c.eight_pixels-2.result) ≡ map n p
     = by_twos-joined 8 (map v c.eight_pixels.result) (map v c.eight_pixels-2.result) (omega (arith, length-map c.eight_pixels.result v))
     ∙ same_pair c.eight_pixels.ensures c.eight_pixels-2.ensures
-    ∙ sym (map-joined n (take 8 p) (take 8 (drop 8 p))) ∙ ap (map n) (halves p (omega arith)) in
+    ∙ sym (map-append n (take 8 p) (take 8 (drop 8 p))) ∙ ap (map n) (halves p (omega arith)) in
     are_two_planes g.P.Chan.Channel.max _ _ (map n p) (ap by_twos c.split2.ensures ∙ all) (omega (arith, length-map c.split2.result.0 v, length-map c.split2.result.1 v))

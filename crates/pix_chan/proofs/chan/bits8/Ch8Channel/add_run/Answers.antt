@@ -1,43 +1,31 @@
-use Rattle.std.proofs.Common.{◌≡◌, ◌+◌, ◌∙◌, ◌-◌, ◌*◌, ◌/◌, take, drop, sym, ap, arith, map, refl}
-use Rattle.std.proofs.lemmas.List.{length-map, get_or-map}
+use Rattle.std.proofs.Common.{◌≡◌, ◌∙◌, ◌*◌, ◌/◌, ℕ, sym, ap, arith, map, take}
 use Rattle.pix_chan.specs.declared.chan.bits8.Ch8.{Ch8}
 use Rattle.pix_chan.specs.Number.{saturating_sum}
 use Rattle.pix_chan.specs.Channel.{answers_itself}
-use Rattle.pix_chan.proofs.Slices.{run, over-nil, mapped_block_step, mapped_one_step, over_both, part_of}
+use Rattle.pix_chan.proofs.Slices.{run, over-nil, next_paired_block, paired_step, paired_whole}
 use Rattle.pix_chan.proofs.chan.bits8.Ch8Channel.add_run.Goals as goal
 
+abbrev units : Ch8 → ℕ
+units x = x.value
+
 pub loop-k-init : goal.loop-k-init
-loop-k-init c = sym (over-nil (saturating_sum 255) (map (λ (x : Ch8). x.value) c.args.dst.now))
+loop-k-init c = sym (over-nil (saturating_sum 255) (map units c.args.dst.now))
 
 pub loop-k-preserved : goal.loop-k-preserved
 loop-k-preserved c =
-    let v = λ (x : Ch8). x.value in
-    let ys = map v c.args.by.now in
-    let at = 16 * c.loop-k.k in
-    let k' = 16 * c.loop-k.k + 16 - 16 * c.loop-k.k in
-    let m : 16 * c.loop-k.k + 16 ≡ 16 * (c.loop-k.k + 1) = omega arith in
-    let t : k' ≡ 16 = omega arith in
-    mapped_block_step v (saturating_sum 255) at 16 k' (at + 16) c.args.dst.now c.loop-k.dst c.add_block.new.to ys (map v (take k' (drop at c.args.by.now)))
-    c.loop-k.invariant t refl (omega arith) (omega (arith, length-map c.args.by.now v))
-    (part_of v (saturating_sum 255) at k' c.args.by.now ∙ ap (λ z. take z (drop at ys)) t) c.add_block.ensures
-    ∙ ap (λ k. run (saturating_sum 255) (map v c.args.dst.now) (take k ys)) m
+    next_paired_block units (saturating_sum 255) c.args.dst.now c.loop-k.dst c.args.by.now 16 c.loop-k.k c.add_block.new.to
+    c.loop-k.invariant (omega arith) (omega arith) c.add_block.ensures
 
 pub loop-i-init : goal.loop-i-init
 loop-i-init c =
-    let v = λ (x : Ch8). x.value in
     let m : 16 * c.loop-k.k ≡ c.min-count.result / 16 * 16 = omega arith in
-    c.loop-k.invariant ∙ ap (λ k. run (saturating_sum 255) (map v c.args.dst.now) (take k (map v c.args.by.now))) m
+    c.loop-k.invariant ∙ ap (λ n. run (saturating_sum 255) (map units c.args.dst.now) (take n (map units c.args.by.now))) m
 
 pub loop-i-preserved : goal.loop-i-preserved
 loop-i-preserved c =
-    let v = λ (x : Ch8). x.value in
-    mapped_one_step v (saturating_sum 255) c.loop-i.i (c.loop-i.i + 1) c.args.dst.now c.loop-i.dst c.add.result c.index-dst-i.result 0 c.index-by-i.result.value 0 (map v c.args.by.now)
-    c.loop-i.invariant refl (omega arith) (omega (arith, length-map c.args.by.now v))
-    (ap v c.index-by-i.is ∙ sym (get_or-map v c.args.by.now c.loop-i.i c.index-by-i.result 0 (omega arith))) c.index-dst-i.is (answers_itself v (saturating_sum 255) c.index-dst-i.result c.index-by-i.result c.add.result c.add.ensures)
+    paired_step units (saturating_sum 255) c.args.dst.now c.loop-i.dst c.args.by.now c.loop-i.i c.add.result c.index-dst-i.result c.index-by-i.result
+    c.loop-i.invariant (omega arith) (omega arith) c.index-dst-i.is c.index-by-i.is
+    (answers_itself units (saturating_sum 255) c.index-dst-i.result c.index-by-i.result c.add.result c.add.ensures)
 
 pub returns : goal.returns
-returns c =
-    let v = λ (x : Ch8). x.value in
-    let m : c.loop-i.i ≡ c.min-count.result = omega arith in
-    c.loop-i.invariant ∙ ap (λ k. run (saturating_sum 255) (map v c.args.dst.now) (take k (map v c.args.by.now))) m
-    ∙ over_both (saturating_sum 255) c.min-count.result (map v c.args.dst.now) (map v c.args.by.now) (omega (arith, length-map c.args.dst.now v, length-map c.args.by.now v))
+returns c = paired_whole units (saturating_sum 255) c.args.dst.now c.loop-i.dst c.args.by.now c.loop-i.i c.loop-i.invariant (omega arith)
