@@ -46,7 +46,8 @@ trait Merge<P: Pixel, Q: Pixel> {
     /// Changes one pixel by one of the source.
     fn merge_one(&self, pixel: &mut P, src: &Q)
         requires { P.layout.count ≡ P.layout.alpha + 1 }
-        ensures { P.numbers pixel.new ≡ makes self.now (Q.numbers src.now) (P.numbers pixel.old) };
+        ensures { P.numbers pixel.new ≡
+            makes self.now (Q.numbers src.now) (P.numbers pixel.old) };
 }
 
 /// Changes sixteen pixels in memory.
