@@ -7,6 +7,7 @@ use Rattle.pix.specs.Run.{run_at}
 use Rattle.pix.specs.Lent.{IsShaped, ChangedIn}
 use Rattle.pix.specs.declared.lent.Shape.{Shape}
 use Rattle.pix.proofs.RunBounds.{IsFormat, keeps_premultiplied, within_budget, small_budget, within_premultiplied_bound}
+use Rattle.pix.proofs.Steps.{changed_swapped}
 use Rattle.pix.proofs.Transparent.{stays_under_transparent}
 use Rattle.pix_c.specs.declared.command.FlatCommand.{FlatCommand}
 use Rattle.pix_c.specs.Command.{image_of, command_of}
@@ -44,6 +45,7 @@ module _ {D M : Type 0} (layout : Layout) (n : D → List ℕ) (m : M → List �
       let fold = changed shaped long ran in
       record {
         fold = fold;
+        swapped = λ others e. changed_swapped layout n m before after cs others fold e;
         premultiplied = keeps_premultiplied layout n m cs before after format fold;
         within_budget = within_budget layout n m cs before after format fold;
         small_budget = small_budget layout n m cs before after;

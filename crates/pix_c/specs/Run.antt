@@ -4,12 +4,13 @@ use Rattle.pix_chan.specs.ExactRun.{IsWithinBudget, IsWithinPremultipliedBound, 
 use Rattle.pix_el.specs.Pixel.{Layout}
 use Rattle.pix.specs.Region.{whole}
 use Rattle.pix.specs.Image.{Changed, region_of}
-use Rattle.pix.specs.Run.{run_at}
+use Rattle.pix.specs.Run.{run_at, HasSwappedNeighbours}
 use Rattle.pix.specs.Bounds.{OfEachChannel}
 use Rattle.pix.specs.Kept.{KeepsPremultiplied}
 use Rattle.pix.specs.Transparent.{StaysUnderTransparent}
 use Rattle.pix.specs.Lent.{IsNoPoint, ChangedIn}
 use Rattle.pix.specs.declared.lent.Shape.{Shape}
+use Rattle.pix.specs.declared.command.Command.{Command}
 use Rattle.pix_c.specs.declared.command.FlatCommand.{FlatCommand}
 use Rattle.pix_c.specs.Command.{image_of, command_of}
 
@@ -19,6 +20,9 @@ pub record IsRun {D M : Type 0} (layout : Layout) (numbers : D → List ℕ) (ma
   -- at each point, the effects of just those commands that reach it, one after the other
   pub fold : Changed numbers (image_of width height stride old) (image_of width height stride new)
       (run_at layout numbers mattes (whole width height) (map command_of commands))
+  -- two neighbours that reach no common point may be swapped
+  pub swapped : (others : List (Command D M)) → HasSwappedNeighbours numbers mattes (image_of width height stride old) (map command_of commands) others
+      → Changed numbers (image_of width height stride old) (image_of width height stride new) (run_at layout numbers mattes (whole width height) others)
   -- where every color and source pixel that reaches a premultiplied pixel is premultiplied, the pixel stays premultiplied
   pub premultiplied : KeepsPremultiplied layout numbers mattes (map command_of commands)
       (image_of width height stride old) (image_of width height stride new)

@@ -123,22 +123,29 @@ pub(crate) trait Flatten<D, M> {
         ensures { result ≡ flat self.now };
 }
 
+/// Writes the command of the same fields in the layout of all formats.
+macro_rules! flat_command {
+    ($command:expr) => {
+        FlatCommand {
+            kind: $command.kind,
+            op: $command.op,
+            to: $command.to,
+            from: $command.from,
+            color: $command.color,
+            pixels: $command.pixels,
+            mattes: $command.mattes,
+            width: $command.width,
+            height: $command.height,
+            stride: $command.stride,
+        }
+    };
+}
+
 impl<'a> Flatten<PixRgba8, u8> for PixCommand<'a> {
     ghost flat = { rgba8_command };
 
     fn flat(&self) -> FlatCommand<'_, PixRgba8, u8> {
-        FlatCommand {
-            kind: self.kind,
-            op: self.op,
-            to: self.to,
-            from: self.from,
-            color: self.color,
-            pixels: self.pixels,
-            mattes: self.mattes,
-            width: self.width,
-            height: self.height,
-            stride: self.stride,
-        }
+        flat_command!(self)
     }
 }
 
@@ -146,18 +153,7 @@ impl<'a> Flatten<PixRgba16, u16> for PixCommandRgba16<'a> {
     ghost flat = { rgba16_command };
 
     fn flat(&self) -> FlatCommand<'_, PixRgba16, u16> {
-        FlatCommand {
-            kind: self.kind,
-            op: self.op,
-            to: self.to,
-            from: self.from,
-            color: self.color,
-            pixels: self.pixels,
-            mattes: self.mattes,
-            width: self.width,
-            height: self.height,
-            stride: self.stride,
-        }
+        flat_command!(self)
     }
 }
 
@@ -165,17 +161,6 @@ impl<'a> Flatten<PixGraya8, u8> for PixCommandGraya8<'a> {
     ghost flat = { graya8_command };
 
     fn flat(&self) -> FlatCommand<'_, PixGraya8, u8> {
-        FlatCommand {
-            kind: self.kind,
-            op: self.op,
-            to: self.to,
-            from: self.from,
-            color: self.color,
-            pixels: self.pixels,
-            mattes: self.mattes,
-            width: self.width,
-            height: self.height,
-            stride: self.stride,
-        }
+        flat_command!(self)
     }
 }

@@ -2,7 +2,8 @@
 ghost use Rattle.std.specs.Prelude.{◌≡◌, ℕ, ◌+◌, ◌*◌, ◌^◌, ◌<◌, ◌≤◌, List, [], ◌∷◌, refl};
 ghost use Rattle.std.proofs.Common.{rules};
 ghost use Rattle.pix_el.specs.Pixel.{channel};
-ghost use Rattle.pix_c.specs.Format.{rgba8_numbers, rgba16_numbers, graya8_numbers, matte8_numbers, matte16_numbers};
+ghost use Rattle.pix_c.specs.Format.{rgba8_numbers, rgba16_numbers, graya8_numbers};
+ghost use Rattle.pix_c.specs.Format.{matte8_numbers, matte16_numbers};
 ghost use Rattle.pix_c.specs.FormatLaws.{bytes_fit, words_fit};
 ghost use prog.Memory.{size};
 ghost use denote.Memory.{lone};
@@ -50,7 +51,8 @@ pub(crate) trait Flat<P: Pixel>: Numbered {
         ensures { P.numbers result ≡ Self.numbers self.now };
 
     /// No number is above the maximum of the format.
-    ghost fits: { (it : Self) (ch : ℕ) → channel P.layout.max (Self.numbers it) ch ≤ P.layout.max };
+    ghost fits: { (it : Self) (ch : ℕ)
+        → channel P.layout.max (Self.numbers it) ch ≤ P.layout.max };
 
     /// Sixteen pixels fit in memory.
     ghost small: { 16 * size (lone P.row.mir) < 2 ^ 63 };

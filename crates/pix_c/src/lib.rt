@@ -5,7 +5,8 @@
 #![tactic(auto)]
 
 ghost use Rattle.std.specs.Prelude.{◌≡◌, ◌≢◌, length, map};
-ghost use Rattle.pix_c.specs.Format.{rgba8, rgba8_numbers, rgba16, rgba16_numbers, graya8, graya8_numbers};
+ghost use Rattle.pix_c.specs.Format.{rgba8, rgba8_numbers, rgba16, rgba16_numbers};
+ghost use Rattle.pix_c.specs.Format.{graya8, graya8_numbers};
 ghost use Rattle.pix_c.specs.Format.{matte8_numbers, matte16_numbers};
 ghost use Rattle.pix_c.specs.Command.{rgba8_command, rgba16_command, graya8_command};
 ghost use Rattle.pix_c.specs.Status.{status_of, done_of};

@@ -10,30 +10,15 @@ use pix::matte::Matte;
 use pix::ops::Blend;
 use std::marker::PhantomData;
 
-/// Returns sixteen pixels of the library.
+/// Reads as many pixels of the library.
 #[inline(always)]
-fn read_sixteen<P: Pixel, S: Flat<P>>(part: &[S]) -> [P; 16]
-    requires { length part.now ≡ 16 }
-    ensures { map P.numbers result ≡ map S.numbers part.now }
+fn read_pixels<P: Pixel, S: Flat<P>>(part: &[S], pixels: &mut [P])
+    requires { length part.now ≡ length pixels.old }
+    ensures { map P.numbers pixels.new ≡ map S.numbers part.now }
 {
-    [
-        part[0].read(),
-        part[1].read(),
-        part[2].read(),
-        part[3].read(),
-        part[4].read(),
-        part[5].read(),
-        part[6].read(),
-        part[7].read(),
-        part[8].read(),
-        part[9].read(),
-        part[10].read(),
-        part[11].read(),
-        part[12].read(),
-        part[13].read(),
-        part[14].read(),
-        part[15].read(),
-    ]
+    for i in 0..pixels.len() {
+        pixels[i] = part[i].read();
+    }
 }
 
 /// Writes as many pixels of the library.
@@ -61,7 +46,8 @@ trait Merge<P: Pixel, Q: Pixel> {
     /// Changes one pixel by one of the source.
     fn merge_one(&self, pixel: &mut P, src: &Q)
         requires { P.layout.count ≡ P.layout.alpha + 1 }
-        ensures { P.numbers pixel.new ≡ makes self.now (Q.numbers src.now) (P.numbers pixel.old) };
+        ensures { P.numbers pixel.new ≡
+            makes self.now (Q.numbers src.now) (P.numbers pixel.old) };
 }
 
 /// Changes sixteen pixels in memory.
@@ -76,8 +62,11 @@ fn merge_sixteen<P: Pixel, D: FlatPixel<P>, Q: Pixel, S: Flat<Q>, B: Merge<P, Q>
     ensures { map D.numbers part.new ≡ over (B.makes change.now) (map S.numbers src.now)
         (map D.numbers part.old) }
 {
-    let mut pixels = read_sixteen::<P, D>(part);
-    change.merge(&mut pixels, &read_sixteen::<Q, S>(src));
+    let mut pixels = [P::default(); 16];
+    let mut sources = [Q::default(); 16];
+    read_pixels::<P, D>(part, &mut pixels);
+    read_pixels::<Q, S>(src, &mut sources);
+    change.merge(&mut pixels, &sources);
     write_pixels(part, &pixels);
 }
 
@@ -206,7 +195,8 @@ fn color_sixteen<P: Pixel<Alpha = Premultiplied, Gamma = Linear>, D: FlatPixel<P
     ensures { map D.numbers part.new ≡
         map (pixel_composite P.layout O.op (P.numbers clr.now)) (map D.numbers part.old) }
 {
-    let mut pixels = read_sixteen::<P, D>(part);
+    let mut pixels = [P::default(); 16];
+    read_pixels::<P, D>(part, &mut pixels);
     P::composite_color(&mut pixels, clr, op);
     write_pixels(part, &pixels);
 }

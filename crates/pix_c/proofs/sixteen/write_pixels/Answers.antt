@@ -1,7 +1,7 @@
-use Rattle.std.proofs.Common.{◌≡◌, [], length, map, arith, sym, ap, ◌∙◌}
-use Rattle.std.proofs.lemmas.List.{length-map, map-set, get_or-map}
-use Rattle.pix_el.proofs.Written.{written_none, written_more, written_over}
-use Rattle.pix_c.proofs.Rows.{over_whole}
+use Rattle.std.proofs.Common.{◌≡◌, length, arith}
+use Rattle.std.proofs.lemmas.List.{length-map}
+use Rattle.pix_el.proofs.Written.{written_none}
+use Rattle.pix_c.proofs.Rows.{written_to_more, written_to_end}
 use Rattle.pix_c.proofs.sixteen.write_pixels.Goals as goal
 
 pub loop-i-init : goal.loop-i-init
@@ -10,19 +10,10 @@ loop-i-init g c = written_none _ _ _
 pub loop-i-preserved : goal.loop-i-preserved
 loop-i-preserved g c =
     let n = g.D.Numbered.numbers in
-    let m = g.P.Pixel.numbers in
-    let i = c.loop-i.i in
-    let now = c.loop-i.part in
-    let src = c.args.pixels.now in
-    let long : length now ≡ length c.args.part.now = sym (length-map now n) ∙ c.loop-i.invariant.long ∙ length-map c.args.part.now n in
-    rw map-set
-    (written_more _ _ _ _ i _ c.loop-i.invariant (omega (arith, length-map c.args.part.now n))
-    (c.write.ensures ∙ ap m c.index-pixels-i.is ∙ sym (get_or-map m src i c.index-pixels-i.result [] (omega arith))))
+    let long : length c.loop-i.part ≡ length c.args.part.now = omega (arith, length-map c.loop-i.part n, c.loop-i.invariant.long, length-map c.args.part.now n) in
+    written_to_more g.P.Pixel.numbers n c.args.pixels.now c.args.part.now c.loop-i.part c.loop-i.i _ _ c.loop-i.invariant
+    (omega arith) (omega arith) c.index-pixels-i.is c.write.ensures
 
 pub returns : goal.returns
 returns g c =
-    let n = g.D.Numbered.numbers in
-    let m = g.P.Pixel.numbers in
-    written_over (λ s _. s) [] (map m c.args.pixels.now) [] (map n c.args.part.now) _ c.loop-i.i c.loop-i.invariant
-    (omega (arith, length-map c.args.pixels.now m, length-map c.args.part.now n))
-    ∙ over_whole (map m c.args.pixels.now) (map n c.args.part.now) (omega (arith, length-map c.args.pixels.now m, length-map c.args.part.now n))
+    written_to_end g.P.Pixel.numbers g.D.Numbered.numbers c.args.pixels.now c.args.part.now c.loop-i.part c.loop-i.i c.loop-i.invariant (omega arith) (omega arith)
