@@ -1,6 +1,6 @@
 //! Changes of images in memory that the caller owns, in pixels of the caller's own layout.
 ghost use Rattle.std.specs.Prelude.{◌≡◌, ℕ, ◌+◌, ◌-◌, ◌*◌, ◌<◌, ◌≤◌, List, length, map};
-ghost use Rattle.pix_el.specs.PixelComposite.{over};
+ghost use Rattle.pix_chan.specs.Runs.{over};
 ghost use Rattle.pix.specs.Region.{limit, whole};
 ghost use Rattle.pix.specs.Lent.{read_at, IsShaped, ChangedIn, where_covered, where_paired};
 ghost use Rattle.pix.specs.Clip.{where_in};
