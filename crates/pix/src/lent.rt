@@ -50,7 +50,7 @@ pub trait Blit<D, S> {
     /// What it makes of a source and a pixel.
     ghost makes: { Self → List ℕ → List ℕ → List ℕ };
 
-    /// Changes each pixel of a row by the pixel of the source at the same place.
+    /// Changes each pixel of a row by the pixel of the source at the same place. The shorter row decides, and the rest stays.
     fn blit(&self, row: &mut [D], src: &[S])
         requires { can_blit }
         ensures { map reads row.new ≡ over (makes self.now) (map source_reads src.now)
