@@ -34,7 +34,7 @@
  *     reads or writes them. What is only read may be read by others, and is written by none.
  *   - Commands are made by the functions of this header. What they point to lives until they have run.
  *
- * Calls on different images may run at once in different threads.
+ * Calls on images that share no memory may run at once in different threads, also with sources in common.
  *
  * A source must not share memory with the image that is written. That is tested: see PIX_OVERLAP.
  *
@@ -131,7 +131,7 @@ typedef enum {
     PIX_BAD_OP = 4,     /* no such operator */
     PIX_BAD_SOURCE = 5, /* the source or the matte of a command: as PIX_BAD_SIZE */
     PIX_BAD_FORMAT = 6, /* no such format */
-    PIX_BAD_LENGTH = 7, /* more pixels to convert than memory can hold */
+    PIX_BAD_LENGTH = 7, /* more pixels to convert than a quarter of PTRDIFF_MAX */
     PIX_NULL = 8,       /* a pointer is null, and what it points to is not empty */
     PIX_OVERLAP = 9     /* a source, a matte or the list of commands shares memory with what is written */
 } pix_status;
@@ -235,7 +235,7 @@ static inline size_t pix_format_size(pix_format format);
 /* Converts `count` pixels of the format `from` at `src` to the format `to` at `dst`. Both are bytes without padding:
  * count * pix_format_size(from) and count * pix_format_size(to) of them. They must not share memory, not even where
  * both formats are of one size. An alpha that `from` lacks is 255. One that `to` lacks is dropped, and colors that were
- * multiplied by it stay so.
+ * multiplied by it stay so from RGBA8P and SRGBA8P to RGB8 and SRGB8; to all others they are divided by it.
  *
  * Answers PIX_OK, PIX_BAD_FORMAT, PIX_BAD_LENGTH, PIX_NULL or PIX_OVERLAP. */
 static inline pix_status pix_convert(pix_format from, pix_format to, const void *src, void *dst, size_t count);
@@ -268,8 +268,9 @@ typedef struct {
 /* ---- What libpix_c.a has ----
  *
  * The functions above go through these four, which are proved. They test sizes, kinds, regions, operators, sources,
- * formats and lengths; no pointer may be null here, also where its length is 0, and nothing may overlap. `stride` is
- * at least the width. */
+ * formats and lengths. Here no pointer may be null or badly aligned, also where its length is 0, and those in commands
+ * of other kinds neither; and the image, `done` and `dst` may share memory with nothing else that is passed. Lengths
+ * are counted in elements. `stride` is at least the width, and 0 doesn't stand for it. */
 
 uint32_t pix_run_commands(pix_rgba8 *pixels, size_t pixel_count, uint32_t width, uint32_t height, uint32_t stride,
                           const pix_command *commands, size_t command_count, size_t *done);
