@@ -1,12 +1,12 @@
 -- Counting one index more.
-use Rattle.std.specs.Prelude.{nat_eq, All, count_by}
-use Rattle.std.proofs.Common.{◌≡◌, ◌≢◌, ℕ, ◌+◌, ◌<◌, Bool, true, false, List, [], ◌∷◌, ◌++◌, length, take, set, get_or, arith, sym, ap, ◌∙◌, subst, inl, inr, ne_eqb, eq-eqb}
+use Rattle.std.specs.Prelude.{nat_eq, All}
+use Rattle.std.proofs.Common.{◌≡◌, ◌≢◌, ℕ, ◌+◌, ◌<◌, true, false, List, [], ◌∷◌, length, take, set, get_or, arith, sym, ap, ◌∙◌, subst, inl, inr, ne_eqb, eq-eqb}
 use Rattle.std.proofs.lemmas.Bool.{cases_order}
 use Rattle.std.proofs.lemmas.List.{get_or-set_other, length-set, take_more}
 use Rattle.std.proofs.lemmas.List.Elements.{All-append}
 use Rattle.std.proofs.lemmas.Grind.{get_or-set_at}
 use Rattle.std.proofs.lemmas.List.Sums.{count_by_more_yes, count_by_more_no}
-use Rattle.pix.specs.Histogram.{count_of, IsHistogram}
+use Rattle.pix.specs.Histogram.{IsHistogram}
 
 -- a property of the only element
 all_one : {T : Type 0} (P : T → Type 0) (x : T) → P x → All P (x ∷ [])

@@ -1,12 +1,11 @@
 -- A color that stands in a palette is set at its first index; such colors are kept while the palette grows.
-use Rattle.std.specs.Prelude.{nat_lt, if◌then◌else◌, IfSome, All}
-use Rattle.std.proofs.Common.{◌≡◌, ◌≢◌, ℕ, zero, suc, ◌+◌, ◌-◌, ◌<◌, ◌≤◌, Bool, true, false, List, [], ◌∷◌, ◌++◌, length, map, get_or, replicate, refl, arith, sym, ap, ◌∙◌, subst, ◌⊎◌, inl, inr, Some, None, Option, length-append}
+use Rattle.std.specs.Prelude.{nat_lt, if◌then◌else◌, IfSome}
+use Rattle.std.proofs.Common.{◌≡◌, ◌≢◌, ℕ, zero, suc, ◌+◌, ◌-◌, ◌<◌, ◌≤◌, Bool, true, false, List, [], ◌∷◌, ◌++◌, length, map, get_or, replicate, refl, arith, sym, ap, ◌∙◌, subst, inl, Some, None, Option}
 use Rattle.std.proofs.lemmas.Bool.{true≢false}
-use Rattle.std.proofs.lemmas.List.{length-map, map-append, get_or_append_left}
+use Rattle.std.proofs.lemmas.List.{length-map}
 use Rattle.std.proofs.lemmas.List.Elements.{All-replicate}
-use Rattle.pix_el.specs.Color.{is_within}
 use Rattle.pix.specs.PaletteMatch.{color_difference, difference_to, is_closer, IsMatch, IsNearest, IsFirstOf}
-use Rattle.pix.specs.Palette.{Color, numbers, Fits, Matches, StandsFor, IsSet, set_answer, set_colors}
+use Rattle.pix.specs.Palette.{Color, numbers, StandsFor, IsSet, set_answer, set_colors}
 use Rattle.pix.specs.Known.{IsKnown, AreKnown}
 use Rattle.pix.specs.declared.palette.known.Known.{Known}
 use Rattle.pix.proofs.PaletteMatches.{match_nearest, match_of_standing, zero_least, IsBest, best_first, best_closer, best_stays, best_match}

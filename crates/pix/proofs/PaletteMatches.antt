@@ -1,10 +1,10 @@
 -- The records of a color, one entry after the other.
 use Rattle.std.specs.Prelude.{slice_index_or}
 use Rattle.pix_el.specs.Color.{is_within}
-use Rattle.std.proofs.Common.{◌≡◌, ◌≢◌, ℕ, zero, suc, ◌+◌, ◌<◌, ◌≤◌, Bool, true, false, List, [], ◌∷◌, ◌++◌, length, map, refl, arith, sym, ap, ◌∙◌, subst, ◌⊎◌, inl, inr}
+use Rattle.std.proofs.Common.{◌≡◌, ◌≢◌, ℕ, ◌+◌, ◌<◌, ◌≤◌, true, false, List, [], ◌∷◌, ◌++◌, length, refl, arith, sym, ap, ◌∙◌, subst, ◌⊎◌, inl, inr}
 use Rattle.std.proofs.lemmas.Bool.{cases_lt, cases_order, true≢false, false_from_ne_true}
 use Rattle.std.proofs.lemmas.Bool.Decides.{nat_tests}
-use Rattle.pix.specs.PaletteMatch.{color_difference, difference_to, is_closer, IsNext, AreRecords, IsMatch, IsNearest, IsFirstOf}
+use Rattle.pix.specs.PaletteMatch.{difference_to, is_closer, IsNext, AreRecords, IsMatch, IsNearest, IsFirstOf}
 
 -- the next record stays the next with one entry more
 next_stays : (d : ℕ → List ℕ) (n i j : ℕ) → IsNext d n i j → IsNext d (n + 1) i j

@@ -1,11 +1,11 @@
 -- What setting a color keeps.
 use Rattle.std.specs.Prelude.{take}
-use Rattle.std.proofs.Common.{◌≡◌, ◌≢◌, ℕ, ◌+◌, ◌<◌, ◌≤◌, Bool, true, false, List, [], ◌∷◌, ◌++◌, length, map, refl, arith, sym, ap, ◌∙◌, subst, ◌⊎◌, inl, inr, Some, None, Option}
+use Rattle.std.proofs.Common.{◌≡◌, ℕ, ◌<◌, true, false, List, [], ◌∷◌, length, arith, sym, ap, ◌∙◌, subst, inl, inr, Some, None, Option}
 use Rattle.std.proofs.lemmas.Bool.{true≢false}
 use Rattle.std.proofs.lemmas.Bool.Decides.{nat_tests}
 use Rattle.pix_el.specs.Color.{is_within}
-use Rattle.pix.specs.PaletteMatch.{difference_to, IsMatch, IsFirstOf}
-use Rattle.pix.specs.Palette.{Color, numbers, Answers, Fits, Matches, StandsFor}
+use Rattle.pix.specs.PaletteMatch.{difference_to, IsFirstOf}
+use Rattle.pix.specs.Palette.{Color, numbers, Answers, Fits, StandsFor}
 use Rattle.pix.proofs.PaletteMatches.{match_of_standing}
 
 -- every threshold that is answered has a difference of 0 within it

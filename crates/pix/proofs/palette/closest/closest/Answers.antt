@@ -1,6 +1,6 @@
-use Rattle.std.proofs.Common.{◌≡◌, ◌+◌, ◌<◌, ℕ, List, [], length, map, get_or, true, false, sym, ap, ◌∙◌, subst, arith}
+use Rattle.std.proofs.Common.{◌≡◌, ◌+◌, ℕ, List, [], map, get_or, true, false, sym, ap, ◌∙◌, arith}
 use Rattle.std.proofs.lemmas.List.{length-map, get_or-map}
-use Rattle.pix.specs.Palette.{Color, numbers}
+use Rattle.pix.specs.Palette.{numbers}
 use Rattle.pix.specs.PaletteMatch.{color_difference, difference_to, is_closer}
 use Rattle.pix.proofs.PaletteMatches.{IsBest, best_closer, best_stays, best_match}
 use Rattle.pix.proofs.palette.closest.closest.Goals as goal

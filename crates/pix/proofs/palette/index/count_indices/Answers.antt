@@ -1,4 +1,4 @@
-use Rattle.std.proofs.Common.{◌≡◌, ◌+◌, ◌<◌, arith}
+use Rattle.std.proofs.Common.{arith}
 use Rattle.pix.proofs.HistogramLemmas.{histogram_more}
 use Rattle.pix.proofs.palette.index.count_indices.Goals as goal
 

@@ -1,4 +1,4 @@
-use Rattle.std.proofs.Common.{ℕ, ◌<◌, take, length}
+use Rattle.std.proofs.Common.{take, length}
 use Rattle.pix.specs.Histogram.{IsHistogram}
 use Rattle.pix.proofs.palette.index.count_indices.Given as goal
 

@@ -1,8 +1,6 @@
-use Rattle.std.proofs.Common.{◌≡◌, ℕ, List, length, map, Some, None, Option, true, false, refl, sym, ap, ◌∙◌}
+use Rattle.std.proofs.Common.{◌≡◌, Some, refl, sym, ap, ◌∙◌}
 use Rattle.std.proofs.lemmas.Bool.{true≢false}
 use Rattle.std.specs.Prelude.{is_some}
-use Rattle.pix.specs.Palette.{numbers}
-use Rattle.pix.specs.PaletteMatch.{IsFirstOf}
 use Rattle.pix.proofs.PaletteMatches.{match_nearest}
 use Rattle.pix.proofs.PaletteSets.{answers_thresholds, standing_is_first}
 use Rattle.pix.proofs.palette.table.Palette.set_entry.Goals as goal

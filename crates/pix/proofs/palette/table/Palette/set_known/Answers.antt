@@ -1,8 +1,7 @@
 use Rattle.std.specs.Cmp.Lexicographic.{same_text}
-use Rattle.std.proofs.Common.{◌≡◌, ◌<◌, [], List, ℕ, length, map, get_or, sym, ap, ◌∙◌, arith}
+use Rattle.std.proofs.Common.{◌≡◌, [], map, get_or, sym, ap, ◌∙◌, arith}
 use Rattle.std.proofs.lemmas.List.{length-map, get_or-map}
 use Rattle.pix.specs.Palette.{numbers}
-use Rattle.pix.specs.Known.{AreKnown}
 use Rattle.pix.proofs.PaletteSets.{answers_thresholds}
 use Rattle.pix.proofs.IndexingLaws.{set_grows}
 use Rattle.pix.proofs.KnownColors.{first_is_set, set_first, are_known_stays}
