@@ -79,8 +79,9 @@ typedef struct { const pix_rgba8 *pixels; uint32_t width, height, stride; } pix_
 typedef struct { const pix_rgba16 *pixels; uint32_t width, height, stride; } pix_source_rgba16;
 typedef struct { const pix_graya8 *pixels; uint32_t width, height, stride; } pix_source_graya8;
 
-/* A mask: how much of a color enters at each point, from 0 (none) to 255 (all), or to 65535 in pix_matte16.
- * pix_matte goes with images of 8 bits a channel, pix_matte16 with those of 16. The stride is counted in values. */
+/* A mask: the fraction of a color that is composited at each point, from 0 (none) to 255 (all), or to 65535 in
+ * pix_matte16. pix_matte goes with images of 8 bits a channel, pix_matte16 with those of 16. The stride is counted in
+ * values. */
 typedef struct { const uint8_t *values; uint32_t width, height, stride; } pix_matte;
 typedef struct { const uint16_t *values; uint32_t width, height, stride; } pix_matte16;
 
@@ -88,7 +89,7 @@ typedef struct { const uint16_t *values; uint32_t width, height, stride; } pix_m
 
 /* The operators of Porter and Duff, and the sum. Each channel of the outcome, the alpha too, is that of the term beside
  * it, where s and d are the channels of source and destination and sa and da the alphas as fractions. Products are
- * rounded to the nearest, and a sum stops at the greatest value. */
+ * rounded to the nearest, and a sum saturates at the maximum. */
 typedef enum {
     PIX_OP_SRC = 0,        /* s */
     PIX_OP_DEST = 1,       /* d */

@@ -242,10 +242,10 @@ class _View:
 
 
 class Matte(_View):
-    """A mask: how much of a color enters at each point, from 0 (none) to 255 (all), or to 65535 with `bits` 16.
+    """A mask: the fraction of a color that is composited at each point, from 0 (none) to 255 (all).
 
-    The first goes with images of 8 bits a channel, the other one with RGBA16. `values` is any buffer, and may be
-    read-only; `stride` is counted in values.
+    It goes with images of 8 bits a channel; with `bits` 16, from 0 to 65535, with RGBA16. `values` is any buffer, and
+    may be read-only; `stride` is counted in values.
     """
 
     def __init__(self, values, width, height, stride=None, bits=8):
