@@ -215,7 +215,7 @@ impl<P> Raster<P> {
         if row.len() == 0 { None } else { Some(row) }
     }
 
-    /// Returns the same pixels, or an empty slice where there are none.
+    /// Returns the pixels of [`Raster::row_mut`], or an empty slice where there are none.
     fn row_part_mut(&mut self, y: i32, reg: Region) -> &mut [P]
         ensures* lends { sem 𝓛 (Lends (the_row P.row) (Array P.row 0) self.entry result
             (with_run self.old (row_start self.old.width (clipped self.old reg) y))) }

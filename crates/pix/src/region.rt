@@ -30,7 +30,7 @@ impl Model for Region {
 }
 
 impl Region {
-    /// Creates a region of those coordinates. Condition: width and height are at most 2147483647.
+    /// Creates the region of that left and top coordinate, width and height. Condition: width and height are at most 2147483647.
     pub fn new(x: i32, y: i32, width: u32, height: u32) -> Region
         requires wide { width ≤ limit }
         requires high { height ≤ limit }
@@ -44,7 +44,8 @@ impl Region {
         }
     }
 
-    /// Creates a region of those coordinates, or returns `None` where its width or height is above 2147483647.
+    /// Creates the region of that left and top coordinate, width and height, or returns `None` where the width or the height is above
+    /// 2147483647.
     pub fn try_new(x: i32, y: i32, width: u32, height: u32) -> Option<Region>
         ensures fits { width ≤ limit → height ≤ limit
             → result ≡ Some (record { left = x; top = y; width = width; height = height }) }

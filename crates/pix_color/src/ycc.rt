@@ -1,4 +1,4 @@
-//! Luma, and how far blue and red are from it.
+//! Luma, and the color differences of blue (Cb) and red (Cr).
 ghost use Rattle.std.specs.Prelude.{◌≡◌, ◌<◌, ℕ, refl, slice_get, slice_set, Some};
 ghost use Rattle.std.specs.Borrow.{Lends, sem};
 ghost use Rattle.pix_el.specs.Pixel.{channel};
@@ -12,7 +12,7 @@ use pix_el::model::ColorModel;
 use pix_el::seal::SealedModel;
 use std::ops::Range;
 
-/// The model of luma and the differences of blue and red.
+/// The model of luma and the blue and red color differences.
 #[derive(Clone, Copy, Debug, Default, PartialEq, Eq)]
 pub struct YCbCr {}
 
@@ -40,7 +40,7 @@ impl YCbCr {
         p.get_mut(0)
     }
 
-    /// Returns the difference of blue, or the maximum where the format has none.
+    /// Returns the blue difference, or the maximum where the format has none.
     pub fn cb<P>(p: P) -> P::Chan
     where
         P: Pixel<Model = Self>,
@@ -49,7 +49,7 @@ impl YCbCr {
         p.get(1)
     }
 
-    /// Lends the difference of blue. Condition: the format has it.
+    /// Lends the blue difference. Condition: the format has it.
     pub fn cb_mut<P>(p: &mut P) -> &mut P::Chan
     where
         P: Pixel<Model = Self>,
@@ -61,7 +61,7 @@ impl YCbCr {
         p.get_mut(1)
     }
 
-    /// Returns the difference of red, or the maximum where the format has none.
+    /// Returns the red difference, or the maximum where the format has none.
     pub fn cr<P>(p: P) -> P::Chan
     where
         P: Pixel<Model = Self>,
@@ -70,7 +70,7 @@ impl YCbCr {
         p.get(2)
     }
 
-    /// Lends the difference of red. Condition: the format has it.
+    /// Lends the red difference. Condition: the format has it.
     pub fn cr_mut<P>(p: &mut P) -> &mut P::Chan
     where
         P: Pixel<Model = Self>,
@@ -148,20 +148,20 @@ impl ColorModel for YCbCr {
     ghost stands = { refl };
 }
 
-/// Luma and the differences of blue and red of eight bits each, linear.
+/// Luma and the blue and red differences of eight bits each, linear.
 pub type YCbCr8 = Pix<3, Ch8, YCbCr, Straight, Linear>;
 
-/// Luma and the differences of blue and red of sixteen bits each, linear.
+/// Luma and the blue and red differences of sixteen bits each, linear.
 pub type YCbCr16 = Pix<3, Ch16, YCbCr, Straight, Linear>;
 
-/// Luma, the differences of blue and red, and alpha of eight bits each, not premultiplied, linear.
+/// Luma, the blue and red differences, and alpha of eight bits each, not premultiplied, linear.
 pub type YCbCra8 = Pix<4, Ch8, YCbCr, Straight, Linear>;
 
-/// Luma, the differences of blue and red, and alpha of sixteen bits each, not premultiplied, linear.
+/// Luma, the blue and red differences, and alpha of sixteen bits each, not premultiplied, linear.
 pub type YCbCra16 = Pix<4, Ch16, YCbCr, Straight, Linear>;
 
-/// Luma, the differences of blue and red, and alpha of eight bits each, premultiplied and linear.
+/// Luma, the blue and red differences, and alpha of eight bits each, premultiplied and linear.
 pub type YCbCra8p = Pix<4, Ch8, YCbCr, Premultiplied, Linear>;
 
-/// Luma, the differences of blue and red, and alpha of sixteen bits each, premultiplied and linear.
+/// Luma, the blue and red differences, and alpha of sixteen bits each, premultiplied and linear.
 pub type YCbCra16p = Pix<4, Ch16, YCbCr, Premultiplied, Linear>;
