@@ -1,11 +1,10 @@
-use Rattle.std.proofs.Common.{◌≡◌, ◌≤◌, ◌-◌, ◌∙◌, take, drop, length, sym, ap, arith, map, refl, List, ℕ, min}
+use Rattle.std.proofs.Common.{◌≡◌, ◌≤◌, ◌-◌, ◌∙◌, take, drop, length, sym, ap, arith, map, List, ℕ, min}
 use Rattle.std.proofs.lemmas.List.{length-map}
 use borrow.Rule.Slice.PartMut.{put_mid}
 use Rattle.pix_el.specs.PixelComposite.{pixel_composite}
 use Rattle.pix_chan.proofs.Slices.{run, over-nil, mapped_run_step, over_both, part_of}
 use Rattle.pix_el.proofs.Written.{same_over}
 use Rattle.pix_c.proofs.sixteen.composite_parts.Goals as goal
-use Rattle.pix_c.proofs.sixteen.composite_parts.Goals.{then-channels-eq4, else-channels-eq4}
 
 pub returns : goal.returns
 returns g c =
@@ -16,11 +15,8 @@ returns g c =
     let src = c.args.src.now in
     let ys = map n src in
     let count = c.min-count.result in
-    let part = c.if-channels-eq4.part in
-    let some : part ≤ count = elim c.if-channels-eq4.branch [
-      | then-channels-eq4 w ↦ omega (arith, w.min-part.ensures, w.part-is)
-      | else-channels-eq4 w ↦ omega (arith, w.part-is)
-    ] in
+    let part = c.first_part-part.result in
+    let some : part ≤ count = c.first_part-part.ensures in
     let both : count ≡ min (length row) (length src) = c.min-count.ensures in
     let one = put_mid 0 (part - 0) row c.composite_slice.new.dst in
     let first : map n one ≡ run f (map n row) (take part ys) =
