@@ -1,5 +1,5 @@
 //! Composites in a row of pixels in memory: sixteen at a time are read, composited by planes and written back.
-ghost use Rattle.std.specs.Prelude.{◌≡◌, ◌+◌, List, ℕ, length, map, ⊤};
+ghost use Rattle.std.specs.Prelude.{◌≡◌, ◌+◌, ◌≤◌, List, ℕ, length, map, ⊤};
 ghost use Rattle.pix_chan.specs.Runs.{over};
 ghost use Rattle.pix_el.specs.PixelComposite.{pixel_composite, matted_composite, matte_value};
 
@@ -96,6 +96,37 @@ fn merge_row<P: Pixel, D: FlatPixel<P>, Q: Pixel, S: Flat<Q>, B: Merge<P, Q>>(
     }
 }
 
+/// Returns how many of `count` pixels are composited by the first of two calls: at most twelve of four channels.
+///
+/// So LLVM forms lanes of the channels of a pixel, and not of channels of one number of four pixels that lie apart.
+#[inline(always)]
+fn first_part<P: Pixel>(count: usize) -> usize
+    ensures { result ≤ count }
+{
+    if P::default().channels().len() == 4 {
+        count.min(12)
+    } else {
+        count
+    }
+}
+
+/// Composites the pixels of a row with those of another.
+#[inline(always)]
+fn composite_parts<P: Pixel<Alpha = Premultiplied, Gamma = Linear>, O: Blend>(
+    row: &mut [P],
+    src: &[P],
+    op: O,
+)
+    requires { P.layout.count ≡ P.layout.alpha + 1 }
+    ensures { map P.numbers row.new ≡ over (pixel_composite P.layout O.op)
+        (map P.numbers src.now) (map P.numbers row.old) }
+{
+    let count = row.len().min(src.len());
+    let part = first_part::<P>(count);
+    P::composite_slice(&mut row[0..part], &src[0..part], op);
+    P::composite_slice(&mut row[part..count], &src[part..count], op);
+}
+
 /// Composites pixels.
 #[derive(Clone, Copy)]
 pub(crate) struct CompositedPixels<P, O> {
@@ -109,7 +140,7 @@ impl<P: Pixel<Alpha = Premultiplied, Gamma = Linear>, O: Blend> Merge<P, P>
 
     #[inline(always)]
     fn merge(&self, row: &mut [P], src: &[P]) {
-        P::composite_slice(row, src, self.op);
+        composite_parts(row, src, self.op);
     }
 
     #[inline(always)]
@@ -185,6 +216,23 @@ pub(crate) struct CompositedColor<P, O> {
     pub(crate) op: O,
 }
 
+/// Composites a color with the pixels of a row.
+#[inline(always)]
+fn color_parts<P: Pixel<Alpha = Premultiplied, Gamma = Linear>, O: Blend>(
+    row: &mut [P],
+    clr: &P,
+    op: O,
+)
+    requires { P.layout.count ≡ P.layout.alpha + 1 }
+    ensures { map P.numbers row.new ≡
+        map (pixel_composite P.layout O.op (P.numbers clr.now)) (map P.numbers row.old) }
+{
+    let count = row.len();
+    let part = first_part::<P>(count);
+    P::composite_color(&mut row[0..part], clr, op);
+    P::composite_color(&mut row[part..count], clr, op);
+}
+
 /// Composites a color with sixteen pixels in memory.
 #[inline(always)]
 fn color_sixteen<P: Pixel<Alpha = Premultiplied, Gamma = Linear>, D: FlatPixel<P>, O: Blend>(
@@ -198,7 +246,7 @@ fn color_sixteen<P: Pixel<Alpha = Premultiplied, Gamma = Linear>, D: FlatPixel<P
 {
     let mut pixels = [P::default(); 16];
     read_pixels::<P, D>(part, &mut pixels);
-    P::composite_color(&mut pixels, clr, op);
+    color_parts(&mut pixels, clr, op);
     write_pixels(part, &pixels);
 }
 
