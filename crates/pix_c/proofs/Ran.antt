@@ -3,9 +3,9 @@ use Rattle.std.proofs.Common.{◌≡◌, ℕ, ◌<◌, ◌≤◌, ◌+◌, ◌*�
 use Rattle.std.proofs.lemmas.Bool.{cases_lt}
 use Rattle.pix_el.specs.Pixel.{Layout}
 use Rattle.pix.specs.Region.{whole}
-use Rattle.pix.specs.Image.{Changed, region_of}
+use Rattle.pix.specs.Image.{Changed}
 use Rattle.pix.specs.Run.{run_at}
-use Rattle.pix.specs.Lent.{read_at, IsShaped, ChangedIn}
+use Rattle.pix.specs.Lent.{IsShaped, ChangedIn}
 use Rattle.pix.specs.declared.lent.Shape.{Shape}
 use Rattle.pix.proofs.RunBounds.{IsFormat, keeps_premultiplied, within_budget, small_budget, within_premultiplied_bound}
 use Rattle.pix.proofs.Steps.{changed_swapped}
