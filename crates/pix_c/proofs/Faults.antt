@@ -1,6 +1,6 @@
 -- Faults of commands, one command on.
-use Rattle.std.proofs.Common.{◌≡◌, ℕ, zero, suc, ◌+◌, ◌<◌, ◌≢◌, List, [], ◌∷◌, length, map, get_or, drop, arith, ap, sym, ◌∙◌, refl, Bool, true, false, nat_eq, ◌⊎◌, inl, inr}
-use Rattle.std.proofs.lemmas.List.{drop_more, drop_all, length-map, get_or-map}
+use Rattle.std.proofs.Common.{◌≡◌, ℕ, zero, suc, ◌+◌, ◌<◌, ◌≢◌, List, [], ◌∷◌, length, map, get_or, drop, arith, ap, sym, ◌∙◌, refl, false, nat_eq, ◌⊎◌, inl, inr}
+use Rattle.std.proofs.lemmas.List.{drop_more, length-map, get_or-map}
 use Rattle.std.proofs.lemmas.Bool.Decides.{nat_tests}
 use Rattle.pix_c.specs.declared.command.FlatCommand.{FlatCommand}
 use Rattle.pix_c.specs.Status.{fault_of, first_fault, count_before_fault}

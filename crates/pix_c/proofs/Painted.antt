@@ -1,19 +1,18 @@
 -- What each kind of command does to rows in memory.
-use Rattle.std.proofs.Common.{◌≡◌, ℕ, ◌+◌, ◌<◌, ◌≤◌, List, [], ◌∷◌, length, arith, ap, sym, subst, ◌∙◌, refl, true, false, Bool, cond}
+use Rattle.std.proofs.Common.{◌≡◌, ℕ, ◌<◌, ◌≤◌, List, [], ◌∷◌, length, arith, ap, subst, ◌∙◌, refl, true, false, Bool, cond}
 use Rattle.std.specs.Prelude.{replicate, not, ◌&&◌, ◌||◌, nat_eq, nat_lt}
 use Rattle.std.proofs.lemmas.Bool.Decides.{nat_tests}
-use Rattle.pix_chan.specs.declared.ops.Op.{Op}
 use Rattle.pix_el.specs.Pixel.{Layout}
 use Rattle.pix_el.specs.PixelComposite.{pixel_composite, matted_composite, matte_value}
 use Rattle.pix.specs.Region.{Rectangle, whole}
 use Rattle.pix.specs.Lent.{read_at, where_covered, where_paired, IsShaped, ChangedIn}
-use Rattle.pix.specs.Run.{Effect, Cleared, Copied, Composited, Matted, apply, run_at}
+use Rattle.pix.specs.Run.{Cleared, Copied, Composited, Matted, run_at}
 use Rattle.pix.specs.declared.command.Command.{Command}
 use Rattle.pix.specs.declared.command.Command.TheVariants as commands
 use Rattle.pix.specs.declared.lent.Shape.{Shape}
 use Rattle.pix_c.specs.declared.command.FlatCommand.{FlatCommand}
 use Rattle.pix_c.specs.Command.{image_of, op_at, rectangle, lent, command_of}
-use Rattle.pix_c.specs.Status.{is_sized, fits, has_source, fault_of}
+use Rattle.pix_c.specs.Status.{fits, has_source, fault_of}
 use Rattle.pix_c.proofs.Images.{sized_is_shaped}
 use Rattle.pix_c.proofs.Effects.{changed_alike, covered_effect, whole_effect, paired_effect}
 

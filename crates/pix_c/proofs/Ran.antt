@@ -2,7 +2,7 @@
 use Rattle.std.proofs.Common.{◌≡◌, ℕ, List, length, map, ap, sym, ◌∙◌, refl}
 use Rattle.pix_el.specs.Pixel.{Layout}
 use Rattle.pix.specs.Region.{whole}
-use Rattle.pix.specs.Image.{Changed, region_of}
+use Rattle.pix.specs.Image.{Changed}
 use Rattle.pix.specs.Run.{run_at}
 use Rattle.pix.specs.Lent.{IsShaped, ChangedIn}
 use Rattle.pix.specs.declared.lent.Shape.{Shape}

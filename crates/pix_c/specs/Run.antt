@@ -3,7 +3,7 @@ use Rattle.std.specs.Prelude.{◌≡◌, ℕ, List, [], map, slice_index_or}
 use Rattle.pix_chan.specs.ExactRun.{IsWithinBudget, IsWithinPremultipliedBound, HasSmallBudget}
 use Rattle.pix_el.specs.Pixel.{Layout}
 use Rattle.pix.specs.Region.{whole}
-use Rattle.pix.specs.Image.{Changed, region_of}
+use Rattle.pix.specs.Image.{Changed}
 use Rattle.pix.specs.Run.{run_at, HasSwappedNeighbours}
 use Rattle.pix.specs.Bounds.{OfEachChannel}
 use Rattle.pix.specs.Kept.{KeepsPremultiplied}

@@ -1,9 +1,8 @@
-use Rattle.std.proofs.Common.{◌≡◌, ℕ, ◌<◌, ◌+◌, List, ◌∷◌, [], length, map, drop, get_or, sym, ap, ◌∙◌, arith, refl, subst}
+use Rattle.std.proofs.Common.{◌≡◌, ◌<◌, ◌+◌, ◌∷◌, [], length, map, drop, get_or, sym, ap, ◌∙◌, arith, refl, subst}
 use Rattle.std.proofs.lemmas.List.{length-map, get_or-map, drop_all}
 use Rattle.pix.specs.Region.{whole}
 use Rattle.pix.specs.Run.{run_at}
 use Rattle.pix.specs.Lent.{read_at, ChangedIn}
-use Rattle.pix.specs.declared.command.Command.{Command}
 use Rattle.pix.proofs.Steps.{run_more}
 use Rattle.pix_c.specs.declared.command.FlatCommand.{FlatCommand}
 use Rattle.pix_c.specs.Command.{command_of}
