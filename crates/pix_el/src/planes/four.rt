@@ -6,7 +6,7 @@ ghost use Rattle.pix_el.specs.Planes.{by_fours, ArePlanes};
 ghost use Rattle.pix_el.specs.PixelComposite.{pixel_composite, matted_composite};
 
 use crate::el::Pixel;
-use crate::planes::fours::{four_pixels, put_four_pixels};
+use crate::planes::interleaved::{four_pixels, put_four_pixels};
 use crate::planes::{composite_first, scale_first};
 use pix_chan::chan::Channel;
 use pix_chan::ops::Blend;

@@ -3,7 +3,7 @@ use Rattle.pix_el.proofs.FourPlanes.{color_are_planes}
 use Rattle.pix_el.proofs.TwoPlanes.{color_are_two_planes}
 use Rattle.pix_el.specs.PixelComposite.{pixel_composite}
 use Rattle.pix_chan.proofs.Slices.{over-nil, next_same_block}
-use Rattle.pix_el.proofs.planes.color_planes.Goals as goal
+use Rattle.pix_el.proofs.planes.color_runs.Goals as goal
 
 pub loop-i-init : goal.loop-i-init
 loop-i-init g c = sym (over-nil _ (map g.P.Pixel.numbers c.args.dst.now))

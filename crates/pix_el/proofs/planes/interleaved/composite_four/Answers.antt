@@ -7,7 +7,7 @@ use Rattle.pix_el.specs.PixelComposite.{pixel_composite}
 use Rattle.pix_el.proofs.Models.{placed_by_row}
 use Rattle.pix_el.proofs.FourPlanes.{numbers_fit, is_four_of, four_of}
 use Rattle.pix_el.proofs.FourPixels.{fours_composited, rests}
-use Rattle.pix_el.proofs.planes.fours.composite_four.Goals as goal
+use Rattle.pix_el.proofs.planes.interleaved.composite_four.Goals as goal
 
 pub returns : goal.returns
 returns g c =

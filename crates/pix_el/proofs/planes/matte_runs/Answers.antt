@@ -6,7 +6,7 @@ use Rattle.pix_el.specs.declared.matte.Matte.{Matte}
 use Rattle.pix_el.specs.Pixel.{Layout}
 use Rattle.pix_el.specs.PixelComposite.{matted_composite, matte_numbers, matte_value}
 use Rattle.pix_el.proofs.MattePlanes.{by_values}
-use Rattle.pix_el.proofs.planes.matte_planes.Goals as goal
+use Rattle.pix_el.proofs.planes.matte_runs.Goals as goal
 
 pub loop-k-init : goal.loop-k-init
 loop-k-init g c = sym (over-nil _ (map g.P.Pixel.numbers c.args.dst.now))

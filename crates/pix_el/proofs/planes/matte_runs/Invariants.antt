@@ -1,7 +1,7 @@
 use Rattle.std.proofs.Common.{◌≡◌, ◌*◌, take, map}
 use Rattle.pix_chan.specs.Runs.{over}
 use Rattle.pix_el.specs.PixelComposite.{matted_composite, matte_numbers, matte_value}
-use Rattle.pix_el.proofs.planes.matte_planes.Given as goal
+use Rattle.pix_el.proofs.planes.matte_runs.Given as goal
 
 abbrev pub invariant-loop-k : goal.invariant-loop-k
 invariant-loop-k g l =

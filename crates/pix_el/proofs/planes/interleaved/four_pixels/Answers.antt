@@ -1,6 +1,6 @@
 use Rattle.std.proofs.Common.{◌∙◌, ap, arith}
 use Rattle.pix_el.proofs.FourPlanes.{mapped4}
-use Rattle.pix_el.proofs.planes.fours.four_pixels.Goals as goal
+use Rattle.pix_el.proofs.planes.interleaved.four_pixels.Goals as goal
 
 pub returns : goal.returns
 returns g c =

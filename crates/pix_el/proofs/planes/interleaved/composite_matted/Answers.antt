@@ -11,7 +11,7 @@ use Rattle.pix_el.proofs.Models.{placed_by_row}
 use Rattle.pix_el.proofs.FourPlanes.{is_four_of, four_of, mapped4}
 use Rattle.pix_el.proofs.MattePlanes.{over-mapped, map-mapped}
 use Rattle.pix_el.proofs.FourPixels.{color_matted}
-use Rattle.pix_el.proofs.planes.fours.composite_matted.Goals as goal
+use Rattle.pix_el.proofs.planes.interleaved.composite_matted.Goals as goal
 
 pub returns : goal.returns
 returns g c =

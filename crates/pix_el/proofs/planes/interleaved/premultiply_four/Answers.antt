@@ -6,7 +6,7 @@ use Rattle.pix_chan.specs.Product.{channel_product}
 use Rattle.pix_el.specs.Planes.{by_fours, premultiplied_four}
 use Rattle.pix_el.proofs.FourPlanes.{numbers_fit}
 use Rattle.pix_el.proofs.FourPixels.{ones, fours_premultiplied}
-use Rattle.pix_el.proofs.planes.fours.premultiply_four.Goals as goal
+use Rattle.pix_el.proofs.planes.interleaved.premultiply_four.Goals as goal
 
 pub returns : goal.returns
 returns g c =

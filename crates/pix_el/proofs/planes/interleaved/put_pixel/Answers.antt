@@ -1,6 +1,6 @@
 use Rattle.std.proofs.Common.{◌∙◌, ap, arith, map}
 use Rattle.pix_el.proofs.FourPlanes.{all_set}
-use Rattle.pix_el.proofs.planes.fours.put_pixel.Goals as goal
+use Rattle.pix_el.proofs.planes.interleaved.put_pixel.Goals as goal
 
 pub returns : goal.returns
 returns g c =

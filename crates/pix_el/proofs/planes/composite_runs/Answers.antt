@@ -1,7 +1,7 @@
 use Rattle.std.proofs.Common.{sym, arith, map}
 use Rattle.pix_el.specs.PixelComposite.{pixel_composite}
 use Rattle.pix_chan.proofs.Slices.{over-nil, next_mapped_block}
-use Rattle.pix_el.proofs.planes.composite_planes.Goals as goal
+use Rattle.pix_el.proofs.planes.composite_runs.Goals as goal
 
 pub loop-i-init : goal.loop-i-init
 loop-i-init g c = sym (over-nil _ (map g.P.Pixel.numbers c.args.dst.now))
