@@ -96,29 +96,11 @@ pub(crate) fn composite_runs<O: Blend, P: Pixel>(dst: &mut [P], src: &[P], count
         (take result (map P.numbers src.now)) (map P.numbers dst.old) }
 {
     if is_interleaved::<P>() {
-        for i in 0..count / 4 {
-            let four = interleaved::four_pixels(&src[4 * i..4 * i + 4]);
-            interleaved::composite_four::<O, P>(&mut dst[4 * i..4 * i + 4], four);
-        }
-        count / 4 * 4
+        interleaved::composite_runs::<O, P>(dst, src, count)
     } else if has_four::<P>() {
-        for k in 0..count / 16 {
-            let (one, two, three, four) = four::planes::<P, 2>(&src[16 * k..16 * k + 16]);
-            four::composite_sixteen::<O, P, 0>(
-                &mut dst[16 * k..16 * k + 16],
-                one,
-                two,
-                three,
-                four,
-            );
-        }
-        count / 16 * 16
+        four::composite_runs::<O, P>(dst, src, count)
     } else if has_two::<P>() {
-        for j in 0..count / 16 {
-            let (one, two) = two::planes::<P, 2>(&src[16 * j..16 * j + 16]);
-            two::composite_sixteen::<O, P, 0>(&mut dst[16 * j..16 * j + 16], one, two);
-        }
-        count / 16 * 16
+        two::composite_runs::<O, P>(dst, src, count)
     } else {
         0
     }
@@ -135,32 +117,11 @@ pub(crate) fn color_runs<O: Blend, P: Pixel>(dst: &mut [P], clr: &P) -> usize
         (take result (replicate (length dst.old) (P.numbers clr.now))) (map P.numbers dst.old) }
 {
     if is_interleaved::<P>() {
-        let four = interleaved::four_times(clr);
-        let count = dst.len();
-        for i in 0..count / 4 {
-            interleaved::composite_four::<O, P>(&mut dst[4 * i..4 * i + 4], four);
-        }
-        count / 4 * 4
+        interleaved::color_runs::<O, P>(dst, clr)
     } else if has_four::<P>() {
-        let (a, b, c, d) = interleaved::four_channels(clr);
-        let count = dst.len();
-        for k in 0..count / 16 {
-            four::composite_sixteen::<O, P, 1>(
-                &mut dst[16 * k..16 * k + 16],
-                [a; 16],
-                [b; 16],
-                [c; 16],
-                [d; 16],
-            );
-        }
-        count / 16 * 16
+        four::color_runs::<O, P>(dst, clr)
     } else if has_two::<P>() {
-        let (a, b) = two::two_channels(clr);
-        let count = dst.len();
-        for j in 0..count / 16 {
-            two::composite_sixteen::<O, P, 1>(&mut dst[16 * j..16 * j + 16], [a; 16], [b; 16]);
-        }
-        count / 16 * 16
+        two::color_runs::<O, P>(dst, clr)
     } else {
         0
     }
@@ -226,26 +187,15 @@ pub(crate) fn matte_runs<const N: usize, A: Alpha, O: Blend, P: Pixel>(
         (take result (map (matte_numbers P.Chan.number) src.now)) (map P.numbers dst.old) }
 {
     if has_four::<P>() {
-        let (a, b, c, d) = interleaved::four_channels(clr);
-        for k in 0..count / 16 {
-            let mattes = matte_values(&src[16 * k..16 * k + 16]);
-            four::composite_matted::<O, P, 3>(&mut dst[16 * k..16 * k + 16], &mattes, a, b, c, d);
+        let start = four::matte_runs::<N, A, O, P>(dst, src, clr, count);
+        if is_interleaved::<P>() {
+            let rest = &mut dst[start..];
+            start + interleaved::matte_runs::<N, A, O, P>(rest, &src[start..], clr, count - start)
+        } else {
+            start
         }
-        if !is_interleaved::<P>() {
-            return count / 16 * 16;
-        }
-        for i in count / 16 * 4..count / 4 {
-            let mattes = &src[4 * i..4 * i + 4];
-            interleaved::composite_matted::<N, A, O, P>(&mut dst[4 * i..4 * i + 4], mattes, clr);
-        }
-        count / 4 * 4
     } else if has_two::<P>() {
-        let (a, b) = two::two_channels(clr);
-        for j in 0..count / 16 {
-            let mattes = matte_values(&src[16 * j..16 * j + 16]);
-            two::composite_matted::<O, P, 3>(&mut dst[16 * j..16 * j + 16], &mattes, a, b);
-        }
-        count / 16 * 16
+        two::matte_runs::<N, A, O, P>(dst, src, clr, count)
     } else {
         0
     }

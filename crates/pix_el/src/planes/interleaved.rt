@@ -1,10 +1,10 @@
 //! Pixels of four channels without a hue, four at a time and with no planes: sixteen channels,
 //! pixel by pixel.
-ghost use Rattle.std.specs.Prelude.{◌≡◌, [], ◌∷◌, length, map, replicate};
+ghost use Rattle.std.specs.Prelude.{◌≡◌, ◌≤◌, [], ◌∷◌, length, map, take, replicate};
 ghost use Rattle.pix_chan.specs.Runs.{over};
 ghost use Rattle.pix_el.specs.Planes.{by_fours, premultiplied_four};
 ghost use Rattle.pix_el.specs.Pixel.{channel};
-ghost use Rattle.pix_el.specs.PixelComposite.{pixel_composite, matted_composite, matte_numbers};
+ghost use Rattle.pix_el.specs.PixelComposite.{pixel_composite, matted_composite, matte_numbers, matte_value};
 
 use crate::el::{Pix, Pixel};
 use crate::matte::Matte;
@@ -38,7 +38,7 @@ pub(super) fn four_pixels<P: Pixel>(p: &[P]) -> [P::Chan; 16]
 
 /// Returns the channels of four pixels of one color, pixel by pixel.
 #[inline(always)]
-pub(super) fn four_times<P: Pixel>(clr: &P) -> [P::Chan; 16]
+fn four_times<P: Pixel>(clr: &P) -> [P::Chan; 16]
     requires { P.layout.count ≡ 4 }
     ensures { by_fours (map P.Chan.number result) ≡ replicate 4 (P.numbers clr.now) }
 {
@@ -80,7 +80,7 @@ pub(super) fn put_four_pixels<P: Pixel>(p: &mut [P], c: [P::Chan; 16])
 ///
 /// Condition: the alpha is the last channel, and none is a hue.
 #[inline(always)]
-pub(super) fn composite_four<O: Blend, P: Pixel>(dst: &mut [P], src: [P::Chan; 16])
+fn composite_four<O: Blend, P: Pixel>(dst: &mut [P], src: [P::Chan; 16])
     requires count { P.layout.count ≡ 4 }
     requires alpha { P.layout.alpha ≡ 3 }
     requires no_hue { P.layout.hues.end ≡ 0 }
@@ -99,7 +99,7 @@ pub(super) fn composite_four<O: Blend, P: Pixel>(dst: &mut [P], src: [P::Chan; 1
 ///
 /// Condition: the alpha is the last channel, and none is a hue.
 #[inline(always)]
-pub(super) fn composite_matted<const N: usize, A: Alpha, O: Blend, P: Pixel>(
+fn composite_matted<const N: usize, A: Alpha, O: Blend, P: Pixel>(
     dst: &mut [P],
     src: &[Pix<N, P::Chan, Matte, A, Linear>],
     clr: &P,
@@ -124,6 +124,74 @@ pub(super) fn composite_matted<const N: usize, A: Alpha, O: Blend, P: Pixel>(
     let mut color = four_times(clr);
     P::Chan::mul_run(&mut color, &mattes);
     composite_four::<O, P>(dst, color);
+}
+
+/// Composites as many of the first `count` pixels as go four at a time, and returns how many these are.
+///
+/// Condition: the alpha is the last of four channels, and none is a hue; both slices have `count` pixels.
+#[inline(always)]
+pub(super) fn composite_runs<O: Blend, P: Pixel>(dst: &mut [P], src: &[P], count: usize) -> usize
+    requires channels { P.layout.count ≡ 4 }
+    requires alpha { P.layout.alpha ≡ 3 }
+    requires no_hue { P.layout.hues.end ≡ 0 }
+    requires dst_has { count ≤ length dst.old }
+    requires src_has { count ≤ length src.now }
+    ensures some { result ≤ count }
+    ensures composite { map P.numbers dst.new ≡ over (pixel_composite P.layout O.op)
+        (take result (map P.numbers src.now)) (map P.numbers dst.old) }
+{
+    for i in 0..count / 4 {
+        let four = four_pixels(&src[4 * i..4 * i + 4]);
+        composite_four::<O, P>(&mut dst[4 * i..4 * i + 4], four);
+    }
+    count / 4 * 4
+}
+
+/// Composites `clr` with as many of the first pixels as go four at a time, and returns how many these are.
+///
+/// Condition: the alpha is the last of four channels, and none is a hue.
+#[inline(always)]
+pub(super) fn color_runs<O: Blend, P: Pixel>(dst: &mut [P], clr: &P) -> usize
+    requires channels { P.layout.count ≡ 4 }
+    requires alpha { P.layout.alpha ≡ 3 }
+    requires no_hue { P.layout.hues.end ≡ 0 }
+    ensures some { result ≤ length dst.old }
+    ensures composite { map P.numbers dst.new ≡ over (pixel_composite P.layout O.op)
+        (take result (replicate (length dst.old) (P.numbers clr.now))) (map P.numbers dst.old) }
+{
+    let four = four_times(clr);
+    let count = dst.len();
+    for i in 0..count / 4 {
+        composite_four::<O, P>(&mut dst[4 * i..4 * i + 4], four);
+    }
+    count / 4 * 4
+}
+
+/// Composites `clr` through mattes with as many of the first `count` pixels as go four at a time, and returns how many these are.
+///
+/// Condition: the alpha is the last of four channels, and none is a hue; both slices have `count` elements.
+#[inline(always)]
+pub(super) fn matte_runs<const N: usize, A: Alpha, O: Blend, P: Pixel>(
+    dst: &mut [P],
+    src: &[Pix<N, P::Chan, Matte, A, Linear>],
+    clr: &P,
+    count: usize,
+) -> usize
+    requires channels { P.layout.count ≡ 4 }
+    requires alpha { P.layout.alpha ≡ 3 }
+    requires no_hue { P.layout.hues.end ≡ 0 }
+    requires dst_has { count ≤ length dst.old }
+    requires src_has { count ≤ length src.now }
+    ensures some { result ≤ count }
+    ensures composite { map P.numbers dst.new ≡ over (λ matte. matted_composite P.layout O.op
+        (matte_value P.layout matte) (P.numbers clr.now))
+        (take result (map (matte_numbers P.Chan.number) src.now)) (map P.numbers dst.old) }
+{
+    for i in 0..count / 4 {
+        let mattes = &src[4 * i..4 * i + 4];
+        composite_matted::<N, A, O, P>(&mut dst[4 * i..4 * i + 4], mattes, clr);
+    }
+    count / 4 * 4
 }
 
 /// Multiplies the colors of four straight pixels by the alphas of their own pixels.
