@@ -19,7 +19,7 @@ use crate::conversion::{at_depth, channel_at_depth, converted_within, recoded_co
 use crate::each::{composite_each, scale_each};
 use crate::matte::Matte;
 use crate::model::ColorModel;
-use crate::planes::{color_planes, composite_planes, matte_planes};
+use crate::planes::{color_runs, composite_runs, matte_runs};
 use crate::private::Sealed;
 use crate::rgb::Rgb;
 use pix_chan::chan::{Alpha, Channel, Gamma, Linear, Premultiplied};
@@ -311,7 +311,7 @@ pub trait Pixel: Sealed + Clone + Copy + Debug + Default + PartialEq {
         ensures { map numbers dst.new ≡
             map (pixel_composite layout O.op (numbers clr.now)) (map numbers dst.old) }
     {
-        let start = color_planes::<O, Self>(dst, clr);
+        let start = color_runs::<O, Self>(dst, clr);
         for i in start..dst.len() {
             dst[i].composite_channels(clr, op);
         }
@@ -328,7 +328,7 @@ pub trait Pixel: Sealed + Clone + Copy + Debug + Default + PartialEq {
             over (pixel_composite layout O.op) (map numbers src.now) (map numbers dst.old) }
     {
         let count = dst.len().min(src.len());
-        let start = composite_planes::<O, Self>(dst, src, count);
+        let start = composite_runs::<O, Self>(dst, src, count);
         for i in start..count {
             dst[i].composite_channels(&src[i], op);
         }
@@ -352,7 +352,7 @@ pub trait Pixel: Sealed + Clone + Copy + Debug + Default + PartialEq {
             (map (matte_numbers Self.Chan.number) src.now) (map numbers dst.old) }
     {
         let count = src.len().min(dst.len());
-        let start = matte_planes::<N, A, O, Self>(dst, src, clr, count);
+        let start = matte_runs::<N, A, O, Self>(dst, src, clr, count);
         for i in start..count {
             dst[i].composite_channels_alpha(clr, op, &src[i].alpha());
         }

@@ -1,7 +1,8 @@
 //! Composites of pixels by runs of sixteen channels.
 //!
-//! Pixels of four channels without a hue go four at a time. Pixels of four channels with a hue at the first go by planes, arrays of sixteen
-//! channels of one number, and so do pixels of two channels without a hue. Mattes go by planes as far as there are sixteen.
+//! Pixels of four channels without a hue go four at a time, interleaved, as they lie. Pixels of four channels with a hue at the first go by
+//! planes, arrays of sixteen channels of one number, and so do pixels of two channels without a hue. Mattes go by planes as far as there
+//! are sixteen.
 ghost use Rattle.std.specs.Prelude.{◌≡◌, ◌≤◌, ◌+◌, ◌-◌, ℕ, length, map, take, true, replicate};
 ghost use Rattle.pix_chan.specs.Runs.{over, triples};
 ghost use Rattle.pix_el.specs.Planes.{run_hue, run_first, matted_first};
@@ -16,7 +17,7 @@ use pix_chan::chan::{Alpha, Channel, Linear};
 use pix_chan::ops::Blend;
 
 mod four;
-pub(crate) mod fours;
+pub(crate) mod interleaved;
 mod two;
 
 /// Composites the hues of the same index of all four, one after the other; the shortest length decides.
@@ -52,9 +53,9 @@ fn composite_first<O: Blend, M: ColorModel, C: Channel>(
     }
 }
 
-/// Returns whether a model has four channels, of which none is a hue.
+/// Returns whether the pixels of a model go interleaved: it has four channels, of which none is a hue.
 #[inline(always)]
-pub(crate) fn has_fours<P: Pixel>() -> bool
+pub(crate) fn is_interleaved<P: Pixel>() -> bool
     ensures alpha { result ≡ true → P.layout.alpha ≡ 3 }
     ensures no_hue { result ≡ true → P.layout.hues.end ≡ 0 }
 {
@@ -82,11 +83,11 @@ fn has_two<P: Pixel>() -> bool
     P::Model::ALPHA == 1 && hues.end == 0
 }
 
-/// Composites as many of the first `count` pixels as go by planes, and returns how many these are.
+/// Composites as many of the first `count` pixels as go sixteen channels at a time, and returns how many these are.
 ///
 /// Condition: the format has an alpha channel, and both slices have `count` pixels.
 #[inline(always)]
-pub(crate) fn composite_planes<O: Blend, P: Pixel>(dst: &mut [P], src: &[P], count: usize) -> usize
+pub(crate) fn composite_runs<O: Blend, P: Pixel>(dst: &mut [P], src: &[P], count: usize) -> usize
     requires has_alpha { P.layout.count ≡ P.layout.alpha + 1 }
     requires dst_has { count ≤ length dst.old }
     requires src_has { count ≤ length src.now }
@@ -94,72 +95,33 @@ pub(crate) fn composite_planes<O: Blend, P: Pixel>(dst: &mut [P], src: &[P], cou
     ensures composite { map P.numbers dst.new ≡ over (pixel_composite P.layout O.op)
         (take result (map P.numbers src.now)) (map P.numbers dst.old) }
 {
-    if has_fours::<P>() {
-        for i in 0..count / 4 {
-            let four = fours::four_pixels(&src[4 * i..4 * i + 4]);
-            fours::composite_four::<O, P>(&mut dst[4 * i..4 * i + 4], four);
-        }
-        count / 4 * 4
+    if is_interleaved::<P>() {
+        interleaved::composite_runs::<O, P>(dst, src, count)
     } else if has_four::<P>() {
-        for k in 0..count / 16 {
-            let (one, two, three, four) = four::planes::<P, 2>(&src[16 * k..16 * k + 16]);
-            four::composite_sixteen::<O, P, 0>(
-                &mut dst[16 * k..16 * k + 16],
-                one,
-                two,
-                three,
-                four,
-            );
-        }
-        count / 16 * 16
+        four::composite_runs::<O, P>(dst, src, count)
     } else if has_two::<P>() {
-        for j in 0..count / 16 {
-            let (one, two) = two::planes::<P, 2>(&src[16 * j..16 * j + 16]);
-            two::composite_sixteen::<O, P, 0>(&mut dst[16 * j..16 * j + 16], one, two);
-        }
-        count / 16 * 16
+        two::composite_runs::<O, P>(dst, src, count)
     } else {
         0
     }
 }
 
-/// Composites `clr` with as many of the first pixels as go by planes, and returns how many these are.
+/// Composites `clr` with as many of the first pixels as go sixteen channels at a time, and returns how many these are.
 ///
 /// Condition: the format has an alpha channel.
 #[inline(always)]
-pub(crate) fn color_planes<O: Blend, P: Pixel>(dst: &mut [P], clr: &P) -> usize
+pub(crate) fn color_runs<O: Blend, P: Pixel>(dst: &mut [P], clr: &P) -> usize
     requires has_alpha { P.layout.count ≡ P.layout.alpha + 1 }
     ensures some { result ≤ length dst.old }
     ensures composite { map P.numbers dst.new ≡ over (pixel_composite P.layout O.op)
         (take result (replicate (length dst.old) (P.numbers clr.now))) (map P.numbers dst.old) }
 {
-    if has_fours::<P>() {
-        let four = fours::four_times(clr);
-        let count = dst.len();
-        for i in 0..count / 4 {
-            fours::composite_four::<O, P>(&mut dst[4 * i..4 * i + 4], four);
-        }
-        count / 4 * 4
+    if is_interleaved::<P>() {
+        interleaved::color_runs::<O, P>(dst, clr)
     } else if has_four::<P>() {
-        let (a, b, c, d) = fours::four_channels(clr);
-        let count = dst.len();
-        for k in 0..count / 16 {
-            four::composite_sixteen::<O, P, 1>(
-                &mut dst[16 * k..16 * k + 16],
-                [a; 16],
-                [b; 16],
-                [c; 16],
-                [d; 16],
-            );
-        }
-        count / 16 * 16
+        four::color_runs::<O, P>(dst, clr)
     } else if has_two::<P>() {
-        let (a, b) = two::two_channels(clr);
-        let count = dst.len();
-        for j in 0..count / 16 {
-            two::composite_sixteen::<O, P, 1>(&mut dst[16 * j..16 * j + 16], [a; 16], [b; 16]);
-        }
-        count / 16 * 16
+        two::color_runs::<O, P>(dst, clr)
     } else {
         0
     }
@@ -205,11 +167,12 @@ fn matte_values<const N: usize, A: Alpha, C: Channel>(
     ]
 }
 
-/// Composites `clr` through mattes with as many of the first `count` pixels as go by planes, and returns how many these are.
+/// Composites `clr` through mattes with as many of the first `count` pixels as go sixteen channels at a time, and returns how many
+/// these are.
 ///
 /// Condition: the format has an alpha channel, and both slices have `count` elements.
 #[inline(always)]
-pub(crate) fn matte_planes<const N: usize, A: Alpha, O: Blend, P: Pixel>(
+pub(crate) fn matte_runs<const N: usize, A: Alpha, O: Blend, P: Pixel>(
     dst: &mut [P],
     src: &[Pix<N, P::Chan, Matte, A, Linear>],
     clr: &P,
@@ -224,26 +187,15 @@ pub(crate) fn matte_planes<const N: usize, A: Alpha, O: Blend, P: Pixel>(
         (take result (map (matte_numbers P.Chan.number) src.now)) (map P.numbers dst.old) }
 {
     if has_four::<P>() {
-        let (a, b, c, d) = fours::four_channels(clr);
-        for k in 0..count / 16 {
-            let mattes = matte_values(&src[16 * k..16 * k + 16]);
-            four::composite_matted::<O, P, 3>(&mut dst[16 * k..16 * k + 16], &mattes, a, b, c, d);
+        let start = four::matte_runs::<N, A, O, P>(dst, src, clr, count);
+        if is_interleaved::<P>() {
+            let rest = &mut dst[start..];
+            start + interleaved::matte_runs::<N, A, O, P>(rest, &src[start..], clr, count - start)
+        } else {
+            start
         }
-        if !has_fours::<P>() {
-            return count / 16 * 16;
-        }
-        for i in count / 16 * 4..count / 4 {
-            let mattes = &src[4 * i..4 * i + 4];
-            fours::composite_matted::<N, A, O, P>(&mut dst[4 * i..4 * i + 4], mattes, clr);
-        }
-        count / 4 * 4
     } else if has_two::<P>() {
-        let (a, b) = two::two_channels(clr);
-        for j in 0..count / 16 {
-            let mattes = matte_values(&src[16 * j..16 * j + 16]);
-            two::composite_matted::<O, P, 3>(&mut dst[16 * j..16 * j + 16], &mattes, a, b);
-        }
-        count / 16 * 16
+        two::matte_runs::<N, A, O, P>(dst, src, clr, count)
     } else {
         0
     }

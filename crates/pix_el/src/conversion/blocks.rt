@@ -10,8 +10,8 @@ ghost use Rattle.pix_el.specs.Conversion.{converted};
 use crate::conversion::channel_at_depth;
 use crate::el::Pixel;
 use crate::model::ColorModel;
-use crate::planes::fours::premultiply_four;
-use crate::planes::has_fours;
+use crate::planes::interleaved::premultiply_four;
+use crate::planes::is_interleaved;
 use pix_chan::chan::{Alpha, Gamma, Linear, Premultiplied, Straight};
 
 /// How many pixels a block has.
@@ -41,7 +41,7 @@ fn premultiplies<P: Pixel, D: Pixel>() -> bool
         && P::Alpha::KIND == Straight::KIND
         && D::Alpha::KIND == Premultiplied::KIND
         && <D::Gamma as Gamma<D::Chan>>::KIND == <Linear as Gamma<D::Chan>>::KIND
-        && has_fours::<D>()
+        && is_interleaved::<D>()
         && has_four_channels::<P>()
         && has_four_channels::<D>()
 }

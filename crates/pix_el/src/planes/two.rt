@@ -1,17 +1,19 @@
 //! Pixels of two channels by planes, sixteen at a time.
-ghost use Rattle.std.specs.Prelude.{◌≡◌, ℕ, List, [], ◌∷◌, length, map};
+ghost use Rattle.std.specs.Prelude.{◌≡◌, ◌≤◌, ℕ, List, [], ◌∷◌, length, map, take, replicate};
 ghost use Rattle.pix_chan.specs.Planes.{both_in_turn};
 ghost use Rattle.pix_chan.specs.Runs.{over};
 ghost use Rattle.pix_el.specs.Planes.{by_twos, AreTwoPlanes};
-ghost use Rattle.pix_el.specs.PixelComposite.{pixel_composite, matted_composite};
+ghost use Rattle.pix_el.specs.PixelComposite.{pixel_composite, matted_composite, matte_numbers, matte_value};
 
-use crate::el::Pixel;
-use pix_chan::chan::Channel;
+use crate::el::{Pix, Pixel};
+use crate::matte::Matte;
+use crate::planes::matte_values;
+use pix_chan::chan::{Alpha, Channel, Linear};
 use pix_chan::ops::Blend;
 
 /// Returns the two channels of a pixel.
 #[inline(always)]
-pub(super) fn two_channels<P: Pixel>(p: &P) -> (P::Chan, P::Chan)
+fn two_channels<P: Pixel>(p: &P) -> (P::Chan, P::Chan)
     requires { P.layout.count ≡ 2 }
     ensures { P.Chan.number result.0 ∷ P.Chan.number result.1 ∷ [] ≡ P.numbers p.now }
 {
@@ -39,7 +41,7 @@ fn eight_pixels<P: Pixel>(p: &[P]) -> [P::Chan; 16]
 
 /// Returns the planes of sixteen pixels. Each `CALLER` has a copy of its own, since LLVM inlines what is called once.
 #[inline(always)]
-pub(super) fn planes<P: Pixel, const CALLER: usize>(p: &[P]) -> ([P::Chan; 16], [P::Chan; 16])
+fn planes<P: Pixel, const CALLER: usize>(p: &[P]) -> ([P::Chan; 16], [P::Chan; 16])
     requires count { P.layout.count ≡ 2 }
     requires size { length p.now ≡ 16 }
     ensures { AreTwoPlanes P.Chan.max (map P.numbers p.now)
@@ -95,7 +97,7 @@ fn put_planes<P: Pixel>(p: &mut [P], one: [P::Chan; 16], two: [P::Chan; 16])
 ///
 /// Condition: the alpha is the second channel, and there is no hue.
 #[inline(always)]
-pub(super) fn composite_sixteen<O: Blend, P: Pixel, const CALLER: usize>(
+fn composite_sixteen<O: Blend, P: Pixel, const CALLER: usize>(
     dst: &mut [P],
     one: [P::Chan; 16],
     two: [P::Chan; 16],
@@ -121,7 +123,7 @@ pub(super) fn composite_sixteen<O: Blend, P: Pixel, const CALLER: usize>(
 ///
 /// Condition: the alpha is the second channel, and there is no hue.
 #[inline(always)]
-pub(super) fn composite_matted<O: Blend, P: Pixel, const CALLER: usize>(
+fn composite_matted<O: Blend, P: Pixel, const CALLER: usize>(
     dst: &mut [P],
     mattes: &[P::Chan],
     a: P::Chan,
@@ -141,4 +143,73 @@ pub(super) fn composite_matted<O: Blend, P: Pixel, const CALLER: usize>(
     P::Chan::mul_run(&mut one, mattes);
     P::Chan::mul_run(&mut two, mattes);
     composite_sixteen::<O, P, CALLER>(dst, one, two);
+}
+
+/// Composites as many of the first `count` pixels as go sixteen at a time, and returns how many these are.
+///
+/// Condition: the alpha is the second of two channels, and there is no hue; both slices have `count` pixels.
+#[inline(always)]
+pub(super) fn composite_runs<O: Blend, P: Pixel>(dst: &mut [P], src: &[P], count: usize) -> usize
+    requires channels { P.layout.count ≡ 2 }
+    requires alpha { P.layout.alpha ≡ 1 }
+    requires no_hue { P.layout.hues.end ≡ 0 }
+    requires dst_has { count ≤ length dst.old }
+    requires src_has { count ≤ length src.now }
+    ensures some { result ≤ count }
+    ensures composite { map P.numbers dst.new ≡ over (pixel_composite P.layout O.op)
+        (take result (map P.numbers src.now)) (map P.numbers dst.old) }
+{
+    for i in 0..count / 16 {
+        let (one, two) = planes::<P, 2>(&src[16 * i..16 * i + 16]);
+        composite_sixteen::<O, P, 0>(&mut dst[16 * i..16 * i + 16], one, two);
+    }
+    count / 16 * 16
+}
+
+/// Composites `clr` with as many of the first pixels as go sixteen at a time, and returns how many these are.
+///
+/// Condition: the alpha is the second of two channels, and there is no hue.
+#[inline(always)]
+pub(super) fn color_runs<O: Blend, P: Pixel>(dst: &mut [P], clr: &P) -> usize
+    requires channels { P.layout.count ≡ 2 }
+    requires alpha { P.layout.alpha ≡ 1 }
+    requires no_hue { P.layout.hues.end ≡ 0 }
+    ensures some { result ≤ length dst.old }
+    ensures composite { map P.numbers dst.new ≡ over (pixel_composite P.layout O.op)
+        (take result (replicate (length dst.old) (P.numbers clr.now))) (map P.numbers dst.old) }
+{
+    let (a, b) = two_channels(clr);
+    let count = dst.len();
+    for i in 0..count / 16 {
+        composite_sixteen::<O, P, 1>(&mut dst[16 * i..16 * i + 16], [a; 16], [b; 16]);
+    }
+    count / 16 * 16
+}
+
+/// Composites `clr` through mattes with as many of the first `count` pixels as go sixteen at a time, and returns how many these are.
+///
+/// Condition: the alpha is the second of two channels, and there is no hue; both slices have `count` elements.
+#[inline(always)]
+pub(super) fn matte_runs<const N: usize, A: Alpha, O: Blend, P: Pixel>(
+    dst: &mut [P],
+    src: &[Pix<N, P::Chan, Matte, A, Linear>],
+    clr: &P,
+    count: usize,
+) -> usize
+    requires channels { P.layout.count ≡ 2 }
+    requires alpha { P.layout.alpha ≡ 1 }
+    requires no_hue { P.layout.hues.end ≡ 0 }
+    requires dst_has { count ≤ length dst.old }
+    requires src_has { count ≤ length src.now }
+    ensures some { result ≤ count }
+    ensures composite { map P.numbers dst.new ≡ over (λ matte. matted_composite P.layout O.op
+        (matte_value P.layout matte) (P.numbers clr.now))
+        (take result (map (matte_numbers P.Chan.number) src.now)) (map P.numbers dst.old) }
+{
+    let (a, b) = two_channels(clr);
+    for i in 0..count / 16 {
+        let mattes = matte_values(&src[16 * i..16 * i + 16]);
+        composite_matted::<O, P, 3>(&mut dst[16 * i..16 * i + 16], &mattes, a, b);
+    }
+    count / 16 * 16
 }

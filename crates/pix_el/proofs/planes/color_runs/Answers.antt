@@ -1,0 +1,6 @@
+use Rattle.std.proofs.Common.{sym, map}
+use Rattle.pix_chan.proofs.Slices.{over-nil}
+use Rattle.pix_el.proofs.planes.color_runs.Goals as goal
+
+pub returns-else-has_two-clause-composite : goal.returns-else-has_two-clause-composite
+returns-else-has_two-clause-composite g c = sym (over-nil _ (map g.P.Pixel.numbers c.args.dst.now))

@@ -1,0 +1,14 @@
+use Rattle.std.proofs.Common.{length, sym, arith, map}
+use Rattle.pix_el.specs.PixelComposite.{pixel_composite}
+use Rattle.pix_chan.proofs.Slices.{over-nil, next_same_block}
+use Rattle.pix_el.proofs.planes.interleaved.color_runs.Goals as goal
+
+pub loop-i-init : goal.loop-i-init
+loop-i-init g c = sym (over-nil _ (map g.P.Pixel.numbers c.args.dst.now))
+
+pub loop-i-preserved : goal.loop-i-preserved
+loop-i-preserved g c =
+    let v = g.P.Pixel.numbers in
+    next_same_block v (λ d s. pixel_composite g.P.Pixel.layout g.O.Blend.op s d) 4 c.loop-i.i (length c.args.dst.now) c.args.dst.now c.loop-i.dst c.composite_four.new.dst (v c.args.clr.now)
+    c.loop-i.invariant (omega arith) (omega arith)
+    (rw (← c.four_times-four.ensures) c.composite_four.ensures)

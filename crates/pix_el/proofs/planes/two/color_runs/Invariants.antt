@@ -1,0 +1,9 @@
+use Rattle.std.proofs.Common.{◌≡◌, ◌*◌, take, map, replicate, length}
+use Rattle.pix_chan.specs.Runs.{over}
+use Rattle.pix_el.specs.PixelComposite.{pixel_composite}
+use Rattle.pix_el.proofs.planes.two.color_runs.Given as goal
+
+abbrev pub invariant-loop-i : goal.invariant-loop-i
+invariant-loop-i g l =
+    let v = g.P.Pixel.numbers in
+    map v l.dst ≡ over (pixel_composite g.P.Pixel.layout g.O.Blend.op) (take (16 * l.i) (replicate (length l.fn.dst) (v l.clr))) (map v l.fn.dst)

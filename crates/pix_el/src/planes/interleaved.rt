@@ -1,0 +1,215 @@
+//! Pixels of four channels without a hue, four at a time and with no planes: sixteen channels,
+//! pixel by pixel.
+ghost use Rattle.std.specs.Prelude.{◌≡◌, ◌≤◌, [], ◌∷◌, length, map, take, replicate};
+ghost use Rattle.pix_chan.specs.Runs.{over};
+ghost use Rattle.pix_el.specs.Planes.{by_fours, premultiplied_four};
+ghost use Rattle.pix_el.specs.Pixel.{channel};
+ghost use Rattle.pix_el.specs.PixelComposite.{pixel_composite, matted_composite, matte_numbers, matte_value};
+
+use crate::el::{Pix, Pixel};
+use crate::matte::Matte;
+use pix_chan::chan::{Alpha, Channel, Linear};
+use pix_chan::ops::Blend;
+
+/// Returns the four channels of a pixel.
+#[inline(always)]
+pub(super) fn four_channels<P: Pixel>(p: &P) -> (P::Chan, P::Chan, P::Chan, P::Chan)
+    requires { P.layout.count ≡ 4 }
+    ensures { P.Chan.number result.0 ∷ P.Chan.number result.1
+        ∷ P.Chan.number result.2 ∷ P.Chan.number result.3 ∷ [] ≡ P.numbers p.now }
+{
+    let c = p.channels();
+    (c[0], c[1], c[2], c[3])
+}
+
+/// Returns the channels of four pixels, pixel by pixel.
+#[inline(always)]
+pub(super) fn four_pixels<P: Pixel>(p: &[P]) -> [P::Chan; 16]
+    requires count { P.layout.count ≡ 4 }
+    requires size { length p.now ≡ 4 }
+    ensures { by_fours (map P.Chan.number result) ≡ map P.numbers p.now }
+{
+    let (a, b, c, d) = four_channels(&p[0]);
+    let (e, f, g, h) = four_channels(&p[1]);
+    let (i, j, k, l) = four_channels(&p[2]);
+    let (m, n, o, q) = four_channels(&p[3]);
+    [a, b, c, d, e, f, g, h, i, j, k, l, m, n, o, q]
+}
+
+/// Returns the channels of four pixels of one color, pixel by pixel.
+#[inline(always)]
+fn four_times<P: Pixel>(clr: &P) -> [P::Chan; 16]
+    requires { P.layout.count ≡ 4 }
+    ensures { by_fours (map P.Chan.number result) ≡ replicate 4 (P.numbers clr.now) }
+{
+    let (a, b, c, d) = four_channels(clr);
+    [a, b, c, d, a, b, c, d, a, b, c, d, a, b, c, d]
+}
+
+/// Writes the four channels of a pixel.
+#[inline(always)]
+fn put_pixel<P: Pixel>(p: &mut P, one: P::Chan, two: P::Chan, three: P::Chan, four: P::Chan)
+    requires { P.layout.count ≡ 4 }
+    ensures { P.numbers p.new ≡ P.Chan.number one ∷ P.Chan.number two
+        ∷ P.Chan.number three ∷ P.Chan.number four ∷ [] }
+{
+    let to = p.channels_mut();
+    to[0] = one;
+    to[1] = two;
+    to[2] = three;
+    to[3] = four;
+}
+
+/// Writes four pixels from their channels, pixel by pixel.
+#[inline(always)]
+pub(super) fn put_four_pixels<P: Pixel>(p: &mut [P], c: [P::Chan; 16])
+    requires count { P.layout.count ≡ 4 }
+    requires size { length p.old ≡ 4 }
+    ensures size { length p.new ≡ 4 }
+    ensures pixels { map P.numbers p.new ≡ by_fours (map P.Chan.number c) }
+{
+    let c = &c[..];
+    put_pixel(&mut p[0], c[0], c[1], c[2], c[3]);
+    put_pixel(&mut p[1], c[4], c[5], c[6], c[7]);
+    put_pixel(&mut p[2], c[8], c[9], c[10], c[11]);
+    put_pixel(&mut p[3], c[12], c[13], c[14], c[15]);
+}
+
+/// Composites the four pixels of these channels with those of `dst`: at each index, the
+/// alphas are those of its own pixel.
+///
+/// Condition: the alpha is the last channel, and none is a hue.
+#[inline(always)]
+fn composite_four<O: Blend, P: Pixel>(dst: &mut [P], src: [P::Chan; 16])
+    requires count { P.layout.count ≡ 4 }
+    requires alpha { P.layout.alpha ≡ 3 }
+    requires no_hue { P.layout.hues.end ≡ 0 }
+    requires size { length dst.old ≡ 4 }
+    ensures { map P.numbers dst.new ≡ over (pixel_composite P.layout O.op)
+        (by_fours (map P.Chan.number src)) (map P.numbers dst.old) }
+{
+    let mut to = four_pixels(dst);
+    let da1 = P::Chan::less16(P::Chan::alphas4(to));
+    let sa1 = P::Chan::less16(P::Chan::alphas4(src));
+    O::composite_run(&mut to, &da1, &src, &sa1);
+    put_four_pixels(dst, to);
+}
+
+/// Composites `clr` with four pixels, each through the matte of the same index.
+///
+/// Condition: the alpha is the last channel, and none is a hue.
+#[inline(always)]
+fn composite_matted<const N: usize, A: Alpha, O: Blend, P: Pixel>(
+    dst: &mut [P],
+    src: &[Pix<N, P::Chan, Matte, A, Linear>],
+    clr: &P,
+)
+    requires count { P.layout.count ≡ 4 }
+    requires alpha { P.layout.alpha ≡ 3 }
+    requires no_hue { P.layout.hues.end ≡ 0 }
+    requires size { length dst.old ≡ 4 }
+    requires whole { length src.now ≡ 4 }
+    ensures { map P.numbers dst.new ≡
+        over (λ m. matted_composite P.layout O.op m (P.numbers clr.now))
+        (map (λ matte. channel P.Chan.max matte 0) (map (matte_numbers P.Chan.number) src.now))
+        (map P.numbers dst.old) }
+{
+    let (a, b, c, d) = (
+        src[0].alpha(),
+        src[1].alpha(),
+        src[2].alpha(),
+        src[3].alpha(),
+    );
+    let mattes = [a, a, a, a, b, b, b, b, c, c, c, c, d, d, d, d];
+    let mut color = four_times(clr);
+    P::Chan::mul_run(&mut color, &mattes);
+    composite_four::<O, P>(dst, color);
+}
+
+/// Composites as many of the first `count` pixels as go four at a time, and returns how many these are.
+///
+/// Condition: the alpha is the last of four channels, and none is a hue; both slices have `count` pixels.
+#[inline(always)]
+pub(super) fn composite_runs<O: Blend, P: Pixel>(dst: &mut [P], src: &[P], count: usize) -> usize
+    requires channels { P.layout.count ≡ 4 }
+    requires alpha { P.layout.alpha ≡ 3 }
+    requires no_hue { P.layout.hues.end ≡ 0 }
+    requires dst_has { count ≤ length dst.old }
+    requires src_has { count ≤ length src.now }
+    ensures some { result ≤ count }
+    ensures composite { map P.numbers dst.new ≡ over (pixel_composite P.layout O.op)
+        (take result (map P.numbers src.now)) (map P.numbers dst.old) }
+{
+    for i in 0..count / 4 {
+        let four = four_pixels(&src[4 * i..4 * i + 4]);
+        composite_four::<O, P>(&mut dst[4 * i..4 * i + 4], four);
+    }
+    count / 4 * 4
+}
+
+/// Composites `clr` with as many of the first pixels as go four at a time, and returns how many these are.
+///
+/// Condition: the alpha is the last of four channels, and none is a hue.
+#[inline(always)]
+pub(super) fn color_runs<O: Blend, P: Pixel>(dst: &mut [P], clr: &P) -> usize
+    requires channels { P.layout.count ≡ 4 }
+    requires alpha { P.layout.alpha ≡ 3 }
+    requires no_hue { P.layout.hues.end ≡ 0 }
+    ensures some { result ≤ length dst.old }
+    ensures composite { map P.numbers dst.new ≡ over (pixel_composite P.layout O.op)
+        (take result (replicate (length dst.old) (P.numbers clr.now))) (map P.numbers dst.old) }
+{
+    let four = four_times(clr);
+    let count = dst.len();
+    for i in 0..count / 4 {
+        composite_four::<O, P>(&mut dst[4 * i..4 * i + 4], four);
+    }
+    count / 4 * 4
+}
+
+/// Composites `clr` through mattes with as many of the first `count` pixels as go four at a time, and returns how many these are.
+///
+/// Condition: the alpha is the last of four channels, and none is a hue; both slices have `count` elements.
+#[inline(always)]
+pub(super) fn matte_runs<const N: usize, A: Alpha, O: Blend, P: Pixel>(
+    dst: &mut [P],
+    src: &[Pix<N, P::Chan, Matte, A, Linear>],
+    clr: &P,
+    count: usize,
+) -> usize
+    requires channels { P.layout.count ≡ 4 }
+    requires alpha { P.layout.alpha ≡ 3 }
+    requires no_hue { P.layout.hues.end ≡ 0 }
+    requires dst_has { count ≤ length dst.old }
+    requires src_has { count ≤ length src.now }
+    ensures some { result ≤ count }
+    ensures composite { map P.numbers dst.new ≡ over (λ matte. matted_composite P.layout O.op
+        (matte_value P.layout matte) (P.numbers clr.now))
+        (take result (map (matte_numbers P.Chan.number) src.now)) (map P.numbers dst.old) }
+{
+    for i in 0..count / 4 {
+        let mattes = &src[4 * i..4 * i + 4];
+        composite_matted::<N, A, O, P>(&mut dst[4 * i..4 * i + 4], mattes, clr);
+    }
+    count / 4 * 4
+}
+
+/// Multiplies the colors of four straight pixels by the alphas of their own pixels.
+#[inline(always)]
+pub(crate) fn premultiply_four<P: Pixel>(p: &mut [P])
+    requires count { P.layout.count ≡ 4 }
+    requires size { length p.old ≡ 4 }
+    ensures { map P.numbers p.new ≡
+        map (premultiplied_four P.Chan.max) (map P.numbers p.old) }
+{
+    let mut to = four_pixels(p);
+    let mut by = P::Chan::alphas4(to);
+    let (min, max) = (P::Chan::MIN, P::Chan::MAX);
+    // The alphas themselves are multiplied by one.
+    let ones = [
+        min, min, min, max, min, min, min, max, min, min, min, max, min, min, min, max,
+    ];
+    P::Chan::add_run(&mut by, &ones);
+    P::Chan::mul_run(&mut to, &by);
+    put_four_pixels(p, to);
+}
