@@ -1,5 +1,6 @@
 //! Buffers of pixels, converted from one format to another.
-ghost use Rattle.std.specs.Prelude.{◌≡◌, ◌≢◌, ℕ, ◌+◌, ◌*◌, ◌<◌, ◌≤◌, length, Some, slice_get, nat_eq};
+ghost use Rattle.std.specs.Prelude.{◌≡◌, ◌≢◌, ◌+◌, ◌*◌, ◌<◌, ◌≤◌};
+ghost use Rattle.std.specs.Prelude.{ℕ, length, Some, slice_get, nat_eq};
 ghost use Rattle.std.specs.Option.{option_map};
 ghost use Rattle.pix_c.specs.Formats.{BufferFormat, channels, channels_of, formats};
 ghost use Rattle.pix_c.specs.Converted.{IsConverted, conversion_status};

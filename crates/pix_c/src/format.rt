@@ -1,5 +1,6 @@
 //! Pixels and mattes as C lays them out.
-ghost use Rattle.std.specs.Prelude.{◌≡◌, ℕ, ◌+◌, ◌*◌, ◌^◌, ◌<◌, ◌≤◌, List, [], ◌∷◌, refl};
+ghost use Rattle.std.specs.Prelude.{◌≡◌, ℕ, ◌+◌, ◌*◌, ◌^◌, ◌<◌, ◌≤◌};
+ghost use Rattle.std.specs.Prelude.{List, [], ◌∷◌, refl};
 ghost use Rattle.std.proofs.Common.{rules};
 ghost use Rattle.pix_el.specs.Pixel.{channel};
 ghost use Rattle.pix_c.specs.Format.{rgba8_numbers, rgba16_numbers, graya8_numbers};
