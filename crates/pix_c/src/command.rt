@@ -20,6 +20,8 @@ pub struct PixRegion {
 }
 
 /// A change of an image of 8-bit pixels of red, green, blue and alpha.
+///
+/// The operator and both regions are tested for every kind; a source only where the kind reads it.
 #[repr(C)]
 #[derive(Clone, Copy, Drop)]
 pub struct PixCommand<'a> {
