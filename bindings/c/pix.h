@@ -34,7 +34,7 @@
  *     reads or writes them. What is only read may be read by others, and is written by none.
  *   - Commands are made by the functions of this header. What they point to lives until they have run.
  *
- * Calls on different images may run at once in different threads.
+ * Calls on images that share no memory may run at once in different threads, also with sources in common.
  *
  * A source must not share memory with the image that is written. That is tested: see PIX_OVERLAP.
  *
@@ -79,8 +79,9 @@ typedef struct { const pix_rgba8 *pixels; uint32_t width, height, stride; } pix_
 typedef struct { const pix_rgba16 *pixels; uint32_t width, height, stride; } pix_source_rgba16;
 typedef struct { const pix_graya8 *pixels; uint32_t width, height, stride; } pix_source_graya8;
 
-/* A mask: how much of a color enters at each point, from 0 (none) to 255 (all), or to 65535 in pix_matte16.
- * pix_matte goes with images of 8 bits a channel, pix_matte16 with those of 16. The stride is counted in values. */
+/* A mask: the fraction of a color that is composited at each point, from 0 (none) to 255 (all), or to 65535 in
+ * pix_matte16. pix_matte goes with images of 8 bits a channel, pix_matte16 with those of 16. The stride is counted in
+ * values. */
 typedef struct { const uint8_t *values; uint32_t width, height, stride; } pix_matte;
 typedef struct { const uint16_t *values; uint32_t width, height, stride; } pix_matte16;
 
@@ -88,7 +89,7 @@ typedef struct { const uint16_t *values; uint32_t width, height, stride; } pix_m
 
 /* The operators of Porter and Duff, and the sum. Each channel of the outcome, the alpha too, is that of the term beside
  * it, where s and d are the channels of source and destination and sa and da the alphas as fractions. Products are
- * rounded to the nearest, and a sum stops at the greatest value. */
+ * rounded to the nearest, and a sum saturates at the maximum. */
 typedef enum {
     PIX_OP_SRC = 0,        /* s */
     PIX_OP_DEST = 1,       /* d */
@@ -131,7 +132,7 @@ typedef enum {
     PIX_BAD_OP = 4,     /* no such operator */
     PIX_BAD_SOURCE = 5, /* the source or the matte of a command: as PIX_BAD_SIZE */
     PIX_BAD_FORMAT = 6, /* no such format */
-    PIX_BAD_LENGTH = 7, /* more pixels to convert than memory can hold */
+    PIX_BAD_LENGTH = 7, /* more pixels to convert than a quarter of PTRDIFF_MAX */
     PIX_NULL = 8,       /* a pointer is null, and what it points to is not empty */
     PIX_OVERLAP = 9     /* a source, a matte or the list of commands shares memory with what is written */
 } pix_status;
@@ -235,7 +236,7 @@ static inline size_t pix_format_size(pix_format format);
 /* Converts `count` pixels of the format `from` at `src` to the format `to` at `dst`. Both are bytes without padding:
  * count * pix_format_size(from) and count * pix_format_size(to) of them. They must not share memory, not even where
  * both formats are of one size. An alpha that `from` lacks is 255. One that `to` lacks is dropped, and colors that were
- * multiplied by it stay so.
+ * multiplied by it stay so from RGBA8P and SRGBA8P to RGB8 and SRGB8; to all others they are divided by it.
  *
  * Answers PIX_OK, PIX_BAD_FORMAT, PIX_BAD_LENGTH, PIX_NULL or PIX_OVERLAP. */
 static inline pix_status pix_convert(pix_format from, pix_format to, const void *src, void *dst, size_t count);
@@ -268,8 +269,9 @@ typedef struct {
 /* ---- What libpix_c.a has ----
  *
  * The functions above go through these four, which are proved. They test sizes, kinds, regions, operators, sources,
- * formats and lengths; no pointer may be null here, also where its length is 0, and nothing may overlap. `stride` is
- * at least the width. */
+ * formats and lengths. Here no pointer may be null or badly aligned, also where its length is 0, and those in commands
+ * of other kinds neither; and the image, `done` and `dst` may share memory with nothing else that is passed. Lengths
+ * are counted in elements. `stride` is at least the width, and 0 doesn't stand for it. */
 
 uint32_t pix_run_commands(pix_rgba8 *pixels, size_t pixel_count, uint32_t width, uint32_t height, uint32_t stride,
                           const pix_command *commands, size_t command_count, size_t *done);

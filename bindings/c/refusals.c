@@ -228,6 +228,18 @@ static void formats(void) {
         }
 }
 
+/* Colors that were multiplied by an alpha that is dropped: they stay so within one order of channels alone. */
+static void dropped_alphas(void) {
+    const uint8_t half[4] = {64, 64, 64, 128};
+    uint8_t to[3];
+    CHECK(pix_convert(PIX_FORMAT_RGBA8P, PIX_FORMAT_RGB8, half, to, 1) == PIX_OK);
+    CHECK(to[0] == 64 && to[1] == 64 && to[2] == 64);
+    CHECK(pix_convert(PIX_FORMAT_BGRA8P, PIX_FORMAT_RGB8, half, to, 1) == PIX_OK);
+    CHECK(to[0] == 128 && to[1] == 128 && to[2] == 128);
+    CHECK(pix_convert(PIX_FORMAT_RGBA8P, PIX_FORMAT_GRAY8, half, to, 1) == PIX_OK);
+    CHECK(to[0] == 128);
+}
+
 /* 16 bits a channel: half of a color over another one, and through a mask. */
 static void wide_pixels(void) {
     pix_rgba16 image[4], source[4] = {{9, 8, 7, 65535}, {0, 0, 0, 0}, {6, 5, 4, 65535}, {1, 2, 3, 65535}};
@@ -281,6 +293,7 @@ int main(void) {
     strides();
     operators();
     formats();
+    dropped_alphas();
     wide_pixels();
     gray_pixels();
     CHECK(is_reset());

@@ -18,7 +18,8 @@ outside an image is neither read nor written. A list is tested as a whole before
 exception is raised, no pixel was changed.
 
 The shared object libpix_c.so is looked for at the path PIX_LIBRARY of the environment, and else beside this file. A
-call holds the interpreter's lock, so that no other Python thread touches the buffers meanwhile. Needs CPython 3.8.
+call holds the interpreter's lock, so that no other Python thread touches the buffers meanwhile; where Python is built
+without that lock, the program has to keep its threads from them. Needs CPython 3.8.
 """
 
 import ctypes
@@ -241,10 +242,10 @@ class _View:
 
 
 class Matte(_View):
-    """A mask: how much of a color enters at each point, from 0 (none) to 255 (all), or to 65535 with `bits` 16.
+    """A mask: the fraction of a color that is composited at each point, from 0 (none) to 255 (all).
 
-    The first goes with images of 8 bits a channel, the other one with RGBA16. `values` is any buffer, and may be
-    read-only; `stride` is counted in values.
+    It goes with images of 8 bits a channel; with `bits` 16, from 0 to 65535, with RGBA16. `values` is any buffer, and
+    may be read-only; `stride` is counted in values.
     """
 
     def __init__(self, values, width, height, stride=None, bits=8):
@@ -385,8 +386,9 @@ def convert(from_, src, to, dst=None):
     """Converts all pixels of the buffer `src` to the format of `dst`, which has room for just as many; returns `dst`.
 
     Without `dst` a new bytearray is returned. An alpha that `from_` lacks is 255. One that `to` lacks is dropped, and
-    colors that were multiplied by it stay so. Raises PixError where the lengths don't fit, TypeError where `dst` is
-    read-only and ValueError where the two overlap.
+    colors that were multiplied by it stay so from RGBA8P and SRGBA8P to RGB8 and SRGB8; to all others they are divided
+    by it. Raises PixError where the lengths don't fit, TypeError where `dst` is read-only and ValueError where the two
+    overlap.
     """
     from_, to = Format(from_), Format(to)
     source = _Bytes(src)

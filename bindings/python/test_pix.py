@@ -136,6 +136,9 @@ class Paintings(unittest.TestCase):
             for b in pix.Format:
                 self.assertEqual(pix.convert(a, b"\xff" * a.size, b), b"\xff" * b.size)
         self.assertEqual(pix.convert(pix.Format.RGB8, b"\xff\0\0", pix.Format.BGRA8P), b"\0\0\xff\xff")
+        half = bytes((64, 64, 64, 128))
+        self.assertEqual(pix.convert(pix.Format.RGBA8P, half, pix.Format.RGB8), bytes((64, 64, 64)))
+        self.assertEqual(pix.convert(pix.Format.BGRA8P, half, pix.Format.RGB8), bytes((128, 128, 128)))
 
     def test_views_of_three_dimensions(self):
         pixels = bytearray(4 * 6 * 4)

@@ -1,6 +1,6 @@
 -- Copied pixels, by their numbers.
 use Rattle.std.proofs.Common.{◌≡◌, List, [], ◌∷◌, length, map, replicate, refl, ap}
-use Rattle.pix_el.specs.PixelComposite.{over}
+use Rattle.pix_chan.specs.Runs.{over}
 
 -- one color in place of each pixel
 pub map_color : {P X : Type 0} (n : P → X) (clr : P) (xs : List P) → map n (replicate (length xs) clr) ≡ map (λ _. n clr) (map n xs)

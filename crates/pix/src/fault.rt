@@ -6,7 +6,7 @@ ghost use Rattle.pix.specs.Sizes.{size_fault};
 use crate::region::LIMIT;
 use thiserror::Error;
 
-/// The reason why a raster or a buffer was not made: the first that applies, in this order.
+/// The reason why a raster, a buffer or a palette was not made: the first that applies, in this order.
 #[derive(Clone, Copy, Debug, PartialEq, Eq, Error)]
 pub enum RasterFault {
     /// The width is above 2147483647.

@@ -1,6 +1,6 @@
 //! Changes of images in memory that the caller owns, in pixels of the caller's own layout.
 ghost use Rattle.std.specs.Prelude.{◌≡◌, ℕ, ◌+◌, ◌-◌, ◌*◌, ◌<◌, ◌≤◌, List, length, map};
-ghost use Rattle.pix_el.specs.PixelComposite.{over};
+ghost use Rattle.pix_chan.specs.Runs.{over};
 ghost use Rattle.pix.specs.Region.{limit, whole};
 ghost use Rattle.pix.specs.Lent.{read_at, IsShaped, ChangedIn, where_covered, where_paired};
 ghost use Rattle.pix.specs.Clip.{where_in};
@@ -50,7 +50,7 @@ pub trait Blit<D, S> {
     /// What it makes of a source and a pixel.
     ghost makes: { Self → List ℕ → List ℕ → List ℕ };
 
-    /// Changes each pixel of a row by the pixel of the source at the same place.
+    /// Changes each pixel of a row by the pixel of the source at the same place. The shorter row decides, and the rest stays.
     fn blit(&self, row: &mut [D], src: &[S])
         requires { can_blit }
         ensures { map reads row.new ≡ over (makes self.now) (map source_reads src.now)

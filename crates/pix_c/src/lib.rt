@@ -35,7 +35,8 @@ use pix::rgb::{Rgba8p, Rgba16p};
 /// Runs `commands` in order on an image of `width` columns and `height` rows, which start `stride` pixels apart in `pixels`.
 ///
 /// Returns 0 when all are done. Else nothing was painted, and the status says why: the image is not in `pixels`, or the first command
-/// that is refused. `done` is the number of commands before that one, and of all of them when they are done.
+/// that is refused. `done` is the number of commands before that one, 0 where the image is refused, and the number of all when
+/// they are done.
 #[unsafe(no_mangle)]
 pub extern "C" fn pix_run_commands(
     pixels: &mut [PixRgba8],

@@ -17,7 +17,8 @@ use pix::matte::Matte;
 /// Runs `commands` in order on the image of that width, height and stride in `pixels`.
 ///
 /// Returns 0 when all are done. Else nothing was painted, and the status says why: the image is not in `pixels`, or the first command
-/// that is refused. `done` is the number of commands before that one, and of all of them when they are done.
+/// that is refused. `done` is the number of commands before that one, 0 where the image is refused, and the number of all when
+/// they are done.
 pub(crate) fn run<
     P: Pixel<Alpha = Premultiplied, Gamma = Linear>,
     D: FlatPixel<P>,

@@ -1,6 +1,7 @@
 //! Composites in a row of pixels in memory: sixteen at a time are read, composited by planes and written back.
 ghost use Rattle.std.specs.Prelude.{◌≡◌, ◌≤◌, ◌+◌, List, ℕ, length, map, min, replicate, take, ⊤};
-ghost use Rattle.pix_el.specs.PixelComposite.{pixel_composite, matted_composite, matte_value, over};
+ghost use Rattle.pix_chan.specs.Runs.{over};
+ghost use Rattle.pix_el.specs.PixelComposite.{pixel_composite, matted_composite, matte_value};
 
 use crate::format::{Flat, FlatPixel};
 use pix::chan::{Linear, Premultiplied};

@@ -1,5 +1,6 @@
 -- Runs of composites by runs of products and sums.
-use Rattle.std.proofs.Common.{◌≡◌, ℕ, ◌+◌, ◌-◌, List, [], ◌∷◌, length, map, refl, ap, ◌∙◌, arith, min}
+use Rattle.std.proofs.Common.{◌≡◌, ℕ, ◌+◌, ◌-◌, List, [], ◌∷◌, ◌++◌, length, map, take, sym, refl, ap, ◌∙◌, arith, min}
+use Rattle.std.proofs.lemmas.List.{take-map, take_at}
 use Rattle.pix_chan.specs.Number.{saturating_sum}
 use Rattle.pix_chan.specs.Product.{channel_product}
 use Rattle.pix_chan.specs.Channel.{IsNumbered}
@@ -47,9 +48,8 @@ as_they_are [] (x ∷ xs) = refl
 as_they_are (w ∷ ws) [] = refl
 as_they_are (w ∷ ws) (x ∷ xs) = ap (λ (l : List ℕ). x ∷ l) (as_they_are ws xs)
 
--- one minus each, written over a list of the same length
-pub written_over : (m : ℕ) (ws xs : List ℕ) → length ws ≡ length xs → over (λ w x. m - w) ws xs ≡ map (λ w. m - w) ws
-written_over m [] [] e = refl
-written_over m [] (x ∷ xs) e = absurd (omega arith)
-written_over m (w ∷ ws) [] e = absurd (omega arith)
-written_over m (w ∷ ws) (x ∷ xs) e = ap (λ (l : List ℕ). (m - w) ∷ l) (written_over m ws xs (omega arith))
+-- what is made of each of a list that others follow
+pub front_of : {C : Type 0} (number : C → ℕ) (f : ℕ → ℕ) (n : ℕ) (xs ys made : List C) → length xs ≡ n
+    → map number made ≡ map f (map number (xs ++ ys)) → map number (take n made) ≡ map f (map number xs)
+front_of number f n xs ys made l e =
+    sym (take-map number n made) ∙ ap (take n) e ∙ take-map f n (map number (xs ++ ys)) ∙ ap (map f) (take-map number n (xs ++ ys) ∙ ap (map number) (take_at xs ys n l))

@@ -1,5 +1,5 @@
 -- The composite of two pixels, and of a pixel through a matte.
-use Rattle.std.specs.Prelude.{ℕ, List, [], ◌∷◌, map, if◌then◌else◌}
+use Rattle.std.specs.Prelude.{ℕ, List, map, if◌then◌else◌}
 use Rattle.std.specs.List.{range_with_len}
 use Rattle.pix_chan.specs.declared.ops.Op.{Op}
 use Rattle.pix_chan.specs.Product.{channel_product}
@@ -43,9 +43,3 @@ matte_numbers number matte = map number matte.channels
 -- the value of a matte: its one channel
 abbrev pub matte_value : Layout → List ℕ → ℕ
 matte_value layout matte = channel layout.max matte 0
-
--- f of the two elements at each index below both lengths, and the rest of the second list as it is
-abbrev pub over : {X Y : Type 0} → (X → Y → Y) → List X → List Y → List Y
-over f source [] = []
-over f [] (d ∷ dest) = d ∷ dest
-over f (s ∷ source) (d ∷ dest) = f s d ∷ over f source dest

@@ -130,8 +130,9 @@ unsafe extern "C" {
     ///
     /// # Safety
     ///
-    /// The pointers are valid for their counts, aligned and not null, those of the commands too. Nothing else reads
-    /// or writes the pixels during the call.
+    /// The pointers are valid for their counts, aligned and not null, those of the commands too. The pixels and `done`
+    /// share no byte with each other, the commands or what those point to, and nothing else reads or writes the two
+    /// during the call.
     pub fn pix_run_commands(
         pixels: *mut Rgba8,
         pixel_count: usize,
@@ -179,7 +180,8 @@ unsafe extern "C" {
     ///
     /// # Safety
     ///
-    /// The pointers are valid for their lengths and not null, and what is written shares no byte with what is read.
+    /// The pointers are valid for their lengths and not null. What is written shares no byte with what is read, and
+    /// nothing else reads or writes it during the call.
     pub fn pix_convert_bytes(
         from: u32,
         to: u32,

@@ -9,8 +9,8 @@ use pix_sys::kind;
 /// An operator of Porter and Duff, or the sum.
 ///
 /// Each channel of the outcome, the alpha too, is that of the term here, where s and d are the channels of source and
-/// destination and sa and da the alphas as fractions. Products are rounded to the nearest, and a sum stops at the
-/// greatest value.
+/// destination and sa and da the alphas as fractions. Products are rounded to the nearest, and a sum saturates
+/// at the maximum.
 #[repr(u32)]
 #[derive(Clone, Copy, Debug, PartialEq, Eq, Hash)]
 pub enum Op {

@@ -38,7 +38,8 @@ impl Format {
 
 /// Converts all pixels of `src` to the format of `dst`, which has room for just as many.
 ///
-/// An alpha that `from` lacks is 255. One that `to` lacks is dropped, and colors that were multiplied by it stay so.
+/// An alpha that `from` lacks is 255. One that `to` lacks is dropped, and colors that were multiplied by it stay so
+/// from `Rgba8p` and `SRgba8p` to `Rgb8` and `SRgb8`; to all others they are divided by it.
 pub fn convert(from: Format, src: &[u8], to: Format, dst: &mut [u8]) -> Result<(), Error> {
     let count = src.len() / from.size();
     if src.len() != count * from.size() || Some(dst.len()) != count.checked_mul(to.size()) {

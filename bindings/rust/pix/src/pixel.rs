@@ -4,9 +4,9 @@ use core::slice;
 
 pub use pix_sys::{Graya8, Region, Rgba8, Rgba16};
 
-/// A pixel that can be composited: [`Rgba8`], [`Rgba16`] or [`Graya8`].
+/// A pixel that can be composited: [`Rgba8`], [`Rgba16`] or [`Graya8`]. This trait is sealed.
 pub trait Pixel: Copy + Default + private::Calls<Self::Matte> {
-    /// A value of a mask, from 0 (no color enters) to the greatest number (all of it).
+    /// A value of a mask, from 0 (none of the color is composited) to the maximum (all of it).
     type Matte: Copy;
 }
 

@@ -143,6 +143,15 @@ fn lengths_are_tested() {
 }
 
 #[test]
+fn an_alpha_is_dropped() {
+    let (half, mut to) = ([64, 64, 64, 128], [0; 3]);
+    let stay = convert(Format::Rgba8p, &half, Format::Rgb8, &mut to);
+    assert_eq!((stay, to), (Ok(()), [64; 3]));
+    let divided = convert(Format::Bgra8p, &half, Format::Rgb8, &mut to);
+    assert_eq!((divided, to), (Ok(()), [128; 3]));
+}
+
+#[test]
 fn what_lies_between_rows_stays() {
     let mut padded = [Rgba8::new(1, 2, 3, 4); 13];
     let rows: Vec<Rgba8> = (0..13).map(|i| Rgba8::new(i, 0, 0, 255)).collect();

@@ -59,10 +59,9 @@ impl Factor for Alpha {
     fn scale<C: Channel>(channels: &mut [C], alpha1: &[C]) {
         let count = channels.len();
         let mut array = [C::MIN; 16];
-        let whole = &mut array[..];
-        let alpha = &mut whole[..count];
-        complement(alpha, alpha1);
-        C::mul_run(channels, alpha);
+        array[..count].copy_from_slice(alpha1);
+        let alpha = &C::less16(array)[..];
+        C::mul_run(channels, &alpha[..count]);
     }
 }
 
@@ -72,17 +71,6 @@ impl Factor for OneMinusAlpha {
     #[inline(always)]
     fn scale<C: Channel>(channels: &mut [C], alpha1: &[C]) {
         C::mul_run(channels, alpha1);
-    }
-}
-
-/// Writes one minus each channel of `of` to `to`.
-#[inline(always)]
-fn complement<C: Channel>(to: &mut [C], of: &[C])
-    requires { length of.now ≡ length to.old }
-    ensures { map C.number to.new ≡ map (λ x. C.max - x) (map C.number of.now) }
-{
-    for i in 0..to.len() {
-        to[i] = C::MAX - of[i];
     }
 }
 
