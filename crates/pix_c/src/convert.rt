@@ -145,10 +145,10 @@ where
         (record { format = D.format; gamma = D.Gamma.mode }) count src.now dst.new }
 {
     let (wide, to_wide) = (width::<S>(), width::<D>());
-    for place in 0..count {
-        let start = place * wide;
+    for index in 0..count {
+        let start = index * wide;
         let pixel = S::of_bytes(&src[start..start + wide]).convert::<D>();
-        let start = place * to_wide;
+        let start = index * to_wide;
         pixel.write(&mut dst[start..start + to_wide]);
     }
 }
