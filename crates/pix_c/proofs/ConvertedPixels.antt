@@ -10,7 +10,7 @@ use Rattle.pix_c.specs.Converted.{IsConverted, pixel_at}
 
 -- no pixel is converted yet
 pub converted_none : (from to : BufferFormat) (src dst : List ℕ) → IsConverted from to 0 src dst
-converted_none from to src dst = record { each = λ place below. absurd (omega arith) }
+converted_none from to src dst = record { each = λ index below. absurd (omega arith) }
 
 -- a range below what was written stands as it did
 range_below : (xs ys : List ℕ) (start end at wide : ℕ) → end ≤ at → at ≤ length xs → slice_range (put_mid at wide xs ys) start end ≡ slice_range xs start end
@@ -20,18 +20,18 @@ range_below xs ys start end at wide below within =
     ∙ sym (between_is xs start end)
 
 -- the next pixel was written
-pub converted_more : (from to : BufferFormat) (src dst part : List ℕ) (place start wide : ℕ) → IsConverted from to place src dst
-    → start ≡ place * channels to → wide ≡ channels to → start ≤ length dst → length part ≡ wide
-    → part ≡ converted from.format from.gamma to.format to.gamma (pixel_at (channels from) src place)
-    → IsConverted from to (place + 1) src (put_mid start wide dst part)
-converted_more from to src dst part place start wide so_far at span within long new = record {
-  each = λ k below. elim (cases_lt k place) [
+pub converted_more : (from to : BufferFormat) (src dst part : List ℕ) (index start wide : ℕ) → IsConverted from to index src dst
+    → start ≡ index * channels to → wide ≡ channels to → start ≤ length dst → length part ≡ wide
+    → part ≡ converted from.format from.gamma to.format to.gamma (pixel_at (channels from) src index)
+    → IsConverted from to (index + 1) src (put_mid start wide dst part)
+converted_more from to src dst part index start wide so_far at span within long new = record {
+  each = λ k below. elim (cases_lt k index) [
     | inl before ↦
         let next : k * channels to + channels to ≡ (k + 1) * channels to = omega arith in
-        let up : (k + 1) * channels to ≤ place * channels to = mul-le-mul_right (channels to) (let p : k + 1 ≤ place = omega arith in p) in
+        let up : (k + 1) * channels to ≤ index * channels to = mul-le-mul_right (channels to) (let p : k + 1 ≤ index = omega arith in p) in
         range_below dst part (k * channels to) (k * channels to + channels to) start wide (omega arith) within ∙ so_far.each k before
     | inr past ↦
-        let here : k ≡ place = omega arith in
+        let here : k ≡ index = omega arith in
         let end : k * channels to + channels to ≡ start + wide = rw here (omega arith) in
         let first : k * channels to ≡ start = rw here (sym at) in
         let size : length part ≡ start + wide - start = omega arith in

@@ -5,7 +5,7 @@ use Rattle.std.proofs.lemmas.Bool.Decides.{nat_tests}
 use Rattle.std.proofs.lemmas.List.{map-append, take-map, drop-map, length-map, length-take-le, length-drop, get_or_append_left, get_or-append_right, get_or-take, get_or-drop}
 use Rattle.pix.specs.Image.{point}
 use Rattle.pix.specs.Lent.{read_at, IsShaped}
-use Rattle.pix_c.specs.Command.{rows_of, image_of}
+use Rattle.pix_c.specs.Command.{joined_rows, image_of}
 use Rattle.pix_c.specs.Status.{is_sized}
 
 -- a size that is accepted
@@ -24,13 +24,13 @@ sized_is_shaped width height stride count e = record {
 -- what stands in the rows of an image stands in its buffer
 row_read : {D : Type 0} (n : D → List ℕ) (width height stride : ℕ) (xs : List D) (x y : ℕ) → x < width → y < height → width ≤ stride
     → ((r : ℕ) → r < height → r * stride + width ≤ length xs)
-    → get_or (map n (rows_of width height stride xs)) (y * width + x) [] ≡ get_or (map n xs) (y * stride + x) []
+    → get_or (map n (joined_rows width height stride xs)) (y * width + x) [] ≡ get_or (map n xs) (y * stride + x) []
 row_read n width zero stride xs x y lx ly apart last = absurd (omega arith)
 row_read n width (suc height) stride xs x zero lx ly apart last =
     let fits : width ≤ length xs = let h = last 0 (omega arith) in omega (arith, h) in
     let front : length (map n (take width xs)) ≡ width = length-map (take width xs) n ∙ length-take-le width xs fits in
-    ap (λ l. get_or l (0 * width + x) []) (map-append n (take width xs) (rows_of width height stride (drop stride xs)))
-    ∙ ap (λ k. get_or (map n (take width xs) ++ map n (rows_of width height stride (drop stride xs))) k []) (let e : 0 * width + x ≡ x = omega arith in e)
+    ap (λ l. get_or l (0 * width + x) []) (map-append n (take width xs) (joined_rows width height stride (drop stride xs)))
+    ∙ ap (λ k. get_or (map n (take width xs) ++ map n (joined_rows width height stride (drop stride xs))) k []) (let e : 0 * width + x ≡ x = omega arith in e)
     ∙ get_or_append_left (map n (take width xs)) _ [] x (omega arith)
     ∙ ap (λ l. get_or l x []) (sym (take-map n width xs))
     ∙ get_or-take width (map n xs) x [] lx
@@ -38,9 +38,9 @@ row_read n width (suc height) stride xs x zero lx ly apart last =
 row_read n width (suc height) stride xs x (suc y) lx ly apart last =
     let fits : width ≤ length xs = let h = last 0 (omega arith) in omega (arith, h) in
     let front : length (map n (take width xs)) ≡ width = length-map (take width xs) n ∙ length-take-le width xs fits in
-    let rest : List (List ℕ) = map n (rows_of width height stride (drop stride xs)) in
+    let rest : List (List ℕ) = map n (joined_rows width height stride (drop stride xs)) in
     let place : suc y * width + x - width ≡ y * width + x = omega arith in
-    ap (λ l. get_or l (suc y * width + x) []) (map-append n (take width xs) (rows_of width height stride (drop stride xs)))
+    ap (λ l. get_or l (suc y * width + x) []) (map-append n (take width xs) (joined_rows width height stride (drop stride xs)))
     ∙ get_or-append_right (map n (take width xs)) rest width (suc y * width + x) [] front (omega arith)
     ∙ ap (λ k. get_or rest k []) place
     ∙ row_read n width height stride (drop stride xs) x y lx (omega arith) apart

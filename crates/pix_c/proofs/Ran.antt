@@ -44,12 +44,14 @@ module _ {D M : Type 0} (layout : Layout) (n : D → List ℕ) (m : M → List �
       let after = image_of width height stride new in
       let fold = changed shaped long ran in
       record {
-        fold = fold;
-        swapped = λ others e. changed_swapped layout n m before after cs others fold e;
-        premultiplied = keeps_premultiplied layout n m cs before after format fold;
-        within_budget = within_budget layout n m cs before after format fold;
-        small_budget = small_budget layout n m cs before after;
-        premultiplied_bound = within_premultiplied_bound layout n m cs before after format fold;
-        transparent = stays_under_transparent layout n m cs before after format fold;
+        run = record {
+          fold = fold;
+          swapped = λ others e. changed_swapped layout n m before after cs others fold e;
+          premultiplied = keeps_premultiplied layout n m cs before after format fold;
+          within_budget = within_budget layout n m cs before after format fold;
+          small_budget = small_budget layout n m cs before after;
+          premultiplied_bound = within_premultiplied_bound layout n m cs before after format fold;
+          transparent = stays_under_transparent layout n m cs before after format fold;
+        };
         kept = ran.kept;
       }

@@ -16,14 +16,14 @@ use Rattle.pix_c.specs.declared.format.PixRgba8.{PixRgba8}
 use Rattle.pix_c.specs.declared.format.PixRgba16.{PixRgba16}
 use Rattle.pix_c.specs.declared.format.PixGraya8.{PixGraya8}
 
--- the first `width` elements of each of `height` rows that start `stride` elements apart
-abbrev pub rows_of : {D : Type 0} → ℕ → ℕ → ℕ → List D → List D
-rows_of width zero stride items = []
-rows_of width (suc height) stride items = take width items ++ rows_of width height stride (drop stride items)
+-- the first `width` elements of each of `height` rows that start `stride` elements apart, one row after the other
+abbrev pub joined_rows : {D : Type 0} → ℕ → ℕ → ℕ → List D → List D
+joined_rows width zero stride items = []
+joined_rows width (suc height) stride items = take width items ++ joined_rows width height stride (drop stride items)
 
 -- the image of that width and height in rows that start `stride` elements apart
 abbrev pub image_of : {D : Type 0} → ℕ → ℕ → ℕ → List D → Image D
-image_of width height stride items = record { width = width; height = height; pixels = rows_of width height stride items }
+image_of width height stride items = record { width = width; height = height; pixels = joined_rows width height stride items }
 
 -- the operators in the order of their numbers
 abbrev pub op_at : ℕ → Op
@@ -51,7 +51,7 @@ command_of c =
     else (if nat_eq c.kind 4 then commands.Raster (rectangle c.to) pixels (rectangle c.from) (op_at c.op)
     else commands.Matte (rectangle c.to) mattes (rectangle c.from) c.color (op_at c.op)))))
 
--- the commands of each format, in the layout of all formats
+-- a command of each format, with the same fields in the layout of all formats
 abbrev pub rgba8_command : PixCommand → FlatCommand PixRgba8 ℕ
 rgba8_command c = record {
   kind = c.kind;

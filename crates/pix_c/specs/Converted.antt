@@ -3,21 +3,21 @@ use Rattle.std.specs.Prelude.{◌≡◌, ℕ, ◌+◌, ◌*◌, ◌<◌, List, O
 use Rattle.pix_el.specs.Conversion.{converted}
 use Rattle.pix_c.specs.Formats.{BufferFormat, channels, formats}
 
--- the channels of the pixel at a place of a buffer: `count` bytes, one a channel
+-- the channels of the pixel of that index in a buffer: `wide` bytes, one a channel
 abbrev pub pixel_at : ℕ → List ℕ → ℕ → List ℕ
-pixel_at count bytes place = slice_range bytes (place * count) (place * count + count)
+pixel_at wide bytes index = slice_range bytes (index * wide) (index * wide + wide)
 
--- at each place below the count stands the pixel that stands there in the source, converted
+-- each pixel of an index below the count is that of the source of the same index, converted
 pub record IsConverted (from to : BufferFormat) (count : ℕ) (src dst : List ℕ) : Type 0 where
-  pub each : (place : ℕ) → place < count → pixel_at (channels to) dst place
-      ≡ converted from.format from.gamma to.format to.gamma (pixel_at (channels from) src place)
+  pub each : (index : ℕ) → index < count → pixel_at (channels to) dst index
+      ≡ converted from.format from.gamma to.format to.gamma (pixel_at (channels from) src index)
 
--- the status for two formats: 6 where one is missing, 7 where a length in bytes is not that of `count` pixels, and else 0
-abbrev pub status_of : Option BufferFormat → Option BufferFormat → ℕ → ℕ → ℕ → ℕ
-status_of (Some from) (Some to) src_len dst_len count =
+-- the status of a conversion between two formats: 6 where one is missing, 7 where a length in bytes is not that of `count` pixels, and else 0
+abbrev pub formats_status : Option BufferFormat → Option BufferFormat → ℕ → ℕ → ℕ → ℕ
+formats_status (Some from) (Some to) src_len dst_len count =
     if nat_eq src_len (count * channels from) && nat_eq dst_len (count * channels to) then 0 else 7
-status_of from to src_len dst_len count = 6
+formats_status from to src_len dst_len count = 6
 
 -- the status for the numbers of two formats
 abbrev pub conversion_status : (from to src_len dst_len count : ℕ) → ℕ
-conversion_status from to = status_of (slice_get formats from) (slice_get formats to)
+conversion_status from to = formats_status (slice_get formats from) (slice_get formats to)

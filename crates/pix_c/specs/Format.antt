@@ -1,6 +1,7 @@
 -- Pixels and mattes as C lays them out, by the numbers of their channels.
 use Rattle.std.specs.Prelude.{ℕ, List, [], ◌∷◌, map, min}
 use Rattle.pix_el.specs.Pixel.{Layout}
+use Rattle.pix_el.specs.Model.{Model, Rgb, Gray, row}
 use Rattle.pix_c.specs.declared.format.PixRgba8.{PixRgba8}
 use Rattle.pix_c.specs.declared.format.PixRgba16.{PixRgba16}
 use Rattle.pix_c.specs.declared.format.PixGraya8.{PixGraya8}
@@ -13,7 +14,7 @@ bytes channels = map (λ n. min n 255) channels
 abbrev pub words : List ℕ → List ℕ
 words channels = map (λ n. min n 65535) channels
 
--- the numbers of a pixel's channels
+-- the numbers of a pixel's channels, for each format
 abbrev pub rgba8_numbers : PixRgba8 → List ℕ
 rgba8_numbers pixel = bytes pixel.channels
 
@@ -23,19 +24,23 @@ rgba16_numbers pixel = words pixel.channels
 abbrev pub graya8_numbers : PixGraya8 → List ℕ
 graya8_numbers pixel = bytes pixel.channels
 
--- the number of a matte's channel
+-- the number of a matte's channel, of 8 and of 16 bits
 abbrev pub matte8_numbers : ℕ → List ℕ
 matte8_numbers value = bytes (value ∷ [])
 
 abbrev pub matte16_numbers : ℕ → List ℕ
 matte16_numbers value = words (value ∷ [])
 
--- the layouts of the pixels
+-- the layout of so many channels up to a maximum, as a color model has them
+abbrev pub layout_of : (max count : ℕ) → Model → Layout
+layout_of max count model = record { max = max; count = count; hues = (row model).hues; alpha = (row model).alpha }
+
+-- the layouts of the pixels: red, green, blue and alpha of 8 and of 16 bits, and gray and alpha of 8 bits
 abbrev pub rgba8 : Layout
-rgba8 = record { max = 255; count = 4; hues = record { start = 0; end = 0 }; alpha = 3 }
+rgba8 = layout_of 255 4 Rgb
 
 abbrev pub rgba16 : Layout
-rgba16 = record { max = 65535; count = 4; hues = record { start = 0; end = 0 }; alpha = 3 }
+rgba16 = layout_of 65535 4 Rgb
 
 abbrev pub graya8 : Layout
-graya8 = record { max = 255; count = 2; hues = record { start = 0; end = 0 }; alpha = 1 }
+graya8 = layout_of 255 2 Gray

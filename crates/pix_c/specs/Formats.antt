@@ -7,6 +7,7 @@ use Rattle.pix_el.specs.Color.{rgb_itself}
 use Rattle.pix_el.specs.Conversion.{Format}
 use Rattle.pix_color.specs.Bgr.{reversed}
 use Rattle.pix_color.specs.Gray.{rgb_of_gray, gray_of_rgb}
+use Rattle.pix_c.specs.Format.{layout_of}
 
 -- a format with its gamma mode
 pub record BufferFormat : Type 0 where
@@ -21,7 +22,7 @@ channels buffer = buffer.format.layout.count
 abbrev pub bytes_of : Model → (ℕ → ℕ → ℕ → ℕ → List ℕ) → (ℕ → ℕ → ℕ → ℕ → List ℕ) → ℕ → AlphaMode → GammaMode → BufferFormat
 bytes_of model to_rgb of_rgb count alpha_mode gamma = record {
   format = record {
-    layout = record { max = 255; count = count; hues = (row model).hues; alpha = (row model).alpha };
+    layout = layout_of 255 count model;
     kind = (row model).kind;
     colors = (row model).colors;
     to_rgb = to_rgb;

@@ -20,17 +20,19 @@ pub struct PixRegion {
 }
 
 /// A change of an image of 8-bit pixels of red, green, blue and alpha.
+///
+/// The operator and both regions are tested for every kind; a source only where the kind reads it.
 #[repr(C)]
 #[derive(Clone, Copy, Drop)]
 pub struct PixCommand<'a> {
     /// What is done: 0 clears the image, 1 copies a color, 2 copies an image, 3 composites a color, 4 composites an image, and 5
     /// composites a color through mattes.
     pub kind: u32,
-    /// The number of the operator, from 0 to 12, also where the kind takes none.
+    /// The number of the operator, from 0 to 12.
     pub op: u32,
     /// The region of the destination, where the kind takes one.
     pub to: PixRegion,
-    /// The region of the source, where the kind takes one. Both are tested in any case.
+    /// The region of the source, where the kind takes one.
     pub from: PixRegion,
     /// The color of kinds 1, 3 and 5.
     pub color: PixRgba8,

@@ -22,8 +22,8 @@ mod tests;
 /// A pixel is its channels in order, one byte each, and no byte stands between two pixels. The formats are 0 `SRgba8`, 1 `SRgba8p`,
 /// 2 `Rgba8`, 3 `Rgba8p`, 4 `Bgra8`, 5 `Bgra8p`, 6 `Rgb8`, 7 `Gray8`, 8 `SBgra8`, 9 `SBgra8p`, 10 `SRgb8` and 11 `SGray8`.
 ///
-/// Answers 0 where the pixels are converted. Nothing is written, and the answer is 6 where `from` or `to` is the number of no format,
-/// else 7 where `src` or `dst` is not as long as `count` pixels.
+/// Returns 0 when they are converted. Else nothing is written, and the status is 6 where `from` or `to` is no format's number, and
+/// otherwise 7 where a buffer is not `count` pixels long.
 #[unsafe(no_mangle)]
 pub extern "C" fn pix_convert_bytes(
     from: u32,
@@ -146,10 +146,10 @@ where
         (record { format = D.format; gamma = D.Gamma.mode }) count src.now dst.new }
 {
     let (wide, to_wide) = (width::<S>(), width::<D>());
-    for place in 0..count {
-        let start = place * wide;
+    for index in 0..count {
+        let start = index * wide;
         let pixel = S::of_bytes(&src[start..start + wide]).convert::<D>();
-        let start = place * to_wide;
+        let start = index * to_wide;
         pixel.write(&mut dst[start..start + to_wide]);
     }
 }

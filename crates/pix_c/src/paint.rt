@@ -92,7 +92,7 @@ impl<
     }
 }
 
-/// Does what a command says, on an image of that shape.
+/// Draws a command on an image of that shape.
 ///
 /// Condition: the rows of the image lie in `pixels`, and the command is not refused.
 pub(crate) fn paint<

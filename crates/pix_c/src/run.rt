@@ -1,8 +1,11 @@
 //! The run of a list of commands on the caller's pixels, for any format.
 ghost use Rattle.std.specs.Prelude.{◌≡◌, ◌≢◌, length, map};
-ghost use Rattle.pix.specs.Lent.{IsShaped};
+ghost use Rattle.pix.specs.Region.{whole};
+ghost use Rattle.pix.specs.Run.{run_at};
+ghost use Rattle.pix.specs.Lent.{IsShaped, ChangedIn};
+ghost use Rattle.pix_c.specs.Command.{command_of};
 ghost use Rattle.pix_c.specs.Status.{status_of, done_of, first_fault};
-ghost use Rattle.pix_c.specs.Run.{IsRun, IsRunIn};
+ghost use Rattle.pix_c.specs.Run.{IsRun};
 
 use crate::command::Flatten;
 use crate::format::{Flat, FlatPixel};
@@ -59,8 +62,9 @@ fn run_all<
 >(pixels: &mut [D], shape: Shape, commands: &[C])
     requires shaped { IsShaped shape (length pixels.old) }
     requires sound { first_fault (map C.flat commands.now) ≡ 0 }
-    ensures { IsRunIn P.layout D.numbers M.numbers shape
-        (map C.flat commands.now) pixels.old pixels.new }
+    ensures { ChangedIn D.numbers shape pixels.old pixels.new
+        (run_at P.layout D.numbers M.numbers (whole shape.width shape.height)
+        (map command_of (map C.flat commands.now))) }
 {
     for command in commands {
         paint::<P, D, M>(pixels, shape, &command.flat());

@@ -1,5 +1,5 @@
 //! Composites in a row of pixels in memory: sixteen at a time are read, composited by planes and written back.
-ghost use Rattle.std.specs.Prelude.{◌≡◌, ◌+◌, ◌≤◌, List, ℕ, length, map, ⊤};
+ghost use Rattle.std.specs.Prelude.{◌≡◌, ◌≤◌, ◌+◌, List, ℕ, length, map, min, replicate, take, ⊤};
 ghost use Rattle.pix_chan.specs.Runs.{over};
 ghost use Rattle.pix_el.specs.PixelComposite.{pixel_composite, matted_composite, matte_value};
 
@@ -71,6 +71,29 @@ fn merge_sixteen<P: Pixel, D: FlatPixel<P>, Q: Pixel, S: Flat<Q>, B: Merge<P, Q>
     write_pixels(part, &pixels);
 }
 
+/// Changes as many whole sixteens of a row as it shares with the source, each pixel by the one at the same place, and returns the
+/// number of those pixels.
+#[inline(always)]
+fn merge_sixteens<P: Pixel, D: FlatPixel<P>, Q: Pixel, S: Flat<Q>, B: Merge<P, Q>>(
+    row: &mut [D],
+    src: &[S],
+    change: &B,
+) -> usize
+    ensures within { result ≤ min (length row.old) (length src.now) }
+    ensures merged { map D.numbers row.new ≡ over (B.makes change.now)
+        (take result (map S.numbers src.now)) (map D.numbers row.old) }
+{
+    let sixteens = row.len().min(src.len()) / 16;
+    for k in 0..sixteens {
+        merge_sixteen(
+            &mut row[16 * k..16 * k + 16],
+            &src[16 * k..16 * k + 16],
+            change,
+        );
+    }
+    16 * sixteens
+}
+
 /// Changes each pixel of a row by the pixel of the source at the same place.
 #[inline(always)]
 fn merge_row<P: Pixel, D: FlatPixel<P>, Q: Pixel, S: Flat<Q>, B: Merge<P, Q>>(
@@ -81,15 +104,9 @@ fn merge_row<P: Pixel, D: FlatPixel<P>, Q: Pixel, S: Flat<Q>, B: Merge<P, Q>>(
     ensures { map D.numbers row.new ≡ over (B.makes change.now) (map S.numbers src.now)
         (map D.numbers row.old) }
 {
+    let start = merge_sixteens(row, src, change);
     let count = row.len().min(src.len());
-    for k in 0..count / 16 {
-        merge_sixteen(
-            &mut row[16 * k..16 * k + 16],
-            &src[16 * k..16 * k + 16],
-            change,
-        );
-    }
-    for i in count / 16 * 16..count {
+    for i in start..count {
         let mut pixel = row[i].read();
         change.merge_one(&mut pixel, &src[i].read());
         row[i] = D::write(&pixel);
@@ -250,6 +267,24 @@ fn color_sixteen<P: Pixel<Alpha = Premultiplied, Gamma = Linear>, D: FlatPixel<P
     write_pixels(part, &pixels);
 }
 
+/// Composites a color with as many whole sixteens of pixels as a row has, and returns the number of those pixels.
+#[inline(always)]
+fn color_sixteens<P: Pixel<Alpha = Premultiplied, Gamma = Linear>, D: FlatPixel<P>, O: Blend>(
+    row: &mut [D],
+    clr: &P,
+    op: O,
+) -> usize
+    ensures within { result ≤ length row.old }
+    ensures composited { map D.numbers row.new ≡ over (pixel_composite P.layout O.op)
+        (replicate result (P.numbers clr.now)) (map D.numbers row.old) }
+{
+    let sixteens = row.len() / 16;
+    for k in 0..sixteens {
+        color_sixteen(&mut row[16 * k..16 * k + 16], clr, op);
+    }
+    16 * sixteens
+}
+
 impl<P: Pixel<Alpha = Premultiplied, Gamma = Linear>, D: FlatPixel<P>, O: Blend> Fill<D>
     for CompositedColor<P, O> {
     ghost can_fill = { ⊤ };
@@ -259,11 +294,9 @@ impl<P: Pixel<Alpha = Premultiplied, Gamma = Linear>, D: FlatPixel<P>, O: Blend>
     ghost makes = { λ it. pixel_composite P.layout O.op (P.numbers it.clr) };
 
     fn fill(&self, row: &mut [D]) {
+        let start = color_sixteens(row, &self.clr, self.op);
         let count = row.len();
-        for k in 0..count / 16 {
-            color_sixteen(&mut row[16 * k..16 * k + 16], &self.clr, self.op);
-        }
-        for i in count / 16 * 16..count {
+        for i in start..count {
             let mut pixel = row[i].read();
             pixel.composite_channels(&self.clr, self.op);
             row[i] = D::write(&pixel);

@@ -37,16 +37,16 @@ where
     fn write(&self, bytes: &mut [u8]) {
         let channels = self.channels();
         let mut own = [0; N];
-        for place in 0..N {
-            own[place] = channels[place].into();
+        for ch in 0..N {
+            own[ch] = channels[ch].into();
         }
         bytes.copy_from_slice(&own);
     }
 }
 
-/// Returns the channel of the byte at a place, and 0 where there is none.
-fn channel_at(bytes: &[u8], place: usize) -> Ch8
-    ensures { ⟦<Ch8 as Channel>⟧.number result ≡ slice_index bytes.now place }
+/// Returns the channel of a number, and 0 where there is no byte for it.
+fn channel_at(bytes: &[u8], ch: usize) -> Ch8
+    ensures { ⟦<Ch8 as Channel>⟧.number result ≡ slice_index bytes.now ch }
 {
-    Ch8::new(*bytes.get(place).unwrap_or(&0))
+    Ch8::new(*bytes.get(ch).unwrap_or(&0))
 }

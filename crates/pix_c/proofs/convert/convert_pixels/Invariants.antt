@@ -1,8 +1,8 @@
 use Rattle.pix_c.specs.Converted.{IsConverted}
 use Rattle.pix_c.proofs.convert.convert_pixels.Given as goal
 
--- the pixels below place are converted
-abbrev pub invariant-loop-place : goal.invariant-loop-place
-invariant-loop-place g l =
+-- the pixels below index are converted
+abbrev pub invariant-loop-index : goal.invariant-loop-index
+invariant-loop-index g l =
     IsConverted (record { format = g.S.Pixel.format; gamma = g.S.Gamma.Gamma-2.mode }) (record { format = g.D.Pixel.format; gamma = g.D.Gamma.Gamma.mode })
-    l.place l.src l.dst
+    l.index l.src l.dst
