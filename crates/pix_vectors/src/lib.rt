@@ -26,6 +26,10 @@ mod exact;
 #[cfg(test)]
 mod getters;
 #[cfg(test)]
+mod grayas;
+#[cfg(test)]
+mod grays;
+#[cfg(test)]
 mod hues;
 #[cfg(test)]
 mod indexed;
@@ -49,6 +53,8 @@ mod planes;
 mod random_lists;
 #[cfg(test)]
 mod rasters;
+#[cfg(test)]
+mod rgbas;
 #[cfg(test)]
 mod rows;
 #[cfg(test)]
