@@ -1,5 +1,6 @@
 //! Regions at the ends of the coordinates of 32 bits, and rasters with a side of 0.
-use crate::pictures::{gray, picture};
+use crate::grays;
+use crate::pictures::gray;
 use pix::gray::Gray8;
 use pix::{Raster, RasterFault, Region};
 use std::alloc::{AllocError, Global};
@@ -20,7 +21,7 @@ fn regions_from_the_least_coordinate(rt: HostRuntime) {
 /// Each pair of regions with the pixel of a raster of one point after a copy of another such raster, whose pixel is 7.
 #[test]
 fn copies_of_one_point(rt: HostRuntime) -> Result<(), Fail> {
-    let source = Raster::with_color(rt.alloc(), 1, 1, gray(7))?;
+    let source = grays::filled(rt.alloc(), 1, 1, gray(7))?;
     for (to, from, want) in [
         (
             Region::new(-2147483646, 0, MOST, 1),
@@ -39,23 +40,27 @@ fn copies_of_one_point(rt: HostRuntime) -> Result<(), Fail> {
         ),
         (Region::from(()), Region::from((2147483647, 0)), 0),
     ] {
-        let mut raster = Raster::with_clear(rt.alloc(), 1, 1)?;
-        raster.copy_raster(to, &source, from);
-        assert_eq!(rt; raster.pixel(0, 0), gray(want), "{from:?} to {to:?}");
+        let mut raster = grays::cleared(rt.alloc(), 1, 1)?;
+        grays::copy_raster(&mut raster, to, &source, from);
+        assert_eq!(rt;
+            grays::pixel(&raster, 0, 0),
+            Some(gray(want)),
+            "{from:?} to {to:?}"
+        );
     }
     Ok(())
 }
 
 /// The widest raster, which has no rows.
 fn no_rows(alloc: Global) -> Result<Raster<Gray8>, RasterFault> {
-    Raster::with_clear(alloc, MOST, 0)
+    grays::cleared(alloc, MOST, 0)
 }
 
 #[test]
 fn a_wide_raster_of_no_rows(rt: HostRuntime) -> Result<(), Fail> {
     let raster = no_rows(rt.alloc())?;
-    assert_eq!(rt; (raster.width(), raster.height()), (MOST, 0));
-    assert!(rt; raster.pixels().is_empty());
+    assert_eq!(rt; grays::size(&raster), (MOST, 0));
+    assert!(rt; grays::pixels(&raster).is_empty());
     Ok(())
 }
 
@@ -69,47 +74,47 @@ fn rows_of_no_rows(rt: HostRuntime) -> Result<(), Fail> {
 #[test]
 fn a_row_of_no_rows(rt: HostRuntime) -> Result<(), Fail> {
     let mut raster = no_rows(rt.alloc())?;
-    assert!(rt; raster.row_mut(0, Region::from(())).is_none());
+    assert!(rt; !grays::has_row(&mut raster, 0, Region::from(())));
     Ok(())
 }
 
 #[test]
 fn no_rows_cleared(rt: HostRuntime) -> Result<(), Fail> {
     let mut raster = no_rows(rt.alloc())?;
-    raster.clear();
-    assert_eq!(rt; (raster.width(), raster.height()), (MOST, 0));
-    assert!(rt; raster.pixels().is_empty());
+    grays::clear(&mut raster);
+    assert_eq!(rt; grays::size(&raster), (MOST, 0));
+    assert!(rt; grays::pixels(&raster).is_empty());
     Ok(())
 }
 
 #[test]
 fn no_rows_under_a_color(rt: HostRuntime) -> Result<(), Fail> {
     let mut raster = no_rows(rt.alloc())?;
-    raster.copy_color(Region::from(()), gray(7));
-    assert_eq!(rt; (raster.width(), raster.height()), (MOST, 0));
-    assert!(rt; raster.pixels().is_empty());
+    grays::copy_color(&mut raster, Region::from(()), gray(7));
+    assert_eq!(rt; grays::size(&raster), (MOST, 0));
+    assert!(rt; grays::pixels(&raster).is_empty());
     Ok(())
 }
 
 #[test]
 fn no_rows_under_a_raster(rt: HostRuntime) -> Result<(), Fail> {
     let mut raster = no_rows(rt.alloc())?;
-    let source = Raster::with_color(rt.alloc(), 2, 2, gray(7))?;
-    raster.copy_raster(Region::from(()), &source, Region::from(()));
-    assert_eq!(rt; (raster.width(), raster.height()), (MOST, 0));
-    assert!(rt; raster.pixels().is_empty());
+    let source = grays::filled(rt.alloc(), 2, 2, gray(7))?;
+    grays::copy_raster(&mut raster, Region::from(()), &source, Region::from(()));
+    assert_eq!(rt; grays::size(&raster), (MOST, 0));
+    assert!(rt; grays::pixels(&raster).is_empty());
     Ok(())
 }
 
 #[test]
 fn a_high_raster_of_no_columns(rt: HostRuntime) -> Result<(), Fail> {
-    let raster = Raster::<Gray8>::with_clear(rt.alloc(), 0, 7)?;
-    let copy = raster.try_clone(rt.alloc())?;
-    assert_eq!(rt; (copy.width(), copy.height()), (0, 7));
-    assert!(rt; copy.pixels().is_empty());
-    assert!(rt; copy.to_u8_vec(rt.alloc())?.is_empty());
-    assert!(rt; copy.into_pixels().is_empty());
-    let bytes = raster.into_u8_vec(rt.alloc()).map_err(|(fault, _)| fault)?;
+    let raster = grays::cleared(rt.alloc(), 0, 7)?;
+    let copy = grays::try_clone(rt.alloc(), &raster)?;
+    assert_eq!(rt; grays::size(&copy), (0, 7));
+    assert!(rt; grays::pixels(&copy).is_empty());
+    assert!(rt; grays::to_bytes(rt.alloc(), &copy)?.is_empty());
+    assert!(rt; grays::into_pixels(copy).is_empty());
+    let bytes = grays::into_bytes(rt.alloc(), raster)?;
     assert!(rt; bytes.is_empty());
     Ok(())
 }
@@ -131,7 +136,7 @@ const COORDINATES: [i32; 9] = [
 const SIDES: [u32; 5] = [0, 1, 2, 2147483646, 2147483647];
 
 /// What a region of the destination and one of the source have in one direction: where they start, and how long they are.
-#[derive(Clone, Copy, Debug)]
+#[derive(Clone, Copy)]
 struct Axis {
     to: i32,
     to_len: u32,
@@ -189,8 +194,8 @@ fn brought(columns: Axis, rows: Axis, x: i32, y: i32) -> u8 {
 
 #[test]
 fn copies_between_all_ends(rt: HostRuntime) -> Result<(), Fail> {
-    let source = picture(rt.alloc(), 2, 2, &[1, 2, 3, 4].map(gray))?;
-    let mut raster = Raster::<Gray8>::with_clear(rt.alloc(), 2, 2)?;
+    let source = grays::picture(rt.alloc(), 2, 2, &[1, 2, 3, 4].map(gray))?;
+    let mut raster = grays::cleared(rt.alloc(), 2, 2)?;
     for side in SIDES {
         for other in SIDES {
             let all_columns = axes(rt.alloc(), side, other)?;
@@ -199,11 +204,15 @@ fn copies_between_all_ends(rt: HostRuntime) -> Result<(), Fail> {
                 for rows in &all_rows {
                     let to = Region::from((columns.to, rows.to, side, other));
                     let from = Region::from((columns.from, rows.from, other, side));
-                    raster.clear();
-                    raster.copy_raster(to, &source, from);
+                    grays::clear(&mut raster);
+                    grays::copy_raster(&mut raster, to, &source, from);
                     let points = [(0, 0), (1, 0), (0, 1), (1, 1)];
                     let want = points.map(|(x, y)| gray(brought(*columns, *rows, x, y)));
-                    assert_eq!(rt; raster.pixels(), want.as_slice(), "{from:?} to {to:?}");
+                    assert_eq!(rt;
+                        grays::pixels(&raster),
+                        want.as_slice(),
+                        "{from:?} to {to:?}"
+                    );
                 }
             }
         }

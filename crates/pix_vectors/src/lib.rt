@@ -26,6 +26,10 @@ mod exact;
 #[cfg(test)]
 mod getters;
 #[cfg(test)]
+mod grayas;
+#[cfg(test)]
+mod grays;
+#[cfg(test)]
 mod hues;
 #[cfg(test)]
 mod indexed;
@@ -51,6 +55,8 @@ mod premultiplied;
 mod random_lists;
 #[cfg(test)]
 mod rasters;
+#[cfg(test)]
+mod rgbas;
 #[cfg(test)]
 mod rows;
 #[cfg(test)]

@@ -42,3 +42,23 @@ pub(crate) fn rgba([red, green, blue, alpha]: [u8; 4]) -> Rgba8p {
 pub(crate) fn matte(value: u8) -> Matte8 {
     Matte8::new(value)
 }
+
+/// A raster of one matte value.
+pub(crate) fn mattes_of(
+    alloc: Global,
+    width: u32,
+    height: u32,
+    value: Matte8,
+) -> Result<Raster<Matte8>, RasterFault> {
+    Raster::with_color(alloc, width, height, value)
+}
+
+/// The raster of these matte values.
+pub(crate) fn matte_picture(
+    alloc: Global,
+    width: u32,
+    height: u32,
+    values: &[Matte8],
+) -> Result<Raster<Matte8>, RasterFault> {
+    picture(alloc, width, height, values)
+}

@@ -1,4 +1,5 @@
 //! Pixels, regions and rasters.
+use crate::rgbas;
 use pix::chan::{Ch8, Channel};
 use pix::el::Pixel;
 use pix::matte::Matte8;
@@ -55,7 +56,7 @@ fn sizes_that_no_raster_has(rt: HostRuntime) {
         (1, 2147483648, RasterFault::HeightTooBig),
         (46341, 46341, RasterFault::TooBig),
     ] {
-        let raster = Raster::<Rgba8p>::with_clear(rt.alloc(), width, height);
+        let raster = rgbas::cleared(rt.alloc(), width, height);
         assert_eq!(rt; raster.err(), Some(fault), "{width} by {height}");
     }
 }
@@ -163,21 +164,23 @@ fn regions_with_too_long_a_side(rt: HostRuntime) {
     assert_eq!(rt; longest, Some(Region::from(())));
 }
 
+/// The region of all points, and a region clipped to the raster.
+fn regions(raster: &Raster<Rgba8p>, reg: Region) -> (Region, Region) {
+    (raster.region(), raster.intersection(reg))
+}
+
 #[test]
 fn a_color_over_one_of_two_points(rt: HostRuntime) -> Result<(), Fail> {
     let color = Rgba8p::new(0x40, 0x80, 0x60, 0x80);
-    let mut raster = Raster::<Rgba8p>::with_clear(rt.alloc(), 2, 1)?;
-    assert_eq!(rt; raster.region(), Region::new(0, 0, 2, 1));
-    assert_eq!(rt;
-        raster.intersection(Region::from((1, 0))),
-        Region::new(1, 0, 1, 1)
-    );
-    assert_eq!(rt; raster.pixels(), [clear(), clear()].as_slice());
-    raster.composite_color(Region::new(0, 0, 1, 1), color, SrcOver);
-    assert_eq!(rt; raster.width(), 2);
-    assert_eq!(rt; raster.height(), 1);
-    assert_eq!(rt; raster.pixel(0, 0), color);
-    assert_eq!(rt; raster.pixel(1, 0), clear());
+    let mut raster = rgbas::cleared(rt.alloc(), 2, 1)?;
+    let (all, last) = regions(&raster, Region::from((1, 0)));
+    assert_eq!(rt; all, Region::new(0, 0, 2, 1));
+    assert_eq!(rt; last, Region::new(1, 0, 1, 1));
+    assert_eq!(rt; rgbas::pixels(&raster), [clear(), clear()].as_slice());
+    rgbas::composite_color(&mut raster, Region::new(0, 0, 1, 1), color, SrcOver);
+    assert_eq!(rt; rgbas::size(&raster), (2, 1));
+    assert_eq!(rt; rgbas::pixel(&raster, 0, 0), Some(color));
+    assert_eq!(rt; rgbas::pixel(&raster, 1, 0), Some(clear()));
     Ok(())
 }
 
@@ -199,34 +202,40 @@ fn a_run_is_its_commands_one_by_one(rt: HostRuntime) -> Result<(), Fail> {
     let coal = Rgba8p::new(1, 2, 3, 255);
     let five = Rgba8p::new(5, 5, 5, 5);
 
-    let mut raster = Raster::<Rgba8p>::with_clear(rt.alloc(), 2, 1)?;
-    raster.run(&[
-        over(everywhere, sand),
-        over(nowhere, five),
-        over(first, coal),
-    ]);
-    assert_eq!(rt; raster.pixels(), [coal, sand].as_slice());
+    let mut raster = rgbas::cleared(rt.alloc(), 2, 1)?;
+    rgbas::run(
+        &mut raster,
+        &[
+            over(everywhere, sand),
+            over(nowhere, five),
+            over(first, coal),
+        ],
+    );
+    assert_eq!(rt; rgbas::pixels(&raster), [coal, sand].as_slice());
 
-    let mut single = Raster::<Rgba8p>::with_clear(rt.alloc(), 2, 1)?;
-    single.composite_color(everywhere, sand, SrcOver);
-    single.composite_color(nowhere, five, SrcOver);
-    single.composite_color(first, coal, SrcOver);
-    assert_eq!(rt; raster.pixels(), single.pixels());
+    let mut single = rgbas::cleared(rt.alloc(), 2, 1)?;
+    rgbas::composite_color(&mut single, everywhere, sand, SrcOver);
+    rgbas::composite_color(&mut single, nowhere, five, SrcOver);
+    rgbas::composite_color(&mut single, first, coal, SrcOver);
+    assert_eq!(rt; rgbas::pixels(&raster), rgbas::pixels(&single));
     Ok(())
 }
 
 #[test]
 fn a_faint_color_stays(rt: HostRuntime) -> Result<(), Fail> {
     let first = Region::new(0, 0, 1, 1);
-    let mut raster = Raster::<Rgba8p>::with_clear(rt.alloc(), 2, 1)?;
-    raster.run(&[
-        over(first, Rgba8p::new(5, 5, 5, 5)),
-        over(first, clear()),
-        over(first, clear()),
-        over(first, clear()),
-    ]);
+    let mut raster = rgbas::cleared(rt.alloc(), 2, 1)?;
+    rgbas::run(
+        &mut raster,
+        &[
+            over(first, Rgba8p::new(5, 5, 5, 5)),
+            over(first, clear()),
+            over(first, clear()),
+            over(first, clear()),
+        ],
+    );
     assert_eq!(rt;
-        raster.pixels(),
+        rgbas::pixels(&raster),
         [Rgba8p::new(5, 5, 5, 5), clear()].as_slice()
     );
     Ok(())
@@ -234,10 +243,12 @@ fn a_faint_color_stays(rt: HostRuntime) -> Result<(), Fail> {
 
 #[test]
 fn a_raster_without_points(rt: HostRuntime) -> Result<(), Fail> {
-    let mut raster = Raster::<Rgba8p>::with_clear(rt.alloc(), 0, 7)?;
-    raster.run(&[over(Region::from(()), Rgba8p::new(5, 5, 5, 5))]);
-    assert_eq!(rt; raster.width(), 0);
-    assert_eq!(rt; raster.height(), 7);
-    assert!(rt; raster.pixels().is_empty());
+    let mut raster = rgbas::cleared(rt.alloc(), 0, 7)?;
+    rgbas::run(
+        &mut raster,
+        &[over(Region::from(()), Rgba8p::new(5, 5, 5, 5))],
+    );
+    assert_eq!(rt; rgbas::size(&raster), (0, 7));
+    assert!(rt; rgbas::pixels(&raster).is_empty());
     Ok(())
 }

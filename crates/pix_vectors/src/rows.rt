@@ -1,9 +1,9 @@
 //! Rows and single pixels, read and written.
-use crate::pictures::{gray, picture};
+use crate::grays;
+use crate::pictures::{gray, matte, mattes_of, picture};
 use pix::chan::Ch8;
 use pix::el::Pixel;
 use pix::gray::Gray8;
-use pix::matte::Matte8;
 use pix::{Raster, Region};
 use std::test::Fail;
 
@@ -12,21 +12,21 @@ const NINE: [u8; 9] = [1, 2, 3, 4, 5, 6, 7, 8, 9];
 
 #[test]
 fn no_rows(rt: HostRuntime) -> Result<(), Fail> {
-    let flat = Raster::<Gray8>::with_color(rt.alloc(), 0, 7, gray(7))?;
-    assert!(rt; flat.pixels().is_empty());
+    let flat = grays::filled(rt.alloc(), 0, 7, gray(7))?;
+    assert!(rt; grays::pixels(&flat).is_empty());
     assert_eq!(rt; flat.rows(Region::from(())).count(), 0);
     let nowhere = Region::new(0, 20, 0, 0);
-    let mattes = Raster::<Matte8>::with_clear(rt.alloc(), 10, 10)?;
+    let mattes = mattes_of(rt.alloc(), 10, 10, matte(0))?;
     assert_eq!(rt; mattes.rows(nowhere).count(), 0);
-    let grays = Raster::<Gray8>::with_clear(rt.alloc(), 10, 10)?;
-    assert_eq!(rt; grays.rows(nowhere).count(), 0);
+    let square = grays::cleared(rt.alloc(), 10, 10)?;
+    assert_eq!(rt; square.rows(nowhere).count(), 0);
     Ok(())
 }
 
 /// Each region with its rows in a raster of the numbers from 1 to 9.
 #[test]
 fn rows_of_regions(rt: HostRuntime) -> Result<(), Fail> {
-    let raster = picture(rt.alloc(), 3, 3, &NINE.map(gray))?;
+    let raster = grays::picture(rt.alloc(), 3, 3, &NINE.map(gray))?;
     for (reg, first, second) in [
         (Region::new(1, -1, 9, 3), [2, 3], [5, 6]),
         (Region::new(-1, 1, 3, 9), [4, 5], [7, 8]),
@@ -47,14 +47,14 @@ fn rows_of_regions(rt: HostRuntime) -> Result<(), Fail> {
 
 #[test]
 fn writing_one_row(rt: HostRuntime) -> Result<(), Fail> {
-    let mut raster = picture(rt.alloc(), 3, 3, &NINE.map(gray))?;
+    let mut raster = grays::picture(rt.alloc(), 3, 3, &NINE.map(gray))?;
     let row = raster.row_mut(1, Region::new(1, 0, 9, 9)).ok_or("no row")?;
     assert_eq!(rt; row.len(), 2);
     assert_eq!(rt; (row[0], row[1]), (gray(5), gray(6)));
     row[0] = gray(50);
     row[1] = gray(60);
     let want = [1, 2, 3, 4, 50, 60, 7, 8, 9].map(gray);
-    assert_eq!(rt; raster.pixels(), want.as_slice());
+    assert_eq!(rt; grays::pixels(&raster), want.as_slice());
     for (y, reg) in [
         (3, Region::from(())),
         (0, Region::new(0, 1, 3, 1)),
@@ -62,9 +62,9 @@ fn writing_one_row(rt: HostRuntime) -> Result<(), Fail> {
         (1, Region::new(3, 0, 9, 9)),
         (1, Region::new(0, 0, 0, 9)),
     ] {
-        assert!(rt; raster.row_mut(y, reg).is_none(), "row {y} of {reg:?}");
+        assert!(rt; !grays::has_row(&mut raster, y, reg), "row {y} of {reg:?}");
     }
-    assert_eq!(rt; raster.pixels(), want.as_slice());
+    assert_eq!(rt; grays::pixels(&raster), want.as_slice());
     Ok(())
 }
 
@@ -107,9 +107,13 @@ fn writing_rows(rt: HostRuntime) -> Result<(), Fail> {
         (Region::new(3, 0, 1, 3), 0, NINE),
         (Region::new(0, -3, 3, 3), 0, NINE),
     ] {
-        let mut raster = picture(rt.alloc(), 3, 3, &NINE.map(gray))?;
+        let mut raster = grays::picture(rt.alloc(), 3, 3, &NINE.map(gray))?;
         assert_eq!(rt; number_points(&mut raster, reg), count, "{reg:?}");
-        assert_eq!(rt; raster.pixels(), want.map(gray).as_slice(), "{reg:?}");
+        assert_eq!(rt;
+            grays::pixels(&raster),
+            want.map(gray).as_slice(),
+            "{reg:?}"
+        );
     }
     Ok(())
 }
@@ -146,9 +150,13 @@ fn writing_rows_from_the_third_column(rt: HostRuntime) -> Result<(), Fail> {
         ),
         (Region::from((5, 0)), 0, before),
     ] {
-        let mut raster = picture(rt.alloc(), 5, 3, &before.map(gray))?;
+        let mut raster = grays::picture(rt.alloc(), 5, 3, &before.map(gray))?;
         assert_eq!(rt; number_points(&mut raster, reg), count, "{reg:?}");
-        assert_eq!(rt; raster.pixels(), want.map(gray).as_slice(), "{reg:?}");
+        assert_eq!(rt;
+            grays::pixels(&raster),
+            want.map(gray).as_slice(),
+            "{reg:?}"
+        );
     }
     Ok(())
 }
@@ -157,7 +165,7 @@ fn writing_rows_from_the_third_column(rt: HostRuntime) -> Result<(), Fail> {
 #[test]
 fn the_rows_that_are_written(rt: HostRuntime) -> Result<(), Fail> {
     let before = [1, 2, 3, 4, 5, 6, 7, 8, 9, 10, 11, 12, 13, 14, 15];
-    let mut raster = picture(rt.alloc(), 5, 3, &before.map(gray))?;
+    let mut raster = grays::picture(rt.alloc(), 5, 3, &before.map(gray))?;
     let mut rows = raster.rows_mut(Region::new(2, 1, 2, 9));
     for want in [[8, 9], [13, 14]] {
         let row = rows.next().ok_or("a row is missing")?;
@@ -171,12 +179,12 @@ fn the_rows_that_are_written(rt: HostRuntime) -> Result<(), Fail> {
 fn rows_of_rasters_without_points(rt: HostRuntime) -> Result<(), Fail> {
     let all = Region::from(());
     for (width, height) in [(0, 7), (7, 0), (0, 0), (2147483647, 0), (0, 2147483647)] {
-        let mut raster = Raster::<Gray8>::with_clear(rt.alloc(), width, height)?;
+        let mut raster = grays::cleared(rt.alloc(), width, height)?;
         assert_eq!(rt; number_points(&mut raster, all), 0, "{width} by {height}");
         assert_eq!(rt; raster.rows(all).count(), 0, "{width} by {height}");
-        assert!(rt; raster.row_mut(0, all).is_none(), "{width} by {height}");
-        assert!(rt; raster.pixels().is_empty(), "{width} by {height}");
-        assert_eq!(rt; (raster.width(), raster.height()), (width, height));
+        assert!(rt; !grays::has_row(&mut raster, 0, all), "{width} by {height}");
+        assert!(rt; grays::pixels(&raster).is_empty(), "{width} by {height}");
+        assert_eq!(rt; grays::size(&raster), (width, height));
     }
     Ok(())
 }
@@ -186,9 +194,12 @@ fn writing_one_pixel(rt: HostRuntime) -> Result<(), Fail> {
     let mut raster = picture(rt.alloc(), 3, 2, &NINE.map(gray))?;
     *raster.pixel_mut(2, 0) = gray(30);
     *raster.pixel_mut(0, 1) = gray(40);
-    assert_eq!(rt; raster.pixels(), [1, 2, 30, 40, 5, 6].map(gray).as_slice());
-    assert_eq!(rt; raster.pixel(2, 0), gray(30));
-    assert_eq!(rt; raster.pixel(1, 1), gray(5));
+    assert_eq!(rt;
+        grays::pixels(&raster),
+        [1, 2, 30, 40, 5, 6].map(gray).as_slice()
+    );
+    assert_eq!(rt; grays::pixel(&raster, 2, 0), Some(gray(30)));
+    assert_eq!(rt; grays::pixel(&raster, 1, 1), Some(gray(5)));
     Ok(())
 }
 

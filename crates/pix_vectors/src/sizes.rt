@@ -1,8 +1,7 @@
 //! Rasters of many sizes, made with ample memory.
 use crate::pictures::{gray, rgba};
-use pix::gray::Gray8;
-use pix::rgb::Rgba8p;
-use pix::{Raster, RasterFault};
+use crate::{grays, rgbas};
+use pix::RasterFault;
 use std::alloc::Global;
 use std::process::Abort;
 use std::test::Fail;
@@ -10,15 +9,23 @@ use std::test::Fail;
 /// Makes a raster of clear pixels and one of a color, and compares all their pixels.
 fn make(rt: &impl Abort, alloc: Global, width: u32, height: u32) -> Result<(), RasterFault> {
     let count = width as usize * height as usize;
-    let clear = Raster::<Rgba8p>::with_clear(alloc, width, height)?;
-    assert_eq!(rt; (clear.width(), clear.height()), (width, height));
-    assert_eq!(rt; clear.pixels().len(), count, "{width} by {height}");
-    assert!(rt; clear.pixels().iter().all(|pixel| *pixel == rgba([0; 4])));
+    let clear = rgbas::cleared(alloc, width, height)?;
+    assert_eq!(rt; rgbas::size(&clear), (width, height));
+    assert_eq!(rt; rgbas::pixels(&clear).len(), count, "{width} by {height}");
+    assert!(rt;
+        rgbas::pixels(&clear)
+            .iter()
+            .all(|pixel| *pixel == rgba([0; 4]))
+    );
 
-    let colored = Raster::<Gray8>::with_color(alloc, width, height, gray(7))?;
-    assert_eq!(rt; (colored.width(), colored.height()), (width, height));
-    assert_eq!(rt; colored.pixels().len(), count, "{width} by {height}");
-    assert!(rt; colored.pixels().iter().all(|pixel| *pixel == gray(7)));
+    let colored = grays::filled(alloc, width, height, gray(7))?;
+    assert_eq!(rt; grays::size(&colored), (width, height));
+    assert_eq!(rt; grays::pixels(&colored).len(), count, "{width} by {height}");
+    assert!(rt;
+        grays::pixels(&colored)
+            .iter()
+            .all(|pixel| *pixel == gray(7))
+    );
     Ok(())
 }
 
