@@ -6,6 +6,8 @@ use crate::{
 };
 use std::test::Fail;
 
+mod rows;
+
 /// A pixel of these channels.
 fn pixel(channels: [u8; 4]) -> PixRgba8 {
     PixRgba8 { channels }
@@ -141,6 +143,7 @@ fn what_is_refused(rt: HostRuntime) {
 
 #[test]
 fn sizes(rt: HostRuntime) {
+    let none = pixel([0, 0, 0, 0]);
     let clear = [command(0, &[], &[])];
     for (width, height, stride, wanted) in [
         (2, 2, 3, DONE),
@@ -164,9 +167,12 @@ fn sizes(rt: HostRuntime) {
         let status = pix_run_commands(&mut image, width, height, stride, &clear, &mut done);
         assert_eq!(rt; status, wanted, "{width} by {height}, {stride} apart");
         assert_eq!(rt; done, if wanted == DONE { 1 } else { 0 });
-        if wanted == BAD_SIZE || width == 0 || height == 0 {
-            assert_eq!(rt; image, [GROUND; 5]);
-        }
+        let left = match (width, height, wanted) {
+            (2, 2, DONE) => [none, none, GROUND, none, none],
+            (5, 1, DONE) => [none; 5],
+            _ => [GROUND; 5],
+        };
+        assert_eq!(rt; image, left, "{width} by {height}, {stride} apart");
     }
 }
 
@@ -218,23 +224,43 @@ fn regions_that_are_clipped(rt: HostRuntime) {
 }
 
 #[test]
-fn rows_of_more_than_sixteen(rt: HostRuntime) {
-    let mut image = [GROUND; 20];
-    let mut done = 7;
-    let source = [pixel([60, 0, 0, 60]); 20];
-    let mut over = command(4, &source, &[]);
-    over.to = region(1, 0, 18, 1);
-    over.from = region(0, 0, 20, 1);
-    over.width = 20;
-    over.stride = 20;
-    let status = pix_run_commands(&mut image, 20, 1, 20, &[over], &mut done);
-    assert_eq!(rt; status, DONE);
-    let made = pixel([68, 15, 23, 255]);
-    assert_eq!(rt; image[0], GROUND);
-    assert_eq!(rt; image[1], made);
-    assert_eq!(rt; image[16], made);
-    assert_eq!(rt; image[18], made);
-    assert_eq!(rt; image[19], GROUND);
+fn regions_at_the_ends_of_the_coordinates(rt: HostRuntime) {
+    let side = 2147483647;
+    let first = region(i32::MIN, i32::MIN, side, side);
+    let last = region(i32::MAX, i32::MAX, side, side);
+    let all = region(0, 0, side, side);
+    // The last point of this one is (0, 0).
+    let up_to_zero = region(-2147483646, -2147483646, side, side);
+    let source = [pixel([60, 0, 0, 60])];
+    for (kind, made) in [
+        (2, [60, 0, 0, 60]),
+        (4, [68, 15, 23, 255]),
+        (5, [29, 28, 27, 255]),
+    ] {
+        for (to, from, wanted) in [
+            (first, all, GROUND),
+            (last, all, GROUND),
+            (all, first, GROUND),
+            (all, last, GROUND),
+            (first, first, GROUND),
+            (last, last, GROUND),
+            (up_to_zero, up_to_zero, pixel(made)),
+            (all, all, pixel(made)),
+        ] {
+            let mut image = [GROUND; 4];
+            let mut done = 7;
+            let mut one = command(kind, &source, &[51]);
+            one.to = to;
+            one.from = from;
+            let status = pix_run_commands(&mut image, 2, 2, 2, &[one], &mut done);
+            assert_eq!(rt; status, DONE);
+            assert_eq!(rt;
+                image,
+                [wanted, GROUND, GROUND, GROUND],
+                "kind {kind}, {to:?}"
+            );
+        }
+    }
 }
 
 #[test]

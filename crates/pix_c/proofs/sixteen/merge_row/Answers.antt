@@ -1,4 +1,4 @@
-use Rattle.std.proofs.Common.{◌≡◌, ◌≤◌, ◌+◌, ◌∙◌, length, sym, ap, arith, map, refl, List, ℕ}
+use Rattle.std.proofs.Common.{◌≡◌, ◌≤◌, ◌+◌, ◌∙◌, sym, ap, arith, map, refl, List, ℕ}
 use Rattle.std.proofs.lemmas.List.{length-map, get_or-map}
 use Rattle.pix_chan.proofs.Slices.{mapped_one_step, over_both}
 use Rattle.pix_el.proofs.Written.{same_over}

@@ -1,4 +1,4 @@
-use Rattle.std.proofs.Common.{◌≡◌, ◌+◌, ◌*◌, ◌-◌, ◌∙◌, take, drop, length, sym, ap, arith, map, refl, List, ℕ}
+use Rattle.std.proofs.Common.{◌≡◌, ◌+◌, ◌*◌, ◌-◌, ◌∙◌, take, drop, sym, ap, arith, map, refl, List, ℕ}
 use Rattle.std.proofs.lemmas.List.{length-map}
 use Rattle.pix_chan.proofs.Slices.{run, over-nil, mapped_run_step, part_of}
 use Rattle.pix_el.proofs.Written.{same_over}

@@ -1,4 +1,4 @@
-use Rattle.std.proofs.Common.{◌≡◌, ◌+◌, ◌∙◌, length, sym, ap, arith, map, refl, replicate, List, ℕ}
+use Rattle.std.proofs.Common.{◌+◌, ◌∙◌, length, sym, ap, arith, map, refl, replicate, List, ℕ}
 use Rattle.std.proofs.lemmas.List.{length-map, take-replicate}
 use Rattle.pix_chan.specs.Runs.{over}
 use Rattle.pix_el.specs.PixelComposite.{pixel_composite}
