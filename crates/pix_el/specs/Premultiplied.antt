@@ -14,7 +14,7 @@ abbrev pub IsPremultiplied : Layout → List ℕ → Type 0
 IsPremultiplied layout numbers =
     (ch : ℕ) → IsBounded layout ch → channel layout.max numbers ch ≤ alpha_of layout numbers
 
--- no sum of terms is cut: that of each channel but a hue is at most the top
+-- no sum of terms saturates: that of each channel but a hue is at most the maximum
 abbrev pub IsUncut : Layout → Op → List ℕ → List ℕ → Type 0
 IsUncut layout op source dest =
     (ch : ℕ) → IsBounded layout ch

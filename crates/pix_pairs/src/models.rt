@@ -147,7 +147,7 @@ fn to_luminance(rgb: [u32; 3], depth: Depth) -> u32 {
     near(2126 * r + 7152 * g + 722 * b, 10000, depth)
 }
 
-/// Luma and the differences of blue and red, of red, green and blue.
+/// Luma and the color differences of blue and red, from red, green and blue.
 fn to_ycc(rgb: [u32; 3], depth: Depth) -> [u32; 3] {
     let [r, g, b] = rgb;
     let (r, g, b) = (u64::from(r), u64::from(g), u64::from(b));
@@ -161,7 +161,7 @@ fn to_ycc(rgb: [u32; 3], depth: Depth) -> [u32; 3] {
     ]
 }
 
-/// Red, green and blue of luma and the differences of blue and red.
+/// Red, green and blue from luma and the color differences of blue and red.
 fn of_ycc(ycc: [u32; 3], depth: Depth) -> [u32; 3] {
     let [y, cb, cr] = ycc;
     let (y, cb, cr) = (u64::from(y), u64::from(cb), u64::from(cr));

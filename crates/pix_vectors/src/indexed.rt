@@ -158,7 +158,7 @@ fn no_columns_are_indexed(rt: HostRuntime) -> Result<(), Fail> {
     Ok(())
 }
 
-/// One of 256 colors that share their places in the table of `make_indexed`.
+/// One of 256 colors of which about 32 each start at one of eight places in the table of `make_indexed`.
 fn colliding(i: u8) -> SRgb8 {
     SRgb8::new(i.wrapping_mul(191), i, 0u8)
 }
