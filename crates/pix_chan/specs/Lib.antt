@@ -7,15 +7,9 @@ pub mod Laws
 pub mod Channel
 pub mod Srgb
 pub mod Modes
-pub mod Operators
-pub mod OpNumber
-pub mod Composite
 pub mod Runs
 pub mod Planes
 pub mod Lanes
-pub mod ExactComposite
-pub mod ExactRun
-pub mod Hue
 pub mod ProductLaws
 pub mod QuotientLaws
 pub mod DepthLaws

@@ -1,8 +1,7 @@
-//! Channels, and the operators of Porter and Duff on one channel.
+//! Channels: whole numbers of units, and their arithmetic.
 #![tactic(auto)]
 
 pub mod chan;
-pub mod ops;
 mod private;
 #[doc(hidden)]
 pub mod reciprocals;

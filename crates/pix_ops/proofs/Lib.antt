@@ -1,0 +1,14 @@
+pub mod Within
+pub mod Table
+pub mod Terms
+pub mod Near
+pub mod Kept
+pub mod Transparent
+pub mod Hue
+pub mod ExactSteps
+pub mod Budgets
+pub mod RunSteps
+pub mod Balance
+pub mod RunBounds
+pub mod RunRows
+pub mod RunTerms

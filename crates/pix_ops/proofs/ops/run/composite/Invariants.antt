@@ -1,0 +1,10 @@
+use Rattle.std.proofs.Common.{◌≡◌, ◌*◌, take, map, min}
+use Rattle.pix_chan.specs.Runs.{over, triples}
+use Rattle.pix_ops.specs.Composite.{run_terms}
+use Rattle.pix_ops.proofs.ops.run.composite.Given as goal
+
+abbrev pub invariant-loop-k : goal.invariant-loop-k
+invariant-loop-k g l =
+    let v = g.C.Channel.number in
+    map v l.dst ≡ over (run_terms g.C.Channel.max g.A.Factor.coefficient g.B.Factor.coefficient)
+    (take (min (16 * l.k) l.count) (triples (map v l.da1) (map v l.src) (map v l.sa1))) (map v l.fn.dst)

@@ -1,0 +1,5 @@
+//! The operators of Porter and Duff, on one channel and on runs of channels.
+#![tactic(auto)]
+
+pub mod ops;
+mod private;

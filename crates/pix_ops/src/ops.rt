@@ -1,0 +1,463 @@
+//! The operators of Porter and Duff (Compositing Digital Images, 1984), on one channel at a time.
+//!
+//! Colors are premultiplied, and the alpha is composited as any other channel. In the formulas, `sa` and `da` are the alphas of the
+//! source and of the destination, products are channel products and sums saturate.
+ghost use Rattle.std.specs.Prelude.{◌≡◌, ℕ, ◌-◌, ⊤, List, length, map, slice_get, Some, ◌↔◌, IsTrue, nat_eq, refl};
+ghost use Rattle.pix_ops.specs.declared.ops.Op.{Op};
+ghost use Rattle.pix_ops.specs.Operators.{row};
+ghost use Rattle.pix_ops.specs.OperatorNames.{operators, op_number, op_name, operator_of};
+ghost use Rattle.pix_ops.specs.Composite.{channel_composite};
+ghost use Rattle.pix_chan.specs.Runs.{over, triples};
+ghost use Rattle.pix_ops.specs.Composite.{run_composite};
+
+use crate::ops::run::{Alpha, Factor, One, OneMinusAlpha, Zero};
+use crate::private::Sealed;
+use pix_chan::chan::Channel;
+
+#[doc(hidden)]
+pub mod run;
+
+/// An operator as a value: what a [`Blend`] is as a type.
+#[derive(Clone, Copy, Debug, Eq)]
+pub enum Op {
+    /// The source alone: `src`.
+    Src,
+    /// The destination alone: `dst`.
+    Dest,
+    /// Source over: the source plus the destination times one minus the source's alpha: `src + dst * (1 - sa)`.
+    SrcOver,
+    /// Destination over: the destination plus the source times one minus the destination's alpha: `src * (1 - da) + dst`.
+    DestOver,
+    /// Source out: the source times one minus the destination's alpha: `src * (1 - da)`.
+    SrcOut,
+    /// Destination out: the destination times one minus the source's alpha: `dst * (1 - sa)`.
+    DestOut,
+    /// Source in: the source times the destination's alpha: `src * da`.
+    SrcIn,
+    /// Destination in: the destination times the source's alpha: `dst * sa`.
+    DestIn,
+    /// Source atop: the source times the destination's alpha plus the destination times one minus the source's: `src * da + dst * (1 - sa)`.
+    SrcAtop,
+    /// Destination atop: the source times one minus the destination's alpha plus the destination times the source's: `src * (1 - da) + dst * sa`.
+    DestAtop,
+    /// Exclusive or: each side times one minus the other's alpha: `src * (1 - da) + dst * (1 - sa)`.
+    Xor,
+    /// Neither: `0`.
+    Clear,
+    /// The saturating sum of both: `src + dst`.
+    Plus,
+}
+
+impl PartialEq for Op {
+    ghost use Rattle.std.specs.Prelude.{nat_eq};
+    ghost use Rattle.std.specs.Ordering.{on};
+    ghost use Rattle.std.specs.Cmp.Rules.{comparing};
+    ghost use Rattle.std.proofs.Common.{rules};
+    ghost use Rattle.pix_ops.specs.OperatorNames.{op_number};
+
+    ghost eq = { on op_number nat_eq };
+
+    ghost laws = { Prim.search (comparing, rules) };
+
+    /// Returns whether the operators are the same.
+    fn eq(&self, other: &Op) -> bool
+        ensures value { result ≡ nat_eq (op_number self.now) (op_number other.now) }
+        ensures same { IsTrue result ↔ (self.now ≡ other.now) }
+    {
+        *self as u8 == *other as u8
+    }
+}
+
+/// An operator as a type. This trait is sealed: the operators are the unit structs of this module.
+pub trait Blend: Sealed + Copy {
+    /// The operator as a value.
+    ghost op: { Op };
+
+    /// What the source is multiplied by.
+    type Source: Factor;
+
+    /// What the destination is multiplied by.
+    type Dest: Factor;
+
+    /// Composites the channel `src` with `dst`, where `da1` and `sa1` are one minus the alphas of `dst` and `src`.
+    final fn composite<C: Channel>(dst: &mut C, da1: C, src: &C, sa1: C)
+        ensures { C.number dst.new ≡ channel_composite C.max op
+            (C.number src.now) (C.max - C.number sa1) (C.number dst.old) (C.max - C.number da1) }
+    {
+        *dst = <Self::Source as Factor>::term(*src, da1) + <Self::Dest as Factor>::term(*dst, sa1);
+    }
+
+    /// Composites the channels of the same index of all four as [`composite`](Blend::composite) does; the shortest length decides, and
+    /// the rest of `dst` stays.
+    #[inline(always)]
+    final fn composite_run<C: Channel>(dst: &mut [C], da1: &[C], src: &[C], sa1: &[C])
+        ensures { map C.number dst.new ≡ over (run_composite C.max op)
+            (triples (map C.number da1.now) (map C.number src.now) (map C.number sa1.now))
+            (map C.number dst.old) }
+    {
+        run::composite::<Self::Source, Self::Dest, C>(dst, da1, src, sa1);
+    }
+
+    /// Both are those of the operator's row of the table.
+    ghost tabled: { ((row op).source ≡ Self.Source.coefficient) × ((row op).dest ≡ Self.Dest.coefficient) };
+}
+
+/// An action on a `T` that takes its operator as a type. [`Op::visit`] runs it for an operator that is a value.
+pub trait OpVisitor<T> {
+    /// The condition under which the action may run by an operator.
+    ghost can_visit: { Self → Op → Type 0 };
+
+    /// The relation of the target before and after the action by an operator.
+    ghost visits: { Self → Op → T → T → Type 0 };
+
+    /// Runs the action on `target` by the operator `O`.
+    fn visit<O: Blend>(&self, target: &mut T, op: O)
+        requires { can_visit self.now O.op }
+        ensures { visits self.now O.op target.old target.new };
+}
+
+/// An action on a slice that takes its operator as a type. [`Op::visit_slice`] runs it for an operator that is a value.
+pub trait SliceVisitor<T> {
+    /// The condition under which the action may run by an operator on so many items.
+    ghost can_visit: { Self → Op → ℕ → Type 0 };
+
+    /// The relation of the items before and after the action by an operator.
+    ghost visits: { Self → Op → List T → List T → Type 0 };
+
+    /// Runs the action on `items` by the operator `O`.
+    fn visit<O: Blend>(&self, items: &mut [T], op: O)
+        requires { can_visit self.now O.op (length items.old) }
+        ensures { visits self.now O.op items.old items.new };
+}
+
+/// Runs the action of a visitor on its target by the operator, as a type, that a value is.
+macro_rules! visit_by {
+    ($op:expr, $visitor:expr, $target:expr) => {
+        match $op {
+            Op::Src => $visitor.visit($target, Src),
+            Op::Dest => $visitor.visit($target, Dest),
+            Op::SrcOver => $visitor.visit($target, SrcOver),
+            Op::DestOver => $visitor.visit($target, DestOver),
+            Op::SrcOut => $visitor.visit($target, SrcOut),
+            Op::DestOut => $visitor.visit($target, DestOut),
+            Op::SrcIn => $visitor.visit($target, SrcIn),
+            Op::DestIn => $visitor.visit($target, DestIn),
+            Op::SrcAtop => $visitor.visit($target, SrcAtop),
+            Op::DestAtop => $visitor.visit($target, DestAtop),
+            Op::Xor => $visitor.visit($target, Xor),
+            Op::Clear => $visitor.visit($target, Clear),
+            Op::Plus => $visitor.visit($target, Plus),
+        }
+    };
+}
+
+impl Op {
+    /// All operators, in the order of their numbers.
+    pub const ALL: [Op; 13] = [
+        Op::Src,
+        Op::Dest,
+        Op::SrcOver,
+        Op::DestOver,
+        Op::SrcOut,
+        Op::DestOut,
+        Op::SrcIn,
+        Op::DestIn,
+        Op::SrcAtop,
+        Op::DestAtop,
+        Op::Xor,
+        Op::Clear,
+        Op::Plus,
+    ];
+
+    /// Returns the operator of a number, its index in [`ALL`](Op::ALL).
+    pub fn from_number(number: usize) -> Option<Op>
+        ensures value { result ≡ slice_get operators number }
+        ensures all { (op : Op) → number ≡ op_number op → result ≡ Some op }
+    {
+        Op::ALL.get(number).copied()
+    }
+
+    /// Returns the name of the operator, which is that of its variant.
+    pub fn name(self) -> &'static str
+        ensures { result.now ≡ op_name self }
+    {
+        match self {
+            Op::Src => "Src",
+            Op::Dest => "Dest",
+            Op::SrcOver => "SrcOver",
+            Op::DestOver => "DestOver",
+            Op::SrcOut => "SrcOut",
+            Op::DestOut => "DestOut",
+            Op::SrcIn => "SrcIn",
+            Op::DestIn => "DestIn",
+            Op::SrcAtop => "SrcAtop",
+            Op::DestAtop => "DestAtop",
+            Op::Xor => "Xor",
+            Op::Clear => "Clear",
+            Op::Plus => "Plus",
+        }
+    }
+
+    /// Returns the operator of a name, exact in case.
+    #[tactic(auto, unfolding(crate::specs::OperatorNames::operator_of))]
+    pub fn from_name(name: &[u8]) -> Option<Op>
+        ensures { result ≡ operator_of name.now }
+    {
+        Op::ALL
+            .iter()
+            .copied()
+            .find(|op| op.name().as_bytes() == name)
+    }
+
+    /// Runs the action of `visitor` on `target` by this operator.
+    pub fn visit<T, V: OpVisitor<T>>(self, visitor: &V, target: &mut T)
+        requires { V.can_visit visitor.now self }
+        ensures { V.visits visitor.now self target.old target.new }
+    {
+        visit_by!(self, visitor, target)
+    }
+
+    /// Runs the action of `visitor` on `items` by this operator.
+    pub fn visit_slice<T, V: SliceVisitor<T>>(self, visitor: &V, items: &mut [T])
+        requires { V.can_visit visitor.now self (length items.old) }
+        ensures { V.visits visitor.now self items.old items.new }
+    {
+        visit_by!(self, visitor, items)
+    }
+
+    /// Composites the channel `src` with `dst`, where `da1` and `sa1` are one minus the alphas of `dst` and `src`.
+    pub fn composite<C: Channel>(self, dst: &mut C, da1: C, src: &C, sa1: C)
+        ensures { C.number dst.new ≡ channel_composite C.max self
+            (C.number src.now) (C.max - C.number sa1) (C.number dst.old) (C.max - C.number da1) }
+    {
+        let src = *src;
+        self.visit(&OneChannel { da1, src, sa1 }, dst);
+    }
+}
+
+/// The composite of one channel, as an action on the destination.
+#[derive(Clone, Copy)]
+struct OneChannel<C> {
+    da1: C,
+    src: C,
+    sa1: C,
+}
+
+impl<C: Channel> OpVisitor<C> for OneChannel<C> {
+    ghost can_visit = { λ _ _. ⊤ };
+
+    ghost visits = { λ it op old new. C.number new ≡ channel_composite C.max op
+        (C.number it.src) (C.max - C.number it.sa1) (C.number old) (C.max - C.number it.da1) };
+
+    fn visit<O: Blend>(&self, dst: &mut C, _op: O) {
+        O::composite(dst, self.da1, &self.src, self.sa1);
+    }
+}
+
+/// The source alone: `src`.
+#[derive(Clone, Copy)]
+pub struct Src;
+
+impl Sealed for Src {}
+
+impl Blend for Src {
+    ghost op = { Op.Src };
+
+    type Source = One;
+
+    type Dest = Zero;
+
+    ghost tabled = { (refl, refl) };
+}
+
+/// The destination alone: `dst`.
+#[derive(Clone, Copy)]
+pub struct Dest;
+
+impl Sealed for Dest {}
+
+impl Blend for Dest {
+    ghost op = { Op.Dest };
+
+    type Source = Zero;
+
+    type Dest = One;
+
+    ghost tabled = { (refl, refl) };
+}
+
+/// Source over: the source plus the destination times one minus the source's alpha: `src + dst * (1 - sa)`.
+#[derive(Clone, Copy)]
+pub struct SrcOver;
+
+impl Sealed for SrcOver {}
+
+impl Blend for SrcOver {
+    ghost op = { Op.SrcOver };
+
+    type Source = One;
+
+    type Dest = OneMinusAlpha;
+
+    ghost tabled = { (refl, refl) };
+}
+
+/// Destination over: the destination plus the source times one minus the destination's alpha: `src * (1 - da) + dst`.
+#[derive(Clone, Copy)]
+pub struct DestOver;
+
+impl Sealed for DestOver {}
+
+impl Blend for DestOver {
+    ghost op = { Op.DestOver };
+
+    type Source = OneMinusAlpha;
+
+    type Dest = One;
+
+    ghost tabled = { (refl, refl) };
+}
+
+/// Source out: the source times one minus the destination's alpha: `src * (1 - da)`.
+#[derive(Clone, Copy)]
+pub struct SrcOut;
+
+impl Sealed for SrcOut {}
+
+impl Blend for SrcOut {
+    ghost op = { Op.SrcOut };
+
+    type Source = OneMinusAlpha;
+
+    type Dest = Zero;
+
+    ghost tabled = { (refl, refl) };
+}
+
+/// Destination out: the destination times one minus the source's alpha: `dst * (1 - sa)`.
+#[derive(Clone, Copy)]
+pub struct DestOut;
+
+impl Sealed for DestOut {}
+
+impl Blend for DestOut {
+    ghost op = { Op.DestOut };
+
+    type Source = Zero;
+
+    type Dest = OneMinusAlpha;
+
+    ghost tabled = { (refl, refl) };
+}
+
+/// Source in: the source times the destination's alpha: `src * da`.
+#[derive(Clone, Copy)]
+pub struct SrcIn;
+
+impl Sealed for SrcIn {}
+
+impl Blend for SrcIn {
+    ghost op = { Op.SrcIn };
+
+    type Source = Alpha;
+
+    type Dest = Zero;
+
+    ghost tabled = { (refl, refl) };
+}
+
+/// Destination in: the destination times the source's alpha: `dst * sa`.
+#[derive(Clone, Copy)]
+pub struct DestIn;
+
+impl Sealed for DestIn {}
+
+impl Blend for DestIn {
+    ghost op = { Op.DestIn };
+
+    type Source = Zero;
+
+    type Dest = Alpha;
+
+    ghost tabled = { (refl, refl) };
+}
+
+/// Source atop: the source times the destination's alpha plus the destination times one minus the source's: `src * da + dst * (1 - sa)`.
+#[derive(Clone, Copy)]
+pub struct SrcAtop;
+
+impl Sealed for SrcAtop {}
+
+impl Blend for SrcAtop {
+    ghost op = { Op.SrcAtop };
+
+    type Source = Alpha;
+
+    type Dest = OneMinusAlpha;
+
+    ghost tabled = { (refl, refl) };
+}
+
+/// Destination atop: the source times one minus the destination's alpha plus the destination times the source's: `src * (1 - da) + dst * sa`.
+#[derive(Clone, Copy)]
+pub struct DestAtop;
+
+impl Sealed for DestAtop {}
+
+impl Blend for DestAtop {
+    ghost op = { Op.DestAtop };
+
+    type Source = OneMinusAlpha;
+
+    type Dest = Alpha;
+
+    ghost tabled = { (refl, refl) };
+}
+
+/// Exclusive or: each side times one minus the other's alpha: `src * (1 - da) + dst * (1 - sa)`.
+#[derive(Clone, Copy)]
+pub struct Xor;
+
+impl Sealed for Xor {}
+
+impl Blend for Xor {
+    ghost op = { Op.Xor };
+
+    type Source = OneMinusAlpha;
+
+    type Dest = OneMinusAlpha;
+
+    ghost tabled = { (refl, refl) };
+}
+
+/// Neither: `0`.
+#[derive(Clone, Copy)]
+pub struct Clear;
+
+impl Sealed for Clear {}
+
+impl Blend for Clear {
+    ghost op = { Op.Clear };
+
+    type Source = Zero;
+
+    type Dest = Zero;
+
+    ghost tabled = { (refl, refl) };
+}
+
+/// The saturating sum of both: `src + dst`.
+#[derive(Clone, Copy)]
+pub struct Plus;
+
+impl Sealed for Plus {}
+
+impl Blend for Plus {
+    ghost op = { Op.Plus };
+
+    type Source = One;
+
+    type Dest = One;
+
+    ghost tabled = { (refl, refl) };
+}
