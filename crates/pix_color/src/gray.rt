@@ -1,7 +1,8 @@
 //! Gray: one value, the luminance where it is linear, and the luma in sRGB.
-ghost use Rattle.std.specs.Prelude.{◌≡◌, ◌<◌, ℕ, refl, slice_get, slice_set, Some};
-ghost use Rattle.std.specs.Borrow.{Lends, sem};
-ghost use Rattle.pix_el.specs.Pixel.{channel};
+ghost use Rattle.std.specs.Prelude.{◌≡◌, ◌<◌, ℕ, refl, slice_get, Some};
+ghost use Rattle.std.proofs.Common.{lit≤};
+ghost use Rattle.std.specs.Borrow.{sem};
+ghost use Rattle.pix_el.specs.Pixel.{channel, LendsChannel};
 ghost use Rattle.pix_el.specs.Model as models;
 ghost use Rattle.pix_color.specs.Gray.{rgb_of_gray, gray_of_rgb};
 
@@ -33,8 +34,8 @@ impl Gray {
     where
         P: Pixel<Model = Self>,
         requires { 0 < P.layout.count }
-        ensures* lends { sem 𝓛 (Lends P.row P.Chan.row p.entry result
-            (λ c. P.with_channel_list p.old (slice_set (P.channel_list p.old) 0 c))) }
+        ensures* lends { sem 𝓛 (LendsChannel P.row P.Chan.row
+            P.channel_list P.with_channel_list p.entry result 0) }
         ensures now { slice_get (P.channel_list p.old) 0 ≡ Some result.now }
     {
         p.get_mut(0)
@@ -81,6 +82,8 @@ impl ColorModel for Gray {
     }
 
     ghost stands = { refl };
+
+    ghost few = { lit≤ tt };
 }
 
 /// Gray of eight bits, linear.

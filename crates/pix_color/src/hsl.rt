@@ -1,7 +1,8 @@
 //! Hue, saturation and lightness.
-ghost use Rattle.std.specs.Prelude.{◌≡◌, ◌<◌, ℕ, refl, slice_get, slice_set, Some};
-ghost use Rattle.std.specs.Borrow.{Lends, sem};
-ghost use Rattle.pix_el.specs.Pixel.{channel};
+ghost use Rattle.std.specs.Prelude.{◌≡◌, ◌<◌, ℕ, refl, slice_get, Some};
+ghost use Rattle.std.proofs.Common.{lit≤};
+ghost use Rattle.std.specs.Borrow.{sem};
+ghost use Rattle.pix_el.specs.Pixel.{channel, LendsChannel};
 ghost use Rattle.pix_el.specs.Model as models;
 ghost use Rattle.pix_color.specs.Hsl.{greatest_chroma, rgb_of_hsl, hsl_of_rgb};
 
@@ -36,8 +37,8 @@ impl Hsl {
     where
         P: Pixel<Model = Self>,
         requires { 0 < P.layout.count }
-        ensures* lends { sem 𝓛 (Lends P.row P.Chan.row p.entry result
-            (λ c. P.with_channel_list p.old (slice_set (P.channel_list p.old) 0 c))) }
+        ensures* lends { sem 𝓛 (LendsChannel P.row P.Chan.row
+            P.channel_list P.with_channel_list p.entry result 0) }
         ensures now { slice_get (P.channel_list p.old) 0 ≡ Some result.now }
     {
         p.get_mut(0)
@@ -57,8 +58,8 @@ impl Hsl {
     where
         P: Pixel<Model = Self>,
         requires { 1 < P.layout.count }
-        ensures* lends { sem 𝓛 (Lends P.row P.Chan.row p.entry result
-            (λ c. P.with_channel_list p.old (slice_set (P.channel_list p.old) 1 c))) }
+        ensures* lends { sem 𝓛 (LendsChannel P.row P.Chan.row
+            P.channel_list P.with_channel_list p.entry result 1) }
         ensures now { slice_get (P.channel_list p.old) 1 ≡ Some result.now }
     {
         p.get_mut(1)
@@ -78,8 +79,8 @@ impl Hsl {
     where
         P: Pixel<Model = Self>,
         requires { 2 < P.layout.count }
-        ensures* lends { sem 𝓛 (Lends P.row P.Chan.row p.entry result
-            (λ c. P.with_channel_list p.old (slice_set (P.channel_list p.old) 2 c))) }
+        ensures* lends { sem 𝓛 (LendsChannel P.row P.Chan.row
+            P.channel_list P.with_channel_list p.entry result 2) }
         ensures now { slice_get (P.channel_list p.old) 2 ≡ Some result.now }
     {
         p.get_mut(2)
@@ -139,6 +140,8 @@ impl ColorModel for Hsl {
     }
 
     ghost stands = { refl };
+
+    ghost few = { lit≤ tt };
 }
 
 /// Hue, saturation and lightness of eight bits each, linear.

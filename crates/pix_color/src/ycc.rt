@@ -1,7 +1,8 @@
 //! Luma, and the color differences of blue (Cb) and red (Cr).
-ghost use Rattle.std.specs.Prelude.{◌≡◌, ◌<◌, ℕ, refl, slice_get, slice_set, Some};
-ghost use Rattle.std.specs.Borrow.{Lends, sem};
-ghost use Rattle.pix_el.specs.Pixel.{channel};
+ghost use Rattle.std.specs.Prelude.{◌≡◌, ◌<◌, ℕ, refl, slice_get, Some};
+ghost use Rattle.std.proofs.Common.{lit≤};
+ghost use Rattle.std.specs.Borrow.{sem};
+ghost use Rattle.pix_el.specs.Pixel.{channel, LendsChannel};
 ghost use Rattle.pix_el.specs.Model as models;
 ghost use Rattle.pix_color.specs.YCbCr.{rgb_of_ycc, ycc_of_rgb};
 
@@ -33,8 +34,8 @@ impl YCbCr {
     where
         P: Pixel<Model = Self>,
         requires { 0 < P.layout.count }
-        ensures* lends { sem 𝓛 (Lends P.row P.Chan.row p.entry result
-            (λ c. P.with_channel_list p.old (slice_set (P.channel_list p.old) 0 c))) }
+        ensures* lends { sem 𝓛 (LendsChannel P.row P.Chan.row
+            P.channel_list P.with_channel_list p.entry result 0) }
         ensures now { slice_get (P.channel_list p.old) 0 ≡ Some result.now }
     {
         p.get_mut(0)
@@ -54,8 +55,8 @@ impl YCbCr {
     where
         P: Pixel<Model = Self>,
         requires { 1 < P.layout.count }
-        ensures* lends { sem 𝓛 (Lends P.row P.Chan.row p.entry result
-            (λ c. P.with_channel_list p.old (slice_set (P.channel_list p.old) 1 c))) }
+        ensures* lends { sem 𝓛 (LendsChannel P.row P.Chan.row
+            P.channel_list P.with_channel_list p.entry result 1) }
         ensures now { slice_get (P.channel_list p.old) 1 ≡ Some result.now }
     {
         p.get_mut(1)
@@ -75,8 +76,8 @@ impl YCbCr {
     where
         P: Pixel<Model = Self>,
         requires { 2 < P.layout.count }
-        ensures* lends { sem 𝓛 (Lends P.row P.Chan.row p.entry result
-            (λ c. P.with_channel_list p.old (slice_set (P.channel_list p.old) 2 c))) }
+        ensures* lends { sem 𝓛 (LendsChannel P.row P.Chan.row
+            P.channel_list P.with_channel_list p.entry result 2) }
         ensures now { slice_get (P.channel_list p.old) 2 ≡ Some result.now }
     {
         p.get_mut(2)
@@ -146,6 +147,8 @@ impl ColorModel for YCbCr {
     }
 
     ghost stands = { refl };
+
+    ghost few = { lit≤ tt };
 }
 
 /// Luma and the blue and red differences of eight bits each, linear.

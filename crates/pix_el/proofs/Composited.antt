@@ -1,5 +1,5 @@
 -- Composites of pixels, channel by channel.
-use Rattle.std.proofs.Common.{◌≡◌, ◌≢◌, ℕ, zero, suc, ◌+◌, ◌<◌, ◌≤◌, List, [], ◌∷◌, map, arith, refl, ◌∙◌, le_refl, inl, inr, Bool, true, false, if◌then◌else◌}
+use Rattle.std.proofs.Common.{◌≡◌, ℕ, zero, suc, ◌+◌, ◌<◌, ◌≤◌, List, [], ◌∷◌, map, arith, refl, ◌∙◌, le_refl, inl, inr, Bool, true, false, if◌then◌else◌}
 use Rattle.std.specs.Prelude.{ℤ, pos, negsuc}
 use Rattle.std.specs.List.{range_with_len}
 use Rattle.std.specs.declared.ops.Range.{Range}
@@ -7,15 +7,16 @@ use Rattle.std.proofs.lemmas.Bool.{cases_lt}
 use Rattle.std.proofs.lemmas.Bool.Decides.{nat_tests}
 use Rattle.std.proofs.lemmas.List.{get_or_past}
 use Rattle.std.proofs.lemmas.List.FromFn.{get_or-map-range_with_len, length-map-range_with_len}
-use Rattle.pix_chan.specs.declared.ops.Op.{Op}
-use Rattle.pix_chan.specs.declared.ops.Op.TheVariants.{Plus, SrcOver}
+use Rattle.pix_ops.specs.declared.ops.Op.{Op}
+use Rattle.pix_ops.specs.declared.ops.Op.TheVariants.{SrcOver}
 use Rattle.pix_chan.specs.Product.{channel_product, fineness, IsProduct}
-use Rattle.pix_chan.specs.Composite.{channel_composite}
-use Rattle.pix_chan.specs.Hue.{hue_composite, hue_steps, hue_weight, hue_after}
+use Rattle.pix_ops.specs.Operators.{sum_fits}
+use Rattle.pix_ops.specs.Composite.{channel_composite}
+use Rattle.pix_ops.specs.Hue.{hue_composite, hue_steps, hue_weight, hue_after}
 use Rattle.pix_chan.specs.Channel.{IsNumbered}
-use Rattle.pix_chan.proofs.Near.{channel_near, matted_near}
-use Rattle.pix_chan.proofs.Kept.{composite_grows, sums_fit}
-use Rattle.pix_chan.proofs.Transparent.{over_channel, over_hue}
+use Rattle.pix_ops.proofs.Near.{channel_near, matted_near}
+use Rattle.pix_ops.proofs.Kept.{composite_grows, sums_fit}
+use Rattle.pix_ops.proofs.Transparent.{over_channel, over_hue}
 use Rattle.pix_el.proofs.Models.{IsModel}
 use Rattle.pix_el.specs.Pixel.{Layout, lies_in, is_hue, channel, alpha_of}
 use Rattle.pix_el.specs.PixelComposite.{composite_at, pixel_composite, matted_at, matted_color, matted_composite}
@@ -143,12 +144,12 @@ matted_premultiplied layout matte source laws alpha ps = λ ch b.
     rw (bounded-matted layout matte source ch b, bounded-matted layout matte source layout.alpha alpha)
     (laws.monotone (channel layout.max source ch) (alpha_of layout source) matte (ps ch b))
 
--- and no sum is cut but that of `Plus`
+-- and no sum is cut of an operator whose sums fit
 pub composite_uncut : (layout : Layout) (op : Op) (source dest : List ℕ) → IsProduct fineness layout.max (channel_product layout.max)
     → Fits layout.max source → Fits layout.max dest
-    → IsPremultiplied layout source → IsPremultiplied layout dest → op ≢ Plus → IsUncut layout op source dest
-composite_uncut layout op source dest laws fs fd ps pd other = λ ch b.
-    sums_fit op fineness layout.max _ _ _ _ laws (ps ch b) (fs.at layout.alpha) (pd ch b) (fd.at layout.alpha) other
+    → IsPremultiplied layout source → IsPremultiplied layout dest → sum_fits op ≡ true → IsUncut layout op source dest
+composite_uncut layout op source dest laws fs fd ps pd fits = λ ch b.
+    sums_fit op fineness layout.max _ _ _ _ laws (ps ch b) (fs.at layout.alpha) (pd ch b) (fd.at layout.alpha) fits
 
 -- a transparent source changes no channel under `SrcOver`
 over_at : (layout : Layout) (source dest : List ℕ) (ch : ℕ) (b : Bool) → IsProduct fineness layout.max (channel_product layout.max)

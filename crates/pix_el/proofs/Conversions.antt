@@ -10,7 +10,6 @@ use Rattle.pix_el.specs.Color.{rgba_of, of_rgba}
 use Rattle.pix_el.specs.Model.{Model, ModelRow, row}
 use Rattle.pix_el.specs.Conversion.{Format, at_depth, recoded, of_depth, channel_recoded, within_model, rgba_format, across_models, converted}
 use Rattle.pix_el.specs.Planes.{linear_four, premultiplied_four}
-use Rattle.pix_el.proofs.Models.{few_by_row}
 
 -- the first of four channels, each by its number
 pub four_channels : (f : ℕ → ℕ) (a b c d count : ℕ) → count ≤ 4 → a ≡ f 0 → b ≡ f 1 → c ≡ f 2 → d ≡ f 3
@@ -18,11 +17,9 @@ pub four_channels : (f : ℕ → ℕ) (a b c d count : ℕ) → count ≤ 4 → 
 four_channels f a b c d count few ea eb ec ed = rw (ea, eb, ec, ed) (take-map-range_with_len f 0 4 count few)
 
 -- a format of no more channels than its model has at most four
-pub few_channels : (layout stated : Layout) (model : Model) (r : ModelRow) → layout ≡ stated → row model ≡ r → r.alpha ≡ stated.alpha
-    → layout.count ≤ layout.alpha + 1 → layout.count ≤ 4
-few_channels layout stated model r is stands same within =
-    let e : layout.alpha ≡ stated.alpha = ap (λ (l : Layout). l.alpha) is in
-    let few : r.alpha ≤ 3 = few_by_row model r stands in omega arith
+pub few_channels : (layout stated : Layout) → layout ≡ stated → stated.alpha ≤ 3 → layout.count ≤ layout.alpha + 1 → layout.count ≤ 4
+few_channels layout stated is few within =
+    let e : layout.alpha ≡ stated.alpha = ap (λ (l : Layout). l.alpha) is in omega arith
 
 -- within one model, from the channels at the target's depth
 pub within_is : (format to : Format) (gamma to_gamma : GammaMode) (layout to_layout : Layout) (pixel deep : List ℕ) (a b c d : ℕ)

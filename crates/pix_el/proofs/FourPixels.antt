@@ -1,8 +1,9 @@
 -- Four pixels of four channels in pixel order.
 use Rattle.std.proofs.Common.{◌≡◌, ℕ, zero, suc, ◌-◌, ◌≤◌, ◌∙◌, List, [], ◌∷◌, length, map, refl, ap, arith, replicate}
 use lib.Lanes.{Each1}
-use Rattle.pix_chan.specs.declared.ops.Op.{Op}
-use Rattle.pix_chan.specs.Runs.{over, triples, run_composite}
+use Rattle.pix_ops.specs.declared.ops.Op.{Op}
+use Rattle.pix_chan.specs.Runs.{over, triples}
+use Rattle.pix_ops.specs.Composite.{run_composite}
 use Rattle.pix_chan.specs.Planes.{last_of_four}
 use Rattle.pix_el.specs.Planes.{by_fours, premultiplied_four}
 use Rattle.pix_el.specs.PixelComposite.{pixel_composite, matted_color}

@@ -4,11 +4,12 @@ use lib.Lanes.{Each1}
 use borrow.Rule.Slice.PartMut.{put_mid}
 use Rattle.std.specs.declared.ops.Range.{Range}
 use Rattle.std.proofs.lemmas.List.{length-map, length-append, map-append}
-use Rattle.pix_chan.specs.declared.ops.Op.{Op}
+use Rattle.pix_ops.specs.declared.ops.Op.{Op}
 use Rattle.pix_chan.specs.Channel.{IsNumbered}
-use Rattle.pix_chan.specs.Composite.{channel_composite}
-use Rattle.pix_chan.specs.Hue.{hue_composite}
-use Rattle.pix_chan.specs.Runs.{over, triples, run_composite}
+use Rattle.pix_ops.specs.Composite.{channel_composite}
+use Rattle.pix_ops.specs.Hue.{hue_composite}
+use Rattle.pix_chan.specs.Runs.{over, triples}
+use Rattle.pix_ops.specs.Composite.{run_composite}
 use Rattle.pix_chan.specs.Planes.{in_turn}
 use Rattle.pix_el.specs.Planes.{by_fours, ArePlanes, run_hue, run_first}
 use Rattle.pix_el.specs.Pixel.{Layout, channel, lies_in}

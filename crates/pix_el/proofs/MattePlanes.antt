@@ -1,6 +1,6 @@
 -- The planes of a color through mattes.
 use Rattle.std.proofs.Common.{◌≡◌, ℕ, zero, suc, List, [], ◌∷◌, ◌++◌, ◌+◌, ◌-◌, length, map, take, drop, get_or, refl, ap, ◌∙◌, arith, replicate, sym, ◌≤◌, Bool, if◌then◌else◌}
-use Rattle.pix_chan.specs.declared.ops.Op.{Op}
+use Rattle.pix_ops.specs.declared.ops.Op.{Op}
 use Rattle.pix_chan.specs.Product.{channel_product}
 use Rattle.pix_chan.specs.Runs.{over}
 use Rattle.pix_chan.proofs.Sixteen.{whole16}

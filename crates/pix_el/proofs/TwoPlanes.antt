@@ -4,8 +4,9 @@ use lib.Lanes.{Each1}
 use borrow.Rule.Slice.PartMut.{put_mid}
 use Rattle.std.specs.declared.ops.Range.{Range}
 use Rattle.std.proofs.lemmas.List.{length-map}
-use Rattle.pix_chan.specs.declared.ops.Op.{Op}
-use Rattle.pix_chan.specs.Runs.{over, triples, run_composite}
+use Rattle.pix_ops.specs.declared.ops.Op.{Op}
+use Rattle.pix_chan.specs.Runs.{over, triples}
+use Rattle.pix_ops.specs.Composite.{run_composite}
 use Rattle.pix_chan.specs.Planes.{both_in_turn}
 use Rattle.pix_el.specs.Planes.{by_twos, AreTwoPlanes}
 use Rattle.pix_el.specs.Pixel.{Layout, channel}

@@ -1,8 +1,8 @@
 -- How near a rounded composite of pixels is to the exact one, and how its hue moves.
 use Rattle.std.specs.Prelude.{ℕ, ◌≡◌, ◌<◌, List, true}
-use Rattle.pix_chan.specs.declared.ops.Op.{Op}
-use Rattle.pix_chan.specs.ExactComposite.{IsNear, IsNearMatted}
-use Rattle.pix_chan.specs.Hue.{hue_weight, IsHueMove}
+use Rattle.pix_ops.specs.declared.ops.Op.{Op}
+use Rattle.pix_ops.specs.ExactComposite.{IsNear, IsNearMatted}
+use Rattle.pix_ops.specs.Hue.{hue_weight, IsHueMove}
 use Rattle.pix_el.specs.Pixel.{Layout, is_hue, channel, alpha_of}
 use Rattle.pix_el.specs.Premultiplied.{IsBounded}
 

@@ -5,10 +5,10 @@ pub use Rattle.pix_chan.specs.Depth
 pub use Rattle.pix_chan.specs.Modes
 pub use Rattle.pix_chan.specs.Laws
 pub use Rattle.pix_chan.specs.Channel
-pub use Rattle.pix_chan.specs.Operators
-pub use Rattle.pix_chan.specs.Composite
-pub use Rattle.pix_chan.specs.ExactComposite
-pub use Rattle.pix_chan.specs.Hue
+pub use Rattle.pix_ops.specs.Operators
+pub use Rattle.pix_ops.specs.Composite
+pub use Rattle.pix_ops.specs.ExactComposite
+pub use Rattle.pix_ops.specs.Hue
 pub mod Model
 pub mod Pixel
 pub mod Color

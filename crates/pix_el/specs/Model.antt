@@ -31,15 +31,19 @@ in_order hues colors kind = record {
   kind = kind;
 }
 
--- the models: how many hues, how many other colors, and the number
+-- how many hues a model has, how many other colors, and its number
+abbrev pub counts : Model → ℕ × ℕ × ℕ
+counts Rgb = (0, 3, 0)
+counts Gray = (0, 1, 1)
+counts Matte = (0, 0, 2)
+counts Hsv = (1, 2, 3)
+counts Hsl = (1, 2, 4)
+counts Hwb = (1, 2, 5)
+counts Bgr = (0, 3, 6)
+counts Cmy = (0, 3, 7)
+counts YCbCr = (0, 3, 8)
+counts Xyz = (0, 3, 9)
+
+-- the row of a model
 abbrev pub row : Model → ModelRow
-row Rgb = in_order 0 3 0
-row Gray = in_order 0 1 1
-row Matte = in_order 0 0 2
-row Hsv = in_order 1 2 3
-row Hsl = in_order 1 2 4
-row Hwb = in_order 1 2 5
-row Bgr = in_order 0 3 6
-row Cmy = in_order 0 3 7
-row YCbCr = in_order 0 3 8
-row Xyz = in_order 0 3 9
+row model = in_order (counts model).0 (counts model).1 (counts model).2

@@ -1,10 +1,10 @@
 -- The composite of two pixels, and of a pixel through a matte.
 use Rattle.std.specs.Prelude.{ℕ, List, map, if◌then◌else◌}
 use Rattle.std.specs.List.{range_with_len}
-use Rattle.pix_chan.specs.declared.ops.Op.{Op}
+use Rattle.pix_ops.specs.declared.ops.Op.{Op}
 use Rattle.pix_chan.specs.Product.{channel_product}
-use Rattle.pix_chan.specs.Composite.{channel_composite}
-use Rattle.pix_chan.specs.Hue.{hue_composite}
+use Rattle.pix_ops.specs.Composite.{channel_composite}
+use Rattle.pix_ops.specs.Hue.{hue_composite}
 use Rattle.pix_el.specs.declared.el.Pix.{Pix}
 use Rattle.pix_el.specs.Pixel.{Layout, is_hue, channel, alpha_of}
 

@@ -1,10 +1,10 @@
 -- Pixels by planes: a plane holds the channels of one number. No public clause cites this file.
 use Rattle.std.specs.Prelude.{◌≡◌, ℕ, ◌-◌, List, [], ◌∷◌, map, if◌then◌else◌}
 use Rattle.std.specs.declared.ops.Range.{Range}
-use Rattle.pix_chan.specs.declared.ops.Op.{Op}
+use Rattle.pix_ops.specs.declared.ops.Op.{Op}
 use Rattle.pix_chan.specs.Product.{channel_product}
-use Rattle.pix_chan.specs.Hue.{hue_composite}
-use Rattle.pix_chan.specs.Runs.{run_composite}
+use Rattle.pix_ops.specs.Hue.{hue_composite}
+use Rattle.pix_ops.specs.Composite.{run_composite}
 use Rattle.pix_chan.specs.Modes.{GammaMode, to_linear}
 use Rattle.pix_el.specs.Pixel.{lies_in, channel}
 use Rattle.pix_el.specs.Conversion.{at_depth}

@@ -1,7 +1,7 @@
 -- Premultiplied pixels.
 use Rattle.std.specs.Prelude.{◌≡◌, ℕ, ◌<◌, ◌≤◌, List, false}
-use Rattle.pix_chan.specs.declared.ops.Op.{Op}
-use Rattle.pix_chan.specs.Composite.{term_sum}
+use Rattle.pix_ops.specs.declared.ops.Op.{Op}
+use Rattle.pix_ops.specs.Composite.{term_sum}
 use Rattle.pix_el.specs.Pixel.{Layout, is_hue, channel, alpha_of}
 
 -- the number is that of a channel which the alpha bounds: there is one, and it is no hue

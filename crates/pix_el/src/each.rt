@@ -1,15 +1,15 @@
 //! Composites and mattes of the channels of a pixel, one after the other.
 ghost use Rattle.std.specs.Prelude.{◌≡◌, ℕ, ◌-◌, ◌<◌, length, map, true, if◌then◌else◌};
 ghost use Rattle.pix_chan.specs.Product.{channel_product};
-ghost use Rattle.pix_chan.specs.Composite.{channel_composite};
-ghost use Rattle.pix_chan.specs.Hue.{hue_composite, hue_weight, IsHueMove};
+ghost use Rattle.pix_ops.specs.Composite.{channel_composite};
+ghost use Rattle.pix_ops.specs.Hue.{hue_composite, hue_weight, IsHueMove};
 ghost use Rattle.pix_el.specs.Pixel.{lies_in, channel};
 ghost use Rattle.pix_el.specs.PixelComposite.{channels_composite, matted_color};
 
 use crate::hue::composite_hue;
 use crate::model::{ColorModel, is_hue};
 use pix_chan::chan::Channel;
-use pix_chan::ops::Blend;
+use pix_ops::ops::Blend;
 
 /// Composites `src`, the channel `ch` of a source of alpha `sa`, with `dst`, a hue along the shorter arc: `da1` is one minus the
 /// alpha of the destination.

@@ -1,9 +1,10 @@
 //! Pixels of any format: channels of a color model, with an alpha mode and a gamma mode.
-ghost use Rattle.std.specs.Prelude.{◌≡◌, ◌≢◌, ℕ, ◌+◌, ◌-◌, ◌<◌, ◌≤◌, List, [], ◌∷◌, length, replicate, map, take, slice_get, slice_set, Some, refl, nat_eq};
+ghost use Rattle.std.specs.Prelude.{◌≡◌, ℕ, ◌+◌, ◌-◌, ◌<◌, ◌≤◌, IsTrue, List, [], ◌∷◌, length, replicate, map, take, slice_get, slice_set, Some, refl, nat_eq};
 ghost use Rattle.std.specs.Cmp.Lexicographic.{pointwise};
 ghost use Rattle.std.proofs.Common.{ap};
 ghost use Rattle.std.specs.Borrow.{Lends, sem, Array};
-ghost use Rattle.pix_chan.specs.declared.ops.Op.{Op};
+ghost use Rattle.pix_ops.specs.declared.ops.Op.{Op};
+ghost use Rattle.pix_ops.specs.Operators.{sum_fits};
 ghost use Rattle.pix_el.specs.Pixel.{Layout, channel};
 ghost use Rattle.pix_chan.specs.Runs.{over};
 ghost use Rattle.pix_el.specs.PixelComposite.{pixel_composite, matted_color, matted_composite, matte_numbers, matte_value};
@@ -23,7 +24,7 @@ use crate::planes::{color_runs, composite_runs, matte_runs};
 use crate::private::Sealed;
 use crate::rgb::Rgb;
 use pix_chan::chan::{Alpha, Channel, Gamma, Linear, Premultiplied};
-use pix_chan::ops::Blend;
+use pix_ops::ops::Blend;
 use std::fmt::Debug;
 use std::marker::PhantomData;
 
@@ -242,13 +243,13 @@ pub trait Pixel: Sealed + Clone + Copy + Debug + Default + PartialEq {
         ensures hues { HuesMove layout O.op (numbers src.now) (numbers self.old)
             (numbers self.new) }
 
-        // Premultiplied pixels stay premultiplied, and no sum is cut but that of `Plus`.
+        // Premultiplied pixels stay premultiplied, and no sum is cut of an operator whose sums fit: of all but `Plus`.
         ensures premultiplied { IsPremultiplied layout (numbers src.now)
             → IsPremultiplied layout (numbers self.old)
             → IsPremultiplied layout (numbers self.new) }
         ensures uncut { IsPremultiplied layout (numbers src.now)
             → IsPremultiplied layout (numbers self.old)
-            → O.op ≢ Op.Plus
+            → IsTrue (sum_fits O.op)
             → IsUncut layout O.op (numbers src.now) (numbers self.old) }
 
         // A transparent source changes nothing under `SrcOver`, the hue included.
@@ -280,13 +281,13 @@ pub trait Pixel: Sealed + Clone + Copy + Debug + Default + PartialEq {
         ensures hues { HuesMove layout O.op (matted_color layout (Self.Chan.number alpha.now)
             (numbers src.now)) (numbers self.old) (numbers self.new) }
 
-        // Premultiplied pixels stay premultiplied, and no sum is cut but that of `Plus`.
+        // Premultiplied pixels stay premultiplied, and no sum is cut of an operator whose sums fit: of all but `Plus`.
         ensures premultiplied { IsPremultiplied layout (numbers src.now)
             → IsPremultiplied layout (numbers self.old)
             → IsPremultiplied layout (numbers self.new) }
         ensures uncut { IsPremultiplied layout (numbers src.now)
             → IsPremultiplied layout (numbers self.old)
-            → O.op ≢ Op.Plus
+            → IsTrue (sum_fits O.op)
             → IsUncut layout O.op (matted_color layout (Self.Chan.number alpha.now)
             (numbers src.now))
             (numbers self.old) }

@@ -1,9 +1,9 @@
 //! Hues: channels on a circle, of which 0 is the next one after the greatest.
 ghost use Rattle.std.specs.Prelude.{◌≡◌, ◌+◌, ◌-◌};
-ghost use Rattle.pix_chan.specs.Hue.{hue_composite, IsHueMove, hue_weight};
+ghost use Rattle.pix_ops.specs.Hue.{hue_composite, IsHueMove, hue_weight};
 
 use pix_chan::chan::Channel;
-use pix_chan::ops::Blend;
+use pix_ops::ops::Blend;
 
 /// How many units two channels are apart.
 pub(crate) fn apart<C: Channel>(x: C, y: C) -> C

@@ -1,7 +1,8 @@
 //! Pixels: channels of a color model, and how they are composited.
 #![tactic(auto)]
 
-pub use pix_chan::{chan, ops};
+pub use pix_chan::chan;
+pub use pix_ops::ops;
 
 mod conversion;
 mod each;

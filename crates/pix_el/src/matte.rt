@@ -1,5 +1,6 @@
 //! Mattes: coverage masks, the fraction of a color that is composited at each pixel.
 ghost use Rattle.std.specs.Prelude.{ℕ, refl};
+ghost use Rattle.std.proofs.Common.{lit≤};
 ghost use Rattle.pix_el.specs.Model as models;
 ghost use Rattle.pix_el.specs.Color.{rgb_of_matte, matte_of_rgb};
 
@@ -54,6 +55,8 @@ impl ColorModel for Matte {
     }
 
     ghost stands = { refl };
+
+    ghost few = { lit≤ tt };
 }
 
 /// A matte value of eight bits.

@@ -92,6 +92,9 @@ pub trait ColorModel: SealedModel + Clone + Copy + Debug + Default + PartialEq {
     /// The ranges, the channel number of the alpha and `KIND` are those of the table.
     ghost stands: { row model ≡
         record { hues = CIRCULAR; colors = LINEAR; alpha = ALPHA; kind = KIND } };
+
+    /// A model has at most four channels.
+    ghost few: { ALPHA ≤ 3 };
 }
 
 /// Returns whether the channel `ch` is a hue in the model `M`.

@@ -14,7 +14,7 @@ use crate::hue::composite_hue;
 use crate::matte::Matte;
 use crate::model::{ColorModel, is_hue};
 use pix_chan::chan::{Alpha, Channel, Linear};
-use pix_chan::ops::Blend;
+use pix_ops::ops::Blend;
 
 mod four;
 pub(crate) mod interleaved;

@@ -10,7 +10,7 @@ use crate::matte::Matte;
 use crate::planes::interleaved::{four_channels, four_pixels, put_four_pixels};
 use crate::planes::{composite_first, matte_values, scale_first};
 use pix_chan::chan::{Alpha, Channel, Linear};
-use pix_chan::ops::Blend;
+use pix_ops::ops::Blend;
 
 /// Returns the planes of sixteen pixels. Each `CALLER` has a copy of its own, since LLVM inlines what is called once.
 #[inline(always)]

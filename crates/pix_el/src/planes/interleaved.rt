@@ -9,7 +9,7 @@ ghost use Rattle.pix_el.specs.PixelComposite.{pixel_composite, matted_composite,
 use crate::el::{Pix, Pixel};
 use crate::matte::Matte;
 use pix_chan::chan::{Alpha, Channel, Linear};
-use pix_chan::ops::Blend;
+use pix_ops::ops::Blend;
 
 /// Returns the four channels of a pixel.
 #[inline(always)]

@@ -9,7 +9,7 @@ use crate::el::{Pix, Pixel};
 use crate::matte::Matte;
 use crate::planes::matte_values;
 use pix_chan::chan::{Alpha, Channel, Linear};
-use pix_chan::ops::Blend;
+use pix_ops::ops::Blend;
 
 /// Returns the two channels of a pixel.
 #[inline(always)]

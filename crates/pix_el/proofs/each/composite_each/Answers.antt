@@ -1,6 +1,6 @@
 use Rattle.std.proofs.Common.{◌≡◌, ◌-◌, length, map, get_or, true, arith, sym, ap, ◌∙◌, refl}
 use Rattle.std.proofs.lemmas.List.{length-map, map-set, get_or-map}
-use Rattle.pix_chan.specs.Hue.{hue_weight, IsHueMove}
+use Rattle.pix_ops.specs.Hue.{hue_weight, IsHueMove}
 use Rattle.pix_el.specs.Pixel.{lies_in, channel}
 use Rattle.pix_el.proofs.Written.{written_none, written_more, written_all, each_more}
 use Rattle.pix_el.proofs.each.composite_each.Goals as goal

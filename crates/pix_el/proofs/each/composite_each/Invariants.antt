@@ -1,6 +1,6 @@
 use Rattle.std.proofs.Common.{◌≡◌, ◌<◌, ◌-◌, ℕ, map, true, if◌then◌else◌}
-use Rattle.pix_chan.specs.Composite.{channel_composite}
-use Rattle.pix_chan.specs.Hue.{hue_composite, hue_weight, IsHueMove}
+use Rattle.pix_ops.specs.Composite.{channel_composite}
+use Rattle.pix_ops.specs.Hue.{hue_composite, hue_weight, IsHueMove}
 use Rattle.pix_el.specs.Pixel.{lies_in, channel}
 use Rattle.pix_el.proofs.Written.{Written}
 use Rattle.pix_el.proofs.each.composite_each.Given as goal

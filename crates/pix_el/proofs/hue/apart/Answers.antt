@@ -1,5 +1,5 @@
 use Rattle.std.proofs.Common.{◌<◌, ◌≤◌, arith}
-use Rattle.pix_chan.proofs.Hue.{less}
+use Rattle.pix_ops.proofs.Hue.{less}
 use Rattle.pix_el.proofs.hue.apart.Goals as goal
 
 pub returns-then-lt : goal.returns-then-lt

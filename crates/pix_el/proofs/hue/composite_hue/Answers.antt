@@ -1,7 +1,7 @@
 use Rattle.std.proofs.Common.{◌≡◌, ◌-◌, ◌*◌, ◌<◌, ◌≤◌, arith, ap, ◌∙◌}
 use Rattle.pix_chan.specs.Product.{fineness}
-use Rattle.pix_chan.specs.Hue.{hue_weight}
-use Rattle.pix_chan.proofs.Hue.{IsMovable, weight_is, weight_fits, at_most, moved_directly, moved_past_zero, hue_moves}
+use Rattle.pix_ops.specs.Hue.{hue_weight}
+use Rattle.pix_ops.proofs.Hue.{IsMovable, weight_is, weight_fits, at_most, moved_directly, moved_past_zero, hue_moves}
 use Rattle.pix_el.proofs.hue.composite_hue.Given.{Over}
 use Rattle.pix_el.proofs.hue.composite_hue.Goals as goal
 use Rattle.pix_el.proofs.hue.composite_hue.Goals.{After-MID-half}

@@ -1,7 +1,7 @@
 use Rattle.std.proofs.Common.{◌≡◌, ◌+◌, ◌-◌, ◌≤◌, ◌∙◌, refl, sym, ap, arith, map, get_or, ℕ}
 use Rattle.std.proofs.lemmas.List.{length-map, get_or-map}
 use Rattle.pix_el.specs.Planes.{run_hue}
-use Rattle.pix_chan.specs.Hue.{hue_composite}
+use Rattle.pix_ops.specs.Hue.{hue_composite}
 use Rattle.pix_chan.specs.Runs.{triples}
 use Rattle.pix_chan.proofs.Slices.{over-nil, mapped_one_step, over_both, length-triples, get_or-triples}
 use Rattle.pix_el.proofs.planes.composite_hues.Goals as goal

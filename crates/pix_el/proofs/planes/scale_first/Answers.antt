@@ -1,6 +1,6 @@
 use Rattle.std.proofs.Common.{◌≡◌, ◌∙◌, sym, true, false, map}
 use Rattle.pix_el.specs.Pixel.{lies_in}
-use Rattle.pix_chan.proofs.RunTerms.{as_they_are}
+use Rattle.pix_ops.proofs.RunTerms.{as_they_are}
 use Rattle.pix_el.proofs.MattePlanes.{matted_first_is}
 use Rattle.pix_el.proofs.planes.scale_first.Goals as goal
 

@@ -4,7 +4,7 @@ use Rattle.pix_el.specs.PixelComposite.{pixel_composite}
 use Rattle.pix_el.specs.ExactPixel.{HuesMove}
 use Rattle.pix_el.specs.Premultiplied.{IsBounded}
 use Rattle.pix_el.specs.Transparent.{IsUnchanged}
-use Rattle.pix_chan.specs.declared.ops.Op.{Op}
+use Rattle.pix_ops.specs.declared.ops.Op.{Op}
 use Rattle.pix_el.proofs.Models.{placed_by_row}
 use Rattle.pix_el.proofs.Composited.{Fits, channels_fit, alpha_bounded, made_near_exact, made_premultiplied, composite_uncut, transparent_over}
 use Rattle.pix_el.proofs.el.Pixel.composite_channels.Goals as goal

@@ -4,7 +4,7 @@ use Rattle.pix_el.specs.PixelComposite.{pixel_composite, matted_color, matted_co
 use Rattle.pix_el.specs.ExactPixel.{HuesMove}
 use Rattle.pix_el.specs.Premultiplied.{IsBounded}
 use Rattle.pix_el.specs.Transparent.{IsUnchanged}
-use Rattle.pix_chan.specs.declared.ops.Op.{Op}
+use Rattle.pix_ops.specs.declared.ops.Op.{Op}
 use Rattle.pix_el.proofs.Models.{placed_by_row}
 use Rattle.pix_el.proofs.Composited.{Fits, channels_fit, matted_fits, alpha_bounded, made_near_exact_matted, made_premultiplied, matted_premultiplied, composite_uncut, transparent_over, matted_transparent}
 use Rattle.pix_el.proofs.el.Pixel.composite_channels_alpha.Goals as goal
@@ -41,9 +41,9 @@ returns g c =
       near = made_near_exact_matted layout op matte (n src) (n dst) (n new) laws is src_fits matte_fits dst_fits alpha;
       hues = subst (λ (s : List ℕ). HuesMove layout op s (n dst) (n new)) scaled moves;
       premultiplied = λ ps pd. made_premultiplied layout op (matted_color layout matte (n src)) (n dst) (n new) laws is alpha (matted_premultiplied layout matte (n src) laws alpha ps) pd;
-      uncut = λ ps pd other.
+      uncut = λ ps pd fits.
           composite_uncut layout op (matted_color layout matte (n src)) (n dst) laws (matted_fits layout matte (n src) laws src_fits matte_fits) dst_fits
-          (matted_premultiplied layout matte (n src) laws alpha ps) pd other;
+          (matted_premultiplied layout matte (n src) laws alpha ps) pd fits;
       transparent = λ over none.
           subst (λ (made : List ℕ). IsUnchanged layout (n dst) made)
           (sym (is ∙ ap (λ (o : Op). matted_composite layout o matte (n src) (n dst)) over))

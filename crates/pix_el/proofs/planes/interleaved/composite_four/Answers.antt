@@ -1,7 +1,8 @@
 use Rattle.std.proofs.Common.{◌≡◌, ◌∙◌, ◌-◌, ap, sym, arith, map, List, ℕ}
 use Rattle.std.proofs.lemmas.List.{length-map}
 use Rattle.pix_el.specs.Pixel.{Layout}
-use Rattle.pix_chan.specs.Runs.{over, triples, run_composite}
+use Rattle.pix_chan.specs.Runs.{over, triples}
+use Rattle.pix_ops.specs.Composite.{run_composite}
 use Rattle.pix_el.specs.Planes.{by_fours}
 use Rattle.pix_el.specs.PixelComposite.{pixel_composite}
 use Rattle.pix_el.proofs.Models.{placed_by_row}
