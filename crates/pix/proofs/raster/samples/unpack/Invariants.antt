@@ -1,7 +1,0 @@
-use Rattle.std.proofs.Common.{◌≡◌, ◌*◌, map, take}
-use Rattle.std.specs.List.{flat_map}
-use Rattle.pix.proofs.raster.samples.unpack.Given as goal
-
--- the pixels below i have the first numbers
-abbrev pub invariant-loop-i : goal.invariant-loop-i
-invariant-loop-i g l = flat_map g.P.Pixel.numbers (take l.i l.pixels) ≡ take (l.i * g.P.Pixel.layout.count) (map g.S.Sample.number l.samples)

@@ -1,0 +1,5 @@
+pub mod PaletteMatch
+pub mod Palette
+pub mod Histogram
+pub mod Indexing
+pub mod Known

@@ -1,0 +1,6 @@
+//! Palettes, and indexed images.
+#![tactic(auto)]
+
+mod palette;
+
+pub use palette::Palette;

@@ -1,0 +1,208 @@
+//! Palettes: tables of colors, to which images are indexed.
+ghost use Rattle.std.specs.Prelude.{◌≡◌, ℕ, ◌+◌, ◌<◌, ◌≤◌, Some, None, IfSome, vec_len, IfOk, IfErr, length, map, slice_get, true, MatchOption, slice_set, Any, nat_eq};
+ghost use Rattle.std.specs.Option.{option_map};
+ghost use Rattle.pix_palette.specs.Palette.{Answers, IsSet, StandsFor, numbers};
+ghost use Rattle.pix_palette.specs.PaletteMatch.{IsMatch, IsNearest, IsFirstOf};
+ghost use Rattle.pix_palette.specs.Histogram.{IsHistogram};
+ghost use Rattle.pix_raster.specs.declared.fault.RasterFault.{RasterFault};
+
+mod closest;
+mod index;
+mod indexing;
+mod known;
+mod table;
+
+use self::closest::closest;
+use self::index::{PaletteIndex, count_indices};
+use self::table::{Kept, Threshold};
+use pix_el::rgb::{Rgb, SRgb8};
+use pix_raster::RasterFault;
+use std::alloc::Global;
+pub use table::Palette;
+
+impl Palette {
+    /// Makes an empty palette of at most `limit` colors, with room for all of them.
+    ///
+    /// # Errors
+    ///
+    /// `Memory` on allocation failure, and where the limit is too large to be reserved.
+    pub fn new(alloc: Global, limit: usize) -> Result<Palette, RasterFault>
+        ensures colors { IfOk result (λ p. length p.colors.items ≡ 0) }
+        ensures limit { IfOk result (λ p. p.limit ≡ limit) }
+        ensures threshold { IfOk result (λ p. p.threshold ≡ None) }
+        ensures refused { IfErr result (λ fault. fault ≡ RasterFault.Memory) }
+    {
+        let colors = Vec::with_capacity(alloc, limit).map_err(|_| RasterFault::Memory)?;
+        Ok(Palette {
+            colors,
+            limit,
+            threshold: None,
+        })
+    }
+
+    /// Returns the number of entries.
+    pub fn len(&self) -> usize
+        ensures { result ≡ length self.now.colors.items }
+    {
+        self.colors.len()
+    }
+
+    /// Returns whether there is no entry.
+    pub fn is_empty(&self) -> bool
+        ensures { result ≡ nat_eq (length self.now.colors.items) 0 }
+    {
+        self.colors.is_empty()
+    }
+
+    /// Returns the colors in order.
+    pub fn colors(&self) -> &[SRgb8]
+        ensures { result.now ≡ self.now.colors.items }
+    {
+        &self.colors
+    }
+
+    /// Returns the color of entry `i`, or `None` past the end.
+    pub fn entry(&self, i: usize) -> Option<SRgb8>
+        ensures { result ≡ slice_get self.now.colors.items i }
+    {
+        self.colors.get(i).copied()
+    }
+
+    /// Keeps a function that returns, for a number of entries, how far a color may be from its match in each channel.
+    ///
+    /// Condition: it may be called for every number from 0 to the limit.
+    pub fn set_threshold_fn(&mut self, f: fn(usize) -> SRgb8)
+        requires { (n : ℕ) → n ≤ self.old.limit → Threshold.pre f n }
+        ensures colors { self.new.colors.items ≡ self.old.colors.items }
+        ensures limit { self.new.limit ≡ self.old.limit }
+        ensures threshold { option_map (λ kept. kept.f) self.new.threshold ≡ Some f }
+    {
+        let kept = Kept {
+            f,
+            limit: self.limit,
+        };
+        self.threshold = Some(kept);
+    }
+
+    /// Returns the threshold for the present number of entries.
+    fn threshold(&self) -> SRgb8
+        ensures { Answers Threshold.post (option_map (λ kept. kept.f) self.now.threshold)
+            (length self.now.colors.items) (numbers result) }
+    {
+        match self.threshold {
+            None => SRgb8::default(),
+            Some(kept) => (kept.f)(self.colors.len()),
+        }
+    }
+
+    /// Returns the entry that stands for `clr`.
+    fn standing(&self, clr: SRgb8) -> Option<usize>
+        ensures { StandsFor
+            (Answers Threshold.post (option_map (λ kept. kept.f) self.now.threshold))
+            (map numbers self.now.colors.items) (numbers clr) result }
+    {
+        if self.colors.is_empty() {
+            return None;
+        }
+        let (at, difference) = closest(&self.colors, clr);
+        if Rgb::within_threshold(difference, self.threshold()) {
+            Some(at)
+        } else {
+            None
+        }
+    }
+
+    /// Sets a color: answers the index of its match if that is within the threshold of the present number of entries, else appends the color and
+    /// answers its index, or answers `None` where the limit is reached. It takes no memory.
+    pub fn set_entry(&mut self, clr: SRgb8) -> Option<usize>
+        ensures set { IsSet
+            (Answers Threshold.post (option_map (λ kept. kept.f) self.old.threshold))
+            self.old.limit self.old.colors.items clr result self.new.colors.items }
+        ensures limit { self.new.limit ≡ self.old.limit }
+        ensures threshold { self.new.threshold ≡ self.old.threshold }
+
+        // A color that stands is answered at its first entry, whatever the threshold.
+        ensures standing { (i : ℕ) → IsFirstOf (map numbers self.old.colors.items) (numbers clr) i
+            → (result ≡ Some i) × (self.new.colors.items ≡ self.old.colors.items) }
+
+        // The match is nearest to the color.
+        ensures nearest { (m : ℕ) → IsMatch (map numbers self.old.colors.items) (numbers clr) m
+            → IsNearest (map numbers self.old.colors.items) (numbers clr) m }
+    {
+        if let Some(at) = self.standing(clr) {
+            return Some(at);
+        }
+        let len = self.colors.len();
+        if len < self.limit {
+            self.colors.push_reserved(clr);
+            Some(len)
+        } else {
+            None
+        }
+    }
+
+    /// Replaces the color of entry `i` and answers the old one, or `None` past the end, where nothing changes.
+    pub fn replace_entry(&mut self, i: usize, clr: SRgb8) -> Option<SRgb8>
+        ensures old { result ≡ slice_get self.old.colors.items i }
+        ensures colors { self.new.colors.items ≡ slice_set self.old.colors.items i clr }
+        ensures limit { self.new.limit ≡ self.old.limit }
+        ensures threshold { self.new.threshold ≡ self.old.threshold }
+    {
+        if i < self.colors.len() {
+            let old = self.colors[i];
+            self.colors[i] = clr;
+            Some(old)
+        } else {
+            None
+        }
+    }
+
+    /// Counts how often each index stands in `indices`, one count for each entry, or answers `None` where one is past the end.
+    ///
+    /// # Errors
+    ///
+    /// `Memory` on allocation failure, which comes first.
+    pub fn histogram<T: PaletteIndex>(
+        &self,
+        alloc: Global,
+        indices: &[T],
+    ) -> Result<Option<Vec<usize>>, RasterFault>
+        ensures ok { IfOk result (λ answer. MatchOption answer
+            (Any (λ i. length self.now.colors.items ≤ T.number i) indices.now)
+            (λ counts. IsHistogram T.number (length self.now.colors.items)
+            indices.now counts.items)) }
+        ensures refused { IfErr result (λ fault. fault ≡ RasterFault.Memory) }
+    {
+        let mut counts = Vec::from_elem(alloc, 0, self.colors.len()).map_err(
+            |_| RasterFault::Memory,
+        )?;
+        if count_indices(&mut counts, indices) {
+            Ok(Some(counts))
+        } else {
+            Ok(None)
+        }
+    }
+
+    /// Copies the palette: the same colors, limit and threshold, with room for all colors up to the limit.
+    ///
+    /// # Errors
+    ///
+    /// `Memory` on allocation failure.
+    pub fn try_clone(&self, alloc: Global) -> Result<Palette, RasterFault>
+        ensures colors { IfOk result (λ p. p.colors.items ≡ self.now.colors.items) }
+        ensures limit { IfOk result (λ p. p.limit ≡ self.now.limit) }
+        ensures threshold { IfOk result (λ p. p.threshold ≡ self.now.threshold) }
+        ensures refused { IfErr result (λ fault. fault ≡ RasterFault.Memory) }
+    {
+        let limit = self.limit;
+        let mut colors = Vec::with_capacity(alloc, limit).map_err(|_| RasterFault::Memory)?;
+        colors
+            .extend_from_slice(&self.colors)
+            .map_err(|_| RasterFault::Memory)?;
+        Ok(Palette {
+            colors,
+            limit,
+            threshold: self.threshold,
+        })
+    }
+}

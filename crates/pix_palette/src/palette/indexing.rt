@@ -1,0 +1,171 @@
+//! Images of indices into a palette.
+ghost use Rattle.std.specs.Prelude.{◌≡◌, Option, Some, None, length, map, true, false, if◌then◌else◌, IfOk, IfErr};
+ghost use Rattle.std.specs.Option.{option_map};
+ghost use Rattle.pix_palette.specs.Palette.{Answers, IsSet, numbers};
+ghost use Rattle.pix_palette.specs.Indexing.{IsIndexed, IsSetUpTo, AreIndexed, AreGray, colors_of, values};
+ghost use Rattle.pix_palette.specs.Known.{AreKnown};
+ghost use Rattle.pix_raster.specs.declared.fault.RasterFault.{RasterFault};
+
+use super::index::IndexPixel;
+use super::known::{Known, PLACES};
+use super::table::{Palette, Threshold};
+use pix_chan::chan::{Ch8, Gamma};
+use pix_color::gray::{Gray8, Gray16};
+use pix_el::el::Pixel;
+use pix_el::rgb::SRgb8;
+use pix_raster::{Raster, RasterFault};
+use std::alloc::Global;
+
+impl Palette {
+    /// Makes a raster of indices: from left to right and row by row, the color of each pixel is set, and the value of the pixel at its place is its
+    /// index. Answers `None` at the first pixel whose color can't be set or whose index is above 255; the entries
+    /// that were added stay, one for this pixel included.
+    ///
+    /// # Errors
+    ///
+    /// `Memory` on allocation failure, with the raster; it comes first, and the palette is unchanged.
+    pub fn make_indexed<S>(
+        &mut self,
+        alloc: Global,
+        raster: Raster<S>,
+    ) -> Result<Option<Raster<Gray8>>, (RasterFault, Raster<S>)>
+    where
+        S: Pixel,
+        Ch8: From<S::Chan>,
+        S::Gamma: Gamma<Ch8>,
+
+        // The entry at each index is the color, or within a threshold; without a threshold function it is the color.
+        ensures indexed { IfOk result (λ answer. IsIndexed Threshold.post
+            (option_map (λ kept. kept.f) self.old.threshold) self.old.limit 255
+            ⟦<Gray8 as Pixel>⟧.numbers raster.width raster.height
+            (colors_of S.format ⟦<S::Gamma as Gamma<Ch8>>⟧.mode S.numbers raster.pixels)
+            self.old.colors.items answer self.new.colors.items) }
+        ensures memory { IfErr result (λ err. err ≡ (RasterFault.Memory, raster)) }
+        ensures unchanged { IfErr result (λ err. self.new.colors.items ≡ self.old.colors.items) }
+        ensures limit { self.new.limit ≡ self.old.limit }
+        ensures threshold { self.new.threshold ≡ self.old.threshold }
+    {
+        self.index_raster(alloc, raster)
+    }
+
+    /// Makes a raster of indices: from left to right and row by row, the color of each pixel is set, and the value of the pixel at its place is its
+    /// index. Answers `None` at the first pixel whose color can't be set or whose index is above 65535; the entries
+    /// that were added stay, one for this pixel included.
+    ///
+    /// # Errors
+    ///
+    /// `Memory` on allocation failure, with the raster; it comes first, and the palette is unchanged.
+    pub fn make_indexed_wide<S>(
+        &mut self,
+        alloc: Global,
+        raster: Raster<S>,
+    ) -> Result<Option<Raster<Gray16>>, (RasterFault, Raster<S>)>
+    where
+        S: Pixel,
+        Ch8: From<S::Chan>,
+        S::Gamma: Gamma<Ch8>,
+
+        // The entry at each index is the color, or within a threshold; without a threshold function it is the color.
+        ensures indexed { IfOk result (λ answer. IsIndexed Threshold.post
+            (option_map (λ kept. kept.f) self.old.threshold) self.old.limit 65535
+            ⟦<Gray16 as Pixel>⟧.numbers raster.width raster.height
+            (colors_of S.format ⟦<S::Gamma as Gamma<Ch8>>⟧.mode S.numbers raster.pixels)
+            self.old.colors.items answer self.new.colors.items) }
+        ensures memory { IfErr result (λ err. err ≡ (RasterFault.Memory, raster)) }
+        ensures unchanged { IfErr result (λ err. self.new.colors.items ≡ self.old.colors.items) }
+        ensures limit { self.new.limit ≡ self.old.limit }
+        ensures threshold { self.new.threshold ≡ self.old.threshold }
+    {
+        self.index_raster(alloc, raster)
+    }
+
+    /// Sets a color: answers its index, or `None` where there is none up to `greatest`.
+    fn set_index(
+        &mut self,
+        places: &mut [Option<Known>],
+        clr: SRgb8,
+        greatest: usize,
+    ) -> Option<usize>
+        requires long { length places.old ≡ 2056 }
+        requires known { AreKnown (map numbers self.old.colors.items) places.old }
+        ensures set { IsSetUpTo
+            (IsSet (Answers Threshold.post (option_map (λ kept. kept.f) self.old.threshold))
+            self.old.limit)
+            greatest self.old.colors.items (numbers clr) result self.new.colors.items }
+        ensures known { AreKnown (map numbers self.new.colors.items) places.new }
+        ensures limit { self.new.limit ≡ self.old.limit }
+        ensures threshold { self.new.threshold ≡ self.old.threshold }
+    {
+        match self.set_known(places, clr) {
+            Some(index) if index <= greatest => Some(index),
+            _ => None,
+        }
+    }
+
+    /// Sets the color of each pixel, and sets the pixel of `indices` at the same place to its index, up to the first that has no index;
+    /// returns whether all have one.
+    fn index_pixels<S, P>(&mut self, pixels: &[S], indices: &mut [P]) -> bool
+    where
+        S: Pixel,
+        P: IndexPixel,
+        Ch8: From<S::Chan>,
+        S::Gamma: Gamma<Ch8>,
+        requires { length indices.old ≡ length pixels.now }
+        ensures indexed { AreIndexed
+            (IsSet (Answers Threshold.post (option_map (λ kept. kept.f) self.old.threshold))
+            self.old.limit)
+            P.GREATEST self.old.colors.items
+            (colors_of S.format ⟦<S::Gamma as Gamma<Ch8>>⟧.mode S.numbers pixels.now)
+            (if result then Some (values P.numbers indices.new) else None)
+            self.new.colors.items }
+        ensures gray { result ≡ true → AreGray P.numbers indices.new }
+        ensures limit { self.new.limit ≡ self.old.limit }
+        ensures threshold { self.new.threshold ≡ self.old.threshold }
+    {
+        let mut places = [None; PLACES];
+        for i in 0..pixels.len() {
+            match self.set_index(&mut places, pixels[i].convert::<SRgb8>(), P::GREATEST) {
+                Some(index) => indices[i] = P::of_index(index),
+                None => return false,
+            }
+        }
+        true
+    }
+
+    /// Indexes a raster by pixels that hold an index: the raster of indices, or `None` where a pixel has none.
+    ///
+    /// # Errors
+    ///
+    /// `Memory` on allocation failure, with the raster; it comes first, and the palette is unchanged.
+    fn index_raster<S, P>(
+        &mut self,
+        alloc: Global,
+        raster: Raster<S>,
+    ) -> Result<Option<Raster<P>>, (RasterFault, Raster<S>)>
+    where
+        S: Pixel,
+        P: IndexPixel,
+        Ch8: From<S::Chan>,
+        S::Gamma: Gamma<Ch8>,
+        ensures indexed { IfOk result (λ answer. IsIndexed Threshold.post
+            (option_map (λ kept. kept.f) self.old.threshold) self.old.limit P.GREATEST
+            P.numbers raster.width raster.height
+            (colors_of S.format ⟦<S::Gamma as Gamma<Ch8>>⟧.mode S.numbers raster.pixels)
+            self.old.colors.items answer self.new.colors.items) }
+        ensures memory { IfErr result (λ err. err ≡ (RasterFault.Memory, raster)) }
+        ensures unchanged { IfErr result (λ err. self.new.colors.items ≡ self.old.colors.items) }
+        ensures limit { self.new.limit ≡ self.old.limit }
+        ensures threshold { self.new.threshold ≡ self.old.threshold }
+    {
+        match Raster::with_clear(alloc, raster.width(), raster.height()) {
+            Err(_) => Err((RasterFault::Memory, raster)),
+            Ok(mut image) => {
+                if self.index_pixels(raster.pixels(), image.pixels_mut()) {
+                    Ok(Some(image))
+                } else {
+                    Ok(None)
+                }
+            }
+        }
+    }
+}

@@ -1,0 +1,13 @@
+pub mod Rectangles
+pub mod Zones
+pub mod Places
+pub mod Clear
+pub mod Steps
+pub mod Copies
+pub mod Shaped
+pub mod Overlaps
+pub mod Views
+pub mod RunBounds
+pub mod Transparent
+pub mod Points
+pub mod Samples

@@ -1,0 +1,14 @@
+use Rattle.std.proofs.Common.{◌≡◌, ℕ, ◌<◌, length}
+use Rattle.pix_raster.specs.Lent.{read_at}
+use Rattle.pix_raster.specs.Clip.{where_in}
+use Rattle.pix_raster.proofs.lent.fill_rows.Given as goal
+
+-- the rows above y are done
+abbrev pub invariant-loop-y : goal.invariant-loop-y
+invariant-loop-y g l =
+    let n = g.F.Fill.reads in
+    record {
+      long : length l.pixels ≡ length l.initial.pixels;
+      done : (x y : ℕ) → x < l.stride → read_at n l.stride l.pixels x y
+          ≡ where_in l.fn.clipped.columns (record { start = l.fn.clipped.rows.start; end = l.y }) (λ _ _. g.F.Fill.makes l.change) x y (read_at n l.stride l.initial.pixels x y);
+    }

@@ -1,0 +1,11 @@
+use Rattle.std.proofs.Common.{◌≡◌, ◌+◌, ◌*◌, ◌-◌, ap, ◌∙◌, arith}
+use Rattle.pix_raster.proofs.Samples.{unpacked_more}
+use Rattle.pix_raster.proofs.raster.samples.unpack.Goals as goal
+
+pub loop-i-preserved : goal.loop-i-preserved
+loop-i-preserved g c =
+    let i = c.loop-i.i in
+    let count = c.channel_count-count in
+    let wide : i * count.result + count.result - i * count.result ≡ count.result = omega arith in
+    unpacked_more g.P.Pixel.numbers g.S.Sample.number c.loop-i.pixels c.args.samples.now i g.P.Pixel.layout.count _ _ c.pixel_of.result (omega arith)
+    (ap (λ k. i * k) count.ensures) (wide ∙ count.ensures) c.loop-i.invariant c.pixel_of.ensures

@@ -1,0 +1,16 @@
+pub use Rattle.pix_el.specs.Pixel
+pub use Rattle.pix_el.specs.PixelComposite
+pub use Rattle.pix_el.specs.Conversion
+pub mod Region
+pub mod Image
+pub mod Sizes
+pub mod Buffers
+pub mod Reach
+pub mod Lent
+pub mod Rows
+pub mod Views
+pub mod Run
+pub mod Kept
+pub mod Stays
+pub mod Bounds
+pub mod Clip

@@ -1,0 +1,76 @@
+//! Commands: changes of a raster as values.
+ghost use Rattle.std.specs.Prelude.{◌≡◌};
+ghost use Rattle.pix_raster.specs.Run.{op_of};
+
+use crate::raster::Raster;
+use crate::region::Region;
+use pix_ops::ops::Op;
+
+/// A change of a raster of pixels `P`, as a value. `M` is the format of the coverage masks.
+#[derive(Drop)]
+pub enum Command<'a, P, M> {
+    /// Clears the raster, as [`Raster::clear`] does.
+    Clear,
+    /// Copies a color to a region, as [`Raster::copy_color`] does.
+    CopyColor {
+        /// The region.
+        reg: Region,
+        /// The color.
+        clr: P,
+    },
+    /// Copies a region of another raster, as [`Raster::copy_raster`] does.
+    CopyRaster {
+        /// The region of the destination.
+        to: Region,
+        /// The source.
+        src: &'a Raster<P>,
+        /// The region of the source.
+        from: Region,
+    },
+    /// Composites a color with a region, as [`Raster::composite_color`] does.
+    Color {
+        /// The region.
+        reg: Region,
+        /// The color.
+        clr: P,
+        /// The operator.
+        op: Op,
+    },
+    /// Composites a region of another raster, as [`Raster::composite_raster`] does.
+    Raster {
+        /// The region of the destination.
+        to: Region,
+        /// The source.
+        src: &'a Raster<P>,
+        /// The region of the source.
+        from: Region,
+        /// The operator.
+        op: Op,
+    },
+    /// Composites a color through a region of a raster of mattes, as [`Raster::composite_matte`] does.
+    Matte {
+        /// The region of the destination.
+        to: Region,
+        /// The coverage masks.
+        src: &'a Raster<M>,
+        /// The region of the source.
+        from: Region,
+        /// The color.
+        clr: P,
+        /// The operator.
+        op: Op,
+    },
+}
+
+impl<'a, P, M> Command<'a, P, M> {
+    /// Returns the operator; `Src` for a command that does not composite.
+    pub(crate) fn op(&self) -> Op
+        ensures { result ≡ op_of self.now }
+    {
+        match self {
+            Command::Color { op, .. } | Command::Raster { op, .. } | Command::Matte { op, .. } =>
+                *op,
+            _ => Op::Src,
+        }
+    }
+}

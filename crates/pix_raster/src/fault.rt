@@ -1,0 +1,50 @@
+//! Refusals of rasters.
+ghost use Rattle.std.specs.Prelude.{◌≡◌, ℕ, ◌*◌, ◌≤◌, ◌↔◌, IfOk, IfErr, IsOk, Some, None};
+ghost use Rattle.pix_raster.specs.Region.{limit};
+ghost use Rattle.pix_raster.specs.Sizes.{size_fault};
+
+use crate::region::LIMIT;
+use thiserror::Error;
+
+/// The reason why a raster, a buffer or a palette was not made: the first that applies, in this order.
+#[derive(Clone, Copy, Debug, PartialEq, Eq, Error)]
+pub enum RasterFault {
+    /// The width is above 2147483647.
+    #[error("Raster width too big")]
+    WidthTooBig,
+    /// The height is above 2147483647.
+    #[error("Raster height too big")]
+    HeightTooBig,
+    /// Width times height is above 2147483647.
+    #[error("Raster too big")]
+    TooBig,
+    /// A buffer of channels was passed for a raster without points.
+    #[error("Raster buffer empty")]
+    EmptyBuffer,
+    /// The length of the buffer is not the one that the raster needs.
+    #[error("Raster buffer has wrong length")]
+    WrongLength,
+    /// An allocation failed.
+    #[error("out of memory")]
+    Memory,
+}
+
+/// Returns the number of points of a size, at most 2147483647, or the size's first fault.
+pub(crate) fn point_count(width: u32, height: u32) -> Result<usize, RasterFault>
+    ensures ok { IfOk result (λ count. count ≡ height * width) }
+    ensures small { IfOk result (λ count. count ≤ limit) }
+    ensures fault { IfErr result (λ fault. size_fault width height ≡ Some fault) }
+    ensures fits { IsOk result ↔ (size_fault width height ≡ None) }
+{
+    if width > LIMIT {
+        return Err(RasterFault::WidthTooBig);
+    }
+    if height > LIMIT {
+        return Err(RasterFault::HeightTooBig);
+    }
+    let count = u64::from(width) * u64::from(height);
+    if count > u64::from(LIMIT) {
+        return Err(RasterFault::TooBig);
+    }
+    Ok(count as usize)
+}

@@ -1,0 +1,167 @@
+//! Changes of images in memory that the caller owns, in pixels of the caller's own layout.
+ghost use Rattle.std.specs.Prelude.{◌≡◌, ℕ, ◌+◌, ◌-◌, ◌*◌, ◌<◌, ◌≤◌, List, length, map};
+ghost use Rattle.pix_chan.specs.Runs.{over};
+ghost use Rattle.pix_raster.specs.Region.{limit, whole};
+ghost use Rattle.pix_raster.specs.Lent.{read_at, IsShaped, ChangedIn, where_covered, where_paired};
+ghost use Rattle.pix_raster.specs.Clip.{where_in};
+
+use crate::clip::{ClippedRect, Overlap};
+use crate::region::Region;
+
+/// The size of an image in points, and how many pixels its rows lie apart.
+#[derive(Clone, Copy, Debug, PartialEq, Eq)]
+pub struct Shape {
+    /// The width in columns, at most 2147483647.
+    pub width: u32,
+    /// The height in rows, at most 2147483647.
+    pub height: u32,
+    /// How many pixels lie from the start of a row to the start of the next, at least the width.
+    pub stride: usize,
+}
+
+/// A change of the pixels of a row, each by itself.
+pub trait Fill<D> {
+    /// What it needs of the format.
+    ghost can_fill: { Type 0 };
+
+    /// How a pixel is read.
+    ghost reads: { D → List ℕ };
+
+    /// What it makes of a pixel.
+    ghost makes: { Self → List ℕ → List ℕ };
+
+    /// Changes every pixel of a row.
+    fn fill(&self, row: &mut [D])
+        requires { can_fill }
+        ensures { map reads row.new ≡ map (makes self.now) (map reads row.old) };
+}
+
+/// A change of the pixels of a row, each by a pixel of another row.
+pub trait Blit<D, S> {
+    /// What it needs of the formats.
+    ghost can_blit: { Type 0 };
+
+    /// How a pixel is read.
+    ghost reads: { D → List ℕ };
+
+    /// How a pixel of the other row is read.
+    ghost source_reads: { S → List ℕ };
+
+    /// What it makes of a source and a pixel.
+    ghost makes: { Self → List ℕ → List ℕ → List ℕ };
+
+    /// Changes each pixel of a row by the pixel of the source at the same place. The shorter row decides, and the rest stays.
+    fn blit(&self, row: &mut [D], src: &[S])
+        requires { can_blit }
+        ensures { map reads row.new ≡ over (makes self.now) (map source_reads src.now)
+            (map reads row.old) };
+}
+
+/// Changes each point of `reg`, clipped to the image of that shape. No other pixel changes.
+///
+/// Condition: `shape` is as the docs of its fields say, its rows lie in `pixels`, and the change suits the format.
+pub fn fill_region<D, F: Fill<D>>(pixels: &mut [D], shape: Shape, reg: Region, change: &F)
+    requires can_fill { F.can_fill }
+    requires fits { IsShaped shape (length pixels.old) }
+    ensures { ChangedIn F.reads shape pixels.old pixels.new
+        (where_covered reg (F.makes change.now)) }
+{
+    if shape.width > 0 {
+        let clipped = ClippedRect::new(reg, shape.width, shape.height);
+        fill_rows(pixels, shape.stride, clipped, change);
+    }
+}
+
+/// Changes the region `to` of an image by the region `from` of a source, each point by the point that it is paired with, as by
+/// [`Raster::copy_raster`](crate::Raster::copy_raster). No other pixel changes.
+///
+/// Condition: both shapes are as the docs of their fields say, the rows of the image lie in `pixels` and those of the source in `src`, and the
+/// change suits both formats.
+pub fn blit_region<D, S, B: Blit<D, S>>(
+    pixels: &mut [D],
+    shape: Shape,
+    to: Region,
+    src: &[S],
+    src_shape: Shape,
+    from: Region,
+    change: &B,
+)
+    requires can_blit { B.can_blit }
+    requires fits { IsShaped shape (length pixels.old) }
+    requires src_fits { IsShaped src_shape (length src.now) }
+    ensures { ChangedIn B.reads shape pixels.old pixels.new
+        (where_paired to (whole shape.width shape.height)
+        from (whole src_shape.width src_shape.height)
+        (read_at B.source_reads src_shape.stride src.now) (B.makes change.now)) }
+{
+    if shape.width > 0 {
+        let overlap = Overlap::new(
+            to,
+            shape.width,
+            shape.height,
+            from,
+            src_shape.width,
+            src_shape.height,
+        );
+        blit_rows(pixels, shape.stride, src, src_shape.stride, overlap, change);
+    }
+}
+
+/// Changes the pixels of a clipped rectangle of rows that lie `stride` pixels apart.
+fn fill_rows<D, F: Fill<D>>(pixels: &mut [D], stride: usize, clipped: ClippedRect, change: &F)
+    requires can_fill { F.can_fill }
+    requires ordered { clipped.columns.start ≤ clipped.columns.end }
+    requires from_top { clipped.rows.start ≤ clipped.rows.end }
+    requires across { clipped.columns.end ≤ stride }
+    requires down { (y : ℕ) → y < clipped.rows.end →
+        y * stride + clipped.columns.end ≤ length pixels.old }
+    ensures { (x y : ℕ) → x < stride → read_at F.reads stride pixels.new x y ≡
+        where_in clipped.columns clipped.rows (λ a b. F.makes change.now) x y
+        (read_at F.reads stride pixels.old x y) }
+{
+    for y in clipped.rows.start..clipped.rows.end {
+        let start = y * stride;
+        change.fill(&mut pixels[start + clipped.columns.start..start + clipped.columns.end]);
+    }
+}
+
+/// Changes the pixels of an overlap, in rows that lie `stride` pixels apart, each by its pixel of a source whose rows lie `src_stride`
+/// pixels apart.
+fn blit_rows<D, S, B: Blit<D, S>>(
+    pixels: &mut [D],
+    stride: usize,
+    src: &[S],
+    src_stride: usize,
+    overlap: Overlap,
+    change: &B,
+)
+    requires can_blit { B.can_blit }
+    requires ordered { overlap.columns.dst.start ≤ overlap.columns.dst.end }
+    requires from_top { overlap.rows.dst.start ≤ overlap.rows.dst.end }
+    requires across { overlap.columns.dst.end ≤ stride }
+    requires down { (y : ℕ) → y < overlap.rows.dst.end →
+        y * stride + overlap.columns.dst.end ≤ length pixels.old }
+    requires src_rows { overlap.rows.src_start
+        + (overlap.rows.dst.end - overlap.rows.dst.start) ≤ limit }
+    requires src_down { (y : ℕ) → y < overlap.rows.src_start
+        + (overlap.rows.dst.end - overlap.rows.dst.start) →
+        y * src_stride + (overlap.columns.src_start
+        + (overlap.columns.dst.end - overlap.columns.dst.start)) ≤ length src.now }
+    ensures { (x y : ℕ) → x < stride → read_at B.reads stride pixels.new x y ≡
+        where_in overlap.columns.dst overlap.rows.dst
+        (λ a b. B.makes change.now (read_at B.source_reads src_stride src.now
+        (overlap.columns.src_start + (a - overlap.columns.dst.start))
+        (overlap.rows.src_start + (b - overlap.rows.dst.start))))
+        x y (read_at B.reads stride pixels.old x y) }
+{
+    let count = overlap.columns.dst.end - overlap.columns.dst.start;
+    for y in overlap.rows.dst.start..overlap.rows.dst.end {
+        let start = y * stride + overlap.columns.dst.start;
+        let src_y = overlap.rows.src_start + (y - overlap.rows.dst.start);
+        let src_start = src_y * src_stride + overlap.columns.src_start;
+        change.blit(
+            &mut pixels[start..start + count],
+            &src[src_start..src_start + count],
+        );
+    }
+}

@@ -1,0 +1,16 @@
+//! Regions, rasters, commands and their runs.
+#![tactic(auto)]
+
+mod clip;
+mod command;
+mod fault;
+pub mod lent;
+mod raster;
+mod region;
+mod rows;
+
+pub use command::Command;
+pub use fault::RasterFault;
+pub use raster::Raster;
+pub use region::Region;
+pub use rows::{Rows, RowsMut};

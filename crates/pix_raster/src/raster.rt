@@ -1,0 +1,231 @@
+//! Rasters: images in memory.
+ghost use Rattle.std.specs.Prelude.{◌≡◌, ℕ, ◌+◌, ◌*◌, ◌<◌, ◌≤◌, ℤ, pos, ◌&&◌, vec_len, length, map, slice_index_or, slice_get, slice_range, replicate, [], ◌∷◌, IfOk, IfErr, Some, None, Err, MatchOption, All, false};
+ghost use Rattle.pix_raster.specs.Region.{limit, covers, has_row, intersection_of};
+ghost use Rattle.pix_raster.specs.Sizes.{size_fault};
+ghost use Rattle.pix_raster.specs.Image.{IsPoint, IsInside, region_of};
+ghost use Rattle.pix_raster.specs.declared.fault.RasterFault.{RasterFault};
+ghost use Rattle.std.specs.Borrow.{Lends, LendsIf, sem, Array};
+ghost use Rattle.pix_raster.specs.Rows.{clipped, rows_of};
+ghost use Rattle.pix_raster.specs.Views.{IsRow, place_of, with_pixel, with_pixels, with_run};
+ghost use Rattle.pix_raster.specs.Clip.{row_start, row_end};
+ghost use Rattle.pix_raster.specs.contracts.raster.Raster.{the_row};
+
+use crate::clip::{ClippedRect, clip, row_places};
+use crate::fault::{RasterFault, point_count};
+use crate::region::Region;
+use crate::rows::{Rows, RowsMut};
+use pix_el::el::Pixel;
+use std::alloc::Global;
+use std::marker::Model;
+
+mod buffers;
+mod change;
+mod convert;
+mod row_change;
+mod samples;
+
+/// An image: `width` times `height` pixels of the format `P`, row by row from the top.
+#[derive(Drop)]
+pub struct Raster<P> {
+    width: u32,
+    height: u32,
+    pixels: Vec<P>,
+}
+
+impl<P> Model for Raster<P> {
+    ghost use Rattle.std.specs.Prelude.{◌≡◌, ◌*◌, ◌≤◌, vec_len};
+    ghost use Rattle.pix_raster.specs.Region.{limit};
+    ghost use Rattle.pix_raster.specs.Image.{Image};
+
+    ghost Value = { Image P };
+
+    ghost view = { λ r. record { width = r.width; height = r.height; pixels = r.pixels.items } };
+
+    ghost invariant = { λ r. (vec_len r.pixels ≡ r.height * r.width) × (r.width ≤ limit)
+        × (r.height ≤ limit) × (r.height * r.width ≤ limit) };
+}
+
+impl<P: Pixel> Raster<P> {
+    /// Makes a raster of default pixels, whose channels are all 0.
+    ///
+    /// # Errors
+    ///
+    /// `WidthTooBig`, `HeightTooBig` or `TooBig`, the first that applies; `Memory` on allocation failure.
+    pub fn with_clear(alloc: Global, width: u32, height: u32) -> Result<Raster<P>, RasterFault>
+        ensures ok { IfOk result (λ r. (r.width ≡ width) × (r.height ≡ height)
+            × (map P.numbers r.pixels ≡ replicate (height * width) (replicate P.layout.count 0))) }
+        ensures refused { (fault : RasterFault) → size_fault width height ≡ Some fault
+            → result ≡ Err fault }
+        ensures memory { IfErr result (λ fault. size_fault width height ≡ None
+            → fault ≡ RasterFault.Memory) }
+    {
+        Raster::with_color(alloc, width, height, P::default())
+    }
+
+    /// Makes a raster whose pixels are all `clr`.
+    ///
+    /// # Errors
+    ///
+    /// `WidthTooBig`, `HeightTooBig` or `TooBig`, the first that applies; `Memory` on allocation failure.
+    pub fn with_color(
+        alloc: Global,
+        width: u32,
+        height: u32,
+        clr: P,
+    ) -> Result<Raster<P>, RasterFault>
+        ensures ok { IfOk result (λ r. (r.width ≡ width) × (r.height ≡ height)
+            × (r.pixels ≡ replicate (height * width) clr)) }
+        ensures refused { (fault : RasterFault) → size_fault width height ≡ Some fault
+            → result ≡ Err fault }
+        ensures memory { IfErr result (λ fault. size_fault width height ≡ None
+            → fault ≡ RasterFault.Memory) }
+    {
+        let count = point_count(width, height)?;
+        let mut pixels = Vec::with_capacity(alloc, count).map_err(|_| RasterFault::Memory)?;
+        for _ in 0..count {
+            pixels.push(clr).map_err(|_| RasterFault::Memory)?;
+        }
+        Ok(Raster {
+            width,
+            height,
+            pixels,
+        })
+    }
+
+    /// Returns the width in columns, at most 2147483647.
+    pub fn width(&self) -> u32
+        ensures value { result ≡ self.now.width }
+        ensures limited { result ≤ limit }
+    {
+        self.width
+    }
+
+    /// Returns the height in rows, at most 2147483647.
+    pub fn height(&self) -> u32
+        ensures value { result ≡ self.now.height }
+        ensures limited { result ≤ limit }
+    {
+        self.height
+    }
+
+    /// Returns the region of all points: from (0, 0) on, as wide and as high as the raster.
+    pub fn region(&self) -> Region
+        ensures { result ≡ region_of self.now }
+    {
+        Region::new(0, 0, self.width, self.height)
+    }
+
+    /// Returns `reg` clipped to the raster, or (0, 0, 0, 0) where none of its points lies there.
+    pub fn intersection(&self, reg: Region) -> Region
+        ensures value { result ≡ intersection_of reg (region_of self.now) }
+        ensures points { (x y : ℤ) → covers result x y ≡
+            (covers reg x y && covers (region_of self.now) x y) }
+        ensures inside { IsInside result self.now }
+    {
+        clip(reg, self.width, self.height)
+    }
+
+    /// Returns the pixel at (`x`, `y`). Condition: the point lies in the raster.
+    pub fn pixel(&self, x: i32, y: i32) -> P
+        requires { IsPoint self.now x y }
+        ensures { (column row : ℕ) → x ≡ pos column → y ≡ pos row →
+            slice_get self.now.pixels (row * self.now.width + column) ≡ Some result }
+    {
+        self.pixels[y as usize * self.width as usize + x as usize]
+    }
+
+    /// Returns all pixels, row by row from the top.
+    pub fn pixels(&self) -> &[P]
+        ensures pixels { result.now ≡ self.now.pixels }
+        ensures count { length result.now ≡ self.now.height * self.now.width }
+    {
+        self.pixels.as_slice()
+    }
+}
+
+impl<P> Raster<P> {
+    /// Returns the pixel at (`x`, `y`) as a mutable reference. What is written stands at that point, and no other pixel changes.
+    ///
+    /// Condition: the point lies in the raster.
+    pub fn pixel_mut(&mut self, x: i32, y: i32) -> &mut P
+        requires { IsPoint self.old x y }
+        ensures* lends { sem 𝓛 (Lends (the_row P.row) P.row self.entry result
+            (with_pixel self.old (place_of self.old x y))) }
+        ensures now { (column row : ℕ) → x ≡ pos column → y ≡ pos row →
+            slice_get self.old.pixels (row * self.old.width + column) ≡ Some result.now }
+    {
+        let place = y as usize * self.width as usize + x as usize;
+        &mut self.pixels[place]
+    }
+
+    /// Returns all pixels as a mutable slice, row by row from the top. What is written stands at those points.
+    pub fn pixels_mut(&mut self) -> &mut [P]
+        ensures* lends { sem 𝓛 (Lends (the_row P.row) (Array P.row 0) self.entry result
+            (with_pixels self.old)) }
+        ensures now { result.now ≡ self.old.pixels }
+        ensures count { length result.now ≡ self.old.height * self.old.width }
+    {
+        self.pixels.as_mut_slice()
+    }
+
+    /// Returns an iterator over the rows of `reg`, clipped to the raster, from top to bottom.
+    pub fn rows(&self, reg: Region) -> Rows<'_, P>
+        ensures rows { result ≡ rows_of self.now reg }
+        ensures count { length result ≡ (clipped self.now reg).height }
+        ensures wide { All (λ row. length row ≡ (clipped self.now reg).width) result }
+    {
+        let clipped = ClippedRect::new(reg, self.width, self.height);
+        let width = self.width as usize;
+        Rows {
+            rest: &self.pixels[clipped.rows.start * width..],
+            left: clipped.rows.end - clipped.rows.start,
+            width,
+            columns: clipped.columns,
+        }
+    }
+
+    /// Returns an iterator over the rows of `reg`, clipped to the raster, from top to bottom, as mutable
+    /// slices. Each has the pixels that stand there.
+    pub fn rows_mut(&mut self, reg: Region) -> RowsMut<'_, P>
+        ensures rows { result ≡ rows_of self.old reg }
+        ensures count { length result ≡ (clipped self.old reg).height }
+        ensures wide { All (λ row. length row ≡ (clipped self.old reg).width) result }
+    {
+        let clipped = ClippedRect::new(reg, self.width, self.height);
+        let width = self.width as usize;
+        RowsMut {
+            rest: &mut self.pixels[clipped.rows.start * width..],
+            left: clipped.rows.end - clipped.rows.start,
+            width,
+            columns: clipped.columns,
+        }
+    }
+
+    /// Returns the pixels of `reg` in row `y` of the raster as a mutable slice, or `None` where it has none
+    /// there; any `y` is allowed.
+    ///
+    /// What is written stands at those points, and no other pixel changes.
+    pub fn row_mut(&mut self, y: i32, reg: Region) -> Option<&mut [P]>
+        ensures* lends { sem 𝓛 (LendsIf (the_row P.row) (Array P.row 0) self.entry result
+            (with_run self.old (place_of self.old (clipped self.old reg).left y)) self.old) }
+        ensures cases { MatchOption result (has_row (clipped self.old reg) y ≡
+            false) (λ row. IsRow self.old reg y row.now) }
+    {
+        let row = self.row_part_mut(y, reg);
+        if row.len() == 0 { None } else { Some(row) }
+    }
+
+    /// Returns the pixels of [`Raster::row_mut`], or an empty slice where there are none.
+    fn row_part_mut(&mut self, y: i32, reg: Region) -> &mut [P]
+        ensures* lends { sem 𝓛 (Lends (the_row P.row) (Array P.row 0) self.entry result
+            (with_run self.old (row_start self.old.width (clipped self.old reg) y))) }
+        ensures now { result.now ≡ slice_range self.old.pixels (row_start self.old.width
+            (clipped self.old reg) y)
+            (row_end self.old.width (clipped self.old reg) y) }
+        ensures long { length result.now + row_start self.old.width (clipped self.old reg) y
+            ≡ row_end self.old.width (clipped self.old reg) y }
+    {
+        let run = row_places(reg, self.width, self.height, y);
+        self.pixels.slice_mut(run.start..run.end)
+    }
+}

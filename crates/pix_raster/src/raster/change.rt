@@ -1,0 +1,233 @@
+//! Changes of a raster: clears, copies, composites, and runs of them.
+ghost use Rattle.std.specs.Prelude.{◌≡◌, ℕ, List, length, ◌+◌, ◌∷◌, []};
+ghost use Rattle.pix_el.specs.PixelComposite.{matte_numbers};
+ghost use Rattle.pix_raster.specs.Image.{point, region_of, Changed};
+ghost use Rattle.pix_raster.specs.Run.{run_at, done_at, op_of, HasSwappedNeighbours};
+ghost use Rattle.pix_ops.specs.ExactRun.{IsWithinBudget, IsWithinPremultipliedBound, HasSmallBudget};
+ghost use Rattle.pix_raster.specs.Bounds.{OfEachChannel};
+ghost use Rattle.pix_raster.specs.Kept.{KeepsPremultiplied};
+ghost use Rattle.pix_raster.specs.Stays.{StaysUnderTransparent};
+ghost use Rattle.pix_raster.specs.Lent.{IsShaped, where_covered, where_paired};
+ghost use Rattle.pix_raster.specs.declared.command.Command.{Command};
+
+use super::Raster;
+use super::row_change::{
+    CompositedColor, CompositedPixels, CopiedColor, CopiedPixels, MattedColor,
+};
+use crate::command::Command;
+use crate::lent::{self, Blit, Fill, Shape};
+use crate::region::Region;
+use pix_chan::chan::{Alpha, Linear, Premultiplied};
+use pix_el::el::{Pix, Pixel};
+use pix_el::matte::Matte;
+use pix_ops::ops::{Blend, OpVisitor};
+
+impl<P: Pixel> Raster<P> {
+    /// Clears the raster: every pixel becomes the default one, whose channels are all 0.
+    pub fn clear(&mut self)
+        ensures { Changed P.numbers self.old self.new (done_at P.layout P.numbers
+            (region_of self.old) Command.Clear) }
+    {
+        P::copy_color(&mut self.pixels, &P::default());
+    }
+
+    /// Copies `clr` to each point of `reg`, clipped to the raster. No other pixel changes.
+    pub fn copy_color(&mut self, reg: Region, clr: P)
+        ensures { Changed P.numbers self.old self.new (done_at P.layout P.numbers
+            (region_of self.old) (Command.CopyColor reg clr)) }
+    {
+        self.fill_region(reg, &CopiedColor { clr });
+    }
+
+    /// Copies the region `from` of `src` to the region `to` of this raster.
+    ///
+    /// Points are paired by their offsets from the corners of both regions: an offset counts where it lies within the sides of both,
+    /// its point of `to` in this raster and its point of `from` in `src`. No other pixel changes.
+    pub fn copy_raster(&mut self, to: Region, src: &Raster<P>, from: Region)
+        ensures { Changed P.numbers self.old self.new (done_at P.layout P.numbers
+            (region_of self.old) (Command.CopyRaster to src.entry from)) }
+    {
+        self.blit_region(to, src, from, &CopiedPixels {});
+    }
+}
+
+impl<P> Raster<P> {
+    /// Returns the shape of the pixels: the rows follow one another.
+    fn shape(&self) -> Shape
+        ensures value { result ≡ record {
+          width = self.now.width;
+          height = self.now.height;
+          stride = self.now.width;
+        } }
+        ensures fits { IsShaped result (length self.now.pixels) }
+    {
+        Shape {
+            width: self.width,
+            height: self.height,
+            stride: self.width as usize,
+        }
+    }
+
+    /// Changes each point of `reg`, clipped to the raster.
+    fn fill_region<F: Fill<P>>(&mut self, reg: Region, change: &F)
+        requires { F.can_fill }
+        ensures { Changed F.reads self.old self.new (where_covered reg (F.makes change.now)) }
+    {
+        let shape = self.shape();
+        lent::fill_region(&mut self.pixels, shape, reg, change);
+    }
+
+    /// Changes each point of the overlap of two regions by its point of the source.
+    fn blit_region<S, B: Blit<P, S>>(
+        &mut self,
+        to: Region,
+        src: &Raster<S>,
+        from: Region,
+        change: &B,
+    )
+        requires { B.can_blit }
+        ensures { Changed B.reads self.old self.new (where_paired to
+            (region_of self.old) from (region_of src.now)
+            (point B.source_reads src.now) (B.makes change.now)) }
+    {
+        let shape = self.shape();
+        lent::blit_region(
+            &mut self.pixels,
+            shape,
+            to,
+            &src.pixels,
+            src.shape(),
+            from,
+            change,
+        );
+    }
+}
+
+impl<P: Pixel<Alpha = Premultiplied, Gamma = Linear>> Raster<P> {
+    /// Composites `clr` with each pixel of `reg`, clipped to the raster. No other pixel changes.
+    ///
+    /// Condition: the format has an alpha channel.
+    pub fn composite_color<O: Blend>(&mut self, reg: Region, clr: P, op: O)
+        requires has_alpha { P.layout.count ≡ P.layout.alpha + 1 }
+        ensures { Changed P.numbers self.old self.new (done_at P.layout P.numbers
+            (region_of self.old) (Command.Color reg clr O.op)) }
+    {
+        self.fill_region(reg, &CompositedColor { clr, op });
+    }
+
+    /// Composites the region `from` of `src` with the region `to` of this raster, whose points are paired as by
+    /// [`Raster::copy_raster`]. No other pixel changes.
+    ///
+    /// Condition: the format has an alpha channel.
+    pub fn composite_raster<O: Blend>(&mut self, to: Region, src: &Raster<P>, from: Region, op: O)
+        requires has_alpha { P.layout.count ≡ P.layout.alpha + 1 }
+        ensures { Changed P.numbers self.old self.new (done_at P.layout P.numbers
+            (region_of self.old) (Command.Raster to src.entry from O.op)) }
+    {
+        self.blit_region(to, src, from, &CompositedPixels { op });
+    }
+
+    /// Composites `clr` with the region `to` of this raster through the region `from` of `src`, a raster of coverage masks: each pixel
+    /// through the matte that it is paired with, as by [`Raster::copy_raster`]. No other pixel changes.
+    ///
+    /// Condition: the format has an alpha channel.
+    pub fn composite_matte<const N: usize, A: Alpha, O: Blend>(
+        &mut self,
+        to: Region,
+        src: &Raster<Pix<N, P::Chan, Matte, A, Linear>>,
+        from: Region,
+        clr: P,
+        op: O,
+    )
+        requires has_alpha { P.layout.count ≡ P.layout.alpha + 1 }
+        ensures { Changed P.numbers self.old self.new (run_at P.layout P.numbers
+            (matte_numbers P.Chan.number) (region_of self.old)
+            (Command.Matte to src.entry from clr O.op ∷ [])) }
+    {
+        self.blit_region(to, src, from, &MattedColor { clr, op });
+    }
+
+    /// Runs `commands` in order: at each point, those that reach it, one after the other. No other pixel changes.
+    ///
+    /// **After any list of clears, copies and composites run on a raster, every pixel is the fold of just those commands whose clipped regions reach it, no other pixel changes, and each non-hue channel lies within its budget of the same run in exact fractions: at most n units after n unmatted commands of the listed kinds, n² + n after n unmatted commands of any kind.**
+    ///
+    /// Twice the distance, in units of 1/`MAX`, is within the budget, since each channel product is rounded to the nearest.
+    /// It takes no memory and cannot fail.
+    ///
+    /// Condition: the format has an alpha channel.
+    pub fn run<const N: usize, A: Alpha>(
+        &mut self,
+        commands: &[Command<'_, P, Pix<N, P::Chan, Matte, A, Linear>>],
+    )
+        requires has_alpha { P.layout.count ≡ P.layout.alpha + 1 }
+        ensures fold { Changed P.numbers self.old self.new
+            (run_at P.layout P.numbers (matte_numbers P.Chan.number)
+            (region_of self.old) commands.now) }
+
+        // Two neighbours that reach no common point may be swapped.
+        ensures swapped { (others : List (Command P (Pix N P.Chan Matte A Linear)))
+            → HasSwappedNeighbours P.numbers
+            (matte_numbers P.Chan.number) self.old commands.now others
+            → Changed P.numbers self.old self.new (run_at P.layout P.numbers
+            (matte_numbers P.Chan.number) (region_of self.old) others) }
+
+        // Where every color and source pixel that reaches a premultiplied pixel is premultiplied, the pixel stays premultiplied, and
+        // only the sum of `Plus` ever saturates.
+        ensures premultiplied { KeepsPremultiplied P.layout P.numbers
+            (matte_numbers P.Chan.number) commands.now self.old self.new }
+
+        // Each channel but a hue, the alpha among them, lies within its rounding budget of the exact run.
+        ensures within_budget { OfEachChannel P.layout P.numbers
+            (matte_numbers P.Chan.number) commands.now self.old self.new
+            (IsWithinBudget P.layout.max) }
+
+        // The budgets after n unmatted commands are at most n² + n, and at most n after those of the listed kinds.
+        ensures small_budget { OfEachChannel P.layout P.numbers
+            (matte_numbers P.Chan.number) commands.now self.old self.new
+            (λ _ effects _. HasSmallBudget effects) }
+
+        // With premultiplied sources the bound is twice the count of products: at most 4n after n unmatted commands.
+        ensures premultiplied_bound { OfEachChannel P.layout P.numbers
+            (matte_numbers P.Chan.number) commands.now self.old self.new
+            (IsWithinPremultipliedBound P.layout.max) }
+
+        // A pixel that only transparent sources under `SrcOver` reach stays as it was, the hue included.
+        ensures transparent { StaysUnderTransparent P.layout P.numbers
+            (matte_numbers P.Chan.number) commands.now self.old self.new }
+    {
+        for command in commands {
+            command.op().visit(command, self);
+        }
+    }
+}
+
+impl<'a, const N: usize, A: Alpha, P: Pixel<Alpha = Premultiplied, Gamma = Linear>> OpVisitor<
+    Raster<P>,
+> for Command<'a, P, Pix<N, P::Chan, Matte, A, Linear>> {
+    ghost can_visit = { λ command op. (P.layout.count ≡ P.layout.alpha + 1) × (op_of command ≡
+        op) };
+
+    ghost visits = { λ command _ old new. Changed P.numbers old new
+        (run_at P.layout P.numbers (matte_numbers P.Chan.number) (region_of old) (command ∷ [])) };
+
+    fn visit<O: Blend>(&self, raster: &mut Raster<P>, op: O) {
+        match self {
+            Command::Clear => raster.clear(),
+            Command::CopyColor { reg, clr } => raster.copy_color(*reg, *clr),
+            Command::CopyRaster { to, src, from } => raster.copy_raster(*to, src, *from),
+            Command::Color { reg, clr, .. } => raster.composite_color(*reg, *clr, op),
+            Command::Raster { to, src, from, .. } => {
+                raster.composite_raster(*to, src, *from, op);
+            }
+            Command::Matte {
+                to,
+                src,
+                from,
+                clr,
+                ..
+            } => {
+                raster.composite_matte(*to, src, *from, *clr, op);
+            }
+        }
+    }
+}

@@ -1,0 +1,80 @@
+//! Rasters of one format made of those of another.
+ghost use Rattle.std.specs.Prelude.{◌≡◌, ◌≤◌, ◌+◌, vec_len, length, map, IfOk, IfErr};
+ghost use Rattle.pix_el.specs.Conversion.{converted};
+ghost use Rattle.pix_raster.specs.declared.fault.RasterFault.{RasterFault};
+
+use super::Raster;
+use crate::fault::RasterFault;
+use pix_chan::chan::Gamma;
+use pix_el::el::Pixel;
+use std::alloc::Global;
+
+impl<P: Pixel> Raster<P> {
+    /// Makes a raster of the size of `src` with each of its pixels converted to this format.
+    ///
+    /// Condition: this format has no more channels than its model.
+    ///
+    /// # Errors
+    ///
+    /// `Memory` where a request for memory was refused.
+    pub fn with_raster<S>(alloc: Global, src: &Raster<S>) -> Result<Raster<P>, RasterFault>
+    where
+        S: Pixel,
+        P::Chan: From<S::Chan>,
+        S::Gamma: Gamma<P::Chan>,
+        requires few { P.layout.count ≤ P.layout.alpha + 1 }
+        ensures size { IfOk result (λ r. (r.width ≡ src.now.width) × (r.height ≡ src.now.height)) }
+        ensures pixels { IfOk result (λ r. map P.numbers r.pixels ≡
+            map (converted S.format ⟦<S::Gamma as Gamma<P::Chan>>⟧.mode P.format P.Gamma.mode)
+            (map S.numbers src.now.pixels)) }
+        ensures memory { IfErr result (λ fault. fault ≡ RasterFault.Memory) }
+    {
+        let pixels = converted_pixels::<S, P>(alloc, src.pixels())?;
+        Ok(Raster {
+            width: src.width,
+            height: src.height,
+            pixels,
+        })
+    }
+}
+
+/// Converts each pixel of `src`, in memory that is reserved once.
+///
+/// # Errors
+///
+/// `Memory` where a request for memory was refused.
+fn converted_pixels<S, P>(alloc: Global, src: &[S]) -> Result<Vec<P>, RasterFault>
+where
+    S: Pixel,
+    P: Pixel,
+    P::Chan: From<S::Chan>,
+    S::Gamma: Gamma<P::Chan>,
+    requires few { P.layout.count ≤ P.layout.alpha + 1 }
+    ensures pixels { IfOk result (λ made. map P.numbers made.items ≡
+        map (converted S.format ⟦<S::Gamma as Gamma<P::Chan>>⟧.mode P.format P.Gamma.mode)
+        (map S.numbers src.now)) }
+    ensures count { IfOk result (λ made. vec_len made ≡ length src.now) }
+    ensures memory { IfErr result (λ fault. fault ≡ RasterFault.Memory) }
+{
+    let mut pixels = vec![in alloc; P::default(); src.len()].map_err(|_| RasterFault::Memory)?;
+    convert_each::<S, P>(&mut pixels, src);
+    Ok(pixels)
+}
+
+/// Converts each pixel of `src` in the place of that of `dst` at its index.
+///
+/// Condition: there are as many of both, and this format has no more channels than its model.
+fn convert_each<S, P>(dst: &mut [P], src: &[S])
+where
+    S: Pixel,
+    P: Pixel,
+    P::Chan: From<S::Chan>,
+    S::Gamma: Gamma<P::Chan>,
+    requires few { P.layout.count ≤ P.layout.alpha + 1 }
+    requires as_many { length dst.old ≡ length src.now }
+    ensures { map P.numbers dst.new ≡
+        map (converted S.format ⟦<S::Gamma as Gamma<P::Chan>>⟧.mode P.format P.Gamma.mode)
+        (map S.numbers src.now) }
+{
+    S::convert_slice::<P>(dst, src);
+}

@@ -1,0 +1,145 @@
+//! Channels as the bytes or words of a buffer, and back: pixel after pixel, of each its channels in order.
+ghost use Rattle.std.specs.Prelude.{◌≡◌, ℕ, ◌*◌, length, map, IfOk, IfErr};
+ghost use Rattle.std.specs.List.{flat_map};
+ghost use Rattle.pix_raster.specs.declared.fault.RasterFault.{RasterFault};
+
+use crate::fault::RasterFault;
+use pix_chan::chan::{Ch8, Ch16, Channel};
+use pix_el::el::Pixel;
+use std::alloc::Global;
+
+/// A number as it stands in a buffer: a byte for a channel of eight bits, a word for one of sixteen.
+pub(crate) trait Sample<C: Channel>: Clone + Copy {
+    /// The number.
+    ghost number: { Self → ℕ };
+
+    /// The channel of that number.
+    fn channel(self) -> C
+        ensures { C.number result ≡ number self };
+
+    /// The number of a channel.
+    fn of(channel: C) -> Self
+        ensures { number result ≡ C.number channel };
+}
+
+impl Sample<Ch8> for u8 {
+    ghost number = { λ n. n };
+
+    fn channel(self) -> Ch8 {
+        Ch8::new(self)
+    }
+
+    fn of(channel: Ch8) -> u8 {
+        channel.into()
+    }
+}
+
+impl Sample<Ch16> for u16 {
+    ghost number = { λ n. n };
+
+    fn channel(self) -> Ch16 {
+        Ch16::new(self)
+    }
+
+    fn of(channel: Ch16) -> u16 {
+        channel.into()
+    }
+}
+
+/// The number of channels of a pixel.
+pub(crate) fn channel_count<P: Pixel>() -> usize
+    ensures { result ≡ P.layout.count }
+{
+    P::default().channels().len()
+}
+
+/// Sets each channel to the number at the same place.
+fn write_channels<C: Channel, S: Sample<C>>(channels: &mut [C], samples: &[S])
+    requires { length channels.old ≡ length samples.now }
+    ensures { map C.number channels.new ≡ map S.number samples.now }
+{
+    for i in 0..channels.len() {
+        channels[i] = samples[i].channel();
+    }
+}
+
+/// Sets each number to that of the channel at the same place.
+fn write_samples<C: Channel, S: Sample<C>>(samples: &mut [S], channels: &[C])
+    requires { length samples.old ≡ length channels.now }
+    ensures { map S.number samples.new ≡ map C.number channels.now }
+{
+    for i in 0..samples.len() {
+        samples[i] = S::of(channels[i]);
+    }
+}
+
+/// The pixel whose channels have these numbers.
+fn pixel_of<P: Pixel, S: Sample<P::Chan>>(samples: &[S]) -> P
+    requires { length samples.now ≡ P.layout.count }
+    ensures { P.numbers result ≡ map S.number samples.now }
+{
+    let mut pixel = P::default();
+    write_channels(pixel.channels_mut(), samples);
+    pixel
+}
+
+/// Sets each pixel to the next numbers.
+fn unpack<P: Pixel, S: Sample<P::Chan>>(pixels: &mut [P], samples: &[S])
+    requires { length samples.now ≡ length pixels.old * P.layout.count }
+    ensures { flat_map P.numbers pixels.new ≡ map S.number samples.now }
+{
+    let count = channel_count::<P>();
+    for i in 0..pixels.len() {
+        let start = i * count;
+        pixels[i] = pixel_of(&samples[start..start + count]);
+    }
+}
+
+/// Sets the numbers to those of each pixel in turn.
+fn pack<P: Pixel, S: Sample<P::Chan>>(samples: &mut [S], pixels: &[P])
+    requires { length samples.old ≡ length pixels.now * P.layout.count }
+    ensures { map S.number samples.new ≡ flat_map P.numbers pixels.now }
+{
+    let count = channel_count::<P>();
+    for i in 0..pixels.len() {
+        let start = i * count;
+        let pixel = pixels[i];
+        write_samples(&mut samples[start..start + count], pixel.channels());
+    }
+}
+
+/// The pixels of these numbers, `count` of them, or `Memory`.
+pub(crate) fn pixels_from<P: Pixel, S: Sample<P::Chan>>(
+    alloc: Global,
+    count: usize,
+    samples: &[S],
+) -> Result<Vec<P>, RasterFault>
+    requires { length samples.now ≡ count * P.layout.count }
+    ensures ok { IfOk result (λ pixels. (length pixels.items ≡ count)
+        × (flat_map P.numbers pixels.items ≡ map S.number samples.now)) }
+    ensures refused { IfErr result (λ fault. fault ≡ RasterFault.Memory) }
+{
+    let mut pixels = Vec::from_elem(alloc, P::default(), count).map_err(|_| RasterFault::Memory)?;
+    unpack(&mut pixels, samples);
+    Ok(pixels)
+}
+
+/// The numbers of these pixels, or `Memory`.
+pub(crate) fn samples_from<P: Pixel, S: Sample<P::Chan>>(
+    alloc: Global,
+    pixels: &[P],
+) -> Result<Vec<S>, RasterFault>
+    ensures ok { IfOk result (λ samples. map S.number samples.items ≡
+        flat_map P.numbers pixels.now) }
+    ensures refused { IfErr result (λ fault. fault ≡ RasterFault.Memory) }
+{
+    let len = pixels
+        .len()
+        .checked_mul(channel_count::<P>())
+        .ok_or(RasterFault::Memory)?;
+    let mut samples = Vec::from_elem(alloc, S::of(P::Chan::MIN), len).map_err(
+        |_| RasterFault::Memory,
+    )?;
+    pack(&mut samples, pixels);
+    Ok(samples)
+}
