@@ -10,8 +10,8 @@ use Rattle.pix.specs.Image.{point, region_of}
 use Rattle.pix.specs.Reach.{from_pair, is_paired, has_offset, leads_into, natural}
 use Rattle.pix.specs.Lent.{read_at, where_covered, where_paired, IsShaped, ChangedIn}
 use Rattle.pix.specs.Run.{Effect, apply}
-use Rattle.pix.specs.declared.lent.Shape.{Shape}
-use Rattle.pix.proofs.Rectangles.{below_is, covers_whole}
+use Rattle.pix_raster.specs.declared.lent.Shape.{Shape}
+use Rattle.pix_raster.proofs.Rectangles.{below_is, covers_whole}
 use Rattle.pix_c.specs.Command.{image_of}
 use Rattle.pix_c.proofs.Images.{point_read}
 

@@ -1,15 +1,16 @@
 -- What each kind of command does to rows in memory.
 use Rattle.std.proofs.Common.{◌≡◌, ℕ, ◌<◌, ◌≤◌, List, [], ◌∷◌, length, arith, ap, subst, ◌∙◌, refl, true, false, Bool, cond}
-use Rattle.std.specs.Prelude.{replicate, not, ◌&&◌, ◌||◌, nat_eq, nat_lt}
+use Rattle.std.specs.Prelude.{replicate, not, ◌&&◌, ◌||◌, nat_eq, nat_lt, nat_le}
 use Rattle.std.proofs.lemmas.Bool.Decides.{nat_tests}
+use Rattle.pix_ops.specs.OperatorNames.{operators}
 use Rattle.pix_el.specs.Pixel.{Layout}
 use Rattle.pix_el.specs.PixelComposite.{pixel_composite, matted_composite, matte_value}
 use Rattle.pix.specs.Region.{Rectangle, whole}
 use Rattle.pix.specs.Lent.{read_at, where_covered, where_paired, IsShaped, ChangedIn}
 use Rattle.pix.specs.Run.{Cleared, Copied, Composited, Matted, run_at}
-use Rattle.pix.specs.declared.command.Command.{Command}
-use Rattle.pix.specs.declared.command.Command.TheVariants as commands
-use Rattle.pix.specs.declared.lent.Shape.{Shape}
+use Rattle.pix_raster.specs.declared.command.Command.{Command}
+use Rattle.pix_raster.specs.declared.command.Command.TheVariants as commands
+use Rattle.pix_raster.specs.declared.lent.Shape.{Shape}
 use Rattle.pix_c.specs.declared.command.FlatCommand.{FlatCommand}
 use Rattle.pix_c.specs.Command.{image_of, op_at, rectangle, lent, command_of}
 use Rattle.pix_c.specs.Status.{fits, has_source, fault_of}
@@ -21,7 +22,6 @@ pub record IsSound {D M : Type 0} (c : FlatCommand D M) : Type 0 where
   pub kind : c.kind < 6
   pub to : fits c.to ≡ true
   pub from : fits c.from ≡ true
-  pub op : c.op < 13
   pub source : has_source c ≡ true
 
 -- the fault by the tests of a command
@@ -39,10 +39,9 @@ tests_pass false true true false true e = (refl, refl, refl, refl, refl)
 
 pub sound : {D M : Type 0} (c : FlatCommand D M) → fault_of c ≡ 0 → IsSound c
 sound c e =
-    let t = tests_pass (nat_lt 5 c.kind) (fits c.to) (fits c.from) (nat_lt 12 c.op) (has_source c) e in
+    let t = tests_pass (nat_lt 5 c.kind) (fits c.to) (fits c.from) (nat_le (length operators) c.op) (has_source c) e in
     let k : nat_lt 5 c.kind ≡ false = t.0 in
-    let o : nat_lt 12 c.op ≡ false = t.3 in
-    record { kind = grind (arith, nat_tests); to = t.1; from = t.2; op = grind (arith, nat_tests); source = t.4 }
+    record { kind = grind (arith, nat_tests); to = t.1; from = t.2; source = t.4 }
 
 -- the sources that are read
 pub pixels_shaped : {D M : Type 0} (c : FlatCommand D M) → fault_of c ≡ 0 → (nat_eq c.kind 2 || nat_eq c.kind 4) ≡ true

@@ -5,10 +5,10 @@ use Rattle.pix.specs.Region.{whole}
 use Rattle.pix.specs.Image.{Changed}
 use Rattle.pix.specs.Run.{run_at}
 use Rattle.pix.specs.Lent.{IsShaped, ChangedIn}
-use Rattle.pix.specs.declared.lent.Shape.{Shape}
-use Rattle.pix.proofs.RunBounds.{IsFormat, keeps_premultiplied, within_budget, small_budget, within_premultiplied_bound}
-use Rattle.pix.proofs.Steps.{changed_swapped}
-use Rattle.pix.proofs.Transparent.{stays_under_transparent}
+use Rattle.pix_raster.specs.declared.lent.Shape.{Shape}
+use Rattle.pix_raster.proofs.RunBounds.{IsFormat, keeps_premultiplied, within_budget, small_budget, within_premultiplied_bound}
+use Rattle.pix_raster.proofs.Steps.{changed_swapped}
+use Rattle.pix_raster.proofs.Transparent.{stays_under_transparent}
 use Rattle.pix_c.specs.declared.command.FlatCommand.{FlatCommand}
 use Rattle.pix_c.specs.Command.{image_of, command_of}
 use Rattle.pix_c.specs.Run.{IsRun}

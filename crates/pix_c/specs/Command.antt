@@ -1,12 +1,13 @@
 -- Commands by their numbers, as commands of the library on images in memory.
 use Rattle.std.specs.Prelude.{ℕ, zero, suc, List, [], ◌∷◌, ◌++◌, take, drop, nat_eq, slice_index_or, if◌then◌else◌}
 use denote.Bor.{Bor}
-use Rattle.pix_chan.specs.declared.ops.Op.{Op}
-use Rattle.pix_chan.specs.declared.ops.Op.TheVariants as ops
+use Rattle.pix_ops.specs.declared.ops.Op.{Op}
+use Rattle.pix_ops.specs.declared.ops.Op.TheVariants.{Src}
+use Rattle.pix_ops.specs.OperatorNames.{operators}
 use Rattle.pix.specs.Region.{Rectangle}
 use Rattle.pix.specs.Image.{Image}
-use Rattle.pix.specs.declared.command.Command.{Command}
-use Rattle.pix.specs.declared.command.Command.TheVariants as commands
+use Rattle.pix_raster.specs.declared.command.Command.{Command}
+use Rattle.pix_raster.specs.declared.command.Command.TheVariants as commands
 use Rattle.pix_c.specs.declared.command.PixRegion.{PixRegion}
 use Rattle.pix_c.specs.declared.command.PixCommand.{PixCommand}
 use Rattle.pix_c.specs.declared.command.PixCommandRgba16.{PixCommandRgba16}
@@ -25,11 +26,9 @@ joined_rows width (suc height) stride items = take width items ++ joined_rows wi
 abbrev pub image_of : {D : Type 0} → ℕ → ℕ → ℕ → List D → Image D
 image_of width height stride items = record { width = width; height = height; pixels = joined_rows width height stride items }
 
--- the operators in the order of their numbers
+-- the operator of a number; a number that is none is refused
 abbrev pub op_at : ℕ → Op
-op_at number = slice_index_or
-    (ops.Src ∷ ops.Dest ∷ ops.SrcOver ∷ ops.DestOver ∷ ops.SrcOut ∷ ops.DestOut ∷ ops.SrcIn ∷ ops.DestIn
-    ∷ ops.SrcAtop ∷ ops.DestAtop ∷ ops.Xor ∷ ops.Clear ∷ ops.Plus ∷ []) number ops.Plus
+op_at number = slice_index_or operators number Src
 
 -- the rectangle of a region
 abbrev pub rectangle : PixRegion → Rectangle

@@ -1,14 +1,14 @@
 -- Runs of lists of commands on an image in memory.
 use Rattle.std.specs.Prelude.{◌≡◌, ℕ, List, [], map, slice_index_or}
-use Rattle.pix_chan.specs.ExactRun.{IsWithinBudget, IsWithinPremultipliedBound, HasSmallBudget}
+use Rattle.pix_ops.specs.ExactRun.{IsWithinBudget, IsWithinPremultipliedBound, HasSmallBudget}
 use Rattle.pix_el.specs.Pixel.{Layout}
 use Rattle.pix.specs.Image.{Image, Changed, region_of}
 use Rattle.pix.specs.Run.{run_at, HasSwappedNeighbours}
 use Rattle.pix.specs.Bounds.{OfEachChannel}
 use Rattle.pix.specs.Kept.{KeepsPremultiplied}
-use Rattle.pix.specs.Transparent.{StaysUnderTransparent}
+use Rattle.pix.specs.Stays.{StaysUnderTransparent}
 use Rattle.pix.specs.Lent.{IsNoPoint}
-use Rattle.pix.specs.declared.command.Command.{Command}
+use Rattle.pix_raster.specs.declared.command.Command.{Command}
 use Rattle.pix_c.specs.declared.command.FlatCommand.{FlatCommand}
 use Rattle.pix_c.specs.Command.{image_of, command_of}
 

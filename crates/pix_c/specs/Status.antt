@@ -1,5 +1,6 @@
 -- What is refused, and by which status.
 use Rattle.std.specs.Prelude.{ℕ, suc, ◌+◌, ◌-◌, ◌*◌, List, [], ◌∷◌, length, Bool, true, not, ◌&&◌, ◌||◌, nat_eq, nat_lt, nat_le, if◌then◌else◌}
+use Rattle.pix_ops.specs.OperatorNames.{operators}
 use Rattle.pix.specs.Region.{limit}
 use Rattle.pix_c.specs.declared.command.PixRegion.{PixRegion}
 use Rattle.pix_c.specs.declared.command.FlatCommand.{FlatCommand}
@@ -25,7 +26,7 @@ abbrev pub fault_of : {D M : Type 0} → FlatCommand D M → ℕ
 fault_of c =
     if nat_lt 5 c.kind then 2
     else (if not (fits c.to && fits c.from) then 3
-    else (if nat_lt 12 c.op then 4
+    else (if nat_le (length operators) c.op then 4
     else (if has_source c then 0 else 5)))
 
 -- the fault of the first command that is refused, and 0 if none is

@@ -28,7 +28,7 @@ pub struct PixCommand<'a> {
     /// What is done: 0 clears the image, 1 copies a color, 2 copies an image, 3 composites a color, 4 composites an image, and 5
     /// composites a color through mattes.
     pub kind: u32,
-    /// The number of the operator, from 0 to 12.
+    /// The number of the operator, its index in `Op::ALL`.
     pub op: u32,
     /// The region of the destination, where the kind takes one.
     pub to: PixRegion,

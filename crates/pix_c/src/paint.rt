@@ -9,14 +9,14 @@ ghost use Rattle.pix_c.specs.Status.{fits, fault_of};
 use crate::command::{FlatCommand, PixRegion};
 use crate::copy::{CopiedColor, CopiedPixels};
 use crate::format::{Flat, FlatPixel};
-use crate::operator::{PixelsVisitor, visit};
+use crate::operator::op_at;
 use crate::sixteen::{CompositedColor, CompositedPixels, MattedColor};
 use pix::Region;
 use pix::chan::{Linear, Premultiplied};
 use pix::el::{Pix, Pixel};
 use pix::lent::{Shape, blit_region, fill_region};
 use pix::matte::Matte;
-use pix::ops::Blend;
+use pix::ops::{Blend, SliceVisitor};
 use std::marker::PhantomData;
 
 /// Returns the region of the library. Condition: its sides are within the limit.
@@ -56,7 +56,7 @@ impl<
     P: Pixel<Alpha = Premultiplied, Gamma = Linear>,
     D: FlatPixel<P>,
     M: Flat<Pix<1, P::Chan, Matte, Premultiplied, Linear>>,
-> PixelsVisitor<D> for Composite<'b, 'a, P, D, M> {
+> SliceVisitor<D> for Composite<'b, 'a, P, D, M> {
     ghost can_visit = { λ it op count. IsShaped it.shape count × (fault_of it.command.now ≡ 0)
         × (2 < it.command.now.kind) × (op ≡ op_at it.command.now.op) };
 
@@ -131,7 +131,7 @@ pub(crate) fn paint<
                 shape,
                 format: PhantomData,
             };
-            visit(command.op, &composite, pixels);
+            op_at(command.op).visit_slice(&composite, pixels);
         }
     }
 }

@@ -4,6 +4,7 @@ ghost use Rattle.pix_c.specs.Status.{fits, has_source, fault_of, first_fault, co
 
 use crate::command::{FlatCommand, Flatten, PixRegion};
 use crate::size::{LIMIT, is_sized};
+use pix::ops::Op;
 
 /// All commands are done.
 pub const DONE: u32 = 0;
@@ -58,7 +59,7 @@ fn fault_of<D, M>(command: &FlatCommand<'_, D, M>) -> u32
     if !fits(command.to) || !fits(command.from) {
         return BAD_REGION;
     }
-    if command.op > 12 {
+    if command.op as usize >= Op::ALL.len() {
         return BAD_OP;
     }
     if !has_source(command) {

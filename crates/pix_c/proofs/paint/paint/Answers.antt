@@ -1,6 +1,6 @@
 use Rattle.std.proofs.Common.{refl, sym, subst, ◌∙◌, length}
 use Rattle.pix.specs.Lent.{IsShaped}
-use Rattle.pix.specs.declared.lent.Shape.{Shape}
+use Rattle.pix_raster.specs.declared.lent.Shape.{Shape}
 use Rattle.pix_c.proofs.Painted.{pixels_shaped, painted_clear, painted_copy_color, painted_copy_image}
 use Rattle.pix_c.proofs.paint.paint.Goals as goal
 

@@ -5,7 +5,7 @@ use Rattle.pix_el.specs.Premultiplied.{IsBounded}
 use Rattle.pix_el.proofs.Models.{placed_by_row}
 use Rattle.pix_el.proofs.Composited.{alpha_bounded}
 use Rattle.pix.specs.Lent.{IsShaped}
-use Rattle.pix.proofs.RunBounds.{IsFormat}
+use Rattle.pix_raster.proofs.RunBounds.{IsFormat}
 use Rattle.pix_c.proofs.Images.{sized_is_shaped}
 use Rattle.pix_c.proofs.Ran.{ran_is_run}
 use Rattle.pix_c.proofs.run.run.Goals as goal

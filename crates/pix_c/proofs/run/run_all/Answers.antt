@@ -3,7 +3,7 @@ use Rattle.std.proofs.lemmas.List.{length-map, get_or-map, drop_all}
 use Rattle.pix.specs.Region.{whole}
 use Rattle.pix.specs.Run.{run_at}
 use Rattle.pix.specs.Lent.{read_at, ChangedIn}
-use Rattle.pix.proofs.Steps.{run_more}
+use Rattle.pix_raster.proofs.Steps.{run_more}
 use Rattle.pix_c.specs.declared.command.FlatCommand.{FlatCommand}
 use Rattle.pix_c.specs.Command.{command_of}
 use Rattle.pix_c.specs.Status.{fault_of}

@@ -1,11 +1,11 @@
 use Rattle.std.proofs.Common.{◌≡◌, ◌<◌, ℕ, List, refl, sym, ap, subst, ◌∙◌, length, arith}
-use Rattle.pix_chan.specs.declared.ops.Op.{Op}
+use Rattle.pix_ops.specs.declared.ops.Op.{Op}
 use Rattle.pix_el.specs.PixelComposite.{pixel_composite, matted_composite, matte_value}
 use Rattle.pix.specs.Lent.{IsShaped}
-use Rattle.pix.specs.declared.lent.Shape.{Shape}
+use Rattle.pix_raster.specs.declared.lent.Shape.{Shape}
 use Rattle.pix_c.specs.Command.{op_at}
 use Rattle.pix_c.proofs.Painted.{sound, pixels_shaped, mattes_shaped, painted_color, painted_image, painted_matte}
-use Rattle.pix_c.proofs.paint.CompositePixelsVisitor.visit.Goals as goal
+use Rattle.pix_c.proofs.paint.CompositeSliceVisitor.visit.Goals as goal
 
 pub blit_region-requires-clause-src_fits : goal.blit_region-requires-clause-src_fits
 blit_region-requires-clause-src_fits g c =
