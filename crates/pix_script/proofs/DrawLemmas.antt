@@ -10,12 +10,12 @@ use Rattle.std.proofs.lemmas.Int.{ints, clamps}
 use Rattle.std.proofs.lemmas.List.Sums.{fold-append}
 use Rattle.std.proofs.lemmas.List.{take_more, take_all, append-nil, get_or-replicate}
 use Rattle.std.proofs.lemmas.Grind.{flat_map-append}
-use Rattle.pix.specs.Region.{Rectangle, covers, has_column, has_row}
-use Rattle.pix.specs.Image.{Image, point, region_of, Changed}
-use Rattle.pix.specs.Reach.{natural, has_offset, leads_into, is_paired, from_pair}
-use Rattle.pix.specs.Run.{Effect, Copied, Composited, apply, effect_at, effects_at, run_at}
-use Rattle.pix.specs.declared.command.Command.{Command}
-use Rattle.pix.proofs.Rectangles.{below_is, not_below_is}
+use Rattle.pix_raster.specs.Region.{Rectangle, covers, has_column, has_row}
+use Rattle.pix_raster.specs.Image.{Image, point, region_of, Changed}
+use Rattle.pix_raster.specs.Reach.{natural, has_offset, leads_into, is_paired, from_pair}
+use Rattle.pix_raster.specs.Run.{Effect, Copied, Composited, apply, effect_at, effects_at, run_at}
+use Rattle.pix_raster.specs.declared.command.Command.{Command}
+use Rattle.pix_raster.proofs.Rectangles.{below_is, not_below_is}
 use Rattle.pix_script.specs.declared.command.Drawing.{Drawing}
 use Rattle.pix_script.specs.declared.command.Drawing.TheVariants as drawings
 use Rattle.pix_script.specs.Meaning.{Meaning, NewImage, ClearImage, Fill, Paint, Keep, Copy, Comp}
@@ -25,7 +25,7 @@ use Rattle.pix_script.specs.Seen.{drawing_meaning, picture_of, Effects, brought_
 use Rattle.pix_script.specs.Reading.{drawn_by, after_image}
 use Rattle.pix_script.specs.Script.{text_of}
 use Rattle.pix_script.specs.Text.{picture_text}
-use Rattle.pix.proofs.Places.{place_within}
+use Rattle.pix_raster.proofs.Places.{place_within}
 use Rattle.pix_script.proofs.PictureLemmas.{picture_same}
 
 and_true : (a b : Bool) → (a && b) ≡ true → (a ≡ true) × (b ≡ true)

@@ -10,11 +10,11 @@ use Rattle.std.proofs.lemmas.List.{append-nil, length-map, take-map, drop-map, d
 use Rattle.std.proofs.lemmas.List.Concat.{flat_map-append}
 use Rattle.std.proofs.lemmas.List.FromFn.{fill_by_all, get_or-map-range_with_len, length-map-range_with_len}
 use Rattle.std.proofs.lemmas.List.Elements.{All-get_or}
-use Rattle.pix.specs.Region.{Rectangle, right, bottom, no_points}
-use Rattle.pix.specs.Image.{Image, point, region_of}
-use Rattle.pix.specs.Reach.{natural}
-use Rattle.pix.specs.Rows.{row_of, rows_of, clipped}
-use Rattle.pix.proofs.Rectangles.{gap_leads, between_is, between_none}
+use Rattle.pix_raster.specs.Region.{Rectangle, right, bottom, no_points}
+use Rattle.pix_raster.specs.Image.{Image, point, region_of}
+use Rattle.pix_raster.specs.Reach.{natural}
+use Rattle.pix_raster.specs.Rows.{row_of, rows_of, clipped}
+use Rattle.pix_raster.proofs.Rectangles.{gap_leads, between_is, between_none}
 use Rattle.pix_script.specs.Picture.{Picture}
 use Rattle.pix_script.specs.Text.{row_text, picture_text}
 

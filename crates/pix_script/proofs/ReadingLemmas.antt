@@ -10,8 +10,8 @@ use Rattle.std.proofs.lemmas.List.Elements.{filter_map-append}
 use Rattle.std.proofs.lemmas.List.FromFn.{length-enumerate_from, get_or-enumerate_from}
 use Rattle.std.proofs.lemmas.List.Folds.{list_any-append}
 use Rattle.std.proofs.lemmas.Slice.Eq.{bytes_eq-Decides}
-use Rattle.pix.specs.Region.{Rectangle}
-use Rattle.pix_chan.specs.declared.ops.Op.{Op}
+use Rattle.pix_raster.specs.Region.{Rectangle}
+use Rattle.pix_ops.specs.declared.ops.Op.{Op}
 use Rattle.pix_script.specs.declared.command.Earlier.{Earlier}
 use Rattle.pix_script.specs.declared.fault.Problem.{Problem}
 use Rattle.pix_script.specs.declared.fault.Problem.TheVariants.{SecondImage, BadNumber, NoImage, UnknownWord, WrongCount, BadColor, TooBig, NothingKept}

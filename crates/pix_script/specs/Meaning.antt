@@ -1,7 +1,7 @@
 -- What a line without a problem means.
 use Rattle.std.specs.Prelude.{◌≡◌, Result, Ok, Err, ℕ, List, [], ◌∷◌, Option, Some, None, codes}
-use Rattle.pix_chan.specs.declared.ops.Op.{Op}
-use Rattle.pix.specs.Region.{Rectangle}
+use Rattle.pix_ops.specs.declared.ops.Op.{Op}
+use Rattle.pix_raster.specs.Region.{Rectangle}
 use Rattle.pix_script.specs.declared.fault.Problem.{Problem}
 use Rattle.pix_script.specs.Numbers.{side_of, coordinate_of, color_of, ◌>>=◌}
 use Rattle.pix_script.specs.Operators.{operator_of, named}

@@ -1,8 +1,8 @@
 -- The operators by name.
 use Rattle.std.specs.Prelude.{ℕ, List, [], ◌∷◌, Option, Some, None, if◌then◌else◌, codes}
 use Rattle.std.specs.Str.{bytes_eq}
-use Rattle.pix_chan.specs.declared.ops.Op.{Op}
-use Rattle.pix_chan.specs.declared.ops.Op.TheVariants.{Src, Dest, SrcOver, DestOver, SrcOut, DestOut, SrcIn, DestIn, SrcAtop, DestAtop, Xor, Clear, Plus}
+use Rattle.pix_ops.specs.declared.ops.Op.{Op}
+use Rattle.pix_ops.specs.declared.ops.Op.TheVariants.{Src, Dest, SrcOver, DestOver, SrcOut, DestOut, SrcIn, DestIn, SrcAtop, DestAtop, Xor, Clear, Plus}
 
 -- the value beside the first key that is the word
 abbrev pub named : {X : Type 0} → List ℕ → List (List ℕ × X) → Option X

@@ -1,9 +1,9 @@
 -- Pictures, and what the commands of a script make of them.
 use Rattle.std.specs.Prelude.{ℕ, pos, List, [], ◌∷◌, if◌then◌else◌, fold}
 use Rattle.pix_el.specs.Pixel.{Layout}
-use Rattle.pix.specs.Region.{Rectangle, covers}
-use Rattle.pix.specs.Reach.{from_pair}
-use Rattle.pix.specs.Run.{Effect, Cleared, Copied, Composited, apply}
+use Rattle.pix_raster.specs.Region.{Rectangle, covers}
+use Rattle.pix_raster.specs.Reach.{from_pair}
+use Rattle.pix_raster.specs.Run.{Effect, Cleared, Copied, Composited, apply}
 use Rattle.pix_script.specs.Meaning.{Meaning, NewImage, ClearImage, Fill, Paint, Keep, Copy, Comp}
 
 -- a picture: the numbers of the pixel at each point (x, y), where x is below the width and y below the height

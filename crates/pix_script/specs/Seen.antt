@@ -1,9 +1,9 @@
 -- The code's commands in the script's words, and as commands on rasters.
 use Rattle.std.specs.Prelude.{◌≡◌, ◌<◌, ℕ, List, map}
-use Rattle.pix.specs.Region.{Rectangle}
-use Rattle.pix.specs.Image.{Image, point}
-use Rattle.pix.specs.declared.command.Command.{Command}
-use Rattle.pix.specs.Run.{Effect, effect_at}
+use Rattle.pix_raster.specs.Region.{Rectangle}
+use Rattle.pix_raster.specs.Image.{Image, point}
+use Rattle.pix_raster.specs.declared.command.Command.{Command}
+use Rattle.pix_raster.specs.Run.{Effect, effect_at}
 use Rattle.pix_script.specs.declared.command.Drawing.{Drawing}
 use Rattle.pix_script.specs.declared.command.Drawing.TheVariants as drawings
 use Rattle.pix_script.specs.declared.command.Line.{Line}

@@ -2,10 +2,10 @@
 ghost use Rattle.std.specs.Prelude.{◌≡◌};
 ghost use Rattle.pix_script.specs.Seen.{brought_by, effects_of, drawing_meaning};
 
-use pix::matte::Matte8;
-use pix::ops::Op;
-use pix::rgb::Rgba8p;
-use pix::{Command, Raster, Region};
+use pix_el::matte::Matte8;
+use pix_el::ops::Op;
+use pix_el::rgb::Rgba8p;
+use pix_raster::{Command, Raster, Region};
 
 /// The command of a line.
 #[derive(Clone, Copy)]

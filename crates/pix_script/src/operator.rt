@@ -2,7 +2,7 @@
 ghost use Rattle.std.specs.Prelude.{◌≡◌};
 ghost use Rattle.pix_script.specs.Operators.{operator_of};
 
-use pix::ops::Op;
+use pix_el::ops::Op;
 
 /// Returns the operator of a name, exact in case.
 #[tactic(auto, unfolding(crate::specs::Operators::operator_of))]

@@ -12,7 +12,7 @@ use crate::fault::Problem;
 use crate::number::{color, coordinate, side};
 use crate::operator::operator;
 use crate::pixel::pixel_of;
-use pix::Region;
+use pix_raster::Region;
 
 /// The greatest side of an image.
 const MAX_IMAGE_SIDE: u32 = 1024;

@@ -4,8 +4,8 @@ ghost use Rattle.pix_script.specs.Seen.{picture_of};
 ghost use Rattle.pix_script.specs.Text.{picture_text};
 
 use crate::pixel::push_row;
-use pix::rgb::Rgba8p;
-use pix::{Raster, Region};
+use pix_el::rgb::Rgba8p;
+use pix_raster::{Raster, Region};
 use std::alloc::{AllocError, Global};
 
 /// Returns the text of a raster: a line for each row, an empty one where the width is 0.

@@ -4,9 +4,9 @@ ghost use Rattle.pix_script.specs.Pixels.{color_numbers};
 ghost use Rattle.pix_script.specs.Text.{pixel_text, row_text};
 
 use crate::text::push_byte;
-use pix::chan::Ch8;
-use pix::el::Pixel;
-use pix::rgb::Rgba8p;
+use pix_el::chan::Ch8;
+use pix_el::el::Pixel;
+use pix_el::rgb::Rgba8p;
 use std::alloc::AllocError;
 
 /// The pixel of these bytes: red, green, blue and alpha.

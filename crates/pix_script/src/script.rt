@@ -12,9 +12,9 @@ use crate::fault::{PaintFault, Problem};
 use crate::lines::{without_return, words};
 use crate::parse::parse;
 use crate::picture::raster_text;
-use pix::matte::Matte8;
-use pix::rgb::Rgba8p;
-use pix::{Command, Raster};
+use pix_el::matte::Matte8;
+use pix_el::rgb::Rgba8p;
+use pix_raster::{Command, Raster};
 use std::alloc::{AllocError, Global};
 use std::mem;
 

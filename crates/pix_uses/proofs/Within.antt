@@ -1,8 +1,8 @@
 -- how far a run is from the exact one
 use Rattle.std.proofs.Common.{ℕ, ◌≤◌, ◌*◌, arith}
 use Rattle.std.proofs.Math.Nat.{mul-le-mul_right}
-use Rattle.pix_chan.specs.ExactComposite.{Within}
-use Rattle.pix_chan.specs.ExactRun.{Rounded, Exact, Budget, AreWithin, AreAtMost}
+use Rattle.pix_ops.specs.ExactComposite.{Within}
+use Rattle.pix_ops.specs.ExactRun.{Rounded, Exact, Budget, AreWithin, AreAtMost}
 
 -- within a small budget is within a greater one
 within_more : (b n w u v : ℕ) → b ≤ n → Within (b * w) u v → Within (n * w) u v

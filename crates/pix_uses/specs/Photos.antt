@@ -3,7 +3,7 @@ use Rattle.std.specs.Prelude.{ℕ, List, map}
 use Rattle.pix_chan.specs.declared.chan.bits8.Ch8.{Ch8}
 use Rattle.pix_chan.specs.declared.chan.modes.Srgb.{Srgb}
 use Rattle.pix_chan.specs.declared.chan.modes.Straight.{Straight}
-use Rattle.pix_chan.specs.declared.ops.Op.TheVariants.{SrcOver}
+use Rattle.pix_ops.specs.declared.ops.Op.TheVariants.{SrcOver}
 use Rattle.pix_chan.specs.Modes as modes
 use Rattle.pix_el.specs.declared.el.Pix.{Pix}
 use Rattle.pix_el.specs.declared.rgb.Rgb.{Rgb}

@@ -1,11 +1,11 @@
 //! Pictures that come as bytes and go as bytes.
 ghost use Rattle.std.specs.Prelude.{◌≡◌, ◌+◌, vec_len, IfOk, IfErr, Some, None, Err};
-ghost use Rattle.pix_chan.specs.declared.ops.Op.{Op};
+ghost use Rattle.pix_ops.specs.declared.ops.Op.{Op};
 ghost use Rattle.pix.specs.Buffers.{channels_of, buffer_fault, IsOfChannels};
 ghost use Rattle.pix.specs.Image.{Image, Changed, region_of};
 ghost use Rattle.pix.specs.Run.{done_at};
-ghost use Rattle.pix.specs.declared.command.Command.{Command};
-ghost use Rattle.pix.specs.declared.fault.RasterFault.{RasterFault};
+ghost use Rattle.pix_raster.specs.declared.command.Command.{Command};
+ghost use Rattle.pix_raster.specs.declared.fault.RasterFault.{RasterFault};
 ghost use Rattle.pix_uses.specs.Rgba.{Rgba, rgba8, numbers};
 
 use pix::ops::SrcOver;

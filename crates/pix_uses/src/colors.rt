@@ -1,10 +1,10 @@
 //! Colors on a picture.
 ghost use Rattle.std.specs.Prelude.{◌≡◌, ◌<◌, ◌≤◌, ◌+◌, ℕ, pos, true, false, IfOk, IfErr};
-ghost use Rattle.pix_chan.specs.declared.ops.Op.{Op};
+ghost use Rattle.pix_ops.specs.declared.ops.Op.{Op};
 ghost use Rattle.pix_el.specs.PixelComposite.{pixel_composite};
 ghost use Rattle.pix.specs.Image.{point};
 ghost use Rattle.pix.specs.Region.{limit, covers};
-ghost use Rattle.pix.specs.declared.fault.RasterFault.{RasterFault};
+ghost use Rattle.pix_raster.specs.declared.fault.RasterFault.{RasterFault};
 ghost use Rattle.pix_uses.specs.Rgba.{rgba8, numbers};
 
 use pix::chan::{Linear, Premultiplied};

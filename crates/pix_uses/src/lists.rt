@@ -1,7 +1,7 @@
 //! Lists of commands.
 ghost use Rattle.std.specs.Prelude.{◌≡◌, ◌<◌, ℕ, pos, true, [], ◌∷◌, length, All};
-ghost use Rattle.pix_chan.specs.declared.ops.Op.{Op};
-ghost use Rattle.pix_chan.specs.ExactRun.{exact_run, AreWithin, IsUnmatted, IsListed};
+ghost use Rattle.pix_ops.specs.declared.ops.Op.{Op};
+ghost use Rattle.pix_ops.specs.ExactRun.{exact_run, AreWithin, IsUnmatted, IsListed};
 ghost use Rattle.pix.specs.Image.{point};
 ghost use Rattle.pix.specs.Region.{covers};
 ghost use Rattle.pix.specs.Run.{Composited};

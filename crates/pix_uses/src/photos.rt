@@ -1,6 +1,6 @@
 //! Photographs, which are stored as sRGB.
 ghost use Rattle.std.specs.Prelude.{◌≡◌, map, IfOk, IfErr};
-ghost use Rattle.pix.specs.declared.fault.RasterFault.{RasterFault};
+ghost use Rattle.pix_raster.specs.declared.fault.RasterFault.{RasterFault};
 ghost use Rattle.pix_uses.specs.Rgba.{numbers};
 ghost use Rattle.pix_uses.specs.Photos.{colors, glazed};
 

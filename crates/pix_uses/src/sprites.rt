@@ -1,6 +1,6 @@
 //! Sprites and glyphs.
 ghost use Rattle.std.specs.Prelude.{◌≡◌, ℕ, pos, ◌+ℤ◌, true, false};
-ghost use Rattle.pix_chan.specs.declared.ops.Op.{Op};
+ghost use Rattle.pix_ops.specs.declared.ops.Op.{Op};
 ghost use Rattle.pix_el.specs.PixelComposite.{pixel_composite, matted_composite, matte_value};
 ghost use Rattle.pix.specs.Image.{point};
 ghost use Rattle.pix.specs.Region.{covers};

@@ -2,7 +2,7 @@
 ghost use Rattle.std.specs.Prelude.{◌≡◌, map, IfOk, IfErr, IfSome};
 ghost use Rattle.pix.specs.Palette.{numbers};
 ghost use Rattle.pix.specs.Indexing.{colors_of, AllEqual};
-ghost use Rattle.pix.specs.declared.fault.RasterFault.{RasterFault};
+ghost use Rattle.pix_raster.specs.declared.fault.RasterFault.{RasterFault};
 
 use pix::chan::{Ch8, Gamma, Srgb};
 use pix::el::Pixel;

@@ -1,6 +1,6 @@
 use Rattle.std.proofs.Common.{◌<◌, ◌≤◌, arith, sym, ◌∙◌}
-use Rattle.pix.specs.Image.{point, region_of}
-use Rattle.pix.specs.Rows.{rows_of}
+use Rattle.pix_raster.specs.Image.{point, region_of}
+use Rattle.pix_raster.specs.Rows.{rows_of}
 use Rattle.pix_script.specs.Pixels.{color_numbers}
 use Rattle.pix_script.proofs.PictureLemmas.{picture_more, row_is, whole_row, row_wide, next_row}
 use Rattle.pix_script.proofs.picture.raster_text.Goals as goal

@@ -1,6 +1,6 @@
 use Rattle.std.proofs.Common.{◌≡◌, drop}
-use Rattle.pix.specs.Image.{point, region_of}
-use Rattle.pix.specs.Rows.{rows_of}
+use Rattle.pix_raster.specs.Image.{point, region_of}
+use Rattle.pix_raster.specs.Rows.{rows_of}
 use Rattle.pix_script.specs.Pixels.{color_numbers}
 use Rattle.pix_script.specs.Text.{picture_text}
 use Rattle.pix_script.proofs.picture.raster_text.Given as goal

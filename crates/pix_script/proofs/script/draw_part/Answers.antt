@@ -1,8 +1,8 @@
 use Rattle.std.proofs.Common.{ℕ, List}
 use Rattle.pix_chan.specs.declared.chan.bits8.Ch8.{Ch8}
 use Rattle.pix_el.specs.PixelComposite.{matte_numbers}
-use Rattle.pix.specs.Image.{region_of, Changed}
-use Rattle.pix.specs.Run.{run_at}
+use Rattle.pix_raster.specs.Image.{region_of, Changed}
+use Rattle.pix_raster.specs.Run.{run_at}
 use Rattle.pix_script.specs.Pixels.{Matte8, color_numbers}
 use Rattle.pix_script.specs.Picture.{rgba8}
 use Rattle.pix_script.proofs.DrawLemmas.{run_shows}

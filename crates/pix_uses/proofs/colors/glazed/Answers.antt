@@ -1,5 +1,5 @@
 use Rattle.std.proofs.Common.{◌≡◌, ◌<◌, ◌+◌, ◌*◌, arith, refl, sym, ap, ◌∙◌, pos, true}
-use Rattle.pix_chan.specs.declared.ops.Op.TheVariants.{SrcOver}
+use Rattle.pix_ops.specs.declared.ops.Op.TheVariants.{SrcOver}
 use Rattle.pix_el.specs.PixelComposite.{pixel_composite}
 use Rattle.pix.specs.Image.{point}
 use Rattle.pix.specs.Region.{covers}

@@ -1,7 +1,7 @@
 use Rattle.std.proofs.Common.{◌≡◌, ℕ, List, length, map, refl, sym, ap, ◌∙◌}
 use Rattle.std.proofs.lemmas.List.{length-map}
 use Rattle.std.proofs.lemmas.Result.{IfOk-weaker}
-use Rattle.pix_chan.specs.declared.ops.Op.TheVariants.{SrcOver}
+use Rattle.pix_ops.specs.declared.ops.Op.TheVariants.{SrcOver}
 use Rattle.pix_chan.specs.Modes as modes
 use Rattle.pix_el.specs.PixelComposite.{pixel_composite}
 use Rattle.pix_el.specs.Conversion.{converted}

@@ -2,7 +2,7 @@ use Rattle.std.proofs.Common.{◌≡◌, ◌++◌, [], ◌∙◌, ap, List}
 use Rattle.std.specs.Prelude.{fold}
 use Rattle.std.proofs.lemmas.Int.{to_z-of_z}
 use mir.Syntax.{w32}
-use Rattle.pix_chan.specs.declared.ops.Op.TheVariants.{SrcOver}
+use Rattle.pix_ops.specs.declared.ops.Op.TheVariants.{SrcOver}
 use Rattle.pix.specs.Image.{point}
 use Rattle.pix.specs.Run.{Effect, Matted, apply}
 use Rattle.pix_uses.specs.Rgba.{rgba8, numbers, mattes}
