@@ -18,7 +18,7 @@ use Rattle.pix_script.specs.declared.fault.Problem.TheVariants.{SecondImage, Bad
 use Rattle.pix_script.specs.declared.fault.PaintFault.{PaintFault}
 use Rattle.pix_script.specs.declared.fault.PaintFault.TheVariants as faults
 use Rattle.pix_script.specs.Numbers.{side_of, color_of, ◌>>=◌}
-use Rattle.pix_script.specs.Operators.{operator_of}
+use Rattle.pix_ops.specs.OperatorNames.{operator_of}
 use Rattle.pix_script.specs.Commands.{Shape, Operator, Coordinate, Side, Color, on_image, from_kept, problem_of, problem_of_shape, any_fails, is_bad_operator, is_bad_number, is_bad_color, any_side_above, first_met}
 use Rattle.pix_script.specs.Lines.{words_of, lines_of}
 use Rattle.pix_script.specs.Meaning.{Meaning, NewImage, ClearImage, Fill, Paint, Keep, Copy, Comp, meaning_of, image_of, fill_of, paint_of, copy_of, comp_of, rectangle_of}

@@ -1,10 +1,16 @@
 -- The commands of a script, and the problems of its lines.
 use Rattle.std.specs.Prelude.{ℕ, List, [], ◌∷◌, length, Bool, true, false, ◌&&◌, ◌||◌, not, Option, Some, None, nat_lt, is_none, ◌==◌, if◌then◌else◌, codes, slice_index}
+use Rattle.std.specs.Str.{bytes_eq}
 use Rattle.pix_script.specs.declared.fault.Problem.{Problem}
 use Rattle.pix_script.specs.declared.fault.Problem.TheVariants.{NoImage, SecondImage, UnknownWord, WrongCount, BadNumber, BadColor, TooBig, NothingKept}
 use Rattle.pix_script.specs.declared.command.Earlier.{Earlier}
 use Rattle.pix_script.specs.Numbers.{side_of, coordinate_of, color_of}
-use Rattle.pix_script.specs.Operators.{operator_of, named}
+use Rattle.pix_ops.specs.OperatorNames.{operator_of}
+
+-- the value beside the first key that is the word
+abbrev pub named : {X : Type 0} → List ℕ → List (List ℕ × X) → Option X
+named word [] = None
+named word (entry ∷ entries) = if bytes_eq word entry.0 then Some entry.1 else named word entries
 
 -- what a word after the first has to be
 pub data Kind : Type 0 where

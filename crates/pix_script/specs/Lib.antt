@@ -1,6 +1,5 @@
 pub mod Numbers
 pub mod Lines
-pub mod Operators
 pub mod Commands
 pub mod Pixels
 pub mod Meaning

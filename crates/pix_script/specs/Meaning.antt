@@ -4,7 +4,8 @@ use Rattle.pix_ops.specs.declared.ops.Op.{Op}
 use Rattle.pix_raster.specs.Region.{Rectangle}
 use Rattle.pix_script.specs.declared.fault.Problem.{Problem}
 use Rattle.pix_script.specs.Numbers.{side_of, coordinate_of, color_of, ◌>>=◌}
-use Rattle.pix_script.specs.Operators.{operator_of, named}
+use Rattle.pix_ops.specs.OperatorNames.{operator_of}
+use Rattle.pix_script.specs.Commands.{named}
 
 -- what a command does: it makes the image, or draws on it, or keeps a copy of it; a color is given by its numbers
 pub data Meaning : Type 0 where

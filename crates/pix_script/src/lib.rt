@@ -5,7 +5,6 @@ mod command;
 mod fault;
 mod lines;
 mod number;
-mod operator;
 mod parse;
 mod picture;
 mod pixel;

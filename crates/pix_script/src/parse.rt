@@ -1,17 +1,16 @@
 //! The words of a line as its command.
 ghost use Rattle.std.specs.Prelude.{◌≡◌, ◌||◌, ◌∷◌, map, codes, Some, is_none};
 ghost use Rattle.std.specs.Option.{option_map};
-ghost use Rattle.pix_script.specs.Commands.{problem_of, problem_of_shape, shapes};
+ghost use Rattle.pix_script.specs.Commands.{problem_of, problem_of_shape, shapes, named};
 ghost use Rattle.pix_script.specs.Meaning.{Reads, rectangle_of, meaning_of, image_of, fill_of, paint_of, copy_of, comp_of};
 ghost use Rattle.pix_script.specs.Numbers.{side_of, coordinate_of};
-ghost use Rattle.pix_script.specs.Operators.{named};
 ghost use Rattle.pix_script.specs.Seen.{line_meaning, drawing_meaning};
 
 use crate::command::{Drawing, Earlier, Line};
 use crate::fault::Problem;
 use crate::number::{color, coordinate, side};
-use crate::operator::operator;
 use crate::pixel::pixel_of;
+use pix_el::ops::Op;
 use pix_raster::Region;
 
 /// The greatest side of an image.
@@ -130,7 +129,7 @@ fn parse_paint(arguments: &[&[u8]], earlier: Earlier) -> Result<Drawing, Problem
     let [op, ..] = arguments else {
         return Err(Problem::WrongCount);
     };
-    let op = operator(op).ok_or(Problem::UnknownWord)?;
+    let op = Op::from_name(op).ok_or(Problem::UnknownWord)?;
     let [_, x, y, width, height, clr] = arguments else {
         return Err(Problem::WrongCount);
     };
@@ -174,7 +173,7 @@ fn parse_comp(arguments: &[&[u8]], earlier: Earlier) -> Result<Drawing, Problem>
     let [op, ..] = arguments else {
         return Err(Problem::WrongCount);
     };
-    let op = operator(op).ok_or(Problem::UnknownWord)?;
+    let op = Op::from_name(op).ok_or(Problem::UnknownWord)?;
     let [_, to_x, to_y, from_x, from_y, width, height] = arguments else {
         return Err(Problem::WrongCount);
     };
