@@ -13,24 +13,36 @@ writable memoryview or a numpy array. The pixels are changed in place; nothing i
     )
 
 Pixels are premultiplied and linear: the color channels are multiplied by the alpha and proportional to light. convert()
-makes them of what image files hold, and back. A region is a tuple (x, y, width, height) and lies anywhere; what is
-outside an image is neither read nor written. A list is tested as a whole before its first command runs: where an
-exception is raised, no pixel was changed.
+makes them of what image files hold, and back. A region is a tuple (x, y, width, height) in pixels and lies anywhere;
+what is outside an image is neither read nor written. A list is tested as a whole before its first command runs: where
+an exception is raised, no pixel was changed.
 
-The shared object libpix_c.so is looked for at the path PIX_LIBRARY of the environment, and else beside this file. A
-call holds the interpreter's lock, so that no other Python thread touches the buffers meanwhile; where Python is built
-without that lock, the program has to keep its threads from them. Needs CPython 3.8.
+A buffer has bytes, or, for pixels of 16 bits a channel, words of 16 bits in the machine's byte order. It is pinned as
+long as a view of it lives: a bytearray can't be resized meanwhile. A long run lets the interpreter's lock go, so that
+two threads paint at once; one that needs memory that another is writing waits. Other code of the program, such as an
+assignment to the bytearray, must keep from the buffers of a run in another thread.
+
+The shared object libpix_c.so is looked for at the path PIX_LIBRARY of the environment, and else beside this file. Needs
+CPython 3.8.
 """
+
+from __future__ import annotations
 
 import ctypes
 import os
+import sys
+import threading
+from contextlib import contextmanager
 from enum import IntEnum
 from operator import index
+from typing import Any, Iterable, Iterator, Optional, Tuple
 
 __all__ = [
     "Op", "Format", "Status", "PixError", "PixelType", "RGBA8", "RGBA16", "GRAYA8", "Image", "Matte", "Command",
     "clear", "copy_color", "copy_image", "composite_color", "composite_image", "composite_matte", "convert",
 ]  # fmt: skip
+
+Region = Tuple[int, int, int, int]
 
 
 class Op(IntEnum):
@@ -76,7 +88,7 @@ class Format(IntEnum):
     SGRAY8 = 11
 
     @property
-    def size(self):
+    def size(self) -> int:
         """How many bytes a pixel has."""
         return {"RGB8": 3, "SRGB8": 3, "GRAY8": 1, "SGRAY8": 1}.get(self.name, 4)
 
@@ -112,11 +124,14 @@ class PixError(ValueError):
     arguments of convert().
     """
 
-    def __init__(self, status, index=None):
+    def __init__(self, status: Status, index: Optional[int] = None) -> None:
         text = _TEXTS.get(status, f"status {int(status)}")
         super().__init__(text if index is None else f"command {index}: {text}")
         self.status = status
         self.index = index
+
+    def __reduce__(self) -> tuple:
+        return type(self), (self.status, self.index)
 
 
 class _Region(ctypes.Structure):
@@ -124,18 +139,18 @@ class _Region(ctypes.Structure):
 
 
 class PixelType:
-    """A kind of pixels: how many channels they have, the greatest number of one, and the library's call.
+    """A kind of pixels: `name`, how many `channels` they have, and `max`, the greatest number of one.
 
     There are three of them: RGBA8, RGBA16 and GRAYA8.
     """
 
-    def __init__(self, name, channels, channel, call):
+    def __init__(self, name: str, channels: int, channel: Any, call: str) -> None:
         self.name = name
         self.channels = channels
         self.max = 256 ** ctypes.sizeof(channel) - 1
         self._channel = channel
         self._color = channel * channels
-        self._call = call
+        self._calls = [getattr(library, call) for library in _libraries]
         fields = [("kind", ctypes.c_uint32), ("op", ctypes.c_uint32), ("to", _Region), ("from_", _Region)]
         fields += [("color", self._color), ("pixels", ctypes.c_void_p), ("pixel_count", ctypes.c_size_t)]
         fields += [("mattes", ctypes.c_void_p), ("matte_count", ctypes.c_size_t)]
@@ -146,14 +161,31 @@ class PixelType:
         assert self._command.color.offset == 40 and self._command.pixels.offset == pixels
         assert self._command.width.offset == pixels + 4 * word
 
-    def __repr__(self):
+    def __repr__(self) -> str:
+        return self.name
+
+    def __reduce__(self) -> str:
         return self.name
 
 
-def _load():
-    """Loads the shared object and declares its functions."""
+def _has_sse41(cpuinfo: str = "/proc/cpuinfo") -> bool:
+    """Whether the processor has the instructions that the library was built for, as far as the system tells."""
+    try:
+        with open(cpuinfo, encoding="utf-8", errors="replace") as lines:
+            flags = [line.split() for line in lines if line.startswith("flags")]
+    except OSError:
+        return True
+    return all("sse4_1" in words for words in flags)
+
+
+if not _has_sse41():
+    raise ImportError("pix: the library needs a processor with SSE4.1, which this one lacks")
+
+
+def _load(kind: Any) -> Any:
+    """Loads the shared object, and declares its functions."""
     beside = os.path.join(os.path.dirname(os.path.abspath(__file__)), "libpix_c.so")
-    library = ctypes.PyDLL(os.environ.get("PIX_LIBRARY", beside))
+    library = kind(os.environ.get("PIX_LIBRARY", beside))
     pointer, size, u32 = ctypes.c_void_p, ctypes.c_size_t, ctypes.c_uint32
     for name in ("pix_run_commands", "pix_run_commands_rgba16", "pix_run_commands_graya8"):
         call = getattr(library, name)
@@ -164,10 +196,14 @@ def _load():
     return library
 
 
-_library = _load()
-RGBA8 = PixelType("RGBA8", 4, ctypes.c_uint8, _library.pix_run_commands)
-RGBA16 = PixelType("RGBA16", 4, ctypes.c_uint16, _library.pix_run_commands_rgba16)
-GRAYA8 = PixelType("GRAYA8", 2, ctypes.c_uint8, _library.pix_run_commands_graya8)
+# The library for short calls, which keep the interpreter's lock, and for long ones, which let it go.
+_libraries = (_load(ctypes.PyDLL), _load(ctypes.CDLL))
+# How many pixels a long call is about, which takes some hundred microseconds.
+_LONG = 500_000
+
+RGBA8 = PixelType("RGBA8", 4, ctypes.c_uint8, "pix_run_commands")
+RGBA16 = PixelType("RGBA16", 4, ctypes.c_uint16, "pix_run_commands_rgba16")
+GRAYA8 = PixelType("GRAYA8", 2, ctypes.c_uint8, "pix_run_commands_graya8")
 
 _NOTHING = (ctypes.c_uint64 * 1)()
 _NOWHERE = ctypes.addressof(_NOTHING)
@@ -178,8 +214,13 @@ class _PyBuffer(ctypes.Structure):
 
     _fields_ = [("buf", ctypes.c_void_p), ("obj", ctypes.py_object), ("len", ctypes.c_ssize_t)]
     _fields_ += [("itemsize", ctypes.c_ssize_t), ("readonly", ctypes.c_int), ("ndim", ctypes.c_int)]
-    _fields_ += [(name, ctypes.c_void_p) for name in ("format", "shape", "strides", "suboffsets", "internal")]
+    _fields_ += [("format", ctypes.c_char_p), ("shape", ctypes.POINTER(ctypes.c_ssize_t))]
+    _fields_ += [("strides", ctypes.POINTER(ctypes.c_ssize_t)), ("suboffsets", ctypes.c_void_p)]
+    _fields_ += [("internal", ctypes.c_void_p)]
 
+
+# A buffer with its format, its shape and its strides.
+_RECORDS = 0x0004 | 0x0008 | 0x0010
 
 _get_buffer = ctypes.pythonapi.PyObject_GetBuffer
 _get_buffer.argtypes = [ctypes.py_object, ctypes.POINTER(_PyBuffer), ctypes.c_int]
@@ -188,30 +229,99 @@ _release_buffer.argtypes = [ctypes.POINTER(_PyBuffer)]
 _release_buffer.restype = None
 
 
-class _Bytes:
-    """The bytes of a buffer. They stay where they are as long as this object lives."""
+class _Memory:
+    """The memory of a buffer: `rows` stretches of `row` bytes, `step` bytes apart.
 
-    def __init__(self, buffer, written=False):
-        with memoryview(buffer) as view:
-            if not view.c_contiguous:
-                raise ValueError("the buffer has gaps: pass all of it, with a stride")
-            self.view = view.cast("B") if view.nbytes else memoryview(bytearray())
-        if written and self.view.readonly and self.view.nbytes:
-            raise TypeError("the buffer is read-only")
-        self.length = self.view.nbytes
-        found = _PyBuffer()
-        _get_buffer(self.view, found, 0)
-        self.address = found.buf if self.length else _NOWHERE
-        _release_buffer(found)
+    It is pinned as long as this object lives: who owns it neither moves nor frees it.
+    """
 
-    def is_apart(self, other):
+    _held = None
+
+    def __init__(self, buffer: Any, words: bool = False) -> None:
+        held = _PyBuffer()
+        _get_buffer(buffer, held, _RECORDS)
+        self._held = held
+        self.buffer = buffer
+        self.is_readonly = bool(held.readonly)
+        self.shape = tuple(held.shape[i] for i in range(held.ndim))
+        code = (held.format or b"B").decode()
+        native = code.lstrip("@=" + {"little": "<", "big": ">"}[sys.byteorder])
+        if (held.itemsize, code[-1:]) not in ((1, "B"), (1, "c")) and not (words and native == "H"):
+            what = "bytes, or words of 16 bits in the machine's order" if words else "bytes"
+            raise TypeError(f"the buffer has elements of format {code!r}: pass {what}")
+        self.row = held.itemsize
+        for i in range(held.ndim - 1, 0, -1):
+            if self.shape[i] > 1 and held.strides[i] != self.row and held.len:
+                raise ValueError("the buffer has gaps inside its rows: only whole rows may lie apart")
+            self.row *= self.shape[i]
+        self.rows = self.shape[0] if self.shape else 1
+        self.step = held.strides[0] if self.rows > 1 and held.len else self.row
+        if self.step != self.row and held.ndim == 1:
+            raise ValueError("the buffer has gaps: pass all of it, with a stride")
+        if self.step < self.row:
+            raise ValueError("the rows of the buffer run backwards, or share memory")
+        self.length = (self.rows - 1) * self.step + self.row if held.len else 0
+        self.address = held.buf if self.length else _NOWHERE
+
+    def __del__(self) -> None:
+        if self._held is not None and _release_buffer is not None:
+            _release_buffer(self._held)
+
+    @property
+    def has_gaps(self) -> bool:
+        """Whether rows lie apart."""
+        return self.step != self.row
+
+    def is_apart(self, other: _Memory) -> bool:
         """Whether the two share no byte."""
         if not self.length or not other.length:
             return True
         return self.address + self.length <= other.address or other.address + other.length <= self.address
 
+    def view(self) -> memoryview:
+        """A view of the buffer, of bytes where it has no gaps; releasing it releases nothing of this object."""
+        view = memoryview(self.buffer)
+        return view if self.has_gaps or not self.length else view.cast("B")
 
-def _u32(number, what):
+
+class _Calls:
+    """The calls that run now. One that needs memory that another is writing waits for it."""
+
+    def __init__(self) -> None:
+        self._changed = threading.Condition()
+        self._running: list = []
+
+    @contextmanager
+    def turn(self, written: _Memory, read: list) -> Iterator[None]:
+        """Waits until no other call clashes with one that writes and reads this memory."""
+        mine = (threading.get_ident(), written, read)
+        with self._changed:
+            while True:
+                clashes = [other for other in self._running if not self._are_apart(mine, other)]
+                if not clashes:
+                    break
+                if any(other[0] == mine[0] for other in clashes):
+                    raise RuntimeError("this thread is already painting there")
+                self._changed.wait()
+            self._running.append(mine)
+        try:
+            yield
+        finally:
+            with self._changed:
+                self._running.remove(mine)
+                self._changed.notify_all()
+
+    @staticmethod
+    def _are_apart(one: tuple, other: tuple) -> bool:
+        """Whether neither call writes what the other one reads or writes."""
+        reads = all(one[1].is_apart(memory) for memory in other[2]) and all(other[1].is_apart(memory) for memory in one[2])
+        return reads and one[1].is_apart(other[1])
+
+
+_calls = _Calls()
+
+
+def _u32(number: Any, what: str) -> int:
     """The number, if it fits in 32 bits."""
     number = index(number)
     if not 0 <= number < 2**32:
@@ -219,40 +329,91 @@ def _u32(number, what):
     return number
 
 
-def _region(region):
-    """The region of a tuple (x, y, width, height)."""
+def _region(region: Iterable) -> Region:
+    """The numbers of a region (x, y, width, height)."""
     x, y, width, height = map(index, region)
     for corner in (x, y):
         if not -(2**31) <= corner < 2**31:
             raise ValueError(f"coordinate {corner} is not from {-(2**31)} to {2**31 - 1}")
-    return _Region(x, y, _u32(width, "side"), _u32(height, "side"))
+    return x, y, _u32(width, "side"), _u32(height, "side")
 
 
 class _View:
-    """Rows in a buffer: `stride` is the distance from a row to the next, and the width where it is None."""
+    """Rows of elements in a buffer: `width` and `height` in elements, and `stride` from a row to the next."""
 
-    def __init__(self, buffer, width, height, stride, element, written):
-        self.width = _u32(width, "width")
-        self.height = _u32(height, "height")
-        self.stride = self.width if stride is None else _u32(stride, "stride")
-        self._bytes = _Bytes(buffer, written)
-        self._count = self._bytes.length // ctypes.sizeof(element)
-        if self._bytes.address % ctypes.alignment(element):
+    def __init__(self, buffer: Any, width: Any, height: Any, stride: Any, element: Any) -> None:
+        if hasattr(self, "_memory"):
+            raise TypeError("a view is made once")
+        size = ctypes.sizeof(element)
+        memory = _Memory(buffer, ctypes.alignment(element) == 2)
+        if width is None and height is None and len(memory.shape) > 1 and memory.row == memory.shape[1] * size:
+            width, height = memory.shape[1], memory.shape[0]
+        if width is None or height is None:
+            raise TypeError("width and height are missing, and the shape of the buffer doesn't tell them")
+        self._width = _u32(width, "width")
+        self._height = _u32(height, "height")
+        self._stride = self._width if stride is None else _u32(stride, "stride")
+        if memory.has_gaps:
+            if (memory.rows, memory.row) != (self._height, self._width * size):
+                raise ValueError(f"{memory.rows} rows of {memory.row} bytes are not {self._height} of {self._width * size}")
+            if memory.step % size or stride not in (None, memory.step // size):
+                raise ValueError(f"rows that start {memory.step} bytes apart have no such stride")
+            self._stride = _u32(memory.step // size, "stride")
+        if memory.address % ctypes.alignment(element):
             raise ValueError("the buffer is not aligned to channels of 16 bits")
+        self._count = memory.length // size
+        self._memory = memory
+
+    @property
+    def width(self) -> int:
+        """The width in pixels or values."""
+        return self._width
+
+    @property
+    def height(self) -> int:
+        """The height in rows."""
+        return self._height
+
+    @property
+    def stride(self) -> int:
+        """The distance from a row to the next, in pixels or values."""
+        return self._stride
+
+    def _value(self, size: int) -> bytearray:
+        """A copy of the rows without what lies between them."""
+        if not self._memory.length:
+            return bytearray()
+        view = memoryview((ctypes.c_char * self._memory.length).from_address(self._memory.address)).cast("B")
+        starts = range(0, self._height * self._stride * size, max(1, self._stride * size)) if self._width else ()
+        return bytearray(b"".join(view[start : start + self._width * size] for start in starts))
 
 
 class Matte(_View):
     """A mask: the fraction of a color that is composited at each point, from 0 (none) to 255 (all).
 
-    It goes with images of 8 bits a channel; with `bits` 16, from 0 to 65535, with RGBA16. `values` is any buffer, and
-    may be read-only; `stride` is counted in values.
+    It goes with images of 8 bits a channel; with `bits` 16, from 0 to 65535, with RGBA16. `values` is any buffer of
+    (height - 1) * stride + width values, and may be read-only; `stride` is counted in values. Width and height may be
+    left out where the buffer's shape is (height, width); its rows may lie apart, as in a window of a numpy array.
     """
 
-    def __init__(self, values, width, height, stride=None, bits=8):
+    def __init__(
+        self, values: Any, width: Optional[int] = None, height: Optional[int] = None, stride: Optional[int] = None, bits: int = 8
+    ) -> None:
         if bits not in (8, 16):
             raise ValueError(f"{bits} bits are not 8 or 16")
-        self.bits = bits
-        super().__init__(values, width, height, stride, ctypes.c_uint8 if bits == 8 else ctypes.c_uint16, False)
+        self._bits = bits
+        super().__init__(values, width, height, stride, ctypes.c_uint8 if bits == 8 else ctypes.c_uint16)
+
+    @property
+    def bits(self) -> int:
+        """The bits of a value: 8 or 16."""
+        return self._bits
+
+    def __repr__(self) -> str:
+        return f"<pix.Matte {self.width} x {self.height}, {self.bits} bits>"
+
+    def __reduce__(self) -> tuple:
+        return Matte, (self._value(self.bits // 8), self.width, self.height, None, self.bits)
 
 
 class Image(_View):
@@ -260,42 +421,61 @@ class Image(_View):
 
     `pixels` is a buffer of (height - 1) * stride + width pixels at least. It may be read-only where the image is only a
     source. `stride` is the distance from a row to the next, counted in pixels; what lies between the rows is not
-    changed. Channels of 16 bits have the machine's byte order. While the view lives, a bytearray can't be resized.
+    changed. Width and height may be left out where the buffer's shape is (height, width, channels); its rows may lie
+    apart, as in a window of a numpy array, and then the stride is theirs. Channels of 16 bits have the machine's byte
+    order. While the view lives, a bytearray can't be resized.
     """
 
-    def __init__(self, pixels, width, height, stride=None, type=RGBA8):
-        self.type = type
-        super().__init__(pixels, width, height, stride, type._color, False)
+    def __init__(
+        self, pixels: Any, width: Optional[int] = None, height: Optional[int] = None, stride: Optional[int] = None,
+        type: PixelType = RGBA8,
+    ) -> None:  # fmt: skip
+        self._type = type
+        super().__init__(pixels, width, height, stride, type._color)
 
     @classmethod
-    def new(cls, width, height, type=RGBA8):
-        """Makes a transparent image; its buffer is its `pixels`, a memoryview of bytes."""
+    def new(cls, width: int, height: int, type: PixelType = RGBA8) -> Image:
+        """Makes a transparent image of so many pixels; its buffer is its `pixels`, of bytes."""
         size = _u32(width, "width") * _u32(height, "height") * type.channels * ctypes.sizeof(type._channel)
         return cls(bytearray(size), width, height, type=type)
 
     @property
-    def pixels(self):
-        """The bytes of the buffer, as a memoryview."""
-        return self._bytes.view
+    def type(self) -> PixelType:
+        """The kind of pixels."""
+        return self._type
 
-    def run(self, *commands):
+    @property
+    def pixels(self) -> memoryview:
+        """A new view of the buffer: of its bytes, or of the buffer as it is where its rows lie apart."""
+        return self._memory.view()
+
+    def __repr__(self) -> str:
+        return f"<pix.Image {self.width} x {self.height}, {self.type}>"
+
+    def __reduce__(self) -> tuple:
+        return Image, (self._value(ctypes.sizeof(self.type._color)), self.width, self.height, None, self.type)
+
+    def run(self, *commands: Command) -> None:
         """Runs the commands in order, or none of them.
 
-        Raises PixError where the library refuses one; TypeError where the buffer is read-only, or where a source has
-        another type of pixels; ValueError where a source or a matte shares memory with this image, or where a number
-        is out of its range.
+        Raises PixError where the library refuses one; TypeError where the buffer is read-only, where something is no
+        Command, or where a source has another type of pixels; ValueError where a source or a matte shares memory with
+        this image, or where a color is none of its type.
         """
-        if self._bytes.view.readonly and self._bytes.length:
+        taken = [_command(command)._made(self._type) for command in commands]
+        type, memory, work = self._type, self._memory, self._width * self._height * len(taken)
+        read = [source for _, source in taken if source is not None]
+        if memory.is_readonly and memory.length:
             raise TypeError("the buffer is read-only")
-        for number, command in enumerate(commands):
-            if command.source is not None and not self._bytes.is_apart(command.source._bytes):
+        for number, (_, source) in enumerate(taken):
+            if source is not None and not memory.is_apart(source):
                 raise ValueError(f"command {number}: its source shares memory with the image")
-        made = (self.type._command * max(1, len(commands)))(*(command._made(self.type) for command in commands))
+        made = (type._command * max(1, len(taken)))(*(command for command, _ in taken))
         done = ctypes.c_size_t()
-        status = self.type._call(
-            self._bytes.address, self._count, self.width, self.height, self.stride,
-            ctypes.addressof(made), len(commands), done,
-        )  # fmt: skip
+        with _calls.turn(memory, read):
+            status = type._calls[work > _LONG](
+                memory.address, self._count, self._width, self._height, self._stride, ctypes.addressof(made), len(taken), done
+            )
         if status == Status.BAD_SIZE:
             raise PixError(Status.BAD_SIZE)
         if status:
@@ -303,106 +483,163 @@ class Image(_View):
 
 
 class Command:
-    """A change of an image; the functions below make it. It holds its source."""
+    """A change of an image; the functions below make it. It holds its source, and its numbers stay as they are."""
 
-    def __init__(self, kind, to=(0, 0, 0, 0), color=None, op=Op.SRC, source=None, from_=None):
-        self.kind = kind
-        self.op = op
-        self.to = to
-        self.color = color
-        self.source = source
-        self.from_ = from_
-        if source is not None and from_ is None:
-            self.from_ = (0, 0, source.width, source.height)
+    __slots__ = ("_kind", "_op", "_to", "_color", "_source", "_from")
 
-    def _made(self, type):
-        """The command as the library reads it, for an image of this type."""
-        made = type._command(kind=self.kind, op=_u32(self.op, "operator"), to=_region(self.to))
+    def __init__(
+        self, kind: int, to: Iterable = (0, 0, 0, 0), color: Optional[Iterable] = None, op: int = Op.SRC,
+        source: Any = None, from_: Optional[Iterable] = None,
+    ) -> None:  # fmt: skip
+        if source is not None and not isinstance(source, (Image, Matte)):
+            raise TypeError(f"{type(source).__name__} is neither an Image nor a Matte")
+        self._kind = _u32(kind, "kind")
+        self._op = _u32(op, "operator")
+        self._to = _region(to)
+        self._color = None if color is None else tuple(map(index, color))
+        self._source = source
+        if from_ is None:
+            from_ = (0, 0, 0, 0) if source is None else (0, 0, source._width, source._height)
+        self._from = _region(from_)
+
+    @property
+    def kind(self) -> int:
+        """0 clears, 1 and 2 copy a color and an image, 3, 4 and 5 composite a color, an image and a matte."""
+        return self._kind
+
+    @property
+    def op(self) -> int:
+        """The number of the operator, as in Op."""
+        return self._op
+
+    @property
+    def to(self) -> Region:
+        """The region that is changed."""
+        return self._to
+
+    @property
+    def color(self) -> Optional[Tuple[int, ...]]:
+        """The color, where there is one."""
+        return self._color
+
+    @property
+    def source(self) -> Any:
+        """The image or the matte that is read, where there is one."""
+        return self._source
+
+    @property
+    def from_(self) -> Region:
+        """The region of the source."""
+        return self._from
+
+    def __repr__(self) -> str:
+        names = ("clear", "copy_color", "copy_image", "composite_color", "composite_image", "composite_matte")
+        name = names[self._kind] if self._kind < len(names) else f"command {self._kind}"
+        op = f", {Op(self._op)!r}" if 2 < self._kind < 6 and self._op < len(Op) else ""
+        parts = [part for part in (self._color, self._source) if part is not None]
+        return f"<pix.{name} to {self._to}{''.join(f', {part}' for part in parts)}{op}>"
+
+    def __reduce__(self) -> tuple:
+        return Command, (self._kind, self._to, self._color, self._op, self._source, self._from)
+
+    def _made(self, type: PixelType) -> tuple:
+        """The command as the library reads it, for an image of this type, and the memory that it reads."""
+        made = type._command(kind=self._kind, op=self._op, to=_Region(*self._to), from_=_Region(*self._from))
         made.pixels = made.mattes = _NOWHERE
-        if self.color is not None:
-            color = [index(channel) for channel in self.color]
-            if len(color) != type.channels or not all(0 <= channel <= type.max for channel in color):
-                raise ValueError(f"{self.color} is not a color of {type}")
-            made.color = type._color(*color)
-        source = self.source
+        if self._color is not None:
+            if len(self._color) != type.channels or not all(0 <= channel <= type.max for channel in self._color):
+                raise ValueError(f"{self._color} is not a color of {type}")
+            made.color = type._color(*self._color)
+        source = self._source
         if source is None:
-            return made
-        made.from_ = _region(self.from_)
-        made.width, made.height, made.stride = source.width, source.height, source.stride
+            return made, None
+        made.width, made.height, made.stride = source._width, source._height, source._stride
         if isinstance(source, Matte):
-            if 2**source.bits - 1 != type.max:
-                raise TypeError(f"a matte of {source.bits} bits doesn't go with {type}")
-            made.mattes, made.matte_count = source._bytes.address, source._count
+            if 2**source._bits - 1 != type.max:
+                raise TypeError(f"a matte of {source._bits} bits doesn't go with {type}")
+            made.mattes, made.matte_count = source._memory.address, source._count
         else:
-            if source.type is not type:
-                raise TypeError(f"a source of {source.type} doesn't go with {type}")
-            made.pixels, made.pixel_count = source._bytes.address, source._count
-        return made
+            if source._type is not type:
+                raise TypeError(f"a source of {source._type} doesn't go with {type}")
+            made.pixels, made.pixel_count = source._memory.address, source._count
+        return made, source._memory
 
 
-def _image(source):
-    """The source, if it is an image."""
-    if not isinstance(source, Image):
-        raise TypeError("the source is not an Image")
+def _command(command: Any) -> Command:
+    """The command, if it is one."""
+    if not isinstance(command, Command):
+        raise TypeError(f"{type(command).__name__} is not a Command: pass commands one by one, as in run(*commands)")
+    return command
+
+
+def _source(source: Any, wanted: Any) -> Any:
+    """The source, if it is of the wanted class."""
+    if not isinstance(source, wanted):
+        raise TypeError(f"{type(source).__name__} is not {'an Image' if wanted is Image else 'a Matte'}")
     return source
 
 
-def clear():
+def clear() -> Command:
     """Makes all pixels of the image transparent: all channels 0."""
     return Command(0)
 
 
-def copy_color(to, color):
+def copy_color(to: Region, color: Tuple[int, ...]) -> Command:
     """Replaces the pixels of the region `to` by a color: a tuple of as many channels as the image's pixels have."""
     return Command(1, to, color)
 
 
-def copy_image(to, source, from_=None):
+def copy_image(to: Region, source: Image, from_: Optional[Region] = None) -> Command:
     """Replaces the pixels of `to` by those of the region `from_` of another image; None is all of it.
 
     The point of `from_` that is as far from its upper left corner as a point of `to` is from its own goes there.
     """
-    return Command(2, to, source=_image(source), from_=from_)
+    return Command(2, to, source=_source(source, Image), from_=from_)
 
 
-def composite_color(to, color, op=Op.SRC_OVER):
+def composite_color(to: Region, color: Tuple[int, ...], op: Op = Op.SRC_OVER) -> Command:
     """Composites a color with the pixels of `to`."""
     return Command(3, to, color, op)
 
 
-def composite_image(to, source, from_=None, op=Op.SRC_OVER):
+def composite_image(to: Region, source: Image, from_: Optional[Region] = None, op: Op = Op.SRC_OVER) -> Command:
     """Composites the pixels of `from_` in another image with those of `to`: a sprite."""
-    return Command(4, to, op=op, source=_image(source), from_=from_)
+    return Command(4, to, op=op, source=_source(source, Image), from_=from_)
 
 
-def composite_matte(to, matte, color, from_=None, op=Op.SRC_OVER):
+def composite_matte(
+    to: Region, matte: Matte, color: Tuple[int, ...], from_: Optional[Region] = None, op: Op = Op.SRC_OVER
+) -> Command:
     """Composites a color, multiplied by the values of `from_` in a matte, with the pixels of `to`: a glyph."""
-    if not isinstance(matte, Matte):
-        raise TypeError("the mask is not a Matte")
-    return Command(5, to, color, op, matte, from_)
+    return Command(5, to, color, op, _source(matte, Matte), from_)
 
 
-def convert(from_, src, to, dst=None):
+def convert(from_: Format, src: Any, to: Format, dst: Any = None) -> Any:
     """Converts all pixels of the buffer `src` to the format of `dst`, which has room for just as many; returns `dst`.
 
-    Without `dst` a new bytearray is returned. An alpha that `from_` lacks is 255. One that `to` lacks is dropped, and
-    colors that were multiplied by it stay so from RGBA8P and SRGBA8P to RGB8 and SRGB8; to all others they are divided
-    by it. Raises PixError where the lengths don't fit, TypeError where `dst` is read-only and ValueError where the two
-    overlap.
+    Both are buffers of bytes without gaps. Without `dst` a new bytearray is returned. An alpha that `from_` lacks is
+    255. One that `to` lacks is dropped, and colors that were multiplied by it stay so from RGBA8P and SRGBA8P to RGB8
+    and SRGB8; to all others they are divided by it. Raises PixError where the lengths don't fit, TypeError where `dst`
+    is read-only and ValueError where the two overlap.
     """
     from_, to = Format(from_), Format(to)
-    source = _Bytes(src)
+    source = _Memory(src)
     count = source.length // from_.size
     if dst is None:
         dst = bytearray(count * to.size)
-    target = _Bytes(dst, written=True)
+    target = _Memory(dst)
+    if source.has_gaps or target.has_gaps:
+        raise ValueError("the buffer has gaps between its rows: convert them one by one")
+    if target.is_readonly and target.length:
+        raise TypeError("the buffer is read-only")
     if not target.is_apart(source):
         raise ValueError("the two buffers share memory")
     if source.length != count * from_.size or target.length != count * to.size:
         raise PixError(Status.BAD_LENGTH)
-    status = _library.pix_convert_bytes(
-        from_, to, source.address, source.length, target.address, target.length, count
-    )
+    with _calls.turn(target, [source]):
+        status = _libraries[count > _LONG].pix_convert_bytes(
+            from_, to, source.address, source.length, target.address, target.length, count
+        )
     if status:
         raise PixError(Status(status))
     return dst

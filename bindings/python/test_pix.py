@@ -1,6 +1,12 @@
 """What is refused, that a refusal changes nothing, and what buffers, strides, operators and the other pixels do."""
 
 import array
+import copy
+import ctypes
+import pickle
+import sys
+import tempfile
+import threading
 import unittest
 
 import pix
@@ -56,10 +62,18 @@ class Refusals(unittest.TestCase):
 
     def test_numbers(self):
         for region in ((LONG, 0, 1, 1), (0, -LONG - 1, 1, 1), (0, 0, -1, 1), (0, 0, 1, 2 * LONG)):
-            self.assertRaises(ValueError, self.image.run, pix.copy_color(region, COLOR))
+            self.assertRaises(ValueError, pix.copy_color, region, COLOR)
         for color in ((256, 0, 0, 0), (-1, 0, 0, 0), (0, 0, 0)):
             self.assertRaises(ValueError, self.image.run, pix.copy_color(WHOLE, color))
-        self.assertRaises(TypeError, self.image.run, pix.copy_color((0.5, 0, 1, 1), COLOR))
+        self.assertRaises(TypeError, pix.copy_color, (0.5, 0, 1, 1), COLOR)
+
+    def test_lists(self):
+        command = pix.copy_color(WHOLE, COLOR)
+        for wrong in ([command], (command,), None, 3):
+            with self.assertRaisesRegex(TypeError, "is not a Command"):
+                self.image.run(wrong)
+        self.assertRaises(AttributeError, setattr, command, "source", self.other)
+        self.assertRaises(TypeError, pix.Command, 4, WHOLE, source=bytes(64))
 
     def test_buffers(self):
         self.assertRaises(TypeError, pix.Image(bytes(64), 4, 4).run, pix.clear())
@@ -67,6 +81,25 @@ class Refusals(unittest.TestCase):
         self.assertRaises(ValueError, pix.Image, memoryview(self.pixels)[::2], 4, 2)
         self.assertRaises(ValueError, pix.Image, memoryview(self.pixels)[1:9], 1, 1, type=pix.RGBA16)
         self.assertRaises(BufferError, self.pixels.append, 1)
+        self.assertRaises(TypeError, self.image.__init__, bytearray(64), 4, 4)
+
+    def test_elements(self):
+        for code in "bhHiIlLqQfd":
+            elements = array.array(code, bytes(64))
+            self.assertRaises(TypeError, pix.Image, elements, 4, 4)
+            self.assertRaises(TypeError, pix.Matte, elements, 4, 4)
+            self.assertRaises(TypeError, pix.convert, pix.Format.RGBA8, elements, pix.Format.RGB8)
+            if code != "H":
+                self.assertRaises(TypeError, pix.Image, elements, 4, 2, type=pix.RGBA16)
+        other = "BigEndian" if sys.byteorder == "little" else "LittleEndian"
+        swapped = type("Swapped", (getattr(ctypes, other + "Structure"),), {"_fields_": [("x", ctypes.c_uint16)]})
+        self.assertRaises(TypeError, pix.Image, (swapped * 32)(), 4, 2, type=pix.RGBA16)
+        self.assertRaises(TypeError, pix.Image, (ctypes.c_bool * 64)(), 4, 4)
+
+    def test_rows_inside_out(self):
+        self.assertRaises(ValueError, pix.Image, memoryview(self.pixels)[::-1], 4, 4)
+        self.assertRaises(TypeError, pix.Image, self.pixels)
+        self.assertRaises(TypeError, pix.Image, self.pixels, 4)
 
     def test_overlaps(self):
         for start in (0, 4, 60):
@@ -93,6 +126,105 @@ class Refusals(unittest.TestCase):
         self.assertRaises(ValueError, pix.convert, 99, bytes(8), four)
         self.assertEqual(pix.convert(four, bytes((1, 2, 3, 4)), three), bytes((1, 2, 3)))
         self.assertEqual(pix.convert(four, b"", three), b"")
+
+
+class Number:
+    """A number that calls a function when it is asked for."""
+
+    def __init__(self, number, call):
+        self.number, self.call = number, call
+
+    def __index__(self):
+        self.call()
+        return self.number
+
+
+class Borders(unittest.TestCase):
+    def test_a_view_that_is_released(self):
+        image = pix.Image.new(16, 16)
+        with image.pixels as view:
+            self.assertEqual(len(view), 1024)
+        image.pixels.release()
+        del view
+        image.run(pix.copy_color((0, 0, 16, 16), COLOR))
+        self.assertEqual(set(image.pixels), {9})
+
+    def test_a_number_that_exchanges_the_source(self):
+        pixels = bytearray(64)
+        image, other = pix.Image(pixels, 4, 4), pix.Image.new(4, 4)
+        commands = []
+        number = Number(0, lambda: commands and setattr(commands[0], "_source", image))
+        commands.append(pix.copy_image(WHOLE, other))
+        with self.assertRaisesRegex(ValueError, "shares memory"):
+            image.run(commands[0], pix.copy_color((number, 0, 1, 1), COLOR))
+        self.assertEqual(pixels, bytes(64))
+
+    def test_adjacent_buffers(self):
+        both = memoryview(bytearray(range(128)))
+        for image, source in ((both[:64], both[64:]), (both[64:], both[:64])):
+            pix.Image(image, 4, 4).run(pix.copy_image(WHOLE, pix.Image(source, 4, 4)))
+            self.assertEqual(image, source)
+        pix.convert(pix.Format.RGBA8, both[:64], pix.Format.BGRA8, both[64:])
+
+    def test_values(self):
+        image = pix.Image(bytearray(range(52)), 3, 3, 5)
+        again = pickle.loads(pickle.dumps(image))
+        self.assertEqual((again.width, again.height, again.stride, again.type), (3, 3, 3, pix.RGBA8))
+        self.assertEqual(again.pixels, bytes(range(12)) + bytes(range(20, 32)) + bytes(range(40, 52)))
+        matte = copy.deepcopy(pix.Matte(array.array("H", range(6)), 3, 2, bits=16))
+        self.assertEqual((matte.bits, bytes(matte._memory.view())), (16, array.array("H", range(6)).tobytes()))
+        self.assertIs(pickle.loads(pickle.dumps(pix.GRAYA8)), pix.GRAYA8)
+        empty = copy.copy(pix.Image.new(0, 7))
+        self.assertEqual((empty.width, empty.height), (0, 7))
+        painted = [pix.Image.new(3, 3), pix.Image.new(3, 3)]
+        command = pix.composite_image((0, 0, 3, 3), image, op=pix.Op.PLUS)
+        painted[0].run(command)
+        painted[1].run(*pickle.loads(pickle.dumps([command])))
+        self.assertEqual(painted[0].pixels, painted[1].pixels)
+        fault = pickle.loads(pickle.dumps(pix.PixError(pix.Status.BAD_OP, 3)))
+        self.assertEqual((fault.status, fault.index, str(fault)), (pix.Status.BAD_OP, 3, "command 3: no such operator"))
+
+    def test_texts(self):
+        image, matte = pix.Image.new(3, 2, pix.RGBA16), pix.Matte(bytes(6), 3, 2)
+        self.assertEqual((repr(image), repr(matte)), ("<pix.Image 3 x 2, RGBA16>", "<pix.Matte 3 x 2, 8 bits>"))
+        self.assertIn("composite_matte to (0, 0, 1, 1), (9, 9, 9, 9), <pix.Matte", repr(pix.composite_matte((0, 0, 1, 1), matte, COLOR)))
+        self.assertEqual(repr(pix.clear()), "<pix.clear to (0, 0, 0, 0)>")
+
+    def test_processors(self):
+        with tempfile.NamedTemporaryFile("w") as cpuinfo:
+            cpuinfo.write("processor: 0\nflags : fpu sse2 ssse3\n")
+            cpuinfo.flush()
+            self.assertFalse(pix._has_sse41(cpuinfo.name))
+        self.assertTrue(pix._has_sse41("/nowhere"))
+
+
+class Threads(unittest.TestCase):
+    def test_the_lock_is_let_go(self):
+        image, counts, is_done = pix.Image.new(2048, 2048), [0], threading.Event()
+
+        def paint():
+            image.run(*[pix.composite_color((0, 0, 2048, 2048), (1, 1, 1, 1), pix.Op.XOR)] * 30)
+            is_done.set()
+
+        thread = threading.Thread(target=paint)
+        thread.start()
+        while not is_done.is_set():
+            counts[0] += 1
+        thread.join()
+        self.assertGreater(counts[0], 1000)
+
+    def test_one_image_from_many_threads(self):
+        image, source = pix.Image.new(1024, 1024), pix.Image.new(1024, 1024)
+        whole = (0, 0, 1024, 1024)
+        source.run(pix.copy_color(whole, (1, 0, 0, 0)))
+        command = pix.composite_image(whole, source, op=pix.Op.PLUS)
+        threads = [threading.Thread(target=image.run, args=[command] * 3) for _ in range(8)]
+        for thread in threads:
+            thread.start()
+        for thread in threads:
+            thread.join()
+        self.assertEqual(set(image.pixels[::4]), {24})
+        self.assertEqual(pix._calls._running, [])
 
 
 class Paintings(unittest.TestCase):
@@ -157,9 +289,40 @@ class Paintings(unittest.TestCase):
         pixels = numpy.zeros((4, 6, 4), numpy.uint8)
         pix.Image(pixels, 6, 4).run(pix.copy_color((numpy.int64(1), 1, 2, 2), COLOR))
         self.assertEqual(pixels.sum(), 4 * sum(COLOR))
-        self.assertRaises(ValueError, pix.Image, pixels[:, 1:], 5, 4)
         pix.Image(pixels, 5, 4, 6).run(pix.clear())
         self.assertEqual(pixels.sum(), 0)
+
+    @unittest.skipIf(numpy is None, "no numpy")
+    def test_windows(self):
+        pixels = numpy.zeros((6, 8, 4), numpy.uint8)
+        window = pix.Image(pixels[1:5, 2:7])
+        self.assertEqual((window.width, window.height, window.stride), (5, 4, 8))
+        window.run(pix.copy_color((-9, -9, 99, 99), COLOR))
+        wanted = numpy.zeros((6, 8, 4), numpy.uint8)
+        wanted[1:5, 2:7] = COLOR
+        self.assertTrue((pixels == wanted).all())
+        pix.Image(pixels[::2], 8, 3).run(pix.clear())
+        wanted[::2] = 0
+        self.assertTrue((pixels == wanted).all())
+        mask = numpy.full((6, 8), 255, numpy.uint8)[1:4, 1:3]
+        pix.Image(pixels).run(pix.composite_matte((0, 0, 2, 3), pix.Matte(mask), (1, 2, 3, 255), op=pix.Op.SRC))
+        wanted[:3, :2] = (1, 2, 3, 255)
+        self.assertTrue((pixels == wanted).all())
+        self.assertEqual(pickle.loads(pickle.dumps(pix.Image(pixels[:, 1:]))).pixels, pixels[:, 1:].tobytes())
+        with self.assertRaisesRegex(ValueError, "inside its rows"):
+            pix.Image(pixels[:, ::2], 4, 6)
+        with self.assertRaisesRegex(ValueError, "backwards"):
+            pix.Image(pixels[::-1], 8, 6)
+        for width, height, stride in ((5, 4, 7), (4, 4, None), (5, 3, None)):
+            self.assertRaises(ValueError, pix.Image, pixels[1:5, 2:7], width, height, stride)
+        self.assertRaises(ValueError, pix.convert, pix.Format.RGBA8, pixels[:, 1:], pix.Format.RGB8)
+
+    @unittest.skipIf(numpy is None, "no numpy")
+    def test_elements_of_numpy(self):
+        for kind in (object, numpy.float32, numpy.complex64, numpy.bool_, numpy.uint16, numpy.int8):
+            self.assertRaises(TypeError, pix.Image, numpy.zeros((4, 4, 4), kind), 4, 4)
+        self.assertRaises(TypeError, pix.Image, numpy.zeros((4, 4, 4), ">u2"), 4, 4, type=pix.RGBA16)
+        pix.Image(numpy.zeros((4, 4, 4), numpy.uint16), type=pix.RGBA16).run(pix.clear())
 
 
 if __name__ == "__main__":

@@ -1,0 +1,315 @@
+/* Random lists of commands and random conversions by pix.h, beside the plain model of plain.h.
+ *
+ *     fuzz [LISTS [SEED]]
+ *
+ * Every byte of every buffer is compared after each list, those between and around the rows too. A buffer ends or
+ * begins at a page that may not be touched. Each list in four has a fault, whose status and place are compared, and
+ * which must leave all bytes as they were. LISTS is 20000 and SEED 1 where they aren't given.
+ */
+#define _DEFAULT_SOURCE
+#include "pix.h"
+#include "plain.h"
+#include <stdio.h>
+#include <stdlib.h>
+#include <sys/mman.h>
+#include <unistd.h>
+
+enum { KINDS = 3, SOURCES = 3, MATTES = 2, COMMANDS = 12, PAGES = 5 };
+
+static const plain_kind kinds[KINDS] = {{255, 1, 4}, {65535, 2, 4}, {255, 1, 2}};
+
+/* ---- Random numbers (xorshift of Marsaglia, 64 bits) ---- */
+
+static uint64_t state;
+
+static uint64_t any(void) {
+    state ^= state << 13;
+    state ^= state >> 7;
+    state ^= state << 17;
+    return state;
+}
+
+static uint64_t below(uint64_t count) {
+    return (any() >> 11) % count;
+}
+
+static int one_in(uint64_t count) {
+    return below(count) == 0;
+}
+
+/* ---- Buffers between two pages that may not be touched ---- */
+
+typedef struct {
+    unsigned char *pages, *copy;
+    size_t length;
+    plain_rows rows, model;
+} buffer;
+
+static size_t page;
+
+static void make_buffer(buffer *it) {
+    unsigned char *all = (unsigned char *)mmap(NULL, (PAGES + 2) * page, PROT_NONE, MAP_PRIVATE | MAP_ANONYMOUS, -1, 0);
+    it->length = PAGES * page;
+    it->copy = (unsigned char *)malloc(it->length);
+    if (all == MAP_FAILED || !it->copy || mprotect(all + page, it->length, PROT_READ | PROT_WRITE)) {
+        perror("fuzz");
+        exit(2);
+    }
+    it->pages = all + page;
+}
+
+/* Lays rows of elements of that size at the start or at the end of the pages, and fills all with random bytes. */
+static void lay_rows(buffer *it, size_t size, size_t align) {
+    plain_rows *rows = &it->rows;
+    rows->width = one_in(9) ? 0 : below(24);
+    rows->height = one_in(9) ? 0 : below(14);
+    rows->stride = rows->width + (one_in(2) ? 0 : below(6));
+    size_t used = rows->height ? ((rows->height - 1) * rows->stride + rows->width) * size : 0;
+    size_t start = one_in(2) ? 0 : it->length - used;
+    if (start % align)
+        start -= start % align;
+    for (size_t i = 0; i < it->length; i++)
+        it->pages[i] = one_in(3) ? (unsigned char)(255 * below(2)) : (unsigned char)below(256);
+    memcpy(it->copy, it->pages, it->length);
+    rows->bytes = it->pages + start;
+    it->model = *rows;
+    it->model.bytes = it->copy + start;
+}
+
+/* ---- Random commands ---- */
+
+static buffer image, sources[SOURCES], mattes[MATTES];
+
+static int64_t coordinate(void) {
+    static const int64_t ends[] = {INT32_MIN, INT32_MIN + 1, INT32_MAX, INT32_MAX - 1, 0, -1, 1};
+    return one_in(12) ? ends[below(7)] : (int64_t)below(40) - 14;
+}
+
+static int64_t side(void) {
+    static const int64_t ends[] = {INT32_MAX, INT32_MAX - 1, 0, 1};
+    return one_in(10) ? ends[below(4)] : (int64_t)below(32);
+}
+
+static plain_region region(void) {
+    plain_region it = {coordinate(), coordinate(), side(), side()};
+    return it;
+}
+
+/* A command, and which of the sources or mattes it reads. */
+static plain_command random_command(const plain_kind *kind, size_t *read) {
+    plain_command it;
+    memset(&it, 0, sizeof it);
+    it.kind = one_in(12) ? PLAIN_CLEAR : 1 + (uint32_t)below(5);
+    it.op = (uint32_t)below(13);
+    it.to = region();
+    it.from = region();
+    uint64_t alpha = one_in(3) ? kind->max * below(2) : below(kind->max + 1);
+    for (size_t i = 0; i < kind->channels; i++)
+        it.color[i] = one_in(4) ? below(kind->max + 1) : plain_product(kind->max, below(kind->max + 1), alpha);
+    it.color[kind->channels - 1] = alpha;
+    *read = below(it.kind == PLAIN_MATTE ? MATTES : SOURCES);
+    it.source = it.kind == PLAIN_MATTE ? &mattes[*read].model : &sources[*read].model;
+    return it;
+}
+
+static pix_region given(plain_region it) {
+    return pix_region_of((int32_t)it.x, (int32_t)it.y, (uint32_t)it.width, (uint32_t)it.height);
+}
+
+/* ---- Faults ---- */
+
+typedef enum {
+    NONE, IMAGE_SIDE, IMAGE_STRIDE, IMAGE_NULL, LIST_NULL, KIND, OPERATOR, REGION_TO, REGION_FROM, SOURCE_SIDE,
+    SOURCE_STRIDE, SOURCE_NULL, OVERLAP, LIST_OVERLAP, FAULTS
+} fault;
+
+/* The status of a fault, whether a command of its list has it, and whether that command must read a source. */
+static const struct {
+    pix_status status;
+    int of_command, of_source;
+} faults[FAULTS] = {
+    {PIX_OK, 0, 0},         {PIX_BAD_SIZE, 0, 0},   {PIX_BAD_SIZE, 0, 0},   {PIX_NULL, 0, 0},       {PIX_NULL, 0, 0},
+    {PIX_BAD_KIND, 1, 0},   {PIX_BAD_OP, 1, 0},     {PIX_BAD_REGION, 1, 0}, {PIX_BAD_REGION, 1, 1}, {PIX_BAD_SOURCE, 1, 1},
+    {PIX_BAD_SOURCE, 1, 1}, {PIX_NULL, 1, 1},       {PIX_OVERLAP, 1, 1},    {PIX_OVERLAP, 0, 0},
+};
+
+static int is_empty(const plain_rows *rows) {
+    return rows->height == 0 || (rows->height == 1 && rows->width == 0) || rows->stride == 0;
+}
+
+/* Whether a list can have the fault here. */
+static int fits(fault it, size_t count, const plain_command *command) {
+    if (it == IMAGE_NULL || it == OVERLAP || it == LIST_OVERLAP)
+        if (is_empty(&image.rows))
+            return 0;
+    if (it == IMAGE_STRIDE && image.rows.width < 2)
+        return 0;
+    if ((it == LIST_NULL || it == LIST_OVERLAP || faults[it].of_command) && !count)
+        return 0;
+    if (!faults[it].of_source)
+        return 1;
+    if (command->kind != PLAIN_COPY && command->kind != PLAIN_SOURCE && command->kind != PLAIN_MATTE)
+        return 0;
+    return !is_empty(command->source) && (it != SOURCE_STRIDE || command->source->width >= 2);
+}
+
+/* ---- Lists ---- */
+
+typedef struct {
+    fault fault;
+    size_t at, count, read[COMMANDS];
+    plain_command commands[COMMANDS];
+} list;
+
+static list random_list(const plain_kind *kind) {
+    list it;
+    memset(&it, 0, sizeof it);
+    it.count = below(COMMANDS);
+    for (size_t i = 0; i < it.count; i++)
+        it.commands[i] = random_command(kind, &it.read[i]);
+    it.at = it.count ? below(it.count) : 0;
+    if (one_in(4))
+        it.fault = (fault)(1 + below(FAULTS - 1));
+    if (!fits(it.fault, it.count, &it.commands[it.at]))
+        it.fault = NONE;
+    return it;
+}
+
+/* The run of a list by the header's calls for one kind of pixels. */
+#define RUN_OF(S, PIXEL, VALUE, MATTE, COLOR)                                                                          \
+    static pix_command##S command##S(const list *all, size_t i) {                                                      \
+        const plain_command *it = &all->commands[i];                                                                   \
+        const plain_rows *rows = it->kind == PLAIN_MATTE ? &mattes[all->read[i]].rows : &sources[all->read[i]].rows;   \
+        pix_source##S source = {(const PIXEL *)(const void *)rows->bytes, (uint32_t)rows->width,                       \
+                                (uint32_t)rows->height, (uint32_t)rows->stride};                                       \
+        MATTE matte = {(const VALUE *)(const void *)rows->bytes, source.width, source.height, source.stride};          \
+        fault has = i == all->at ? all->fault : NONE;                                                                  \
+        pix_region to = given(it->to), from = given(it->from);                                                         \
+        to.width = has == REGION_TO ? UINT32_C(2147483648) : to.width;                                                 \
+        from.height = has == REGION_FROM ? UINT32_MAX : from.height;                                                   \
+        if (has == SOURCE_SIDE) {                                                                                      \
+            source.width = source.stride = matte.width = matte.stride = UINT32_C(2147483648);                          \
+            source.height = matte.height = 0;                                                                          \
+        }                                                                                                              \
+        source.stride = matte.stride = has == SOURCE_STRIDE ? source.width - 1 : source.stride;                        \
+        source.pixels = has == SOURCE_NULL ? NULL : has == OVERLAP ? (const PIXEL *)(const void *)image.rows.bytes     \
+                                                                   : source.pixels;                                    \
+        matte.values = has == SOURCE_NULL ? NULL : has == OVERLAP ? (const VALUE *)(const void *)image.rows.bytes      \
+                                                                  : matte.values;                                      \
+        pix_op op = (pix_op)(has == OPERATOR ? 13 + below(9) : it->op);                                                \
+        pix_command##S made = pix_clear##S();                                                                          \
+        switch (it->kind) {                                                                                            \
+        case PLAIN_COPY_COLOR: made = pix_copy_color##S(to, COLOR); break;                                             \
+        case PLAIN_COPY: made = pix_copy_image##S(to, source, from); break;                                            \
+        case PLAIN_COLOR: made = pix_composite_color##S(to, COLOR, op); break;                                         \
+        case PLAIN_SOURCE: made = pix_composite_image##S(to, source, from, op); break;                                 \
+        case PLAIN_MATTE: made = pix_composite_matte##S(to, matte, from, COLOR, op); break;                            \
+        default: break;                                                                                                \
+        }                                                                                                              \
+        made.to = to;                                                                                                  \
+        made.op = (uint32_t)op;                                                                                        \
+        made.kind = has == KIND ? 6 + (uint32_t)below(9) : made.kind;                                                  \
+        return made;                                                                                                   \
+    }                                                                                                                  \
+                                                                                                                       \
+    static pix_status run##S(const list *all, size_t *done) {                                                          \
+        pix_command##S made[COMMANDS + 1];                                                                             \
+        for (size_t i = 0; i < all->count; i++)                                                                        \
+            made[i] = command##S(all, i);                                                                              \
+        pix_image##S whole = {(PIXEL *)(void *)image.rows.bytes, (uint32_t)image.rows.width,                           \
+                              (uint32_t)image.rows.height, (uint32_t)image.rows.stride};                               \
+        const pix_command##S *commands = all->fault == LIST_NULL ? NULL : made;                                        \
+        whole.pixels = all->fault == IMAGE_NULL ? NULL : whole.pixels;                                                 \
+        if (all->fault == IMAGE_SIDE) {                                                                                \
+            whole.width = whole.stride = UINT32_C(2147483648);                                                         \
+            whole.height = 0;                                                                                          \
+        }                                                                                                              \
+        whole.stride = all->fault == IMAGE_STRIDE ? whole.width - 1 : whole.stride;                                    \
+        if (all->fault == LIST_OVERLAP)                                                                                \
+            commands = (const pix_command##S *)((uintptr_t)image.rows.bytes & ~(uintptr_t)15);                         \
+        return pix_run##S(whole, commands, all->count, done);                                                          \
+    }
+
+RUN_OF(, pix_rgba8, uint8_t, pix_matte,
+       pix_rgba8_of((uint8_t)it->color[0], (uint8_t)it->color[1], (uint8_t)it->color[2], (uint8_t)it->color[3]))
+RUN_OF(_rgba16, pix_rgba16, uint16_t, pix_matte16,
+       pix_rgba16_of((uint16_t)it->color[0], (uint16_t)it->color[1], (uint16_t)it->color[2], (uint16_t)it->color[3]))
+RUN_OF(_graya8, pix_graya8, uint8_t, pix_matte, pix_graya8_of((uint8_t)it->color[0], (uint8_t)it->color[1]))
+
+/* ---- Comparing ---- */
+
+static void fail(uint64_t number, const char *what) {
+    fprintf(stderr, "fuzz: list %llu: %s\n", (unsigned long long)number, what);
+    exit(1);
+}
+
+static void compare(uint64_t number, const buffer *it, const char *what) {
+    for (size_t i = 0; i < it->length; i++)
+        if (it->pages[i] != it->copy[i]) {
+            fprintf(stderr, "fuzz: list %llu: %s: byte %td of its rows is %d, and %d by the model\n",
+                    (unsigned long long)number, what, &it->pages[i] - it->rows.bytes, it->pages[i], it->copy[i]);
+            exit(1);
+        }
+}
+
+static void try_list(uint64_t number) {
+    size_t which = below(KINDS), done = 99;
+    const plain_kind *kind = &kinds[which];
+    size_t size = kind->bytes * kind->channels;
+    lay_rows(&image, size, kind->bytes);
+    for (size_t i = 0; i < SOURCES; i++)
+        lay_rows(&sources[i], size, kind->bytes);
+    for (size_t i = 0; i < MATTES; i++)
+        lay_rows(&mattes[i], kind->bytes, kind->bytes);
+    list all = random_list(kind);
+    pix_status status = which == 0 ? run(&all, &done) : which == 1 ? run_rgba16(&all, &done) : run_graya8(&all, &done);
+    size_t at = all.fault == NONE ? all.count : faults[all.fault].of_command ? all.at : 0;
+    if (status != faults[all.fault].status)
+        fail(number, pix_status_text(status));
+    if (done != at)
+        fail(number, "the wrong command is refused");
+    if (all.fault == NONE)
+        plain_run(kind, &image.model, all.commands, all.count);
+    compare(number, &image, "the image");
+    for (size_t i = 0; i < SOURCES; i++)
+        compare(number, &sources[i], "a source");
+    for (size_t i = 0; i < MATTES; i++)
+        compare(number, &mattes[i], "a matte");
+}
+
+static void try_conversion(uint64_t number) {
+    uint32_t from = (uint32_t)below(12), to = (uint32_t)below(12);
+    const plain_format *source = &plain_formats[from], *target = &plain_formats[to];
+    size_t count = below(200), src_size = plain_size(source), dst_size = plain_size(target);
+    lay_rows(&sources[0], 1, 1);
+    lay_rows(&image, 1, 1);
+    size_t src_start = one_in(2) ? 0 : sources[0].length - count * src_size;
+    size_t dst_start = one_in(2) ? 0 : image.length - count * dst_size;
+    if (src_size != pix_format_size((pix_format)from) || dst_size != pix_format_size((pix_format)to))
+        fail(number, "the size of a format");
+    if (pix_convert((pix_format)from, (pix_format)to, sources[0].pages + src_start, image.pages + dst_start, count))
+        fail(number, "a conversion is refused");
+    for (size_t i = 0; i < count; i++)
+        plain_convert(source, target, sources[0].copy + src_start + i * src_size, image.copy + dst_start + i * dst_size);
+    compare(number, &image, "converted bytes");
+    compare(number, &sources[0], "the bytes of a conversion");
+}
+
+int main(int count, char **words) {
+    uint64_t lists = count > 1 ? strtoull(words[1], NULL, 10) : 20000;
+    state = (count > 2 ? strtoull(words[2], NULL, 10) : 1) * UINT64_C(0x9E3779B97F4A7C15) | 1;
+    page = (size_t)sysconf(_SC_PAGESIZE);
+    make_buffer(&image);
+    for (size_t i = 0; i < SOURCES; i++)
+        make_buffer(&sources[i]);
+    for (size_t i = 0; i < MATTES; i++)
+        make_buffer(&mattes[i]);
+    for (uint64_t number = 0; number < lists; number++) {
+        try_list(number);
+        if (number % 4 == 0)
+            try_conversion(number);
+    }
+    printf("fuzz: %llu lists and %llu conversions are as the model has them\n", (unsigned long long)lists,
+           (unsigned long long)((lists + 3) / 4));
+    return 0;
+}
