@@ -45,6 +45,14 @@ fn picture(
 
 #[test]
 fn a_sun_in_the_sky(rt: HostRuntime) -> Result<(), Fail> {
+    let sky = Rgba8p::new(16, 32, 48, 255);
+    let picture = sunrise(rt.alloc(), sky, Rgba8p::new(200, 160, 0, 255))?;
+    assert_eq!(rt; picture.pixels().first(), Some(&sky));
+    Ok(())
+}
+
+#[test]
+fn a_sun_at_each_point(rt: HostRuntime) -> Result<(), Fail> {
     let sky = opaque(200, 100, 50);
     let picture = sunrise(rt.alloc(), sky, glass())?;
     assert_eq!(rt; (picture.width(), picture.height()), (32, 16));
