@@ -1,6 +1,16 @@
 //! Raster images: channels, pixels, color models, regions, rasters, commands, runs and palettes.
 //!
 //! This crate has what the crates below it make, so that a user names `pix` alone.
+//!
+//! # Examples
+//!
+//! ```rust
+//! let mut picture = Raster::with_color(alloc, 32, 16, sky)?;
+//! picture.composite_color(Region::new(20, 2, 6, 6), sun, SrcOver);
+//! Ok(picture)
+//! ```
+//!
+//! In the examples `alloc` is the `Global` that the caller is handed. Each stands in the crate `pix_uses`, with what it imports, and is proved there.
 #![tactic(auto)]
 
 pub use pix_color::{bgr, cmy, gray, hsl, hsv, hue, hwb, xyz, ycc};

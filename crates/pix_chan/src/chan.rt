@@ -32,6 +32,14 @@ pub use modes::{Alpha, Gamma, Linear, Premultiplied, Srgb, Straight};
 /// One unit is 1/[`MAX`](Channel::MAX). `+` saturates at `MAX`, `-` saturates at 0. `*` is the channel product, `x * y / MAX`
 /// rounded to the nearest. `/` is the channel quotient, `(MAX + 1) * x / y` rounded down, at most `MAX`, and 0 where `y` is 0.
 /// This trait is sealed: the channels are [`Ch8`] and [`Ch16`].
+///
+/// # Examples
+///
+/// ```rust
+/// let half = Ch8::new(128);
+/// let whole = half + half; // 255: a sum stops at the maximum
+/// let none = half - whole; // 0: a difference stops at 0
+/// ```
 pub trait Channel: Sealed
     + Copy
     + Debug
@@ -66,6 +74,14 @@ pub trait Channel: Sealed
     const MAX: Self;
 
     /// Returns the number of units.
+    ///
+    /// # Examples
+    ///
+    /// ```rust
+    /// let fine = Ch16::from(Ch8::new(171));
+    /// let units = fine.to_u32(); // 43947: 171 * 257
+    /// let coarse = Ch8::from(fine); // 171
+    /// ```
     fn to_u32(self) -> u32
         ensures { result ≡ number self };
 
@@ -80,6 +96,14 @@ pub trait Channel: Sealed
         ensures { number result ≡ from_16_bit max units };
 
     /// Returns the wrapping sum, modulo `MAX` + 1.
+    ///
+    /// # Examples
+    ///
+    /// ```rust
+    /// let hue = Ch8::new(250);
+    /// let forth = hue.wrapping_add(Ch8::new(10)); // 4
+    /// let back = forth.wrapping_sub(Ch8::new(10)); // 250
+    /// ```
     fn wrapping_add(self, rhs: Self) -> Self
         ensures { number result ≡ wrapping_sum max (number self) (number rhs) };
 
@@ -90,12 +114,28 @@ pub trait Channel: Sealed
     /// Interpolates from `self`, where `t` is `MIN`, to `rhs`, where `t` is `MAX`.
     ///
     /// The result lies between both, less than one unit from `self + t * (rhs - self) / MAX`.
+    ///
+    /// # Examples
+    ///
+    /// ```rust
+    /// let fifth = Ch8::from_ratio(255, 5); // 51
+    /// let (start, end) = (Ch8::new(100), Ch8::new(200));
+    /// let between = start.lerp(end, fifth); // 120
+    /// ```
     fn lerp(self, rhs: Self, t: Self) -> Self
         ensures { pos (number result) ≡ channel_lerp max (number self) (number rhs) (number t) };
 
     /// Returns the channel nearest to `n / d` units, ties up, clamped to `MIN` and `MAX`.
     ///
     /// Condition: `d` is positive, and both `2 * n + d` and `2 * d` fit in an `i64`.
+    ///
+    /// # Examples
+    ///
+    /// ```rust
+    /// let fifth = Ch8::from_ratio(255, 5); // 51
+    /// let (start, end) = (Ch8::new(100), Ch8::new(200));
+    /// let between = start.lerp(end, fifth); // 120
+    /// ```
     fn from_ratio(n: i64, d: i64) -> Self
         requires positive { pos 0 <ℤ d }
         requires sum_fits { (pos 2 *ℤ n +ℤ d) <ℤ pos (2 ^ 63) }

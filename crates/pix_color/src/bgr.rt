@@ -13,6 +13,14 @@ use pix_el::seal::SealedModel;
 use std::ops::Range;
 
 /// The model of blue, green and red.
+///
+/// # Examples
+///
+/// ```rust
+/// let sky = Bgr8::new(230, 160, 90);
+/// let blue = Bgr::blue(sky); // 230, the first channel
+/// let screen = sky.convert::<Rgb8>(); // (90, 160, 230)
+/// ```
 #[derive(Clone, Copy, Debug, Default, PartialEq, Eq)]
 pub struct Bgr {}
 

@@ -14,6 +14,14 @@ use pix_el::seal::SealedModel;
 use std::ops::Range;
 
 /// The model of cyan, magenta and yellow.
+///
+/// # Examples
+///
+/// ```rust
+/// let print = Cmy8::new(165, 95, 25);
+/// let cyan = Cmy::cyan(print); // 165
+/// let paper = print.convert::<Rgb8>(); // (90, 160, 230)
+/// ```
 #[derive(Clone, Copy, Debug, Default, PartialEq, Eq)]
 pub struct Cmy {}
 

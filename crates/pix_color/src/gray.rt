@@ -14,6 +14,14 @@ use pix_el::seal::SealedModel;
 use std::ops::Range;
 
 /// The model of gray.
+///
+/// # Examples
+///
+/// ```rust
+/// let stone = Gray8::new(120);
+/// let value = Gray::value(stone); // 120
+/// let plain = stone.convert::<Rgb8>(); // (120, 120, 120)
+/// ```
 #[derive(Clone, Copy, Debug, Default, PartialEq, Eq)]
 pub struct Gray {}
 

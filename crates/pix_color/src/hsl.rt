@@ -17,6 +17,14 @@ use pix_el::seal::SealedModel;
 use std::ops::Range;
 
 /// The model of hue, saturation and lightness.
+///
+/// # Examples
+///
+/// ```rust
+/// let pale = Hsl8::new(85, 255, 192);
+/// let lightness = Hsl::lightness(pale); // 192
+/// let light = pale.convert::<Rgb8>();
+/// ```
 #[derive(Clone, Copy, Debug, Default, PartialEq, Eq)]
 pub struct Hsl {}
 

@@ -15,6 +15,14 @@ use pix_el::seal::SealedModel;
 use std::ops::Range;
 
 /// The model of hue, saturation and value.
+///
+/// # Examples
+///
+/// ```rust
+/// let green = Hsv8::new(85, 255, 128);
+/// let hue = Hsv::hue(green); // 85, a third of the circle
+/// let dark = green.convert::<Rgb8>(); // (0, 128, 0)
+/// ```
 #[derive(Clone, Copy, Debug, Default, PartialEq, Eq)]
 pub struct Hsv {}
 

@@ -7,6 +7,14 @@ use pix_chan::reciprocals::quotient_by_byte;
 use pix_el::chan::Channel;
 
 /// A sixth of the hexcone, the circle of hues, from the color that it is named for on. Its weight says how far on.
+///
+/// # Examples
+///
+/// ```rust
+/// let part = Hexcone::from_hue(Ch8::new(85)); // Hexcone::Green, with the weight 0
+/// let green = part.rgb(Ch8::new(128)); // (0, 128, 0)
+/// let (hue, chroma, value) = rgb_to_hue_chroma_value(green.0, green.1, green.2);
+/// ```
 #[derive(Clone, Copy, Debug, PartialEq, Eq)]
 pub enum Hexcone<C> {
     /// From red to yellow.

@@ -15,6 +15,14 @@ use pix_el::seal::SealedModel;
 use std::ops::Range;
 
 /// The model of hue, whiteness and blackness.
+///
+/// # Examples
+///
+/// ```rust
+/// let muted = Hwb8::new(85, 64, 64);
+/// let whiteness = Hwb::whiteness(muted); // 64
+/// let mixed = muted.convert::<Rgb8>(); // (64, 191, 64)
+/// ```
 #[derive(Clone, Copy, Debug, Default, PartialEq, Eq)]
 pub struct Hwb {}
 

@@ -14,6 +14,14 @@ use pix_el::seal::SealedModel;
 use std::ops::Range;
 
 /// The model of the tristimulus values.
+///
+/// # Examples
+///
+/// ```rust
+/// let tint = Xyz8::new(144, 152, 229);
+/// let luminance = Xyz::y(tint); // 152
+/// let lit = tint.convert::<Rgb8>();
+/// ```
 #[derive(Clone, Copy, Debug, Default, PartialEq, Eq)]
 pub struct Xyz {}
 

@@ -14,6 +14,14 @@ use pix_el::seal::SealedModel;
 use std::ops::Range;
 
 /// The model of luma and the blue and red color differences.
+///
+/// # Examples
+///
+/// ```rust
+/// let video = YCbCr8::new(147, 175, 87);
+/// let luma = YCbCr::y(video); // 147
+/// let frame = video.convert::<Rgb8>();
+/// ```
 #[derive(Clone, Copy, Debug, Default, PartialEq, Eq)]
 pub struct YCbCr {}
 

@@ -78,6 +78,15 @@ fn item_mut<C>(items: &mut [C], index: usize) -> &mut C
 }
 
 /// A pixel: its channels in the order of its color model. This trait is sealed: the pixels are [`Pix`].
+///
+/// # Examples
+///
+/// ```rust
+/// let color = Rgba8p::new(10, 20, 30, 40);
+/// let green = color.get(1); // 20
+/// let alpha = color.alpha(); // 40
+/// let absent = Rgb8::new(10, 20, 30).alpha(); // 255, since the format has none
+/// ```
 pub trait Pixel: Sealed + Clone + Copy + Debug + Default + PartialEq {
     /// The type of its channels.
     type Chan: Channel;
@@ -126,6 +135,15 @@ pub trait Pixel: Sealed + Clone + Copy + Debug + Default + PartialEq {
     }
 
     /// Lends the channel of number `ch`. Condition: there is one.
+    ///
+    /// # Examples
+    ///
+    /// ```rust
+    /// let mut color = Rgba8p::new(10, 20, 30, 40);
+    /// *color.get_mut(1) = Ch8::new(30);
+    /// *color.alpha_mut() = Ch8::MAX;
+    /// *Rgb::red_mut(&mut color) = Rgb::blue(color); // (30, 30, 30, 255)
+    /// ```
     fn get_mut(&mut self, ch: usize) -> &mut Self::Chan
         requires { ch < layout.count }
         ensures* lends { sem 𝓛 (Lends Self.row Self.Chan.row self.entry result
@@ -184,6 +202,14 @@ pub trait Pixel: Sealed + Clone + Copy + Debug + Default + PartialEq {
     /// Converts this pixel to another format: within one color model channel by channel, and else by way of red, green and blue.
     ///
     /// Condition: that format has no more channels than its model.
+    ///
+    /// # Examples
+    ///
+    /// ```rust
+    /// let photo = [SRgb8::new::<u8>(188, 0, 0), SRgb8::new::<u8>(0, 188, 0)];
+    /// let light = photo[0].convert::<Rgba8p>(); // (128, 0, 0, 255)
+    /// let deep = Rgba16p::from_bit_depth(light); // (32896, 0, 0, 65535)
+    /// ```
     final fn convert<D>(self) -> D
     where
         D: Pixel,
@@ -209,6 +235,16 @@ pub trait Pixel: Sealed + Clone + Copy + Debug + Default + PartialEq {
     /// Converts each pixel of `src` in the place of that of `dst` at its index; the shorter length decides, and the rest stays.
     ///
     /// Condition: the format of `dst` has no more channels than its model.
+    ///
+    /// # Examples
+    ///
+    /// ```rust
+    /// let photo = [SRgb8::new::<u8>(188, 0, 0), SRgb8::new::<u8>(0, 188, 0)];
+    /// let light = photo[0].convert::<Rgba8p>(); // (128, 0, 0, 255)
+    /// let deep = Rgba16p::from_bit_depth(light); // (32896, 0, 0, 65535)
+    /// let mut row = [Rgba8p::default(); 2];
+    /// SRgb8::convert_slice::<Rgba8p>(&mut row, &photo);
+    /// ```
     final fn convert_slice<D>(dst: &mut [D], src: &[Self])
     where
         D: Pixel,
@@ -228,6 +264,15 @@ pub trait Pixel: Sealed + Clone + Copy + Debug + Default + PartialEq {
     /// Composites `src` with this pixel.
     ///
     /// Condition: the format has an alpha channel.
+    ///
+    /// # Examples
+    ///
+    /// ```rust
+    /// let mut paper = Graya8p::new(255, 255);
+    /// let ink = Graya8p::new(0, 128);
+    /// paper.composite_channels(&ink, SrcOver); // (127, 255)
+    /// paper.composite_channels_alpha(&ink, SrcOver, &Ch8::new(64)); // through a quarter
+    /// ```
     final fn composite_channels<O: Blend>(&mut self, src: &Self, _op: O)
     where
         Self: Pixel<Alpha = Premultiplied, Gamma = Linear>,
@@ -321,6 +366,18 @@ pub trait Pixel: Sealed + Clone + Copy + Debug + Default + PartialEq {
     /// Composites each pixel of `src` with the pixel of `dst` of the same index; the shorter length decides, and the rest stays.
     ///
     /// Condition: the format has an alpha channel.
+    ///
+    /// # Examples
+    ///
+    /// ```rust
+    /// let (ink, glass) = (Rgba8p::new(0, 0, 0, 255), Rgba8p::new(0, 0, 64, 64));
+    /// let mut row = [Rgba8p::default(); 4];
+    /// Rgba8p::copy_color(&mut row, &ink);
+    /// Rgba8p::composite_color(&mut row, &glass, SrcOver);
+    /// let sprite = [glass; 3];
+    /// Rgba8p::copy_slice(&mut row, &sprite); // the first three pixels
+    /// Rgba8p::composite_slice(&mut row, &sprite, SrcOver);
+    /// ```
     final fn composite_slice<O: Blend>(dst: &mut [Self], src: &[Self], op: O)
     where
         Self: Pixel<Alpha = Premultiplied, Gamma = Linear>,
@@ -339,6 +396,14 @@ pub trait Pixel: Sealed + Clone + Copy + Debug + Default + PartialEq {
     /// rest stays.
     ///
     /// Condition: the format has an alpha channel.
+    ///
+    /// # Examples
+    ///
+    /// ```rust
+    /// let ink = Rgba8p::new(0, 0, 0, 255);
+    /// let (mut row, masks) = ([Rgba8p::default(); 4], [Matte8::new(128); 4]);
+    /// Rgba8p::composite_matte(&mut row, &masks, &ink, SrcOver); // (0, 0, 0, 128) four times
+    /// ```
     final fn composite_matte<const N: usize, A: Alpha, O: Blend>(
         dst: &mut [Self],
         src: &[Pix<N, Self::Chan, Matte, A, Linear>],

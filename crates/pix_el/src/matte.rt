@@ -11,6 +11,14 @@ use pix_chan::chan::{Ch8, Ch16, Channel, Linear, Premultiplied};
 use std::ops::Range;
 
 /// The model of a matte: no color, the alpha alone.
+///
+/// # Examples
+///
+/// ```rust
+/// let half = Rgba8::new(200, 160, 90, 128);
+/// let matte = half.convert::<Matte8>(); // 128, the alpha alone
+/// let value = matte.alpha(); // 128
+/// ```
 #[derive(Clone, Copy, Debug, Default, PartialEq, Eq)]
 pub struct Matte {}
 

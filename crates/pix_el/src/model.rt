@@ -65,6 +65,14 @@ pub trait ColorModel: SealedModel + Clone + Copy + Debug + Default + PartialEq {
             ∷ P.Chan.number blue ∷ P.Chan.number alpha ∷ [])) };
 
     /// Converts a pixel to red, green, blue and alpha, which is the maximum where the format has none.
+    ///
+    /// # Examples
+    ///
+    /// ```rust
+    /// let olive = Hsv8::new(42, 255, 128);
+    /// let rgba = Hsv::into_rgba(olive); // (128, 126, 0, 255)
+    /// let gray = Gray::from_rgba::<Gray8>(rgba); // 117, its luminance
+    /// ```
     final fn into_rgba<P>(p: P) -> PixRgba<P>
     where
         P: Pixel<Model = Self>,
@@ -78,6 +86,14 @@ pub trait ColorModel: SealedModel + Clone + Copy + Debug + Default + PartialEq {
     /// Converts red, green, blue and alpha to a pixel of this model. The alpha is dropped where the format has none.
     ///
     /// Condition: the format has no more channels than the model.
+    ///
+    /// # Examples
+    ///
+    /// ```rust
+    /// let olive = Hsv8::new(42, 255, 128);
+    /// let rgba = Hsv::into_rgba(olive); // (128, 126, 0, 255)
+    /// let gray = Gray::from_rgba::<Gray8>(rgba); // 117, its luminance
+    /// ```
     final fn from_rgba<P>(rgba: PixRgba<P>) -> P
     where
         P: Pixel<Model = Self>,

@@ -14,6 +14,15 @@ use pix_chan::chan::{Ch8, Ch16, Channel, Linear, Premultiplied, Srgb, Straight};
 use std::ops::Range;
 
 /// The model of red, green and blue.
+///
+/// # Examples
+///
+/// ```rust
+/// let mut color = Rgba8p::new(10, 20, 30, 40);
+/// *color.get_mut(1) = Ch8::new(30);
+/// *color.alpha_mut() = Ch8::MAX;
+/// *Rgb::red_mut(&mut color) = Rgb::blue(color); // (30, 30, 30, 255)
+/// ```
 #[derive(Clone, Copy, Debug, Default, PartialEq, Eq)]
 pub struct Rgb {}
 
@@ -86,6 +95,14 @@ impl Rgb {
     /// Returns the absolute differences of red, green, blue and alpha, as a pixel of that format.
     ///
     /// Condition: the format has at most four channels.
+    ///
+    /// # Examples
+    ///
+    /// ```rust
+    /// let (sand, stone) = (Rgb8::new(200, 160, 90), Rgb8::new(190, 165, 90));
+    /// let apart = Rgb::difference(sand, stone); // (10, 5, 0)
+    /// let near = Rgb::within_threshold(apart, Rgb8::new(16, 16, 16)); // true
+    /// ```
     pub fn difference<P>(p: P, rhs: P) -> P
     where
         P: Pixel<Model = Self>,
@@ -103,6 +120,14 @@ impl Rgb {
 
     /// Returns whether red, green, blue and alpha are each at most those of `rhs`. An alpha that is
     /// missing counts as the maximum.
+    ///
+    /// # Examples
+    ///
+    /// ```rust
+    /// let (sand, stone) = (Rgb8::new(200, 160, 90), Rgb8::new(190, 165, 90));
+    /// let apart = Rgb::difference(sand, stone); // (10, 5, 0)
+    /// let near = Rgb::within_threshold(apart, Rgb8::new(16, 16, 16)); // true
+    /// ```
     pub fn within_threshold<P>(p: P, rhs: P) -> bool
     where
         P: Pixel<Model = Self>,

@@ -18,6 +18,14 @@ use pix_chan::chan::Channel;
 pub mod run;
 
 /// An operator as a value: what a [`Blend`] is as a type.
+///
+/// # Examples
+///
+/// ```rust
+/// let by_name = Op::from_name(Op::SrcOver.name().as_bytes()); // Some(Op::SrcOver)
+/// let by_number = Op::from_number(2); // Some(Op::SrcOver), which is Op::ALL[2]
+/// let none = Op::from_name(b"srcover"); // None: exact in case
+/// ```
 #[derive(Clone, Copy, Debug, Eq)]
 pub enum Op {
     /// The source alone: `src`.
@@ -69,6 +77,15 @@ impl PartialEq for Op {
 }
 
 /// An operator as a type. This trait is sealed: the operators are the unit structs of this module.
+///
+/// # Examples
+///
+/// ```rust
+/// let (src, sa) = (Ch8::new(50), Ch8::new(128));
+/// let (mut dst, da) = (Ch8::new(200), Ch8::MAX);
+/// SrcOver::composite(&mut dst, Ch8::MAX - da, &src, Ch8::MAX - sa); // 50 + 200 * 127/255
+/// Op::Plus.composite(&mut dst, Ch8::MAX - da, &src, Ch8::MAX - sa); // 50 more
+/// ```
 pub trait Blend: Sealed + Copy {
     /// The operator as a value.
     ghost op: { Op };
@@ -199,6 +216,14 @@ impl Op {
     }
 
     /// Returns the operator of a name, exact in case.
+    ///
+    /// # Examples
+    ///
+    /// ```rust
+    /// let by_name = Op::from_name(Op::SrcOver.name().as_bytes()); // Some(Op::SrcOver)
+    /// let by_number = Op::from_number(2); // Some(Op::SrcOver), which is Op::ALL[2]
+    /// let none = Op::from_name(b"srcover"); // None: exact in case
+    /// ```
     #[tactic(auto, unfolding(crate::specs::OperatorNames::operator_of))]
     pub fn from_name(name: &[u8]) -> Option<Op>
         ensures { result ≡ operator_of name.now }
@@ -226,6 +251,15 @@ impl Op {
     }
 
     /// Composites the channel `src` with `dst`, where `da1` and `sa1` are one minus the alphas of `dst` and `src`.
+    ///
+    /// # Examples
+    ///
+    /// ```rust
+    /// let (src, sa) = (Ch8::new(50), Ch8::new(128));
+    /// let (mut dst, da) = (Ch8::new(200), Ch8::MAX);
+    /// SrcOver::composite(&mut dst, Ch8::MAX - da, &src, Ch8::MAX - sa); // 50 + 200 * 127/255
+    /// Op::Plus.composite(&mut dst, Ch8::MAX - da, &src, Ch8::MAX - sa); // 50 more
+    /// ```
     pub fn composite<C: Channel>(self, dst: &mut C, da1: C, src: &C, sa1: C)
         ensures { C.number dst.new ≡ channel_composite C.max self
             (C.number src.now) (C.max - C.number sa1) (C.number dst.old) (C.max - C.number da1) }

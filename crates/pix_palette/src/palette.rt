@@ -26,6 +26,16 @@ impl Palette {
     /// # Errors
     ///
     /// `Memory` on allocation failure, and where the limit is too large to be reserved.
+    ///
+    /// # Examples
+    ///
+    /// ```rust
+    /// let (red, blue) = (SRgb8::new::<u8>(200, 0, 0), SRgb8::new::<u8>(0, 0, 200));
+    /// let mut palette = Palette::new(alloc, 16)?;
+    /// palette.set_entry(red); // Some(0)
+    /// palette.set_entry(blue); // Some(1)
+    /// palette.set_entry(red); // Some(0): it stands there
+    /// ```
     pub fn new(alloc: Global, limit: usize) -> Result<Palette, RasterFault>
         ensures colors { IfOk result (λ p. length p.colors.items ≡ 0) }
         ensures limit { IfOk result (λ p. p.limit ≡ limit) }
@@ -41,6 +51,15 @@ impl Palette {
     }
 
     /// Returns the number of entries.
+    ///
+    /// # Examples
+    ///
+    /// ```rust
+    /// let size = palette.len(); // 2
+    /// let second = palette.entry(1); // Some(blue)
+    /// let none = palette.entry(2); // None
+    /// palette.replace_entry(1, red); // Some(blue), which entry 1 was
+    /// ```
     pub fn len(&self) -> usize
         ensures { result ≡ length self.now.colors.items }
     {
@@ -55,6 +74,16 @@ impl Palette {
     }
 
     /// Returns the colors in order.
+    ///
+    /// # Examples
+    ///
+    /// ```rust
+    /// let Ok(table) = Vec::from_slice(alloc, palette.colors()) else {
+    ///     return Err(RasterFault::Memory);
+    /// };
+    /// let bytes = image.to_u8_vec(alloc)?;
+    /// Ok(Some((table, bytes)))
+    /// ```
     pub fn colors(&self) -> &[SRgb8]
         ensures { result.now ≡ self.now.colors.items }
     {
@@ -62,6 +91,15 @@ impl Palette {
     }
 
     /// Returns the color of entry `i`, or `None` past the end.
+    ///
+    /// # Examples
+    ///
+    /// ```rust
+    /// let size = palette.len(); // 2
+    /// let second = palette.entry(1); // Some(blue)
+    /// let none = palette.entry(2); // None
+    /// palette.replace_entry(1, red); // Some(blue), which entry 1 was
+    /// ```
     pub fn entry(&self, i: usize) -> Option<SRgb8>
         ensures { result ≡ slice_get self.now.colors.items i }
     {
@@ -71,6 +109,20 @@ impl Palette {
     /// Keeps a function that returns, for a number of entries, how far a color may be from its match in each channel.
     ///
     /// Condition: it may be called for every number from 0 to the limit.
+    ///
+    /// # Examples
+    ///
+    /// ```rust
+    /// pub fn near(_entries: usize) -> SRgb8 {
+    ///     SRgb8::new::<u8>(48, 48, 48)
+    /// }
+    /// ```
+    ///
+    /// ```rust
+    /// let mut palette = Palette::new(alloc, 99)?;
+    /// palette.set_threshold_fn(near);
+    /// let spare = palette.try_clone(alloc)?;
+    /// ```
     pub fn set_threshold_fn(&mut self, f: fn(usize) -> SRgb8)
         requires { (n : ℕ) → n ≤ self.old.limit → Threshold.pre f n }
         ensures colors { self.new.colors.items ≡ self.old.colors.items }
@@ -114,6 +166,16 @@ impl Palette {
 
     /// Sets a color: answers the index of its match if that is within the threshold of the present number of entries, else appends the color and
     /// answers its index, or answers `None` where the limit is reached. It takes no memory.
+    ///
+    /// # Examples
+    ///
+    /// ```rust
+    /// let (red, blue) = (SRgb8::new::<u8>(200, 0, 0), SRgb8::new::<u8>(0, 0, 200));
+    /// let mut palette = Palette::new(alloc, 16)?;
+    /// palette.set_entry(red); // Some(0)
+    /// palette.set_entry(blue); // Some(1)
+    /// palette.set_entry(red); // Some(0): it stands there
+    /// ```
     pub fn set_entry(&mut self, clr: SRgb8) -> Option<usize>
         ensures set { IsSet
             (Answers Threshold.post (option_map (λ kept. kept.f) self.old.threshold))
@@ -142,6 +204,15 @@ impl Palette {
     }
 
     /// Replaces the color of entry `i` and answers the old one, or `None` past the end, where nothing changes.
+    ///
+    /// # Examples
+    ///
+    /// ```rust
+    /// let size = palette.len(); // 2
+    /// let second = palette.entry(1); // Some(blue)
+    /// let none = palette.entry(2); // None
+    /// palette.replace_entry(1, red); // Some(blue), which entry 1 was
+    /// ```
     pub fn replace_entry(&mut self, i: usize, clr: SRgb8) -> Option<SRgb8>
         ensures old { result ≡ slice_get self.old.colors.items i }
         ensures colors { self.new.colors.items ≡ slice_set self.old.colors.items i clr }
@@ -162,6 +233,14 @@ impl Palette {
     /// # Errors
     ///
     /// `Memory` on allocation failure, which comes first.
+    ///
+    /// # Examples
+    ///
+    /// ```rust
+    /// let mut palette = Palette::new(alloc, 16)?;
+    /// palette.set_entry(SRgb8::new::<u8>(200, 0, 0));
+    /// let counts = palette.histogram(alloc, &[0_u8, 0, 0])?; // Some of the list [3]
+    /// ```
     pub fn histogram<T: PaletteIndex>(
         &self,
         alloc: Global,
@@ -188,6 +267,14 @@ impl Palette {
     /// # Errors
     ///
     /// `Memory` on allocation failure.
+    ///
+    /// # Examples
+    ///
+    /// ```rust
+    /// let mut palette = Palette::new(alloc, 99)?;
+    /// palette.set_threshold_fn(near);
+    /// let spare = palette.try_clone(alloc)?;
+    /// ```
     pub fn try_clone(&self, alloc: Global) -> Result<Palette, RasterFault>
         ensures colors { IfOk result (λ p. p.colors.items ≡ self.now.colors.items) }
         ensures limit { IfOk result (λ p. p.limit ≡ self.now.limit) }

@@ -7,6 +7,19 @@ use crate::region::Region;
 use pix_ops::ops::Op;
 
 /// A change of a raster of pixels `P`, as a value. `M` is the format of the coverage masks.
+///
+/// # Examples
+///
+/// ```rust
+///     let (reg, clr) = (Region::new(8, 8, 16, 16), Rgba8p::new(0, 0, 64, 64));
+///     let op = Op::SrcOver;
+///     let commands: [Command<'_, Rgba8p, Matte8>; 3] = [
+///         Command::Clear,
+///         Command::CopyColor { reg, clr },
+///         Command::Color { reg, clr, op },
+///     ];
+///     page.run(&commands);
+/// ```
 #[derive(Drop)]
 pub enum Command<'a, P, M> {
     /// Clears the raster, as [`Raster::clear`] does.

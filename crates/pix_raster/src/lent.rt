@@ -20,6 +20,16 @@ pub struct Shape {
 }
 
 /// A change of the pixels of a row, each by itself.
+///
+/// # Examples
+///
+/// ```rust
+/// fn fill(&self, row: &mut [u32]) {
+///     for word in row.iter_mut() {
+///         *word = self.word;
+///     }
+/// }
+/// ```
 pub trait Fill<D> {
     /// What it needs of the format.
     ghost can_fill: { Type 0 };

@@ -25,6 +25,14 @@ mod row_change;
 mod samples;
 
 /// An image: `width` times `height` pixels of the format `P`, row by row from the top.
+///
+/// # Examples
+///
+/// ```rust
+/// let mut page = Raster::with_color(alloc, 64, 48, Rgba8p::new(255, 255, 255, 255))?;
+/// page.copy_color(Region::new(-8, 40, 16, 16), Rgba8p::new(255, 0, 0, 255));
+/// page.composite_color(
+/// ```
 #[derive(Drop)]
 pub struct Raster<P> {
     width: u32,
@@ -51,6 +59,15 @@ impl<P: Pixel> Raster<P> {
     /// # Errors
     ///
     /// `WidthTooBig`, `HeightTooBig` or `TooBig`, the first that applies; `Memory` on allocation failure.
+    ///
+    /// # Examples
+    ///
+    /// ```rust
+    /// let page = Raster::<Rgba8p>::with_clear(alloc, 64, 48)?;
+    /// let size = (page.width(), page.height()); // (64, 48)
+    /// let all = page.region(); // Region::new(0, 0, 64, 48)
+    /// let part = page.intersection(Region::new(60, 40, 9, 9)); // Region::new(60, 40, 4, 8)
+    /// ```
     pub fn with_clear(alloc: Global, width: u32, height: u32) -> Result<Raster<P>, RasterFault>
         ensures ok { IfOk result (λ r. (r.width ≡ width) × (r.height ≡ height)
             × (map P.numbers r.pixels ≡ replicate (height * width) (replicate P.layout.count 0))) }
@@ -67,6 +84,14 @@ impl<P: Pixel> Raster<P> {
     /// # Errors
     ///
     /// `WidthTooBig`, `HeightTooBig` or `TooBig`, the first that applies; `Memory` on allocation failure.
+    ///
+    /// # Examples
+    ///
+    /// ```rust
+    /// let mut picture = Raster::with_color(alloc, 32, 16, sky)?;
+    /// picture.composite_color(Region::new(20, 2, 6, 6), sun, SrcOver);
+    /// Ok(picture)
+    /// ```
     pub fn with_color(
         alloc: Global,
         width: u32,
@@ -93,6 +118,15 @@ impl<P: Pixel> Raster<P> {
     }
 
     /// Returns the width in columns, at most 2147483647.
+    ///
+    /// # Examples
+    ///
+    /// ```rust
+    /// let page = Raster::<Rgba8p>::with_clear(alloc, 64, 48)?;
+    /// let size = (page.width(), page.height()); // (64, 48)
+    /// let all = page.region(); // Region::new(0, 0, 64, 48)
+    /// let part = page.intersection(Region::new(60, 40, 9, 9)); // Region::new(60, 40, 4, 8)
+    /// ```
     pub fn width(&self) -> u32
         ensures value { result ≡ self.now.width }
         ensures limited { result ≤ limit }
@@ -109,6 +143,15 @@ impl<P: Pixel> Raster<P> {
     }
 
     /// Returns the region of all points: from (0, 0) on, as wide and as high as the raster.
+    ///
+    /// # Examples
+    ///
+    /// ```rust
+    /// let page = Raster::<Rgba8p>::with_clear(alloc, 64, 48)?;
+    /// let size = (page.width(), page.height()); // (64, 48)
+    /// let all = page.region(); // Region::new(0, 0, 64, 48)
+    /// let part = page.intersection(Region::new(60, 40, 9, 9)); // Region::new(60, 40, 4, 8)
+    /// ```
     pub fn region(&self) -> Region
         ensures { result ≡ region_of self.now }
     {
@@ -116,6 +159,15 @@ impl<P: Pixel> Raster<P> {
     }
 
     /// Returns `reg` clipped to the raster, or (0, 0, 0, 0) where none of its points lies there.
+    ///
+    /// # Examples
+    ///
+    /// ```rust
+    /// let page = Raster::<Rgba8p>::with_clear(alloc, 64, 48)?;
+    /// let size = (page.width(), page.height()); // (64, 48)
+    /// let all = page.region(); // Region::new(0, 0, 64, 48)
+    /// let part = page.intersection(Region::new(60, 40, 9, 9)); // Region::new(60, 40, 4, 8)
+    /// ```
     pub fn intersection(&self, reg: Region) -> Region
         ensures value { result ≡ intersection_of reg (region_of self.now) }
         ensures points { (x y : ℤ) → covers result x y ≡
@@ -126,6 +178,14 @@ impl<P: Pixel> Raster<P> {
     }
 
     /// Returns the pixel at (`x`, `y`). Condition: the point lies in the raster.
+    ///
+    /// # Examples
+    ///
+    /// ```rust
+    /// let mut page = Raster::with_color(alloc, 4, 3, Gray8::new(7))?;
+    /// *page.pixel_mut(2, 1) = Gray8::new(255);
+    /// let pixel = page.pixel(2, 1); // Gray8::new(255)
+    /// ```
     pub fn pixel(&self, x: i32, y: i32) -> P
         requires { IsPoint self.now x y }
         ensures { (column row : ℕ) → x ≡ pos column → y ≡ pos row →
@@ -135,6 +195,14 @@ impl<P: Pixel> Raster<P> {
     }
 
     /// Returns all pixels, row by row from the top.
+    ///
+    /// # Examples
+    ///
+    /// ```rust
+    /// page.pixels_mut().fill(Gray8::new(9));
+    /// let first = page.pixels().first(); // Some(&Gray8::new(9))
+    /// let count = page.pixels().len(); // 12
+    /// ```
     pub fn pixels(&self) -> &[P]
         ensures pixels { result.now ≡ self.now.pixels }
         ensures count { length result.now ≡ self.now.height * self.now.width }
@@ -147,6 +215,14 @@ impl<P> Raster<P> {
     /// Returns the pixel at (`x`, `y`) as a mutable reference. What is written stands at that point, and no other pixel changes.
     ///
     /// Condition: the point lies in the raster.
+    ///
+    /// # Examples
+    ///
+    /// ```rust
+    /// let mut page = Raster::with_color(alloc, 4, 3, Gray8::new(7))?;
+    /// *page.pixel_mut(2, 1) = Gray8::new(255);
+    /// let pixel = page.pixel(2, 1); // Gray8::new(255)
+    /// ```
     pub fn pixel_mut(&mut self, x: i32, y: i32) -> &mut P
         requires { IsPoint self.old x y }
         ensures* lends { sem 𝓛 (Lends (the_row P.row) P.row self.entry result
@@ -159,6 +235,14 @@ impl<P> Raster<P> {
     }
 
     /// Returns all pixels as a mutable slice, row by row from the top. What is written stands at those points.
+    ///
+    /// # Examples
+    ///
+    /// ```rust
+    /// page.pixels_mut().fill(Gray8::new(9));
+    /// let first = page.pixels().first(); // Some(&Gray8::new(9))
+    /// let count = page.pixels().len(); // 12
+    /// ```
     pub fn pixels_mut(&mut self) -> &mut [P]
         ensures* lends { sem 𝓛 (Lends (the_row P.row) (Array P.row 0) self.entry result
             (with_pixels self.old)) }
@@ -169,6 +253,15 @@ impl<P> Raster<P> {
     }
 
     /// Returns an iterator over the rows of `reg`, clipped to the raster, from top to bottom.
+    ///
+    /// # Examples
+    ///
+    /// ```rust
+    /// let mut pixels = Vec::new(alloc);
+    /// for row in picture.rows(reg) {
+    ///     pixels.extend_from_slice(row)?;
+    /// }
+    /// ```
     pub fn rows(&self, reg: Region) -> Rows<'_, P>
         ensures rows { result ≡ rows_of self.now reg }
         ensures count { length result ≡ (clipped self.now reg).height }
@@ -186,6 +279,16 @@ impl<P> Raster<P> {
 
     /// Returns an iterator over the rows of `reg`, clipped to the raster, from top to bottom, as mutable
     /// slices. Each has the pixels that stand there.
+    ///
+    /// # Examples
+    ///
+    /// ```rust
+    /// let mut shade = 0_u8;
+    /// for row in page.rows_mut(Region::new(8, 8, 16, 16)) {
+    ///     row.fill(Gray8::new(shade));
+    ///     shade = shade.wrapping_add(16);
+    /// }
+    /// ```
     pub fn rows_mut(&mut self, reg: Region) -> RowsMut<'_, P>
         ensures rows { result ≡ rows_of self.old reg }
         ensures count { length result ≡ (clipped self.old reg).height }
@@ -205,6 +308,18 @@ impl<P> Raster<P> {
     /// there; any `y` is allowed.
     ///
     /// What is written stands at those points, and no other pixel changes.
+    ///
+    /// # Examples
+    ///
+    /// ```rust
+    /// match picture.row_mut(y, reg) {
+    ///     None => false,
+    ///     Some(row) => {
+    ///         row.fill(clr);
+    ///         true
+    ///     }
+    /// }
+    /// ```
     pub fn row_mut(&mut self, y: i32, reg: Region) -> Option<&mut [P]>
         ensures* lends { sem 𝓛 (LendsIf (the_row P.row) (Array P.row 0) self.entry result
             (with_run self.old (place_of self.old (clipped self.old reg).left y)) self.old) }

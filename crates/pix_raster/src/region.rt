@@ -8,6 +8,15 @@ use std::marker::Model;
 pub(crate) const LIMIT: u32 = 2147483647;
 
 /// A rectangle of points: its left and top coordinates, and its width and height of at most 2147483647.
+///
+/// # Examples
+///
+/// ```rust
+/// let window = Region::new(-3, 2, 10, 5);
+/// let first = (window.left(), window.top()); // (-3, 2)
+/// let after = (window.right(), window.bottom()); // (7, 7), the first point that lies beyond
+/// let size = (window.width(), window.height()); // (10, 5)
+/// ```
 #[derive(Clone, Copy, Debug, PartialEq, Eq)]
 pub struct Region {
     x: i32,
@@ -31,6 +40,15 @@ impl Model for Region {
 
 impl Region {
     /// Creates the region of that left and top coordinate, width and height. Condition: width and height are at most 2147483647.
+    ///
+    /// # Examples
+    ///
+    /// ```rust
+    /// let window = Region::new(-3, 2, 10, 5);
+    /// let first = (window.left(), window.top()); // (-3, 2)
+    /// let after = (window.right(), window.bottom()); // (7, 7), the first point that lies beyond
+    /// let size = (window.width(), window.height()); // (10, 5)
+    /// ```
     pub fn new(x: i32, y: i32, width: u32, height: u32) -> Region
         requires wide { width ≤ limit }
         requires high { height ≤ limit }
@@ -46,6 +64,14 @@ impl Region {
 
     /// Creates the region of that left and top coordinate, width and height, or returns `None` where the width or the height is above
     /// 2147483647.
+    ///
+    /// # Examples
+    ///
+    /// ```rust
+    /// let window = Region::new(-3, 2, 10, 5);
+    /// let common = window.intersection(Region::new(5, 0, 9, 3)); // Region::new(5, 2, 2, 1)
+    /// let too_wide = Region::try_new(0, 0, 2147483648, 1); // None
+    /// ```
     pub fn try_new(x: i32, y: i32, width: u32, height: u32) -> Option<Region>
         ensures fits { width ≤ limit → height ≤ limit
             → result ≡ Some (record { left = x; top = y; width = width; height = height }) }
@@ -90,6 +116,15 @@ impl Region {
     }
 
     /// Returns the first column to the right of the region, saturating at 2147483647.
+    ///
+    /// # Examples
+    ///
+    /// ```rust
+    /// let window = Region::new(-3, 2, 10, 5);
+    /// let first = (window.left(), window.top()); // (-3, 2)
+    /// let after = (window.right(), window.bottom()); // (7, 7), the first point that lies beyond
+    /// let size = (window.width(), window.height()); // (10, 5)
+    /// ```
     pub fn right(self) -> i32
         ensures { result ≡ right self }
     {
@@ -104,6 +139,14 @@ impl Region {
     }
 
     /// Returns the region of the points that lie in both, or (0, 0, 0, 0) where there are none.
+    ///
+    /// # Examples
+    ///
+    /// ```rust
+    /// let window = Region::new(-3, 2, 10, 5);
+    /// let common = window.intersection(Region::new(5, 0, 9, 3)); // Region::new(5, 2, 2, 1)
+    /// let too_wide = Region::try_new(0, 0, 2147483648, 1); // None
+    /// ```
     pub fn intersection(self, rhs: Region) -> Region
         ensures value { result ≡ intersection_of self rhs }
         ensures points { (x y : ℤ) → covers result x y ≡ (covers self x y && covers rhs x y) }
@@ -143,6 +186,14 @@ impl Default for Region {
 }
 
 /// Creates the region from (0, 0) on with the maximum width and height.
+///
+/// # Examples
+///
+/// ```rust
+/// let all = Region::from(()); // from (0, 0) on, 2147483647 wide and high
+/// let below = Region::from((4, 4)); // from (4, 4) on, as large
+/// let cut = Region::from((4, 4, 10, u32::MAX)); // Region::new(4, 4, 10, 2147483647)
+/// ```
 impl From<()> for Region {
     ghost from_gives = { λ _ r. r ≡
         record { left = pos 0; top = pos 0; width = limit; height = limit } };

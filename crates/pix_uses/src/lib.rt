@@ -3,6 +3,7 @@
 
 pub mod bytes;
 pub mod colors;
+pub mod examples;
 pub mod frames;
 pub mod lists;
 pub mod models;

@@ -13,6 +13,14 @@ use std::ops::{Add, Div, Mul, Sub};
 mod planes;
 
 /// A channel of 16 bits: a whole number of units from 0 to 65535.
+///
+/// # Examples
+///
+/// ```rust
+/// let fine = Ch16::from(Ch8::new(171));
+/// let units = fine.to_u32(); // 43947: 171 * 257
+/// let coarse = Ch8::from(fine); // 171
+/// ```
 #[derive(Clone, Copy, Debug, PartialEq, Eq, PartialOrd, Ord)]
 pub struct Ch16 {
     value: u16,

@@ -16,6 +16,14 @@ mod lanes;
 mod planes;
 
 /// A channel of 8 bits: a whole number of units from 0 to 255.
+///
+/// # Examples
+///
+/// ```rust
+/// let half = Ch8::new(128);
+/// let quarter = half * half; // 64: 128 * 128 / 255 is 64.25
+/// let again = quarter / half; // 128: 256 * 64 / 128
+/// ```
 #[derive(Clone, Copy, Debug, PartialEq, Eq, PartialOrd, Ord)]
 pub struct Ch8 {
     value: u8,

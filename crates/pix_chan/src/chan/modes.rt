@@ -9,6 +9,16 @@ use crate::private::Sealed;
 use std::fmt::Debug;
 
 /// An alpha mode: whether color channels are stored multiplied by the alpha. This trait is sealed.
+///
+/// # Examples
+///
+/// ```rust
+/// let light = Ch8::new(188).decode_srgb(); // 128
+/// let shown = light.encode_srgb(); // 188
+/// let same = <Srgb as Gamma<Ch8>>::to_linear(shown); // 128
+/// let stored = Premultiplied::encode(same, light); // 64
+/// let straight = Premultiplied::decode(stored, light); // 128
+/// ```
 pub trait Alpha: Sealed + Clone + Copy + Debug + Default + PartialEq {
     /// The mode as a row of the table of alpha modes.
     ghost mode: { AlphaMode };
@@ -32,6 +42,16 @@ pub trait Alpha: Sealed + Clone + Copy + Debug + Default + PartialEq {
 }
 
 /// A gamma mode: how a channel of type `C` encodes light. This trait is sealed.
+///
+/// # Examples
+///
+/// ```rust
+/// let light = Ch8::new(188).decode_srgb(); // 128
+/// let shown = light.encode_srgb(); // 188
+/// let same = <Srgb as Gamma<Ch8>>::to_linear(shown); // 128
+/// let stored = Premultiplied::encode(same, light); // 64
+/// let straight = Premultiplied::decode(stored, light); // 128
+/// ```
 pub trait Gamma<C: Channel>: Sealed + Clone + Copy + Debug + Default + PartialEq {
     /// The mode as a row of the table of gamma modes.
     ghost mode: { GammaMode };

@@ -40,6 +40,14 @@ pub(crate) const ENCODE: [u8; 256] = [
 
 impl Ch8 {
     /// Returns the linear channel that the sRGB curve encodes as this one.
+    ///
+    /// # Examples
+    ///
+    /// ```rust
+    /// let light = Ch8::new(188).decode_srgb(); // 128
+    /// let shown = light.encode_srgb(); // 188
+    /// let same = <Srgb as Gamma<Ch8>>::to_linear(shown); // 128
+    /// ```
     pub fn decode_srgb(self) -> Ch8
         ensures value { result.value ≡ srgb_decoded self.value }
         ensures curve { IsCurve srgb_decoded }
@@ -48,6 +56,14 @@ impl Ch8 {
     }
 
     /// Returns this linear channel as the sRGB curve encodes it.
+    ///
+    /// # Examples
+    ///
+    /// ```rust
+    /// let light = Ch8::new(188).decode_srgb(); // 128
+    /// let shown = light.encode_srgb(); // 188
+    /// let same = <Srgb as Gamma<Ch8>>::to_linear(shown); // 128
+    /// ```
     pub fn encode_srgb(self) -> Ch8
         ensures value { result.value ≡ srgb_encoded self.value }
         ensures curve { IsCurve srgb_encoded }

@@ -10,6 +10,14 @@ use std::marker::PhantomData;
 
 impl<const N: usize, C, M, A, G> Pix<N, C, M, A, G> {
     /// The pixel of these channels.
+    ///
+    /// # Examples
+    ///
+    /// ```rust
+    /// let glass = Rgba8p::new(0, 0, 64, 64); // red, green, blue and alpha
+    /// let white = Rgba16p::with_channels([Ch16::new(65535); 4]);
+    /// let blue = Rgb8::from_channels(glass.channels()); // its first three channels
+    /// ```
     pub const fn with_channels(channels: [C; N]) -> Self
         ensures { result.channels ≡ channels }
     {
@@ -91,6 +99,14 @@ impl<C, M, A, G> Pix<3, C, M, A, G> {
 
 impl<C, M, A, G> Pix<4, C, M, A, G> {
     /// The pixel of four channels.
+    ///
+    /// # Examples
+    ///
+    /// ```rust
+    /// let glass = Rgba8p::new(0, 0, 64, 64); // red, green, blue and alpha
+    /// let white = Rgba16p::with_channels([Ch16::new(65535); 4]);
+    /// let blue = Rgb8::from_channels(glass.channels()); // its first three channels
+    /// ```
     pub fn new<H>(one: H, two: H, three: H, four: H) -> Self
     where
         C: From<H>,

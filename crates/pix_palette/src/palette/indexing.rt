@@ -24,6 +24,16 @@ impl Palette {
     /// # Errors
     ///
     /// `Memory` on allocation failure, with the raster; it comes first, and the palette is unchanged.
+    ///
+    /// # Examples
+    ///
+    /// ```rust
+    /// let mut palette = Palette::new(alloc, 256)?;
+    /// match palette.make_indexed(alloc, picture) {
+    ///     Ok(indices) => Ok(indices), // None: the picture has more than 256 colors
+    ///     Err((fault, _)) => Err(fault),
+    /// }
+    /// ```
     pub fn make_indexed<S>(
         &mut self,
         alloc: Global,
@@ -55,6 +65,16 @@ impl Palette {
     /// # Errors
     ///
     /// `Memory` on allocation failure, with the raster; it comes first, and the palette is unchanged.
+    ///
+    /// # Examples
+    ///
+    /// ```rust
+    /// match palette.make_indexed_wide(alloc, picture) {
+    ///     Ok(Some(_)) => Ok(Some(palette.len())),
+    ///     Ok(None) => Ok(Some(spare.len())),
+    ///     Err((fault, _)) => Err(fault),
+    /// }
+    /// ```
     pub fn make_indexed_wide<S>(
         &mut self,
         alloc: Global,

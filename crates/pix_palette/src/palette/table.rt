@@ -16,6 +16,16 @@ pub struct Kept {
 }
 
 /// A list of colors, no more than its limit. A color is matched to one of them within a threshold.
+///
+/// # Examples
+///
+/// ```rust
+/// let (red, blue) = (SRgb8::new::<u8>(200, 0, 0), SRgb8::new::<u8>(0, 0, 200));
+/// let mut palette = Palette::new(alloc, 16)?;
+/// palette.set_entry(red); // Some(0)
+/// palette.set_entry(blue); // Some(1)
+/// palette.set_entry(red); // Some(0): it stands there
+/// ```
 #[derive(Drop)]
 pub struct Palette {
     pub(super) colors: Vec<SRgb8>,

@@ -18,6 +18,16 @@ impl<P: Pixel> Raster<P> {
     ///
     /// `WidthTooBig`, `HeightTooBig`, `TooBig`, or `WrongLength` where there are more or fewer pixels: the first that applies. The pixels are
     /// handed back.
+    ///
+    /// # Examples
+    ///
+    /// ```rust
+    /// // Six pixels, or they are handed back.
+    /// match Raster::with_pixels(3, 2, pixels) {
+    ///     Ok(picture) => picture.into_pixels(),
+    ///     Err((_, pixels)) => pixels,
+    /// }
+    /// ```
     pub fn with_pixels(
         width: u32,
         height: u32,
@@ -41,6 +51,16 @@ impl<P: Pixel> Raster<P> {
     }
 
     /// Takes the pixels out, row by row from the top. It takes no memory.
+    ///
+    /// # Examples
+    ///
+    /// ```rust
+    /// // Six pixels, or they are handed back.
+    /// match Raster::with_pixels(3, 2, pixels) {
+    ///     Ok(picture) => picture.into_pixels(),
+    ///     Err((_, pixels)) => pixels,
+    /// }
+    /// ```
     pub fn into_pixels(self) -> Vec<P>
         ensures pixels { result.items ≡ self.pixels }
         ensures count { vec_len result ≡ self.height * self.width }
@@ -57,6 +77,14 @@ impl<P: Pixel> Raster<P> {
     /// # Errors
     ///
     /// `Memory` on allocation failure.
+    ///
+    /// # Examples
+    ///
+    /// ```rust
+    /// let copy = page.try_clone(alloc)?;
+    /// page.clear();
+    /// page.copy_raster(Region::from((8, 8)), &copy, copy.region()); // clipped to the page
+    /// ```
     pub fn try_clone(&self, alloc: Global) -> Result<Raster<P>, RasterFault>
         ensures ok { IfOk result (λ copy. copy ≡ self.now) }
         ensures refused { IfErr result (λ fault. fault ≡ RasterFault.Memory) }
@@ -111,6 +139,15 @@ where
     ///
     /// `WidthTooBig`, `HeightTooBig`, `TooBig`, `EmptyBuffer` where width or height is 0, or `WrongLength` where there are more or fewer
     /// bytes than channels: the first that applies; else `Memory` on allocation failure. The bytes are handed back.
+    ///
+    /// # Examples
+    ///
+    /// ```rust
+    /// let picture = match Raster::<Gray8>::with_u8_buffer(alloc, 3, 2, bytes) {
+    ///     Ok(picture) => picture,
+    ///     Err((fault, _)) => return Err(fault),
+    /// };
+    /// ```
     pub fn with_u8_buffer(
         alloc: Global,
         width: u32,
@@ -136,6 +173,15 @@ where
     /// # Errors
     ///
     /// `Memory` on allocation failure; the raster is handed back.
+    ///
+    /// # Examples
+    ///
+    /// ```rust
+    /// match picture.into_u8_vec(alloc) {
+    ///     Ok(copied) => Ok(copied),
+    ///     Err((fault, _)) => Err(fault),
+    /// }
+    /// ```
     pub fn into_u8_vec(self, alloc: Global) -> Result<Vec<u8>, (RasterFault, Self)>
         ensures ok { IfOk result (λ bytes. bytes.items ≡
             channels_of ⟦<Pix<N, Ch8, M, A, G> as Pixel>⟧.numbers self) }
@@ -157,6 +203,16 @@ where
     /// # Errors
     ///
     /// `Memory` on allocation failure.
+    ///
+    /// # Examples
+    ///
+    /// ```rust
+    /// let Ok(table) = Vec::from_slice(alloc, palette.colors()) else {
+    ///     return Err(RasterFault::Memory);
+    /// };
+    /// let bytes = image.to_u8_vec(alloc)?;
+    /// Ok(Some((table, bytes)))
+    /// ```
     pub fn to_u8_vec(&self, alloc: Global) -> Result<Vec<u8>, RasterFault>
         ensures ok { IfOk result (λ bytes. bytes.items ≡
             channels_of ⟦<Pix<N, Ch8, M, A, G> as Pixel>⟧.numbers self.now) }
@@ -178,6 +234,15 @@ where
     ///
     /// `WidthTooBig`, `HeightTooBig`, `TooBig`, `EmptyBuffer` where width or height is 0, or `WrongLength` where there are more or fewer
     /// words than channels: the first that applies; else `Memory` on allocation failure. The words are handed back.
+    ///
+    /// # Examples
+    ///
+    /// ```rust
+    /// let picture = match Raster::<Gray16>::with_u16_buffer(alloc, 3, 2, words) {
+    ///     Ok(picture) => picture,
+    ///     Err((fault, _)) => return Err(fault),
+    /// };
+    /// ```
     pub fn with_u16_buffer(
         alloc: Global,
         width: u32,
@@ -203,6 +268,15 @@ where
     /// # Errors
     ///
     /// `Memory` on allocation failure; the raster is handed back.
+    ///
+    /// # Examples
+    ///
+    /// ```rust
+    /// match picture.into_u16_vec(alloc) {
+    ///     Ok(copied) => Ok(copied),
+    ///     Err((fault, _)) => Err(fault),
+    /// }
+    /// ```
     pub fn into_u16_vec(self, alloc: Global) -> Result<Vec<u16>, (RasterFault, Self)>
         ensures ok { IfOk result (λ words. words.items ≡
             channels_of ⟦<Pix<N, Ch16, M, A, G> as Pixel>⟧.numbers self) }

@@ -24,6 +24,14 @@ use pix_ops::ops::{Blend, OpVisitor};
 
 impl<P: Pixel> Raster<P> {
     /// Clears the raster: every pixel becomes the default one, whose channels are all 0.
+    ///
+    /// # Examples
+    ///
+    /// ```rust
+    /// let copy = page.try_clone(alloc)?;
+    /// page.clear();
+    /// page.copy_raster(Region::from((8, 8)), &copy, copy.region()); // clipped to the page
+    /// ```
     pub fn clear(&mut self)
         ensures { Changed P.numbers self.old self.new (done_at P.layout P.numbers
             (region_of self.old) Command.Clear) }
@@ -32,6 +40,14 @@ impl<P: Pixel> Raster<P> {
     }
 
     /// Copies `clr` to each point of `reg`, clipped to the raster. No other pixel changes.
+    ///
+    /// # Examples
+    ///
+    /// ```rust
+    /// let mut page = Raster::with_color(alloc, 64, 48, Rgba8p::new(255, 255, 255, 255))?;
+    /// page.copy_color(Region::new(-8, 40, 16, 16), Rgba8p::new(255, 0, 0, 255));
+    /// page.composite_color(
+    /// ```
     pub fn copy_color(&mut self, reg: Region, clr: P)
         ensures { Changed P.numbers self.old self.new (done_at P.layout P.numbers
             (region_of self.old) (Command.CopyColor reg clr)) }
@@ -43,6 +59,14 @@ impl<P: Pixel> Raster<P> {
     ///
     /// Points are paired by their offsets from the corners of both regions: an offset counts where it lies within the sides of both,
     /// its point of `to` in this raster and its point of `from` in `src`. No other pixel changes.
+    ///
+    /// # Examples
+    ///
+    /// ```rust
+    /// let copy = page.try_clone(alloc)?;
+    /// page.clear();
+    /// page.copy_raster(Region::from((8, 8)), &copy, copy.region()); // clipped to the page
+    /// ```
     pub fn copy_raster(&mut self, to: Region, src: &Raster<P>, from: Region)
         ensures { Changed P.numbers self.old self.new (done_at P.layout P.numbers
             (region_of self.old) (Command.CopyRaster to src.entry from)) }
@@ -107,6 +131,14 @@ impl<P: Pixel<Alpha = Premultiplied, Gamma = Linear>> Raster<P> {
     /// Composites `clr` with each pixel of `reg`, clipped to the raster. No other pixel changes.
     ///
     /// Condition: the format has an alpha channel.
+    ///
+    /// # Examples
+    ///
+    /// ```rust
+    /// let mut page = Raster::with_color(alloc, 64, 48, Rgba8p::new(255, 255, 255, 255))?;
+    /// page.copy_color(Region::new(-8, 40, 16, 16), Rgba8p::new(255, 0, 0, 255));
+    /// page.composite_color(
+    /// ```
     pub fn composite_color<O: Blend>(&mut self, reg: Region, clr: P, op: O)
         requires has_alpha { P.layout.count ≡ P.layout.alpha + 1 }
         ensures { Changed P.numbers self.old self.new (done_at P.layout P.numbers
@@ -119,6 +151,14 @@ impl<P: Pixel<Alpha = Premultiplied, Gamma = Linear>> Raster<P> {
     /// [`Raster::copy_raster`]. No other pixel changes.
     ///
     /// Condition: the format has an alpha channel.
+    ///
+    /// # Examples
+    ///
+    /// ```rust
+    /// let sprite = Raster::with_color(alloc, 16, 16, Rgba8p::new(0, 0, 64, 64))?;
+    /// let corner = Region::from((56, -8)); // partly outside of the page
+    /// page.composite_raster(corner, &sprite, sprite.region(), SrcOver);
+    /// ```
     pub fn composite_raster<O: Blend>(&mut self, to: Region, src: &Raster<P>, from: Region, op: O)
         requires has_alpha { P.layout.count ≡ P.layout.alpha + 1 }
         ensures { Changed P.numbers self.old self.new (done_at P.layout P.numbers
@@ -131,6 +171,14 @@ impl<P: Pixel<Alpha = Premultiplied, Gamma = Linear>> Raster<P> {
     /// through the matte that it is paired with, as by [`Raster::copy_raster`]. No other pixel changes.
     ///
     /// Condition: the format has an alpha channel.
+    ///
+    /// # Examples
+    ///
+    /// ```rust
+    /// let glyph = Raster::with_color(alloc, 5, 7, Matte8::new(128))?;
+    /// let (at, ink) = (Region::from((10, 10)), Rgba8p::new(64, 0, 0, 255));
+    /// page.composite_matte(at, &glyph, glyph.region(), ink, SrcOver);
+    /// ```
     pub fn composite_matte<const N: usize, A: Alpha, O: Blend>(
         &mut self,
         to: Region,
@@ -155,6 +203,19 @@ impl<P: Pixel<Alpha = Premultiplied, Gamma = Linear>> Raster<P> {
     /// It takes no memory and cannot fail.
     ///
     /// Condition: the format has an alpha channel.
+    ///
+    /// # Examples
+    ///
+    /// ```rust
+    ///     let (reg, clr) = (Region::new(8, 8, 16, 16), Rgba8p::new(0, 0, 64, 64));
+    ///     let op = Op::SrcOver;
+    ///     let commands: [Command<'_, Rgba8p, Matte8>; 3] = [
+    ///         Command::Clear,
+    ///         Command::CopyColor { reg, clr },
+    ///         Command::Color { reg, clr, op },
+    ///     ];
+    ///     page.run(&commands);
+    /// ```
     pub fn run<const N: usize, A: Alpha>(
         &mut self,
         commands: &[Command<'_, P, Pix<N, P::Chan, Matte, A, Linear>>],

@@ -17,6 +17,14 @@ impl<P: Pixel> Raster<P> {
     /// # Errors
     ///
     /// `Memory` where a request for memory was refused.
+    ///
+    /// # Examples
+    ///
+    /// ```rust
+    /// let mut light = Raster::<Rgba8p>::with_raster(alloc, photo)?;
+    /// Rgba8p::composite_color(light.pixels_mut(), &clr, SrcOver);
+    /// Raster::<SRgb8>::with_raster(alloc, &light)
+    /// ```
     pub fn with_raster<S>(alloc: Global, src: &Raster<S>) -> Result<Raster<P>, RasterFault>
     where
         S: Pixel,

@@ -1,0 +1,117 @@
+//! Rasters.
+ghost use Rattle.std.specs.Prelude.{◌≡◌, IfOk, IfErr};
+ghost use Rattle.pix_raster.specs.declared.fault.RasterFault.{RasterFault};
+
+use pix::gray::{Gray8, Gray16};
+use pix::matte::Matte8;
+use pix::ops::{Op, SrcOver};
+use pix::rgb::Rgba8p;
+use pix::{Command, Raster, RasterFault, Region};
+use std::alloc::Global;
+
+/// Makes a clear page, and asks for its size.
+pub fn sizes(alloc: Global) -> Result<((u32, u32), Region, Region), RasterFault>
+    ensures size { IfOk result (λ r. (r.0.0 ≡ 64) × (r.0.1 ≡ 48)) }
+{
+    let page = Raster::<Rgba8p>::with_clear(alloc, 64, 48)?;
+    let size = (page.width(), page.height()); // (64, 48)
+    let all = page.region(); // Region::new(0, 0, 64, 48)
+    let part = page.intersection(Region::new(60, 40, 9, 9)); // Region::new(60, 40, 4, 8)
+    Ok((size, all, part))
+}
+
+/// Writes a pixel, and reads it again.
+pub fn points(alloc: Global) -> Result<(Gray8, usize), RasterFault> {
+    let mut page = Raster::with_color(alloc, 4, 3, Gray8::new(7))?;
+    *page.pixel_mut(2, 1) = Gray8::new(255);
+    let pixel = page.pixel(2, 1); // Gray8::new(255)
+
+    page.pixels_mut().fill(Gray8::new(9));
+    let first = page.pixels().first(); // Some(&Gray8::new(9))
+    let count = page.pixels().len(); // 12
+    Ok((*first.unwrap_or(&pixel), count))
+}
+
+/// Makes a raster of pixels, and takes them out again.
+pub fn again(pixels: Vec<Gray8>) -> Vec<Gray8>
+    ensures { result.items ≡ pixels.items }
+{
+    // Six pixels, or they are handed back.
+    match Raster::with_pixels(3, 2, pixels) {
+        Ok(picture) => picture.into_pixels(),
+        Err((_, pixels)) => pixels,
+    }
+}
+
+/// Makes a raster of bytes, and copies them out again.
+pub fn bytes_again(alloc: Global, bytes: Vec<u8>) -> Result<Vec<u8>, RasterFault> {
+    let picture = match Raster::<Gray8>::with_u8_buffer(alloc, 3, 2, bytes) {
+        Ok(picture) => picture,
+        Err((fault, _)) => return Err(fault),
+    };
+    match picture.into_u8_vec(alloc) {
+        Ok(copied) => Ok(copied),
+        Err((fault, _)) => Err(fault),
+    }
+}
+
+/// Makes a raster of words, and copies them out again.
+pub fn words_again(alloc: Global, words: Vec<u16>) -> Result<Vec<u16>, RasterFault> {
+    let picture = match Raster::<Gray16>::with_u16_buffer(alloc, 3, 2, words) {
+        Ok(picture) => picture,
+        Err((fault, _)) => return Err(fault),
+    };
+    match picture.into_u16_vec(alloc) {
+        Ok(copied) => Ok(copied),
+        Err((fault, _)) => Err(fault),
+    }
+}
+
+/// Draws rectangles on a page, and moves what stands on it.
+pub fn moved(alloc: Global) -> Result<Raster<Rgba8p>, RasterFault> {
+    let mut page = Raster::with_color(alloc, 64, 48, Rgba8p::new(255, 255, 255, 255))?;
+    page.copy_color(Region::new(-8, 40, 16, 16), Rgba8p::new(255, 0, 0, 255));
+    page.composite_color(
+        Region::new(0, 0, 32, 48),
+        Rgba8p::new(0, 0, 64, 64),
+        SrcOver,
+    );
+
+    let copy = page.try_clone(alloc)?;
+    page.clear();
+    page.copy_raster(Region::from((8, 8)), &copy, copy.region()); // clipped to the page
+    Ok(page)
+}
+
+/// Composites a sprite, and a color through a coverage mask.
+pub fn composited(alloc: Global, page: &mut Raster<Rgba8p>) -> Result<(), RasterFault> {
+    let sprite = Raster::with_color(alloc, 16, 16, Rgba8p::new(0, 0, 64, 64))?;
+    let corner = Region::from((56, -8)); // partly outside of the page
+    page.composite_raster(corner, &sprite, sprite.region(), SrcOver);
+
+    let glyph = Raster::with_color(alloc, 5, 7, Matte8::new(128))?;
+    let (at, ink) = (Region::from((10, 10)), Rgba8p::new(64, 0, 0, 255));
+    page.composite_matte(at, &glyph, glyph.region(), ink, SrcOver);
+    Ok(())
+}
+
+/// Runs a list of commands.
+pub fn listed(page: &mut Raster<Rgba8p>) {
+    let (reg, clr) = (Region::new(8, 8, 16, 16), Rgba8p::new(0, 0, 64, 64));
+    let op = Op::SrcOver;
+    let commands: [Command<'_, Rgba8p, Matte8>; 3] = [
+        Command::Clear,
+        Command::CopyColor { reg, clr },
+        Command::Color { reg, clr, op },
+    ];
+    page.run(&commands);
+}
+
+/// Writes the rows of a region.
+pub fn striped(page: &mut Raster<Gray8>) {
+    let mut shade = 0_u8;
+    for row in page.rows_mut(Region::new(8, 8, 16, 16)) {
+        row.fill(Gray8::new(shade));
+        shade = shade.wrapping_add(16);
+    }
+}
