@@ -1,4 +1,4 @@
--- The hexcone: the circle of hues in six parts, and the hue of a color.
+-- The hexcone (A. R. Smith, 1978): the circle of hues in six parts, and the hue of a color.
 use Rattle.std.specs.Prelude.{ℕ, zero, suc, pos, ◌-◌, ◌+◌, ◌*◌, ◌/◌, ◌%◌, max, min, nat_eq, nat_le, if◌then◌else◌, List, [], ◌∷◌}
 use Rattle.pix_chan.specs.Number.{saturating_sum}
 use Rattle.pix_chan.specs.Product.{channel_product}

@@ -1,4 +1,4 @@
--- Hue, saturation and lightness.
+-- Hue, saturation and lightness (G. H. Joblove and D. Greenberg, 1978).
 use Rattle.std.specs.Prelude.{ℕ, ◌+◌, ◌-◌, ◌*◌, ◌/◌, min, List, [], ◌∷◌}
 use Rattle.pix_chan.specs.Product.{channel_product, channel_quotient}
 use Rattle.pix_el.specs.Color.{absolute_difference}

@@ -1,4 +1,4 @@
--- Hue, saturation and value.
+-- Hue, saturation and value (A. R. Smith, 1978).
 use Rattle.std.specs.Prelude.{ℕ, ◌-◌, List, [], ◌∷◌}
 use Rattle.pix_chan.specs.Product.{channel_product, channel_quotient}
 use Rattle.pix_color.specs.Hexcone.{lifted_rgb, hue_of, chroma_of, value_of}

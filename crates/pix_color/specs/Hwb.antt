@@ -1,4 +1,4 @@
--- Hue, whiteness and blackness.
+-- Hue, whiteness and blackness (A. R. Smith and E. R. Lyons, 1996).
 use Rattle.std.specs.Prelude.{ℕ, pos, ◌-◌, ◌+◌, ◌*◌, nat_lt, if◌then◌else◌, List, [], ◌∷◌}
 use Rattle.pix_chan.specs.Product.{channel_product, channel_quotient}
 use Rattle.pix_chan.specs.Nearest.{nearest}

@@ -16,7 +16,9 @@ use pix_el::model::ColorModel;
 use pix_el::seal::SealedModel;
 use std::ops::Range;
 
-/// The model of hue, saturation and lightness.
+/// The model of hue, saturation and lightness, from G. H. Joblove and D. Greenberg, *Color Spaces for Computer Graphics*, SIGGRAPH 1978.
+///
+/// The lightness is the middle of the greatest and the least of red, green and blue, and the saturation what the chroma has of its greatest there.
 ///
 /// # Examples
 ///

@@ -14,7 +14,9 @@ use pix_el::model::ColorModel;
 use pix_el::seal::SealedModel;
 use std::ops::Range;
 
-/// The model of hue, saturation and value.
+/// The model of hue, saturation and value: the hexcone of A. R. Smith, *Color Gamut Transform Pairs*, SIGGRAPH 1978.
+///
+/// The value is the greatest of red, green and blue, and the saturation what the chroma, the greatest less the least, has of it.
 ///
 /// # Examples
 ///

@@ -6,7 +6,8 @@ use crate::numbers::{complement, exact, max, nearest, number, product, sum};
 use pix_chan::reciprocals::quotient_by_byte;
 use pix_el::chan::Channel;
 
-/// A sixth of the hexcone, the circle of hues, from the color that it is named for on. Its weight says how far on.
+/// A sixth of the hexcone, the circle of hues (A. R. Smith, *Color Gamut Transform Pairs*, SIGGRAPH 1978), from the color that it is named for on. Its
+/// weight says how far on.
 ///
 /// # Examples
 ///

@@ -14,7 +14,10 @@ use pix_el::model::ColorModel;
 use pix_el::seal::SealedModel;
 use std::ops::Range;
 
-/// The model of hue, whiteness and blackness.
+/// The model of hue, whiteness and blackness, from A. R. Smith and E. R. Lyons, *HWB: A More Intuitive Hue-Based Color Model*, Journal of Graphics
+/// Tools 1(1), 1996.
+///
+/// The whiteness is the least of red, green and blue, and the blackness what the greatest lacks of the maximum.
 ///
 /// # Examples
 ///
