@@ -5,7 +5,7 @@ use Rattle.std.proofs.lemmas.Bool.Decides.{nat_tests}
 use Rattle.std.proofs.lemmas.List.{length-map, map-append, append-nil, get_or_append_left}
 use Rattle.std.proofs.Math.Seq.{get_or-append_seam}
 use Rattle.pix_el.specs.Color.{is_within}
-use Rattle.pix_palette.specs.PaletteMatch.{color_difference, difference_to, AreRecords, IsMatch}
+use Rattle.pix_palette.specs.PaletteMatch.{color_difference, difference_to, AreCandidates, IsMatch}
 use Rattle.pix_palette.specs.Palette.{Color, numbers, Answers, Fits, StandsFor, IsSet, set_answer, set_colors}
 use Rattle.pix_raster.specs.Image.{Image}
 use Rattle.pix_palette.specs.Indexing.{AreSet, AreGray, IsIndexed, Represents, AllRepresented, AllEqual, values}
@@ -58,13 +58,13 @@ represents_stays answers old new color i g h =
       fits = subst (λ entry. Fits answers h.count (color_difference entry color) true) (sym (entry_stays old new i g h.stands)) h.fits;
     }
 
--- the last record is an entry
-record_below : (d : ℕ → List ℕ) (n i : ℕ) (records : List ℕ) (m : ℕ) → i < n → AreRecords d n i records m → m < n
-record_below d n i [] m below h = let e : m ≡ i = h.0 in omega arith
-record_below d n i (j ∷ records) m below h = record_below d n j records m h.0.stands h.1
+-- the last candidate is an entry
+candidate_below : (d : ℕ → List ℕ) (n i : ℕ) (candidates : List ℕ) (m : ℕ) → i < n → AreCandidates d n i candidates m → m < n
+candidate_below d n i [] m below h = let e : m ≡ i = h.0 in omega arith
+candidate_below d n i (j ∷ candidates) m below h = candidate_below d n j candidates m h.0.stands h.1
 
 pub match_below : (entries : List (List ℕ)) (color : List ℕ) (m : ℕ) → IsMatch entries color m → m < length entries
-match_below entries color m h = record_below (difference_to entries color) (length entries) 0 h.records m h.some h.last
+match_below entries color m h = candidate_below (difference_to entries color) (length entries) 0 h.candidates m h.some h.last
 
 -- no color differs from itself
 no_difference : (x y z : ℕ) → (x - x + (x - x)) ∷ (y - y + (y - y)) ∷ (z - z + (z - z)) ∷ [] ≡ 0 ∷ 0 ∷ 0 ∷ []

@@ -12,7 +12,7 @@ use Rattle.pix_palette.proofs.PaletteMatches.{match_nearest, match_of_standing, 
 use Rattle.pix_palette.proofs.PaletteSets.{AreThresholds, zero_fits}
 use Rattle.pix_palette.proofs.IndexingLaws.{Grows, entry_stays, longer, set_grows, itself}
 
--- among the first entries there is a last record
+-- among the first entries there is a last candidate
 record HasBest (entries : List (List ℕ)) (color : List ℕ) (n : ℕ) : Type 0 where
   pub at : ℕ
   pub least : List ℕ

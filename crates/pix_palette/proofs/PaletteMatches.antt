@@ -1,29 +1,29 @@
--- The records of a color, one entry after the other.
+-- The candidates of a color, one entry after the other.
 use Rattle.std.specs.Prelude.{slice_index_or}
 use Rattle.pix_el.specs.Color.{is_within}
 use Rattle.std.proofs.Common.{◌≡◌, ◌≢◌, ℕ, ◌+◌, ◌<◌, ◌≤◌, true, false, List, [], ◌∷◌, ◌++◌, length, refl, arith, sym, ap, ◌∙◌, subst, ◌⊎◌, inl, inr}
 use Rattle.std.proofs.lemmas.Bool.{cases_lt, cases_order, true≢false, false_from_ne_true}
 use Rattle.std.proofs.lemmas.Bool.Decides.{nat_tests}
-use Rattle.pix_palette.specs.PaletteMatch.{difference_to, is_closer, IsNext, AreRecords, IsMatch, IsNearest, IsFirstOf}
+use Rattle.pix_palette.specs.PaletteMatch.{difference_to, is_closer, IsNext, AreCandidates, IsMatch, IsNearest, IsFirstOf}
 
--- the next record stays the next with one entry more
+-- the next candidate stays the next with one entry more
 next_stays : (d : ℕ → List ℕ) (n i j : ℕ) → IsNext d n i j → IsNext d (n + 1) i j
 next_stays d n i j next = record { later = next.later; stands = (let s : j < n = next.stands in omega arith); closer = next.closer; first = next.first }
 
--- an entry that is closer than the last record is the next one
-pub records_closer : (d : ℕ → List ℕ) (n i : ℕ) (records : List ℕ) (m : ℕ) → i < n → AreRecords d n i records m
-    → is_closer (d n) (d m) ≡ true → AreRecords d (n + 1) i (records ++ n ∷ []) n
-records_closer d n i [] m below h closer = (
+-- an entry that is closer than the last candidate is the next one
+pub candidates_closer : (d : ℕ → List ℕ) (n i : ℕ) (candidates : List ℕ) (m : ℕ) → i < n → AreCandidates d n i candidates m
+    → is_closer (d n) (d m) ≡ true → AreCandidates d (n + 1) i (candidates ++ n ∷ []) n
+candidates_closer d n i [] m below h closer = (
   record { later = below; stands = omega arith; closer = subst (λ k. is_closer (d n) (d k) ≡ true) h.0 closer; first = h.1 },
   (refl, λ k after before. absurd (omega arith)),
 )
-records_closer d n i (j ∷ records) m below h closer =
-    (next_stays d n i j h.0, records_closer d n j records m h.0.stands h.1 closer)
+candidates_closer d n i (j ∷ candidates) m below h closer =
+    (next_stays d n i j h.0, candidates_closer d n j candidates m h.0.stands h.1 closer)
 
--- one that is not leaves the records as they are
-pub records_stay : (d : ℕ → List ℕ) (n i : ℕ) (records : List ℕ) (m : ℕ) → AreRecords d n i records m
-    → is_closer (d n) (d m) ≡ false → AreRecords d (n + 1) i records m
-records_stay d n i [] m h not_closer = (
+-- one that is not leaves the candidates as they are
+pub candidates_stay : (d : ℕ → List ℕ) (n i : ℕ) (candidates : List ℕ) (m : ℕ) → AreCandidates d n i candidates m
+    → is_closer (d n) (d m) ≡ false → AreCandidates d (n + 1) i candidates m
+candidates_stay d n i [] m h not_closer = (
   h.0,
   λ k after before. elim (cases_lt k n) [
     | inl b ↦ h.1 k after b
@@ -31,7 +31,7 @@ records_stay d n i [] m h not_closer = (
         subst (λ l. is_closer (d k) (d l) ≡ false) h.0 (subst (λ l. is_closer (d l) (d m) ≡ false) e not_closer)
   ],
 )
-records_stay d n i (j ∷ records) m h not_closer = (next_stays d n i j h.0, records_stay d n j records m h.1 not_closer)
+candidates_stay d n i (j ∷ candidates) m h not_closer = (next_stays d n i j h.0, candidates_stay d n j candidates m h.1 not_closer)
 
 -- what being closer means of three channels
 record Less (x y z a b c : ℕ) : Type 0 where
@@ -84,48 +84,48 @@ differences_ordered entries color = record {
   irreflexive = λ a. closer_irreflexive (difference_to entries color a);
 }
 
--- the last record is the first one or closer than it
-last_closer : (d : ℕ → List ℕ) → IsOrdered d → (n i : ℕ) (records : List ℕ) (m : ℕ) → AreRecords d n i records m
+-- the last candidate is the first one or closer than it
+last_closer : (d : ℕ → List ℕ) → IsOrdered d → (n i : ℕ) (candidates : List ℕ) (m : ℕ) → AreCandidates d n i candidates m
     → (m ≡ i) ⊎ (is_closer (d m) (d i) ≡ true)
 last_closer d o n i [] m h = inl h.0
-last_closer d o n i (j ∷ records) m h = inr (elim (last_closer d o n j records m h.1) [
+last_closer d o n i (j ∷ candidates) m h = inr (elim (last_closer d o n j candidates m h.1) [
   | inl e ↦ subst (λ k. is_closer (d k) (d i) ≡ true) (sym e) h.0.closer
   | inr closer ↦ o.transitive m j i closer h.0.closer
 ])
 
--- no entry before the next record is closer
+-- no entry before the next candidate is closer
 none_before : (d : ℕ → List ℕ) → IsOrdered d → (n i j : ℕ) → IsNext d n i j → (k : ℕ) → i ≤ k → k < j → is_closer (d k) (d i) ≡ false
 none_before d o n i j next k from below = elim (cases_lt i k) [
   | inl b ↦ next.first k b below
   | inr b ↦ let e : i ≡ k = omega arith in subst (λ l. is_closer (d l) (d i) ≡ false) e (o.irreflexive i)
 ]
 
--- no entry is closer than the last record
-none_closer : (d : ℕ → List ℕ) → IsOrdered d → (n i : ℕ) (records : List ℕ) (m : ℕ) → AreRecords d n i records m
+-- no entry is closer than the last candidate
+none_closer : (d : ℕ → List ℕ) → IsOrdered d → (n i : ℕ) (candidates : List ℕ) (m : ℕ) → AreCandidates d n i candidates m
     → (k : ℕ) → i ≤ k → k < n → is_closer (d k) (d m) ≡ false
 none_closer d o n i [] m h k from below =
     subst (λ l. is_closer (d k) (d l) ≡ false) (sym h.0) (elim (cases_lt i k) [
       | inl b ↦ h.1 k b below
       | inr b ↦ let e : i ≡ k = omega arith in subst (λ l. is_closer (d l) (d i) ≡ false) e (o.irreflexive i)
     ])
-none_closer d o n i (j ∷ records) m h k from below = elim (cases_lt k j) [
-  | inl b ↦ false_from_ne_true _ (λ closer. true≢false (elim (last_closer d o n i (j ∷ records) m h) [
+none_closer d o n i (j ∷ candidates) m h k from below = elim (cases_lt k j) [
+  | inl b ↦ false_from_ne_true _ (λ closer. true≢false (elim (last_closer d o n i (j ∷ candidates) m h) [
     | inl e ↦ sym (subst (λ l. is_closer (d k) (d l) ≡ true) e closer) ∙ none_before d o n i j h.0 k from b
     | inr c ↦ sym (o.transitive k m i closer c) ∙ none_before d o n i j h.0 k from b
   ]))
-  | inr b ↦ none_closer d o n j records m h.1 k b below
+  | inr b ↦ none_closer d o n j candidates m h.1 k b below
 ]
 
--- no entry before the last record has its difference
-none_equal : (d : ℕ → List ℕ) → IsOrdered d → (n i : ℕ) (records : List ℕ) (m : ℕ) → AreRecords d n i records m
+-- no entry before the last candidate has its difference
+none_equal : (d : ℕ → List ℕ) → IsOrdered d → (n i : ℕ) (candidates : List ℕ) (m : ℕ) → AreCandidates d n i candidates m
     → (k : ℕ) → i ≤ k → k < m → d k ≢ d m
 none_equal d o n i [] m h k from below = λ e. absurd (let is : m ≡ i = h.0 in omega arith)
-none_equal d o n i (j ∷ records) m h k from below = elim (cases_lt k j) [
-  | inl b ↦ λ e. absurd (true≢false (elim (last_closer d o n j records m h.1) [
+none_equal d o n i (j ∷ candidates) m h k from below = elim (cases_lt k j) [
+  | inl b ↦ λ e. absurd (true≢false (elim (last_closer d o n j candidates m h.1) [
     | inl same ↦ sym (subst (λ l. is_closer l (d i) ≡ true) (ap d (sym same) ∙ sym e) h.0.closer) ∙ none_before d o n i j h.0 k from b
     | inr c ↦ sym (subst (λ l. is_closer l (d i) ≡ true) (sym e) (o.transitive m j i c h.0.closer)) ∙ none_before d o n i j h.0 k from b
   ]))
-  | inr b ↦ none_equal d o n j records m h.1 k b below
+  | inr b ↦ none_equal d o n j candidates m h.1 k b below
 ]
 
 within_of_closer : (p q : List ℕ) → is_closer (three p) (three q) ≡ true → is_within 255 (three p) (three q) ≡ true
@@ -139,9 +139,9 @@ pub match_nearest : (entries : List (List ℕ)) (color : List ℕ) (m : ℕ) →
 match_nearest entries color m h =
     let o : IsOrdered (difference_to entries color) = differences_ordered entries color in
     record {
-      none_closer = λ k below. none_closer (difference_to entries color) o (length entries) 0 h.records m h.last k (omega arith) below;
-      first = λ k below. none_equal (difference_to entries color) o (length entries) 0 h.records m h.last k (omega arith) below;
-      no_worse = elim (last_closer (difference_to entries color) o (length entries) 0 h.records m h.last) [
+      none_closer = λ k below. none_closer (difference_to entries color) o (length entries) 0 h.candidates m h.last k (omega arith) below;
+      first = λ k below. none_equal (difference_to entries color) o (length entries) 0 h.candidates m h.last k (omega arith) below;
+      no_worse = elim (last_closer (difference_to entries color) o (length entries) 0 h.candidates m h.last) [
         | inl e ↦ subst (λ k. is_within 255 (difference_to entries color m) (difference_to entries color k) ≡ true) e (within_itself (difference_to entries color m))
         | inr closer ↦ within_of_closer (difference_to entries color m) (difference_to entries color 0) closer
       ];
@@ -170,24 +170,24 @@ match_of_standing entries color m i h f =
       ]
     ]
 
--- the last record among the first n entries, and its difference
+-- the last candidate among the first n entries, and its difference
 pub record IsBest (entries : List (List ℕ)) (color : List ℕ) (n at : ℕ) (least : List ℕ) : Type 0 where
   pub below : at < n
-  pub records : List ℕ
-  pub last : AreRecords (difference_to entries color) n 0 records at
+  pub candidates : List ℕ
+  pub last : AreCandidates (difference_to entries color) n 0 candidates at
   pub same : least ≡ difference_to entries color at
 
 -- of one entry it is that
 pub best_first : (entries : List (List ℕ)) (color least : List ℕ) → least ≡ difference_to entries color 0 → IsBest entries color 1 0 least
-best_first entries color least e = record { below = omega arith; records = []; last = (refl, λ k after before. absurd (omega arith)); same = e }
+best_first entries color least e = record { below = omega arith; candidates = []; last = (refl, λ k after before. absurd (omega arith)); same = e }
 
 -- with one entry more it is that entry if it is closer, and else stays
 pub best_closer : (entries : List (List ℕ)) (color : List ℕ) (n at : ℕ) (least next : List ℕ) → IsBest entries color n at least
     → next ≡ difference_to entries color n → is_closer next least ≡ true → IsBest entries color (n + 1) n next
 best_closer entries color n at least next h e closer = record {
   below = omega arith;
-  records = h.records ++ n ∷ [];
-  last = records_closer (difference_to entries color) n 0 h.records at (let b : at < n = h.below in omega arith) h.last
+  candidates = h.candidates ++ n ∷ [];
+  last = candidates_closer (difference_to entries color) n 0 h.candidates at (let b : at < n = h.below in omega arith) h.last
       (subst (λ p. is_closer p (difference_to entries color at) ≡ true) e (subst (λ p. is_closer next p ≡ true) h.same closer));
   same = e;
 }
@@ -196,8 +196,8 @@ pub best_stays : (entries : List (List ℕ)) (color : List ℕ) (n at : ℕ) (le
     → next ≡ difference_to entries color n → is_closer next least ≡ false → IsBest entries color (n + 1) at least
 best_stays entries color n at least next h e farther = record {
   below = (let b : at < n = h.below in omega arith);
-  records = h.records;
-  last = records_stay (difference_to entries color) n 0 h.records at h.last
+  candidates = h.candidates;
+  last = candidates_stay (difference_to entries color) n 0 h.candidates at h.last
       (subst (λ p. is_closer p (difference_to entries color at) ≡ false) e (subst (λ p. is_closer next p ≡ false) h.same farther));
   same = h.same;
 }
@@ -207,6 +207,6 @@ pub best_match : (entries : List (List ℕ)) (color : List ℕ) (n at : ℕ) (le
     → IsMatch entries color at
 best_match entries color n at least e h = record {
   some = (let b : at < n = h.below in omega arith);
-  records = h.records;
-  last = subst (λ k. AreRecords (difference_to entries color) k 0 h.records at) e h.last;
+  candidates = h.candidates;
+  last = subst (λ k. AreCandidates (difference_to entries color) k 0 h.candidates at) e h.last;
 }

@@ -22,17 +22,17 @@ pub record IsNext (d : ℕ → List ℕ) (count i j : ℕ) : Type 0 where
   pub closer : is_closer (d j) (d i) ≡ true
   pub first : (k : ℕ) → i < k → k < j → is_closer (d k) (d i) ≡ false
 
--- the entry i is a record, the indices in the list are the records after it, and m is the last of them: each is the next of the one before,
+-- the entry i is a candidate, the indices in the list are the candidates after it, and m is the last of them: each is the next of the one before,
 -- and no entry after the last is closer
-abbrev pub AreRecords : (ℕ → List ℕ) → ℕ → ℕ → List ℕ → ℕ → Type 0
-AreRecords d count i [] m = (m ≡ i) × ((k : ℕ) → i < k → k < count → is_closer (d k) (d i) ≡ false)
-AreRecords d count i (j ∷ records) m = IsNext d count i j × AreRecords d count j records m
+abbrev pub AreCandidates : (ℕ → List ℕ) → ℕ → ℕ → List ℕ → ℕ → Type 0
+AreCandidates d count i [] m = (m ≡ i) × ((k : ℕ) → i < k → k < count → is_closer (d k) (d i) ≡ false)
+AreCandidates d count i (j ∷ candidates) m = IsNext d count i j × AreCandidates d count j candidates m
 
--- the match of a color: the last of its records, of which index 0 is the first
+-- the match of a color: the last of its candidates, of which index 0 is the first
 pub record IsMatch (entries : List (List ℕ)) (color : List ℕ) (m : ℕ) : Type 0 where
   pub some : 0 < length entries
-  pub records : List ℕ
-  pub last : AreRecords (difference_to entries color) (length entries) 0 records m
+  pub candidates : List ℕ
+  pub last : AreCandidates (difference_to entries color) (length entries) 0 candidates m
 
 -- an entry that is nearest to a color: none is closer, none before it differs as much in every channel, and it differs by no more than entry 0 in any
 pub record IsNearest (entries : List (List ℕ)) (color : List ℕ) (m : ℕ) : Type 0 where
