@@ -1,4 +1,4 @@
--- A color that stands in a palette is set at its first index; such colors are kept while the palette grows.
+-- A color that stands in a palette is set at its first index; such colors stay stored while the palette grows.
 use Rattle.std.specs.Prelude.{nat_lt, if◌then◌else◌, IfSome}
 use Rattle.std.proofs.Common.{◌≡◌, ◌≢◌, ℕ, zero, suc, ◌+◌, ◌-◌, ◌<◌, ◌≤◌, Bool, true, false, List, [], ◌∷◌, ◌++◌, length, map, get_or, replicate, refl, arith, sym, ap, ◌∙◌, subst, inl, Some, None, Option}
 use Rattle.std.proofs.lemmas.Bool.{true≢false}
@@ -117,7 +117,7 @@ known_stays : (old new : List Color) → Grows old new → (place : Option Known
 known_stays old new g None h = h
 known_stays old new g (Some known) h = first_stays old new (numbers known.clr) known.index g h
 
--- kept colors stay that while the palette grows
+-- stored colors stay that while the palette grows
 pub are_known_stays : (old new : List Color) (places : List (Option Known)) → Grows old new → AreKnown (map numbers old) places → AreKnown (map numbers new) places
 are_known_stays old new places g h = λ k d below. known_stays old new g (get_or places k d) (h k d below)
 

@@ -1,4 +1,4 @@
--- Colors that are kept beside a palette, each with its index. No clause of a public call cites this file.
+-- Colors that are stored beside a palette, each with its index. No clause of a public call cites this file.
 use Rattle.std.specs.Prelude.{ℕ, List, Option, IfSome, All}
 use Rattle.pix_palette.specs.PaletteMatch.{IsFirstOf}
 use Rattle.pix_palette.specs.Palette.{numbers}

@@ -14,7 +14,7 @@ mod table;
 
 use self::closest::closest;
 use self::index::{PaletteIndex, count_indices};
-use self::table::{Kept, Threshold};
+use self::table::{Threshold, ThresholdFn};
 use pix_el::rgb::{Rgb, SRgb8};
 use pix_raster::RasterFault;
 use std::alloc::Global;
@@ -127,30 +127,30 @@ impl Palette {
         requires { (n : ℕ) → n ≤ self.old.limit → Threshold.pre f n }
         ensures colors { self.new.colors.items ≡ self.old.colors.items }
         ensures limit { self.new.limit ≡ self.old.limit }
-        ensures threshold { option_map (λ kept. kept.f) self.new.threshold ≡ Some f }
+        ensures threshold { option_map (λ chosen. chosen.f) self.new.threshold ≡ Some f }
     {
-        let kept = Kept {
+        let chosen = ThresholdFn {
             f,
             limit: self.limit,
         };
-        self.threshold = Some(kept);
+        self.threshold = Some(chosen);
     }
 
     /// Returns the threshold for the present number of entries.
     fn threshold(&self) -> SRgb8
-        ensures { Answers Threshold.post (option_map (λ kept. kept.f) self.now.threshold)
+        ensures { Answers Threshold.post (option_map (λ chosen. chosen.f) self.now.threshold)
             (length self.now.colors.items) (numbers result) }
     {
         match self.threshold {
             None => SRgb8::default(),
-            Some(kept) => (kept.f)(self.colors.len()),
+            Some(chosen) => (chosen.f)(self.colors.len()),
         }
     }
 
     /// Returns the entry that stands for `clr`.
     fn standing(&self, clr: SRgb8) -> Option<usize>
         ensures { StandsFor
-            (Answers Threshold.post (option_map (λ kept. kept.f) self.now.threshold))
+            (Answers Threshold.post (option_map (λ chosen. chosen.f) self.now.threshold))
             (map numbers self.now.colors.items) (numbers clr) result }
     {
         if self.colors.is_empty() {
@@ -178,7 +178,7 @@ impl Palette {
     /// ```
     pub fn set_entry(&mut self, clr: SRgb8) -> Option<usize>
         ensures set { IsSet
-            (Answers Threshold.post (option_map (λ kept. kept.f) self.old.threshold))
+            (Answers Threshold.post (option_map (λ chosen. chosen.f) self.old.threshold))
             self.old.limit self.old.colors.items clr result self.new.colors.items }
         ensures limit { self.new.limit ≡ self.old.limit }
         ensures threshold { self.new.threshold ≡ self.old.threshold }

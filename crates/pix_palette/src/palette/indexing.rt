@@ -46,7 +46,7 @@ impl Palette {
 
         // The entry at each index is the color, or within a threshold; without a threshold function it is the color.
         ensures indexed { IfOk result (λ answer. IsIndexed Threshold.post
-            (option_map (λ kept. kept.f) self.old.threshold) self.old.limit 255
+            (option_map (λ chosen. chosen.f) self.old.threshold) self.old.limit 255
             ⟦<Gray8 as Pixel>⟧.numbers raster.width raster.height
             (colors_of S.format ⟦<S::Gamma as Gamma<Ch8>>⟧.mode S.numbers raster.pixels)
             self.old.colors.items answer self.new.colors.items) }
@@ -87,7 +87,7 @@ impl Palette {
 
         // The entry at each index is the color, or within a threshold; without a threshold function it is the color.
         ensures indexed { IfOk result (λ answer. IsIndexed Threshold.post
-            (option_map (λ kept. kept.f) self.old.threshold) self.old.limit 65535
+            (option_map (λ chosen. chosen.f) self.old.threshold) self.old.limit 65535
             ⟦<Gray16 as Pixel>⟧.numbers raster.width raster.height
             (colors_of S.format ⟦<S::Gamma as Gamma<Ch8>>⟧.mode S.numbers raster.pixels)
             self.old.colors.items answer self.new.colors.items) }
@@ -109,7 +109,7 @@ impl Palette {
         requires long { length places.old ≡ 2056 }
         requires known { AreKnown (map numbers self.old.colors.items) places.old }
         ensures set { IsSetUpTo
-            (IsSet (Answers Threshold.post (option_map (λ kept. kept.f) self.old.threshold))
+            (IsSet (Answers Threshold.post (option_map (λ chosen. chosen.f) self.old.threshold))
             self.old.limit)
             greatest self.old.colors.items (numbers clr) result self.new.colors.items }
         ensures known { AreKnown (map numbers self.new.colors.items) places.new }
@@ -132,7 +132,7 @@ impl Palette {
         S::Gamma: Gamma<Ch8>,
         requires { length indices.old ≡ length pixels.now }
         ensures indexed { AreIndexed
-            (IsSet (Answers Threshold.post (option_map (λ kept. kept.f) self.old.threshold))
+            (IsSet (Answers Threshold.post (option_map (λ chosen. chosen.f) self.old.threshold))
             self.old.limit)
             P.GREATEST self.old.colors.items
             (colors_of S.format ⟦<S::Gamma as Gamma<Ch8>>⟧.mode S.numbers pixels.now)
@@ -168,7 +168,7 @@ impl Palette {
         Ch8: From<S::Chan>,
         S::Gamma: Gamma<Ch8>,
         ensures indexed { IfOk result (λ answer. IsIndexed Threshold.post
-            (option_map (λ kept. kept.f) self.old.threshold) self.old.limit P.GREATEST
+            (option_map (λ chosen. chosen.f) self.old.threshold) self.old.limit P.GREATEST
             P.numbers raster.width raster.height
             (colors_of S.format ⟦<S::Gamma as Gamma<Ch8>>⟧.mode S.numbers raster.pixels)
             self.old.colors.items answer self.new.colors.items) }

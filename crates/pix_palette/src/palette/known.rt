@@ -1,4 +1,4 @@
-//! A small table of colors that stand in a palette, each with its index: a color is kept near the place that its channels give.
+//! A small table of colors that stand in a palette, each with its index: a color is stored near the place that its channels give.
 ghost use Rattle.std.specs.Prelude.{◌≡◌, ◌≤◌, ◌<◌, nat_eq, length, map, IfSome};
 ghost use Rattle.std.specs.Cmp.Lexicographic.{pointwise};
 ghost use Rattle.std.specs.Option.{option_map};
@@ -13,7 +13,7 @@ use pix_el::rgb::{Rgb, SRgb8};
 /// The number of places of a table.
 pub(super) const PLACES: usize = 2056;
 
-/// How many places in a row a color may be kept at.
+/// How many places in a row a color may be stored at.
 const TRIES: usize = 8;
 
 /// A color that stands in a palette, and its index.
@@ -23,7 +23,7 @@ pub(super) struct Known {
     index: u16,
 }
 
-/// Returns the first place that a color may be kept at.
+/// Returns the first place that a color may be stored at.
 fn first_place(clr: SRgb8) -> usize
     ensures { result < 2048 }
 {
@@ -41,7 +41,7 @@ fn is_same<P: Pixel>(p: P, q: P) -> bool
 }
 
 impl Palette {
-    /// Returns the index of a color that is kept.
+    /// Returns the index of a color that is stored.
     pub(super) fn known(&self, places: &[Option<Known>], clr: SRgb8) -> Option<usize>
         requires long { length places.now ≡ 2056 }
         requires known { AreKnown (map numbers self.now.colors.items) places.now }
@@ -73,12 +73,12 @@ impl Palette {
         places[at] = Some(Known { clr, index });
     }
 
-    /// Sets a color as `set_entry` does; a color that is kept takes no search.
+    /// Sets a color as `set_entry` does; a color that is stored takes no search.
     pub(super) fn set_known(&mut self, places: &mut [Option<Known>], clr: SRgb8) -> Option<usize>
         requires long { length places.old ≡ 2056 }
         requires known { AreKnown (map numbers self.old.colors.items) places.old }
         ensures set { IsSet
-            (Answers Threshold.post (option_map (λ kept. kept.f) self.old.threshold))
+            (Answers Threshold.post (option_map (λ chosen. chosen.f) self.old.threshold))
             self.old.limit self.old.colors.items clr result self.new.colors.items }
         ensures known { AreKnown (map numbers self.new.colors.items) places.new }
         ensures limit { self.new.limit ≡ self.old.limit }

@@ -9,7 +9,7 @@ pub type Threshold = fn(usize) -> SRgb8;
 
 /// A threshold function that may be called for every number of entries up to a limit.
 #[derive(Clone, Copy)]
-pub struct Kept {
+pub struct ThresholdFn {
     pub(super) f: Threshold,
     pub(super) limit: usize,
     ghost callable: { (n : ℕ) → n ≤ limit → Threshold.pre f n },
@@ -30,8 +30,8 @@ pub struct Kept {
 pub struct Palette {
     pub(super) colors: Vec<SRgb8>,
     pub(super) limit: usize,
-    pub(super) threshold: Option<Kept>,
+    pub(super) threshold: Option<ThresholdFn>,
     ghost bounded: { vec_len colors ≤ limit },
     ghost reserved: { limit ≤ vec_capacity colors },
-    ghost callable: { ForSome threshold (λ kept. kept.limit ≡ limit) },
+    ghost callable: { ForSome threshold (λ chosen. chosen.limit ≡ limit) },
 }

@@ -13,7 +13,7 @@ invariant-loop-i g l = record {
   set : AreSetBelow
       (IsSet (Answers (pointer.words g.row.S g.row.P g.row.S-Chan g.row.S-Model g.row.S-Alpha g.row.S-Gamma g.row.P-Chan g.row.P-Model g.row.P-Alpha g.row.P-Gamma g.fn-1.I
       (pointer.members g.row.S g.row.P g.row.S-Chan g.row.S-Model g.row.S-Alpha g.row.S-Gamma g.row.P-Chan g.row.P-Model g.row.P-Alpha g.row.P-Gamma g.fn-1)).post
-      (option_map (λ kept. kept.f) l.fn.self.threshold)) l.fn.self.limit)
+      (option_map (λ chosen. chosen.f) l.fn.self.threshold)) l.fn.self.limit)
       g.P.IndexPixel.GREATEST l.fn.self.colors.items (colors_of g.S.Pixel.format g.S.Gamma.Gamma-2.mode g.S.Pixel.numbers l.fn.pixels) l.i (values g.P.Pixel.numbers l.indices) l.self.colors.items;
   gray : take l.i (map g.P.Pixel.numbers l.indices) ≡ take l.i (map (λ n. n ∷ []) (values g.P.Pixel.numbers l.indices));
   known : AreKnown (map numbers l.self.colors.items) l.places;
