@@ -1,0 +1,1 @@
+-- The files of lemmas. Answers, invariants and proofs of a function are found by its path.

@@ -1,3 +1,4 @@
+-- Of `weighted`: the clauses `value` and `small`.
 use Rattle.std.specs.Prelude.{pos, unsigned_abs, ◌*ℤ◌}
 use Rattle.std.proofs.Common.{◌≡◌, ◌<◌, ◌∙◌, ap, w64, to_z, of_z, arith, to_z-of_z}
 use Rattle.std.proofs.lemmas.Int.{ints}

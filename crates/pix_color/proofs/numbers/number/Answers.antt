@@ -1,3 +1,4 @@
+-- Of `number`: the clause `small`.
 use Rattle.std.proofs.Common.{arith}
 use Rattle.pix_color.proofs.Narrow.{narrow}
 use Rattle.pix_color.proofs.numbers.number.Goals as goal

@@ -1,3 +1,4 @@
+-- Of `converted_within`: that it meets its contract, and the condition of its call of `from_four`.
 use Rattle.std.proofs.Common.{◌≤◌, refl, sym, ap, ◌∙◌}
 use Rattle.pix_el.specs.Conversion.{Format}
 use Rattle.pix_el.proofs.Conversions.{within_is, few_channels}

@@ -1,3 +1,4 @@
+-- What holds at each turn of the loop over `i` in `composite_each`.
 use Rattle.std.proofs.Common.{◌≡◌, ◌<◌, ◌-◌, ℕ, map, true, if◌then◌else◌}
 use Rattle.pix_ops.specs.Composite.{channel_composite}
 use Rattle.pix_ops.specs.Hue.{hue_composite, hue_weight, IsHueMove}

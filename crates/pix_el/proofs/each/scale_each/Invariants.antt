@@ -1,3 +1,4 @@
+-- What holds at each turn of the loop over `i` in `scale_each`.
 use Rattle.std.proofs.Common.{map, if◌then◌else◌}
 use Rattle.pix_chan.specs.Product.{channel_product}
 use Rattle.pix_el.specs.Pixel.{lies_in}

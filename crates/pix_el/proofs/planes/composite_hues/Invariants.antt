@@ -1,3 +1,4 @@
+-- What holds at each turn of the loop over `i` in `composite_hues`.
 use Rattle.std.proofs.Common.{◌≡◌, take, map}
 use Rattle.pix_chan.specs.Runs.{over, triples}
 use Rattle.pix_el.specs.Planes.{run_hue}

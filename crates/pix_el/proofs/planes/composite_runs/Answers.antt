@@ -1,3 +1,4 @@
+-- Of `composite_runs`: the clause `composite`.
 use Rattle.std.proofs.Common.{sym, map}
 use Rattle.pix_chan.proofs.Slices.{over-nil}
 use Rattle.pix_el.proofs.planes.composite_runs.Goals as goal

@@ -1,3 +1,4 @@
+-- Of `matte_runs`: the clause `composite`.
 use Rattle.std.proofs.Common.{sym, arith, map, List, ℕ}
 use Rattle.pix_chan.specs.declared.chan.modes.Linear.{Linear}
 use Rattle.pix_chan.proofs.Slices.{over-nil}

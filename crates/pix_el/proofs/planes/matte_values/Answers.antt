@@ -1,3 +1,4 @@
+-- Of `matte_values`: that it meets its contract.
 use Rattle.std.proofs.Common.{◌∙◌, ap, arith, List, ℕ}
 use Rattle.pix_chan.specs.declared.chan.modes.Linear.{Linear}
 use Rattle.pix_el.specs.declared.el.Pix.{Pix}

@@ -1,3 +1,4 @@
+-- Of `axis_overlap`: the clauses `points`, `in_dst`, `in_src` and `sources`.
 use Rattle.std.proofs.Common.{◌≡◌, ℕ, pos, ◌+ℤ◌, ◌≤◌, ◌+◌, ◌-◌, ℤ, arith, SFits, w32, to_z, of_z}
 use Rattle.std.proofs.lemmas.Int.{to_z-of_z}
 use Rattle.std.specs.declared.ops.Range.{Range}

@@ -1,3 +1,4 @@
+-- Of `row_places`: the clauses `start` and `end`.
 use Rattle.std.proofs.Common.{◌≡◌, false, refl, SFits, w32}
 use Rattle.std.proofs.lemmas.Int.{to_z-of_z}
 use Rattle.pix_raster.specs.Region.{has_row, whole, intersection_of}

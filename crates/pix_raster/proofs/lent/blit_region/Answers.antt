@@ -1,3 +1,4 @@
+-- Of `blit_region`: that it meets its contract.
 use Rattle.std.proofs.Common.{rules}
 use Rattle.pix_raster.proofs.Overlaps.{changed_in_overlap}
 use Rattle.pix_raster.proofs.lent.blit_region.Goals as goal

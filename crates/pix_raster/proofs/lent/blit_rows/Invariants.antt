@@ -1,3 +1,4 @@
+-- What holds at each turn of the loop over `y` in `blit_rows`.
 use Rattle.std.proofs.Common.{◌≡◌, ℕ, ◌<◌, ◌+◌, ◌-◌, length}
 use Rattle.pix_raster.specs.Lent.{read_at}
 use Rattle.pix_raster.specs.Clip.{where_in}

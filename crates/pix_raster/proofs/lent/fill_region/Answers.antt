@@ -1,3 +1,4 @@
+-- Of `fill_region`: that it meets its contract.
 use Rattle.std.proofs.Common.{◌≡◌, pos, ◌∙◌, ap, cond, true, Bool, rules}
 use Rattle.std.specs.Prelude.{◌&&◌}
 use Rattle.std.proofs.Math.Bool.{and-true}

@@ -1,3 +1,4 @@
+-- Of `lerp`: the clause `value`, and that its numbers fit.
 use Rattle.std.proofs.Common.{arith, ◌≤◌, ◌-◌}
 use Rattle.pix_chan.proofs.Whole.{lerp_up, lerp_down, part_fits}
 use Rattle.pix_chan.proofs.chan.whole.lerp.Goals as goal

@@ -1,3 +1,4 @@
+-- Of `nearest`: the clause `value`.
 use Rattle.std.specs.Prelude.{pos}
 use Rattle.std.proofs.Common.{◌≡◌, arith}
 use Rattle.std.proofs.lemmas.Int.{ints}

@@ -1,3 +1,4 @@
+-- Of `units_down`: the clause `value`.
 use Rattle.std.proofs.Common.{arith, ◌%◌}
 use Rattle.std.proofs.Math.Nat.{div-add-mod'}
 use Rattle.pix_chan.proofs.Whole.{dropped_rest, counted_rest}

@@ -1,3 +1,4 @@
+-- Of `linear_pixels`: the clause `pixels`, and that the invariant of its loop over `i` holds at first and stays.
 use Rattle.std.proofs.Common.{◌≡◌, length, map, get_or, [], arith, sym, ap, ◌∙◌, refl}
 use Rattle.std.proofs.lemmas.List.{length-map, map-set, get_or-map}
 use Rattle.std.proofs.lemmas.List.FromFn.{fill_by_all}

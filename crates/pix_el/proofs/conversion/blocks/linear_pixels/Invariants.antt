@@ -1,3 +1,4 @@
+-- What holds at each turn of the loop over `i` in `linear_pixels`.
 use Rattle.std.proofs.Common.{map, get_or, []}
 use Rattle.pix_el.specs.Planes.{linear_four}
 use Rattle.pix_el.proofs.Written.{Written}

@@ -1,3 +1,4 @@
+-- What holds at each turn of the loop over `d` in `Pixel::copy_color`.
 use Rattle.pix_el.proofs.Written.{Written}
 use Rattle.pix_el.proofs.el.Pixel.copy_color.Given as goal
 

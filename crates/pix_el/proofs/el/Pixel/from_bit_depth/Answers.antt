@@ -1,3 +1,4 @@
+-- Of `Pixel::from_bit_depth`: that it meets its contract, and the condition of its call of `from_four`.
 use Rattle.std.proofs.Common.{◌≤◌, refl, ap, ◌∙◌}
 use Rattle.pix_el.specs.Pixel.{Layout, channel}
 use Rattle.pix_el.specs.Conversion.{at_depth}

@@ -1,3 +1,4 @@
+-- Of `color_runs`: that the invariant of its loop over `i` holds at first and stays.
 use Rattle.std.proofs.Common.{length, sym, arith, map}
 use Rattle.pix_el.proofs.FourPlanes.{color_are_planes}
 use Rattle.pix_el.specs.PixelComposite.{pixel_composite}

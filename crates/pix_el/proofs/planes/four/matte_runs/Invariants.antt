@@ -1,3 +1,4 @@
+-- What holds at each turn of the loop over `i` in `matte_runs`.
 use Rattle.std.proofs.Common.{◌≡◌, ◌*◌, take, map}
 use Rattle.pix_chan.specs.Runs.{over}
 use Rattle.pix_el.specs.PixelComposite.{matted_composite, matte_numbers, matte_value}

@@ -1,3 +1,4 @@
+-- Of `matte_runs`: that the invariant of its loop over `i` holds at first and stays.
 use Rattle.std.proofs.Common.{◌∙◌, sym, ap, arith, map, refl, List, ℕ}
 use Rattle.pix_chan.specs.declared.chan.modes.Linear.{Linear}
 use Rattle.pix_chan.proofs.Slices.{over-nil, next_mapped_block}

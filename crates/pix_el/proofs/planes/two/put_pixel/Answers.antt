@@ -1,3 +1,4 @@
+-- Of `put_pixel`: that it meets its contract.
 use Rattle.std.proofs.Common.{◌∙◌, ap, arith, map}
 use Rattle.pix_el.proofs.TwoPlanes.{two_set}
 use Rattle.pix_el.proofs.planes.two.put_pixel.Goals as goal

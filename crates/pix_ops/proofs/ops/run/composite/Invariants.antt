@@ -1,3 +1,4 @@
+-- What holds at each turn of the loop over `k` in `composite`.
 use Rattle.std.proofs.Common.{◌≡◌, ◌*◌, take, map, min}
 use Rattle.pix_chan.specs.Runs.{over, triples}
 use Rattle.pix_ops.specs.Composite.{run_terms}

@@ -1,3 +1,4 @@
+-- What holds at each turn of the loop over `i` in `closest`.
 use Rattle.std.proofs.Common.{map}
 use Rattle.pix_palette.specs.Palette.{numbers}
 use Rattle.pix_palette.proofs.PaletteMatches.{IsBest}

@@ -1,3 +1,4 @@
+-- Of `count_indices`: that the invariant of its loop over `i` holds after each turn.
 use Rattle.std.proofs.Common.{arith}
 use Rattle.pix_palette.proofs.HistogramLemmas.{histogram_more}
 use Rattle.pix_palette.proofs.palette.index.count_indices.Goals as goal

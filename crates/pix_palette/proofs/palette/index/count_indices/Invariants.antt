@@ -1,3 +1,4 @@
+-- What holds at each turn of the loop over `i` in `count_indices`.
 use Rattle.std.proofs.Common.{take, length}
 use Rattle.pix_palette.specs.Histogram.{IsHistogram}
 use Rattle.pix_palette.proofs.palette.index.count_indices.Given as goal

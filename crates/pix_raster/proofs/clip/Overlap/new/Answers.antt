@@ -1,3 +1,4 @@
+-- Of `Overlap::new`: the clause `points`.
 use Rattle.std.proofs.Common.{◌≡◌, pos, ◌-ℤ◌, sym, FitsSigned, w32, rules}
 use Rattle.std.specs.Prelude.{◌&&◌}
 use Rattle.std.proofs.lemmas.Int.{to_z-of_z}

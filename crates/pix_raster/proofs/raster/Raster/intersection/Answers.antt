@@ -1,3 +1,4 @@
+-- Of `Raster::intersection`: the clauses `inside` and `points`.
 use Rattle.pix_raster.specs.Image.{Image, region_of}
 use Rattle.pix_raster.proofs.Rectangles.{inside_image, covers-intersection_of}
 use Rattle.pix_raster.proofs.raster.Raster.intersection.Goals as goal

@@ -1,3 +1,4 @@
+-- Of `Raster::run`: that it meets its contract, and that the invariant of its loop over `command` holds after each turn.
 use Rattle.std.proofs.Common.{◌≡◌, ap, ◌∙◌, arith, drop, ◌+◌, pos, sym, subst}
 use Rattle.std.proofs.lemmas.List.{drop_all}
 use Rattle.pix_raster.specs.Region.{Rectangle}

@@ -1,3 +1,4 @@
+-- What holds at each turn of the loop over `command` in `Raster::run`.
 use Rattle.std.proofs.Common.{◌≡◌, ℕ, ◌<◌, drop}
 use Rattle.pix_el.specs.PixelComposite.{matte_numbers}
 use Rattle.pix_raster.specs.Run.{run_at}

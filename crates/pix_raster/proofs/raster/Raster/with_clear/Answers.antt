@@ -1,3 +1,4 @@
+-- Of `Raster::with_clear`: the clause `ok`.
 use Rattle.pix_raster.proofs.Clear.{clear_from_filled}
 use Rattle.pix_raster.proofs.raster.Raster.with_clear.Goals as goal
 

@@ -1,3 +1,4 @@
+-- What holds at each turn of the loop in `Raster::with_color`.
 use Rattle.std.proofs.Common.{◌≡◌, replicate}
 use Rattle.pix_raster.proofs.raster.Raster.with_color.Given as goal
 

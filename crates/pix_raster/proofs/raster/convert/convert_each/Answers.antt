@@ -1,3 +1,4 @@
+-- Of `convert_each`: that it meets its contract.
 use Rattle.std.proofs.Common.{◌∙◌, sym, arith, map, List, ℕ}
 use Rattle.std.proofs.lemmas.List.{length-map}
 use Rattle.pix_el.specs.Conversion.{converted}

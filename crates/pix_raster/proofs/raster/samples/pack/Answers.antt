@@ -1,3 +1,4 @@
+-- Of `pack`: that the invariant of its loop over `i` holds after each turn, and that its ranges lie in their slices.
 use Rattle.std.proofs.Common.{◌≡◌, ◌≤◌, ◌*◌, length, map, sym, ap, ◌∙◌, arith, rules}
 use Rattle.std.proofs.lemmas.List.{length-map}
 use borrow.Author.Rules.{scaled_fits≤}

@@ -1,3 +1,4 @@
+-- What holds at each turn of the loop over `i` in `pack`.
 use Rattle.std.proofs.Common.{◌≡◌, ◌*◌, map, take}
 use Rattle.std.specs.List.{flat_map}
 use Rattle.pix_raster.proofs.raster.samples.pack.Given as goal

@@ -1,3 +1,4 @@
+-- Of `unpack`: that the invariant of its loop over `i` holds after each turn.
 use Rattle.std.proofs.Common.{◌≡◌, ◌+◌, ◌*◌, ◌-◌, ap, ◌∙◌, arith}
 use Rattle.pix_raster.proofs.Samples.{unpacked_more}
 use Rattle.pix_raster.proofs.raster.samples.unpack.Goals as goal

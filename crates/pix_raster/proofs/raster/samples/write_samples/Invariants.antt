@@ -1,3 +1,4 @@
+-- What holds at each turn of the loop over `i` in `write_samples`.
 use Rattle.pix_raster.proofs.Samples.{SameBelow}
 use Rattle.pix_raster.proofs.raster.samples.write_samples.Given as goal
 

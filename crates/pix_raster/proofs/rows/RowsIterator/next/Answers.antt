@@ -1,3 +1,4 @@
+-- Of `RowsIterator::next`: the clauses `steps` and `goes`.
 use Rattle.std.proofs.Common.{◌-◌, ◌<◌, length, arith}
 use Rattle.pix_raster.specs.Clip.{row_parts}
 use Rattle.pix_raster.proofs.Views.{row_parts-first, length-row_parts}

@@ -1,3 +1,4 @@
+-- Of `Ch16Add::add`: that it meets its contract.
 use Rattle.std.proofs.Common.{rules}
 use Rattle.pix_chan.proofs.chan.bits16.Ch16Add.add.Goals as goal
 

@@ -1,3 +1,4 @@
+-- Of `Ch16Channel::alphas4`: that it meets its contract.
 use Rattle.std.proofs.Common.{arith, ap}
 use Rattle.pix_chan.specs.declared.chan.bits16.Ch16.{Ch16}
 use Rattle.pix_chan.proofs.Sixteen.{alphas_are}

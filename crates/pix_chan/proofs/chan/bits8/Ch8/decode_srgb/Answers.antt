@@ -1,3 +1,4 @@
+-- Of `Ch8::decode_srgb`: the clause `curve`.
 use Rattle.std.proofs.Common.{refl, arith}
 use Rattle.pix_chan.specs.declared.chan.srgb.TheConstants.{DECODE}
 use Rattle.pix_chan.proofs.Rising.{rising_list}

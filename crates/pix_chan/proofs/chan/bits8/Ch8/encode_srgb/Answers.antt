@@ -1,3 +1,4 @@
+-- Of `Ch8::encode_srgb`: the clause `curve`.
 use Rattle.std.proofs.Common.{refl, arith}
 use Rattle.pix_chan.specs.declared.chan.srgb.TheConstants.{ENCODE}
 use Rattle.pix_chan.proofs.Rising.{rising_list}

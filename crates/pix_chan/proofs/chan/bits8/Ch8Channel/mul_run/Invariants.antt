@@ -1,3 +1,4 @@
+-- What holds at each turn of the loop over `k` and `i` in `Ch8Channel::mul_run`.
 use Rattle.std.proofs.Common.{◌≡◌, ◌*◌, take, map}
 use Rattle.pix_chan.specs.declared.chan.bits8.Ch8.{Ch8}
 use Rattle.pix_chan.specs.Runs.{over}

@@ -1,3 +1,4 @@
+-- Of `cut`: the clauses `even` and `odd`, and that its numbers fit.
 use Rattle.std.proofs.Common.{◌++◌, ap, List, ℕ, map, refl, subst, sym, w8, Fits}
 use lib.Lanes.{Each1, pick_l}
 use Rattle.std.specs.List.{range_with_len}

@@ -1,3 +1,4 @@
+-- Of `mesh`: the clauses `low` and `high`.
 use Rattle.std.proofs.Common.{◌≡◌, ◌∙◌, ◌++◌, ◌*◌, ◌^◌, ◌%◌, ap, length, List, ℕ, w8, Fits, replicate, bit_or}
 use lib.Lanes.{Each1, pick_l, zip2, digits_l, number_l}
 use Rattle.std.specs.List.{range_with_len}

@@ -1,3 +1,4 @@
+-- Of `ZeroFactor::scale`: that the invariant of its loop over `i` holds at first and stays.
 use Rattle.std.proofs.Common.{◌+◌, ◌∙◌, sym, ap, arith, map, refl, get_or}
 use Rattle.std.proofs.lemmas.List.{length-map}
 use Rattle.pix_chan.proofs.Slices.{over-nil, mapped_put_step}

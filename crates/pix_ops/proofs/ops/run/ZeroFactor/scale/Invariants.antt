@@ -1,3 +1,4 @@
+-- What holds at each turn of the loop over `i` in `ZeroFactor::scale`.
 use Rattle.std.proofs.Common.{◌≡◌, take, map}
 use Rattle.pix_chan.specs.Runs.{over}
 use Rattle.pix_ops.proofs.ops.run.ZeroFactor.scale.Given as goal

@@ -1,3 +1,4 @@
+-- What holds at each turn of the loop over `i` in `Palette::index_pixels`.
 use Rattle.std.proofs.Common.{◌≡◌, ◌∷◌, [], map, take}
 use Rattle.std.specs.Option.{option_map}
 use Rattle.pix_palette.specs.Palette.{Answers, IsSet, numbers}

@@ -1,3 +1,4 @@
+-- Of `Palette::index_raster`: the clause `indexed`.
 use Rattle.std.proofs.Common.{◌≡◌, ◌∙◌, length}
 use Rattle.pix_raster.specs.Image.{Image}
 use Rattle.pix_palette.proofs.IndexingLaws.{all_indexed}

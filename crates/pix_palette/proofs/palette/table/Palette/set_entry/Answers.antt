@@ -1,3 +1,4 @@
+-- Of `Palette::set_entry`: the clauses `standing` and `nearest`.
 use Rattle.std.proofs.Common.{◌≡◌, Some, refl, sym, ap, ◌∙◌}
 use Rattle.std.proofs.lemmas.Bool.{true≢false}
 use Rattle.std.specs.Prelude.{is_some}

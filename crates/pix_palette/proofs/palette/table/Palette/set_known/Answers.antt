@@ -1,3 +1,4 @@
+-- Of `Palette::set_known`: the clauses `set` and `known`, and the condition of its call of `keep`.
 use Rattle.std.specs.Cmp.Lexicographic.{same_text}
 use Rattle.std.proofs.Common.{◌≡◌, [], map, get_or, sym, ap, ◌∙◌, arith}
 use Rattle.std.proofs.lemmas.List.{length-map, get_or-map}
