@@ -1,4 +1,4 @@
--- The color models: how the channels of each stand.
+-- The color models: how the channels of each stand. A new model is a line in each of its tables.
 use Rattle.std.specs.Prelude.{ℕ, ◌+◌}
 use Rattle.std.specs.declared.ops.Range.{Range}
 

@@ -3,6 +3,8 @@
 //! Pixels of four channels without a hue go four at a time, interleaved, as they lie. Pixels of four channels with a hue at the first go by
 //! planes, arrays of sixteen channels of one number, and so do pixels of two channels without a hue. Mattes go by planes as far as there
 //! are sixteen.
+//!
+//! Nothing of this is in a contract above, so another way to cut a slice into blocks changes this file and its folder alone.
 ghost use Rattle.std.specs.Prelude.{◌≡◌, ◌≤◌, ◌+◌, ◌-◌, ℕ, length, map, take, true, replicate};
 ghost use Rattle.pix_chan.specs.Runs.{over, triples};
 ghost use Rattle.pix_el.specs.Planes.{run_hue, run_first, matted_first};

@@ -1,4 +1,5 @@
 -- The operators of Porter and Duff: the coefficients of the source and of the destination.
+-- A new operator is a row of the table; all below it is computed from the rows.
 use Rattle.std.specs.Prelude.{ℕ, ◌+◌, ◌*◌, Bool, true, false, ◌||◌, ◌==◌}
 use Rattle.pix_ops.specs.declared.ops.Op.{Op}
 use Rattle.pix_ops.specs.declared.ops.Op.TheVariants.{Src, Dest, SrcOver, DestOver, SrcOut, DestOut, SrcIn, DestIn, SrcAtop, DestAtop, Xor, Clear, Plus}

@@ -1,4 +1,7 @@
 //! The sRGB transfer curve (IEC 61966-2-1) on channels of 8 bits: two tables.
+//!
+//! The definitions are these tables: a proof refuses another entry only where the curve then falls or misses an end. That each is the nearest to the curve is
+//! for `srgb_tables` of `pix_vectors` to test.
 ghost use Rattle.std.specs.Prelude.{◌≡◌};
 ghost use Rattle.pix_chan.specs.Srgb.{srgb_decoded, srgb_encoded, IsCurve};
 

@@ -1,4 +1,6 @@
 //! Changes of the pixels of a row: copies, composites, and composites of a color through mattes.
+//!
+//! A drawing call of another kind is another struct here, with its `Fill` or `Blit`; the walks of `lent.rt` stay as they are.
 ghost use Rattle.std.specs.Prelude.{◌≡◌, ◌+◌, ⊤};
 ghost use Rattle.pix_el.specs.PixelComposite.{pixel_composite, matted_composite, matte_value, matte_numbers};
 
