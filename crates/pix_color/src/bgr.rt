@@ -19,7 +19,7 @@ use std::ops::Range;
 /// ```rust
 /// let sky = Bgr8::new(230, 160, 90);
 /// let blue = Bgr::blue(sky); // 230, the first channel
-/// let screen = sky.convert::<Rgb8>(); // (90, 160, 230)
+/// let red = Bgr::red(sky); // 90, the last one
 /// ```
 #[derive(Clone, Copy, Debug, Default, PartialEq, Eq)]
 pub struct Bgr {}

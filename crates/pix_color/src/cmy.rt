@@ -20,7 +20,7 @@ use std::ops::Range;
 /// ```rust
 /// let print = Cmy8::new(165, 95, 25);
 /// let cyan = Cmy::cyan(print); // 165
-/// let paper = print.convert::<Rgb8>(); // (90, 160, 230)
+/// let magenta = Cmy::magenta(print); // 95
 /// ```
 #[derive(Clone, Copy, Debug, Default, PartialEq, Eq)]
 pub struct Cmy {}

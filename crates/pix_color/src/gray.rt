@@ -23,7 +23,7 @@ use std::ops::Range;
 /// ```rust
 /// let stone = Gray8::new(120);
 /// let value = Gray::value(stone); // 120
-/// let plain = stone.convert::<Rgb8>(); // (120, 120, 120)
+/// let absent = stone.alpha(); // 255, since the format has none
 /// ```
 #[derive(Clone, Copy, Debug, Default, PartialEq, Eq)]
 pub struct Gray {}

@@ -25,7 +25,7 @@ use std::ops::Range;
 /// ```rust
 /// let pale = Hsl8::new(85, 255, 192);
 /// let lightness = Hsl::lightness(pale); // 192
-/// let light = pale.convert::<Rgb8>();
+/// let saturation = Hsl::saturation(pale); // 255
 /// ```
 #[derive(Clone, Copy, Debug, Default, PartialEq, Eq)]
 pub struct Hsl {}

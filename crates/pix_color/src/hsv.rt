@@ -23,7 +23,7 @@ use std::ops::Range;
 /// ```rust
 /// let green = Hsv8::new(85, 255, 128);
 /// let hue = Hsv::hue(green); // 85, a third of the circle
-/// let dark = green.convert::<Rgb8>(); // (0, 128, 0)
+/// let value = Hsv::value(green); // 128
 /// ```
 #[derive(Clone, Copy, Debug, Default, PartialEq, Eq)]
 pub struct Hsv {}

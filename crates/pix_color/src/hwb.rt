@@ -24,7 +24,7 @@ use std::ops::Range;
 /// ```rust
 /// let muted = Hwb8::new(85, 64, 64);
 /// let whiteness = Hwb::whiteness(muted); // 64
-/// let mixed = muted.convert::<Rgb8>(); // (64, 191, 64)
+/// let blackness = Hwb::blackness(muted); // 64
 /// ```
 #[derive(Clone, Copy, Debug, Default, PartialEq, Eq)]
 pub struct Hwb {}

@@ -23,7 +23,7 @@ use std::ops::Range;
 /// ```rust
 /// let tint = Xyz8::new(144, 152, 229);
 /// let luminance = Xyz::y(tint); // 152
-/// let lit = tint.convert::<Rgb8>();
+/// let z = Xyz::z(tint); // 229
 /// ```
 #[derive(Clone, Copy, Debug, Default, PartialEq, Eq)]
 pub struct Xyz {}

@@ -23,7 +23,7 @@ use std::ops::Range;
 /// ```rust
 /// let video = YCbCr8::new(147, 175, 87);
 /// let luma = YCbCr::y(video); // 147
-/// let frame = video.convert::<Rgb8>();
+/// let reddish = YCbCr::cr(video); // 87: less red than gray has, at 128
 /// ```
 #[derive(Clone, Copy, Debug, Default, PartialEq, Eq)]
 pub struct YCbCr {}

@@ -10,7 +10,7 @@ use pix::hsv::{Hsv, Hsv8};
 use pix::hue::{Hexcone, rgb_to_hue_chroma_value};
 use pix::hwb::{Hwb, Hwb8};
 use pix::matte::Matte8;
-use pix::rgb::{Rgb8, Rgba8};
+use pix::rgb::Rgba8;
 use pix::xyz::{Xyz, Xyz8};
 use pix::ycc::{YCbCr, YCbCr8};
 
@@ -23,46 +23,45 @@ pub fn by_rgba() -> (Rgba8, Gray8) {
 }
 
 /// Reads the channels of colors that have a hue.
-pub fn hues() -> ([Ch8; 3], [Rgb8; 3]) {
+pub fn hues() -> [Ch8; 6] {
     let green = Hsv8::new(85, 255, 128);
     let hue = Hsv::hue(green); // 85, a third of the circle
-    let dark = green.convert::<Rgb8>(); // (0, 128, 0)
+    let value = Hsv::value(green); // 128
 
     let pale = Hsl8::new(85, 255, 192);
     let lightness = Hsl::lightness(pale); // 192
-    let light = pale.convert::<Rgb8>();
+    let saturation = Hsl::saturation(pale); // 255
 
     let muted = Hwb8::new(85, 64, 64);
     let whiteness = Hwb::whiteness(muted); // 64
-    let mixed = muted.convert::<Rgb8>(); // (64, 191, 64)
-    ([hue, lightness, whiteness], [dark, light, mixed])
+    let blackness = Hwb::blackness(muted); // 64
+    [hue, value, lightness, saturation, whiteness, blackness]
 }
 
 /// Reads the channels of colors that have none.
-pub fn others() -> ([Ch8; 5], [Rgb8; 5]) {
+pub fn others() -> [Ch8; 10] {
     let sky = Bgr8::new(230, 160, 90);
     let blue = Bgr::blue(sky); // 230, the first channel
-    let screen = sky.convert::<Rgb8>(); // (90, 160, 230)
+    let red = Bgr::red(sky); // 90, the last one
 
     let print = Cmy8::new(165, 95, 25);
     let cyan = Cmy::cyan(print); // 165
-    let paper = print.convert::<Rgb8>(); // (90, 160, 230)
+    let magenta = Cmy::magenta(print); // 95
 
     let stone = Gray8::new(120);
     let value = Gray::value(stone); // 120
-    let plain = stone.convert::<Rgb8>(); // (120, 120, 120)
+    let absent = stone.alpha(); // 255, since the format has none
 
     let video = YCbCr8::new(147, 175, 87);
     let luma = YCbCr::y(video); // 147
-    let frame = video.convert::<Rgb8>();
+    let reddish = YCbCr::cr(video); // 87: less red than gray has, at 128
 
     let tint = Xyz8::new(144, 152, 229);
     let luminance = Xyz::y(tint); // 152
-    let lit = tint.convert::<Rgb8>();
-    (
-        [blue, cyan, value, luma, luminance],
-        [screen, paper, plain, frame, lit],
-    )
+    let z = Xyz::z(tint); // 229
+    [
+        blue, red, cyan, magenta, value, absent, luma, reddish, luminance, z,
+    ]
 }
 
 /// Takes the alpha of a color as a matte.
