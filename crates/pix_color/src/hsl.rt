@@ -18,7 +18,7 @@ use std::ops::Range;
 
 /// The model of hue, saturation and lightness, from G. H. Joblove and D. Greenberg, *Color Spaces for Computer Graphics*, SIGGRAPH 1978.
 ///
-/// The lightness is the middle of the greatest and the least of red, green and blue, and the saturation what the chroma has of its greatest there.
+/// The lightness is the middle of the greatest and the least of red, green and blue, rounded, and the saturation what the chroma has of its greatest there.
 ///
 /// # Examples
 ///

@@ -17,7 +17,8 @@ use std::ops::Range;
 /// The model of hue, whiteness and blackness, from A. R. Smith and E. R. Lyons, *HWB: A More Intuitive Hue-Based Color Model*, Journal of Graphics
 /// Tools 1(1), 1996.
 ///
-/// The whiteness is the least of red, green and blue, and the blackness what the greatest lacks of the maximum.
+/// The whiteness is the least of red, green and blue, but for the rounding of the saturation that it is computed by, and the blackness what the greatest
+/// lacks of the maximum.
 ///
 /// # Examples
 ///
