@@ -22,14 +22,14 @@ few_channels layout stated is few within =
     let e : layout.alpha ≡ stated.alpha = ap (λ (l : Layout). l.alpha) is in omega arith
 
 -- within one model, from the channels at the target's depth
-pub within_is : (format to : Format) (gamma to_gamma : GammaMode) (layout to_layout : Layout) (pixel rescaled : List ℕ) (a b c d : ℕ)
-    → format.layout ≡ layout → to.layout ≡ to_layout → rescaled ≡ of_depth layout to_layout pixel → to_layout.count ≤ 4
-    → a ≡ channel_reencoded format gamma to to_gamma rescaled 0 → b ≡ channel_reencoded format gamma to to_gamma rescaled 1
-    → c ≡ channel_reencoded format gamma to to_gamma rescaled 2 → d ≡ channel_reencoded format gamma to to_gamma rescaled 3
+pub within_is : (format to : Format) (gamma to_gamma : GammaMode) (layout to_layout : Layout) (pixel deep : List ℕ) (a b c d : ℕ)
+    → format.layout ≡ layout → to.layout ≡ to_layout → deep ≡ of_depth layout to_layout pixel → to_layout.count ≤ 4
+    → a ≡ channel_reencoded format gamma to to_gamma deep 0 → b ≡ channel_reencoded format gamma to to_gamma deep 1
+    → c ≡ channel_reencoded format gamma to to_gamma deep 2 → d ≡ channel_reencoded format gamma to to_gamma deep 3
     → take to_layout.count (a ∷ b ∷ c ∷ d ∷ []) ≡ within_model format gamma to to_gamma pixel
-within_is format to gamma to_gamma layout to_layout pixel rescaled a b c d el et ed few e0 e1 e2 e3 =
-    four_channels (channel_reencoded format gamma to to_gamma rescaled) a b c d to_layout.count few e0 e1 e2 e3
-    ∙ ap (λ (n : ℕ). map (channel_reencoded format gamma to to_gamma rescaled) (range_with_len 0 n)) (ap (λ (l : Layout). l.count) (sym et))
+within_is format to gamma to_gamma layout to_layout pixel deep a b c d el et ed few e0 e1 e2 e3 =
+    four_channels (channel_reencoded format gamma to to_gamma deep) a b c d to_layout.count few e0 e1 e2 e3
+    ∙ ap (λ (n : ℕ). map (channel_reencoded format gamma to to_gamma deep) (range_with_len 0 n)) (ap (λ (l : Layout). l.count) (sym et))
     ∙ ap (λ (p : List ℕ). map (channel_reencoded format gamma to to_gamma p) (range_with_len 0 to.layout.count))
     (ed ∙ ap (λ (l : Layout). of_depth l to_layout pixel) (sym el) ∙ ap (λ (l : Layout). of_depth format.layout l pixel) (sym et))
 

@@ -62,24 +62,24 @@ where
     )
 }
 
-/// Returns the channel `ch` of `rescaled`, a pixel of the format `P` at the depth of `D`, in the format of `D`.
+/// Returns the channel `ch` of `deep`, a pixel of the format `P` at the depth of `D`, in the format of `D`.
 ///
-/// Condition: `alpha` is the alpha of `rescaled`.
-fn channel_reencoded<P, D>(rescaled: &D, ch: usize, alpha: D::Chan) -> D::Chan
+/// Condition: `alpha` is the alpha of `deep`.
+fn channel_reencoded<P, D>(deep: &D, ch: usize, alpha: D::Chan) -> D::Chan
 where
     P: Pixel,
     D: Pixel,
     P::Gamma: Gamma<D::Chan>,
-    requires { D.Chan.number alpha ≡ alpha_of D.layout (D.numbers rescaled.now) }
+    requires { D.Chan.number alpha ≡ alpha_of D.layout (D.numbers deep.now) }
     ensures { D.Chan.number result ≡
         channel_reencoded P.format ⟦<P::Gamma as Gamma<D::Chan>>⟧.mode D.format D.Gamma.mode
-        (D.numbers rescaled.now) ch }
+        (D.numbers deep.now) ch }
 {
     let colors = <D::Model as ColorModel>::LINEAR;
     if colors.start <= ch && ch < colors.end {
-        reencoded::<D::Chan, P::Alpha, P::Gamma, D::Alpha, D::Gamma>(rescaled.get(ch), alpha)
+        reencoded::<D::Chan, P::Alpha, P::Gamma, D::Alpha, D::Gamma>(deep.get(ch), alpha)
     } else {
-        rescaled.get(ch)
+        deep.get(ch)
     }
 }
 
@@ -97,11 +97,11 @@ where
         within_model P.format ⟦<P::Gamma as Gamma<D::Chan>>⟧.mode D.format D.Gamma.mode
         (P.numbers p) }
 {
-    let rescaled = D::from_bit_depth(p);
-    let alpha = rescaled.alpha();
-    let one = channel_reencoded::<P, D>(&rescaled, 0, alpha);
-    let two = channel_reencoded::<P, D>(&rescaled, 1, alpha);
-    let three = channel_reencoded::<P, D>(&rescaled, 2, alpha);
-    let four = channel_reencoded::<P, D>(&rescaled, 3, alpha);
+    let deep = D::from_bit_depth(p);
+    let alpha = deep.alpha();
+    let one = channel_reencoded::<P, D>(&deep, 0, alpha);
+    let two = channel_reencoded::<P, D>(&deep, 1, alpha);
+    let three = channel_reencoded::<P, D>(&deep, 2, alpha);
+    let four = channel_reencoded::<P, D>(&deep, 3, alpha);
     D::from_four(one, two, three, four)
 }

@@ -208,7 +208,7 @@ pub trait Pixel: Sealed + Clone + Copy + Debug + Default + PartialEq {
     /// ```rust
     /// let photo = [SRgb8::new::<u8>(188, 0, 0), SRgb8::new::<u8>(0, 188, 0)];
     /// let light = photo[0].convert::<Rgba8p>(); // (128, 0, 0, 255)
-    /// let fine = Rgba16p::from_bit_depth(light); // (32896, 0, 0, 65535)
+    /// let deep = Rgba16p::from_bit_depth(light); // (32896, 0, 0, 65535)
     /// ```
     final fn convert<D>(self) -> D
     where
@@ -241,7 +241,7 @@ pub trait Pixel: Sealed + Clone + Copy + Debug + Default + PartialEq {
     /// ```rust
     /// let photo = [SRgb8::new::<u8>(188, 0, 0), SRgb8::new::<u8>(0, 188, 0)];
     /// let light = photo[0].convert::<Rgba8p>(); // (128, 0, 0, 255)
-    /// let fine = Rgba16p::from_bit_depth(light); // (32896, 0, 0, 65535)
+    /// let deep = Rgba16p::from_bit_depth(light); // (32896, 0, 0, 65535)
     /// let mut row = [Rgba8p::default(); 2];
     /// SRgb8::convert_slice::<Rgba8p>(&mut row, &photo);
     /// ```

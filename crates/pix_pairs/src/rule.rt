@@ -18,7 +18,7 @@ struct Pixel {
 }
 
 /// The number at a width of the same fraction at another: times 257 to sixteen bits, and the upper eight bits from there.
-fn rescaled(x: u32, from: Depth, to: Depth) -> u32 {
+fn deepened(x: u32, from: Depth, to: Depth) -> u32 {
     match (from, to) {
         (Depth::Eight, Depth::Sixteen) => (u64::from(x) * 257).min(65535) as u32,
         (Depth::Sixteen, Depth::Eight) => x / 256,
@@ -88,9 +88,9 @@ fn reencoded_pixel(pixel: Pixel, has_hue: bool, from: Format, to: Format) -> Pix
 }
 
 /// A pixel of the width of `from` at that of `to`.
-fn rescaled_pixel(pixel: Pixel, from: Format, to: Format) -> Pixel {
+fn deepened_pixel(pixel: Pixel, from: Format, to: Format) -> Pixel {
     let [one, two, three] = pixel.colors;
-    let [one, two, three, alpha] = [one, two, three, pixel.alpha].map(|x| rescaled(
+    let [one, two, three, alpha] = [one, two, three, pixel.alpha].map(|x| deepened(
         x, from.depth, to.depth,
     ));
     let colors = [one, two, three];
@@ -128,15 +128,15 @@ fn written(format: Format, pixel: Pixel) -> Channels {
 pub(crate) fn converted(from: Format, to: Format, numbers: [u32; 4]) -> Channels {
     let pixel = read(from, numbers);
     if from.model == to.model {
-        let mut rescaled = rescaled_pixel(pixel, from, to);
+        let mut deep = deepened_pixel(pixel, from, to);
         if !to.has_alpha {
-            rescaled.alpha = to.depth.max();
+            deep.alpha = to.depth.max();
         }
-        return written(to, reencoded_pixel(rescaled, to.model.has_hue(), from, to));
+        return written(to, reencoded_pixel(deep, to.model.has_hue(), from, to));
     }
     let colors = into_rgb(from.model, pixel.colors, from.depth);
     let alpha = pixel.alpha;
-    let rgb = rescaled_pixel(Pixel { colors, alpha }, from, to);
+    let rgb = deepened_pixel(Pixel { colors, alpha }, from, to);
     let rgb = reencoded_pixel(rgb, false, from, to);
     let colors = from_rgb(to.model, rgb.colors, to.depth);
     let alpha = rgb.alpha;
