@@ -16,7 +16,7 @@ ghost use Rattle.pix_el.specs.PixelLaws.{numbers_of_replicate, equal_numbers, eq
 ghost use Rattle.pix_el.specs.contracts.el.Pix.{the_row};
 
 use crate::conversion::blocks::convert_blocks;
-use crate::conversion::{at_depth, channel_at_depth, converted_within, reencoded_color};
+use crate::conversion::{at_depth, channel_at_depth, converted_within, recoded_color};
 use crate::each::{composite_each, scale_each};
 use crate::matte::Matte;
 use crate::model::ColorModel;
@@ -225,9 +225,9 @@ pub trait Pixel: Sealed + Clone + Copy + Debug + Default + PartialEq {
         } else {
             let (red, green, blue, alpha) = <Self::Model as ColorModel>::into_four::<Self>(self);
             let alpha = at_depth::<Self::Chan, D::Chan>(alpha);
-            let red = reencoded_color::<Self, D>(red, alpha);
-            let green = reencoded_color::<Self, D>(green, alpha);
-            let blue = reencoded_color::<Self, D>(blue, alpha);
+            let red = recoded_color::<Self, D>(red, alpha);
+            let green = recoded_color::<Self, D>(green, alpha);
+            let blue = recoded_color::<Self, D>(blue, alpha);
             <D::Model as ColorModel>::from_four::<D>(red, green, blue, alpha)
         }
     }

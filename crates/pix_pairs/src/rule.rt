@@ -54,7 +54,7 @@ pub(crate) fn quotient(x: u32, y: u32, depth: Depth) -> u32 {
 }
 
 /// A color at an alpha, from the alpha mode and gamma of one format to those of another.
-fn reencoded(x: u32, alpha: u32, from: Format, to: Format) -> u32 {
+fn recoded(x: u32, alpha: u32, from: Format, to: Format) -> u32 {
     let is_same_mode = from.is_premultiplied == to.is_premultiplied;
     if is_same_mode && from.is_srgb == to.is_srgb {
         return x;
@@ -70,19 +70,19 @@ fn reencoded(x: u32, alpha: u32, from: Format, to: Format) -> u32 {
     if to.is_srgb { encoded(stored) } else { stored }
 }
 
-/// A pixel that has the width of `to`, with each color but a hue re-encoded.
-fn reencoded_pixel(pixel: Pixel, has_hue: bool, from: Format, to: Format) -> Pixel {
+/// A pixel that has the width of `to`, with each color but a hue recoded.
+fn recoded_pixel(pixel: Pixel, has_hue: bool, from: Format, to: Format) -> Pixel {
     let [one, two, three] = pixel.colors;
     let alpha = pixel.alpha;
     let one = if has_hue {
         one
     } else {
-        reencoded(one, alpha, from, to)
+        recoded(one, alpha, from, to)
     };
     let colors = [
         one,
-        reencoded(two, alpha, from, to),
-        reencoded(three, alpha, from, to),
+        recoded(two, alpha, from, to),
+        recoded(three, alpha, from, to),
     ];
     Pixel { colors, alpha }
 }
@@ -132,12 +132,12 @@ pub(crate) fn converted(from: Format, to: Format, numbers: [u32; 4]) -> Channels
         if !to.has_alpha {
             deep.alpha = to.depth.max();
         }
-        return written(to, reencoded_pixel(deep, to.model.has_hue(), from, to));
+        return written(to, recoded_pixel(deep, to.model.has_hue(), from, to));
     }
     let colors = into_rgb(from.model, pixel.colors, from.depth);
     let alpha = pixel.alpha;
     let rgb = deepened_pixel(Pixel { colors, alpha }, from, to);
-    let rgb = reencoded_pixel(rgb, false, from, to);
+    let rgb = recoded_pixel(rgb, false, from, to);
     let colors = from_rgb(to.model, rgb.colors, to.depth);
     let alpha = rgb.alpha;
     written(to, Pixel { colors, alpha })
