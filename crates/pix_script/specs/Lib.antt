@@ -10,3 +10,4 @@ pub mod Fault
 pub mod Script
 pub mod Reading
 pub mod Stop
+pub mod Run

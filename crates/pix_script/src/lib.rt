@@ -32,10 +32,12 @@ mod number;
 mod parse;
 mod picture;
 mod pixel;
+mod program;
 mod script;
 mod stop;
 mod text;
 
 pub use fault::{PaintFault, Problem};
+pub use program::run;
 pub use script::{MAX_SCRIPT, paint_text};
 pub use stop::{PaintStop, paint_io};

@@ -76,7 +76,7 @@ fn pass_on<R: Read, W: Write>(
     ensures { Leaves (R.remaining reader.old) (R.remaining reader.new)
         (W.contents writer.old) (W.contents writer.new) result }
 {
-    let script = read_script(alloc, reader)?;
+    let script = read_bytes(alloc, reader)?;
     let text = paint_text(alloc, &script).map_err(PaintStop::Script)?;
     writer.write_all(&text).map_err(|_| PaintStop::Write)?;
     writer.flush().map_err(|_| PaintStop::Write)?;
@@ -84,7 +84,7 @@ fn pass_on<R: Read, W: Write>(
 }
 
 /// Reads the bytes up to the end, or as many as show that they are too many for a script.
-fn read_script<R: Read>(alloc: Global, reader: &mut R) -> Result<Vec<u8>, PaintStop>
+fn read_bytes<R: Read>(alloc: Global, reader: &mut R) -> Result<Vec<u8>, PaintStop>
     ensures ok { IfOk result (λ script.
         IsInput (R.remaining reader.old) (R.remaining reader.new) script.items) }
     ensures err { IfErr result IsReadStop }

@@ -56,6 +56,8 @@ mod random_lists;
 #[cfg(test)]
 mod rasters;
 #[cfg(test)]
+mod reports;
+#[cfg(test)]
 mod rgbas;
 #[cfg(test)]
 mod rows;

@@ -4,11 +4,7 @@
 //! 2 after an allocation failure, and 3 after a failed read or write.
 #![tactic(auto)]
 
-mod run;
-#[cfg(test)]
-mod tests;
-
-use run::run;
+use pix_script::run;
 use std::process::ExitCode;
 
 fn main(rt: HostRuntime) -> ExitCode {

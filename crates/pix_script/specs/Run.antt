@@ -1,6 +1,5 @@
--- How the program ends.
+-- The exit status of a run, and its report.
 use Rattle.std.specs.Prelude.{◌≡◌, ℕ, List, Option, Result, Ok, Err}
-use Rattle.std.specs.Io.KnownBytes.{Keeps}
 use Rattle.pix_script.specs.declared.fault.PaintFault.TheVariants as faults
 use Rattle.pix_script.specs.declared.stop.PaintStop.{PaintStop}
 use Rattle.pix_script.specs.declared.stop.PaintStop.TheVariants as stops

@@ -1,5 +1,5 @@
-//! Runs over readers and writers, with the statuses and the reports.
-use crate::run::run;
+//! Runs of scripts over readers and writers, with the statuses and the reports.
+use pix_script::run;
 use std::alloc::Global;
 use std::io;
 use std::io::{ErrorKind, Read, Write};

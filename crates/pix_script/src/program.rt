@@ -1,16 +1,18 @@
-//! What the program does, and how it ends.
+//! A run from an input to an output, with its report and its exit status.
 ghost use Rattle.std.specs.Prelude.{◌≡◌, ◌++◌, ◌∷◌, [], OnOk};
 ghost use Rattle.std.specs.Io.KnownBytes.{Appends};
 ghost use Rattle.pix_script.specs.Stop.{stop_text};
-ghost use Rattle.pixpaint.specs.Run.{Ends, status_of};
+ghost use Rattle.pix_script.specs.Run.{Ends, status_of};
 
-use pix_script::{PaintFault, PaintStop, paint_io};
+use crate::fault::PaintFault;
+use crate::stop::{PaintStop, paint_io};
 use std::alloc::Global;
 use std::io;
 use std::io::{Read, Write};
 
-/// Runs the program on an input, an output and an error output, and returns its exit status.
-pub(crate) fn run<R: Read, W: Write, E: Write>(
+/// Renders the script of an input to an output by [`paint_io`], reports a stop by one line on an error output, and returns the exit
+/// status: 0 after an image, 1 after a fault of the script, 2 after an allocation failure, and 3 after a failed read or write.
+pub fn run<R: Read, W: Write, E: Write>(
     alloc: Global,
     input: &mut R,
     output: &mut W,
