@@ -209,21 +209,23 @@ RGBA8 = PixelType("RGBA8", 4, ctypes.c_uint8, "pix_run_commands")
 RGBA16 = PixelType("RGBA16", 4, ctypes.c_uint16, "pix_run_commands_rgba16")
 GRAYA8 = PixelType("GRAYA8", 2, ctypes.c_uint8, "pix_run_commands_graya8")
 
-# The version of the calls that are declared here.
+# The version of the calls that are declared here, and the fields whose offsets the library answers, in its order.
 _VERSION = 1
+_REGION = "x y width height"
+_COMMAND = "kind op to from_ color pixels pixel_count mattes matte_count width height stride"
 
 
-def _layout(structure: Any) -> list:
-    """The size of a structure and the offsets of its fields."""
-    return [ctypes.sizeof(structure)] + [getattr(structure, name).offset for name, _ in structure._fields_]
+def _layout(structure: Any, names: str) -> list:
+    """The size of a structure and the offsets of these fields."""
+    return [ctypes.sizeof(structure)] + [getattr(structure, name).offset for name in names.split()]
 
 
 def _refuse_another(library: Any) -> None:
     """Raises an ImportError if the library has another version or lays out anything otherwise than this module."""
     types = (RGBA8, RGBA16, GRAYA8)
-    facts = [_VERSION] + [ctypes.sizeof(type._color) for type in types] + _layout(_Region)
+    facts = [_VERSION] + [ctypes.sizeof(type._color) for type in types] + _layout(_Region, _REGION)
     for type in types:
-        facts += _layout(type._command)
+        facts += _layout(type._command, _COMMAND)
     if [library.pix_layout(i) for i in range(len(facts) + 1)] != facts + [2**32 - 1]:
         raise ImportError("pix: the library has another version or layout than pix.py")
 

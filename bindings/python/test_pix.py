@@ -158,7 +158,7 @@ class Borders(unittest.TestCase):
         number = Number(0, lambda: commands and setattr(commands[0], "_source", image))
         commands.append(pix.copy_image(WHOLE, other))
         with self.assertRaisesRegex(ValueError, "shares memory"):
-            image.run(commands[0], pix.copy_color((number, 0, 1, 1), COLOR))
+            image.run(pix.copy_color((number, 0, 1, 1), COLOR), commands[0])
         self.assertEqual(pixels, bytes(64))
 
     def test_adjacent_buffers(self):
