@@ -50,6 +50,9 @@
 #include <stdint.h>
 #include <string.h>
 
+/* The version of the library that this header belongs to. */
+#define PIX_VERSION "0.1.0"
+
 #ifdef __cplusplus
 extern "C" {
 #endif
@@ -300,8 +303,8 @@ uint32_t pix_convert_bytes(uint32_t from, uint32_t to, const uint8_t *src, size_
  * order. UINT32_MAX where there are no more. */
 uint32_t pix_layout(size_t index);
 
-/* The version of these calls: another one where a call, a number or a layout changes. */
-#define PIX_VERSION 1
+/* The version of the binary interface: another one where a call, a number or a layout changes. */
+#define PIX_ABI_VERSION 1
 
 /* ---- Definitions. Nothing below is for callers. ---- */
 
@@ -347,7 +350,7 @@ PIX_LAYOUT_(pix_command_graya8, pix_graya8);
         offsetof(command, mattes), offsetof(command, matte_count), offsetof(command, width),                           \
         offsetof(command, height), offsetof(command, stride)
 #define PIX_FACTS_                                                                                                     \
-    PIX_VERSION, sizeof(pix_rgba8), sizeof(pix_rgba16), sizeof(pix_graya8), sizeof(pix_region),                        \
+    PIX_ABI_VERSION, sizeof(pix_rgba8), sizeof(pix_rgba16), sizeof(pix_graya8), sizeof(pix_region),                    \
         offsetof(pix_region, x), offsetof(pix_region, y), offsetof(pix_region, width), offsetof(pix_region, height),   \
         PIX_COMMAND_FACTS_(pix_command), PIX_COMMAND_FACTS_(pix_command_rgba16), PIX_COMMAND_FACTS_(pix_command_graya8)
 

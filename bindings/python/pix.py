@@ -37,6 +37,7 @@ from enum import IntEnum
 from operator import index
 from typing import Any, Iterable, Iterator, Optional, Tuple
 
+__version__ = "0.1.0"
 __all__ = [
     "Op", "Format", "Status", "PixError", "PixelType", "RGBA8", "RGBA16", "GRAYA8", "Image", "Matte", "Command",
     "clear", "copy_color", "copy_image", "composite_color", "composite_image", "composite_matte", "convert",
@@ -209,8 +210,8 @@ RGBA8 = PixelType("RGBA8", 4, ctypes.c_uint8, "pix_run_commands")
 RGBA16 = PixelType("RGBA16", 4, ctypes.c_uint16, "pix_run_commands_rgba16")
 GRAYA8 = PixelType("GRAYA8", 2, ctypes.c_uint8, "pix_run_commands_graya8")
 
-# The version of the calls that are declared here, and the fields whose offsets the library answers, in its order.
-_VERSION = 1
+# The version of the binary interface, and the fields whose offsets the library answers, in its order.
+_ABI_VERSION = 1
 _REGION = "x y width height"
 _COMMAND = "kind op to from_ color pixels pixel_count mattes matte_count width height stride"
 
@@ -223,7 +224,7 @@ def _layout(structure: Any, names: str) -> list:
 def _refuse_another(library: Any) -> None:
     """Raises an ImportError if the library has another version or lays out anything otherwise than this module."""
     types = (RGBA8, RGBA16, GRAYA8)
-    facts = [_VERSION] + [ctypes.sizeof(type._color) for type in types] + _layout(_Region, _REGION)
+    facts = [_ABI_VERSION] + [ctypes.sizeof(type._color) for type in types] + _layout(_Region, _REGION)
     for type in types:
         facts += _layout(type._command, _COMMAND)
     if [library.pix_layout(i) for i in range(len(facts) + 1)] != facts + [2**32 - 1]:

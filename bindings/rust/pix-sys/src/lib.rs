@@ -197,8 +197,8 @@ unsafe extern "C" {
     pub safe fn pix_layout(index: usize) -> u32;
 }
 
-/// The version of these declarations.
-pub const VERSION: u32 = 1;
+/// The version of the binary interface: another one where a call, a number or a layout changes.
+pub const ABI_VERSION: u32 = 1;
 
 /// What [`pix_layout`] answers, from 0 on: the version; the sizes of the three kinds of pixels and of a region, and the
 /// offsets of its fields; the size of the command of each kind, and the offsets of its fields.
@@ -210,7 +210,7 @@ const fn facts() -> [u32; 48] {
         command_facts::<Rgba16, u16>(),
         command_facts::<Graya8, u8>(),
     );
-    let mut all = [VERSION; 48];
+    let mut all = [ABI_VERSION; 48];
     all[1] = size_of::<Rgba8>() as u32;
     all[2] = size_of::<Rgba16>() as u32;
     all[3] = size_of::<Graya8>() as u32;
