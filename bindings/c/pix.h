@@ -38,6 +38,9 @@
  *
  * A source must not share memory with the image that is written. That is tested: see PIX_OVERLAP.
  *
+ * The library is built for processors of x86-64 that have SSE4.1. pix_check_library tells whether the archive that is
+ * linked is the one that this header speaks of; a program may ask it once, before all else.
+ *
  * Needs C99 or C++11. Link the program with libpix_c.a; it needs memset, memcpy and memmove, and nothing else.
  */
 #ifndef PIX_H
@@ -46,6 +49,9 @@
 #include <stddef.h>
 #include <stdint.h>
 #include <string.h>
+
+/* The version of the library that this header belongs to. */
+#define PIX_VERSION "0.1.0"
 
 #ifdef __cplusplus
 extern "C" {
@@ -132,9 +138,10 @@ typedef enum {
     PIX_BAD_OP = 4,     /* no such operator */
     PIX_BAD_SOURCE = 5, /* the source or the matte of a command: as PIX_BAD_SIZE */
     PIX_BAD_FORMAT = 6, /* no such format */
-    PIX_BAD_LENGTH = 7, /* more pixels to convert than a quarter of PTRDIFF_MAX */
+    PIX_BAD_LENGTH = 7, /* more pixels to convert than a quarter of PTRDIFF_MAX, or more commands than memory holds */
     PIX_NULL = 8,       /* a pointer is null, and what it points to is not empty */
-    PIX_OVERLAP = 9     /* a source, a matte or the list of commands shares memory with what is written */
+    PIX_OVERLAP = 9,    /* a source, a matte, the list of commands or `done` shares memory with what is written */
+    PIX_BAD_LIBRARY = 10 /* the archive that is linked has another version or another layout than this header */
 } pix_status;
 
 /* A line of English that says what a status means. */
@@ -218,13 +225,21 @@ static inline pix_command pix_composite_matte(pix_region to, pix_matte matte, pi
 
 /* ---- Calls ---- */
 
+/* Whether the archive that is linked has the version and the layout of this header: the offset and the size of all that
+ * crosses to it. No other call tests that.
+ *
+ * Answers PIX_OK or PIX_BAD_LIBRARY. */
+static inline pix_status pix_check_library(void);
+
 /* Runs a list of `count` commands on an image, in order, or none of them.
  *
  * `done`, which may be null, is set to `count` after PIX_OK, and else to the index of the first command that was
- * refused, or to 0 where the image or the list itself was. Pointers and overlaps are tested for the whole list before
- * all else. `commands` may be null where `count` is 0.
+ * refused, or to 0 where the image or the list itself was. Where it lies in the image that is PIX_OVERLAP, and it stays
+ * as it was. Pointers and overlaps are tested for the whole list before all else. `commands` may be null where `count`
+ * is 0.
  *
- * Answers PIX_OK, PIX_BAD_SIZE, PIX_BAD_KIND, PIX_BAD_REGION, PIX_BAD_OP, PIX_BAD_SOURCE, PIX_NULL or PIX_OVERLAP. */
+ * Answers PIX_OK, PIX_BAD_SIZE, PIX_BAD_KIND, PIX_BAD_REGION, PIX_BAD_OP, PIX_BAD_SOURCE, PIX_BAD_LENGTH, PIX_NULL or
+ * PIX_OVERLAP. */
 static inline pix_status pix_run(pix_image image, const pix_command *commands, size_t count, size_t *done);
 
 /* Runs one command. */
@@ -268,7 +283,7 @@ typedef struct {
 
 /* ---- What libpix_c.a has ----
  *
- * The functions above go through these four, which are proved. They test sizes, kinds, regions, operators, sources,
+ * The functions above go through these five, which are proved. They test sizes, kinds, regions, operators, sources,
  * formats and lengths. Here no pointer may be null or badly aligned, also where its length is 0, and those in commands
  * of other kinds neither; and the image, `done` and `dst` may share memory with nothing else that is passed. Lengths
  * are counted in elements. `stride` is at least the width, and 0 doesn't stand for it. */
@@ -283,6 +298,13 @@ uint32_t pix_run_commands_graya8(pix_graya8 *pixels, size_t pixel_count, uint32_
                                  size_t *done);
 uint32_t pix_convert_bytes(uint32_t from, uint32_t to, const uint8_t *src, size_t src_len, uint8_t *dst, size_t dst_len,
                            size_t count);
+
+/* Fact number `index` of the library: first its version, and then the sizes and offsets of PIX_FACTS_ in bytes, in that
+ * order. UINT32_MAX where there are no more. */
+uint32_t pix_layout(size_t index);
+
+/* The version of the binary interface: another one where a call, a number or a layout changes. */
+#define PIX_ABI_VERSION 1
 
 /* ---- Definitions. Nothing below is for callers. ---- */
 
@@ -321,6 +343,27 @@ PIX_LAYOUT_(pix_command, pix_rgba8);
 PIX_LAYOUT_(pix_command_rgba16, pix_rgba16);
 PIX_LAYOUT_(pix_command_graya8, pix_graya8);
 
+/* What pix_layout answers, from 0 on. */
+#define PIX_COMMAND_FACTS_(command)                                                                                    \
+    sizeof(command), offsetof(command, kind), offsetof(command, op), offsetof(command, to), offsetof(command, from),   \
+        offsetof(command, color), offsetof(command, pixels), offsetof(command, pixel_count),                           \
+        offsetof(command, mattes), offsetof(command, matte_count), offsetof(command, width),                           \
+        offsetof(command, height), offsetof(command, stride)
+#define PIX_FACTS_                                                                                                     \
+    PIX_ABI_VERSION, sizeof(pix_rgba8), sizeof(pix_rgba16), sizeof(pix_graya8), sizeof(pix_region),                    \
+        offsetof(pix_region, x), offsetof(pix_region, y), offsetof(pix_region, width), offsetof(pix_region, height),   \
+        PIX_COMMAND_FACTS_(pix_command), PIX_COMMAND_FACTS_(pix_command_rgba16), PIX_COMMAND_FACTS_(pix_command_graya8)
+
+static inline pix_status pix_check_library(void) {
+    static const uint32_t facts[] = {PIX_FACTS_};
+    const size_t count = sizeof facts / sizeof *facts;
+    size_t i;
+    for (i = 0; i < count; i++)
+        if (pix_layout(i) != facts[i])
+            return PIX_BAD_LIBRARY;
+    return pix_layout(count) == UINT32_MAX ? PIX_OK : PIX_BAD_LIBRARY;
+}
+
 /* An address for slices of no elements, aligned for every type above. It is never read. */
 static const uint64_t pix_nothing_ = 0;
 
@@ -350,9 +393,10 @@ static inline const char *pix_status_text(pix_status status) {
     case PIX_BAD_OP: return "no such operator";
     case PIX_BAD_SOURCE: return "a source has a side above 2147483647, a stride below its width, or too many pixels";
     case PIX_BAD_FORMAT: return "no such format";
-    case PIX_BAD_LENGTH: return "too many pixels to convert";
+    case PIX_BAD_LENGTH: return "too many pixels to convert, or too many commands";
     case PIX_NULL: return "a pointer is null";
-    case PIX_OVERLAP: return "a source shares memory with what is written";
+    case PIX_OVERLAP: return "a source, a matte, the list or `done` shares memory with what is written";
+    case PIX_BAD_LIBRARY: return "the library has another version or layout than this header";
     }
     return "no such status";
 }
@@ -440,7 +484,10 @@ static inline const char *pix_status_text(pix_status status) {
         uint64_t nothing = 0;                                                                                          \
         void *pixels = image.pixels || extent ? (void *)image.pixels : (void *)&nothing;                               \
         const void *list = commands || count ? (const void *)commands : (const void *)&pix_nothing_;                   \
-        pix_status status = pix_apart_(pixels, extent * sizeof(PIXEL), list, count * sizeof *commands);                \
+        int is_inside = done && pix_apart_(pixels, extent * sizeof(PIXEL), done, sizeof *done) == PIX_OVERLAP;         \
+        pix_status status = is_inside ? PIX_OVERLAP : PIX_BAD_LENGTH;                                                  \
+        if (!is_inside && count <= (size_t)PTRDIFF_MAX / sizeof *commands)                                             \
+            status = pix_apart_(pixels, extent * sizeof(PIXEL), list, count * sizeof *commands);                       \
         while (status == PIX_OK && at < count) {                                                                       \
             status = pix_beside_##S(pixels, extent * sizeof(PIXEL), &commands[at]);                                    \
             at += status == PIX_OK;                                                                                    \
@@ -448,7 +495,7 @@ static inline const char *pix_status_text(pix_status status) {
         if (status == PIX_OK)                                                                                          \
             status = (pix_status)pix_run_commands##S((PIXEL *)pixels, extent, image.width, image.height, stride,       \
                                                      (const pix_command##S *)list, count, &at);                        \
-        if (done)                                                                                                      \
+        if (done && !is_inside)                                                                                        \
             *done = at;                                                                                                \
         return status;                                                                                                 \
     }                                                                                                                  \

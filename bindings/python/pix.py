@@ -37,6 +37,7 @@ from enum import IntEnum
 from operator import index
 from typing import Any, Iterable, Iterator, Optional, Tuple
 
+__version__ = "0.1.0"
 __all__ = [
     "Op", "Format", "Status", "PixError", "PixelType", "RGBA8", "RGBA16", "GRAYA8", "Image", "Matte", "Command",
     "clear", "copy_color", "copy_image", "composite_color", "composite_image", "composite_matte", "convert",
@@ -156,10 +157,6 @@ class PixelType:
         fields += [("mattes", ctypes.c_void_p), ("matte_count", ctypes.c_size_t)]
         fields += [("width", ctypes.c_uint32), ("height", ctypes.c_uint32), ("stride", ctypes.c_uint32)]
         self._command = type(f"_Command{name}", (ctypes.Structure,), {"_fields_": fields})
-        word = ctypes.sizeof(ctypes.c_size_t)
-        pixels = -(-(40 + ctypes.sizeof(self._color)) // word) * word
-        assert self._command.color.offset == 40 and self._command.pixels.offset == pixels
-        assert self._command.width.offset == pixels + 4 * word
 
     def __repr__(self) -> str:
         return self.name
@@ -185,7 +182,15 @@ if not _has_sse41():
 def _load(kind: Any) -> Any:
     """Loads the shared object, and declares its functions."""
     beside = os.path.join(os.path.dirname(os.path.abspath(__file__)), "libpix_c.so")
-    library = kind(os.environ.get("PIX_LIBRARY", beside))
+    path = os.environ.get("PIX_LIBRARY", beside)
+    try:
+        library = kind(path)
+        library.pix_layout.restype = ctypes.c_uint32
+        library.pix_layout.argtypes = [ctypes.c_size_t]
+    except OSError as fault:
+        raise ImportError(f"pix: no library at {path}: build it there, or name its path in PIX_LIBRARY") from fault
+    except AttributeError as fault:
+        raise ImportError(f"pix: {path} has another version than pix.py: it lacks pix_layout") from fault
     pointer, size, u32 = ctypes.c_void_p, ctypes.c_size_t, ctypes.c_uint32
     for name in ("pix_run_commands", "pix_run_commands_rgba16", "pix_run_commands_graya8"):
         call = getattr(library, name)
@@ -204,6 +209,29 @@ _LONG = 500_000
 RGBA8 = PixelType("RGBA8", 4, ctypes.c_uint8, "pix_run_commands")
 RGBA16 = PixelType("RGBA16", 4, ctypes.c_uint16, "pix_run_commands_rgba16")
 GRAYA8 = PixelType("GRAYA8", 2, ctypes.c_uint8, "pix_run_commands_graya8")
+
+# The version of the binary interface, and the fields whose offsets the library answers, in its order.
+_ABI_VERSION = 1
+_REGION = "x y width height"
+_COMMAND = "kind op to from_ color pixels pixel_count mattes matte_count width height stride"
+
+
+def _layout(structure: Any, names: str) -> list:
+    """The size of a structure and the offsets of these fields."""
+    return [ctypes.sizeof(structure)] + [getattr(structure, name).offset for name in names.split()]
+
+
+def _refuse_another(library: Any) -> None:
+    """Raises an ImportError if the library has another version or lays out anything otherwise than this module."""
+    types = (RGBA8, RGBA16, GRAYA8)
+    facts = [_ABI_VERSION] + [ctypes.sizeof(type._color) for type in types] + _layout(_Region, _REGION)
+    for type in types:
+        facts += _layout(type._command, _COMMAND)
+    if [library.pix_layout(i) for i in range(len(facts) + 1)] != facts + [2**32 - 1]:
+        raise ImportError("pix: the library has another version or layout than pix.py")
+
+
+_refuse_another(_libraries[0])
 
 _NOTHING = (ctypes.c_uint64 * 1)()
 _NOWHERE = ctypes.addressof(_NOTHING)

@@ -3,7 +3,9 @@
 import array
 import copy
 import ctypes
+import os
 import pickle
+import subprocess
 import sys
 import tempfile
 import threading
@@ -156,7 +158,7 @@ class Borders(unittest.TestCase):
         number = Number(0, lambda: commands and setattr(commands[0], "_source", image))
         commands.append(pix.copy_image(WHOLE, other))
         with self.assertRaisesRegex(ValueError, "shares memory"):
-            image.run(commands[0], pix.copy_color((number, 0, 1, 1), COLOR))
+            image.run(pix.copy_color((number, 0, 1, 1), COLOR), commands[0])
         self.assertEqual(pixels, bytes(64))
 
     def test_adjacent_buffers(self):
@@ -196,6 +198,31 @@ class Borders(unittest.TestCase):
             cpuinfo.flush()
             self.assertFalse(pix._has_sse41(cpuinfo.name))
         self.assertTrue(pix._has_sse41("/nowhere"))
+
+
+class Libraries(unittest.TestCase):
+    def imported(self, path):
+        """Returns what an import over the library at a path says at last."""
+        done = subprocess.run([sys.executable, "-c", "import pix"], env={**os.environ, "PIX_LIBRARY": path}, capture_output=True, text=True)
+        return done.stderr.strip().splitlines()[-1:]
+
+    def test_no_library(self):
+        self.assertRegex(self.imported("/nowhere/libpix_c.so")[0], "ImportError: pix: no library at /nowhere/libpix_c.so: build it")
+        with tempfile.NamedTemporaryFile("w") as text:
+            self.assertRegex(self.imported(text.name)[0], "ImportError: pix: no library at")
+
+    @unittest.skipIf("PIX_OTHER" not in os.environ, "no PIX_OTHER")
+    def test_another_library(self):
+        path = os.environ["PIX_OTHER"]
+        self.assertRegex(self.imported(path)[0], "ImportError: pix: the library has another version or layout than pix.py")
+        library = ctypes.PyDLL(path)
+        library.pix_layout.restype = ctypes.c_uint32
+        library.pix_layout.argtypes = [ctypes.c_size_t]
+        fact = ctypes.c_size_t.in_dll(library, "other_fact")
+        for fact.value in range(49):
+            self.assertRaises(ImportError, pix._refuse_another, library)
+        fact.value = 49
+        pix._refuse_another(library)
 
 
 class Threads(unittest.TestCase):
@@ -262,6 +289,11 @@ class Paintings(unittest.TestCase):
         source = pix.Image(bytes((100, 200, 0, 0)), 2, 1, type=pix.GRAYA8)
         image.run(pix.composite_image((0, 0, 2, 1), source))
         self.assertEqual(list(image.pixels), [111, 255, 50, 255])
+
+    def test_sizes(self):
+        self.assertEqual([format.size for format in pix.Format], [4, 4, 4, 4, 4, 4, 3, 1, 4, 4, 3, 1])
+        for format, size in zip(pix.Format, (4, 4, 4, 4, 4, 4, 3, 1, 4, 4, 3, 1)):
+            self.assertEqual(len(pix.convert(pix.Format.RGB8, bytes(6), format)), 2 * size)
 
     def test_formats(self):
         for a in pix.Format:

@@ -10,6 +10,13 @@ fn main() {
         Some(folder) => PathBuf::from(folder),
         None => Path::new(&here).join("../../../crates/pix_c/out"),
     };
+    if !folder.is_absolute() {
+        println!(
+            "cargo::error=PIX_LIB_DIR is {}: give it as a whole path, from / on",
+            folder.display()
+        );
+        return;
+    }
     let archive = folder.join("libpix_c.a");
     if !archive.is_file() {
         println!(

@@ -5,3 +5,4 @@ pub mod Status
 pub mod Run
 pub mod Formats
 pub mod Converted
+pub mod Layout

@@ -16,6 +16,7 @@ mod command;
 mod convert;
 mod copy;
 mod format;
+mod layout;
 mod operator;
 mod paint;
 mod run;
@@ -26,6 +27,7 @@ mod status;
 pub use crate::command::{PixCommand, PixCommandGraya8, PixCommandRgba16, PixRegion};
 pub use crate::convert::pix_convert_bytes;
 pub use crate::format::{PixGraya8, PixRgba8, PixRgba16};
+pub use crate::layout::pix_layout;
 pub use crate::status::{
     BAD_FORMAT, BAD_KIND, BAD_LENGTH, BAD_OP, BAD_REGION, BAD_SIZE, BAD_SOURCE, DONE,
 };

@@ -1,4 +1,4 @@
-//! The C interface of the library `pix`: the four functions of `libpix_c.a` and the types that cross to it.
+//! The C interface of the library `pix`: the five functions of `libpix_c.a` and the types that cross to it.
 //!
 //! `bindings/c/pix.h` documents it. Programs in Rust use the crate `pix` above this one, which is safe.
 #![no_std]
@@ -191,6 +191,67 @@ unsafe extern "C" {
         dst_len: usize,
         count: usize,
     ) -> u32;
+
+    /// Fact number `index` of the library: its version, and then the sizes and offsets of [`FACTS`]. `u32::MAX` where
+    /// there are no more.
+    pub safe fn pix_layout(index: usize) -> u32;
+}
+
+/// The version of the binary interface: another one where a call, a number or a layout changes.
+pub const ABI_VERSION: u32 = 1;
+
+/// What [`pix_layout`] answers, from 0 on: the version; the sizes of the three kinds of pixels and of a region, and the
+/// offsets of its fields; the size of the command of each kind, and the offsets of its fields.
+pub const FACTS: [u32; 48] = facts();
+
+const fn facts() -> [u32; 48] {
+    let (four, wide, gray) = (
+        command_facts::<Rgba8, u8>(),
+        command_facts::<Rgba16, u16>(),
+        command_facts::<Graya8, u8>(),
+    );
+    let mut all = [ABI_VERSION; 48];
+    all[1] = size_of::<Rgba8>() as u32;
+    all[2] = size_of::<Rgba16>() as u32;
+    all[3] = size_of::<Graya8>() as u32;
+    all[4] = size_of::<Region>() as u32;
+    all[5] = offset_of!(Region, x) as u32;
+    all[6] = offset_of!(Region, y) as u32;
+    all[7] = offset_of!(Region, width) as u32;
+    all[8] = offset_of!(Region, height) as u32;
+    let mut i = 0;
+    while i < 13 {
+        all[9 + i] = four[i] as u32;
+        all[22 + i] = wide[i] as u32;
+        all[35 + i] = gray[i] as u32;
+        i += 1;
+    }
+    all
+}
+
+/// The size of a command and the offsets of its fields.
+const fn command_facts<P, M>() -> [usize; 13] {
+    [
+        size_of::<Command<P, M>>(),
+        offset_of!(Command<P, M>, kind),
+        offset_of!(Command<P, M>, op),
+        offset_of!(Command<P, M>, to),
+        offset_of!(Command<P, M>, from),
+        offset_of!(Command<P, M>, color),
+        offset_of!(Command<P, M>, pixels),
+        offset_of!(Command<P, M>, pixel_count),
+        offset_of!(Command<P, M>, mattes),
+        offset_of!(Command<P, M>, matte_count),
+        offset_of!(Command<P, M>, width),
+        offset_of!(Command<P, M>, height),
+        offset_of!(Command<P, M>, stride),
+    ]
+}
+
+/// Whether the archive that is linked has the version and the layout of these declarations.
+pub fn is_as_declared() -> bool {
+    let mut facts = FACTS.iter().enumerate();
+    facts.all(|(index, fact)| pix_layout(index) == *fact) && pix_layout(FACTS.len()) == u32::MAX
 }
 
 /// Whether a command is laid out as the library reads it.

@@ -17,6 +17,10 @@ pub enum Error {
     Source { index: usize },
     /// The bytes to convert, or those to write, are not those of so many whole pixels.
     Length,
+    /// The processor lacks SSE4.1.
+    Processor,
+    /// The archive has another version or layout than the crate `pix-sys`.
+    Library,
     /// A status that this crate doesn't know.
     Unknown { status: u32, index: usize },
 }
@@ -48,6 +52,10 @@ impl fmt::Display for Error {
                 )
             }
             Error::Length => f.write_str("the bytes are not those of so many pixels"),
+            Error::Processor => f.write_str("the library needs a processor of x86-64 with SSE4.1"),
+            Error::Library => {
+                f.write_str("libpix_c.a has another version or layout than the crate pix-sys")
+            }
             Error::Unknown { status, index } => write!(f, "command {index}: status {status}"),
         }
     }

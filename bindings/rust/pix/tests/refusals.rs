@@ -246,3 +246,31 @@ fn one_list_paints_in_two_threads() {
     assert_eq!(first, other);
     assert_eq!(second, other);
 }
+
+#[test]
+fn a_view_of_a_padded_image_keeps_its_rows() {
+    let mut padded: Vec<Rgba8> = (0..13).map(|i| Rgba8::new(i, 0, 0, 255)).collect();
+    let image = ImageMut::with_stride(&mut padded, 3, 3, 5);
+    let mut copy = [COLOR; 9];
+    let list = [Command::copy_image(WHOLE, image.as_image(), WHOLE)];
+    assert_eq!(ImageMut::new(&mut copy, 3, 3).run(&list), Ok(()));
+    for (i, pixel) in copy.iter().enumerate() {
+        assert_eq!(usize::from(pixel.r), i / 3 * 5 + i % 3);
+    }
+}
+
+#[test]
+fn formats_have_their_sizes() {
+    use Format::*;
+    let all = [
+        SRgba8, SRgba8p, Rgba8, Rgba8p, Bgra8, Bgra8p, Rgb8, Gray8, SBgra8, SBgra8p, SRgb8, SGray8,
+    ];
+    for (from, size) in all.into_iter().zip([4, 4, 4, 4, 4, 4, 3, 1, 4, 4, 3, 1]) {
+        assert_eq!(from.size(), size);
+        for to in all {
+            let (src, mut dst) = (vec![255; 2 * from.size()], vec![7; 2 * to.size()]);
+            assert_eq!(convert(from, &src, to, &mut dst), Ok(()));
+            assert!(dst.iter().all(|byte| *byte == 255));
+        }
+    }
+}

@@ -1,0 +1,88 @@
+/* other.c - another library of the same calls, made of plain.h and of nothing that is proved.
+ *
+ * tools/bindings sees by it that a program refuses a library of another version or layout: the fact whose number is
+ * `other_fact`, which -DOTHER_FACT=n sets, is one too large. tools/border-faults can plant faults over it. */
+#include "pix.h"
+#include "plain.h"
+
+static const uint32_t facts[] = {PIX_FACTS_};
+
+#ifndef OTHER_FACT
+#define OTHER_FACT SIZE_MAX
+#endif
+size_t other_fact = OTHER_FACT;
+
+uint32_t pix_layout(size_t index) {
+    const size_t count = sizeof facts / sizeof *facts;
+    return index < count ? facts[index] + (index == other_fact) : index == count && index == other_fact ? 1 : UINT32_MAX;
+}
+
+static int is_sized(uint64_t width, uint64_t height, uint64_t stride, uint64_t count) {
+    return width <= INT32_MAX && height <= INT32_MAX && width <= stride
+           && (height == 0 || (height - 1) * stride + width <= count);
+}
+
+static int is_within(pix_region it) {
+    return it.width <= INT32_MAX && it.height <= INT32_MAX;
+}
+
+static plain_region plain(pix_region it) {
+    plain_region same = {it.x, it.y, it.width, it.height};
+    return same;
+}
+
+#define OTHER_(S, PIXEL, KIND, COLOR)                                                                                  \
+    static uint32_t fault##S(const pix_command##S *it) {                                                               \
+        if (it->kind > PLAIN_MATTE)                                                                                    \
+            return PIX_BAD_KIND;                                                                                       \
+        if (!is_within(it->to) || !is_within(it->from))                                                                \
+            return PIX_BAD_REGION;                                                                                     \
+        if (it->op > PIX_OP_PLUS)                                                                                      \
+            return PIX_BAD_OP;                                                                                         \
+        if (it->kind == PLAIN_COPY || it->kind == PLAIN_SOURCE || it->kind == PLAIN_MATTE)                             \
+            if (!is_sized(it->width, it->height, it->stride,                                                           \
+                          it->kind == PLAIN_MATTE ? it->matte_count : it->pixel_count))                                \
+                return PIX_BAD_SOURCE;                                                                                 \
+        return PIX_OK;                                                                                                 \
+    }                                                                                                                  \
+    uint32_t pix_run_commands##S(PIXEL *pixels, size_t pixel_count, uint32_t width, uint32_t height, uint32_t stride,  \
+                                 const pix_command##S *commands, size_t command_count, size_t *done) {                 \
+        const plain_kind kind = KIND;                                                                                  \
+        plain_rows image = {(unsigned char *)pixels, width, height, stride};                                           \
+        *done = 0;                                                                                                     \
+        if (!is_sized(width, height, stride, pixel_count))                                                             \
+            return PIX_BAD_SIZE;                                                                                       \
+        for (; *done < command_count; ++*done)                                                                         \
+            if (fault##S(&commands[*done]))                                                                            \
+                return fault##S(&commands[*done]);                                                                     \
+        for (size_t i = 0; i < command_count; i++) {                                                                   \
+            const pix_command##S *it = &commands[i];                                                                   \
+            const void *read = it->kind == PLAIN_MATTE ? (const void *)it->mattes : (const void *)it->pixels;          \
+            plain_rows source = {(unsigned char *)(uintptr_t)read, it->width, it->height, it->stride};                 \
+            plain_command same = {it->kind, it->op, plain(it->to), plain(it->from), COLOR, &source};                   \
+            plain_run(&kind, &image, &same, 1);                                                                        \
+        }                                                                                                              \
+        return PIX_OK;                                                                                                 \
+    }
+
+#define FOUR_ {it->color.r, it->color.g, it->color.b, it->color.a}
+#define TWO_ {it->color.value, it->color.a}
+#define RGBA8_ {255, 1, 4}
+#define RGBA16_ {65535, 2, 4}
+#define GRAYA8_ {255, 1, 2}
+OTHER_(, pix_rgba8, RGBA8_, FOUR_)
+OTHER_(_rgba16, pix_rgba16, RGBA16_, FOUR_)
+OTHER_(_graya8, pix_graya8, GRAYA8_, TWO_)
+
+uint32_t pix_convert_bytes(uint32_t from, uint32_t to, const uint8_t *src, size_t src_len, uint8_t *dst, size_t dst_len,
+                           size_t count) {
+    if (from > PIX_FORMAT_SGRAY8 || to > PIX_FORMAT_SGRAY8)
+        return PIX_BAD_FORMAT;
+    const plain_format *source = &plain_formats[from], *target = &plain_formats[to];
+    size_t src_size = plain_size(source), dst_size = plain_size(target);
+    if (count > SIZE_MAX / 4 || src_len != count * src_size || dst_len != count * dst_size)
+        return PIX_BAD_LENGTH;
+    for (size_t i = 0; i < count; i++)
+        plain_convert(source, target, src + i * src_size, dst + i * dst_size);
+    return PIX_OK;
+}
