@@ -4,6 +4,8 @@
 pub mod bytes;
 pub mod colors;
 pub mod examples;
+#[cfg(test)]
+mod examples_tests;
 pub mod frames;
 pub mod lists;
 pub mod models;
