@@ -23,4 +23,4 @@ copied l i d (Some x) h = h.4 (omega arith) d ∙ sym (unwrap_or-slice_get l i d
 pub returns : goal.returns
 returns c = subst (λ (l : List ℕ). c.unwrap_or.result ≡ unwrap_or (slice_get l c.args.index) no_fact) (sym facts_are)
     (c.unwrap_or.ensures ∙ ap (λ (o : Option ℕ). unwrap_or o no_fact) c.copied.ensures
-        ∙ copied numbers c.args.index no_fact c.get.result c.get.ensures.lookup)
+    ∙ copied numbers c.args.index no_fact c.get.result c.get.ensures.lookup)
