@@ -8,3 +8,6 @@ pub mod Planes
 pub mod Sixteen
 pub mod ByTable
 pub mod Quotient
+pub mod Entries
+pub mod SrgbTables
+pub mod SrgbOnce

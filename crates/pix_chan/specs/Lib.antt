@@ -5,6 +5,7 @@ pub mod Step
 pub mod Nearest
 pub mod Laws
 pub mod Channel
+pub mod SrgbCurve
 pub mod Srgb
 pub mod Modes
 pub mod Runs

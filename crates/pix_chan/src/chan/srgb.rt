@@ -1,9 +1,9 @@
 //! The sRGB transfer curve (IEC 61966-2-1) on channels of 8 bits: two tables.
 //!
-//! The definitions are these tables: a proof refuses another entry only where the curve then falls or misses an end. That each is the nearest to the curve is
-//! for `srgb_tables` of `pix_vectors` to test.
-ghost use Rattle.std.specs.Prelude.{◌≡◌};
+//! Each entry is proved to be the one that is nearest to the curve, so a proof refuses any other.
+ghost use Rattle.std.specs.Prelude.{◌≡◌, ℕ};
 ghost use Rattle.pix_chan.specs.Srgb.{srgb_decoded, srgb_encoded, IsCurve};
+ghost use Rattle.pix_chan.specs.SrgbCurve.{IsNearestDecoded, IsNearestEncoded};
 
 use crate::chan::Ch8;
 
@@ -53,6 +53,8 @@ impl Ch8 {
     /// ```
     pub fn decode_srgb(self) -> Ch8
         ensures value { result.value ≡ srgb_decoded self.value }
+        ensures nearest { IsNearestDecoded 255 self.value result.value }
+        ensures once { (v w : ℕ) → IsNearestDecoded 255 self.value v → IsNearestDecoded 255 self.value w → v ≡ w }
         ensures curve { IsCurve srgb_decoded }
     {
         Ch8::new(DECODE[usize::from(u8::from(self))])
@@ -69,6 +71,8 @@ impl Ch8 {
     /// ```
     pub fn encode_srgb(self) -> Ch8
         ensures value { result.value ≡ srgb_encoded self.value }
+        ensures nearest { IsNearestEncoded 255 self.value result.value }
+        ensures once { (v w : ℕ) → IsNearestEncoded 255 self.value v → IsNearestEncoded 255 self.value w → v ≡ w }
         ensures curve { IsCurve srgb_encoded }
     {
         Ch8::new(ENCODE[usize::from(u8::from(self))])
