@@ -224,7 +224,6 @@ impl Op {
     /// let by_number = Op::from_number(2); // Some(Op::SrcOver), which is Op::ALL[2]
     /// let none = Op::from_name(b"srcover"); // None: exact in case
     /// ```
-    #[tactic(auto, unfolding(crate::specs::OperatorNames::operator_of))]
     pub fn from_name(name: &[u8]) -> Option<Op>
         ensures { result ≡ operator_of name.now }
     {
