@@ -8,7 +8,7 @@ use Rattle.pix_chan.specs.Modes.{AlphaMode, Straight, Premultiplied, alpha_kind,
 use Rattle.pix_el.specs.Pixel.{Layout}
 use Rattle.pix_el.specs.Color.{rgba_of, of_rgba}
 use Rattle.pix_el.specs.Model.{Model, ModelRow, row}
-use Rattle.pix_el.specs.Conversion.{Format, at_depth, recoded, of_depth, channel_recoded, within_model, rgba_format, across_models, converted}
+use Rattle.pix_el.specs.Conversion.{Format, at_depth, reencoded, of_depth, channel_reencoded, within_model, rgba_format, across_models, converted}
 use Rattle.pix_el.specs.Planes.{linear_four, premultiplied_four}
 
 -- the first of four channels, each by its number
@@ -22,15 +22,15 @@ few_channels layout stated is few within =
     let e : layout.alpha ≡ stated.alpha = ap (λ (l : Layout). l.alpha) is in omega arith
 
 -- within one model, from the channels at the target's depth
-pub within_is : (format to : Format) (gamma to_gamma : GammaMode) (layout to_layout : Layout) (pixel deep : List ℕ) (a b c d : ℕ)
-    → format.layout ≡ layout → to.layout ≡ to_layout → deep ≡ of_depth layout to_layout pixel → to_layout.count ≤ 4
-    → a ≡ channel_recoded format gamma to to_gamma deep 0 → b ≡ channel_recoded format gamma to to_gamma deep 1
-    → c ≡ channel_recoded format gamma to to_gamma deep 2 → d ≡ channel_recoded format gamma to to_gamma deep 3
+pub within_is : (format to : Format) (gamma to_gamma : GammaMode) (layout to_layout : Layout) (pixel rescaled : List ℕ) (a b c d : ℕ)
+    → format.layout ≡ layout → to.layout ≡ to_layout → rescaled ≡ of_depth layout to_layout pixel → to_layout.count ≤ 4
+    → a ≡ channel_reencoded format gamma to to_gamma rescaled 0 → b ≡ channel_reencoded format gamma to to_gamma rescaled 1
+    → c ≡ channel_reencoded format gamma to to_gamma rescaled 2 → d ≡ channel_reencoded format gamma to to_gamma rescaled 3
     → take to_layout.count (a ∷ b ∷ c ∷ d ∷ []) ≡ within_model format gamma to to_gamma pixel
-within_is format to gamma to_gamma layout to_layout pixel deep a b c d el et ed few e0 e1 e2 e3 =
-    four_channels (channel_recoded format gamma to to_gamma deep) a b c d to_layout.count few e0 e1 e2 e3
-    ∙ ap (λ (n : ℕ). map (channel_recoded format gamma to to_gamma deep) (range_with_len 0 n)) (ap (λ (l : Layout). l.count) (sym et))
-    ∙ ap (λ (p : List ℕ). map (channel_recoded format gamma to to_gamma p) (range_with_len 0 to.layout.count))
+within_is format to gamma to_gamma layout to_layout pixel rescaled a b c d el et ed few e0 e1 e2 e3 =
+    four_channels (channel_reencoded format gamma to to_gamma rescaled) a b c d to_layout.count few e0 e1 e2 e3
+    ∙ ap (λ (n : ℕ). map (channel_reencoded format gamma to to_gamma rescaled) (range_with_len 0 n)) (ap (λ (l : Layout). l.count) (sym et))
+    ∙ ap (λ (p : List ℕ). map (channel_reencoded format gamma to to_gamma p) (range_with_len 0 to.layout.count))
     (ed ∙ ap (λ (l : Layout). of_depth l to_layout pixel) (sym el) ∙ ap (λ (l : Layout). of_depth format.layout l pixel) (sym et))
 
 -- a format has no more channels than its model has
@@ -71,9 +71,9 @@ converted_other format to stated to_stated gamma to_gamma pixel made ef et other
 -- red, green, blue and alpha, one by one
 pub told_is : (format to : Format) (gamma to_gamma : GammaMode) (r g b a r' g' b' a' : ℕ)
     → a' ≡ at_depth format.layout.max to.layout.max a
-    → r' ≡ recoded to.layout.max format.alpha_mode gamma to.alpha_mode to_gamma a' (at_depth format.layout.max to.layout.max r)
-    → g' ≡ recoded to.layout.max format.alpha_mode gamma to.alpha_mode to_gamma a' (at_depth format.layout.max to.layout.max g)
-    → b' ≡ recoded to.layout.max format.alpha_mode gamma to.alpha_mode to_gamma a' (at_depth format.layout.max to.layout.max b)
+    → r' ≡ reencoded to.layout.max format.alpha_mode gamma to.alpha_mode to_gamma a' (at_depth format.layout.max to.layout.max r)
+    → g' ≡ reencoded to.layout.max format.alpha_mode gamma to.alpha_mode to_gamma a' (at_depth format.layout.max to.layout.max g)
+    → b' ≡ reencoded to.layout.max format.alpha_mode gamma to.alpha_mode to_gamma a' (at_depth format.layout.max to.layout.max b)
     → r' ∷ g' ∷ b' ∷ a' ∷ [] ≡ within_model (rgba_format format) gamma (rgba_format to) to_gamma (r ∷ g ∷ b ∷ a ∷ [])
 told_is format to gamma to_gamma r g b a r' g' b' a' ea er eg eb = rw (er, eg, eb, ea) refl
 

@@ -20,7 +20,7 @@ rgb_itself max red green blue = red ∷ green ∷ blue ∷ []
 abbrev pub rgb_of_matte : ℕ → ℕ → ℕ → ℕ → List ℕ
 rgb_of_matte max x y z = max ∷ max ∷ max ∷ []
 
--- Matte from red, green and blue: no color is kept
+-- Matte from red, green and blue: no color is left
 abbrev pub matte_of_rgb : ℕ → ℕ → ℕ → ℕ → List ℕ
 matte_of_rgb max red green blue = []
 

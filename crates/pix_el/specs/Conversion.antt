@@ -26,23 +26,23 @@ abbrev pub of_depth : Layout → Layout → List ℕ → List ℕ
 of_depth layout to pixel = map (λ ch. at_depth layout.max to.max (channel layout.max pixel ch)) (range_with_len 0 to.count)
 
 -- a color channel x at an alpha, where alpha mode or gamma mode differ: to linear, from the one alpha mode to the other, from linear
-abbrev pub recoded : ℕ → AlphaMode → GammaMode → AlphaMode → GammaMode → ℕ → ℕ → ℕ
-recoded max mode gamma to_mode to_gamma alpha x =
+abbrev pub reencoded : ℕ → AlphaMode → GammaMode → AlphaMode → GammaMode → ℕ → ℕ → ℕ
+reencoded max mode gamma to_mode to_gamma alpha x =
     if nat_eq (alpha_kind mode) (alpha_kind to_mode)
     then (if nat_eq (gamma_kind gamma) (gamma_kind to_gamma) then x else from_linear to_gamma (to_linear gamma x))
     else from_linear to_gamma (alpha_encoded to_mode max (alpha_decoded mode max (to_linear gamma x) alpha) alpha)
 
--- the channel of a number of a pixel that has its depth: a color that is no hue is recoded at the alpha, and any other stays
-abbrev pub channel_recoded : Format → GammaMode → Format → GammaMode → List ℕ → ℕ → ℕ
-channel_recoded format gamma to to_gamma pixel ch =
+-- the channel of a number of a pixel that has its depth: a color that is no hue is re-encoded at the alpha, and any other stays
+abbrev pub channel_reencoded : Format → GammaMode → Format → GammaMode → List ℕ → ℕ → ℕ
+channel_reencoded format gamma to to_gamma pixel ch =
     if lies_in to.colors ch
-    then recoded to.layout.max format.alpha_mode gamma to.alpha_mode to_gamma (alpha_of to.layout pixel) (channel to.layout.max pixel ch)
+    then reencoded to.layout.max format.alpha_mode gamma to.alpha_mode to_gamma (alpha_of to.layout pixel) (channel to.layout.max pixel ch)
     else channel to.layout.max pixel ch
 
 -- within one color model: first the depth, then each channel
 abbrev pub within_model : Format → GammaMode → Format → GammaMode → List ℕ → List ℕ
 within_model format gamma to to_gamma pixel =
-    map (channel_recoded format gamma to to_gamma (of_depth format.layout to.layout pixel)) (range_with_len 0 to.layout.count)
+    map (channel_reencoded format gamma to to_gamma (of_depth format.layout to.layout pixel)) (range_with_len 0 to.layout.count)
 
 -- the format of red, green, blue and alpha with the channels and the alpha mode of another
 abbrev pub rgba_format : Format → Format

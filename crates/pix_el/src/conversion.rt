@@ -1,7 +1,7 @@
 //! The steps of a conversion from one format to another.
 ghost use Rattle.std.specs.Prelude.{◌≡◌, ◌≤◌, ◌+◌};
 ghost use Rattle.pix_el.specs.Pixel.{channel, alpha_of};
-ghost use Rattle.pix_el.specs.Conversion.{at_depth, recoded, channel_recoded, within_model};
+ghost use Rattle.pix_el.specs.Conversion.{at_depth, reencoded, channel_reencoded, within_model};
 
 use crate::el::Pixel;
 use crate::model::ColorModel;
@@ -25,7 +25,7 @@ pub(crate) fn channel_at_depth<P: Pixel, D: Channel>(p: &P, ch: usize) -> D
 }
 
 /// Returns a color channel at an alpha, from the modes `A` and `G` to the modes `B` and `H`.
-fn recoded<C, A, G, B, H>(c: C, alpha: C) -> C
+fn reencoded<C, A, G, B, H>(c: C, alpha: C) -> C
 where
     C: Channel,
     A: Alpha,
@@ -33,7 +33,7 @@ where
     B: Alpha,
     H: Gamma<C>,
     ensures { C.number result ≡
-        recoded C.max A.mode G.mode B.mode H.mode (C.number alpha) (C.number c) }
+        reencoded C.max A.mode G.mode B.mode H.mode (C.number alpha) (C.number c) }
 {
     if A::KIND == B::KIND {
         if G::KIND == H::KIND {
@@ -47,39 +47,39 @@ where
 }
 
 /// Returns red, green or blue of a pixel of the format `P` in the format `D`, at the alpha that it has there.
-pub(crate) fn recoded_color<P, D>(c: P::Chan, alpha: D::Chan) -> D::Chan
+pub(crate) fn reencoded_color<P, D>(c: P::Chan, alpha: D::Chan) -> D::Chan
 where
     P: Pixel,
     D: Pixel,
     P::Gamma: Gamma<D::Chan>,
-    ensures { D.Chan.number result ≡ recoded D.Chan.max P.Alpha.mode
+    ensures { D.Chan.number result ≡ reencoded D.Chan.max P.Alpha.mode
         ⟦<P::Gamma as Gamma<D::Chan>>⟧.mode D.Alpha.mode D.Gamma.mode
         (D.Chan.number alpha) (at_depth P.Chan.max D.Chan.max (P.Chan.number c)) }
 {
-    recoded::<D::Chan, P::Alpha, P::Gamma, D::Alpha, D::Gamma>(
+    reencoded::<D::Chan, P::Alpha, P::Gamma, D::Alpha, D::Gamma>(
         at_depth::<P::Chan, D::Chan>(c),
         alpha,
     )
 }
 
-/// Returns the channel `ch` of `deep`, a pixel of the format `P` at the depth of `D`, in the format of `D`.
+/// Returns the channel `ch` of `rescaled`, a pixel of the format `P` at the depth of `D`, in the format of `D`.
 ///
-/// Condition: `alpha` is the alpha of `deep`.
-fn channel_recoded<P, D>(deep: &D, ch: usize, alpha: D::Chan) -> D::Chan
+/// Condition: `alpha` is the alpha of `rescaled`.
+fn channel_reencoded<P, D>(rescaled: &D, ch: usize, alpha: D::Chan) -> D::Chan
 where
     P: Pixel,
     D: Pixel,
     P::Gamma: Gamma<D::Chan>,
-    requires { D.Chan.number alpha ≡ alpha_of D.layout (D.numbers deep.now) }
+    requires { D.Chan.number alpha ≡ alpha_of D.layout (D.numbers rescaled.now) }
     ensures { D.Chan.number result ≡
-        channel_recoded P.format ⟦<P::Gamma as Gamma<D::Chan>>⟧.mode D.format D.Gamma.mode
-        (D.numbers deep.now) ch }
+        channel_reencoded P.format ⟦<P::Gamma as Gamma<D::Chan>>⟧.mode D.format D.Gamma.mode
+        (D.numbers rescaled.now) ch }
 {
     let colors = <D::Model as ColorModel>::LINEAR;
     if colors.start <= ch && ch < colors.end {
-        recoded::<D::Chan, P::Alpha, P::Gamma, D::Alpha, D::Gamma>(deep.get(ch), alpha)
+        reencoded::<D::Chan, P::Alpha, P::Gamma, D::Alpha, D::Gamma>(rescaled.get(ch), alpha)
     } else {
-        deep.get(ch)
+        rescaled.get(ch)
     }
 }
 
@@ -97,11 +97,11 @@ where
         within_model P.format ⟦<P::Gamma as Gamma<D::Chan>>⟧.mode D.format D.Gamma.mode
         (P.numbers p) }
 {
-    let deep = D::from_bit_depth(p);
-    let alpha = deep.alpha();
-    let one = channel_recoded::<P, D>(&deep, 0, alpha);
-    let two = channel_recoded::<P, D>(&deep, 1, alpha);
-    let three = channel_recoded::<P, D>(&deep, 2, alpha);
-    let four = channel_recoded::<P, D>(&deep, 3, alpha);
+    let rescaled = D::from_bit_depth(p);
+    let alpha = rescaled.alpha();
+    let one = channel_reencoded::<P, D>(&rescaled, 0, alpha);
+    let two = channel_reencoded::<P, D>(&rescaled, 1, alpha);
+    let three = channel_reencoded::<P, D>(&rescaled, 2, alpha);
+    let four = channel_reencoded::<P, D>(&rescaled, 3, alpha);
     D::from_four(one, two, three, four)
 }

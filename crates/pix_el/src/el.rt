@@ -1,7 +1,6 @@
 //! Pixels of any format: channels of a color model, with an alpha mode and a gamma mode.
 ghost use Rattle.std.specs.Prelude.{◌≡◌, ℕ, ◌+◌, ◌-◌, ◌<◌, ◌≤◌, IsTrue, List, [], ◌∷◌, length, replicate, map, take, slice_get, slice_set, Some, refl, nat_eq};
 ghost use Rattle.std.specs.Cmp.Lexicographic.{pointwise};
-ghost use Rattle.std.proofs.Common.{ap};
 ghost use Rattle.std.specs.Borrow.{Lends, sem, Array};
 ghost use Rattle.pix_ops.specs.declared.ops.Op.{Op};
 ghost use Rattle.pix_ops.specs.Operators.{sum_fits};
@@ -12,11 +11,10 @@ ghost use Rattle.pix_el.specs.ExactPixel.{IsNearExact, IsNearExactMatted, HuesMo
 ghost use Rattle.pix_el.specs.Premultiplied.{IsPremultiplied, IsUncut};
 ghost use Rattle.pix_el.specs.Conversion.{Format, of_depth, converted};
 ghost use Rattle.pix_el.specs.Transparent.{IsTransparent, IsUnchanged};
-ghost use Rattle.pix_el.specs.PixelLaws.{numbers_of_replicate, equal_numbers, equal_by_numbers};
 ghost use Rattle.pix_el.specs.contracts.el.Pix.{the_row};
 
 use crate::conversion::blocks::convert_blocks;
-use crate::conversion::{at_depth, channel_at_depth, converted_within, recoded_color};
+use crate::conversion::{at_depth, channel_at_depth, converted_within, reencoded_color};
 use crate::each::{composite_each, scale_each};
 use crate::matte::Matte;
 use crate::model::ColorModel;
@@ -28,6 +26,7 @@ use pix_ops::ops::Blend;
 use std::fmt::Debug;
 use std::marker::PhantomData;
 
+mod array;
 mod new;
 
 /// The format of red, green, blue and alpha with the channels, the alpha mode and the gamma mode of `P`.
@@ -208,7 +207,7 @@ pub trait Pixel: Sealed + Clone + Copy + Debug + Default + PartialEq {
     /// ```rust
     /// let photo = [SRgb8::new::<u8>(188, 0, 0), SRgb8::new::<u8>(0, 188, 0)];
     /// let light = photo[0].convert::<Rgba8p>(); // (128, 0, 0, 255)
-    /// let deep = Rgba16p::from_bit_depth(light); // (32896, 0, 0, 65535)
+    /// let fine = Rgba16p::from_bit_depth(light); // (32896, 0, 0, 65535)
     /// ```
     final fn convert<D>(self) -> D
     where
@@ -225,9 +224,9 @@ pub trait Pixel: Sealed + Clone + Copy + Debug + Default + PartialEq {
         } else {
             let (red, green, blue, alpha) = <Self::Model as ColorModel>::into_four::<Self>(self);
             let alpha = at_depth::<Self::Chan, D::Chan>(alpha);
-            let red = recoded_color::<Self, D>(red, alpha);
-            let green = recoded_color::<Self, D>(green, alpha);
-            let blue = recoded_color::<Self, D>(blue, alpha);
+            let red = reencoded_color::<Self, D>(red, alpha);
+            let green = reencoded_color::<Self, D>(green, alpha);
+            let blue = reencoded_color::<Self, D>(blue, alpha);
             <D::Model as ColorModel>::from_four::<D>(red, green, blue, alpha)
         }
     }
@@ -241,7 +240,7 @@ pub trait Pixel: Sealed + Clone + Copy + Debug + Default + PartialEq {
     /// ```rust
     /// let photo = [SRgb8::new::<u8>(188, 0, 0), SRgb8::new::<u8>(0, 188, 0)];
     /// let light = photo[0].convert::<Rgba8p>(); // (128, 0, 0, 255)
-    /// let deep = Rgba16p::from_bit_depth(light); // (32896, 0, 0, 65535)
+    /// let fine = Rgba16p::from_bit_depth(light); // (32896, 0, 0, 65535)
     /// let mut row = [Rgba8p::default(); 2];
     /// SRgb8::convert_slice::<Rgba8p>(&mut row, &photo);
     /// ```
@@ -476,91 +475,4 @@ pub trait Pixel: Sealed + Clone + Copy + Debug + Default + PartialEq {
     /// All channels of the default pixel are 0.
     ghost default_is_clear: { (p : Self) → Self.is_default p
         → numbers p ≡ replicate layout.count 0 };
-}
-
-impl<const N: usize, C, M, A, G> Pixel for Pix<N, C, M, A, G>
-where
-    C: Channel,
-    M: ColorModel,
-    A: Alpha,
-    G: Gamma<C>,
-{
-    type Chan = C;
-
-    type Model = M;
-
-    type Alpha = A;
-
-    type Gamma = G;
-
-    ghost layout = { record { max = C.max; count = N; hues = M.CIRCULAR; alpha = M.ALPHA } };
-
-    ghost channel_list = { λ p. p.channels };
-
-    ghost numbers = { λ p. map C.number p.channels };
-
-    ghost format = { record {
-      layout = record { max = C.max; count = N; hues = M.CIRCULAR; alpha = M.ALPHA };
-      kind = M.KIND;
-      colors = M.LINEAR;
-      to_rgb = M.to_rgb;
-      of_rgb = M.of_rgb;
-      alpha_mode = A.mode;
-    } };
-
-    ghost with_channel_list = { λ p w. record p { channels = w } };
-
-    fn channels(&self) -> &[C] {
-        &self.channels
-    }
-
-    fn channels_mut(&mut self) -> &mut [C] {
-        self.items_mut()
-    }
-
-    fn get_mut(&mut self, ch: usize) -> &mut C {
-        self.item_at_mut(ch)
-    }
-
-    fn from_channels(channels: &[C]) -> Self {
-        let mut own = [C::MIN; N];
-        own.copy_from_slice(&channels[..N]);
-        Self::with_channels(own)
-    }
-
-    fn from_four(one: C, two: C, three: C, four: C) -> Self {
-        let mut own = [one; N];
-        if N <= 1 {
-            return Self::with_channels(own);
-        }
-        own[1] = two;
-        if N == 2 {
-            return Self::with_channels(own);
-        }
-        own[2] = three;
-        if N == 3 {
-            return Self::with_channels(own);
-        }
-        own[3] = four;
-        Self::with_channels(own)
-    }
-
-    ghost laid_out = { refl };
-
-    ghost formatted = { refl };
-
-    ghost numbered = { λ p. refl };
-
-    ghost with_list = { λ p w. refl };
-
-    ghost clones = { λ p q h. h };
-
-    ghost clones_always = { λ p. tt };
-
-    ghost equals = { λ p q. equal_numbers C.eq C.number C.equals p.channels q.channels };
-
-    ghost injective = { λ p q e. ap (λ w. record p { channels = w })
-        (equal_by_numbers C.number C.numbered.injective p.channels q.channels e) };
-
-    ghost default_is_clear = { λ p h. numbers_of_replicate C.number C.MIN N p.channels h C.min_is_zero };
 }

@@ -16,7 +16,7 @@ returns-else-KIND g c =
     converted_other g.Self.Pixel.format g.D.Pixel.format self to g.Self.Gamma.Gamma-2.mode g.D.Gamma.Gamma.mode (g.Self.Pixel.numbers c.args.self) _ g.met.Self.Pixel.formatted g.met.D.Pixel.formatted kinds
     (across_is g.Self.Pixel.format g.D.Pixel.format self to g.Self.Gamma.Gamma-2.mode g.D.Gamma.Gamma.mode (g.Self.Pixel.numbers c.args.self) _ _ _ g.met.Self.Pixel.formatted g.met.D.Pixel.formatted
     c.into_four-red.ensures
-    (told_is self to g.Self.Gamma.Gamma-2.mode g.D.Gamma.Gamma.mode _ _ _ _ _ _ _ _ c.at_depth-alpha.ensures c.recoded_color-red.ensures c.recoded_color-green.ensures c.recoded_color-blue.ensures)
+    (told_is self to g.Self.Gamma.Gamma-2.mode g.D.Gamma.Gamma.mode _ _ _ _ _ _ _ _ c.at_depth-alpha.ensures c.reencoded_color-red.ensures c.reencoded_color-green.ensures c.reencoded_color-blue.ensures)
     c.from_four.ensures)
 
 pub returns-then-KIND : goal.returns-then-KIND
