@@ -4,11 +4,11 @@ use Rattle.std.proofs.Common.{◌≡◌, ◌≢◌, ℕ, zero, suc, ◌+◌, ◌
 use Rattle.std.proofs.lemmas.Bool.{true≢false}
 use Rattle.std.proofs.lemmas.List.{length-map}
 use Rattle.std.proofs.lemmas.List.Elements.{All-replicate}
-use Rattle.pix_palette.specs.PaletteMatch.{color_difference, difference_to, is_closer, IsMatch, IsNearest, IsFirstOf}
+use Rattle.pix_palette.specs.PaletteMatch.{color_difference, difference_to, is_closer, IsMatch, IsMinimal, IsFirstOf}
 use Rattle.pix_palette.specs.Palette.{Color, numbers, StandsFor, IsSet, set_answer, set_colors}
 use Rattle.pix_palette.specs.Known.{IsKnown, AreKnown}
 use Rattle.pix_palette.specs.declared.palette.known.Known.{Known}
-use Rattle.pix_palette.proofs.PaletteMatches.{match_nearest, match_of_standing, zero_least, IsBest, best_first, best_closer, best_stays, best_match}
+use Rattle.pix_palette.proofs.PaletteMatches.{match_minimal, match_of_standing, zero_least, IsBest, best_first, best_closer, best_stays, best_match}
 use Rattle.pix_palette.proofs.PaletteSets.{AreThresholds, zero_fits}
 use Rattle.pix_palette.proofs.IndexingLaws.{Grows, entry_stays, longer, set_grows, itself}
 
@@ -55,7 +55,7 @@ none_same : (answers : ℕ → List ℕ → Type 0) → AreThresholds answers �
     → (k : ℕ) → k < length entries → difference_to entries color k ≢ 0 ∷ 0 ∷ 0 ∷ []
 none_same answers are [] color h k below = absurd (omega arith)
 none_same answers are (entry ∷ entries) color h k below = λ e.
-    let near : IsNearest (entry ∷ entries) color h.0 = match_nearest (entry ∷ entries) color h.0 h.1.match in
+    let near : IsMinimal (entry ∷ entries) color h.0 = match_minimal (entry ∷ entries) color h.0 h.1.match in
     let not_closer : is_closer (0 ∷ 0 ∷ 0 ∷ []) (difference_to (entry ∷ entries) color h.0) ≡ false =
     subst (λ p. is_closer p (difference_to (entry ∷ entries) color h.0) ≡ false) e (near.none_closer k below) in
     true≢false (zero_fits answers are (length (entry ∷ entries)) (difference_to (entry ∷ entries) color h.0)
@@ -100,7 +100,7 @@ first_by answers are limit old color i new (Some m) h e f below same g =
     let at : i ≡ m = cc in
     let match : IsMatch (map numbers new) (numbers color) i =
     subst (λ l. IsMatch (map numbers l) (numbers color) i) (sym f) (subst (IsMatch (map numbers old) (numbers color)) (sym at) h.match) in
-    let near : IsNearest (map numbers new) (numbers color) i = match_nearest (map numbers new) (numbers color) i match in
+    let near : IsMinimal (map numbers new) (numbers color) i = match_minimal (map numbers new) (numbers color) i match in
     record { stands = below; same = same; first = λ k before. λ z. near.first k before (z ∙ sym same) }
 first_by answers are limit old color i new None h e f below same g =
     first_appended answers are (nat_lt (length old) limit) old color i new h e f below same g

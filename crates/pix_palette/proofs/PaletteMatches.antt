@@ -4,7 +4,7 @@ use Rattle.pix_el.specs.Color.{is_within}
 use Rattle.std.proofs.Common.{◌≡◌, ◌≢◌, ℕ, ◌+◌, ◌<◌, ◌≤◌, true, false, List, [], ◌∷◌, ◌++◌, length, refl, arith, sym, ap, ◌∙◌, subst, ◌⊎◌, inl, inr}
 use Rattle.std.proofs.lemmas.Bool.{cases_lt, cases_order, true≢false, false_from_ne_true}
 use Rattle.std.proofs.lemmas.Bool.Decides.{nat_tests}
-use Rattle.pix_palette.specs.PaletteMatch.{difference_to, is_closer, IsNext, AreCandidates, IsMatch, IsNearest, IsFirstOf}
+use Rattle.pix_palette.specs.PaletteMatch.{difference_to, is_closer, IsNext, AreCandidates, IsMatch, IsMinimal, IsFirstOf}
 
 -- the next candidate stays the next with one entry more
 next_stays : (d : ℕ → List ℕ) (n i j : ℕ) → IsNext d n i j → IsNext d (n + 1) i j
@@ -134,9 +134,9 @@ within_of_closer p q h = grind (arith, nat_tests)
 within_itself : (p : List ℕ) → is_within 255 (three p) (three p) ≡ true
 within_itself p = grind (arith, nat_tests)
 
--- the match is nearest
-pub match_nearest : (entries : List (List ℕ)) (color : List ℕ) (m : ℕ) → IsMatch entries color m → IsNearest entries color m
-match_nearest entries color m h =
+-- the match is minimal
+pub match_minimal : (entries : List (List ℕ)) (color : List ℕ) (m : ℕ) → IsMatch entries color m → IsMinimal entries color m
+match_minimal entries color m h =
     let o : IsOrdered (difference_to entries color) = differences_ordered entries color in
     record {
       none_closer = λ k below. none_closer (difference_to entries color) o (length entries) 0 h.candidates m h.last k (omega arith) below;
@@ -158,7 +158,7 @@ zero_least p h =
 -- the match of a color that stands is its first entry
 pub match_of_standing : (entries : List (List ℕ)) (color : List ℕ) (m i : ℕ) → IsMatch entries color m → IsFirstOf entries color i → m ≡ i
 match_of_standing entries color m i h f =
-    let near : IsNearest entries color m = match_nearest entries color m h in
+    let near : IsMinimal entries color m = match_minimal entries color m h in
     let none : is_closer (0 ∷ 0 ∷ 0 ∷ []) (difference_to entries color m) ≡ false =
     subst (λ p. is_closer p (difference_to entries color m) ≡ false) f.same (near.none_closer i f.stands) in
     let zero_too : difference_to entries color m ≡ 0 ∷ 0 ∷ 0 ∷ [] = zero_least (difference_to entries color m) none in

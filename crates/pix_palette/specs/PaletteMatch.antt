@@ -34,8 +34,9 @@ pub record IsMatch (entries : List (List ℕ)) (color : List ℕ) (m : ℕ) : Ty
   pub candidates : List ℕ
   pub last : AreCandidates (difference_to entries color) (length entries) 0 candidates m
 
--- an entry that is nearest to a color: none is closer, none before it differs as much in every channel, and it differs by no more than entry 0 in any
-pub record IsNearest (entries : List (List ℕ)) (color : List ℕ) (m : ℕ) : Type 0 where
+-- an entry that is minimal for a color, channel by channel: none is closer, none before it differs as much in every channel, and it differs by no more
+-- than entry 0 in any. One that differs by more in one channel may yet be nearer by a sum.
+pub record IsMinimal (entries : List (List ℕ)) (color : List ℕ) (m : ℕ) : Type 0 where
   pub none_closer : (k : ℕ) → k < length entries → is_closer (difference_to entries color k) (difference_to entries color m) ≡ false
   pub first : (k : ℕ) → k < m → difference_to entries color k ≢ difference_to entries color m
   pub no_worse : is_within 255 (difference_to entries color m) (difference_to entries color 0) ≡ true

@@ -2,7 +2,7 @@
 ghost use Rattle.std.specs.Prelude.{◌≡◌, ℕ, ◌+◌, ◌<◌, ◌≤◌, Some, None, IfSome, vec_len, IfOk, IfErr, length, map, slice_get, true, MatchOption, slice_set, Any, nat_eq};
 ghost use Rattle.std.specs.Option.{option_map};
 ghost use Rattle.pix_palette.specs.Palette.{Answers, IsSet, StandsFor, numbers};
-ghost use Rattle.pix_palette.specs.PaletteMatch.{IsMatch, IsNearest, IsFirstOf};
+ghost use Rattle.pix_palette.specs.PaletteMatch.{IsMatch, IsMinimal, IsFirstOf};
 ghost use Rattle.pix_palette.specs.Histogram.{IsHistogram};
 ghost use Rattle.pix_raster.specs.declared.fault.RasterFault.{RasterFault};
 
@@ -167,6 +167,10 @@ impl Palette {
     /// Sets a color: answers the index of its match if that is within the threshold of the present number of entries, else appends the color and
     /// answers its index, or answers `None` where the limit is reached. It takes no memory.
     ///
+    /// The match is the last of the candidates: entry 0, and each later entry that differs from the color by no more than the candidate before it
+    /// in each of red, green and blue, and by less in one. An entry that differs by more in one channel and by less in the others is passed over,
+    /// even where a sum or a distance would call it nearer.
+    ///
     /// # Examples
     ///
     /// ```rust
@@ -187,9 +191,9 @@ impl Palette {
         ensures standing { (i : ℕ) → IsFirstOf (map numbers self.old.colors.items) (numbers clr) i
             → (result ≡ Some i) × (self.new.colors.items ≡ self.old.colors.items) }
 
-        // The match is nearest to the color.
-        ensures nearest { (m : ℕ) → IsMatch (map numbers self.old.colors.items) (numbers clr) m
-            → IsNearest (map numbers self.old.colors.items) (numbers clr) m }
+        // No entry is closer to the color than its match is, channel by channel, and none before it differs by as much.
+        ensures minimal { (m : ℕ) → IsMatch (map numbers self.old.colors.items) (numbers clr) m
+            → IsMinimal (map numbers self.old.colors.items) (numbers clr) m }
     {
         if let Some(at) = self.standing(clr) {
             return Some(at);

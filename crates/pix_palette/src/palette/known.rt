@@ -1,4 +1,6 @@
 //! A small table of colors that stand in a palette, each with its index: a color is stored near the place that its channels give.
+//!
+//! Which place a color is given and how many are tried decide only how often the palette is searched: no answer depends on them.
 ghost use Rattle.std.specs.Prelude.{◌≡◌, ◌≤◌, ◌<◌, nat_eq, length, map, IfSome};
 ghost use Rattle.std.specs.Cmp.Lexicographic.{pointwise};
 ghost use Rattle.std.specs.Option.{option_map};

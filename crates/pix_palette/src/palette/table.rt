@@ -15,7 +15,7 @@ pub struct ThresholdFn {
     ghost callable: { (n : ℕ) → n ≤ limit → Threshold.pre f n },
 }
 
-/// A list of colors, no more than its limit. A color is matched to one of them within a threshold.
+/// A list of colors, no more than its limit. A color that is set is answered by one of them within a threshold, or added.
 ///
 /// # Examples
 ///
