@@ -1,4 +1,4 @@
--- Images: a pixel at each point, kept as a list row by row.
+-- Images: a pixel at each point, listed row by row.
 use Rattle.std.specs.Prelude.{◌≡◌, ℕ, ◌+◌, ◌*◌, ◌<◌, ℤ, pos, ◌≤ℤ◌, ◌<ℤ◌, List, [], map, slice_index_or}
 use Rattle.pix_raster.specs.Region.{Rectangle, right, bottom, whole}
 
