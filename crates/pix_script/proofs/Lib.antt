@@ -1,7 +1,10 @@
+-- The files of lemmas. Answers, invariants and proofs of a function are found by its path.
 pub mod NumberLemmas
+pub mod CheckLemmas
 pub mod TextLemmas
 pub mod PictureLemmas
 pub mod DrawLemmas
 pub mod ReadingLemmas
 pub mod OutcomeLemmas
 pub mod StopLemmas
+pub mod ReportLemmas

@@ -11,7 +11,7 @@ use Rattle.pix_script.specs.declared.script.Script.{Script}
 use Rattle.pix_script.specs.Lines.{lines_of}
 use Rattle.pix_script.specs.Commands.{problem_of}
 use Rattle.pix_script.specs.Script.{earlier_of, first_fault, or_later, IsFirstFault, text_of, outcome_of, outcome_of_lines, Gives, Fails}
-use Rattle.pix_script.specs.Reading.{held, commands_in, ReadsLines}
+use Rattle.pix_script.specs.Reading.{ReadsLines}
 
 -- a script that is too long
 pub too_long : (script : List ℕ) → 1048576 < length script → outcome_of script ≡ Err faults.TooLong
@@ -25,15 +25,15 @@ unfolding outcome_of outcome_of_lines
 line_outcome script number problem le found = let short : ltb 1048576 (length script) ≡ false = le-ltb _ _ le in rw (short, found) refl
 
 -- what reading a script returned decides the outcome where it is a fault
-pub fault_outcome : (script : List ℕ) (fault : PaintFault) → length script ≤ 1048576 → ReadsLines (lines_of script) (Err fault) → Fails fault (outcome_of script)
+pub fault_outcome : (script : List ℕ) (fault : PaintFault) → length script ≤ 1048576 → ReadsLines (λ (s : Script). s.commands.items) (lines_of script) (Err fault) → Fails fault (outcome_of script)
 fault_outcome script faults.OutOfMemory le h = tt
 fault_outcome script faults.TooLong le h = absurd h
 fault_outcome script (faults.Line number problem) le h = line_outcome script number problem le h
 
 -- the outcome of a script that was read whole, given what was answered then
 pub rendered_outcome : {X : Type 0} (view : X → List ℕ) (script : List ℕ) (read : Script) (r : Result X PaintFault) → length script ≤ 1048576
-    → ReadsLines (lines_of script) (Ok read)
-    → IfOk r (λ text. view text ≡ text_of (commands_in (held read))) → IfErr r (λ fault. fault ≡ faults.OutOfMemory)
+    → ReadsLines (λ (s : Script). s.commands.items) (lines_of script) (Ok read)
+    → IfOk r (λ text. view text ≡ text_of read.commands.items) → IfErr r (λ fault. fault ≡ faults.OutOfMemory)
     → Gives view r (outcome_of script)
 unfolding outcome_of outcome_of_lines
 rendered_outcome view script read (Ok text) le h is memory =
@@ -94,8 +94,8 @@ is_first lines number problem h =
     record { place = r.place; number_is = omega (arith, r.number_is); within = r.within; here = r.here; before = r.before }
 
 -- the same for what reading a script returned
-pub first_of_fault : (lines : List (List (List ℕ))) (fault : PaintFault) (number : ℕ) (problem : Problem) → ReadsLines lines (Err fault)
+pub first_of_fault : (lines : List (List (List ℕ))) (fault : PaintFault) (number : ℕ) (problem : Problem) → ReadsLines (λ (s : Script). s.commands.items) lines (Err fault)
     → fault ≡ faults.Line number problem → IsFirstFault lines number problem
 first_of_fault lines fault number problem h is =
-    let P : PaintFault → Type 0 = λ f. ReadsLines lines (Err f) in
+    let P : PaintFault → Type 0 = λ f. ReadsLines (λ (s : Script). s.commands.items) lines (Err f) in
     is_first lines number problem (subst P is h)

@@ -27,9 +27,22 @@ fault_of all left faults.OutOfMemory h = tt
 fault_of all left faults.TooLong h = same_outcome all h.0 left h.1 ∙ h.2
 fault_of all left (faults.Line line problem) h = same_outcome all h.0 left h.1 ∙ h.2
 
+fault_read : (had left : Option (List ℕ)) (script : List ℕ) (fault : PaintFault) → IsInput had left script → Fails fault (outcome_of script) → IsFaultOf had left fault
+fault_read had left script faults.OutOfMemory input h = tt
+fault_read had left script faults.TooLong input h = (script, input, h)
+fault_read had left script (faults.Line line problem) input h = (script, input, h)
+
+-- what is left after a script was read and its text written
+pub leaves : (had left held holds : Option (List ℕ)) (script : List ℕ) (r : Result (Unit {0}) PaintStop) → IsInput had left script → LeavesFor script held holds r → Leaves had left held holds r
+leaves had left held holds script (Ok done) input h = (script, h.0, input, h.1, h.2)
+leaves had left held holds script (Err (stops.Script fault)) input h = (fault_read had left script fault input h.0, h.1)
+leaves had left held holds script (Err stops.Read) input h = h
+leaves had left held holds script (Err stops.Write) input h = (script, h.0, input, h.1)
+
+-- the same where the reader's bytes are known
 pub known : (had left held holds : Option (List ℕ)) (r : Result (Unit {0}) PaintStop) → Leaves had left held holds r → IfSome had (λ script. LeavesFor script held holds r)
 known None left held holds r h = tt
 known (Some all) left held holds (Ok done) h = (h.1, same_outcome all h.0 left h.2 ∙ h.3, h.4)
 known (Some all) left held holds (Err (stops.Script fault)) h = (fault_of all left fault h.0, h.1)
 known (Some all) left held holds (Err stops.Read) h = h
-known (Some all) left held holds (Err stops.Write) h = tt
+known (Some all) left held holds (Err stops.Write) h = (h.1, same_outcome all h.0 left h.2 ∙ h.3)

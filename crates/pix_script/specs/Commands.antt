@@ -1,23 +1,17 @@
--- The commands of a script, and the problems of its lines.
+-- The commands of a script, and the problems and the meanings of its lines.
 use Rattle.std.specs.Prelude.{ℕ, List, [], ◌∷◌, length, Bool, true, false, ◌&&◌, ◌||◌, not, Option, Some, None, nat_lt, is_none, ◌==◌, if◌then◌else◌, codes, slice_index}
+use Rattle.std.specs.Option.{option_map}
 use Rattle.std.specs.Str.{bytes_eq}
 use Rattle.pix_script.specs.declared.fault.Problem.{Problem}
 use Rattle.pix_script.specs.declared.fault.Problem.TheVariants.{NoImage, SecondImage, UnknownWord, WrongCount, BadNumber, BadColor, TooBig, NothingKept}
 use Rattle.pix_script.specs.declared.command.Earlier.{Earlier}
-use Rattle.pix_script.specs.Numbers.{side_of, coordinate_of, color_of}
+use Rattle.pix_script.specs.declared.command.Kind.{Kind}
+use Rattle.pix_script.specs.declared.command.Kind.TheVariants.{Operator, Coordinate, Side, Color}
+use Rattle.pix_script.specs.declared.command.Line.{Line}
+use Rattle.pix_script.specs.declared.command.Line.TheVariants.{Clear, Keep}
+use Rattle.pix_script.specs.Meaning.{image_of, fill_of, paint_of, copy_of, comp_of}
+use Rattle.pix_script.specs.Numbers.{side_of, coordinate_of, color_of, ◌>>=◌}
 use Rattle.pix_ops.specs.OperatorNames.{operator_of}
-
--- the value beside the first key that is the word
-abbrev pub named : {X : Type 0} → List ℕ → List (List ℕ × X) → Option X
-named word [] = None
-named word (entry ∷ entries) = if bytes_eq word entry.0 then Some entry.1 else named word entries
-
--- what a word after the first has to be
-pub data Kind : Type 0 where
-  Operator : Kind
-  Coordinate : Kind
-  Side : Kind
-  Color : Kind
 
 -- a command's words after its name, whether it makes the image, and whether it reads a kept one
 pub record Shape : Type 0 where
@@ -37,17 +31,36 @@ on_image words = record { words = words; makes_image = false; reads_kept = false
 abbrev pub from_kept : List Kind → Shape
 from_kept words = record { words = words; makes_image = false; reads_kept = true }
 
--- each command's shape beside its name
-abbrev pub shapes : List (List ℕ × Shape)
-shapes =
-    (codes "image", new_image (Side ∷ Side ∷ []))
-    ∷ (codes "clear", on_image [])
-    ∷ (codes "fill", on_image (Coordinate ∷ Coordinate ∷ Side ∷ Side ∷ Color ∷ []))
-    ∷ (codes "paint", on_image (Operator ∷ Coordinate ∷ Coordinate ∷ Side ∷ Side ∷ Color ∷ []))
-    ∷ (codes "keep", on_image [])
-    ∷ (codes "copy", from_kept (Coordinate ∷ Coordinate ∷ Coordinate ∷ Coordinate ∷ Side ∷ Side ∷ []))
-    ∷ (codes "comp", from_kept (Operator ∷ Coordinate ∷ Coordinate ∷ Coordinate ∷ Coordinate ∷ Side ∷ Side ∷ []))
+-- a command: its name, its shape, and how the words after the name are read
+pub record Command : Type 0 where
+  pub name : List ℕ
+  pub shape : Shape
+  pub reading : List (List ℕ) → Option Line
+
+-- all commands; `clear` and `keep` have no words after their names
+abbrev pub commands : List Command
+commands =
+    record { name = codes "image"; shape = new_image (Side ∷ Side ∷ []); reading = image_of }
+    ∷ record { name = codes "clear"; shape = on_image []; reading = λ _. Some Clear }
+    ∷ record { name = codes "fill"; shape = on_image (Coordinate ∷ Coordinate ∷ Side ∷ Side ∷ Color ∷ []); reading = fill_of }
+    ∷ record { name = codes "paint"; shape = on_image (Operator ∷ Coordinate ∷ Coordinate ∷ Side ∷ Side ∷ Color ∷ []); reading = paint_of }
+    ∷ record { name = codes "keep"; shape = on_image []; reading = λ _. Some Keep }
+    ∷ record {
+      name = codes "copy";
+      shape = from_kept (Coordinate ∷ Coordinate ∷ Coordinate ∷ Coordinate ∷ Side ∷ Side ∷ []);
+      reading = copy_of;
+    }
+    ∷ record {
+      name = codes "comp";
+      shape = from_kept (Operator ∷ Coordinate ∷ Coordinate ∷ Coordinate ∷ Coordinate ∷ Side ∷ Side ∷ []);
+      reading = comp_of;
+    }
     ∷ []
+
+-- the first of the commands that has the name
+abbrev pub named : List ℕ → List Command → Option Command
+named name [] = None
+named name (command ∷ more) = if bytes_eq name command.name then Some command else named name more
 
 -- a word in an operator's place that names none
 abbrev pub is_bad_operator : Kind → List ℕ → Bool
@@ -114,4 +127,9 @@ is_comment name = slice_index name 0 == 35
 unfoldable pub problem_of : Earlier → List (List ℕ) → Option Problem
 problem_of earlier [] = None
 problem_of earlier (name ∷ arguments) =
-    if is_comment name then None else problem_of_shape earlier arguments (named name shapes)
+    if is_comment name then None else problem_of_shape earlier arguments (option_map (λ command. command.shape) (named name commands))
+
+-- what a line of these words means, if it is a command
+unfoldable pub meaning_of : List (List ℕ) → Option Line
+meaning_of [] = None
+meaning_of (name ∷ arguments) = named name commands >>= λ command. command.reading arguments

@@ -1,8 +1,8 @@
 pub mod Numbers
 pub mod Lines
+pub mod Meaning
 pub mod Commands
 pub mod Pixels
-pub mod Meaning
 pub mod Picture
 pub mod Seen
 pub mod Text

@@ -1,68 +1,67 @@
--- What the code has read of a script so far.
-use Rattle.std.specs.Prelude.{◌≡◌, ℕ, List, [], ◌∷◌, ◌++◌, length, nat_lt, Option, Some, None, Result, Ok, Err, Bool, true, is_some, map}
-use Rattle.std.specs.List.{flat_map}
-use Rattle.pix_script.specs.declared.command.Drawing.{Drawing}
+-- What the code has read of a script so far. No clause of a public call cites this file.
+use Rattle.std.specs.Prelude.{◌≡◌, ℕ, List, [], ◌∷◌, ◌++◌, ◌||◌, Option, Some, None, Result, Ok, Err, codes}
 use Rattle.pix_script.specs.declared.command.Earlier.{Earlier}
+use Rattle.pix_script.specs.declared.command.Line.{Line}
+use Rattle.pix_script.specs.declared.fault.Problem.{Problem}
+use Rattle.pix_script.specs.declared.parse.Row.{Row}
 use Rattle.pix_script.specs.declared.script.Script.{Script}
 use Rattle.pix_script.specs.declared.fault.PaintFault.{PaintFault}
 use Rattle.pix_script.specs.declared.fault.PaintFault.TheVariants as faults
-use Rattle.pix_script.specs.Commands.{problem_of}
-use Rattle.pix_script.specs.Meaning.{Meaning, NewImage, Keep, meaning_of}
-use Rattle.pix_script.specs.Script.{meanings, first_fault}
-use Rattle.pix_script.specs.Seen.{drawing_meaning}
+use Rattle.pix_script.specs.Commands.{Shape, problem_of, meaning_of}
+use Rattle.pix_script.specs.Script.{begins_with, meanings, first_fault}
 
--- how large the image is, whether something is kept, and the commands after `image`
-pub record Reading : Type 0 where
-  pub size : Option (ℕ × ℕ)
-  pub keep : Bool
-  pub commands : List Meaning
-
--- what drawings mean
-abbrev pub drawn_by : List Drawing → List Meaning
-drawn_by drawings = map drawing_meaning drawings
-
--- what the code holds: the drawings before each `keep`, and those after the last
-abbrev pub held : Script → Reading
-held script = record {
-  size = script.size;
-  keep = nat_lt 0 (length script.kept.items);
-  commands = flat_map (λ part. drawn_by part.items ++ Keep ∷ []) script.kept.items ++ drawn_by script.drawings.items;
+-- which of `image` and `keep` there are with one more line
+abbrev pub earlier_with : Earlier → List (List ℕ) → Earlier
+earlier_with earlier words = record {
+  image = earlier.image || begins_with (codes "image") words;
+  keep = earlier.keep || begins_with (codes "keep") words;
 }
 
--- which commands are among those that were read
-abbrev pub earlier_in : Reading → Earlier
-earlier_in reading = record { image = is_some reading.size; keep = reading.keep }
+-- the commands with that of one more line, if it has one
+abbrev pub with_line : List Line → Option Line → List Line
+with_line commands None = commands
+with_line commands (Some line) = commands ++ line ∷ []
 
--- the commands from `image` on, if it is there
-abbrev pub after_image : Option (ℕ × ℕ) → List Meaning → List Meaning
-after_image None commands = []
-after_image (Some size) commands = NewImage size.0 size.1 ∷ commands
+-- what reading a line returned: what it means where it has no problem, and else the problem
+abbrev pub Reads : Option Problem → Option Line → Result (Option Line) Problem → Type 0
+Reads problem meaning (Ok line) = (problem ≡ None) × (line ≡ meaning)
+Reads problem meaning (Err found) = problem ≡ Some found
 
--- the commands that were read
-abbrev pub commands_in : Reading → List Meaning
-commands_in reading = after_image reading.size reading.commands
+-- the shape of a row of the code
+abbrev pub shape_of : Row → Shape
+shape_of row = record { words = row.words.now; makes_image = row.makes_image; reads_kept = row.reads_kept }
 
--- what was read, with one more command
-abbrev pub with_command : Reading → Meaning → Reading
-with_command reading (NewImage width height) = record { size = Some (width, height); keep = reading.keep; commands = reading.commands }
-with_command reading Keep = record { size = reading.size; keep = true; commands = reading.commands ++ Keep ∷ [] }
-with_command reading meaning = record { size = reading.size; keep = reading.keep; commands = reading.commands ++ meaning ∷ [] }
+-- what checking the words of a command returned
+abbrev pub Checks : Option Problem → Result (Unit {0}) Problem → Type 0
+Checks problem (Ok done) = problem ≡ None
+Checks problem (Err found) = problem ≡ Some found
 
--- what was read, with one more line
-abbrev pub with_line : Reading → Option Meaning → Reading
-with_line reading None = reading
-with_line reading (Some meaning) = with_command reading meaning
+-- what the code holds: the commands that were read, and which of `image` and `keep` are among the lines
+pub record Held : Type 0 where
+  pub commands : List Line
+  pub earlier : Earlier
+
+-- what a script holds that was read so far
+abbrev pub held : Script → Held
+held script = record { commands = script.commands.items; earlier = script.earlier }
+
+-- what is held with one more line of these words
+abbrev pub with_words : Held → List (List ℕ) → Held
+with_words old words = record {
+  commands = with_line old.commands (meaning_of words);
+  earlier = earlier_with old.earlier words;
+}
 
 -- what reading the line of a number returned, given what was held before and after
-abbrev pub ReadsLine : Reading → Reading → ℕ → List (List ℕ) → Result (Unit {0}) PaintFault → Type 0
-ReadsLine old new number words (Ok done) = (problem_of (earlier_in old) words ≡ None) × (new ≡ with_line old (meaning_of words))
+abbrev pub ReadsLine : (old new : Held) → ℕ → List (List ℕ) → Result (Unit {0}) PaintFault → Type 0
+ReadsLine old new number words (Ok done) = (problem_of old.earlier words ≡ None) × (new ≡ with_words old words)
 ReadsLine old new number words (Err faults.OutOfMemory) = Unit {0}
 ReadsLine old new number words (Err faults.TooLong) = ⊥
-ReadsLine old new number words (Err (faults.Line n problem)) = (n ≡ number) × (problem_of (earlier_in old) words ≡ Some problem)
+ReadsLine old new number words (Err (faults.Line n problem)) = (n ≡ number) × (problem_of old.earlier words ≡ Some problem)
 
--- what reading all lines returned
-abbrev pub ReadsLines : List (List (List ℕ)) → Result Script PaintFault → Type 0
-ReadsLines lines (Ok script) = (first_fault [] lines ≡ None) × (commands_in (held script) ≡ meanings lines)
-ReadsLines lines (Err faults.OutOfMemory) = Unit {0}
-ReadsLines lines (Err faults.TooLong) = ⊥
-ReadsLines lines (Err (faults.Line n problem)) = first_fault [] lines ≡ Some (n, problem)
+-- what reading all lines returned, where the commands are seen by a view
+abbrev pub ReadsLines : {X : Type 0} → (X → List Line) → List (List (List ℕ)) → Result X PaintFault → Type 0
+ReadsLines view lines (Ok commands) = (first_fault [] lines ≡ None) × (view commands ≡ meanings lines)
+ReadsLines view lines (Err faults.OutOfMemory) = Unit {0}
+ReadsLines view lines (Err faults.TooLong) = ⊥
+ReadsLines view lines (Err (faults.Line n problem)) = first_fault [] lines ≡ Some (n, problem)

@@ -3,12 +3,13 @@ use Rattle.std.specs.Prelude.{◌≡◌, ℕ, ◌+◌, ◌<◌, List, [], ◌∷
 use Rattle.std.specs.List.{list_any, filter_map}
 use Rattle.std.specs.Str.{bytes_eq}
 use Rattle.pix_script.specs.declared.command.Earlier.{Earlier}
+use Rattle.pix_script.specs.declared.command.Line.{Line}
+use Rattle.pix_script.specs.declared.command.Line.TheVariants.{Image}
 use Rattle.pix_script.specs.declared.fault.Problem.{Problem}
 use Rattle.pix_script.specs.declared.fault.PaintFault.{PaintFault}
 use Rattle.pix_script.specs.declared.fault.PaintFault.TheVariants as faults
 use Rattle.pix_script.specs.Lines.{lines_of}
-use Rattle.pix_script.specs.Commands.{problem_of}
-use Rattle.pix_script.specs.Meaning.{Meaning, NewImage, meaning_of}
+use Rattle.pix_script.specs.Commands.{problem_of, meaning_of}
 use Rattle.pix_script.specs.Picture.{run_of}
 use Rattle.pix_script.specs.Text.{picture_text}
 
@@ -36,8 +37,8 @@ first_fault earlier (words ∷ more) =
     or_later (length earlier + 1) (problem_of (earlier_of earlier) words) (first_fault (earlier ++ words ∷ []) more)
 
 -- the text of the run of the commands after `image`, and none where there is no command
-abbrev pub text_of : List Meaning → List ℕ
-text_of (NewImage width height ∷ commands) = picture_text (run_of width height commands)
+abbrev pub text_of : List Line → List ℕ
+text_of (Image width height ∷ commands) = picture_text (run_of width height commands)
 text_of _ = []
 
 -- the text, where there is no fault
@@ -46,7 +47,7 @@ or_fault text None = Ok text
 or_fault text (Some fault) = Err (faults.Line fault.0 fault.1)
 
 -- the commands of the lines
-abbrev pub meanings : List (List (List ℕ)) → List Meaning
+abbrev pub meanings : List (List (List ℕ)) → List Line
 meanings lines = filter_map meaning_of lines
 
 -- what the lines give

@@ -27,19 +27,20 @@ IsFaultOf old new faults.TooLong = (script : List ℕ) × IsInput old new script
 IsFaultOf old new (faults.Line line problem) = (script : List ℕ) × IsInput old new script × (outcome_of script ≡ Err (faults.Line line problem))
 
 -- What a run left, given the known bytes that the reader had and has left, and those that the writer held and holds:
--- after Ok the text of the script that was read was written, and after Script and Read nothing was.
+-- after Ok the text of the script that was read was written, after Script and Read nothing was, and after Write the script that was
+-- read has a text, which was refused.
 abbrev pub Leaves : (had left held holds : Option (List ℕ)) → Result (Unit {0}) PaintStop → Type 0
 Leaves had left held holds (Ok done) = (script text : List ℕ) × IsInput had left script × (outcome_of script ≡ Ok text) × Appends held holds text
 Leaves had left held holds (Err (stops.Script fault)) = IsFaultOf had left fault × Keeps held holds
 Leaves had left held holds (Err stops.Read) = Keeps held holds
-Leaves had left held holds (Err stops.Write) = Unit {0}
+Leaves had left held holds (Err stops.Write) = (script text : List ℕ) × IsInput had left script × (outcome_of script ≡ Ok text)
 
 -- the same of a reader whose bytes are known: they are the script
 abbrev pub LeavesFor : (script : List ℕ) → (held holds : Option (List ℕ)) → Result (Unit {0}) PaintStop → Type 0
 LeavesFor script held holds (Ok done) = (text : List ℕ) × (outcome_of script ≡ Ok text) × Appends held holds text
 LeavesFor script held holds (Err (stops.Script fault)) = Fails fault (outcome_of script) × Keeps held holds
 LeavesFor script held holds (Err stops.Read) = Keeps held holds
-LeavesFor script held holds (Err stops.Write) = Unit {0}
+LeavesFor script held holds (Err stops.Write) = (text : List ℕ) × (outcome_of script ≡ Ok text)
 
 -- reading stops after a failed read, or an allocation failure
 abbrev pub IsReadStop : PaintStop → Type 0

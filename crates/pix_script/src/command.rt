@@ -1,36 +1,44 @@
 //! The commands of a script.
-ghost use Rattle.std.specs.Prelude.{◌≡◌};
-ghost use Rattle.pix_script.specs.Seen.{brought_by, effects_of, drawing_meaning};
+ghost use Rattle.std.specs.Prelude.{◌≡◌, map};
+ghost use Rattle.pix_script.specs.Reading.{earlier_with};
+ghost use Rattle.pix_script.specs.Seen.{Draws, keeps};
 
+use crate::pixel::pixel_of;
 use pix_el::matte::Matte8;
 use pix_el::ops::Op;
 use pix_el::rgb::Rgba8p;
 use pix_raster::{Command, Raster, Region};
 
-/// The command of a line.
+/// The command of a line. A color has the bytes of red, green, blue and alpha.
 #[derive(Clone, Copy)]
 pub(crate) enum Line {
-    /// Makes the image, of this width and height.
-    Image(u32, u32),
-    /// Keeps a copy of the image.
-    Keep,
-    /// Draws on the image.
-    Draw(Drawing),
-}
-
-/// A command that draws on the image.
-#[derive(Clone, Copy)]
-pub(crate) enum Drawing {
+    /// Makes the image.
+    Image { width: u32, height: u32 },
     /// Makes every pixel clear.
     Clear,
     /// Copies a color to the points of a region.
-    Fill { reg: Region, clr: Rgba8p },
+    Fill { reg: Region, color: [u8; 4] },
     /// Composites a color with the points of a region.
-    Paint { op: Op, reg: Region, clr: Rgba8p },
+    Paint { op: Op, reg: Region, color: [u8; 4] },
+    /// Keeps a copy of the image.
+    Keep,
     /// Copies a region of the kept image.
     Copy { to: Region, from: Region },
     /// Composites a region of the kept image.
     Comp { op: Op, to: Region, from: Region },
+}
+
+/// What a word after the first has to be.
+#[derive(Clone, Copy)]
+pub(crate) enum Kind {
+    /// The name of an operator.
+    Operator,
+    /// A place across or down.
+    Coordinate,
+    /// A width or a height.
+    Side,
+    /// Eight hexadecimal digits.
+    Color,
 }
 
 /// Which commands earlier lines have.
@@ -40,26 +48,59 @@ pub(crate) struct Earlier {
     pub(crate) keep: bool,
 }
 
-impl Drawing {
-    /// Returns the command on a raster that draws so, where `kept` is the kept image.
-    pub(crate) fn command<'a>(&self, kept: &'a Raster<Rgba8p>) -> Command<'a, Rgba8p, Matte8>
-        ensures { brought_by result ≡ effects_of kept.now (drawing_meaning self.now) }
+impl Earlier {
+    /// Returns the same with one more line, of these words.
+    pub(crate) fn with(self, words: &[&[u8]]) -> Earlier
+        ensures { result ≡ earlier_with self (map (λ word. word.now) words.now) }
     {
-        match *self {
-            Drawing::Clear => Command::Clear,
-            Drawing::Fill { reg, clr } => Command::CopyColor { reg, clr },
-            Drawing::Paint { op, reg, clr } => Command::Color { reg, clr, op },
-            Drawing::Copy { to, from } => Command::CopyRaster {
+        match words {
+            [] => self,
+            [name, ..] => Earlier {
+                image: self.image || *name == b"image".as_slice(),
+                keep: self.keep || *name == b"keep".as_slice(),
+            },
+        }
+    }
+}
+
+impl Line {
+    /// Returns whether the command keeps a copy of the image.
+    pub(crate) fn keeps(&self) -> bool
+        ensures { result ≡ keeps self.now }
+    {
+        matches!(self, Line::Keep)
+    }
+
+    /// Returns the command on a raster that draws so, where `kept` is the kept image, and `None` where nothing is drawn.
+    pub(crate) fn drawing<'a>(
+        &self,
+        kept: &'a Raster<Rgba8p>,
+    ) -> Option<Command<'a, Rgba8p, Matte8>>
+        ensures { Draws kept.now self.now result }
+    {
+        Some(match *self {
+            Line::Image { .. } | Line::Keep => return None,
+            Line::Clear => Command::Clear,
+            Line::Fill { reg, color } => Command::CopyColor {
+                reg,
+                clr: pixel_of(color),
+            },
+            Line::Paint { op, reg, color } => Command::Color {
+                reg,
+                clr: pixel_of(color),
+                op,
+            },
+            Line::Copy { to, from } => Command::CopyRaster {
                 to,
                 src: kept,
                 from,
             },
-            Drawing::Comp { op, to, from } => Command::Raster {
+            Line::Comp { op, to, from } => Command::Raster {
                 to,
                 src: kept,
                 from,
                 op,
             },
-        }
+        })
     }
 }

@@ -7,7 +7,8 @@ use std::alloc::AllocError;
 use std::error::Error;
 use std::fmt;
 
-/// The problem of a faulty line.
+/// The problem of a faulty line, by number. A line is tested in another order: for `UnknownWord`, `WrongCount`, `NoImage` or
+/// `SecondImage`, and then for the others as they stand here.
 #[derive(Clone, Copy, Debug, PartialEq, Eq)]
 pub enum Problem {
     /// Another command comes before `image`.

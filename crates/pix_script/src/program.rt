@@ -1,14 +1,16 @@
 //! A run from an input to an output, with its report and its exit status.
-ghost use Rattle.std.specs.Prelude.{◌≡◌, ◌++◌, ◌∷◌, [], OnOk};
-ghost use Rattle.std.specs.Io.KnownBytes.{Appends};
-ghost use Rattle.pix_script.specs.Stop.{stop_text};
-ghost use Rattle.pix_script.specs.Run.{Ends, status_of};
+ghost use Rattle.std.specs.Prelude.{◌≡◌};
+ghost use Rattle.pix_script.specs.Run.{AppendsOrPart, Ends, status_of, stop_line};
 
 use crate::fault::PaintFault;
 use crate::stop::{PaintStop, paint_io};
+use arrayvec::ArrayVec;
 use std::alloc::Global;
 use std::io;
-use std::io::{Read, Write};
+use std::io::{ErrorKind, Read, Write};
+
+/// More bytes than any report has.
+const MAX_REPORT: usize = 64;
 
 /// Renders the script of an input to an output by [`paint_io`], reports a stop by one line on an error output, and returns the exit
 /// status: 0 after an image, 1 after a fault of the script, 2 after an allocation failure, and 3 after a failed read or write.
@@ -32,12 +34,36 @@ pub fn run<R: Read, W: Write, E: Write>(
     }
 }
 
-/// Writes the line that reports a stop.
+/// Writes the line that reports a stop, and flushes it.
 fn report<E: Write>(errors: &mut E, stop: PaintStop) -> io::Result<()>
-    ensures { OnOk result (Appends (E.contents errors.old) (E.contents errors.new)
-        (stop_text stop ++ 10 ∷ [])) }
+    ensures { AppendsOrPart (E.contents errors.old) (E.contents errors.new) (stop_line stop) result }
 {
-    writeln!(errors, "{stop}")
+    let mut line = ArrayVec::<u8, MAX_REPORT>::new();
+    writeln!(line, "{stop}")?;
+    write_part(errors, &line)?;
+    errors.flush()
+}
+
+/// Writes bytes to their end, or up to a failure; an interrupted write is tried again.
+fn write_part<W: Write>(writer: &mut W, bytes: &[u8]) -> io::Result<()>
+    ensures { AppendsOrPart (W.contents writer.old) (W.contents writer.new) bytes.now result }
+{
+    let mut done = 0;
+    'parts: for _ in 0..u64::MAX {
+        if done == bytes.len() {
+            return Ok(());
+        }
+        match writer.write(&bytes[done..]) {
+            Ok(0) => return Err(ErrorKind::WriteZero.into()),
+            Ok(count) => done += count,
+            Err(error) => {
+                if error.kind() != ErrorKind::Interrupted {
+                    return Err(error);
+                }
+            }
+        }
+    }
+    Err(ErrorKind::TimedOut.into())
 }
 
 /// Returns the exit status after a stop.

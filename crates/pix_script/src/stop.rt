@@ -51,7 +51,8 @@ impl From<AllocError> for PaintStop {
 /// # Errors
 ///
 /// `Read` after a failed read, also one that was interrupted; `Script` with the fault that [`paint_text`] answers on the bytes read, or
-/// out of memory; `Write` after a failed write or flush. After `Read` and `Script` nothing was written.
+/// out of memory; `Write` after a failed write or flush of the text of a script without a fault. After `Read` and `Script` nothing was
+/// written.
 pub fn paint_io<R: Read, W: Write>(
     alloc: Global,
     reader: &mut R,
@@ -64,20 +65,15 @@ pub fn paint_io<R: Read, W: Write>(
     ensures known { IfSome (R.remaining reader.old) (λ script.
         LeavesFor script (W.contents writer.old) (W.contents writer.new) result) }
 {
-    pass_on(alloc, reader, writer)
+    let script = read_bytes(alloc, reader)?;
+    write_text(alloc, &script, writer)
 }
 
-/// The same.
-fn pass_on<R: Read, W: Write>(
-    alloc: Global,
-    reader: &mut R,
-    writer: &mut W,
-) -> Result<(), PaintStop>
-    ensures { Leaves (R.remaining reader.old) (R.remaining reader.new)
-        (W.contents writer.old) (W.contents writer.new) result }
+/// Renders a script and writes its text.
+fn write_text<W: Write>(alloc: Global, script: &[u8], writer: &mut W) -> Result<(), PaintStop>
+    ensures { LeavesFor script.now (W.contents writer.old) (W.contents writer.new) result }
 {
-    let script = read_bytes(alloc, reader)?;
-    let text = paint_text(alloc, &script).map_err(PaintStop::Script)?;
+    let text = paint_text(alloc, script).map_err(PaintStop::Script)?;
     writer.write_all(&text).map_err(|_| PaintStop::Write)?;
     writer.flush().map_err(|_| PaintStop::Write)?;
     Ok(())

@@ -1,3 +1,4 @@
+-- What holds at each turn of the loop over `byte` in `number`.
 use Rattle.std.proofs.Common.{◌≡◌, ◌≤◌, take}
 use Rattle.std.specs.Str.Parse.{digits_value, AllDigits}
 use Rattle.pix_script.proofs.number.number.Given as goal

@@ -1,7 +1,8 @@
+-- Of `parse`: that it meets its contract.
 use Rattle.std.proofs.Common.{refl, arith}
 use Rattle.std.proofs.lemmas.List.{nil_from_length}
 use Rattle.pix_script.specs.Commands.{problem_of}
-use Rattle.pix_script.specs.Meaning.{meaning_of}
+use Rattle.pix_script.specs.Commands.{meaning_of}
 use Rattle.pix_script.proofs.parse.parse.Goals as goal
 
 pub returns-in-empty : goal.returns-in-empty

@@ -1,3 +1,4 @@
+-- Of `raster_text`: that the invariant of its loop holds after each turn.
 use Rattle.std.proofs.Common.{◌<◌, ◌≤◌, arith, sym, ◌∙◌}
 use Rattle.pix_raster.specs.Image.{point, region_of}
 use Rattle.pix_raster.specs.Rows.{rows_of}

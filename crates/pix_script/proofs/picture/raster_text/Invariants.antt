@@ -1,3 +1,4 @@
+-- What holds at each turn of the loop in `raster_text`.
 use Rattle.std.proofs.Common.{◌≡◌, drop}
 use Rattle.pix_raster.specs.Image.{point, region_of}
 use Rattle.pix_raster.specs.Rows.{rows_of}

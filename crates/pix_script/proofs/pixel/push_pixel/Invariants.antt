@@ -1,3 +1,4 @@
+-- What holds at each turn of the loop over `channel` in `push_pixel`.
 use Rattle.std.proofs.Common.{◌≡◌, ◌++◌, map, take}
 use Rattle.std.specs.List.{flat_map}
 use Rattle.pix_script.specs.Text.{hex_byte}

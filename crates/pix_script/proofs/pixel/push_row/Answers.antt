@@ -1,3 +1,4 @@
+-- Of `push_row`: that the invariant of its loop over `place` holds after each turn.
 use Rattle.std.proofs.Common.{arith}
 use Rattle.pix_script.specs.Pixels.{color_numbers}
 use Rattle.pix_script.specs.Text.{pixel_text}

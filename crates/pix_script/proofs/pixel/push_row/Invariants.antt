@@ -1,3 +1,4 @@
+-- What holds at each turn of the loop over `place` in `push_row`.
 use Rattle.std.proofs.Common.{◌≡◌, ◌++◌, map, take}
 use Rattle.std.specs.List.{join_with_byte}
 use Rattle.pix_script.specs.Pixels.{color_numbers}

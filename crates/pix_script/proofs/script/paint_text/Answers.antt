@@ -1,3 +1,4 @@
+-- Of `paint_text`: the clauses `outcome` and `first`.
 use Rattle.std.proofs.Common.{◌≡◌}
 use Rattle.std.proofs.lemmas.Result.{err_from_is_err_and}
 use Rattle.pix_script.specs.declared.fault.PaintFault.TheVariants.{Line}
@@ -22,4 +23,4 @@ returns-in_err-read-clause-first c =
 
 pub returns-clause-outcome : goal.returns-clause-outcome
 returns-clause-outcome c =
-    rendered_outcome (λ text. text.items) c.args.script.now c.in_ok-read.read c.render.result c.if-script-gt-MAX_SCRIPT.false c.in_ok-read.ensures c.render.ensures.text c.render.ensures.memory
+    rendered_outcome (λ text. text.items) c.args.script.now c.in_ok-read.read c.render.result c.if-script-gt-MAX_SCRIPT.false c.in_ok-read.ensures (rw c.deref.ensures.value at c.render.ensures.text) c.render.ensures.memory

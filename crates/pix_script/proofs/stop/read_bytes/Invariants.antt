@@ -1,3 +1,4 @@
+-- What holds at each turn of the loop in `read_bytes`, and what each turn makes smaller.
 use Rattle.std.proofs.Common.{◌-◌, ◌≤◌, vec_len}
 use Rattle.std.specs.Io.KnownBytes.{Consumes}
 use Rattle.pix_script.proofs.stop.read_bytes.Given as goal

@@ -1,3 +1,4 @@
+-- Of `read_lines`: that it meets its contract, and that the invariant of its loop over `index` holds after each turn.
 use Rattle.std.proofs.Common.{length, eqb, rules, tests, arith}
 use Rattle.std.proofs.lemmas.List.{length_push}
 use Rattle.std.proofs.lemmas.Iterator.Consumers.{YieldsList-from_enumerate, YieldsList-at, YieldsList-turn, YieldsList-end}
@@ -7,7 +8,7 @@ use Rattle.std.specs.Str.Lines.{strip_carriage_return}
 use Rattle.pix_script.specs.Lines.{words_of, lines_of}
 use Rattle.pix_script.specs.Reading.{held}
 use Rattle.pix_script.proofs.ReadingLemmas.{line_at, lines_len, line_done, read_fails, all_done}
-use Rattle.pix_script.proofs.script.read_script.Goals as goal
+use Rattle.pix_script.proofs.script.read_lines.Goals as goal
 
 pub loop-index-preserved : goal.loop-index-preserved
 loop-index-preserved c =
