@@ -6,7 +6,7 @@ use crate::command::{FlatCommand, Flatten, PixRegion};
 use crate::size::{LIMIT, is_sized};
 use pix::ops::Op;
 
-/// All commands are done.
+/// A call did all that it was asked for: every command of a list, or every pixel of a conversion.
 pub const DONE: u32 = 0;
 
 /// A side of the image is above 2147483647, its stride is below its width, or its pixels are too few.
@@ -24,7 +24,7 @@ pub const BAD_OP: u32 = 4;
 /// The source that the kind reads is refused for what [`BAD_SIZE`] says of the image.
 pub const BAD_SOURCE: u32 = 5;
 
-/// A number of a format is that of none.
+/// There is no format of such a number.
 pub const BAD_FORMAT: u32 = 6;
 
 /// A buffer is not as long as its pixels.

@@ -1,3 +1,4 @@
+-- Of `convert_pixels`: that the invariant of its loop over `index` holds after each turn.
 use Rattle.std.proofs.Common.{◌≡◌, ◌+◌, ◌-◌, ◌*◌, ◌≤◌, length, slice_range, ap, ◌∙◌, sym, arith}
 use Rattle.std.proofs.Math.Nat.{mul-le-mul_right}
 use Rattle.pix_el.specs.Conversion.{Format, converted}

@@ -1,3 +1,4 @@
+-- What holds at each turn of the loop over `index` in `convert_pixels`.
 use Rattle.pix_c.specs.Converted.{IsConverted}
 use Rattle.pix_c.proofs.convert.convert_pixels.Given as goal
 

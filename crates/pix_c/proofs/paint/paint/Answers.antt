@@ -1,3 +1,4 @@
+-- Of `paint`: that it meets its contract, and the condition of its call of `blit_region`.
 use Rattle.std.proofs.Common.{refl, sym, subst, ◌∙◌, length}
 use Rattle.pix.specs.Lent.{IsShaped}
 use Rattle.pix_raster.specs.declared.lent.Shape.{Shape}

@@ -1,3 +1,4 @@
+-- Of `run`: the clause `run`, and the condition of its call of `run_all`.
 use Rattle.std.proofs.Common.{◌≡◌, ℕ, ◌≤◌, ◌<◌, ◌+◌, length, map, sym, ap, ◌∙◌, subst, arith}
 use Rattle.pix_chan.specs.Product.{channel_product, fineness, IsProduct}
 use Rattle.pix_el.specs.Pixel.{Layout, channel}

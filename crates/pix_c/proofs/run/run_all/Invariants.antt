@@ -1,3 +1,4 @@
+-- What holds at each turn of the loop over `command` in `run_all`.
 use Rattle.std.proofs.Common.{◌≡◌, ℕ, ◌<◌, [], drop, map, get_or}
 use Rattle.pix.specs.Region.{whole}
 use Rattle.pix.specs.Run.{run_at}

@@ -1,3 +1,4 @@
+-- Of `color_parts`: that it meets its contract.
 use Rattle.std.proofs.Common.{◌≡◌, ◌≤◌, ◌-◌, ◌∙◌, take, drop, length, sym, ap, arith, map, replicate, List, ℕ}
 use Rattle.std.proofs.lemmas.List.{length-map, length-take, length-drop}
 use borrow.Rule.Slice.PartMut.{put_mid}

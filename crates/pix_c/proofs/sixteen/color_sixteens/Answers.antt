@@ -1,3 +1,4 @@
+-- Of `color_sixteens`: the clause `composited`, and that the invariant of its loop over `k` holds at first and stays.
 use Rattle.std.proofs.Common.{◌≡◌, ◌+◌, ◌*◌, ◌-◌, ◌∙◌, ◌≤◌, take, drop, length, sym, ap, arith, map, refl, replicate, List, ℕ}
 use Rattle.std.proofs.lemmas.List.{length-map, length-take, length-drop, take-replicate}
 use Rattle.pix_chan.specs.Runs.{over}

@@ -1,3 +1,4 @@
+-- What holds at each turn of the loop over `k` in `color_sixteens`.
 use Rattle.std.proofs.Common.{◌≡◌, ◌*◌, take, map, replicate, length}
 use Rattle.pix_chan.specs.Runs.{over}
 use Rattle.pix_el.specs.PixelComposite.{pixel_composite}

@@ -1,3 +1,4 @@
+-- Of `composite_parts`: that it meets its contract.
 use Rattle.std.proofs.Common.{◌≡◌, ◌≤◌, ◌-◌, ◌∙◌, take, drop, length, sym, ap, arith, map, List, ℕ, min}
 use Rattle.std.proofs.lemmas.List.{length-map}
 use borrow.Rule.Slice.PartMut.{put_mid}

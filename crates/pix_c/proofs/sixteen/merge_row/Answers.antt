@@ -1,3 +1,4 @@
+-- Of `merge_row`: that it meets its contract, and that the invariant of its loop over `i` holds after each turn.
 use Rattle.std.proofs.Common.{◌≡◌, ◌≤◌, ◌+◌, ◌∙◌, sym, ap, arith, map, refl, List, ℕ}
 use Rattle.std.proofs.lemmas.List.{length-map, get_or-map}
 use Rattle.pix_chan.proofs.Slices.{mapped_one_step, over_both}

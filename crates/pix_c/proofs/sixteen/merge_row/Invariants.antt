@@ -1,3 +1,4 @@
+-- What holds at each turn of the loop over `i` in `merge_row`.
 use Rattle.std.proofs.Common.{◌≡◌, take, map}
 use Rattle.pix_chan.specs.Runs.{over}
 use Rattle.pix_c.proofs.sixteen.merge_row.Given as goal

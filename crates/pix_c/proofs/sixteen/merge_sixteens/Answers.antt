@@ -1,3 +1,4 @@
+-- Of `merge_sixteens`: that the invariant of its loop over `k` holds at first and stays.
 use Rattle.std.proofs.Common.{◌≡◌, ◌+◌, ◌*◌, ◌-◌, ◌∙◌, take, drop, sym, ap, arith, map, refl, List, ℕ}
 use Rattle.std.proofs.lemmas.List.{length-map}
 use Rattle.pix_chan.proofs.Slices.{run, over-nil, mapped_run_step, part_of}

@@ -1,3 +1,4 @@
+-- What holds at each turn of the loop over `k` in `merge_sixteens`.
 use Rattle.std.proofs.Common.{◌≡◌, ◌*◌, take, map}
 use Rattle.pix_chan.specs.Runs.{over}
 use Rattle.pix_c.proofs.sixteen.merge_sixteens.Given as goal

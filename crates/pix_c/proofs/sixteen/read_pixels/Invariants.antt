@@ -1,3 +1,4 @@
+-- What holds at each turn of the loop over `i` in `read_pixels`.
 use Rattle.pix_c.proofs.Rows.{WrittenTo}
 use Rattle.pix_c.proofs.sixteen.read_pixels.Given as goal
 

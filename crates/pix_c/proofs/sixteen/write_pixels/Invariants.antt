@@ -1,3 +1,4 @@
+-- What holds at each turn of the loop over `i` in `write_pixels`.
 use Rattle.pix_c.proofs.Rows.{WrittenTo}
 use Rattle.pix_c.proofs.sixteen.write_pixels.Given as goal
 

@@ -1,3 +1,4 @@
+-- What holds at each turn of the loop over `index` in `first_fault`.
 use Rattle.std.proofs.Common.{◌≡◌, ◌+◌, drop, map}
 use Rattle.pix_c.specs.Status.{first_fault, count_before_fault}
 use Rattle.pix_c.proofs.status.first_fault.Given as goal

@@ -1,3 +1,4 @@
+-- What holds at each turn of the loop over `pixel` in `CopiedColorFill::fill`.
 use Rattle.pix_el.proofs.Written.{Written}
 use Rattle.pix_c.proofs.copy.CopiedColorFill.fill.Given as goal
 

@@ -1,3 +1,4 @@
+-- Of `CompositedColorFill::fill`: that it meets its contract, and that the invariant of its loop over `i` holds at first and stays.
 use Rattle.std.proofs.Common.{◌+◌, ◌∙◌, length, sym, ap, arith, map, refl, replicate, List, ℕ}
 use Rattle.std.proofs.lemmas.List.{length-map, take-replicate}
 use Rattle.pix_chan.specs.Runs.{over}

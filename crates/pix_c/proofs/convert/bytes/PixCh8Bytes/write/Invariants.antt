@@ -1,3 +1,4 @@
+-- What holds at each turn of the loop over `ch` in `PixCh8Bytes::write`.
 use Rattle.std.proofs.Common.{◌≡◌, ℕ, ◌<◌, length, map, get_or}
 use Rattle.pix_chan.specs.declared.chan.bits8.Ch8.{Ch8}
 use Rattle.pix_c.proofs.convert.bytes.PixCh8Bytes.write.Given as goal
