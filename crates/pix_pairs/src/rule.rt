@@ -18,7 +18,7 @@ struct Pixel {
 }
 
 /// The number at a width of the same fraction at another: times 257 to sixteen bits, and the upper eight bits from there.
-fn deepened(x: u32, from: Depth, to: Depth) -> u32 {
+fn rescaled(x: u32, from: Depth, to: Depth) -> u32 {
     match (from, to) {
         (Depth::Eight, Depth::Sixteen) => (u64::from(x) * 257).min(65535) as u32,
         (Depth::Sixteen, Depth::Eight) => x / 256,
@@ -54,7 +54,7 @@ pub(crate) fn quotient(x: u32, y: u32, depth: Depth) -> u32 {
 }
 
 /// A color at an alpha, from the alpha mode and gamma of one format to those of another.
-fn recoded(x: u32, alpha: u32, from: Format, to: Format) -> u32 {
+fn reencoded(x: u32, alpha: u32, from: Format, to: Format) -> u32 {
     let is_same_mode = from.is_premultiplied == to.is_premultiplied;
     if is_same_mode && from.is_srgb == to.is_srgb {
         return x;
@@ -70,27 +70,27 @@ fn recoded(x: u32, alpha: u32, from: Format, to: Format) -> u32 {
     if to.is_srgb { encoded(stored) } else { stored }
 }
 
-/// A pixel that has the width of `to`, with each color but a hue recoded.
-fn recoded_pixel(pixel: Pixel, has_hue: bool, from: Format, to: Format) -> Pixel {
+/// A pixel that has the width of `to`, with each color but a hue re-encoded.
+fn reencoded_pixel(pixel: Pixel, has_hue: bool, from: Format, to: Format) -> Pixel {
     let [one, two, three] = pixel.colors;
     let alpha = pixel.alpha;
     let one = if has_hue {
         one
     } else {
-        recoded(one, alpha, from, to)
+        reencoded(one, alpha, from, to)
     };
     let colors = [
         one,
-        recoded(two, alpha, from, to),
-        recoded(three, alpha, from, to),
+        reencoded(two, alpha, from, to),
+        reencoded(three, alpha, from, to),
     ];
     Pixel { colors, alpha }
 }
 
 /// A pixel of the width of `from` at that of `to`.
-fn deepened_pixel(pixel: Pixel, from: Format, to: Format) -> Pixel {
+fn rescaled_pixel(pixel: Pixel, from: Format, to: Format) -> Pixel {
     let [one, two, three] = pixel.colors;
-    let [one, two, three, alpha] = [one, two, three, pixel.alpha].map(|x| deepened(
+    let [one, two, three, alpha] = [one, two, three, pixel.alpha].map(|x| rescaled(
         x, from.depth, to.depth,
     ));
     let colors = [one, two, three];
@@ -128,16 +128,16 @@ fn written(format: Format, pixel: Pixel) -> Channels {
 pub(crate) fn converted(from: Format, to: Format, numbers: [u32; 4]) -> Channels {
     let pixel = read(from, numbers);
     if from.model == to.model {
-        let mut deep = deepened_pixel(pixel, from, to);
+        let mut rescaled = rescaled_pixel(pixel, from, to);
         if !to.has_alpha {
-            deep.alpha = to.depth.max();
+            rescaled.alpha = to.depth.max();
         }
-        return written(to, recoded_pixel(deep, to.model.has_hue(), from, to));
+        return written(to, reencoded_pixel(rescaled, to.model.has_hue(), from, to));
     }
     let colors = into_rgb(from.model, pixel.colors, from.depth);
     let alpha = pixel.alpha;
-    let rgb = deepened_pixel(Pixel { colors, alpha }, from, to);
-    let rgb = recoded_pixel(rgb, false, from, to);
+    let rgb = rescaled_pixel(Pixel { colors, alpha }, from, to);
+    let rgb = reencoded_pixel(rgb, false, from, to);
     let colors = from_rgb(to.model, rgb.colors, to.depth);
     let alpha = rgb.alpha;
     written(to, Pixel { colors, alpha })

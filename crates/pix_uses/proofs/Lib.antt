@@ -1,3 +1,4 @@
+-- The files of lemmas. Answers, invariants and proofs of a function are found by its path.
 pub mod Reached
 pub mod Points
 pub mod Within

@@ -1,11 +1,10 @@
-//! Callers of the library, as a user would write them: each is proved, and tried by a test.
+//! Callers of the library, as a user would write them: each is proved, and tried by a test of
+//! `pix_vectors`.
 #![tactic(auto)]
 
 pub mod bytes;
 pub mod colors;
 pub mod examples;
-#[cfg(test)]
-mod examples_tests;
 pub mod frames;
 pub mod lists;
 pub mod models;
@@ -14,5 +13,3 @@ pub mod pixels;
 pub mod rows;
 pub mod sprites;
 pub mod tables;
-#[cfg(test)]
-mod tests;

@@ -1,9 +1,8 @@
 //! Runs written down by hand with their exact fractions and their rounding budgets.
 use crate::exact::{Budget, Exact, Point};
-use crate::pictures::{graya, matte, rgba};
+use crate::pictures::{matte, rgba};
 use pix::chan::Ch8;
 use pix::el::Pixel;
-use pix::gray::Graya8p;
 use pix::matte::Matte8;
 use pix::ops::{DestAtop, Op, Src, SrcIn, SrcOver, Xor};
 use pix::rgb::Rgba8p;
@@ -96,32 +95,6 @@ fn errors_that_nearly_reach_their_budget(rt: HostRuntime) -> Result<(), Fail> {
     let whole = 4 * 4228250625_u128;
     assert!(rt; twice.saturating_mul(100) >= whole.saturating_mul(99));
     assert!(rt; twice < whole);
-    Ok(())
-}
-
-/// Two colors in one list are two composites: 128 * 254 / 255 is rounded to 127, and 127 * 128 / 255 to 64. Merged into one first,
-/// (0, 1) and (0, 127) are (0, 128), under which 128 * 127 / 255 is rounded to 64 and the alpha is 192.
-#[test]
-fn colors_of_a_list_are_not_merged(rt: HostRuntime) -> Result<(), Fail> {
-    let before = graya((128, 128));
-    let mut raster = Raster::with_color(rt.alloc(), 1, 1, before)?;
-    let command = |clr: Graya8p| -> Command<'_, Graya8p, Matte8> {
-        Command::Color {
-            reg: Region::from(()),
-            clr,
-            op: Op::SrcOver,
-        }
-    };
-    let commands = [(0, 1), (0, 127)].map(graya).map(command);
-    raster.run(&commands);
-    assert_eq!(rt; raster.pixels(), [graya((64, 191))].as_slice());
-
-    let mut merged = graya((0, 1));
-    merged.composite_channels(&graya((0, 127)), SrcOver);
-    assert_eq!(rt; merged, graya((0, 128)));
-    let mut pixel = before;
-    pixel.composite_channels(&merged, SrcOver);
-    assert_eq!(rt; pixel, graya((64, 192)));
     Ok(())
 }
 

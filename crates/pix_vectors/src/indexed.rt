@@ -1,24 +1,11 @@
-//! Images of indices into a palette.
-use crate::palettes::{Random, four_five_six, gray};
+//! Images of many indices into a palette.
+use crate::palettes::{Random, four_five_six};
 use pix::el::Pixel;
 use pix::gray::{Gray, Gray8, Gray16};
 use pix::rgb::SRgb8;
 use pix::{Palette, Raster, RasterFault};
 use std::alloc::Global;
 use std::test::Fail;
-
-/// A raster of black, red, green and blue.
-fn four_colors(alloc: Global) -> Result<Raster<SRgb8>, RasterFault> {
-    let mut raster = Raster::with_clear(alloc, 2, 2)?;
-    let colors = [
-        SRgb8::new(0u8, 0u8, 0u8),
-        SRgb8::new(255u8, 0u8, 0u8),
-        SRgb8::new(0u8, 255u8, 0u8),
-        SRgb8::new(0u8, 0u8, 255u8),
-    ];
-    SRgb8::copy_slice(raster.pixels_mut(), &colors);
-    Ok(raster)
-}
 
 /// A raster of 257 colors, each once.
 fn many_colors(alloc: Global) -> Result<Raster<SRgb8>, RasterFault> {
@@ -52,21 +39,6 @@ fn indexed_wide(
 }
 
 /// Whether there is a raster of just the indices from 0 on.
-fn counts_up(answer: Option<Raster<Gray8>>) -> bool {
-    let Some(raster) = answer else {
-        return false;
-    };
-    let mut want = 0_u8;
-    for pixel in raster.pixels() {
-        if *pixel != Gray8::new(want) {
-            return false;
-        }
-        want = want.wrapping_add(1);
-    }
-    true
-}
-
-/// Whether there is a raster of just the indices from 0 on.
 fn counts_up_wide(answer: Option<Raster<Gray16>>) -> bool {
     let Some(raster) = answer else {
         return false;
@@ -79,26 +51,6 @@ fn counts_up_wide(answer: Option<Raster<Gray16>>) -> bool {
         want = want.wrapping_add(1);
     }
     true
-}
-
-#[test]
-fn four_colors_are_indexed(rt: HostRuntime) -> Result<(), Fail> {
-    let mut palette = Palette::new(rt.alloc(), 4)?;
-    let raster = four_colors(rt.alloc())?;
-    let answer = indexed(rt.alloc(), &mut palette, raster)?;
-    assert!(rt; counts_up(answer));
-    assert_eq!(rt; palette.len(), 4);
-    Ok(())
-}
-
-#[test]
-fn four_colors_are_indexed_widely(rt: HostRuntime) -> Result<(), Fail> {
-    let mut palette = Palette::new(rt.alloc(), 4)?;
-    let raster = four_colors(rt.alloc())?;
-    let answer = indexed_wide(rt.alloc(), &mut palette, raster)?;
-    assert!(rt; counts_up_wide(answer));
-    assert_eq!(rt; palette.len(), 4);
-    Ok(())
 }
 
 #[test]
@@ -118,43 +70,6 @@ fn an_index_past_255_is_wide(rt: HostRuntime) -> Result<(), Fail> {
     let answer = indexed_wide(rt.alloc(), &mut palette, raster)?;
     assert!(rt; counts_up_wide(answer));
     assert_eq!(rt; palette.len(), 257);
-    Ok(())
-}
-
-#[test]
-fn too_many_colors_are_none(rt: HostRuntime) -> Result<(), Fail> {
-    let mut palette = Palette::new(rt.alloc(), 2)?;
-    let raster = four_colors(rt.alloc())?;
-    let answer = indexed(rt.alloc(), &mut palette, raster)?;
-    assert!(rt; answer.is_none());
-    assert_eq!(rt; palette.len(), 2);
-    assert_eq!(rt; palette.entry(0), Some(gray(0)));
-    assert_eq!(rt; palette.entry(1), Some(SRgb8::new(255u8, 0u8, 0u8)));
-    Ok(())
-}
-
-#[test]
-fn too_many_colors_are_none_widely(rt: HostRuntime) -> Result<(), Fail> {
-    let mut palette = Palette::new(rt.alloc(), 2)?;
-    let raster = four_colors(rt.alloc())?;
-    let answer = indexed_wide(rt.alloc(), &mut palette, raster)?;
-    assert!(rt; answer.is_none());
-    assert_eq!(rt; palette.len(), 2);
-    assert_eq!(rt; palette.entry(0), Some(gray(0)));
-    assert_eq!(rt; palette.entry(1), Some(SRgb8::new(255u8, 0u8, 0u8)));
-    Ok(())
-}
-
-#[test]
-fn no_columns_are_indexed(rt: HostRuntime) -> Result<(), Fail> {
-    let mut palette = Palette::new(rt.alloc(), 2)?;
-    let raster = Raster::with_clear(rt.alloc(), 0, 7)?;
-    let answer = indexed(rt.alloc(), &mut palette, raster)?;
-    assert!(rt; answer.is_some_and(|image| image.width() == 0 && image.height() == 7));
-    let raster = Raster::with_clear(rt.alloc(), 0, 7)?;
-    let answer = indexed_wide(rt.alloc(), &mut palette, raster)?;
-    assert!(rt; answer.is_some_and(|image| image.width() == 0 && image.height() == 7));
-    assert!(rt; palette.is_empty());
     Ok(())
 }
 

@@ -2,21 +2,13 @@
 #![tactic(auto)]
 
 #[cfg(test)]
-mod aliases;
-#[cfg(test)]
-mod aliases_srgb;
-#[cfg(test)]
 mod bounds;
 #[cfg(test)]
-mod buffers;
+mod callers;
 #[cfg(test)]
 mod channels;
 #[cfg(test)]
 mod conversions;
-#[cfg(test)]
-mod corners16;
-#[cfg(test)]
-mod corners8;
 #[cfg(test)]
 mod devices;
 #[cfg(test)]
@@ -24,9 +16,9 @@ mod ends;
 #[cfg(test)]
 mod exact;
 #[cfg(test)]
-mod getters;
+mod examples;
 #[cfg(test)]
-mod grayas;
+mod getters;
 #[cfg(test)]
 mod grays;
 #[cfg(test)]
@@ -37,8 +29,6 @@ mod indexed;
 mod kinds;
 #[cfg(test)]
 mod lanes;
-#[cfg(test)]
-mod mattes;
 #[cfg(test)]
 mod models;
 #[cfg(test)]
@@ -54,15 +44,9 @@ mod premultiplied;
 #[cfg(test)]
 mod random_lists;
 #[cfg(test)]
-mod rasters;
-#[cfg(test)]
 mod reports;
 #[cfg(test)]
 mod rgbas;
-#[cfg(test)]
-mod rows;
-#[cfg(test)]
-mod runs;
 #[cfg(test)]
 mod scripts;
 #[cfg(test)]
@@ -70,6 +54,6 @@ mod sixteen_bits;
 #[cfg(test)]
 mod sizes;
 #[cfg(test)]
-mod srgb_tables;
+mod slices;
 #[cfg(test)]
 mod transparent;

@@ -3,7 +3,7 @@ ghost use Rattle.std.specs.Prelude.{◌≡◌, IfOk};
 ghost use Rattle.pix.specs.Image.{Image};
 
 use pix::el::Pixel;
-use pix::gray::{Gray8, Graya8p};
+use pix::gray::Gray8;
 use pix::matte::Matte8;
 use pix::rgb::Rgba8p;
 use pix::{Raster, RasterFault};
@@ -28,11 +28,6 @@ pub(crate) fn gray(value: u8) -> Gray8 {
     Gray8::new(value)
 }
 
-/// A pixel of a gray value and an alpha.
-pub(crate) fn graya((value, alpha): (u8, u8)) -> Graya8p {
-    Graya8p::new(value, alpha)
-}
-
 /// A pixel of red, green, blue and alpha.
 pub(crate) fn rgba([red, green, blue, alpha]: [u8; 4]) -> Rgba8p {
     Rgba8p::new(red, green, blue, alpha)
@@ -41,24 +36,4 @@ pub(crate) fn rgba([red, green, blue, alpha]: [u8; 4]) -> Rgba8p {
 /// A pixel of one matte value.
 pub(crate) fn matte(value: u8) -> Matte8 {
     Matte8::new(value)
-}
-
-/// A raster of one matte value.
-pub(crate) fn mattes_of(
-    alloc: Global,
-    width: u32,
-    height: u32,
-    value: Matte8,
-) -> Result<Raster<Matte8>, RasterFault> {
-    Raster::with_color(alloc, width, height, value)
-}
-
-/// The raster of these matte values.
-pub(crate) fn matte_picture(
-    alloc: Global,
-    width: u32,
-    height: u32,
-    values: &[Matte8],
-) -> Result<Raster<Matte8>, RasterFault> {
-    picture(alloc, width, height, values)
 }

@@ -29,6 +29,46 @@ impl Write for FullWriter {
     }
 }
 
+/// Keeps what it is given until a flush, takes at most five bytes a call, and is interrupted at each second call.
+#[derive(Drop)]
+struct KeepingWriter {
+    kept: Vec<u8>,
+    flushed: Vec<u8>,
+    interrupted: bool,
+}
+
+impl KeepingWriter {
+    fn new(alloc: Global) -> KeepingWriter {
+        KeepingWriter {
+            kept: Vec::new(alloc),
+            flushed: Vec::new(alloc),
+            interrupted: true,
+        }
+    }
+}
+
+impl Write for KeepingWriter {
+    fn write(&mut self, buf: &[u8]) -> io::Result<usize> {
+        self.interrupted = !self.interrupted;
+        if self.interrupted {
+            return Err(ErrorKind::Interrupted.into());
+        }
+        let count = buf.len().min(5);
+        if self.kept.extend_from_slice(&buf[..count]).is_err() {
+            return Err(ErrorKind::OutOfMemory.into());
+        }
+        Ok(count)
+    }
+
+    fn flush(&mut self) -> io::Result<()> {
+        if self.flushed.extend_from_slice(&self.kept).is_err() {
+            return Err(ErrorKind::OutOfMemory.into());
+        }
+        self.kept.clear();
+        Ok(())
+    }
+}
+
 /// The status, the output and the report of a run on these bytes.
 fn outcome(alloc: Global, script: &[u8]) -> (u8, Vec<u8>, Vec<u8>) {
     let mut input = script;
@@ -84,6 +124,29 @@ fn a_failed_write(rt: HostRuntime) {
     let mut errors = Vec::new(rt.alloc());
     assert!(rt; run(rt.alloc(), &mut input, &mut FullWriter, &mut errors) == 3);
     assert!(rt; errors.as_slice() == b"write failed\n".as_slice());
+}
+
+/// The text and the report are flushed, and go on after a short and after an interrupted write.
+#[test]
+fn writers_that_keep_bytes(rt: HostRuntime) {
+    for (script, status, text, report) in [
+        ("image 2 1", 0, "00000000 00000000\n", ""),
+        ("image 2 1\npaint", 1, "", "line 2: wrong number of words\n"),
+    ] {
+        let mut input = script.as_bytes();
+        let mut output = KeepingWriter::new(rt.alloc());
+        let mut errors = KeepingWriter::new(rt.alloc());
+        assert_eq!(rt;
+            run(rt.alloc(), &mut input, &mut output, &mut errors),
+            status,
+            "{script:?}"
+        );
+        assert!(rt; output.flushed.as_slice() == text.as_bytes(), "{script:?}");
+        assert!(rt;
+            errors.flushed.as_slice() == report.as_bytes(),
+            "{script:?}"
+        );
+    }
 }
 
 /// The status tells of a stop that can't be reported.

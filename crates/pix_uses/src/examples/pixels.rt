@@ -50,10 +50,10 @@ pub fn compared() -> bool {
 pub fn converted() -> (Rgba8p, Rgba16p, [Rgba8p; 2]) {
     let photo = [SRgb8::new::<u8>(188, 0, 0), SRgb8::new::<u8>(0, 188, 0)];
     let light = photo[0].convert::<Rgba8p>(); // (128, 0, 0, 255)
-    let deep = Rgba16p::from_bit_depth(light); // (32896, 0, 0, 65535)
+    let fine = Rgba16p::from_bit_depth(light); // (32896, 0, 0, 65535)
     let mut row = [Rgba8p::default(); 2];
     SRgb8::convert_slice::<Rgba8p>(&mut row, &photo);
-    (light, deep, row)
+    (light, fine, row)
 }
 
 /// Composites a pixel with another.

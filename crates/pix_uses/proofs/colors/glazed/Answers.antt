@@ -1,3 +1,4 @@
+-- Of `glazed`: the clause `pixel`.
 use Rattle.std.proofs.Common.{◌≡◌, ◌<◌, ◌+◌, ◌*◌, arith, refl, sym, ap, ◌∙◌, pos, true}
 use Rattle.pix_ops.specs.declared.ops.Op.TheVariants.{SrcOver}
 use Rattle.pix_el.specs.PixelComposite.{pixel_composite}

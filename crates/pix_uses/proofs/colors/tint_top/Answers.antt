@@ -1,3 +1,4 @@
+-- Of `tint_top`: the clause `above`.
 use Rattle.std.proofs.Common.{arith}
 use Rattle.pix_uses.proofs.Reached.{in_rows_above}
 use Rattle.pix_uses.proofs.colors.tint_top.Goals as goal

@@ -1,3 +1,4 @@
+-- Of `draw`: that it meets its contract.
 use Rattle.pix_uses.proofs.Within.{are_within_more}
 use Rattle.pix_uses.proofs.lists.draw.Goals as goal
 

@@ -1,3 +1,4 @@
+-- What holds at each turn of the loop over `y` and `x` in `fill`.
 use Rattle.std.proofs.Common.{◌≡◌, ◌+◌, ◌*◌, ◌<◌, ℕ, Some}
 use Rattle.std.specs.List.{slice_get}
 use Rattle.pix_uses.proofs.pixels.fill.Given as goal

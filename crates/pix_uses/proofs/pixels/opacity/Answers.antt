@@ -1,3 +1,4 @@
+-- Of `opacity`: the clause `inside`.
 use Rattle.std.proofs.Common.{◌+◌, ◌*◌, ap, sym, ◌∙◌}
 use Rattle.std.proofs.lemmas.Int.{to_z-of_z}
 use mir.Syntax.{w32}

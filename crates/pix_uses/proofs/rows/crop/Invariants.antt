@@ -1,3 +1,4 @@
+-- What holds at each turn of the loop over `row` in `crop`.
 use Rattle.std.proofs.Common.{◌≡◌, ◌++◌}
 use Rattle.std.specs.List.{flat_map}
 use Rattle.pix.specs.Rows.{rows_of}

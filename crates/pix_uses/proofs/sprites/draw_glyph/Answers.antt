@@ -1,3 +1,4 @@
+-- Of `draw_glyph`: the clauses `drawn` and `kept`.
 use Rattle.std.proofs.Common.{◌≡◌, ◌++◌, [], ◌∙◌, ap, List}
 use Rattle.std.specs.Prelude.{fold}
 use Rattle.std.proofs.lemmas.Int.{to_z-of_z}

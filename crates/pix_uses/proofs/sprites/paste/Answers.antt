@@ -1,3 +1,4 @@
+-- Of `paste`: the clauses `pasted` and `kept`.
 use Rattle.std.proofs.Common.{◌≡◌, ◌++◌, [], ◌∙◌, ap, List}
 use Rattle.std.specs.Prelude.{fold}
 use Rattle.std.proofs.lemmas.Int.{to_z-of_z}

@@ -1,3 +1,4 @@
+-- Of `table_and_bytes`: the clause `exact`.
 use Rattle.std.proofs.Common.{map, ap, ◌∙◌}
 use Rattle.std.specs.Option.{option_map}
 use Rattle.pix.specs.Palette.{numbers}

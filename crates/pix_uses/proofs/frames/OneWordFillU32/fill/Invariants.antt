@@ -1,3 +1,4 @@
+-- What holds at each turn of the loop over `word` in `OneWordFillU32::fill`.
 use Rattle.pix_el.proofs.Written.{Written}
 use Rattle.pix_uses.proofs.frames.OneWordFillU32.fill.Given as goal
 

@@ -1,14 +1,4 @@
-//! Each caller on a small picture.
-use crate::bytes::tint_bytes;
-use crate::colors::{glazed, sunrise, tint_top};
-use crate::frames::flood;
-use crate::lists::{draw, glaze_twice};
-use crate::models::{luminance, red_of};
-use crate::photos;
-use crate::pixels::{fill, opacity};
-use crate::rows::{crop, underline};
-use crate::sprites::{draw_glyph, paste};
-use crate::tables::table_and_bytes;
+//! Each caller of `pix_uses` on a small picture.
 use pix::chan::Ch8;
 use pix::gray::Gray8;
 use pix::lent::Shape;
@@ -16,6 +6,16 @@ use pix::matte::Matte8;
 use pix::ops::Op;
 use pix::rgb::{Rgb8, Rgba8p, SRgb8};
 use pix::{Command, Raster, RasterFault, Region};
+use pix_uses::bytes::tint_bytes;
+use pix_uses::colors::{glazed, sunrise, tint_top};
+use pix_uses::frames::flood;
+use pix_uses::lists::{draw, glaze_twice};
+use pix_uses::models::{luminance, red_of};
+use pix_uses::photos;
+use pix_uses::pixels::{fill, opacity};
+use pix_uses::rows::{crop, underline};
+use pix_uses::sprites::{draw_glyph, paste};
+use pix_uses::tables::table_and_bytes;
 use std::alloc::Global;
 use std::test::Fail;
 

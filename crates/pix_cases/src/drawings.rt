@@ -1,0 +1,209 @@
+//! Commands on rasters: clears, copies and composites, in single calls and in lists.
+ghost use Rattle.std.specs.Prelude.{⊤};
+
+use crate::flaw::Flaw;
+use crate::images::{image, picture, pixel};
+use crate::regions::region;
+use crate::words::operator;
+use pix::el::Pixel;
+use pix::matte::Matte8;
+use pix::ops::{Blend, Op, OpVisitor};
+use pix::rgb::Rgba8p;
+use pix::{Command, Raster, Region};
+use std::alloc::{AllocError, Global};
+
+/// A command, without the images that it may read.
+#[derive(Drop)]
+enum Order {
+    /// Clears the raster.
+    Clear,
+    /// Copies a color.
+    Fill(Region, Rgba8p),
+    /// Copies the source.
+    Copy(Region, Region),
+    /// Composites a color.
+    Paint(Op, Region, Rgba8p),
+    /// Composites the source.
+    Comp(Op, Region, Region),
+    /// Composites a color through the mattes.
+    Matte(Op, Region, Region, Rgba8p),
+}
+
+/// The images that commands read.
+#[derive(Drop)]
+struct Images {
+    source: Raster<Rgba8p>,
+    mattes: Raster<Matte8>,
+}
+
+/// `list 2x1 - ; paint SrcOver 0,0,1,1 40806080`: `list` for one list of all commands or `calls`
+/// for a call of each, the size and the pixels of a raster of premultiplied red, green, blue and
+/// alpha, and behind each `;` an image that the commands read or a command:
+///
+/// - `source SIZE PIXELS`
+/// - `mattes SIZE PIXELS`
+/// - `clear`
+/// - `fill REGION COLOR`
+/// - `copy REGION REGION`
+/// - `paint OPERATOR REGION COLOR`
+/// - `comp OPERATOR REGION REGION`
+/// - `matte OPERATOR REGION REGION COLOR`
+///
+/// The answer is the size and the pixels of the raster after them.
+pub(crate) fn draw(words: &[&str], alloc: Global) -> Result<String, Flaw> {
+    let [way, size, pixels, words @ ..] = words else {
+        return Err(Flaw::Count);
+    };
+    let mut raster = image(size, pixels, alloc)?;
+    let source = named_image("source", words, alloc)?;
+    let mattes = named_image("mattes", words, alloc)?;
+    let images = Images { source, mattes };
+    let orders = orders(words, alloc)?;
+    match *way {
+        "list" => run_list(&mut raster, &images, &orders, alloc)?,
+        "calls" => {
+            for order in &orders {
+                call(&mut raster, &images, order);
+            }
+        }
+        _ => return Err(Flaw::Name),
+    }
+    picture(&raster, alloc)
+}
+
+/// The one image of that name among the words, or one without points.
+fn named_image<P: Pixel>(name: &str, words: &[&str], alloc: Global) -> Result<Raster<P>, Flaw> {
+    let mut named = None;
+    for part in words.split(|word| *word == ";") {
+        match part {
+            [first, size, pixels] if *first == name && named.is_none() => {
+                named = Some((*size, *pixels));
+            }
+            [first, ..] if *first == name => return Err(Flaw::Count),
+            _ => {}
+        }
+    }
+    let (size, pixels) = named.unwrap_or(("0x0", "-"));
+    image(size, pixels, alloc)
+}
+
+/// The commands among the words.
+fn orders(words: &[&str], alloc: Global) -> Result<Vec<Order>, Flaw> {
+    let mut all = Vec::new(alloc);
+    for part in words.split(|word| *word == ";") {
+        if !matches!(part, [] | ["source", ..] | ["mattes", ..]) {
+            all.push(order_of(part, alloc)?)?;
+        }
+    }
+    Ok(all)
+}
+
+/// The command of these words.
+fn order_of(words: &[&str], alloc: Global) -> Result<Order, Flaw> {
+    match words {
+        ["clear"] => Ok(Order::Clear),
+        ["fill", reg, clr] => Ok(Order::Fill(region(reg, alloc)?, pixel(clr, alloc)?)),
+        ["copy", to, from] => Ok(Order::Copy(region(to, alloc)?, region(from, alloc)?)),
+        ["paint", op, reg, clr] => {
+            let (reg, clr) = (region(reg, alloc)?, pixel(clr, alloc)?);
+            Ok(Order::Paint(operator(op)?, reg, clr))
+        }
+        ["comp", op, to, from] => {
+            let (to, from) = (region(to, alloc)?, region(from, alloc)?);
+            Ok(Order::Comp(operator(op)?, to, from))
+        }
+        ["matte", op, to, from, clr] => {
+            let (to, from) = (region(to, alloc)?, region(from, alloc)?);
+            Ok(Order::Matte(operator(op)?, to, from, pixel(clr, alloc)?))
+        }
+        _ => Err(Flaw::Name),
+    }
+}
+
+/// Does the commands as one list.
+fn run_list(
+    raster: &mut Raster<Rgba8p>,
+    images: &Images,
+    orders: &[Order],
+    alloc: Global,
+) -> Result<(), AllocError> {
+    let commands = commands_of(images, orders, alloc)?;
+    raster.run(&commands);
+    Ok(())
+}
+
+/// The commands with the images that they read.
+fn commands_of<'a>(
+    images: &'a Images,
+    orders: &[Order],
+    alloc: Global,
+) -> Result<Vec<Command<'a, Rgba8p, Matte8>>, AllocError> {
+    orders
+        .iter()
+        .map(|order| command(images, order))
+        .collect(alloc)
+}
+
+/// A command with the image that it reads.
+fn command<'a>(images: &'a Images, order: &Order) -> Command<'a, Rgba8p, Matte8> {
+    match *order {
+        Order::Clear => Command::Clear,
+        Order::Fill(reg, clr) => Command::CopyColor { reg, clr },
+        Order::Copy(to, from) => {
+            let src = &images.source;
+            Command::CopyRaster { to, src, from }
+        }
+        Order::Paint(op, reg, clr) => Command::Color { reg, clr, op },
+        Order::Comp(op, to, from) => {
+            let src = &images.source;
+            Command::Raster { to, src, from, op }
+        }
+        Order::Matte(op, to, from, clr) => {
+            let src = &images.mattes;
+            Command::Matte {
+                to,
+                src,
+                from,
+                clr,
+                op,
+            }
+        }
+    }
+}
+
+/// Does a command by a call of its own.
+fn call(raster: &mut Raster<Rgba8p>, images: &Images, order: &Order) {
+    match *order {
+        Order::Clear => raster.clear(),
+        Order::Fill(reg, clr) => raster.copy_color(reg, clr),
+        Order::Copy(to, from) => raster.copy_raster(to, &images.source, from),
+        Order::Paint(op, ..) | Order::Comp(op, ..) | Order::Matte(op, ..) => op.visit(
+            &Composite { images, order },
+            raster,
+        ),
+    }
+}
+
+/// A command that composites, as a call by an operator that is a type.
+#[derive(Drop)]
+struct Composite<'a> {
+    images: &'a Images,
+    order: &'a Order,
+}
+
+impl OpVisitor<Raster<Rgba8p>> for Composite<'_> {
+    ghost can_visit = { λ _ _. ⊤ };
+
+    ghost visits = { λ _ _ _ _. ⊤ };
+
+    fn visit<O: Blend>(&self, raster: &mut Raster<Rgba8p>, op: O) {
+        match *self.order {
+            Order::Paint(_, reg, clr) => raster.composite_color(reg, clr, op),
+            Order::Comp(_, to, from) => raster.composite_raster(to, &self.images.source, from, op),
+            Order::Matte(_, to, from, clr) => {
+                raster.composite_matte(to, &self.images.mattes, from, clr, op);
+            }
+            _ => {}
+        }
+    }
+}

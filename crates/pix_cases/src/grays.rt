@@ -1,0 +1,164 @@
+//! Rows, single pixels and copies of rasters of grays.
+use crate::flaw::Flaw;
+use crate::images::{all, image, picture, pixel, pixel_at, put, text};
+use crate::regions::{coordinate, region};
+use crate::words::{hexadecimal, number};
+use pix::el::Pixel;
+use pix::gray::Gray8;
+use pix::{Raster, Region};
+use std::alloc::Global;
+use std::mem;
+
+/// `3x1 01,02,03 ; row 0 1,0,9,9`: the size and the pixels of a raster, and behind each `;` what
+/// is done with it:
+///
+/// - `source SIZE PIXELS`: the source of copies
+/// - `clear`
+/// - `fill REGION COLOR`
+/// - `copy REGION REGION`
+/// - `put X Y COLOR`: writes a pixel
+/// - `write Y REGION PIXELS`: writes the pixels of a region in a row
+/// - `swap`: exchanges the raster and the source
+///
+/// or asked of it, for which the answer has a part:
+///
+/// - `pixels`: its size and its pixels
+/// - `at X Y`: a pixel
+/// - `rows REGION`: how many rows a region has, and their pixels
+/// - `row Y REGION`: the pixels of a region in a row, or `none`
+/// - `taken REGION`: the same of the rows that can be written
+/// - `number REGION`: writes 101, 102 and so on to the points of a region, row by row, and says how
+///   many rows it has
+/// - `clone`: copies the raster to the source, and says which pixels and bytes come out of that
+pub(crate) fn gray(words: &[&str], alloc: Global) -> Result<String, Flaw> {
+    let [size, pixels, words @ ..] = words else {
+        return Err(Flaw::Count);
+    };
+    let mut raster = image(size, pixels, alloc)?;
+    let mut source = image("0x0", "-", alloc)?;
+    let mut answer = String::new(alloc);
+    for part in words.split(|word| *word == ";") {
+        if change(&mut raster, &mut source, part, alloc)? {
+            continue;
+        }
+        let told = told(&mut raster, &mut source, part, alloc)?;
+        if !answer.is_empty() {
+            answer.push_str(" ; ")?;
+        }
+        answer.push_str(told.as_str())?;
+    }
+    Ok(answer)
+}
+
+/// Does what the words say, and returns whether they say a change.
+fn change(
+    raster: &mut Raster<Gray8>,
+    source: &mut Raster<Gray8>,
+    words: &[&str],
+    alloc: Global,
+) -> Result<bool, Flaw> {
+    match words {
+        [] => {}
+        ["source", size, pixels] => *source = image(size, pixels, alloc)?,
+        ["clear"] => raster.clear(),
+        ["fill", reg, clr] => raster.copy_color(region(reg, alloc)?, pixel(clr, alloc)?),
+        ["copy", to, from] => {
+            raster.copy_raster(region(to, alloc)?, source, region(from, alloc)?);
+        }
+        ["put", x, y, clr] => put(raster, x, y, clr, alloc)?,
+        ["write", y, reg, pixels] => {
+            let (y, reg) = (coordinate(number(y)?)?, region(reg, alloc)?);
+            let row = raster.row_mut(y, reg).ok_or(Flaw::Refused)?;
+            Gray8::copy_slice(row, &all::<Gray8>(pixels, alloc)?);
+        }
+        ["swap"] => mem::swap(raster, source),
+        _ => return Ok(false),
+    }
+    Ok(true)
+}
+
+/// The answer to a question.
+fn told(
+    raster: &mut Raster<Gray8>,
+    source: &mut Raster<Gray8>,
+    words: &[&str],
+    alloc: Global,
+) -> Result<String, Flaw> {
+    match words {
+        ["pixels"] => picture(raster, alloc),
+        ["at", x, y] => {
+            let (x, y) = (coordinate(number(x)?)?, coordinate(number(y)?)?);
+            text(&[pixel_at(raster, x, y).ok_or(Flaw::Number)?], alloc)
+        }
+        ["rows", reg] => rows(raster, region(reg, alloc)?, alloc),
+        ["row", y, reg] => {
+            match raster.row_mut(coordinate(number(y)?)?, region(reg, alloc)?) {
+                Some(row) => text(row, alloc),
+                None => Ok(String::from_str(alloc, "none")?),
+            }
+        }
+        ["taken", reg] => rows_taken(raster, region(reg, alloc)?, alloc),
+        ["number", reg] => {
+            let count = number_points(raster, region(reg, alloc)?);
+            Ok(format!(in alloc; "{count}")?)
+        }
+        ["clone"] => {
+            *source = raster.try_clone(alloc).map_err(|_| Flaw::Memory)?;
+            copies(raster, alloc)
+        }
+        _ => Err(Flaw::Name),
+    }
+}
+
+/// The pixels and the bytes that come out of copies of a raster.
+fn copies(raster: &Raster<Gray8>, alloc: Global) -> Result<String, Flaw> {
+    let lent = hexadecimal(&raster.to_u8_vec(alloc).map_err(|_| Flaw::Memory)?, alloc)?;
+    let copy = raster.try_clone(alloc).map_err(|_| Flaw::Memory)?;
+    let bytes = hexadecimal(&copy.into_u8_vec(alloc).map_err(|_| Flaw::Memory)?, alloc)?;
+    let copy = raster.try_clone(alloc).map_err(|_| Flaw::Memory)?;
+    let pixels = text(&copy.into_pixels(), alloc)?;
+    Ok(format!(in alloc; "{pixels} {lent} {bytes}")?)
+}
+
+/// How many rows a region has, and the pixels of each; after the last row there is none, however
+/// often it is asked for.
+fn rows(raster: &Raster<Gray8>, reg: Region, alloc: Global) -> Result<String, Flaw> {
+    let count = raster.rows(reg).count();
+    let mut answer = format!(in alloc; "{count}")?;
+    let mut rows = raster.rows(reg);
+    for _ in 0..count {
+        let row = text(rows.next().ok_or(Flaw::Refused)?, alloc)?;
+        write!(answer, " {row}")?;
+    }
+    if rows.next().is_some() || rows.next().is_some() {
+        return Err(Flaw::Refused);
+    }
+    Ok(answer)
+}
+
+/// How many rows of a region can be written, and the pixels of each.
+fn rows_taken(raster: &mut Raster<Gray8>, reg: Region, alloc: Global) -> Result<String, Flaw> {
+    let mut count = 0_usize;
+    let mut answer = String::new(alloc);
+    for row in raster.rows_mut(reg) {
+        count = count.wrapping_add(1);
+        answer.push(' ')?;
+        answer.push_str(text(row, alloc)?.as_str())?;
+    }
+    Ok(format!(in alloc; "{count}{answer}")?)
+}
+
+/// Writes 101, 102 and so on to the points of a region, row by row, and returns the number of
+/// rows.
+fn number_points(raster: &mut Raster<Gray8>, reg: Region) -> usize {
+    let mut count = 0_usize;
+    let mut number = 100_u8;
+    for row in raster.rows_mut(reg) {
+        count = count.wrapping_add(1);
+        for pixel in row.iter_mut() {
+            number = number.wrapping_add(1);
+            *pixel = Gray8::new(number);
+        }
+    }
+    count
+}

@@ -1,0 +1,218 @@
+//! Palettes: entries, matches, thresholds, counts and copies, and images of indices.
+use crate::flaw::Flaw;
+use crate::images::{image, pixel, text};
+use pix::Palette;
+use pix::el::Pixel;
+use pix::gray::Gray;
+use pix::rgb::SRgb8;
+use std::alloc::Global;
+use std::mem;
+
+/// `8 ; set 0a0a0a ; len`: the limit of a palette, and behind each `;` what is done with it:
+///
+/// - `threshold NAME`: keeps the function of that name
+/// - `clone`: copies it
+/// - `swap`: exchanges it and the copy
+///
+/// or asked of it, for which the answer has a word:
+///
+/// - `set COLOR`: the index of the color, or `none`
+/// - `replace INDEX COLOR`: the color that was replaced, or `none`
+/// - `entry INDEX`: the color, or `none`
+/// - `colors`: all colors
+/// - `len`: how many
+/// - `count INDICES`: how often each index stands among those of one digit each, or `none`
+pub(crate) fn palette(words: &[&str], alloc: Global) -> Result<String, Flaw> {
+    let [limit, words @ ..] = words else {
+        return Err(Flaw::Count);
+    };
+    let mut copy = Palette::new(alloc, 0).map_err(|_| Flaw::Memory)?;
+    let mut palette = match Palette::new(alloc, index(limit)?) {
+        Ok(palette) => palette,
+        Err(fault) => return Ok(format!(in alloc; "{fault}")?),
+    };
+    let mut answer = String::new(alloc);
+    for part in words.split(|word| *word == ";") {
+        if change(&mut palette, &mut copy, part, alloc)? {
+            continue;
+        }
+        if !answer.is_empty() {
+            answer.push(' ')?;
+        }
+        answer.push_str(told(&mut palette, part, alloc)?.as_str())?;
+    }
+    Ok(answer)
+}
+
+/// The index of a word.
+fn index(word: &str) -> Result<usize, Flaw> {
+    word.parse::<usize>().map_err(|_| Flaw::Number)
+}
+
+/// Does what the words say, and returns whether they say a change.
+fn change(
+    palette: &mut Palette,
+    copy: &mut Palette,
+    words: &[&str],
+    alloc: Global,
+) -> Result<bool, Flaw> {
+    match words {
+        [] => {}
+        ["threshold", name] => keep_threshold(palette, name)?,
+        ["clone"] => *copy = palette.try_clone(alloc).map_err(|_| Flaw::Memory)?,
+        ["swap"] => mem::swap(palette, copy),
+        _ => return Ok(false),
+    }
+    Ok(true)
+}
+
+/// Keeps the threshold function of a name.
+fn keep_threshold(palette: &mut Palette, name: &str) -> Result<(), Flaw> {
+    match name {
+        "four_five_six" => palette.set_threshold_fn(four_five_six),
+        "five" => palette.set_threshold_fn(five),
+        "all" => palette.set_threshold_fn(any),
+        "falling" => palette.set_threshold_fn(falling),
+        _ => return Err(Flaw::Name),
+    }
+    Ok(())
+}
+
+/// 4, 5 and 6 in the channels.
+fn four_five_six(_size: usize) -> SRgb8 {
+    SRgb8::new(4, 5, 6)
+}
+
+/// 5 in each channel.
+fn five(_size: usize) -> SRgb8 {
+    SRgb8::new(5, 5, 5)
+}
+
+/// The maximum in each channel.
+fn any(_size: usize) -> SRgb8 {
+    SRgb8::new(255, 255, 255)
+}
+
+/// In each channel 40 for no entries, and 10 less for each entry up to 4.
+fn falling(size: usize) -> SRgb8 {
+    let value = match size {
+        0 => 40,
+        1 => 30,
+        2 => 20,
+        3 => 10,
+        _ => 0,
+    };
+    SRgb8::new(value, value, value)
+}
+
+/// The answer to a question.
+fn told(palette: &mut Palette, words: &[&str], alloc: Global) -> Result<String, Flaw> {
+    match words {
+        ["set", color] => match palette.set_entry(pixel(color, alloc)?) {
+            Some(index) => Ok(format!(in alloc; "{index}")?),
+            None => Ok(String::from_str(alloc, "none")?),
+        },
+        ["replace", i, color] => {
+            color_or_none(
+                palette.replace_entry(index(i)?, pixel(color, alloc)?),
+                alloc,
+            )
+        }
+        ["entry", i] => color_or_none(palette.entry(index(i)?), alloc),
+        ["colors"] => text(palette.colors(), alloc),
+        ["len"] => {
+            let (len, is_empty) = (palette.len(), palette.is_empty());
+            Ok(format!(in alloc; "{len}:{is_empty}")?)
+        }
+        ["count", digits] => counted(palette, digits.as_bytes(), alloc),
+        _ => Err(Flaw::Name),
+    }
+}
+
+/// A color, or `none`.
+fn color_or_none(color: Option<SRgb8>, alloc: Global) -> Result<String, Flaw> {
+    match color {
+        Some(color) => text(&[color], alloc),
+        None => Ok(String::from_str(alloc, "none")?),
+    }
+}
+
+/// How often each index stands among those of one digit each, or `none`: as bytes, as words and as
+/// numbers, which must agree.
+fn counted(palette: &Palette, digits: &[u8], alloc: Global) -> Result<String, Flaw> {
+    let mut bytes = Vec::new(alloc);
+    let mut words = Vec::new(alloc);
+    let mut numbers = Vec::new(alloc);
+    for digit in digits {
+        let digit = digit.wrapping_sub(b'0');
+        bytes.push(digit)?;
+        words.push(u16::from(digit))?;
+        numbers.push(usize::from(digit))?;
+    }
+    let of_bytes = palette.histogram(alloc, &bytes).map_err(|_| Flaw::Memory)?;
+    let of_words = palette.histogram(alloc, &words).map_err(|_| Flaw::Memory)?;
+    let of_numbers = palette
+        .histogram(alloc, &numbers)
+        .map_err(|_| Flaw::Memory)?;
+    let of_bytes = counts_text(of_bytes, alloc)?;
+    let of_words = counts_text(of_words, alloc)?;
+    let of_numbers = counts_text(of_numbers, alloc)?;
+    Ok(format!(in alloc; "{of_bytes} {of_words} {of_numbers}")?)
+}
+
+/// Counts, parted by commas, or `none`.
+fn counts_text(counts: Option<Vec<usize>>, alloc: Global) -> Result<String, Flaw> {
+    let Some(counts) = counts else {
+        return Ok(String::from_str(alloc, "none")?);
+    };
+    let mut text = String::new(alloc);
+    for count in &counts {
+        if !text.is_empty() {
+            text.push(',')?;
+        }
+        write!(text, "{count}")?;
+    }
+    Ok(text)
+}
+
+/// `8 4 2x1 000000,ff0000`: the bits of indices, the limit of a palette, and the size and the
+/// pixels of a raster. The answer is the size and the indices, or `none`, and the colors of the
+/// palette.
+pub(crate) fn indexed(words: &[&str], alloc: Global) -> Result<String, Flaw> {
+    let [bits, limit, size, pixels] = words else {
+        return Err(Flaw::Count);
+    };
+    let raster = image::<SRgb8>(size, pixels, alloc)?;
+    let mut palette = Palette::new(alloc, index(limit)?).map_err(|_| Flaw::Memory)?;
+    let mut answer = String::new(alloc);
+    match *bits {
+        "8" => match palette
+            .make_indexed(alloc, raster)
+            .map_err(|_| Flaw::Memory)?
+        {
+            None => answer.push_str("none")?,
+            Some(image) => {
+                write!(answer, "{}x{}", image.width(), image.height())?;
+                for pixel in image.pixels() {
+                    write!(answer, " {}", u8::from(Gray::value(*pixel)))?;
+                }
+            }
+        },
+        "16" => match palette
+            .make_indexed_wide(alloc, raster)
+            .map_err(|_| Flaw::Memory)?
+        {
+            None => answer.push_str("none")?,
+            Some(image) => {
+                write!(answer, "{}x{}", image.width(), image.height())?;
+                for pixel in image.pixels() {
+                    write!(answer, " {}", u16::from(Gray::value(*pixel)))?;
+                }
+            }
+        },
+        _ => return Err(Flaw::Name),
+    }
+    let colors = text(palette.colors(), alloc)?;
+    write!(answer, " / {colors}")?;
+    Ok(answer)
+}
