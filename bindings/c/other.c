@@ -1,9 +1,11 @@
 /* other.c - another library of the same calls, made of plain.h and of nothing that is proved.
  *
  * tools/bindings sees by it that a program refuses a library of another version or layout: the fact whose number is
- * `other_fact`, which -DOTHER_FACT=n sets, is one too large. tools/border-faults can plant faults over it. */
+ * `other_fact`, which -DOTHER_FACT=n sets, or PIX_OTHER_FACT in the environment, is one too large. Where no fact is
+ * another it stands in for the archive where that would take too long to build: ./test and tools/border-faults. */
 #include "pix.h"
 #include "plain.h"
+#include <stdlib.h>
 
 static const uint32_t facts[] = {PIX_FACTS_};
 
@@ -14,6 +16,9 @@ size_t other_fact = OTHER_FACT;
 
 uint32_t pix_layout(size_t index) {
     const size_t count = sizeof facts / sizeof *facts;
+    const char *said = getenv("PIX_OTHER_FACT");
+    if (said)
+        other_fact = strtoul(said, NULL, 10);
     return index < count ? facts[index] + (index == other_fact) : index == count && index == other_fact ? 1 : UINT32_MAX;
 }
 

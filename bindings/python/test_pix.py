@@ -3,15 +3,20 @@
 import array
 import copy
 import ctypes
+import gc
 import os
 import pickle
 import subprocess
 import sys
 import tempfile
 import threading
+import time
+import types
+import typing
 import unittest
 
 import pix
+from pix import _library, _memory, _pixels
 
 try:
     import numpy
@@ -83,7 +88,26 @@ class Refusals(unittest.TestCase):
         self.assertRaises(ValueError, pix.Image, memoryview(self.pixels)[::2], 4, 2)
         self.assertRaises(ValueError, pix.Image, memoryview(self.pixels)[1:9], 1, 1, type=pix.RGBA16)
         self.assertRaises(BufferError, self.pixels.append, 1)
-        self.assertRaises(TypeError, self.image.__init__, bytearray(64), 4, 4)
+
+    def test_a_view_that_is_made_again(self):
+        source, matte = pix.Image(bytes(64), 4, 4), pix.Matte(bytes(16), 4, 4)
+        for again in (lambda: self.image.__init__(bytearray(64), 4, 4), lambda: self.image.__init__(bytearray(64), 4, 2, type=pix.RGBA16),
+                      lambda: source.__init__(bytes(1024), 16, 16), lambda: matte.__init__(bytes(32), 4, 4, bits=16)):  # fmt: skip
+            with self.assertRaisesRegex(TypeError, "made once"):
+                again()
+        self.assertEqual((self.image.type, source.width, matte.bits), (pix.RGBA8, 4, 8))
+        self.assertRaises(TypeError, pix.Image(bytearray(16), 2, 1, type=pix.RGBA16).run, pix.composite_matte(WHOLE, matte, COLOR))
+
+    def test_kinds_of_pixels(self):
+        self.assertRaises((TypeError, ValueError), pix.PixelType, "RGB8", 1, ctypes.c_uint8, "pix_run_commands")
+        self.assertRaises(ValueError, pix.PixelType, (1, ctypes.c_uint8, "pix_run_commands"))
+        for name in ("max", "channels", "name"):
+            self.assertRaises(AttributeError, setattr, pix.RGBA16, name, 1)
+        self.assertEqual([(kind.name, kind.channels, kind.max) for kind in pix.PixelType],
+                         [("RGBA8", 4, 255), ("RGBA16", 4, 65535), ("GRAYA8", 2, 255)])  # fmt: skip
+        for kind in ("RGBA8", None, 4):
+            self.assertRaises(TypeError, pix.Image, self.pixels, 4, 4, type=kind)
+            self.assertRaises(TypeError, pix.Image.new, 4, 4, kind)
 
     def test_elements(self):
         for code in "bhHiIlLqQfd":
@@ -161,6 +185,33 @@ class Borders(unittest.TestCase):
             image.run(pix.copy_color((number, 0, 1, 1), COLOR), commands[0])
         self.assertEqual(pixels, bytes(64))
 
+    def test_buffers_without_strides(self):
+        for kind in (ctypes.c_ubyte, ctypes.c_char):
+            pixels = (kind * 64)()
+            image = pix.Image(pixels, 4, 4)
+            image.run(pix.copy_color((1, 1, 2, 2), COLOR))
+            self.assertEqual(sum(image.pixels), 4 * sum(COLOR))
+        words = ((ctypes.c_uint16 * 4) * 3 * 2)()
+        image = pix.Image(words, type=pix.RGBA16)
+        self.assertEqual((image.width, image.height), (3, 2))
+        image.run(pix.copy_color((2, 1, 1, 1), (1, 2, 3, 65535)))
+        self.assertEqual(list(words[1][2]), [1, 2, 3, 65535])
+        self.assertEqual(sum(image.pixels), 6 + 255 * 2)
+
+    @unittest.skipIf(sys.version_info < (3, 12), "no __buffer__")
+    def test_buffers_of_a_class(self):
+        bytes_of = bytearray(64)
+        made = type("Made", (), {"__buffer__": lambda self, flags: memoryview(bytes_of)})()
+        image = pix.Image(made, 4, 4)
+        image.run(pix.copy_color(WHOLE, COLOR))
+        self.assertRaises(BufferError, bytes_of.append, 1)
+        image.pixels.release()
+        image.run(pix.copy_color(WHOLE, (1, 2, 3, 4)))
+        self.assertEqual(bytes_of, bytes((1, 2, 3, 4)) * 16)
+        del image
+        gc.collect()
+        bytes_of.append(1)
+
     def test_adjacent_buffers(self):
         both = memoryview(bytearray(range(128)))
         for image, source in ((both[:64], both[64:]), (both[64:], both[:64])):
@@ -174,8 +225,10 @@ class Borders(unittest.TestCase):
         self.assertEqual((again.width, again.height, again.stride, again.type), (3, 3, 3, pix.RGBA8))
         self.assertEqual(again.pixels, bytes(range(12)) + bytes(range(20, 32)) + bytes(range(40, 52)))
         matte = copy.deepcopy(pix.Matte(array.array("H", range(6)), 3, 2, bits=16))
-        self.assertEqual((matte.bits, bytes(matte._memory.view())), (16, array.array("H", range(6)).tobytes()))
-        self.assertIs(pickle.loads(pickle.dumps(pix.GRAYA8)), pix.GRAYA8)
+        self.assertEqual((matte.bits, bytes(matte._rows.memory.view())), (16, array.array("H", range(6)).tobytes()))
+        for same in (pix.GRAYA8, pix.Image, pix.Op.XOR, pix.Format.SGRAY8, pix.Status.BAD_OP, pix.convert):
+            self.assertIs(pickle.loads(pickle.dumps(same)), same)
+            self.assertIs(copy.deepcopy(same), same)
         empty = copy.copy(pix.Image.new(0, 7))
         self.assertEqual((empty.width, empty.height), (0, 7))
         painted = [pix.Image.new(3, 3), pix.Image.new(3, 3)]
@@ -192,18 +245,38 @@ class Borders(unittest.TestCase):
         self.assertIn("composite_matte to (0, 0, 1, 1), (9, 9, 9, 9), <pix.Matte", repr(pix.composite_matte((0, 0, 1, 1), matte, COLOR)))
         self.assertEqual(repr(pix.clear()), "<pix.clear to (0, 0, 0, 0)>")
 
+    def public_members(self, item):
+        """Returns a public name's own functions, methods and properties, those of its bases in this package too."""
+        if not isinstance(item, type):
+            return [item]
+        bases = [base for base in item.__mro__ if base.__module__.split(".")[0] == "pix"]
+        members = [member for base in bases for key, member in vars(base).items() if key[0] != "_"]
+        members = [getattr(member, "__func__", member) for member in members]
+        return [member for member in members if isinstance(member, (types.FunctionType, property))]
+
+    def test_each_public_name_has_hints_and_a_docstring(self):
+        for name in set(pix.__all__) - {"Region", "RGBA8", "RGBA16", "GRAYA8"}:
+            item = getattr(pix, name)
+            self.assertTrue(item.__doc__, name)
+            for member in self.public_members(item):
+                self.assertTrue(member.__doc__, member)
+                self.assertIn("return", typing.get_type_hints(getattr(member, "fget", member)), member)
+            if isinstance(item, type) and "__init__" in vars(item):
+                self.assertIn("return", typing.get_type_hints(item.__init__), item)
+
     def test_processors(self):
         with tempfile.NamedTemporaryFile("w") as cpuinfo:
             cpuinfo.write("processor: 0\nflags : fpu sse2 ssse3\n")
             cpuinfo.flush()
-            self.assertFalse(pix._has_sse41(cpuinfo.name))
-        self.assertTrue(pix._has_sse41("/nowhere"))
+            self.assertFalse(_library.has_sse41(cpuinfo.name))
+        self.assertTrue(_library.has_sse41("/nowhere"))
 
 
 class Libraries(unittest.TestCase):
-    def imported(self, path):
+    def imported(self, path, before="pass"):
         """Returns what an import over the library at a path says at last."""
-        done = subprocess.run([sys.executable, "-c", "import pix"], env={**os.environ, "PIX_LIBRARY": path}, capture_output=True, text=True)
+        code, env = f"{before}\nimport pix", {**os.environ, "PIX_LIBRARY": path}
+        done = subprocess.run([sys.executable, "-c", code], env=env, capture_output=True, text=True)
         return done.stderr.strip().splitlines()[-1:]
 
     def test_no_library(self):
@@ -211,38 +284,102 @@ class Libraries(unittest.TestCase):
         with tempfile.NamedTemporaryFile("w") as text:
             self.assertRegex(self.imported(text.name)[0], "ImportError: pix: no library at")
 
+    def test_another_processor(self):
+        before = "import builtins, io; real = builtins.open; told = lambda: io.StringIO('flags : fpu sse2')\n"
+        before += "builtins.open = lambda file, *more, **named: told() if file == '/proc/cpuinfo' else real(file, *more, **named)"
+        self.assertEqual(self.imported("/nowhere", before), ["ImportError: pix: the library needs a processor with SSE4.1, which this one lacks"])
+
     @unittest.skipIf("PIX_OTHER" not in os.environ, "no PIX_OTHER")
     def test_another_library(self):
         path = os.environ["PIX_OTHER"]
-        self.assertRegex(self.imported(path)[0], "ImportError: pix: the library has another version or layout than pix.py")
+        self.assertRegex(self.imported(path)[0], "ImportError: pix: the library has another version or layout than this package")
         library = ctypes.PyDLL(path)
         library.pix_layout.restype = ctypes.c_uint32
         library.pix_layout.argtypes = [ctypes.c_size_t]
         fact = ctypes.c_size_t.in_dll(library, "other_fact")
         for fact.value in range(49):
-            self.assertRaises(ImportError, pix._refuse_another, library)
+            self.assertRaises(ImportError, _pixels.refuse_another, library)
         fact.value = 49
-        pix._refuse_another(library)
+        _pixels.refuse_another(library)
 
 
 class Threads(unittest.TestCase):
-    def test_the_lock_is_let_go(self):
-        image, counts, is_done = pix.Image.new(2048, 2048), [0], threading.Event()
+    def long_list(self, image):
+        """Returns a list that runs for about a fifth of a second."""
+        commands = [pix.composite_color((0, 0, image.width, image.height), (1, 1, 1, 1), pix.Op.XOR)] * 4
+        started = time.perf_counter()
+        image.run(*commands)
+        return commands * max(1, int(0.2 / max(1e-6, time.perf_counter() - started)))
+
+    def longest_pause(self, image, commands):
+        """Returns how long this thread stood still at most while another one painted, and how long that took."""
+        took, is_done, pause = [], threading.Event(), 0.0
 
         def paint():
-            image.run(*[pix.composite_color((0, 0, 2048, 2048), (1, 1, 1, 1), pix.Op.XOR)] * 30)
+            started = time.perf_counter()
+            image.run(*commands)
+            took.append(time.perf_counter() - started)
             is_done.set()
 
-        thread = threading.Thread(target=paint)
+        thread, last = threading.Thread(target=paint), time.perf_counter()
         thread.start()
         while not is_done.is_set():
-            counts[0] += 1
+            now = time.perf_counter()
+            pause, last = max(pause, now - last), now
         thread.join()
-        self.assertGreater(counts[0], 1000)
+        return max(pause, time.perf_counter() - last), took[0]
+
+    def test_the_lock_is_let_go(self):
+        image = pix.Image.new(512, 512)
+        commands = self.long_list(image)
+        # On a busy machine a thread may stand still for other reasons: one try in ten is enough.
+        self.assertTrue(any(pause < took / 2 for pause, took in (self.longest_pause(image, commands) for _ in range(10))))
+
+    def test_two_threads_paint_at_once(self):
+        images, most, done = [pix.Image.new(512, 512) for _ in range(2)], 0, []
+        commands = self.long_list(pix.Image.new(512, 512))
+        threads = [threading.Thread(target=lambda image=image: done.append(image.run(*commands))) for image in images]
+        for thread in threads:
+            thread.start()
+        while len(done) < 2:
+            most = max(most, len(_memory.calls.running))
+        for thread in threads:
+            thread.join()
+        self.assertEqual(most, 2)
+        self.assertEqual(images[0].pixels, images[1].pixels)
+
+    def test_one_waits_for_what_another_writes(self):
+        image, source = pix.Image.new(4, 4), pix.Image.new(4, 4)
+        for written, read in ((image, []), (source, []), (pix.Image.new(1, 1), [image._rows.memory])):
+            done = threading.Event()
+            thread = threading.Thread(target=lambda: (image.run(pix.copy_image(WHOLE, source)), done.set()))
+            with _memory.calls.turn(written._rows.memory, read):
+                thread.start()
+                self.assertFalse(done.wait(0.05))
+            self.assertTrue(done.wait(10))
+            thread.join()
+        with _memory.calls.turn(image._rows.memory, []):
+            self.assertRaises(RuntimeError, image.run)
+        image.run()
+
+    def test_an_interrupt_leaves_no_turn(self):
+        with self.assertRaises(KeyboardInterrupt), _memory.calls.turn(pix.Image.new(1, 1)._rows.memory, []):
+            raise KeyboardInterrupt
+        self.assertEqual(_memory.calls.running, [])
+
+    @unittest.skipIf(not hasattr(os, "fork"), "no fork")
+    def test_a_child_process_has_no_turns(self):
+        image = pix.Image.new(4, 4)
+        with _memory.calls.turn(image._rows.memory, []):
+            child = os.fork()
+            if child == 0:
+                image.run(pix.clear())
+                os._exit(0)
+            self.assertEqual(os.waitpid(child, 0)[1], 0)
 
     def test_one_image_from_many_threads(self):
-        image, source = pix.Image.new(1024, 1024), pix.Image.new(1024, 1024)
-        whole = (0, 0, 1024, 1024)
+        image, source = pix.Image.new(512, 512), pix.Image.new(512, 512)
+        whole = (0, 0, 512, 512)
         source.run(pix.copy_color(whole, (1, 0, 0, 0)))
         command = pix.composite_image(whole, source, op=pix.Op.PLUS)
         threads = [threading.Thread(target=image.run, args=[command] * 3) for _ in range(8)]
@@ -251,7 +388,7 @@ class Threads(unittest.TestCase):
         for thread in threads:
             thread.join()
         self.assertEqual(set(image.pixels[::4]), {24})
-        self.assertEqual(pix._calls._running, [])
+        self.assertEqual(_memory.calls.running, [])
 
 
 class Paintings(unittest.TestCase):

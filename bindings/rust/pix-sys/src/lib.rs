@@ -1,7 +1,12 @@
 //! The C interface of the library `pix`: the five functions of `libpix_c.a` and the types that cross to it.
 //!
-//! `bindings/c/pix.h` documents it. Programs in Rust use the crate `pix` above this one, which is safe.
+//! `bindings/c/pix.h` documents it. Programs in Rust use the crate `pix` above this one, which is safe. One that calls
+//! these functions asks [`check_library`] first whether the processor and the archive are the right ones.
 #![no_std]
+
+mod library;
+
+pub use crate::library::{LibraryFault, check_library};
 
 use core::mem::{offset_of, size_of};
 

@@ -1,7 +1,7 @@
 //! Why nothing was done.
 
 use core::fmt;
-use pix_sys::status;
+use pix_sys::{LibraryFault, status};
 
 /// Why a call was refused. It has changed nothing then.
 ///
@@ -38,6 +38,15 @@ impl Error {
     }
 }
 
+impl From<LibraryFault> for Error {
+    fn from(fault: LibraryFault) -> Error {
+        match fault {
+            LibraryFault::Processor => Error::Processor,
+            LibraryFault::Archive => Error::Library,
+        }
+    }
+}
+
 impl fmt::Display for Error {
     fn fmt(&self, f: &mut fmt::Formatter<'_>) -> fmt::Result {
         match self {
@@ -52,10 +61,8 @@ impl fmt::Display for Error {
                 )
             }
             Error::Length => f.write_str("the bytes are not those of so many pixels"),
-            Error::Processor => f.write_str("the library needs a processor of x86-64 with SSE4.1"),
-            Error::Library => {
-                f.write_str("libpix_c.a has another version or layout than the crate pix-sys")
-            }
+            Error::Processor => LibraryFault::Processor.fmt(f),
+            Error::Library => LibraryFault::Archive.fmt(f),
             Error::Unknown { status, index } => write!(f, "command {index}: status {status}"),
         }
     }

@@ -1,7 +1,6 @@
 //! Conversions of pictures as files hold them.
 
 use crate::error::Error;
-use crate::library;
 use pix_sys::status;
 
 /// A format of bytes, one a channel, in the order of the name.
@@ -42,7 +41,7 @@ impl Format {
 /// An alpha that `from` lacks is 255. One that `to` lacks is dropped, and colors that were multiplied by it stay so
 /// from `Rgba8p` and `SRgba8p` to `Rgb8` and `SRgb8`; to all others they are divided by it.
 pub fn convert(from: Format, src: &[u8], to: Format, dst: &mut [u8]) -> Result<(), Error> {
-    library::test()?;
+    pix_sys::check_library()?;
     let count = src.len() / from.size();
     if src.len() != count * from.size() || Some(dst.len()) != count.checked_mul(to.size()) {
         return Err(Error::Length);

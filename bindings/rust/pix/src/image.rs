@@ -2,7 +2,6 @@
 
 use crate::command::Command;
 use crate::error::Error;
-use crate::library;
 use crate::pixel::Pixel;
 use crate::pixel::private::Calls;
 use pix_sys::status;
@@ -78,7 +77,7 @@ impl<'a, P: Pixel> ImageMut<'a, P> {
 
     /// Runs the commands in order, or none of them where one is refused.
     pub fn run(&mut self, commands: &[Command<'_, P>]) -> Result<(), Error> {
-        library::test()?;
+        pix_sys::check_library()?;
         let mut done = 0;
         // SAFETY: pointers and counts are those of slices that are borrowed until the call is over, those of the
         // commands too. The exclusive borrow of the pixels shares no byte with the others. A `Command` is laid out as

@@ -1,12 +1,12 @@
-//! What another library answers, one fact of which is another: linked with `bindings/c/other.c`, which has OTHER_FACT.
-//! Without it, this is the test that the right library is taken.
+//! That the right library is taken, and another one refused: linked with `bindings/c/other.c`, where `PIX_OTHER_FACT` of
+//! the environment is the number of the fact that is another one. It is tested once in a process, so each has its own.
 #![forbid(unsafe_code)]
 
 use pix::{Command, Error, Format, ImageMut, Rgba8, convert};
 
 #[test]
 fn another_library_is_refused() {
-    let wanted = match option_env!("PIX_OTHER") {
+    let wanted = match std::env::var_os("PIX_OTHER_FACT") {
         Some(_) => Err(Error::Library),
         None => Ok(()),
     };

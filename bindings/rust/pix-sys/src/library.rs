@@ -1,21 +1,45 @@
 //! Whether the processor and the archive are those that this crate was written for. It is tested once.
 
-use crate::error::Error;
+use crate::is_as_declared;
+use core::fmt;
 use core::sync::atomic::{AtomicU8, Ordering};
+
+/// Why the archive must not be called.
+#[derive(Clone, Copy, Debug, PartialEq, Eq)]
+pub enum LibraryFault {
+    /// The processor lacks SSE4.1.
+    Processor,
+    /// The archive has another version or layout than this crate.
+    Archive,
+}
+
+impl fmt::Display for LibraryFault {
+    fn fmt(&self, f: &mut fmt::Formatter<'_>) -> fmt::Result {
+        f.write_str(match self {
+            LibraryFault::Processor => "the library needs a processor of x86-64 with SSE4.1",
+            LibraryFault::Archive => {
+                "libpix_c.a has another version or layout than the crate pix-sys"
+            }
+        })
+    }
+}
+
+impl core::error::Error for LibraryFault {}
 
 const UNKNOWN: u8 = 0;
 const GOOD: u8 = 1;
 const NO_PROCESSOR: u8 = 2;
-const OTHER_LIBRARY: u8 = 3;
+const OTHER_ARCHIVE: u8 = 3;
 
 static ANSWER: AtomicU8 = AtomicU8::new(UNKNOWN);
 
-/// Says so where this processor or the archive that is linked is not the right one.
+/// Says so where this processor or the archive that is linked is not the right one. The functions of the archive test
+/// neither: a program asks this before it calls them.
 #[inline]
-pub(crate) fn test() -> Result<(), Error> {
+pub fn check_library() -> Result<(), LibraryFault> {
     let mut answer = ANSWER.load(Ordering::Relaxed);
     if answer == UNKNOWN {
-        answer = look(has_sse41, pix_sys::is_as_declared);
+        answer = look(has_sse41, is_as_declared);
         ANSWER.store(answer, Ordering::Relaxed);
     }
     meaning(answer)
@@ -26,17 +50,17 @@ fn look(has_sse41: fn() -> bool, is_as_declared: fn() -> bool) -> u8 {
     if !has_sse41() {
         NO_PROCESSOR
     } else if !is_as_declared() {
-        OTHER_LIBRARY
+        OTHER_ARCHIVE
     } else {
         GOOD
     }
 }
 
-fn meaning(answer: u8) -> Result<(), Error> {
+fn meaning(answer: u8) -> Result<(), LibraryFault> {
     match answer {
         GOOD => Ok(()),
-        NO_PROCESSOR => Err(Error::Processor),
-        _ => Err(Error::Library),
+        NO_PROCESSOR => Err(LibraryFault::Processor),
+        _ => Err(LibraryFault::Archive),
     }
 }
 
@@ -68,9 +92,9 @@ mod tests {
     #[test]
     fn a_processor_without_sse41_is_refused_before_the_archive_is_called() {
         let called = || -> bool { panic!("called") };
-        assert_eq!(meaning(look(no, called)), Err(Error::Processor));
-        assert_eq!(meaning(look(yes, no)), Err(Error::Library));
+        assert_eq!(meaning(look(no, called)), Err(LibraryFault::Processor));
+        assert_eq!(meaning(look(yes, no)), Err(LibraryFault::Archive));
         assert_eq!(meaning(look(yes, yes)), Ok(()));
-        assert_eq!(test(), Ok(()));
+        assert_eq!(check_library(), Ok(()));
     }
 }

@@ -1,0 +1,49 @@
+"""Compositing of raster images in buffers of Python, by ctypes over the library pix.
+
+A program makes commands and runs a list of them on an Image, which is a view of a buffer: a bytearray, an array, a
+writable memoryview or a numpy array. The pixels are changed in place; nothing is copied.
+
+    import pix
+
+    pixels = bytearray(4 * 64 * 64)
+    image = pix.Image(pixels, 64, 64)
+    image.run(
+        pix.copy_color((0, 0, 64, 64), (0, 0, 64, 255)),
+        pix.composite_color((50, -8, 20, 20), (90, 40, 0, 128), pix.Op.SRC_OVER),
+    )
+
+Pixels are premultiplied and linear: the color channels are multiplied by the alpha and proportional to light. convert()
+makes them of what image files hold, and back. A region is a tuple (x, y, width, height) in pixels and lies anywhere;
+what is outside an image is neither read nor written. A list is tested as a whole before its first command runs: where
+an exception is raised, no pixel was changed.
+
+A buffer has bytes, or, for pixels of 16 bits a channel, words of 16 bits in the machine's byte order. It is pinned as
+long as a view of it lives: a bytearray can't be resized meanwhile. A long run lets the interpreter's lock go, so that
+two threads paint at once; one that needs memory that another is writing waits. Other code of the program, such as an
+assignment to the bytearray, must keep from the buffers of a run in another thread.
+
+The shared object libpix_c.so is looked for at the path PIX_LIBRARY of the environment, and else in the folder of this
+package and in the one above. Needs CPython 3.8 on a processor of x86-64 with SSE4.1; an import on another one, or over
+a library of another version or layout, raises ImportError.
+"""
+
+from pix._command import Command
+from pix._convert import convert
+from pix._image import Image
+from pix._makers import clear, composite_color, composite_image, composite_matte, copy_color, copy_image
+from pix._pixels import GRAYA8, RGBA8, RGBA16, PixelType
+from pix._values import Format, Op, PixError, Region, Status
+from pix._views import Matte
+
+__version__ = "0.1.0"
+__all__ = [
+    "Op", "Format", "Status", "PixError", "PixelType", "RGBA8", "RGBA16", "GRAYA8", "Region", "Image", "Matte",
+    "Command", "clear", "copy_color", "copy_image", "composite_color", "composite_image", "composite_matte", "convert",
+]  # fmt: skip
+
+# Users and pickles name them by this package, wherever they are defined.
+for _public in (Op, Format, Status, PixError, PixelType, Image, Matte, Command, convert):
+    _public.__module__ = __name__
+for _public in (clear, copy_color, copy_image, composite_color, composite_image, composite_matte):
+    _public.__module__ = __name__
+del _public

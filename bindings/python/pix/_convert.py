@@ -1,0 +1,49 @@
+"""Conversions of pictures as files hold them."""
+
+from __future__ import annotations
+
+from typing import Any, TypeVar, overload
+
+from pix._library import LONG, libraries
+from pix._memory import Buffer, Memory, calls
+from pix._values import Format, PixError, Status
+
+Target = TypeVar("Target", bound=Buffer)
+
+
+@overload
+def convert(from_: Format, src: Buffer, to: Format, dst: None = None) -> bytearray: ...
+
+
+@overload
+def convert(from_: Format, src: Buffer, to: Format, dst: Target) -> Target: ...
+
+
+def convert(from_: Format, src: Any, to: Format, dst: Any = None) -> Any:
+    """Converts all pixels of the buffer `src` to the format of `dst`, which has room for just as many; returns `dst`.
+
+    Both are buffers of bytes without gaps. Without `dst` a new bytearray is returned. An alpha that `from_` lacks is
+    255. One that `to` lacks is dropped, and colors that were multiplied by it stay so from RGBA8P and SRGBA8P to RGB8
+    and SRGB8; to all others they are divided by it. Raises PixError where the lengths don't fit, TypeError where `dst`
+    is read-only and ValueError where the two overlap.
+    """
+    from_, to = Format(from_), Format(to)
+    source = Memory(src)
+    count = source.length // from_.size
+    if dst is None:
+        dst = bytearray(count * to.size)
+    target = Memory(dst)
+    if source.has_gaps or target.has_gaps:
+        raise ValueError("the buffer has gaps between its rows: convert them one by one")
+    if target.is_readonly and target.length:
+        raise TypeError("the buffer is read-only")
+    if not target.is_apart(source):
+        raise ValueError("the two buffers share memory")
+    if source.length != count * from_.size or target.length != count * to.size:
+        raise PixError(Status.BAD_LENGTH)
+    with calls.turn(target, [source]):
+        call = libraries[count > LONG].pix_convert_bytes
+        status = call(from_, to, source.address, source.length, target.address, target.length, count)
+    if status:
+        raise PixError(Status(status))
+    return dst

@@ -1,0 +1,85 @@
+"""Images, and the run of a list of commands on one."""
+
+from __future__ import annotations
+
+import ctypes
+from typing import Optional, SupportsIndex
+
+from pix._command import Command, made
+from pix._library import LONG
+from pix._memory import Buffer, calls
+from pix._pixels import RGBA8, PixelType
+from pix._values import PixError, Status, u32
+from pix._views import View, rows_of
+
+
+def _kind(type: PixelType) -> PixelType:
+    """The kind of pixels, if it is one."""
+    if not isinstance(type, PixelType):
+        raise TypeError(f"{type!r} is none of RGBA8, RGBA16 and GRAYA8")
+    return type
+
+
+class Image(View):
+    """A view of a buffer as rows of pixels, from top to bottom.
+
+    `pixels` is a buffer of (height - 1) * stride + width pixels at least. It may be read-only where the image is only a
+    source. `stride` is the distance from a row to the next, counted in pixels; what lies between the rows is not
+    changed. Width and height may be left out where the buffer's shape is (height, width, channels); its rows may lie
+    apart, as in a window of a numpy array, and then the stride is theirs. Channels of 16 bits have the machine's byte
+    order. While the view lives, a bytearray can't be resized.
+
+    A pickle or a copy of it has pixels of its own, without what lies between the rows.
+    """
+
+    def __init__(
+        self, pixels: Buffer, width: Optional[SupportsIndex] = None, height: Optional[SupportsIndex] = None,
+        stride: Optional[SupportsIndex] = None, type: PixelType = RGBA8,
+    ) -> None:  # fmt: skip
+        super().__init__(rows_of(pixels, width, height, stride, _kind(type)._color, type))
+
+    @classmethod
+    def new(cls, width: SupportsIndex, height: SupportsIndex, type: PixelType = RGBA8) -> Image:
+        """Makes a transparent image of so many pixels; its buffer is its `pixels`, of bytes."""
+        columns, rows = u32(width, "width"), u32(height, "height")
+        return cls(bytearray(columns * rows * ctypes.sizeof(_kind(type)._color)), columns, rows, type=type)
+
+    @property
+    def type(self) -> PixelType:
+        """The kind of pixels."""
+        return self._rows.type
+
+    @property
+    def pixels(self) -> memoryview:
+        """A new view of the buffer: of its bytes, or of the buffer as it is where its rows lie apart."""
+        return self._rows.memory.view()
+
+    def __repr__(self) -> str:
+        return f"<pix.Image {self.width} x {self.height}, {self.type}>"
+
+    def __reduce__(self) -> tuple:
+        return Image, (self._value(), self.width, self.height, None, self.type)
+
+    def run(self, *commands: Command) -> None:
+        """Runs the commands in order, or none of them.
+
+        Raises PixError where the library refuses one; TypeError where the buffer is read-only, where something is no
+        Command, or where a source has another type of pixels; ValueError where a source or a matte shares memory with
+        this image, or where a color is none of its type.
+        """
+        memory, _, count, width, height, stride, type = self._rows
+        taken = [made(command, type) for command in commands]
+        read = [source for _, source in taken if source is not None]
+        if memory.is_readonly and memory.length:
+            raise TypeError("the buffer is read-only")
+        for number, (_, source) in enumerate(taken):
+            if source is not None and not memory.is_apart(source):
+                raise ValueError(f"command {number}: its source shares memory with the image")
+        records = (type._command * max(1, len(taken)))(*(record for record, _ in taken))
+        done, run = ctypes.c_size_t(), type._calls[width * height * len(taken) > LONG]
+        with calls.turn(memory, read):
+            status = run(memory.address, count, width, height, stride, ctypes.addressof(records), len(taken), done)
+        if status == Status.BAD_SIZE:
+            raise PixError(Status.BAD_SIZE)
+        if status:
+            raise PixError(Status(status), done.value)

@@ -1,0 +1,81 @@
+"""The kinds of pixels, how their commands are laid out, and whether the library lays them out so."""
+
+from __future__ import annotations
+
+import ctypes
+from enum import Enum
+from typing import Any, List
+
+from pix._library import libraries
+
+
+class RegionRecord(ctypes.Structure):
+    """A region as the library reads it."""
+
+    _fields_ = [("x", ctypes.c_int32), ("y", ctypes.c_int32), ("width", ctypes.c_uint32), ("height", ctypes.c_uint32)]
+
+
+def command_record(name: str, color: Any) -> Any:
+    """Makes the class of a command as the library reads it, with a color of this type."""
+    fields = [("kind", ctypes.c_uint32), ("op", ctypes.c_uint32), ("to", RegionRecord), ("from_", RegionRecord)]
+    fields += [("color", color), ("pixels", ctypes.c_void_p), ("pixel_count", ctypes.c_size_t)]
+    fields += [("mattes", ctypes.c_void_p), ("matte_count", ctypes.c_size_t)]
+    fields += [("width", ctypes.c_uint32), ("height", ctypes.c_uint32), ("stride", ctypes.c_uint32)]
+    return type(name, (ctypes.Structure,), {"_fields_": fields})
+
+
+class PixelType(Enum):
+    """A kind of pixels: red, green, blue and alpha of 8 or 16 bits, or gray and alpha of 8 bits."""
+
+    RGBA8 = (4, ctypes.c_uint8, "pix_run_commands")
+    RGBA16 = (4, ctypes.c_uint16, "pix_run_commands_rgba16")
+    GRAYA8 = (2, ctypes.c_uint8, "pix_run_commands_graya8")
+
+    def __init__(self, channels: int, channel: Any, call: str) -> None:
+        self._channel = channel
+        self._color = channel * channels
+        self._calls = [getattr(library, call) for library in libraries]
+        self._command = command_record(f"Command{self.name}", self._color)
+
+    @property
+    def channels(self) -> int:
+        """How many channels a pixel has, the alpha among them, which is the last one."""
+        return ctypes.sizeof(self._color) // ctypes.sizeof(self._channel)
+
+    @property
+    def max(self) -> int:
+        """The greatest number of a channel: 255 or 65535."""
+        return 256 ** ctypes.sizeof(self._channel) - 1
+
+    def __repr__(self) -> str:
+        return self.name
+
+    __str__ = __repr__
+
+    def __reduce_ex__(self, protocol: Any) -> tuple:
+        return getattr, (PixelType, self.name)
+
+
+RGBA8, RGBA16, GRAYA8 = PixelType
+
+# The version of the binary interface, and the fields whose offsets the library answers, in its order.
+ABI_VERSION = 1
+REGION = "x y width height"
+COMMAND = "kind op to from_ color pixels pixel_count mattes matte_count width height stride"
+
+
+def layout(structure: Any, names: str) -> List[int]:
+    """The size of a structure and the offsets of these fields."""
+    return [ctypes.sizeof(structure)] + [getattr(structure, name).offset for name in names.split()]
+
+
+def refuse_another(library: Any) -> None:
+    """Raises an ImportError if the library has another version or lays out anything otherwise than this package."""
+    facts = [ABI_VERSION] + [ctypes.sizeof(type._color) for type in PixelType] + layout(RegionRecord, REGION)
+    for type in PixelType:
+        facts += layout(type._command, COMMAND)
+    if [library.pix_layout(i) for i in range(len(facts) + 1)] != facts + [2**32 - 1]:
+        raise ImportError("pix: the library has another version or layout than this package")
+
+
+refuse_another(libraries[0])

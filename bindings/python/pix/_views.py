@@ -1,0 +1,109 @@
+"""Views of rows in a buffer, and masks."""
+
+from __future__ import annotations
+
+import ctypes
+from typing import Any, NamedTuple, Optional, SupportsIndex
+
+from pix._memory import Buffer, Memory
+from pix._pixels import PixelType
+from pix._values import u32
+
+
+class Rows(NamedTuple):
+    """What a view knows: where its elements are, how many, and their sizes in elements."""
+
+    memory: Memory
+    element: Any
+    elements: int
+    width: int
+    height: int
+    stride: int
+    type: Optional[PixelType]
+
+
+def rows_of(buffer: Any, width: Any, height: Any, stride: Any, element: Any, type: Optional[PixelType] = None) -> Rows:
+    """Finds rows of elements in a buffer, and tests what the library can't."""
+    size = ctypes.sizeof(element)
+    memory = Memory(buffer, ctypes.alignment(element) == 2)
+    if width is None and height is None and len(memory.shape) > 1 and memory.row == memory.shape[1] * size:
+        width, height = memory.shape[1], memory.shape[0]
+    if width is None or height is None:
+        raise TypeError("width and height are missing, and the shape of the buffer doesn't tell them")
+    width, height = u32(width, "width"), u32(height, "height")
+    taken = width if stride is None else u32(stride, "stride")
+    if memory.has_gaps:
+        if (memory.rows, memory.row) != (height, width * size):
+            raise ValueError(f"{memory.rows} rows of {memory.row} bytes are not {height} of {width * size}")
+        if memory.step % size or stride is not None and taken != memory.step // size:
+            raise ValueError(f"rows that start {memory.step} bytes apart have no such stride")
+        taken = u32(memory.step // size, "stride")
+    if memory.address % ctypes.alignment(element):
+        raise ValueError("the buffer is not aligned to channels of 16 bits")
+    return Rows(memory, element, memory.length // size, width, height, taken, type)
+
+
+class View:
+    """Rows of elements in a buffer: `width` and `height` in elements, and `stride` from a row to the next."""
+
+    _rows: Rows
+
+    def __init__(self, rows: Rows) -> None:
+        # All of it at once and only once, so that no other size ever goes with this memory.
+        if self.__dict__.setdefault("_rows", rows) is not rows:
+            raise TypeError("a view is made once")
+
+    @property
+    def width(self) -> int:
+        """The width in pixels or values."""
+        return self._rows.width
+
+    @property
+    def height(self) -> int:
+        """The height in rows."""
+        return self._rows.height
+
+    @property
+    def stride(self) -> int:
+        """The distance from a row to the next, in pixels or values."""
+        return self._rows.stride
+
+    def _value(self) -> bytearray:
+        """A copy of the rows without what lies between them."""
+        memory, element, _, width, height, stride, _ = self._rows
+        if not memory.length or not width:
+            return bytearray()
+        size = ctypes.sizeof(element)
+        view = memoryview((ctypes.c_char * memory.length).from_address(memory.address)).cast("B")
+        starts = range(0, height * stride * size, stride * size) if stride else range(0)
+        return bytearray(b"".join(view[start : start + width * size] for start in starts))
+
+
+class Matte(View):
+    """A mask: the fraction of a color that is composited at each point, from 0 (none) to 255 (all).
+
+    It goes with images of 8 bits a channel; with `bits` 16, from 0 to 65535, with RGBA16. `values` is any buffer of
+    (height - 1) * stride + width values, and may be read-only; `stride` is counted in values. Width and height may be
+    left out where the buffer's shape is (height, width); its rows may lie apart, as in a window of a numpy array.
+
+    A pickle or a copy of it has values of its own, without what lies between the rows.
+    """
+
+    def __init__(
+        self, values: Buffer, width: Optional[SupportsIndex] = None, height: Optional[SupportsIndex] = None,
+        stride: Optional[SupportsIndex] = None, bits: int = 8,
+    ) -> None:  # fmt: skip
+        if bits not in (8, 16):
+            raise ValueError(f"{bits} bits are not 8 or 16")
+        super().__init__(rows_of(values, width, height, stride, ctypes.c_uint8 if bits == 8 else ctypes.c_uint16))
+
+    @property
+    def bits(self) -> int:
+        """The bits of a value: 8 or 16."""
+        return 8 * ctypes.sizeof(self._rows.element)
+
+    def __repr__(self) -> str:
+        return f"<pix.Matte {self.width} x {self.height}, {self.bits} bits>"
+
+    def __reduce__(self) -> tuple:
+        return Matte, (self._value(), self.width, self.height, None, self.bits)
