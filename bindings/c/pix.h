@@ -194,7 +194,18 @@ static inline pix_source pix_source_of_image(pix_image image);
  * its own goes there. A point is changed where both regions and both images have it: the two corners are always
  * paired, also where one of them lies outside its image. */
 
-/* A command, laid out as the library reads it: make it by the functions below, and don't touch its members. */
+/* What a command does. */
+typedef enum {
+    PIX_KIND_CLEAR = 0,
+    PIX_KIND_COPY_COLOR = 1,
+    PIX_KIND_COPY_IMAGE = 2,
+    PIX_KIND_COMPOSITE_COLOR = 3,
+    PIX_KIND_COMPOSITE_IMAGE = 4,
+    PIX_KIND_COMPOSITE_MATTE = 5
+} pix_kind;
+
+/* A command, laid out as the library reads it: make it by the functions below, and don't touch its members. The kind is
+ * a pix_kind, and the operator a pix_op. */
 typedef struct {
     uint32_t kind, op;
     pix_region to, from;
@@ -425,10 +436,10 @@ static inline const char *pix_status_text(pix_status status) {
         return source;                                                                                                 \
     }                                                                                                                  \
     /* A command without a source. */                                                                                  \
-    static inline pix_command##S pix_command_of_##S(uint32_t kind, pix_op op, pix_region to, pix_region from) {        \
+    static inline pix_command##S pix_command_of_##S(pix_kind kind, pix_op op, pix_region to, pix_region from) {        \
         pix_command##S command;                                                                                        \
         memset(&command, 0, sizeof command);                                                                           \
-        command.kind = kind;                                                                                           \
+        command.kind = (uint32_t)kind;                                                                                 \
         command.op = (uint32_t)op;                                                                                     \
         command.to = to;                                                                                               \
         command.from = from;                                                                                           \
@@ -437,32 +448,32 @@ static inline const char *pix_status_text(pix_status status) {
         return command;                                                                                                \
     }                                                                                                                  \
     static inline pix_command##S pix_clear##S(void) {                                                                  \
-        return pix_command_of_##S(0, PIX_OP_SRC, pix_region_of(0, 0, 0, 0), pix_region_of(0, 0, 0, 0));                \
+        return pix_command_of_##S(PIX_KIND_CLEAR, PIX_OP_SRC, pix_region_of(0, 0, 0, 0), pix_region_of(0, 0, 0, 0));   \
     }                                                                                                                  \
     static inline pix_command##S pix_copy_color##S(pix_region to, PIXEL color) {                                       \
-        pix_command##S command = pix_command_of_##S(1, PIX_OP_SRC, to, pix_region_of(0, 0, 0, 0));                     \
+        pix_command##S command = pix_command_of_##S(PIX_KIND_COPY_COLOR, PIX_OP_SRC, to, pix_region_of(0, 0, 0, 0));   \
         command.color = color;                                                                                         \
         return command;                                                                                                \
     }                                                                                                                  \
     static inline pix_command##S pix_copy_image##S(pix_region to, pix_source##S source, pix_region from) {             \
-        pix_command##S command = pix_command_of_##S(2, PIX_OP_SRC, to, from);                                          \
+        pix_command##S command = pix_command_of_##S(PIX_KIND_COPY_IMAGE, PIX_OP_SRC, to, from);                        \
         PIX_NOTE_(source, pixels, pixels, pixel_count);                                                                \
         return command;                                                                                                \
     }                                                                                                                  \
     static inline pix_command##S pix_composite_color##S(pix_region to, PIXEL color, pix_op op) {                       \
-        pix_command##S command = pix_command_of_##S(3, op, to, pix_region_of(0, 0, 0, 0));                             \
+        pix_command##S command = pix_command_of_##S(PIX_KIND_COMPOSITE_COLOR, op, to, pix_region_of(0, 0, 0, 0));      \
         command.color = color;                                                                                         \
         return command;                                                                                                \
     }                                                                                                                  \
     static inline pix_command##S pix_composite_image##S(pix_region to, pix_source##S source, pix_region from,          \
                                                         pix_op op) {                                                   \
-        pix_command##S command = pix_command_of_##S(4, op, to, from);                                                  \
+        pix_command##S command = pix_command_of_##S(PIX_KIND_COMPOSITE_IMAGE, op, to, from);                           \
         PIX_NOTE_(source, pixels, pixels, pixel_count);                                                                \
         return command;                                                                                                \
     }                                                                                                                  \
     static inline pix_command##S pix_composite_matte##S(pix_region to, MATTE matte, pix_region from, PIXEL color,      \
                                                         pix_op op) {                                                   \
-        pix_command##S command = pix_command_of_##S(5, op, to, from);                                                  \
+        pix_command##S command = pix_command_of_##S(PIX_KIND_COMPOSITE_MATTE, op, to, from);                           \
         command.color = color;                                                                                         \
         PIX_NOTE_(matte, mattes, values, matte_count);                                                                 \
         return command;                                                                                                \

@@ -33,13 +33,21 @@ pub(crate) fn palette(words: &[&str], alloc: Global) -> Result<String, Flaw> {
     };
     let mut answer = String::new(alloc);
     for part in words.split(|word| *word == ";") {
-        if change(&mut palette, &mut copy, part, alloc)? {
-            continue;
+        match part {
+            [] => {}
+            ["threshold", "four_five_six"] => palette.set_threshold_fn(four_five_six),
+            ["threshold", "five"] => palette.set_threshold_fn(five),
+            ["threshold", "all"] => palette.set_threshold_fn(any),
+            ["threshold", "falling"] => palette.set_threshold_fn(falling),
+            ["clone"] => copy = palette.try_clone(alloc).map_err(|_| Flaw::Memory)?,
+            ["swap"] => mem::swap(&mut palette, &mut copy),
+            _ => {
+                if !answer.is_empty() {
+                    answer.push(' ')?;
+                }
+                answer.push_str(told(&mut palette, part, alloc)?.as_str())?;
+            }
         }
-        if !answer.is_empty() {
-            answer.push(' ')?;
-        }
-        answer.push_str(told(&mut palette, part, alloc)?.as_str())?;
     }
     Ok(answer)
 }
@@ -47,35 +55,6 @@ pub(crate) fn palette(words: &[&str], alloc: Global) -> Result<String, Flaw> {
 /// The index of a word.
 fn index(word: &str) -> Result<usize, Flaw> {
     word.parse::<usize>().map_err(|_| Flaw::Number)
-}
-
-/// Does what the words say, and returns whether they say a change.
-fn change(
-    palette: &mut Palette,
-    copy: &mut Palette,
-    words: &[&str],
-    alloc: Global,
-) -> Result<bool, Flaw> {
-    match words {
-        [] => {}
-        ["threshold", name] => keep_threshold(palette, name)?,
-        ["clone"] => *copy = palette.try_clone(alloc).map_err(|_| Flaw::Memory)?,
-        ["swap"] => mem::swap(palette, copy),
-        _ => return Ok(false),
-    }
-    Ok(true)
-}
-
-/// Keeps the threshold function of a name.
-fn keep_threshold(palette: &mut Palette, name: &str) -> Result<(), Flaw> {
-    match name {
-        "four_five_six" => palette.set_threshold_fn(four_five_six),
-        "five" => palette.set_threshold_fn(five),
-        "all" => palette.set_threshold_fn(any),
-        "falling" => palette.set_threshold_fn(falling),
-        _ => return Err(Flaw::Name),
-    }
-    Ok(())
 }
 
 /// 4, 5 and 6 in the channels.

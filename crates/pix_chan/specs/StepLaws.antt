@@ -12,26 +12,26 @@ use Rattle.pix_chan.specs.Step.{units_below, step, channel_lerp, IsBetween, IsSt
 record Below (m n f : ℕ) : Type 0 where
   pub above : m * f < n + 1 + m
   pub below : n + 1 < m * f + m
-  pub kept : (d : ℕ) → n + 1 ≤ m * d → f ≤ d
+  pub within : (d : ℕ) → n + 1 ≤ m * d → f ≤ d
   pub some : 0 < f
 
 below_by : (m n k r : ℕ) → 1 < m → n ≡ k * m + r → r < m → Below m n (units_below k r)
 below_by m n zero r hm e hr = record {
   above = omega arith;
   below = omega arith;
-  kept = λ d h. let z : m * 0 < m * d = omega arith in let l : 0 < d = lt_of_mul-lt-mul_left m z in omega arith;
+  within = λ d h. let z : m * 0 < m * d = omega arith in let l : 0 < d = lt_of_mul-lt-mul_left m z in omega arith;
   some = omega arith;
 }
 below_by m n (suc k) zero hm e hr = record {
   above = omega arith;
   below = omega arith;
-  kept = λ d h. let z : m * (k + 1) < m * d = omega arith in let l : k + 1 < d = lt_of_mul-lt-mul_left m z in omega arith;
+  within = λ d h. let z : m * (k + 1) < m * d = omega arith in let l : k + 1 < d = lt_of_mul-lt-mul_left m z in omega arith;
   some = omega arith;
 }
 below_by m n (suc k) (suc r) hm e hr = record {
   above = omega arith;
   below = omega arith;
-  kept = λ d h. let z : m * (k + 1) < m * d = omega arith in let l : k + 1 < d = lt_of_mul-lt-mul_left m z in omega arith;
+  within = λ d h. let z : m * (k + 1) < m * d = omega arith in let l : k + 1 < d = lt_of_mul-lt-mul_left m z in omega arith;
   some = omega arith;
 }
 
@@ -77,7 +77,7 @@ step_down : (m t d : ℕ) → 1 < m → t ≤ m → (n : ℕ) → n + 1 ≡ t * 
 step_down m t d hm h n e =
     let k : t * d ≤ m * d = mul-le-mul_right d h in
     let b : Below m n (units_below (n / m) (n % m)) = below_is m n hm in
-    b.kept d (omega arith)
+    b.within d (omega arith)
 
 -- the step of a product by a negative number, by the product
 step_of_fall : (m t d : ℕ) → 1 < m → t ≤ m → (p : ℕ) → p ≡ t * (d + 1) → IsBetween (pos 0) (negsuc d) (step m (neg_ℤ (pos p)))
@@ -105,7 +105,7 @@ unfolding step
 step_whole_down m d hm zero e = absurd (let k : m * 1 ≤ m * (d + 1) = mul-le-mul_left m (let z : 1 ≤ d + 1 = omega arith in z) in omega arith)
 step_whole_down m d hm (suc n) e =
     let b : Below m n (units_below (n / m) (n % m)) = below_is m n hm in
-    let lo : units_below (n / m) (n % m) ≤ d + 1 = b.kept (d + 1) (omega arith) in
+    let lo : units_below (n / m) (n % m) ≤ d + 1 = b.within (d + 1) (omega arith) in
     let z : m * (d + 1) < m * (units_below (n / m) (n % m) + 1) = omega (arith, b.below) in
     let hi : d + 1 < units_below (n / m) (n % m) + 1 = lt_of_mul-lt-mul_left m z in
     let u : units_below (n / m) (n % m) ≡ suc d = omega arith in

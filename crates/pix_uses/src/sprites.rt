@@ -21,7 +21,7 @@ pub fn paste(picture: &mut Raster<Rgba8p>, sprite: &Raster<Rgba8p>, x: i32, y: i
         → pos column ≡ x +ℤ pos i → pos row ≡ y +ℤ pos j
         → point numbers picture.new column row ≡ pixel_composite rgba8 Op.SrcOver
         (point numbers sprite.now i j) (point numbers picture.old column row) }
-    ensures kept { (column row : ℕ) → has_point picture.old column row ≡ true
+    ensures stays { (column row : ℕ) → has_point picture.old column row ≡ true
         → covers (placed_at x y sprite.now) (pos column) (pos row) ≡ false
         → point numbers picture.new column row ≡ point numbers picture.old column row }
 {
@@ -38,7 +38,7 @@ pub fn draw_glyph(picture: &mut Raster<Rgba8p>, glyph: &Raster<Matte8>, x: i32, 
         → point numbers picture.new column row ≡ matted_composite rgba8 Op.SrcOver
         (matte_value rgba8 (point mattes glyph.now i j)) (numbers ink)
         (point numbers picture.old column row) }
-    ensures kept { (column row : ℕ) → has_point picture.old column row ≡ true
+    ensures stays { (column row : ℕ) → has_point picture.old column row ≡ true
         → covers (placed_at x y glyph.now) (pos column) (pos row) ≡ false
         → point numbers picture.new column row ≡ point numbers picture.old column row }
 {

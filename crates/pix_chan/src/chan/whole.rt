@@ -7,7 +7,7 @@ ghost use Rattle.pix_chan.specs.Nearest.{nearest};
 fn units_down(fall: u64, max: u64) -> u64
     requires { 1 < max }
     ensures value { neg_ℤ (pos result) ≡ step max (neg_ℤ (pos fall)) }
-    ensures kept { (d : ℕ) → fall ≤ max * d → result ≤ d }
+    ensures within { (d : ℕ) → fall ≤ max * d → result ≤ d }
 {
     let units = fall / max;
     let dropped = units.min(1);

@@ -1,4 +1,4 @@
--- Of `draw_glyph`: the clauses `drawn` and `kept`.
+-- Of `draw_glyph`: the clauses `drawn` and `stays`.
 use Rattle.std.proofs.Common.{◌≡◌, ◌++◌, [], ◌∙◌, ap, List}
 use Rattle.std.specs.Prelude.{fold}
 use Rattle.std.proofs.lemmas.Int.{to_z-of_z}
@@ -20,8 +20,8 @@ returns-clause-drawn c = λ column row i j hd hs ec er.
     ∙ ap (λ (effects : List Effect). fold (apply rgba8) (point numbers old column row) (effects ++ []))
     (reached_by c.from.result c.from-2.result c.args.x c.args.y old.width old.height src.width src.height (λ a b. Matted SrcOver (point mattes src a b) (numbers c.args.ink)) column row i j corner c.from-2.ensures hd hs ec er)
 
-pub returns-clause-kept : goal.returns-clause-kept
-returns-clause-kept c = λ column row hd outside.
+pub returns-clause-stays : goal.returns-clause-stays
+returns-clause-stays c = λ column row hd outside.
     let old = c.args.picture.now in
     let src = c.args.glyph.now in
     let corner : c.from.result ≡ onwards c.args.x c.args.y =
