@@ -41,15 +41,27 @@ pub(crate) fn palette(words: &[&str], alloc: Global) -> Result<String, Flaw> {
             ["threshold", "falling"] => palette.set_threshold_fn(falling),
             ["clone"] => copy = palette.try_clone(alloc).map_err(|_| Flaw::Memory)?,
             ["swap"] => mem::swap(&mut palette, &mut copy),
-            _ => {
-                if !answer.is_empty() {
-                    answer.push(' ')?;
-                }
-                answer.push_str(told(&mut palette, part, alloc)?.as_str())?;
+            ["set", color] => {
+                let found = palette.set_entry(pixel(color, alloc)?);
+                add(&mut answer, index_or_none(found, alloc)?)?;
             }
+            ["replace", i, color] => {
+                let old = palette.replace_entry(index(i)?, pixel(color, alloc)?);
+                add(&mut answer, color_or_none(old, alloc)?)?;
+            }
+            _ => add(&mut answer, told(&palette, part, alloc)?)?,
         }
     }
     Ok(answer)
+}
+
+/// Adds a word to an answer.
+fn add(answer: &mut String, word: String) -> Result<(), Flaw> {
+    if !answer.is_empty() {
+        answer.push(' ')?;
+    }
+    answer.push_str(word.as_str())?;
+    Ok(())
 }
 
 /// The index of a word.
@@ -84,19 +96,9 @@ fn falling(size: usize) -> SRgb8 {
     SRgb8::new(value, value, value)
 }
 
-/// The answer to a question.
-fn told(palette: &mut Palette, words: &[&str], alloc: Global) -> Result<String, Flaw> {
+/// The answer to a question that changes nothing.
+fn told(palette: &Palette, words: &[&str], alloc: Global) -> Result<String, Flaw> {
     match words {
-        ["set", color] => match palette.set_entry(pixel(color, alloc)?) {
-            Some(index) => Ok(format!(in alloc; "{index}")?),
-            None => Ok(String::from_str(alloc, "none")?),
-        },
-        ["replace", i, color] => {
-            color_or_none(
-                palette.replace_entry(index(i)?, pixel(color, alloc)?),
-                alloc,
-            )
-        }
         ["entry", i] => color_or_none(palette.entry(index(i)?), alloc),
         ["colors"] => text(palette.colors(), alloc),
         ["len"] => {
@@ -105,6 +107,14 @@ fn told(palette: &mut Palette, words: &[&str], alloc: Global) -> Result<String, 
         }
         ["count", digits] => counted(palette, digits.as_bytes(), alloc),
         _ => Err(Flaw::Name),
+    }
+}
+
+/// An index, or `none`.
+fn index_or_none(index: Option<usize>, alloc: Global) -> Result<String, Flaw> {
+    match index {
+        Some(index) => Ok(format!(in alloc; "{index}")?),
+        None => Ok(String::from_str(alloc, "none")?),
     }
 }
 
