@@ -51,7 +51,7 @@
 #include <string.h>
 
 /* The version of the library that this header belongs to. */
-#define PIX_VERSION "0.1.0"
+#define PIX_VERSION "0.2.0"
 
 #ifdef __cplusplus
 extern "C" {
