@@ -18,7 +18,9 @@ def crates(release):
         for crate in ("pix-sys", "pix"):
             copy(TOP / "LICENSE", folder / crate / "LICENSE")
             copy(TOP / "bindings/README.md", folder / crate / "README.md")
-            put(folder / crate / "PROVENANCE", provenance(release, folder / crate))
+            # cargo package writes a Cargo.toml of its own, and keeps this one beside it.
+            said = provenance(release, folder / crate)
+            put(folder / crate / "PROVENANCE", said.replace("  Cargo.toml\n", "  Cargo.toml.orig\n"))
         environ = {**environment(release), "CARGO_TARGET_DIR": str(Path(name) / "target")}
         environ.pop("PIX_LIB_DIR", None)
         call("cargo", "package", "--offline", "--locked", "--allow-dirty", "--no-verify", "--workspace", cwd=folder, env=environ)
