@@ -1,7 +1,7 @@
 """Proves and builds what is packed: the archives for each processor, and the program.
 
 A folder of what was built has, for each archive, NAME/libpix_c.a; for each processor, PROCESSOR/pixpaint; VERDICTS, the line by which rt says
-what it proved, for each of them; and SOURCES, what tools/sources printed of the crates. The program for aarch64 is linked by gcc with heap.c, since
+what it proved, for each of them; and SOURCES, what tools/sources printed of the crates. The program for aarch64 is linked by gcc with kit.c, since
 the kit has no C library for that processor.
 """
 
@@ -61,7 +61,7 @@ def build_program_aarch64(folder):
         stop(f"pixpaint is not built for aarch64: see {folder / 'pixpaint-aarch64.log'}", 1)
     program = folder / "aarch64/pixpaint"
     program.parent.mkdir(exist_ok=True)
-    call("aarch64-linux-gnu-gcc", "-O2", "-s", "-o", program, made, HERE / "heap.c")
+    call("aarch64-linux-gnu-gcc", "-O2", "-s", "-o", program, made, HERE / "kit.c")
     return verdict
 
 

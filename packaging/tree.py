@@ -70,7 +70,7 @@ def program(release, processor):
     copy(release.built / processor.name / "pixpaint", root / "pixpaint", 0o755)
     for name in ["LICENSE", "docs/SCRIPTS.md", *[f"examples/{path.name}" for path in sorted((TOP / "examples").iterdir())]]:
         copy(TOP / name, root / name)
-    more = ["linked with packaging/heap.c, which is not proved, in the place of the kit's library, which is for x86-64 alone"]
+    more = ["linked with packaging/kit.c, which is not proved, in the place of the kit's libraries, which are for x86-64 alone"]
     put(root / "PROVENANCE", provenance(release, root, more if processor.name == "aarch64" else ()))
     pack(release, root)
 

@@ -1,7 +1,9 @@
-/* The heap of the program for aarch64: what the kit's liblibc_c.a is for x86-64, as the contracts of the kit's libc/src/heap.rt say it.
- * Nothing here is proved. */
+/* The functions of C that the program for aarch64 calls beside the C library: what the kit's liblibc_c.a and libos_c.a have for x86-64 alone, as
+ * the contracts of the kit's libc/src/heap.rt and os/src/c.rt say it. Nothing here is proved. */
+#include <errno.h>
 #include <stdbool.h>
 #include <stddef.h>
+#include <stdint.h>
 #include <stdlib.h>
 
 struct tried {
@@ -30,4 +32,9 @@ struct tried rattle_realloc(void *p, size_t kept, size_t n, size_t a) {
 
 void rattle_dealloc(void *p) {
     free(p);
+}
+
+/* The number of the last call's fault. */
+int32_t rattle_errno(void) {
+    return errno;
 }
