@@ -25,7 +25,7 @@ has_layers() {
 apt_lines() {
     local folder=$work/apt-${1//\//-}
     ran+=("$1 apt")
-    mkdir "$folder" && cp "$dist"/* "$work/program/demo.c" "$folder" && cp "$work/src/demo.c" "$folder/painting.c" && cp "$work/src/refusals.c" "$folder" || return
+    mkdir "$folder" && cp "$dist"/* "$work/program/demo.c" "$work/src/refusals.c" "$folder" && cp "$work/src/demo.c" "$folder/painting.c" || return
     lines_of "$1" apt >"$folder/lines.sh" && [ -s "$folder/lines.sh" ] || return
     cat "$folder/lines.sh" - >"$folder/script.sh" <<'END'
 cc -O2 painting.c -lpix -o painting && ./painting picture.ppm
@@ -36,8 +36,8 @@ ldconfig -p | grep 'libpix.so.1 '
 apt-get install ./libpix1_*_arm64.deb >refused 2>&1 || echo refused
 apt-get remove -y libpix1 >/dev/null && ! ldconfig -p | grep 'libpix.so.1 '
 END
-    in_layer "$folder" "$folder/script.sh" "$folder/left" && cp "$folder/left/picture.ppm" "$work/apt.ppm" && [ "$(cat "$folder/left/version")" = "Version: $version" ] \
-        && grep 'arm64' "$folder/left/refused"
+    in_layer "$folder" "$folder/script.sh" "$folder/left" && cp "$folder/left/picture.ppm" "$work/apt.ppm" \
+        && [ "$(cat "$folder/left/version")" = "Version: $version" ] && grep 'arm64' "$folder/left/refused"
 }
 
 # The package for aarch64, unpacked as dpkg does it, by a program under qemu.
@@ -47,8 +47,9 @@ deb_aarch64() {
         dpkg-deb -x "$file" "$root" || return
     done
     (cd "$root" && sha256sum -c --quiet usr/share/doc/libpix1/PROVENANCE usr/share/doc/libpix-dev/PROVENANCE) || return
-    aarch64-linux-gnu-gcc -O2 -I "$root/usr/include" "$work/src/demo.c" -L "$root/usr/lib/aarch64-linux-gnu" -lpix -o "$work/deb-aarch64" \
-        && qemu-aarch64 -L /usr/aarch64-linux-gnu -E LD_LIBRARY_PATH="$root/usr/lib/aarch64-linux-gnu" "$work/deb-aarch64" "$work/deb-aarch64.ppm" && same deb-aarch64
+    local lib=$root/usr/lib/aarch64-linux-gnu
+    aarch64-linux-gnu-gcc -O2 -I "$root/usr/include" "$work/src/demo.c" -L "$lib" -lpix -o "$work/deb-aarch64" \
+        && qemu-aarch64 -L /usr/aarch64-linux-gnu -E LD_LIBRARY_PATH="$lib" "$work/deb-aarch64" "$work/deb-aarch64.ppm" && same deb-aarch64
 }
 
 if have "apt's lines" apt-get dpkg cc pkg-config unshare chroot; then

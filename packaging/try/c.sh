@@ -125,9 +125,11 @@ if have 'CMake' cmake c++; then
     try_lines README.md CMake printed 'done: 90 40 32 255'
     try_lines docs/INSTALL.md CMake printed 'done: 90 40 32 255'
     step 'another version is refused by CMake and pkg-config' another_version
-    have 'another processor under CMake' aarch64-linux-gnu-gcc && step 'aarch64: unpacked' unpack aarch64 && step 'another processor is refused by CMake' another_processor
+    have 'another processor under CMake' aarch64-linux-gnu-gcc && step 'aarch64: the tarball has the files of its PROVENANCE' unpack aarch64 \
+        && step 'another processor is refused by CMake' another_processor
 fi
-if have 'the tarball for aarch64' aarch64-linux-gnu-gcc qemu-aarch64 && { [ -d "$work/aarch64" ] || step 'aarch64: unpacked' unpack aarch64; }; then
+if have 'the tarball for aarch64' aarch64-linux-gnu-gcc qemu-aarch64 \
+    && { [ -d "$work/aarch64" ] || step 'aarch64: the tarball has the files of its PROVENANCE' unpack aarch64; }; then
     step 'aarch64: C, static: demo' c_aarch64 aarch64-static static demo.c && step 'its picture' same aarch64-static
     step 'aarch64: C, static: refusals' c_aarch64 aarch64-refusals static refusals.c
     step 'aarch64: C, shared: demo' c_aarch64 aarch64-shared shared demo.c && step 'its picture' same aarch64-shared

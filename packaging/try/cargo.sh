@@ -5,7 +5,8 @@
 cargo_lines() {
     local folder=$work/cargo-${1//\//-}
     ran+=("$1 cargo")
-    cargo init --quiet --vcs none --name demo "$folder" && cp "$dist"/*.crate "$folder" && cp "$work/main.rs" "$folder/src" && CARGO_NET_OFFLINE=true run_lines "$1" cargo "$folder"
+    cargo init --quiet --vcs none --name demo "$folder" && cp "$dist"/*.crate "$folder" && cp "$work/main.rs" "$folder/src" \
+        && CARGO_NET_OFFLINE=true run_lines "$1" cargo "$folder"
 }
 
 # Runs cargo in the program of the lines of README.md.

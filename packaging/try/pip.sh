@@ -42,13 +42,15 @@ wheel_for_another() {
     local wheel
     wheel=$(echo "$dist"/*aarch64.whl)
     refuses 'is not a supported wheel on this platform' "$env_python" -m pip install --no-index --force-reinstall "$wheel" || return
-    "$env_python" -m zipfile -e "$wheel" "$work/forced" && cd "$work/forced" && refuses 'is for aarch64, and this processor is x86-64' "$env_python" -c 'import pix'
+    "$env_python" -m zipfile -e "$wheel" "$work/forced" && cd "$work/forced" \
+        && refuses 'is for aarch64, and this processor is x86-64' "$env_python" -c 'import pix'
 }
 
 # A library of another version or layout, or none, in the place of the wheel's.
 wheel_with_another() {
     local package
-    "$env_python" -m zipfile -e "$(echo "$dist"/*x86_64.whl)" "$work/another" && package=$work/another/pix && rm "$package"/libpix_c*.so && cd "$work/another" || return
+    "$env_python" -m zipfile -e "$(echo "$dist"/*x86_64.whl)" "$work/another" || return
+    package=$work/another/pix && rm "$package"/libpix_c*.so && cd "$work/another" || return
     refuses "no library at $work/another/libpix_c.so" "$env_python" -c 'import pix' || return
     cc -std=c99 -O1 -fPIC -shared -DOTHER_FACT=0 -I "$top/bindings/c" "$top/bindings/c/other.c" -o "$package/libpix_c.so" -lm \
         && refuses 'the library has another version or layout than this package' "$env_python" -c 'import pix'
