@@ -83,7 +83,8 @@ def debian_files(release, processor, root, package, depends):
     control = fill("control.in", SECTION=section, SUMMARY=SUMMARY, **values)
     doc = root / "usr/share/doc" / package
     put(doc / "copyright", read("LICENSE"))
-    put(doc / "PROVENANCE", provenance(release, root))
+    # Packages for two processors may stand side by side, so what differs between them has another name.
+    put(doc / f"PROVENANCE.{processor.debian}", provenance(release, root))
     sums = [call("md5sum", path.relative_to(root), cwd=root) for path in files_below(root)]
     put(root / "DEBIAN/control", control)
     put(root / "DEBIAN/md5sums", "".join(sums))

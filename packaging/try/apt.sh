@@ -31,7 +31,7 @@ apt_lines() {
 cc -O2 painting.c -lpix -o painting && ./painting picture.ppm
 cc -O2 -DPIX_STATIC refusals.c -lpix -o refusals && ./refusals
 dpkg --verify libpix1 libpix-dev && dpkg -s libpix1 libpix-dev | grep '^Version' | sort -u >version
-(cd / && sha256sum -c --quiet usr/share/doc/libpix1/PROVENANCE usr/share/doc/libpix-dev/PROVENANCE)
+(cd / && sha256sum -c --quiet usr/share/doc/libpix1/PROVENANCE.amd64 usr/share/doc/libpix-dev/PROVENANCE.amd64)
 ldconfig -p | grep 'libpix.so.1 '
 apt-get install ./libpix1_*_arm64.deb >refused 2>&1 || echo refused
 apt-get remove -y libpix1 >/dev/null && ! ldconfig -p | grep 'libpix.so.1 '
@@ -46,7 +46,12 @@ deb_aarch64() {
     for file in "$dist"/libpix*_"$version"_arm64.deb; do
         dpkg-deb -x "$file" "$root" || return
     done
-    (cd "$root" && sha256sum -c --quiet usr/share/doc/libpix1/PROVENANCE usr/share/doc/libpix-dev/PROVENANCE) || return
+    (cd "$root" && sha256sum -c --quiet usr/share/doc/libpix1/PROVENANCE.arm64 usr/share/doc/libpix-dev/PROVENANCE.arm64) || return
+    for file in "$dist"/libpix*_"$version"_amd64.deb; do
+        dpkg-deb -x "$file" "$work/amd64" || return
+    done
+    # What both processors' packages have at one path is the same, so that both can be installed.
+    diff -r -x 'PROVENANCE.*' "$root/usr/share" "$work/amd64/usr/share" && diff -r "$root/usr/include" "$work/amd64/usr/include" || return
     local lib=$root/usr/lib/aarch64-linux-gnu
     aarch64-linux-gnu-gcc -O2 -I "$root/usr/include" "$work/src/demo.c" -L "$lib" -lpix -o "$work/deb-aarch64" \
         && qemu-aarch64 -L /usr/aarch64-linux-gnu -E LD_LIBRARY_PATH="$lib" "$work/deb-aarch64" "$work/deb-aarch64.ppm" && same deb-aarch64
