@@ -50,7 +50,7 @@ shows() {
     calls=$(sed -n 's/^#define PIX_ABI_VERSION //p' "$work/$1/include/pix.h")
     wanted=$(printf "%s@@PIX_$calls\n" pix_convert_bytes pix_layout pix_run_commands pix_run_commands_graya8 pix_run_commands_rgba16)
     while read -r file; do
-        [ "$(nm -D --defined-only "$file" | awk '$2 == "T" { print $3 }' | sort)" = "$wanted" ] || { nm -D "$file"; return 1; }
+        [ "$(nm -D --defined-only "$file" | awk '$2 != "A" { print $3 }' | sort)" = "$wanted" ] || { nm -D "$file"; return 1; }
         "$2"readelf -d "$file" | grep -F "soname: [libpix.so.$calls]" || return
         needed=$("$2"readelf -V "$file" | grep -o 'GLIBC_[0-9.]*' | sort -Vu | tail -n 1)
         [ "$(printf '%s\nGLIBC_2.17\n' "$needed" | sort -V | tail -n 1)" = GLIBC_2.17 ] || [ -n "$stand_in" ] || { echo "$file needs $needed"; return 1; }
