@@ -38,10 +38,12 @@
  *
  * A source must not share memory with the image that is written. That is tested: see PIX_OVERLAP.
  *
- * The library is built for processors of x86-64 that have SSE4.1. pix_check_library tells whether the archive that is
- * linked is the one that this header speaks of; a program may ask it once, before all else.
+ * The library is built for processors of x86-64 that have SSE4.1, and for those of aarch64, under Linux.
+ * pix_check_library tells whether the library that is linked is the one that this header speaks of; a program may ask
+ * it once, before all else.
  *
- * Needs C99 or C++11. Link the program with libpix_c.a; it needs memset, memcpy and memmove, and nothing else.
+ * Needs C99 or C++11. Link the program with libpix_c.a, or with libpix.a or libpix.so of a package, which are the same;
+ * it needs memset, memcpy and memmove, and nothing else.
  */
 #ifndef PIX_H
 #define PIX_H
@@ -51,7 +53,7 @@
 #include <string.h>
 
 /* The version of the library that this header belongs to. */
-#define PIX_VERSION "0.1.0"
+#define PIX_VERSION "0.2.0"
 
 #ifdef __cplusplus
 extern "C" {
@@ -314,7 +316,8 @@ uint32_t pix_convert_bytes(uint32_t from, uint32_t to, const uint8_t *src, size_
  * order. UINT32_MAX where there are no more. */
 uint32_t pix_layout(size_t index);
 
-/* The version of the binary interface: another one where a call, a number or a layout changes. */
+/* The version of the binary interface: another one where a call, a number or a layout changes, so that a program that was
+ * compiled with an older header can't run. It is the number in the soname, libpix.so.1, and pix_layout(0) answers it. */
 #define PIX_ABI_VERSION 1
 
 /* ---- Definitions. Nothing below is for callers. ---- */

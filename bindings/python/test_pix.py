@@ -6,9 +6,7 @@ import ctypes
 import gc
 import os
 import pickle
-import subprocess
 import sys
-import tempfile
 import threading
 import time
 import types
@@ -16,7 +14,7 @@ import typing
 import unittest
 
 import pix
-from pix import _library, _memory, _pixels
+from pix import _memory
 
 try:
     import numpy
@@ -263,44 +261,6 @@ class Borders(unittest.TestCase):
                 self.assertIn("return", typing.get_type_hints(getattr(member, "fget", member)), member)
             if isinstance(item, type) and "__init__" in vars(item):
                 self.assertIn("return", typing.get_type_hints(item.__init__), item)
-
-    def test_processors(self):
-        with tempfile.NamedTemporaryFile("w") as cpuinfo:
-            cpuinfo.write("processor: 0\nflags : fpu sse2 ssse3\n")
-            cpuinfo.flush()
-            self.assertFalse(_library.has_sse41(cpuinfo.name))
-        self.assertTrue(_library.has_sse41("/nowhere"))
-
-
-class Libraries(unittest.TestCase):
-    def imported(self, path, before="pass"):
-        """Returns what an import over the library at a path says at last."""
-        code, env = f"{before}\nimport pix", {**os.environ, "PIX_LIBRARY": path}
-        done = subprocess.run([sys.executable, "-c", code], env=env, capture_output=True, text=True)
-        return done.stderr.strip().splitlines()[-1:]
-
-    def test_no_library(self):
-        self.assertRegex(self.imported("/nowhere/libpix_c.so")[0], "ImportError: pix: no library at /nowhere/libpix_c.so: build it")
-        with tempfile.NamedTemporaryFile("w") as text:
-            self.assertRegex(self.imported(text.name)[0], "ImportError: pix: no library at")
-
-    def test_another_processor(self):
-        before = "import builtins, io; real = builtins.open; told = lambda: io.StringIO('flags : fpu sse2')\n"
-        before += "builtins.open = lambda file, *more, **named: told() if file == '/proc/cpuinfo' else real(file, *more, **named)"
-        self.assertEqual(self.imported("/nowhere", before), ["ImportError: pix: the library needs a processor with SSE4.1, which this one lacks"])
-
-    @unittest.skipIf("PIX_OTHER" not in os.environ, "no PIX_OTHER")
-    def test_another_library(self):
-        path = os.environ["PIX_OTHER"]
-        self.assertRegex(self.imported(path)[0], "ImportError: pix: the library has another version or layout than this package")
-        library = ctypes.PyDLL(path)
-        library.pix_layout.restype = ctypes.c_uint32
-        library.pix_layout.argtypes = [ctypes.c_size_t]
-        fact = ctypes.c_size_t.in_dll(library, "other_fact")
-        for fact.value in range(49):
-            self.assertRaises(ImportError, _pixels.refuse_another, library)
-        fact.value = 49
-        _pixels.refuse_another(library)
 
 
 class Threads(unittest.TestCase):

@@ -23,7 +23,8 @@ two threads paint at once; one that needs memory that another is writing waits. 
 assignment to the bytearray, must keep from the buffers of a run in another thread.
 
 The shared object libpix_c.so is looked for at the path PIX_LIBRARY of the environment, and else in the folder of this
-package and in the one above. Needs CPython 3.8 on a processor of x86-64 with SSE4.1; an import on another one, or over
+package and in the one above; on a processor of x86-64-v3, libpix_c-v3.so of this package comes first, which a release
+has. Needs CPython 3.8 on Linux, on a processor of x86-64 with SSE4.1 or of aarch64; an import on another one, or over
 a library of another version or layout, raises ImportError.
 """
 
@@ -35,7 +36,7 @@ from pix._pixels import GRAYA8, RGBA8, RGBA16, PixelType
 from pix._values import Format, Op, PixError, Region, Status
 from pix._views import Matte
 
-__version__ = "0.1.0"
+__version__ = "0.2.0"
 __all__ = [
     "Op", "Format", "Status", "PixError", "PixelType", "RGBA8", "RGBA16", "GRAYA8", "Region", "Image", "Matte",
     "Command", "clear", "copy_color", "copy_image", "composite_color", "composite_image", "composite_matte", "convert",

@@ -4,41 +4,80 @@ from __future__ import annotations
 
 import ctypes
 import os
-from typing import Any
+import platform
+from typing import Any, Optional, Set
 
 # How many pixels a long call is about, which takes some hundred microseconds.
 LONG = 500_000
 
 
-def has_sse41(cpuinfo: str = "/proc/cpuinfo") -> bool:
-    """Whether the processor has the instructions that the library was built for, as far as the system tells."""
+# What Linux calls, in /proc/cpuinfo, the instructions that x86-64-v3 has beyond those of x86-64-v2.
+V3 = {"abm", "avx", "avx2", "bmi1", "bmi2", "f16c", "fma", "movbe", "xsave"}
+# The processors by their numbers in the head of a shared object.
+MACHINES = {62: "x86-64", 183: "aarch64"}
+NAMES = {"x86_64": "x86-64", "amd64": "x86-64", "arm64": "aarch64"}
+
+
+def machine() -> str:
+    """The name of this processor's kind."""
+    said = platform.machine().lower()
+    return NAMES.get(said, said)
+
+
+def flags(cpuinfo: str = "/proc/cpuinfo") -> Optional[Set[str]]:
+    """The instructions that each of the processors has beyond the first ones of x86-64, or None where the system doesn't tell."""
     try:
         with open(cpuinfo, encoding="utf-8", errors="replace") as lines:
-            flags = [line.split() for line in lines if line.startswith("flags")]
+            found = [set(line.split()) for line in lines if line.startswith("flags")]
     except OSError:
-        return True
-    return all("sse4_1" in words for words in flags)
+        return None
+    return set.intersection(*found) if found else None
 
 
-def path_of_library() -> str:
-    """Where the shared object is: PIX_LIBRARY, or in this folder, or in the one above."""
+def processor_fault(kind: str, has: Optional[Set[str]]) -> Optional[str]:
+    """Why the library can't run on a processor of this kind with these instructions, as far as the system tells."""
+    if kind not in MACHINES.values():
+        return f"the library is built for x86-64 and aarch64, and this processor is {kind or 'unknown'}"
+    if kind == "x86-64" and has is not None and "sse4_1" not in has:
+        return "the library needs a processor with SSE4.1, which this one lacks"
+    return None
+
+
+def path_of_library(has: Optional[Set[str]] = None) -> str:
+    """Where the shared object is: PIX_LIBRARY, or in this folder, the one for x86-64-v3 where the processor has these
+    instructions, or in the folder above."""
     named = os.environ.get("PIX_LIBRARY")
     if named:
         return os.path.abspath(named)
     here = os.path.dirname(os.path.abspath(__file__))
-    inside, beside = (os.path.join(folder, "libpix_c.so") for folder in (here, os.path.dirname(here)))
-    return inside if os.path.exists(inside) else beside
+    wide, inside = (os.path.join(here, name) for name in ("libpix_c-v3.so", "libpix_c.so"))
+    if has is not None and V3 <= has and os.path.exists(wide):
+        return wide
+    return inside if os.path.exists(inside) else os.path.join(os.path.dirname(here), "libpix_c.so")
+
+
+def why_not(path: str) -> str:
+    """Why a shared object at a path can't be loaded."""
+    try:
+        with open(path, "rb") as file:
+            head = file.read(20)
+    except OSError:
+        return f"no library at {path}: build it there, or name its path in PIX_LIBRARY"
+    built_for = MACHINES.get(int.from_bytes(head[18:20], "little"), "another processor")
+    if head[:4] == b"\x7fELF" and built_for != machine():
+        return f"the library at {path} is for {built_for}, and this processor is {machine()}"
+    return f"no library at {path} that loads: build it there, or name its path in PIX_LIBRARY"
 
 
 def load(kind: Any) -> Any:
     """Loads the shared object, and declares its functions."""
-    path = path_of_library()
+    path = path_of_library(flags() if machine() == "x86-64" else None)
     try:
         library = kind(path)
         library.pix_layout.restype = ctypes.c_uint32
         library.pix_layout.argtypes = [ctypes.c_size_t]
     except OSError as fault:
-        raise ImportError(f"pix: no library at {path}: build it there, or name its path in PIX_LIBRARY") from fault
+        raise ImportError(f"pix: {why_not(path)}") from fault
     except AttributeError as fault:
         raise ImportError(f"pix: {path} has another version than this package: it lacks pix_layout") from fault
     pointer, size, u32 = ctypes.c_void_p, ctypes.c_size_t, ctypes.c_uint32
@@ -51,8 +90,9 @@ def load(kind: Any) -> Any:
     return library
 
 
-if not has_sse41():
-    raise ImportError("pix: the library needs a processor with SSE4.1, which this one lacks")
+_fault = processor_fault(machine(), flags())
+if _fault:
+    raise ImportError(f"pix: {_fault}")
 
 # The library for short calls, which keep the interpreter's lock, and for long ones, which let it go.
 libraries = (load(ctypes.PyDLL), load(ctypes.CDLL))

@@ -7,7 +7,7 @@ use core::sync::atomic::{AtomicU8, Ordering};
 /// Why the archive must not be called.
 #[derive(Clone, Copy, Debug, PartialEq, Eq)]
 pub enum LibraryFault {
-    /// The processor lacks SSE4.1.
+    /// The processor is none of x86-64 with SSE4.1, and none of aarch64.
     Processor,
     /// The archive has another version or layout than this crate.
     Archive,
@@ -16,7 +16,9 @@ pub enum LibraryFault {
 impl fmt::Display for LibraryFault {
     fn fmt(&self, f: &mut fmt::Formatter<'_>) -> fmt::Result {
         f.write_str(match self {
-            LibraryFault::Processor => "the library needs a processor of x86-64 with SSE4.1",
+            LibraryFault::Processor => {
+                "the library needs a processor of x86-64 with SSE4.1, or one of aarch64"
+            }
             LibraryFault::Archive => {
                 "libpix_c.a has another version or layout than the crate pix-sys"
             }
@@ -39,15 +41,15 @@ static ANSWER: AtomicU8 = AtomicU8::new(UNKNOWN);
 pub fn check_library() -> Result<(), LibraryFault> {
     let mut answer = ANSWER.load(Ordering::Relaxed);
     if answer == UNKNOWN {
-        answer = look(has_sse41, is_as_declared);
+        answer = look(is_served, is_as_declared);
         ANSWER.store(answer, Ordering::Relaxed);
     }
     meaning(answer)
 }
 
 /// Asks for the processor, and only where it is right for the archive, whose code may need it.
-fn look(has_sse41: fn() -> bool, is_as_declared: fn() -> bool) -> u8 {
-    if !has_sse41() {
+fn look(is_served: fn() -> bool, is_as_declared: fn() -> bool) -> u8 {
+    if !is_served() {
         NO_PROCESSOR
     } else if !is_as_declared() {
         OTHER_ARCHIVE
@@ -64,17 +66,19 @@ fn meaning(answer: u8) -> Result<(), LibraryFault> {
     }
 }
 
+/// Whether the processor has the instructions that the archive was built for: SSE4.1 on x86-64.
 #[cfg(target_arch = "x86_64")]
-fn has_sse41() -> bool {
+fn is_served() -> bool {
     // SAFETY: all processors of x86-64 have the instruction.
     #[allow(unused_unsafe)]
     let features = unsafe { core::arch::x86_64::__cpuid(1) };
     features.ecx & 1 << 19 != 0
 }
 
+/// All processors of aarch64 have those of its archive; there is none for another one, or for big-endian words.
 #[cfg(not(target_arch = "x86_64"))]
-fn has_sse41() -> bool {
-    false
+fn is_served() -> bool {
+    cfg!(all(target_arch = "aarch64", target_endian = "little"))
 }
 
 #[cfg(test)]
@@ -90,7 +94,7 @@ mod tests {
     }
 
     #[test]
-    fn a_processor_without_sse41_is_refused_before_the_archive_is_called() {
+    fn another_processor_is_refused_before_the_archive_is_called() {
         let called = || -> bool { panic!("called") };
         assert_eq!(meaning(look(no, called)), Err(LibraryFault::Processor));
         assert_eq!(meaning(look(yes, no)), Err(LibraryFault::Archive));

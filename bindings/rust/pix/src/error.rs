@@ -17,7 +17,7 @@ pub enum Error {
     Source { index: usize },
     /// The bytes to convert, or those to write, are not those of so many whole pixels.
     Length,
-    /// The processor lacks SSE4.1.
+    /// The processor is none of x86-64 with SSE4.1, and none of aarch64.
     Processor,
     /// The archive has another version or layout than the crate `pix-sys`.
     Library,

@@ -20,8 +20,8 @@
 //! Pixels are premultiplied and linear: the color channels are multiplied by the alpha and proportional to light.
 //! [`convert`] makes them of what image files hold, and back. Regions lie anywhere; what is outside an image is
 //! neither read nor written. A list is tested as a whole before its first command runs, so that an [`Error`] means that
-//! no pixel was changed. The archive runs on processors of x86-64 with SSE4.1: another one, and an archive of another
-//! version or layout, is refused at the first call.
+//! no pixel was changed. The archive runs on processors of x86-64 with SSE4.1 and of aarch64, under Linux: another one,
+//! and an archive of another version or layout, is refused at the first call.
 #![no_std]
 
 mod command;

@@ -26,6 +26,6 @@ fn another_library_is_refused() {
     );
     assert_eq!(
         Error::Processor.to_string(),
-        "the library needs a processor of x86-64 with SSE4.1"
+        "the library needs a processor of x86-64 with SSE4.1, or one of aarch64"
     );
 }
