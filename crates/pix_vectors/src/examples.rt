@@ -7,11 +7,6 @@ use pix::{Raster, Region};
 use pix_uses::examples::{channels, models, palettes, pixels, rasters, regions};
 use std::test::Fail;
 
-/// Channels of these numbers.
-fn channels_of<const N: usize>(numbers: [u8; N]) -> [Ch8; N] {
-    numbers.map(Ch8::new)
-}
-
 #[test]
 fn examples_of_channels(rt: HostRuntime) {
     assert_eq!(rt; channels::sums(), (Ch8::new(255), Ch8::new(0)));
@@ -19,7 +14,7 @@ fn examples_of_channels(rt: HostRuntime) {
     assert_eq!(rt; channels::turns(), (Ch8::new(4), Ch8::new(250)));
     assert_eq!(rt; channels::fifth(), (Ch8::new(51), Ch8::new(120)));
     assert_eq!(rt; channels::widths(), (43947, Ch8::new(171)));
-    let [light, shown, stored, straight] = channels_of([128, 188, 64, 128]);
+    let [light, shown, stored, straight] = [128, 188, 64, 128].map(Ch8::new);
     assert_eq!(rt; channels::modes(), (light, shown, stored, straight));
     assert_eq!(rt; channels::found(), (Some(Op::SrcOver), Some(Op::SrcOver)));
     assert_eq!(rt; channels::composited(), Ch8::new(200));
@@ -29,11 +24,11 @@ fn examples_of_channels(rt: HostRuntime) {
 fn examples_of_models(rt: HostRuntime) {
     let olive = Rgba8::new(128, 126, 0, 255);
     assert_eq!(rt; models::by_rgba(), (olive, Gray8::new(117)));
-    assert_eq!(rt; models::hues(), channels_of([85, 128, 192, 255, 64, 64]));
-    let others = channels_of([230, 90, 165, 95, 120, 255, 147, 87, 152, 229]);
+    assert_eq!(rt; models::hues(), [85, 128, 192, 255, 64, 64].map(Ch8::new));
+    let others = [230, 90, 165, 95, 120, 255, 147, 87, 152, 229].map(Ch8::new);
     assert_eq!(rt; models::others(), others);
     assert_eq!(rt; models::coverage().1, Ch8::new(128));
-    let [none, half, hue] = channels_of([0, 128, 85]);
+    let [none, half, hue] = [0, 128, 85].map(Ch8::new);
     assert_eq!(rt; models::circle(), ((none, half, none), (hue, half, half)));
 }
 
@@ -71,9 +66,11 @@ fn examples_of_rasters(rt: HostRuntime) -> Result<(), Fail> {
     assert_eq!(rt; rasters::points(rt.alloc())?, (Gray8::new(9), 12));
     let mut page = Raster::<Rgba8p>::with_clear(rt.alloc(), 64, 48)?;
     rasters::composited(rt.alloc(), &mut page)?;
-    assert_eq!(rt; page.pixel(60, 0), Rgba8p::new(0, 0, 64, 64));
+    let glazed = page.pixels().get(60).copied();
+    assert_eq!(rt; glazed, Some(Rgba8p::new(0, 0, 64, 64)));
     rasters::listed(&mut page);
-    assert_eq!(rt; page.pixel(8, 8), Rgba8p::new(0, 0, 112, 112));
+    let twice = page.pixels().get(8 * 64 + 8).copied();
+    assert_eq!(rt; twice, Some(Rgba8p::new(0, 0, 112, 112)));
     Ok(())
 }
 
