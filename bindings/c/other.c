@@ -2,7 +2,8 @@
  *
  * tools/bindings sees by it that a program refuses a library of another version or layout: the fact whose number is
  * `other_fact`, which -DOTHER_FACT=n sets, or PIX_OTHER_FACT in the environment, is one too large. Where no fact is
- * another it stands in for the archive where that would take too long to build: ./test and tools/border-faults. */
+ * another it stands in for the archive, which takes long to build: tools/bindings and tools/border-faults have the word
+ * --stand-in for that. */
 #include "pix.h"
 #include "plain.h"
 #include <stdlib.h>

@@ -145,7 +145,7 @@ static void plain_step(const plain_kind *kind, const plain_command *command, int
 
 /* Runs commands on an image: at each point the fold of those that reach it. */
 static void plain_run(const plain_kind *kind, const plain_rows *image, const plain_command *commands, size_t count) {
-    for (uint64_t y = 0; y < image->height; y++)
+    for (uint64_t y = 0; image->width && y < image->height; y++)
         for (uint64_t x = 0; x < image->width; x++) {
             unsigned char *at = image->bytes + (y * image->stride + x) * kind->channels * kind->bytes;
             uint64_t pixel[4];

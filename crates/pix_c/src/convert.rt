@@ -14,8 +14,6 @@ use pix::gray::{Gray8, SGray8};
 use pix::rgb::{Rgb8, Rgba8, Rgba8p, SRgb8, SRgba8, SRgba8p};
 
 mod bytes;
-#[cfg(test)]
-mod tests;
 
 /// Converts `count` pixels of `src`, which have the format of number `from`, to the format of number `to`, and writes them to `dst`.
 ///

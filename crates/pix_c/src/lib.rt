@@ -104,6 +104,3 @@ pub extern "C" fn pix_run_commands_graya8(
         pixels, width, height, stride, commands, done,
     )
 }
-
-#[cfg(test)]
-mod tests;
