@@ -1,4 +1,5 @@
-//! Calls as C makes them. The values are worked out by hand.
+//! Calls as C makes them: kinds and operators stand by their numbers, so that a test sees a constant that has another one. The values are
+//! worked out by hand.
 use crate::{
     BAD_KIND, BAD_OP, BAD_REGION, BAD_SIZE, BAD_SOURCE, DONE, PixCommand, PixCommandGraya8,
     PixCommandRgba16, PixGraya8, PixRegion, PixRgba8, PixRgba16, pix_run_commands,
