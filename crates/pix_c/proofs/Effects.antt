@@ -21,7 +21,7 @@ pub changed_alike : {D : Type 0} (reads : D → List ℕ) (shape : Shape) (old n
     → ChangedIn reads shape old new f → ChangedIn reads shape old new g
 changed_alike reads shape old new f g alike changed = record {
   points = λ x y lx ly. changed.points x y lx ly ∙ alike x y (read_at reads shape.stride old x y) lx ly;
-  kept = changed.kept;
+  stays = changed.stays;
 }
 
 one_effect : (layout : Layout) (effect : Effect) (f : List ℕ → List ℕ) (pixel : List ℕ) (reached : Bool) → ((p : List ℕ) → f p ≡ apply layout p effect)

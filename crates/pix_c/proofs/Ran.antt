@@ -53,5 +53,5 @@ module _ {D M : Type 0} (layout : Layout) (n : D → List ℕ) (m : M → List �
           premultiplied_bound = within_premultiplied_bound layout n m cs before after format fold;
           transparent = stays_under_transparent layout n m cs before after format fold;
         };
-        kept = ran.kept;
+        stays = ran.stays;
       }

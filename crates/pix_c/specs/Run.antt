@@ -38,5 +38,5 @@ pub record IsRun {D M : Type 0} (layout : Layout) (numbers : D → List ℕ) (ma
   -- the run on the image that lies there
   pub run : IsImageRun layout numbers mattes (map command_of commands) (image_of width height stride old) (image_of width height stride new)
   -- what stands between the rows and after them stays
-  pub kept : (place : ℕ) → IsNoPoint (record { width = width; height = height; stride = stride }) place
+  pub stays : (place : ℕ) → IsNoPoint (record { width = width; height = height; stride = stride }) place
       → slice_index_or (map numbers new) place [] ≡ slice_index_or (map numbers old) place []

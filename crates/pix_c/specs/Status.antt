@@ -15,7 +15,7 @@ is_sized width height stride count =
 abbrev pub fits : PixRegion → Bool
 fits r = nat_le r.width limit && nat_le r.height limit
 
--- whether a command has the pixels or the mattes that its kind reads
+-- whether a command has what its kind reads: the pixels of an image that is copied (2) or composited (4), or the mattes of a color (5)
 abbrev pub has_source : {D M : Type 0} → FlatCommand D M → Bool
 has_source c =
     if nat_eq c.kind 2 || nat_eq c.kind 4 then is_sized c.width c.height c.stride (length c.pixels.now)

@@ -26,7 +26,7 @@ pub struct PixRegion {
 #[derive(Clone, Copy, Drop)]
 pub struct PixCommand<'a> {
     /// What is done: 0 clears the image, 1 copies a color, 2 copies an image, 3 composites a color, 4 composites an image, and 5
-    /// composites a color through mattes.
+    /// composites a color through mattes. The constants of `kind.rt` name them.
     pub kind: u32,
     /// The number of the operator, its index in `Op::ALL`.
     pub op: u32,

@@ -16,6 +16,7 @@ mod command;
 mod convert;
 mod copy;
 mod format;
+mod kind;
 mod layout;
 mod operator;
 mod paint;

@@ -9,6 +9,7 @@ ghost use Rattle.pix_c.specs.Status.{fits, fault_of};
 use crate::command::{FlatCommand, PixRegion};
 use crate::copy::{CopiedColor, CopiedPixels};
 use crate::format::{Flat, FlatPixel};
+use crate::kind;
 use crate::operator::op_at;
 use crate::sixteen::{CompositedColor, CompositedPixels, MattedColor};
 use pix::Region;
@@ -70,11 +71,11 @@ impl<
         let to = region_of(command.to);
         let from = region_of(command.from);
         match command.kind {
-            3 => {
+            kind::COMPOSITE_COLOR => {
                 let clr = command.color.read();
                 fill_region(pixels, shape, to, &CompositedColor::<P, O> { clr, op });
             }
-            4 => {
+            kind::COMPOSITE_IMAGE => {
                 let change = CompositedPixels::<P, O> {
                     op,
                     format: PhantomData,
@@ -107,16 +108,16 @@ pub(crate) fn paint<
         (command_of command.now ∷ [])) }
 {
     match command.kind {
-        0 => {
+        kind::CLEAR => {
             let clr = D::write(&P::default());
             let all = Region::new(0, 0, shape.width, shape.height);
             fill_region(pixels, shape, all, &CopiedColor { clr });
         }
-        1 => {
+        kind::COPY_COLOR => {
             let clr = command.color;
             fill_region(pixels, shape, region_of(command.to), &CopiedColor { clr });
         }
-        2 => blit_region(
+        kind::COPY_IMAGE => blit_region(
             pixels,
             shape,
             region_of(command.to),

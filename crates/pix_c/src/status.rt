@@ -3,6 +3,7 @@ ghost use Rattle.std.specs.Prelude.{◌≡◌, map};
 ghost use Rattle.pix_c.specs.Status.{fits, has_source, fault_of, first_fault, count_before_fault};
 
 use crate::command::{FlatCommand, Flatten, PixRegion};
+use crate::kind;
 use crate::size::{LIMIT, is_sized};
 use pix::ops::Op;
 
@@ -43,8 +44,13 @@ fn has_source<D, M>(command: &FlatCommand<'_, D, M>) -> bool
 {
     let (width, height, stride) = (command.width, command.height, command.stride);
     match command.kind {
-        2 | 4 => is_sized(width, height, stride, command.pixels.len()),
-        5 => is_sized(width, height, stride, command.mattes.len()),
+        kind::COPY_IMAGE | kind::COMPOSITE_IMAGE => is_sized(
+            width,
+            height,
+            stride,
+            command.pixels.len(),
+        ),
+        kind::COMPOSITE_MATTE => is_sized(width, height, stride, command.mattes.len()),
         _ => true,
     }
 }
@@ -53,7 +59,7 @@ fn has_source<D, M>(command: &FlatCommand<'_, D, M>) -> bool
 fn fault_of<D, M>(command: &FlatCommand<'_, D, M>) -> u32
     ensures { result ≡ fault_of command.now }
 {
-    if command.kind > 5 {
+    if command.kind > kind::COMPOSITE_MATTE {
         return BAD_KIND;
     }
     if !fits(command.to) || !fits(command.from) {

@@ -22,7 +22,7 @@ far shape x y none = elim (cases_lt x shape.width) [
   | inr right ↦ inl right
 ]
 
--- what is changed in a part of an image is changed at each of its points, and kept elsewhere
+-- what is changed in a part of an image is changed at each of its points, and stays elsewhere
 pub changed_in_box : {D : Type 0} (reads : D → List ℕ) (shape : Shape) (old new : List D) (columns rows : Range ℕ) (f g : ℕ → ℕ → List ℕ → List ℕ)
     → columns.end ≤ shape.width → rows.end ≤ shape.height → shape.width ≤ shape.stride → 0 < shape.width
     → ((x y : ℕ) → x < shape.stride → read_at reads shape.stride new x y ≡ where_in columns rows f x y (read_at reads shape.stride old x y))
@@ -30,7 +30,7 @@ pub changed_in_box : {D : Type 0} (reads : D → List ℕ) (shape : Shape) (old 
     → ChangedIn reads shape old new g
 changed_in_box reads shape old new columns rows f g across down apart some changed is = record {
   points = λ x y lx ly. changed x y (omega arith) ∙ is x y (read_at reads shape.stride old x y) lx ly;
-  kept = λ place none.
+  stays = λ place none.
       let x : ℕ = place % shape.stride in
       let y : ℕ = place / shape.stride in
       let e : y * shape.stride + x ≡ place = omega arith in

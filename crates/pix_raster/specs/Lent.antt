@@ -23,7 +23,7 @@ IsNoPoint shape place = (x y : ℕ) → x < shape.width → y < shape.height →
 pub record ChangedIn {D : Type 0} (reads : D → List ℕ) (shape : Shape) (old new : List D) (f : ℕ → ℕ → List ℕ → List ℕ) : Type 0 where
   pub points : (x y : ℕ) → x < shape.width → y < shape.height
       → read_at reads shape.stride new x y ≡ f x y (read_at reads shape.stride old x y)
-  pub kept : (place : ℕ) → IsNoPoint shape place → slice_index_or (map reads new) place [] ≡ slice_index_or (map reads old) place []
+  pub stays : (place : ℕ) → IsNoPoint shape place → slice_index_or (map reads new) place [] ≡ slice_index_or (map reads old) place []
 
 -- f of what stands at each point of a rectangle, and what stands elsewhere
 abbrev pub where_covered : {X : Type 0} → Rectangle → (X → X) → ℕ → ℕ → X → X

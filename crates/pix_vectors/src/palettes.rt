@@ -60,15 +60,15 @@ fn no_greater(p: [u8; 3], q: [u8; 3]) -> bool {
     p[0] <= q[0] && p[1] <= q[1] && p[2] <= q[2]
 }
 
-/// The last record of a color, found from the definition: from each record to the first later entry that is closer.
-fn last_record(entries: &[[u8; 3]], color: [u8; 3]) -> Option<usize> {
-    let mut record = None;
+/// The last candidate of a color, found from the definition: from each candidate to the first later entry that is closer.
+fn last_candidate(entries: &[[u8; 3]], color: [u8; 3]) -> Option<usize> {
+    let mut last = None;
     let mut next = if entries.is_empty() { None } else { Some(0) };
     for _ in 0..=entries.len() {
         let Some(i) = next else {
             break;
         };
-        record = next;
+        last = next;
         let Some(entry) = entries.get(i) else {
             break;
         };
@@ -78,11 +78,11 @@ fn last_record(entries: &[[u8; 3]], color: [u8; 3]) -> Option<usize> {
             k > i && no_greater(difference, least) && difference != least
         });
     }
-    record
+    last
 }
 
 #[test]
-fn random_colors_are_set_as_their_records_say(rt: HostRuntime) -> Result<(), Fail> {
+fn random_colors_are_set_as_their_candidates_say(rt: HostRuntime) -> Result<(), Fail> {
     let mut random = Random { state: 7 };
     for round in 0..40_u32 {
         let limit = usize::from(random.next()) * 5;
@@ -104,7 +104,7 @@ fn random_colors_are_set_as_their_records_say(rt: HostRuntime) -> Result<(), Fai
             } else {
                 [4, 5, 6]
             };
-            let found = last_record(&entries, color).filter(|m| {
+            let found = last_candidate(&entries, color).filter(|m| {
                 entries
                     .get(*m)
                     .is_some_and(|e| no_greater(apart(*e, color), least))

@@ -21,7 +21,7 @@ paint-requires-clause-sound g c =
     ap fault_of (c.flat.ensures ∙ sym here) ∙ none_at (map flat commands) i (flat item) c.requires.sound (omega (arith, length-map commands flat))
 
 pub loop-command-init : goal.loop-command-init
-loop-command-init g c = record { rest = λ x y lx ly. refl; kept = λ place none. refl }
+loop-command-init g c = record { rest = λ x y lx ly. refl; stays = λ place none. refl }
 
 pub loop-command-preserved : goal.loop-command-preserved
 loop-command-preserved g c =
@@ -47,7 +47,7 @@ loop-command-preserved g c =
           ap (run_at layout n m dest (drop (i + 1) all) x y) (done.points x y lx ly)
           ∙ run_more layout n m dest all i command x y (read_at n shape.stride c.loop-command.pixels x y) within is
           ∙ c.loop-command.invariant.rest x y lx ly;
-      kept = λ place none. done.kept place none ∙ c.loop-command.invariant.kept place none;
+      stays = λ place none. done.stays place none ∙ c.loop-command.invariant.stays place none;
     }
 
 pub returns : goal.returns
@@ -58,5 +58,5 @@ returns g c =
     record {
       points = λ x y lx ly.
           rw (drop_all c.loop-command.command-index all (omega (arith, length-map commands flat, length-map (map flat commands) (command_of {D = g.row.D.Denot} {M = g.row.M.Denot})))) at (c.loop-command.invariant.rest x y lx ly);
-      kept = c.loop-command.invariant.kept;
+      stays = c.loop-command.invariant.stays;
     }

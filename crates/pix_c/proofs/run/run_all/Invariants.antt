@@ -16,5 +16,5 @@ invariant-loop-command g l =
     record {
       rest : (x y : ℕ) → x < l.fn.shape.width → y < l.fn.shape.height
           → run (drop l.command-index all) x y (read l.pixels x y) ≡ run all x y (read l.initial.pixels x y);
-      kept : (place : ℕ) → IsNoPoint l.fn.shape place → get_or (map n l.pixels) place [] ≡ get_or (map n l.initial.pixels) place [];
+      stays : (place : ℕ) → IsNoPoint l.fn.shape place → get_or (map n l.pixels) place [] ≡ get_or (map n l.initial.pixels) place [];
     }

@@ -3,7 +3,7 @@ use Rattle.std.specs.Prelude.{pos, unsigned_abs, ◌*ℤ◌}
 use Rattle.std.proofs.Common.{◌≡◌, ◌<◌, ◌∙◌, ap, w64, to_z, of_z, arith, to_z-of_z}
 use Rattle.std.proofs.lemmas.Int.{ints}
 use Rattle.pix_color.proofs.Narrow.{narrow}
-use Rattle.pix_color.proofs.Sums.{kept, product_small}
+use Rattle.pix_color.proofs.Sums.{stays, product_small}
 use Rattle.pix_color.proofs.linear.weighted.Given.{Over}
 use Rattle.pix_color.proofs.linear.weighted.Goals as goal
 use Rattle.pix_color.proofs.linear.weighted.Goals.{After-from}
@@ -25,8 +25,8 @@ product_is g c =
     let n = g.C.Channel.number c.args.channel in
     let w : to_z w64 (of_z w64 c.args.weight) ≡ c.args.weight = to_z-of_z c.ranges.weight in
     let r : to_z w64 (of_z w64 (pos n)) ≡ pos n =
-    kept (pos n) (omega (arith, ints, g.met.C.Channel.numbered.fits c.args.channel, narrow g.C.Channel.max g.met.C.Channel.laws)) in
-    rw (number_is g c, w, r) (kept (c.args.weight *ℤ pos n) (omega (arith, small g c)))
+    stays (pos n) (omega (arith, ints, g.met.C.Channel.numbered.fits c.args.channel, narrow g.C.Channel.max g.met.C.Channel.laws)) in
+    rw (number_is g c, w, r) (stays (c.args.weight *ℤ pos n) (omega (arith, small g c)))
 
 pub returns-clause-value : goal.returns-clause-value
 returns-clause-value g c = product_is g c

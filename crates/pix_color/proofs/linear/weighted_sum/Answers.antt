@@ -3,7 +3,7 @@ use Rattle.std.specs.Prelude.{pos, ◌+ℤ◌, ◌*ℤ◌}
 use Rattle.std.proofs.Common.{◌≡◌, ◌∙◌, ap, w64, to_z, of_z, arith, refl}
 use Rattle.std.proofs.lemmas.Int.{ints, int_max_is}
 use Rattle.pix_color.proofs.Nearest.{nearest-same, nearest-cut}
-use Rattle.pix_color.proofs.Sums.{fits, kept, sum_small, cut_kept}
+use Rattle.pix_color.proofs.Sums.{fits, stays, sum_small, cut_stays}
 use Rattle.pix_color.proofs.linear.weighted_sum.Goals as goal
 
 pub overflow_add-sum-2 : goal.overflow_add-sum-2
@@ -16,7 +16,7 @@ overflow_add-sum-2 g c =
     let hd = c.weighted-3.ensures.small in
     let ab = sum_small a b 274877906944 274877906944 ha hb in
     let abd = sum_small (a +ℤ b) d 549755813888 274877906944 ab hd in
-    rw (kept a (omega (arith, ha)), kept b (omega (arith, hb)), kept d (omega (arith, hd)), kept (a +ℤ b) (omega (arith, ab))) (fits (a +ℤ b +ℤ d) (omega (arith, abd)))
+    rw (stays a (omega (arith, ha)), stays b (omega (arith, hb)), stays d (omega (arith, hd)), stays (a +ℤ b) (omega (arith, ab))) (fits (a +ℤ b +ℤ d) (omega (arith, abd)))
 
 pub overflow_add-sum-3 : goal.overflow_add-sum-3
 overflow_add-sum-3 g c =
@@ -31,7 +31,7 @@ overflow_add-sum-3 g c =
     let ab = sum_small a b 274877906944 274877906944 ha hb in
     let abd = sum_small (a +ℤ b) d 549755813888 274877906944 ab hd in
     let abde = sum_small (a +ℤ b +ℤ d) e 824633720832 274877906944 abd he in
-    rw (kept a (omega (arith, ha)), kept b (omega (arith, hb)), kept d (omega (arith, hd)), kept e (omega (arith, he)), kept (a +ℤ b) (omega (arith, ab)), kept (a +ℤ b +ℤ d) (omega (arith, abd)))
+    rw (stays a (omega (arith, ha)), stays b (omega (arith, hb)), stays d (omega (arith, hd)), stays e (omega (arith, he)), stays (a +ℤ b) (omega (arith, ab)), stays (a +ℤ b +ℤ d) (omega (arith, abd)))
     (fits (a +ℤ b +ℤ d +ℤ e) (omega (arith, abde)))
 
 pub from_ratio-requires-clause-sum_fits : goal.from_ratio-requires-clause-sum_fits
@@ -40,25 +40,25 @@ from_ratio-requires-clause-sum_fits g c =
     let hb = c.weighted-2.ensures.small in
     let hd = c.weighted-3.ensures.small in
     let he = c.weighted-4.ensures.small in
-    let cut = cut_kept c.weighted.result c.weighted-2.result c.weighted-3.result c.weighted-4.result c.max.result
+    let cut = cut_stays c.weighted.result c.weighted-2.result c.weighted-3.result c.weighted-4.result c.max.result
     c.weighted.ensures.small c.weighted-2.ensures.small c.weighted-3.ensures.small c.weighted-4.ensures.small
     (omega (arith, ints, c.max.type_inv)) c.max.ensures.value in
-    let whole : to_z w64 (of_z w64 c.from.result) ≡ pos c.args.whole = kept c.from.result (omega (arith, ints, c.from.type_inv)) ∙ c.from.ensures in
+    let whole : to_z w64 (of_z w64 c.from.result) ≡ pos c.args.whole = stays c.from.result (omega (arith, ints, c.from.type_inv)) ∙ c.from.ensures in
     let sum = c.weighted.result +ℤ c.weighted-2.result +ℤ c.weighted-3.result +ℤ c.weighted-4.result in
     rw (cut, whole) (omega (arith, ints, int_max_is sum (pos 0), ha, hb, hd, he, c.requires.small))
 
 pub returns : goal.returns
 returns g c =
     let n = g.C.Channel.number in
-    let first : to_z w64 (of_z w64 c.args.first.0) ≡ c.args.first.0 = kept c.args.first.0 (omega (arith, c.requires.first)) in
-    let second : to_z w64 (of_z w64 c.args.second.0) ≡ c.args.second.0 = kept c.args.second.0 (omega (arith, c.requires.second)) in
-    let third : to_z w64 (of_z w64 c.args.third.0) ≡ c.args.third.0 = kept c.args.third.0 (omega (arith, c.requires.third)) in
-    let offset : to_z w64 (of_z w64 c.args.offset) ≡ c.args.offset = kept c.args.offset (omega (arith, c.requires.offset)) in
+    let first : to_z w64 (of_z w64 c.args.first.0) ≡ c.args.first.0 = stays c.args.first.0 (omega (arith, c.requires.first)) in
+    let second : to_z w64 (of_z w64 c.args.second.0) ≡ c.args.second.0 = stays c.args.second.0 (omega (arith, c.requires.second)) in
+    let third : to_z w64 (of_z w64 c.args.third.0) ≡ c.args.third.0 = stays c.args.third.0 (omega (arith, c.requires.third)) in
+    let offset : to_z w64 (of_z w64 c.args.offset) ≡ c.args.offset = stays c.args.offset (omega (arith, c.requires.offset)) in
     let max : n c.MAX.result ≡ g.C.Channel.max = ap n c.MAX.ensures ∙ g.met.C.Channel.max_is_maximum in
-    let cut = cut_kept c.weighted.result c.weighted-2.result c.weighted-3.result c.weighted-4.result c.max.result
+    let cut = cut_stays c.weighted.result c.weighted-2.result c.weighted-3.result c.weighted-4.result c.max.result
     c.weighted.ensures.small c.weighted-2.ensures.small c.weighted-3.ensures.small c.weighted-4.ensures.small
     (omega (arith, ints, c.max.type_inv)) c.max.ensures.value in
-    let whole : to_z w64 (of_z w64 c.from.result) ≡ pos c.args.whole = kept c.from.result (omega (arith, ints, c.from.type_inv)) ∙ c.from.ensures in
+    let whole : to_z w64 (of_z w64 c.from.result) ≡ pos c.args.whole = stays c.from.result (omega (arith, ints, c.from.type_inv)) ∙ c.from.ensures in
     let sum : c.weighted.result +ℤ c.weighted-2.result +ℤ c.weighted-3.result +ℤ c.weighted-4.result
     ≡ c.args.first.0 *ℤ pos (n c.args.first.1) +ℤ c.args.second.0 *ℤ pos (n c.args.second.1)
     +ℤ c.args.third.0 *ℤ pos (n c.args.third.1) +ℤ c.args.offset *ℤ pos g.C.Channel.max =

@@ -1,0 +1,19 @@
+//! Kinds of commands: what a command does, by the number in its field `kind`. `pix.h` has them as `pix_kind`.
+
+/// The image is cleared.
+pub const CLEAR: u32 = 0;
+
+/// A color is copied.
+pub const COPY_COLOR: u32 = 1;
+
+/// A region of an image is copied.
+pub const COPY_IMAGE: u32 = 2;
+
+/// A color is composited.
+pub const COMPOSITE_COLOR: u32 = 3;
+
+/// A region of an image is composited.
+pub const COMPOSITE_IMAGE: u32 = 4;
+
+/// A color is composited through mattes.
+pub const COMPOSITE_MATTE: u32 = 5;
