@@ -285,6 +285,8 @@ pub trait Channel: Sealed
     /// Sixteen channels fit in memory.
     ghost small: { 16 * size (lone Self.row.mir) < 2 ^ 63 };
 
-    /// The laws of the quotient, of steps, of `lerp`, of the nearest ratio and of depth, closed: `known_laws` opens them.
+    /// The laws of the quotient, of steps, of `lerp`, of the nearest ratio and of depth.
+    ///
+    /// The record is closed, and `known_laws` opens it for a proof.
     ghost laws: { ChannelLaws max };
 }

@@ -45,7 +45,8 @@ pub fn there_and_back(channel: Ch8) -> Ch8
     Ch8::from(Ch16::from(channel))
 }
 
-/// Divides a channel by one that is no smaller, and multiplies it again: it is at most one unit off.
+/// Divides a channel by one that is no smaller, and multiplies it again: at most one unit is lost
+/// or gained.
 pub fn restored<C: Channel>(part: C, whole: C) -> C
     requires { C.number part ≤ C.number whole }
     ensures above { C.number result ≤ C.number part + 1 }
