@@ -1,5 +1,6 @@
 -- The files of lemmas. Answers, invariants and proofs of a function are found by its path.
 pub mod Whole
+pub mod Answered
 pub mod Rising
 pub mod LaneProduct
 pub mod Lanes

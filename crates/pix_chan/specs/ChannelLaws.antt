@@ -3,7 +3,7 @@ use Rattle.std.specs.Prelude.{ℕ, ◌<◌}
 use Rattle.std.proofs.Common.{arith}
 use Rattle.pix_chan.specs.Product.{channel_product, fineness}
 use Rattle.pix_chan.specs.Depth.{IsDepth}
-use Rattle.pix_chan.specs.Laws.{Laws, ChannelLaws}
+use Rattle.pix_chan.specs.Laws.{ChannelLaws}
 use Rattle.pix_chan.specs.ProductLaws.{product_laws}
 use Rattle.pix_chan.specs.QuotientLaws.{quotient_laws}
 use Rattle.pix_chan.specs.StepLaws.{step_laws, lerp_laws}
@@ -19,8 +19,3 @@ channel_laws max wide depth = record {
   nearest = nearest_laws max;
   depth = depth;
 }
-
--- The laws, for a proof that uses them.
-pub known_laws : (max : ℕ) → ChannelLaws max → Laws max
-unfolding ChannelLaws
-known_laws max laws = laws

@@ -13,6 +13,11 @@ pub record Laws (max : ℕ) : Type 0 where
   pub nearest : IsNearest max (nearest max)
   pub depth : IsDepth max
 
--- these laws, for a proof that asks for them; the search of a proof passes them by
+-- these laws as a channel has them (the member `laws` of `Channel`), closed, so that the search of a proof passes them by
 unfoldable pub ChannelLaws : ℕ → Type 0
 ChannelLaws max = Laws max
+
+-- Opens them, for a proof that uses one: known_laws _ g.met.C.Channel.laws, under a bound C: Channel.
+pub known_laws : (max : ℕ) → ChannelLaws max → Laws max
+unfolding ChannelLaws
+known_laws max laws = laws

@@ -1,5 +1,5 @@
 -- The nearest whole number to a ratio.
-use Rattle.std.specs.Prelude.{ℕ, ℤ, pos, negsuc, ◌+ℤ◌, ◌-ℤ◌, ◌*ℤ◌, ◌*◌, ◌/◌, ◌<◌, ◌≤◌, min, unsigned_abs}
+use Rattle.std.specs.Prelude.{ℕ, ℤ, pos, negsuc, ◌+ℤ◌, ◌-ℤ◌, ◌*ℤ◌, ◌<ℤ◌, ◌/◌, ◌<◌, ◌≤◌, min, unsigned_abs}
 
 -- an integer, 0 where it is negative
 abbrev pub cut_below : ℤ → ℕ
@@ -11,11 +11,11 @@ unfoldable pub nearest : ℕ → ℤ → ℤ → ℕ
 nearest max n d = min max (cut_below (pos 2 *ℤ n +ℤ d) / cut_below (pos 2 *ℤ d))
 
 -- the distance between n / d and k, times d
-abbrev pub distance : ℤ → ℕ → ℕ → ℕ
-distance n d k = unsigned_abs (pos (k * d) -ℤ n)
+abbrev pub distance : ℤ → ℤ → ℕ → ℕ
+distance n d k = unsigned_abs (pos k *ℤ d -ℤ n)
 
 -- No number of 0..max is nearer to n / d, and of two that are equally near it is the greater.
 pub record IsNearest (max : ℕ) (nearest : ℤ → ℤ → ℕ) : Type 0 where
-  pub fits : (n : ℤ) (d : ℕ) → nearest n (pos d) ≤ max
-  pub none_nearer : (n : ℤ) (d k : ℕ) → 0 < d → k ≤ max → distance n d (nearest n (pos d)) ≤ distance n d k
-  pub ties_up : (n : ℤ) (d k : ℕ) → 0 < d → k ≤ max → nearest n (pos d) < k → distance n d (nearest n (pos d)) < distance n d k
+  pub fits : (n d : ℤ) → nearest n d ≤ max
+  pub none_nearer : (n d : ℤ) (k : ℕ) → pos 0 <ℤ d → k ≤ max → distance n d (nearest n d) ≤ distance n d k
+  pub ties_up : (n d : ℤ) (k : ℕ) → pos 0 <ℤ d → k ≤ max → nearest n d < k → distance n d (nearest n d) < distance n d k

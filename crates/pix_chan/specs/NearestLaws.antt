@@ -1,5 +1,5 @@
 -- The laws of the nearest ratio. No public clause cites this file.
-use Rattle.std.specs.Prelude.{◌≡◌, ℕ, ℤ, suc, pos, negsuc, ◌+ℤ◌, ◌*ℤ◌, ◌≤ℤ◌, ◌+◌, ◌-◌, ◌*◌, ◌/◌, ◌<◌, ◌≤◌, ◌⊎◌, min, refl}
+use Rattle.std.specs.Prelude.{◌≡◌, ℕ, ℤ, suc, pos, negsuc, ◌+ℤ◌, ◌*ℤ◌, ◌<ℤ◌, ◌≤ℤ◌, ◌+◌, ◌-◌, ◌*◌, ◌/◌, ◌<◌, ◌≤◌, ◌⊎◌, min, refl}
 use Rattle.std.proofs.Common.{arith, ap, subst, sym, inl, inr}
 use Rattle.std.proofs.Math.Nat.{mul-le-mul_right, div-mul-le_self, lt-mul-div-succ, eq-or-lt_of_le}
 use Rattle.std.proofs.lemmas.Nat.{div_below}
@@ -8,10 +8,10 @@ use Rattle.std.proofs.lemmas.Int.{ints}
 use Rattle.pix_chan.specs.Nearest.{cut_below, nearest, distance, IsNearest}
 
 -- how far a natural number a is from k times d
-away_up : (a d k : ℕ) → distance (pos a) d k ≡ (k * d - a) + (a - k * d)
+away_up : (a d k : ℕ) → distance (pos a) (pos d) k ≡ (k * d - a) + (a - k * d)
 away_up a d k = omega (arith, ints)
 
-away_down : (a d k : ℕ) → distance (negsuc a) d k ≡ k * d + suc a
+away_down : (a d k : ℕ) → distance (negsuc a) (pos d) k ≡ k * d + suc a
 away_down a d k = omega (arith, ints)
 
 -- r is the nearest to a / d: 2 * a + d is between 2 * r * d and 2 * (r + 1) * d, but where r is 0 or the maximum
@@ -82,7 +82,7 @@ unfolding nearest
 nearest_natural max a d = refl
 
 -- the distances, by natural numbers
-nearest_up : (max a d k : ℕ) → 0 < d → k ≤ max → (r : ℕ) → Rounded max a d r → distance (pos a) d r ≤ distance (pos a) d k
+nearest_up : (max a d k : ℕ) → 0 < d → k ≤ max → (r : ℕ) → Rounded max a d r → distance (pos a) (pos d) r ≤ distance (pos a) (pos d) k
 nearest_up max a d k h u r g = rw (away_up a d r, away_up a d k) (elim (cases_lt r k) [
   | inl l ↦ omega (arith, greater_by max a d r k g h u l)
   | inr l ↦ elim (eq-or-lt_of_le l) [
@@ -91,25 +91,30 @@ nearest_up max a d k h u r g = rw (away_up a d r, away_up a d k) (elim (cases_lt
   ]
 ])
 
-nearest_none_nearer : (max : ℕ) (n : ℤ) (d k : ℕ) → 0 < d → k ≤ max → distance n d (nearest max n (pos d)) ≤ distance n d k
-nearest_none_nearer max (pos a) d k h u =
-    let g : Rounded max a d (nearest max (pos a) (pos d)) = rw (nearest_natural max a d) (rounded max a d h) in
-    nearest_up max a d k h u _ g
-nearest_none_nearer max (negsuc a) d k h u =
-    let e : nearest max (negsuc a) (pos d) ≡ 0 = nearest_negative max a d h in
-    subst (λ r. distance (negsuc a) d r ≤ distance (negsuc a) d k) (sym e) (omega (arith, away_down a d 0, away_down a d k))
+nearest_none_nearer : (max : ℕ) (n d : ℤ) (k : ℕ) → pos 0 <ℤ d → k ≤ max → distance n d (nearest max n d) ≤ distance n d k
+nearest_none_nearer max n (negsuc d) k h u = absurd (omega (arith, ints))
+nearest_none_nearer max (pos a) (pos d) k h u =
+    let some : 0 < d = omega (arith, ints) in
+    let g : Rounded max a d (nearest max (pos a) (pos d)) = rw (nearest_natural max a d) (rounded max a d some) in
+    nearest_up max a d k some u _ g
+nearest_none_nearer max (negsuc a) (pos d) k h u =
+    let e : nearest max (negsuc a) (pos d) ≡ 0 = nearest_negative max a d (omega (arith, ints)) in
+    subst (λ r. distance (negsuc a) (pos d) r ≤ distance (negsuc a) (pos d) k) (sym e) (omega (arith, away_down a d 0, away_down a d k))
 
-nearest_ties_up : (max : ℕ) (n : ℤ) (d k : ℕ) → 0 < d → k ≤ max → nearest max n (pos d) < k → distance n d (nearest max n (pos d)) < distance n d k
-nearest_ties_up max (pos a) d k h u l =
-    let g : Rounded max a d (nearest max (pos a) (pos d)) = rw (nearest_natural max a d) (rounded max a d h) in
-    omega (arith, away_up a d (nearest max (pos a) (pos d)), away_up a d k, greater_by max a d _ k g h u l)
-nearest_ties_up max (negsuc a) d k h u l =
-    let e : nearest max (negsuc a) (pos d) ≡ 0 = nearest_negative max a d h in
+nearest_ties_up : (max : ℕ) (n d : ℤ) (k : ℕ) → pos 0 <ℤ d → k ≤ max → nearest max n d < k → distance n d (nearest max n d) < distance n d k
+nearest_ties_up max n (negsuc d) k h u l = absurd (omega (arith, ints))
+nearest_ties_up max (pos a) (pos d) k h u l =
+    let some : 0 < d = omega (arith, ints) in
+    let g : Rounded max a d (nearest max (pos a) (pos d)) = rw (nearest_natural max a d) (rounded max a d some) in
+    omega (arith, away_up a d (nearest max (pos a) (pos d)), away_up a d k, greater_by max a d _ k g some u l)
+nearest_ties_up max (negsuc a) (pos d) k h u l =
+    let some : 0 < d = omega (arith, ints) in
+    let e : nearest max (negsuc a) (pos d) ≡ 0 = nearest_negative max a d some in
     let m : 0 < k = omega arith in
     let w : 1 * d ≤ k * d = mul-le-mul_right d m in
-    subst (λ r. distance (negsuc a) d r < distance (negsuc a) d k) (sym e) (omega (arith, away_down a d 0, away_down a d k))
+    subst (λ r. distance (negsuc a) (pos d) r < distance (negsuc a) (pos d) k) (sym e) (omega (arith, away_down a d 0, away_down a d k))
 
-nearest_fits : (max : ℕ) (n : ℤ) (d : ℕ) → nearest max n (pos d) ≤ max
+nearest_fits : (max : ℕ) (n d : ℤ) → nearest max n d ≤ max
 unfolding nearest
 nearest_fits max n d = omega arith
 

@@ -125,10 +125,10 @@ moved_between : (a b s : ℤ) → IsBetween (pos 0) (b -ℤ a) s → IsBetween a
 moved_between a b s (inl h) = let lo : pos 0 ≤ℤ s = h.0 in let hi : s ≤ℤ (b -ℤ a) = h.1 in inl (omega (arith, ints), omega (arith, ints))
 moved_between a b s (inr h) = let lo : (b -ℤ a) ≤ℤ s = h.0 in let hi : s ≤ℤ pos 0 = h.1 in inr (omega (arith, ints), omega (arith, ints))
 
-back_at : (a b : ℤ) → a +ℤ (b -ℤ a) ≡ b
+pub back_at : (a b : ℤ) → a +ℤ (b -ℤ a) ≡ b
 back_at a b = omega (arith, ints)
 
-times_sum : (m : ℕ) (a s : ℤ) → pos m *ℤ (a +ℤ s) ≡ pos m *ℤ a +ℤ pos m *ℤ s
+pub times_sum : (m : ℕ) (a s : ℤ) → pos m *ℤ (a +ℤ s) ≡ pos m *ℤ a +ℤ pos m *ℤ s
 times_sum m a s =
     let e : up (a +ℤ s) + (down a + down s) ≡ down (a +ℤ s) + (up a + up s) = omega (arith, ints) in
     let k : m * (up (a +ℤ s) + (down a + down s)) ≡ m * (down (a +ℤ s) + (up a + up s)) = ap (λ n. m * n) e in

@@ -1,12 +1,12 @@
 //! Channels: whole numbers of units from 0 to the maximum of their width.
-ghost use Rattle.std.specs.Prelude.{◌≡◌, ℕ, ◌+◌, ◌-◌, ◌*◌, ◌^◌, ◌<◌, nat_eq, pos, ◌+ℤ◌, ◌*ℤ◌, ◌<ℤ◌, map, ◌++◌};
+ghost use Rattle.std.specs.Prelude.{◌≡◌, ℕ, ◌+◌, ◌-◌, ◌*◌, ◌^◌, ◌<◌, ◌≤◌, nat_eq, pos, ◌+ℤ◌, ◌*ℤ◌, ◌<ℤ◌, map, ◌++◌};
 ghost use Rattle.std.specs.Ordering.{nat_cmp};
 ghost use prog.Memory.{size};
 ghost use denote.Memory.{lone};
 ghost use Rattle.pix_chan.specs.Number.{saturating_sum, saturating_difference, wrapping_sum, wrapping_difference};
 ghost use Rattle.pix_chan.specs.Product.{channel_product, channel_quotient, fineness, IsProduct};
-ghost use Rattle.pix_chan.specs.Step.{channel_lerp};
-ghost use Rattle.pix_chan.specs.Nearest.{nearest};
+ghost use Rattle.pix_chan.specs.Step.{channel_lerp, IsBetween};
+ghost use Rattle.pix_chan.specs.Nearest.{nearest, distance};
 ghost use Rattle.pix_chan.specs.Depth.{to_16_bit, from_16_bit};
 ghost use Rattle.pix_chan.specs.Laws.{ChannelLaws};
 ghost use Rattle.pix_chan.specs.Channel.{IsNumbered, IsTotal, Answers};
@@ -123,7 +123,17 @@ pub trait Channel: Sealed
     /// let between = start.lerp(end, fifth); // 120
     /// ```
     fn lerp(self, rhs: Self, t: Self) -> Self
-        ensures { pos (number result) ≡ channel_lerp max (number self) (number rhs) (number t) };
+        ensures value { pos (number result)
+            ≡ channel_lerp max (number self) (number rhs) (number t) }
+        ensures between { IsBetween
+            (pos (number self)) (pos (number rhs)) (pos (number result)) }
+        ensures ends { (number t ≡ 0 → number result ≡ number self)
+            × (number t ≡ max → number result ≡ number rhs) }
+        // It is less than one unit above the exact place on the way, and less than one below.
+        ensures above { max * number result
+            < (max - number t) * number self + number t * number rhs + max }
+        ensures below { (max - number t) * number self + number t * number rhs
+            < max * number result + max };
 
     /// Returns the channel nearest to `n / d` units, ties up, clamped to `MIN` and `MAX`.
     ///
@@ -140,7 +150,11 @@ pub trait Channel: Sealed
         requires positive { pos 0 <ℤ d }
         requires sum_fits { (pos 2 *ℤ n +ℤ d) <ℤ pos (2 ^ 63) }
         requires twice_fits { (pos 2 *ℤ d) <ℤ pos (2 ^ 63) }
-        ensures { number result ≡ nearest max n d };
+        ensures value { number result ≡ nearest max n d }
+        ensures none_nearer { (k : ℕ) → k ≤ max
+            → distance n d (number result) ≤ distance n d k }
+        ensures ties_up { (k : ℕ) → k ≤ max → number result < k
+            → distance n d (number result) < distance n d k };
 
     /// Multiplies each channel of `dst` by the channel of `by` of the same index; the shorter length decides, and the rest stays.
     #[inline(always)]
@@ -272,5 +286,7 @@ pub trait Channel: Sealed
     ghost small: { 16 * size (lone Self.row.mir) < 2 ^ 63 };
 
     /// The laws of the quotient, of steps, of `lerp`, of the nearest ratio and of depth.
+    ///
+    /// The record is closed, and `known_laws` opens it for a proof.
     ghost laws: { ChannelLaws max };
 }

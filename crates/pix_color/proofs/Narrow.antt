@@ -1,7 +1,6 @@
 -- A maximum that has a depth is below 2^16.
 use Rattle.std.proofs.Common.{◌≡◌, ℕ, ◌<◌, ◌*◌, ◌/◌, arith}
-use Rattle.pix_chan.specs.Laws.{ChannelLaws}
-use Rattle.pix_chan.specs.ChannelLaws.{known_laws}
+use Rattle.pix_chan.specs.Laws.{ChannelLaws, known_laws}
 
 pub narrow : (max : ℕ) → ChannelLaws max → max < 65536
 narrow max laws =

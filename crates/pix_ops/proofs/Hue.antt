@@ -15,8 +15,7 @@ use Rattle.pix_chan.specs.Product.{channel_product, IsProduct}
 use Rattle.pix_chan.specs.Step.{step, channel_lerp, IsBetween, IsLerp}
 use Rattle.pix_ops.specs.Operators.{Coefficient, Zero, One, Alpha, OneMinusAlpha, row}
 use Rattle.pix_ops.specs.Composite.{channel_composite}
-use Rattle.pix_chan.specs.Laws.{ChannelLaws}
-use Rattle.pix_chan.specs.ChannelLaws.{known_laws}
+use Rattle.pix_chan.specs.Laws.{ChannelLaws, known_laws}
 use Rattle.pix_ops.specs.Hue.{half_turn, shorter_arc, hue_after, hue_weight, hue_steps, IsHueMove}
 use Rattle.pix_ops.proofs.Terms.{term_by, term_is}
 

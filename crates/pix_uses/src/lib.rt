@@ -3,6 +3,7 @@
 #![tactic(auto)]
 
 pub mod bytes;
+pub mod channels;
 pub mod colors;
 pub mod examples;
 pub mod frames;

@@ -1,5 +1,5 @@
 //! Each caller of `pix_uses` on a small picture.
-use pix::chan::Ch8;
+use pix::chan::{Ch8, Ch16, Channel};
 use pix::gray::Gray8;
 use pix::lent::Shape;
 use pix::matte::Matte8;
@@ -7,6 +7,7 @@ use pix::ops::Op;
 use pix::rgb::{Rgb8, Rgba8p, SRgb8};
 use pix::{Command, Raster, RasterFault, Region};
 use pix_uses::bytes::tint_bytes;
+use pix_uses::channels::{fade, mean, raised, restored, there_and_back};
 use pix_uses::colors::{glazed, sunrise, tint_top};
 use pix_uses::frames::flood;
 use pix_uses::lists::{draw, glaze_twice};
@@ -259,4 +260,33 @@ fn a_window_of_a_frame(rt: HostRuntime) -> Result<(), Fail> {
     flood(&mut words, frame, Region::new(2, 1, 9, 9), 1);
     assert_eq!(rt; words, [7, 7, 7, 7, 7, 7, 7, 1, 1, 7, 7, 7, 1, 1]);
     Ok(())
+}
+
+/// 51 is a fifth of 255.
+#[test]
+fn a_fade_to_and_fro(rt: HostRuntime) {
+    let (low, high) = (Ch8::new(100), Ch8::new(200));
+    assert_eq!(rt; raised(low, high, Ch8::new(51)), Ch8::new(120));
+    assert_eq!(rt; fade(high, low, Ch8::new(51)), Ch8::new(180));
+    assert_eq!(rt; fade(low, high, Ch8::MIN), low);
+    assert_eq!(rt; fade(low, high, Ch8::MAX), high);
+    assert_eq!(rt; fade(Ch16::MAX, Ch16::MIN, Ch16::new(1)), Ch16::new(65534));
+}
+
+/// 10/4 is as near to 2 as to 3, and 300000/4 is above all channels.
+#[test]
+fn means_of_four(rt: HostRuntime) {
+    assert_eq!(rt; mean::<Ch8>(10, 4), Ch8::new(3));
+    assert_eq!(rt; mean::<Ch8>(9, 4), Ch8::new(2));
+    assert_eq!(rt; mean::<Ch16>(300000, 4), Ch16::MAX);
+}
+
+/// Of 7/138 and 131/138 the products are a unit off, one below and one above.
+#[test]
+fn parts_restored(rt: HostRuntime) {
+    assert_eq!(rt; restored(Ch8::new(100), Ch8::new(200)), Ch8::new(100));
+    assert_eq!(rt; restored(Ch8::new(7), Ch8::new(138)), Ch8::new(6));
+    assert_eq!(rt; restored(Ch8::new(131), Ch8::new(138)), Ch8::new(132));
+    assert_eq!(rt; restored(Ch16::MIN, Ch16::MIN), Ch16::MIN);
+    assert_eq!(rt; there_and_back(Ch8::new(171)), Ch8::new(171));
 }

@@ -63,6 +63,6 @@ returns g c =
     ≡ c.args.first.0 *ℤ pos (n c.args.first.1) +ℤ c.args.second.0 *ℤ pos (n c.args.second.1)
     +ℤ c.args.third.0 *ℤ pos (n c.args.third.1) +ℤ c.args.offset *ℤ pos g.C.Channel.max =
     rw (c.weighted.ensures.value, c.weighted-2.ensures.value, c.weighted-3.ensures.value, c.weighted-4.ensures.value, first, second, third, offset, max) refl in
-    c.from_ratio.ensures ∙ nearest-same _ _ _ _ _ cut whole
+    c.from_ratio.ensures.value ∙ nearest-same _ _ _ _ _ cut whole
     ∙ nearest-cut _ _ c.args.whole c.requires.positive
     ∙ nearest-same _ _ _ _ _ sum refl

@@ -7,7 +7,7 @@ use Rattle.pix_color.proofs.Nearest.{nearest-same, nearest-exact}
 use Rattle.pix_color.proofs.numbers.exact.Goals as goal
 
 pub returns : goal.returns
-returns g c = c.from_ratio.ensures ∙ nearest-same _ _ (pos c.args.n) _ (pos 1) (omega (arith, ints, narrow g.C.Channel.max g.met.C.Channel.laws)) (omega (arith, ints)) ∙ nearest-exact _ c.args.n c.requires
+returns g c = c.from_ratio.ensures.value ∙ nearest-same _ _ (pos c.args.n) _ (pos 1) (omega (arith, ints, narrow g.C.Channel.max g.met.C.Channel.laws)) (omega (arith, ints)) ∙ nearest-exact _ c.args.n c.requires
 
 pub overflow_cast-n : goal.overflow_cast-n
 overflow_cast-n g c =

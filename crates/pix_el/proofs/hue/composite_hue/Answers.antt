@@ -42,7 +42,7 @@ returns-then-le g c =
     let start = (goal.at.returns-then-le g c).After-MID-half in
     let k = movable g start in
     let near : n c.apart.result ≤ n c.MID-half.result = rw c.if-le.true at (at_most (n c.apart.result) (n c.MID-half.result) _ _ _ (laws.orders c.apart.result c.MID-half.result) (g.met.C.Ord.matches_partial_cmp c.apart.result c.MID-half.result) c.le.ensures) in
-    let e = moved_directly _ _ k (weight g start) (laws.numbered.fits c.lerp.result) (omega (arith, c.apart.ensures)) c.lerp.ensures in
+    let e = moved_directly _ _ k (weight g start) (laws.numbered.fits c.lerp.result) (omega (arith, c.apart.ensures)) c.lerp.ensures.value in
     record { composite = e; moves = hue_moves _ k e }
 
 pub returns-else-le : goal.returns-else-le
@@ -53,6 +53,6 @@ returns-else-le g c =
     let k = movable g start in
     let far : n c.MID-half.result < n c.apart.result = rw c.if-le.false at (at_most (n c.apart.result) (n c.MID-half.result) _ _ _ (laws.orders c.apart.result c.MID-half.result) (g.met.C.Ord.matches_partial_cmp c.apart.result c.MID-half.result) c.le.ensures) in
     let e = moved_past_zero _ _ _ _ _ k (weight g start) (laws.numbered.fits c.lerp-else-le.result) (omega (arith, c.apart.ensures))
-    c.wrapping_add-turned.ensures c.wrapping_add-goal.ensures c.lerp-else-le.ensures c.wrapping_sub.ensures
+    c.wrapping_add-turned.ensures c.wrapping_add-goal.ensures c.lerp-else-le.ensures.value c.wrapping_sub.ensures
     in
     record { composite = e; moves = hue_moves _ k e }
