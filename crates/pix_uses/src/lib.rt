@@ -4,6 +4,7 @@
 
 pub mod bytes;
 pub mod colors;
+pub mod conversions;
 pub mod examples;
 pub mod frames;
 pub mod lists;
