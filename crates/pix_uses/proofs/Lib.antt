@@ -4,3 +4,4 @@ pub mod Points
 pub mod Within
 pub mod Steps
 pub mod Grays
+pub mod Lossless

@@ -5,6 +5,7 @@
 pub mod bytes;
 pub mod channels;
 pub mod colors;
+pub mod conversions;
 pub mod examples;
 pub mod frames;
 pub mod lists;
