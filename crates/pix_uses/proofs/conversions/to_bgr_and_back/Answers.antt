@@ -1,7 +1,7 @@
 -- Of `to_bgr_and_back`: the pixel stays.
 use Rattle.std.proofs.Common.{◌≡◌, ℕ, List, length, map, refl, sym, ap, ◌∙◌, arith, ◌≤◌, ◌-◌}
 use Rattle.std.proofs.lemmas.List.{length-map}
-use Rattle.pix_chan.specs.ChannelLaws.{known_laws}
+use Rattle.pix_chan.specs.Laws.{known_laws}
 use Rattle.pix_el.specs.Conversion.{Format, converted}
 use Rattle.pix_el.specs.PixelLaws.{equal_by_numbers}
 use Rattle.pix_color.specs.Bgr.{reversed}
