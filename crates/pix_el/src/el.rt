@@ -200,6 +200,10 @@ pub trait Pixel: Sealed + Clone + Copy + Debug + Default + PartialEq {
 
     /// Converts this pixel to another format: within one color model channel by channel, and else by way of red, green and blue.
     ///
+    /// It loses nothing to the format itself, to 16 bits and back, from `Rgb` to `Bgr` or `Cmy` and back, from gray to `Rgb` and back, and
+    /// from an opaque pixel to a premultiplied one and back; a premultiplied pixel stays premultiplied at another depth. Callers in
+    /// `pix_uses::conversions` have these theorems as their contracts.
+    ///
     /// Condition: that format has no more channels than its model.
     ///
     /// # Examples

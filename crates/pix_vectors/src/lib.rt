@@ -30,6 +30,8 @@ mod kinds;
 #[cfg(test)]
 mod lanes;
 #[cfg(test)]
+mod lossless;
+#[cfg(test)]
 mod models;
 #[cfg(test)]
 mod operators;
