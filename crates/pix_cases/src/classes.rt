@@ -1,8 +1,8 @@
 //! The list of classes.
 use crate::flaw::Flaw;
 use crate::{
-    buffers, channels, composites, conversions, drawings, formats, grays, hexcones, images, models,
-    palettes, regions, scripts,
+    buffers, channels, composites, conversions, drawings, formats, grays, hexcones, images,
+    lengths, models, palettes, regions, scripts,
 };
 use std::alloc::Global;
 
@@ -34,6 +34,9 @@ pub(crate) fn answer(class: &str, words: &[&str], alloc: Global) -> Result<Strin
         "pixels" => buffers::of_pixels(words, alloc),
         "palette" => palettes::palette(words, alloc),
         "indexed" => palettes::indexed(words, alloc),
+        "row" => lengths::row(words, alloc),
+        "table" => lengths::table(words, alloc),
+        "drawings" => lengths::drawings(words, alloc),
         _ => Err(Flaw::Class),
     }
 }

@@ -11,6 +11,7 @@ use pix::gray::{Graya8p, Graya16p};
 use pix::hsl::Hsla8p;
 use pix::hsv::Hsva8p;
 use pix::hwb::Hwba8p;
+use pix::matte::Matte8;
 use pix::ops::{Blend, OpVisitor};
 use pix::rgb::{Rgba8p, Rgba16p};
 use std::alloc::Global;
@@ -70,6 +71,7 @@ pub(crate) fn composited(words: &[&str], alloc: Global) -> Result<String, Flaw> 
         "Hsva8p" => by_format::<Hsva8p>(rest, alloc),
         "Hsla8p" => by_format::<Hsla8p>(rest, alloc),
         "Hwba8p" => by_format::<Hwba8p>(rest, alloc),
+        "Matte8" => by_format::<Matte8>(rest, alloc),
         _ => Err(Flaw::Name),
     }
 }

@@ -21,7 +21,8 @@ use std::mem;
 /// - `entry INDEX`: the color, or `none`
 /// - `colors`: all colors
 /// - `len`: how many
-/// - `count INDICES`: how often each index stands among those of one digit each, or `none`
+/// - `count INDICES`: how often each index stands among those of one digit each, or `none`; `count`
+///   alone counts no index
 pub(crate) fn palette(words: &[&str], alloc: Global) -> Result<String, Flaw> {
     let [limit, words @ ..] = words else {
         return Err(Flaw::Count);
@@ -105,6 +106,7 @@ fn told(palette: &Palette, words: &[&str], alloc: Global) -> Result<String, Flaw
             let (len, is_empty) = (palette.len(), palette.is_empty());
             Ok(format!(in alloc; "{len}:{is_empty}")?)
         }
+        ["count"] => counted(palette, &[], alloc),
         ["count", digits] => counted(palette, digits.as_bytes(), alloc),
         _ => Err(Flaw::Name),
     }

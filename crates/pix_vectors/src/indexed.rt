@@ -38,11 +38,14 @@ fn indexed_wide(
         .map_err(|(fault, _)| fault)
 }
 
-/// Whether there is a raster of just the indices from 0 on.
+/// Whether there is a raster of 257 columns and one row, of just the indices from 0 on.
 fn counts_up_wide(answer: Option<Raster<Gray16>>) -> bool {
     let Some(raster) = answer else {
         return false;
     };
+    if (raster.width(), raster.height()) != (257, 1) || raster.pixels().len() != 257 {
+        return false;
+    }
     let mut want = 0_u16;
     for pixel in raster.pixels() {
         if *pixel != Gray16::new(want) {
@@ -92,12 +95,18 @@ fn colliding_colors(alloc: Global) -> Result<Raster<SRgb8>, RasterFault> {
     Ok(raster)
 }
 
-/// Whether the values are the indices that setting the colors one by one answers.
-fn are_set_one_by_one(palette: &mut Palette, colors: &[SRgb8], values: &[Gray16]) -> bool {
-    if colors.len() != values.len() {
+/// Whether the image is as large as the raster, and its values are the indices that setting the colors one by one answers.
+fn are_set_one_by_one(
+    palette: &mut Palette,
+    raster: &Raster<SRgb8>,
+    image: &Raster<Gray16>,
+) -> bool {
+    if (image.width(), image.height()) != (raster.width(), raster.height())
+        || image.pixels().len() != raster.pixels().len()
+    {
         return false;
     }
-    for (color, value) in colors.iter().zip(values) {
+    for (color, value) in raster.pixels().iter().zip(image.pixels()) {
         let Some(index) = palette.set_entry(*color) else {
             return false;
         };
@@ -118,7 +127,7 @@ fn colliding_colors_are_indexed_as_set(rt: HostRuntime) -> Result<(), Fail> {
     let Some(image) = image else {
         return Err("no image".into());
     };
-    assert!(rt; are_set_one_by_one(&mut other, raster.pixels(), image.pixels()));
+    assert!(rt; are_set_one_by_one(&mut other, &raster, &image));
     assert!(rt; palette.colors() == other.colors());
     Ok(())
 }
@@ -135,7 +144,7 @@ fn colliding_colors_within_a_threshold_are_indexed_as_set(rt: HostRuntime) -> Re
     let Some(image) = image else {
         return Err("no image".into());
     };
-    assert!(rt; are_set_one_by_one(&mut other, raster.pixels(), image.pixels()));
+    assert!(rt; are_set_one_by_one(&mut other, &raster, &image));
     assert!(rt; palette.colors() == other.colors());
     Ok(())
 }

@@ -1,0 +1,145 @@
+//! Rasters, buffers, palettes, indices and scripts of any length, made with ample memory: a call
+//! that refuses a length has no answer.
+use crate::flaw::Flaw;
+use crate::words::small;
+use pix::el::Pixel;
+use pix::gray::{Gray8, Gray16};
+use pix::rgb::SRgb8;
+use pix::{Palette, Raster};
+use pix_script::paint_io;
+use std::alloc::Global;
+
+/// `4097`: the length of a row of grays, whose values count up and begin again after 255. The
+/// answer is how many of them are right: as bytes, in a copy, in a raster made of the bytes, as
+/// words of sixteen bits, and in a raster made of the words.
+pub(crate) fn row(words: &[&str], alloc: Global) -> Result<String, Flaw> {
+    let [word] = words else {
+        return Err(Flaw::Count);
+    };
+    let len = small(word)?;
+    let mut raster = Raster::<Gray8>::with_clear(alloc, len, 1).map_err(|_| Flaw::Memory)?;
+    for (i, pixel) in raster.pixels_mut().iter_mut().enumerate() {
+        *pixel = Gray8::new((i % 256) as u8);
+    }
+    let wide = Raster::<Gray16>::with_raster(alloc, &raster).map_err(|_| Flaw::Memory)?;
+    let copy = raster.try_clone(alloc).map_err(|_| Flaw::Memory)?;
+    let bytes = raster.to_u8_vec(alloc).map_err(|_| Flaw::Memory)?;
+    let copied = copy.into_u8_vec(alloc).map_err(|_| Flaw::Memory)?;
+    let words = wide.into_u16_vec(alloc).map_err(|_| Flaw::Memory)?;
+    let (one, two, three) = (
+        right_bytes(&bytes),
+        right_bytes(&copied),
+        right_words(&words),
+    );
+    if len == 0 {
+        return Ok(format!(in alloc; "{one} {two} {three}")?);
+    }
+    let made = Raster::<Gray8>::with_u8_buffer(alloc, len, 1, bytes).map_err(|_| Flaw::Memory)?;
+    let bytes = made.into_u8_vec(alloc).map_err(|_| Flaw::Memory)?;
+    let made = Raster::<Gray16>::with_u16_buffer(alloc, len, 1, words).map_err(|_| Flaw::Memory)?;
+    let words = made.into_u16_vec(alloc).map_err(|_| Flaw::Memory)?;
+    let (four, five) = (right_bytes(&bytes), right_words(&words));
+    Ok(format!(in alloc; "{one} {two} {four} {three} {five}")?)
+}
+
+/// How many bytes are those of the row.
+fn right_bytes(bytes: &[u8]) -> usize {
+    let right = bytes
+        .iter()
+        .enumerate()
+        .filter(|(i, byte)| usize::from(**byte) == *i % 256);
+    right.count()
+}
+
+/// How many words are those of the row: of sixteen bits, a byte is 257 times as great.
+fn right_words(words: &[u16]) -> usize {
+    let right = words
+        .iter()
+        .enumerate()
+        .filter(|(i, word)| usize::from(**word) == *i % 256 * 257);
+    right.count()
+}
+
+/// `20 16 4097`: the limit of a palette, how many colors take turns in a row of pixels, and how
+/// long the row is. The answer is how many colors a copy of the palette has then, how many indices
+/// are right, and how many of them its counts count.
+pub(crate) fn table(words: &[&str], alloc: Global) -> Result<String, Flaw> {
+    let [limit, colors, len] = words else {
+        return Err(Flaw::Count);
+    };
+    let (limit, colors, len) = (small(limit)?, small(colors)?, small(len)?);
+    let raster = turns(colors, len, alloc)?;
+    let mut palette = Palette::new(alloc, limit as usize).map_err(|_| Flaw::Memory)?;
+    let wide = palette
+        .make_indexed_wide(alloc, raster)
+        .map_err(|_| Flaw::Memory)?
+        .ok_or(Flaw::Refused)?;
+    let indices = wide.into_u16_vec(alloc).map_err(|_| Flaw::Memory)?;
+    let copy = palette.try_clone(alloc).map_err(|_| Flaw::Memory)?;
+    let counts = copy.histogram(alloc, &indices).map_err(|_| Flaw::Memory)?;
+    let counted = sum(&counts.ok_or(Flaw::Refused)?);
+    let right = right_turns(&indices, colors);
+    let entries = copy.len();
+    Ok(format!(in alloc; "{entries} {right} {counted}")?)
+}
+
+/// A row of pixels in which so many colors take turns.
+fn turns(colors: u32, len: u32, alloc: Global) -> Result<Raster<SRgb8>, Flaw> {
+    let mut raster = Raster::with_clear(alloc, len, 1).map_err(|_| Flaw::Memory)?;
+    for (i, pixel) in raster.pixels_mut().iter_mut().enumerate() {
+        let number = turn(i, colors);
+        *pixel = SRgb8::new((number % 256) as u8, (number / 256 % 256) as u8, 0u8);
+    }
+    Ok(raster)
+}
+
+/// The number of the color whose turn it is at a pixel.
+fn turn(place: usize, colors: u32) -> usize {
+    place.checked_rem(colors as usize).unwrap_or(0)
+}
+
+/// How many indices are those of the colors that take turns.
+fn right_turns(indices: &[u16], colors: u32) -> usize {
+    let right = indices
+        .iter()
+        .enumerate()
+        .filter(|(i, index)| usize::from(**index) == turn(*i, colors));
+    right.count()
+}
+
+/// The sum of counts.
+fn sum(counts: &[usize]) -> usize {
+    let mut sum = 0_usize;
+    for count in counts {
+        sum = sum.wrapping_add(*count);
+    }
+    sum
+}
+
+/// `40000`: how many points of an image of 200 columns are drawn on, each by a command of its own
+/// and in a color of its own, which is its number. The answer is whether the text is that of these
+/// numbers, or why the script stops.
+pub(crate) fn drawings(words: &[&str], alloc: Global) -> Result<String, Flaw> {
+    let [word] = words else {
+        return Err(Flaw::Count);
+    };
+    let count = small(word)?;
+    let rows = count.div_ceil(200);
+    let mut script = format!(in alloc; "image 200 {rows}\n")?;
+    let mut wanted = String::new(alloc);
+    for i in 0..rows.saturating_mul(200) {
+        let end = if i % 200 == 199 { '\n' } else { ' ' };
+        if i < count {
+            writeln!(script, "fill {} {} 1 1 {i:08x}", i % 200, i / 200)?;
+            write!(wanted, "{i:08x}{end}")?;
+        } else {
+            write!(wanted, "00000000{end}")?;
+        }
+    }
+    let mut reader = script.as_bytes();
+    let mut text = Vec::new(alloc);
+    match paint_io(alloc, &mut reader, &mut text) {
+        Ok(()) => Ok(format!(in alloc; "{}", text.as_slice() == wanted.as_bytes())?),
+        Err(stop) => Ok(format!(in alloc; "{stop}")?),
+    }
+}
