@@ -23,6 +23,7 @@ mod planes;
 /// let units = fine.to_u32(); // 43947: 171 * 257
 /// let coarse = Ch8::from(fine); // 171
 /// ```
+#[repr(C)]
 #[derive(Clone, Copy, Debug, PartialEq, Eq, PartialOrd, Ord)]
 pub struct Ch16 {
     value: u16,

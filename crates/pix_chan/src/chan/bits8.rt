@@ -26,6 +26,7 @@ mod planes;
 /// let quarter = half * half; // 64: 128 * 128 / 255 is 64.25
 /// let again = quarter / half; // 128: 256 * 64 / 128
 /// ```
+#[repr(C)]
 #[derive(Clone, Copy, Debug, PartialEq, Eq, PartialOrd, Ord)]
 pub struct Ch8 {
     value: u8,
