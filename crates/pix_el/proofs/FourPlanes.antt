@@ -87,9 +87,9 @@ module _ (max : ℕ) where
       let rest = planes_in_turn ws xs ys zs (omega arith) (omega arith) (omega arith) in
       record { first = cons refl rest.first; second = cons refl rest.second; third = cons refl rest.third; fourth = cons refl rest.fourth }
 
-  pub are_planes : (w x y z : List ℕ) (pixels : List (List ℕ)) → by_fours (in_turn w x y z) ≡ pixels → length x ≡ length w → length y ≡ length w → length z ≡ length w
+  pub are_planes : (w x y z all : List ℕ) (pixels : List (List ℕ)) → in_turn w x y z ≡ all → by_fours all ≡ pixels → length x ≡ length w → length y ≡ length w → length z ≡ length w
       → ArePlanes max pixels w x y z
-  are_planes w x y z pixels e h i j = subst (λ (l : List (List ℕ)). ArePlanes max l w x y z) e (planes_in_turn w x y z h i j)
+  are_planes w x y z all pixels e f h i j = subst (λ (l : List (List ℕ)). ArePlanes max l w x y z) (ap by_fours e ∙ f) (planes_in_turn w x y z h i j)
 
 -- no number of a channel passes the top
 pub numbers_fit : {C : Type 0} (max : ℕ) (number : C → ℕ) → IsNumbered max number → (cs : List C) → Each1 (λ v. v ≤ max) (map number cs)

@@ -5,5 +5,7 @@ pub mod Composited
 pub mod Conversions
 pub mod FourPlanes
 pub mod TwoPlanes
+pub mod OnePlane
 pub mod MattePlanes
 pub mod FourPixels
+pub mod Blocks

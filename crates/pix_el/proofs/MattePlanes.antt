@@ -4,8 +4,8 @@ use Rattle.pix_ops.specs.declared.ops.Op.{Op}
 use Rattle.pix_chan.specs.Product.{channel_product}
 use Rattle.pix_chan.specs.Runs.{over}
 use Rattle.pix_chan.proofs.Sixteen.{whole16}
-use Rattle.pix_chan.proofs.Slices.{over-nil, map-put_mid}
-use Rattle.std.proofs.lemmas.List.{append-nil, drop_all, length-drop, length-map, drop-map, take_all}
+use Rattle.pix_chan.proofs.Slices.{over-nil, map-put_mid, length-run}
+use Rattle.std.proofs.lemmas.List.{append-nil, drop_all, length-drop, length-map, length-take, drop-map, take-map, take_all}
 use borrow.Rule.Slice.PartMut.{put_mid}
 use Rattle.std.specs.declared.ops.Range.{Range}
 use Rattle.pix_el.specs.Planes.{ArePlanes, AreTwoPlanes, matted_first}
@@ -33,11 +33,17 @@ over-mapped f g [] (y ∷ ys) = refl
 over-mapped {C = C} f g (x ∷ xs) (y ∷ ys) = ap (λ (l : List C). f (g x) y ∷ l) (over-mapped f g xs ys)
 
 -- a color composited through the values of mattes, by the mattes' own numbers
-pub by_values : (layout : Layout) (op : Op) (max : ℕ) → layout.max ≡ max → (mattes dest : List (List ℕ)) {values color numbers : List ℕ}
-    → color ≡ numbers → values ≡ map (λ matte. channel max matte 0) mattes
-    → over (λ m. matted_composite layout op m color) values dest ≡ over (λ matte. matted_composite layout op (matte_value layout matte) numbers) mattes dest
-by_values layout op max e mattes dest {numbers = numbers} f h =
-    rw (f, h, ← e) (over-mapped (λ m. matted_composite layout op m numbers) (matte_value layout) mattes dest)
+pub by_values : {X : Type 0} (layout : Layout) (op : Op) (max : ℕ) → max ≡ layout.max → (numbers : X → List ℕ) (count : ℕ) (mattes : List X) (color : List ℕ) (dest : List (List ℕ))
+    → over (λ m. matted_composite layout op m color) (take count (map (λ x. channel max (numbers x) 0) mattes)) dest
+    ≡ over (λ matte. matted_composite layout op (matte_value layout matte) color) (take count (map numbers mattes)) dest
+by_values layout op max e numbers count mattes color dest =
+    let value = λ (m : List ℕ). channel max m 0 in
+    let made = λ (ms : List ℕ). over (λ m. matted_composite layout op m color) ms dest in
+    let listed = take count (map numbers mattes) in
+    ap (λ (l : List ℕ). made (take count l)) (map-mapped value numbers mattes)
+    ∙ ap made (take-map value count (map numbers mattes))
+    ∙ over-mapped (λ m. matted_composite layout op m color) value listed dest
+    ∙ ap (λ (x : ℕ). over (λ matte. matted_composite layout op (channel x matte 0) color) listed dest) e
 
 -- equal functions of each of a list
 all_alike : {A B : Type 0} {f g : A → B} (xs : List A) → ((x : A) → f x ≡ g x) → map f xs ≡ map g xs
@@ -129,3 +135,25 @@ next_run {A = A} {B = B} number other f n r xs ws new ys e h i =
     ∙ ap (λ (l : List A). take n at ++ l) (append-nil (map number new) ∙ made)
     ∙ ap (λ (l : List A). take n l ++ over f (take r (drop n (map other ys))) (drop n l)) e
     ∙ over_rest f n r (n + r) (map number xs) (map other ys) refl (omega (arith, h, length-map ys other))
+
+-- one color again and again
+replicated : {C A : Type 0} (color : A) (xs : List C) → map (λ _. color) xs ≡ replicate (length xs) color
+replicated color [] = refl
+replicated {A = A} color (x ∷ xs) = ap (λ (l : List A). color ∷ l) (replicated color xs)
+
+-- a run of one color that goes on at the slice from n on
+pub next_color : {C A B : Type 0} (number : C → A) (f : B → A → A) (n r : ℕ) (xs ws new : List C) (color : B)
+    → map number ws ≡ over f (take n (replicate (length xs) color)) (map number xs) → n ≤ length xs
+    → map number new ≡ over f (take r (replicate (length (take (length ws - n) (drop n ws))) color)) (map number (take (length ws - n) (drop n ws)))
+    → map number (put_mid n (length ws - n) ws new) ≡ over f (take (n + r) (replicate (length xs) color)) (map number xs)
+next_color {B = B} number f n r xs ws new color e h i =
+    let at = map number xs in
+    let rest = take (length ws - n) (drop n ws) in
+    let own = take (length xs - n) (drop n xs) in
+    let same : length ws ≡ length xs = sym (length-map ws number) ∙ ap length e ∙ length-run (λ x y. f y x) at (take n (replicate (length xs) color)) ∙ length-map xs number in
+    let long : length rest ≡ length own
+    = omega (arith, same, length-take (length ws - n) (drop n ws), length-drop n ws, length-take (length xs - n) (drop n xs), length-drop n xs) in
+    next_run number (λ _. color) f n r xs ws new xs
+    (e ∙ ap (λ (l : List B). over f (take n l) at) (sym (replicated color xs))) h
+    (i ∙ ap (λ (l : List B). over f (take r l) (map number rest)) (ap (λ (k : ℕ). replicate k color) long ∙ sym (replicated color own)))
+    ∙ ap (λ (l : List B). over f (take (n + r) l) at) (replicated color xs)

@@ -44,8 +44,8 @@ module _ (max : ℕ) where
       let rest = planes_in_turn ws xs (omega arith) in
       record { first = cons refl rest.first; second = cons refl rest.second }
 
-  pub are_two_planes : (w x : List ℕ) (pixels : List (List ℕ)) → by_twos (both_in_turn w x) ≡ pixels → length x ≡ length w → AreTwoPlanes max pixels w x
-  are_two_planes w x pixels e h = subst (λ (l : List (List ℕ)). AreTwoPlanes max l w x) e (planes_in_turn w x h)
+  pub are_two_planes : (w x all : List ℕ) (pixels : List (List ℕ)) → both_in_turn w x ≡ all → by_twos all ≡ pixels → length x ≡ length w → AreTwoPlanes max pixels w x
+  are_two_planes w x all pixels e f h = subst (λ (l : List (List ℕ)). AreTwoPlanes max l w x) (ap by_twos e ∙ f) (planes_in_turn w x h)
 
 -- a layout of two channels with no hue
 abbrev pub two_of : ℕ → Layout

@@ -23,6 +23,10 @@ by_twos [] = []
 by_twos (w ∷ []) = []
 by_twos (w ∷ x ∷ r) = (w ∷ x ∷ []) ∷ by_twos r
 
+-- the channels of pixels of one channel, pixel by pixel
+abbrev pub by_ones : List ℕ → List (List ℕ)
+by_ones channels = map (λ c. c ∷ []) channels
+
 -- the plane of a channel number
 abbrev pub plane_of : ℕ → List (List ℕ) → ℕ → List ℕ
 plane_of max pixels ch = map (λ p. channel max p ch) pixels

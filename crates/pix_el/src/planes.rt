@@ -1,25 +1,35 @@
 //! Composites of pixels by runs of sixteen channels.
 //!
-//! Pixels of four channels without a hue go four at a time, interleaved, as they lie. Pixels of four channels with a hue at the first go by
-//! planes, arrays of sixteen channels of one number, and so do pixels of two channels without a hue. Mattes go by planes as far as there
-//! are sixteen.
+//! Each way to go is a `Block`. Pixels of four channels without a hue go sixteen at a time and then four, interleaved, as they lie. Pixels
+//! of four channels with a hue at the first go by planes, arrays of sixteen channels of one number, and so do pixels of two channels without
+//! a hue. A pixel of one channel is its own alpha, so that mattes go as they lie. A color through sixteen mattes goes by planes.
 //!
 //! Nothing of this is in a contract above, so another way to cut a slice into blocks changes this file and its folder alone.
-ghost use Rattle.std.specs.Prelude.{◌≡◌, ◌≤◌, ◌+◌, ◌-◌, ℕ, length, map, take, true, replicate};
+ghost use Rattle.std.specs.Prelude.{◌≡◌, ◌≤◌, ◌+◌, ◌-◌, length, map, take, true, replicate};
 ghost use Rattle.pix_chan.specs.Runs.{over, triples};
 ghost use Rattle.pix_el.specs.Planes.{run_hue, run_first, matted_first};
-ghost use Rattle.pix_el.specs.Pixel.{channel};
 ghost use Rattle.pix_el.specs.PixelComposite.{pixel_composite, matted_composite, matte_numbers, matte_value};
 
 use crate::el::{Pix, Pixel};
 use crate::hue::composite_hue;
 use crate::matte::Matte;
 use crate::model::{ColorModel, is_hue};
+use crate::planes::block::{color_blocks, composite_blocks, matte_blocks};
+use crate::planes::coverage::Coverage;
+use crate::planes::four::Four;
+use crate::planes::interleaved::Interleaved;
+use crate::planes::one::One;
+use crate::planes::sixteen::Sixteen;
+use crate::planes::two::Two;
 use pix_chan::chan::{Alpha, Channel, Linear};
 use pix_ops::ops::Blend;
 
+mod block;
+mod coverage;
 mod four;
 pub(crate) mod interleaved;
+mod one;
+mod sixteen;
 mod two;
 
 /// Composites the hues of the same index of all four, one after the other; the shortest length decides.
@@ -85,7 +95,17 @@ fn has_two<P: Pixel>() -> bool
     P::Model::ALPHA == 1 && hues.end == 0
 }
 
-/// Composites as many of the first `count` pixels as go sixteen channels at a time, and returns how many these are.
+/// Returns whether a model has one channel, the alpha.
+#[inline(always)]
+fn has_one<P: Pixel>() -> bool
+    ensures alpha { result ≡ true → P.layout.alpha ≡ 0 }
+    ensures no_hue { result ≡ true → P.layout.hues.end ≡ 0 }
+{
+    let hues = P::Model::CIRCULAR;
+    P::Model::ALPHA == 0 && hues.end == 0
+}
+
+/// Composites as many of the first `count` pixels as go by blocks, and returns how many these are.
 ///
 /// Condition: the format has an alpha channel, and both slices have `count` pixels.
 #[inline(always)]
@@ -98,17 +118,21 @@ pub(crate) fn composite_runs<O: Blend, P: Pixel>(dst: &mut [P], src: &[P], count
         (take result (map P.numbers src.now)) (map P.numbers dst.old) }
 {
     if is_interleaved::<P>() {
-        interleaved::composite_runs::<O, P>(dst, src, count)
+        let start = composite_blocks::<O, P, Sixteen>(dst, src, count);
+        let (rest, sources) = (&mut dst[start..], &src[start..]);
+        start + composite_blocks::<O, P, Interleaved>(rest, sources, count - start)
     } else if has_four::<P>() {
-        four::composite_runs::<O, P>(dst, src, count)
+        composite_blocks::<O, P, Four>(dst, src, count)
     } else if has_two::<P>() {
-        two::composite_runs::<O, P>(dst, src, count)
+        composite_blocks::<O, P, Two>(dst, src, count)
+    } else if has_one::<P>() {
+        composite_blocks::<O, P, One>(dst, src, count)
     } else {
         0
     }
 }
 
-/// Composites `clr` with as many of the first pixels as go sixteen channels at a time, and returns how many these are.
+/// Composites `clr` with as many of the first pixels as go by blocks, and returns how many these are.
 ///
 /// Condition: the format has an alpha channel.
 #[inline(always)]
@@ -119,11 +143,14 @@ pub(crate) fn color_runs<O: Blend, P: Pixel>(dst: &mut [P], clr: &P) -> usize
         (take result (replicate (length dst.old) (P.numbers clr.now))) (map P.numbers dst.old) }
 {
     if is_interleaved::<P>() {
-        interleaved::color_runs::<O, P>(dst, clr)
+        let start = color_blocks::<O, P, Sixteen>(dst, clr);
+        start + color_blocks::<O, P, Interleaved>(&mut dst[start..], clr)
     } else if has_four::<P>() {
-        four::color_runs::<O, P>(dst, clr)
+        color_blocks::<O, P, Four>(dst, clr)
     } else if has_two::<P>() {
-        two::color_runs::<O, P>(dst, clr)
+        color_blocks::<O, P, Two>(dst, clr)
+    } else if has_one::<P>() {
+        color_blocks::<O, P, One>(dst, clr)
     } else {
         0
     }
@@ -140,37 +167,40 @@ fn scale_first<M: ColorModel, C: Channel>(channels: &mut [C], mattes: &[C])
     }
 }
 
-/// Returns the values of sixteen mattes.
+/// Composites `clr` through mattes with as many of the first `count` pixels as go by blocks, and returns how many these are.
+///
+/// Condition: the format has an alpha channel, and both slices have `count` elements.
 #[inline(always)]
-fn matte_values<const N: usize, A: Alpha, C: Channel>(
-    src: &[Pix<N, C, Matte, A, Linear>],
-) -> [C; 16]
-    requires { length src.now ≡ 16 }
-    ensures { map C.number result ≡
-        map (λ matte. channel C.max matte 0) (map (matte_numbers C.number) src.now) }
+fn coverage_runs<O: Blend, P: Pixel, S: Coverage<P::Chan>>(
+    dst: &mut [P],
+    src: &[S],
+    clr: &P,
+    count: usize,
+) -> usize
+    requires has_alpha { P.layout.count ≡ P.layout.alpha + 1 }
+    requires dst_has { count ≤ length dst.old }
+    requires src_has { count ≤ length src.now }
+    ensures some { result ≤ count }
+    ensures composite { map P.numbers dst.new ≡
+        over (λ m. matted_composite P.layout O.op m (P.numbers clr.now))
+        (take result (map S.value src.now)) (map P.numbers dst.old) }
 {
-    [
-        src[0].alpha(),
-        src[1].alpha(),
-        src[2].alpha(),
-        src[3].alpha(),
-        src[4].alpha(),
-        src[5].alpha(),
-        src[6].alpha(),
-        src[7].alpha(),
-        src[8].alpha(),
-        src[9].alpha(),
-        src[10].alpha(),
-        src[11].alpha(),
-        src[12].alpha(),
-        src[13].alpha(),
-        src[14].alpha(),
-        src[15].alpha(),
-    ]
+    if is_interleaved::<P>() {
+        let start = matte_blocks::<O, P, S, Sixteen>(dst, src, clr, count);
+        let (rest, mattes) = (&mut dst[start..], &src[start..]);
+        start + matte_blocks::<O, P, S, Interleaved>(rest, mattes, clr, count - start)
+    } else if has_four::<P>() {
+        matte_blocks::<O, P, S, Four>(dst, src, clr, count)
+    } else if has_two::<P>() {
+        matte_blocks::<O, P, S, Two>(dst, src, clr, count)
+    } else if has_one::<P>() {
+        matte_blocks::<O, P, S, One>(dst, src, clr, count)
+    } else {
+        0
+    }
 }
 
-/// Composites `clr` through mattes with as many of the first `count` pixels as go sixteen channels at a time, and returns how many
-/// these are.
+/// Composites `clr` through mattes with as many of the first `count` pixels as go by blocks, and returns how many these are.
 ///
 /// Condition: the format has an alpha channel, and both slices have `count` elements.
 #[inline(always)]
@@ -188,17 +218,5 @@ pub(crate) fn matte_runs<const N: usize, A: Alpha, O: Blend, P: Pixel>(
         (matte_value P.layout matte) (P.numbers clr.now))
         (take result (map (matte_numbers P.Chan.number) src.now)) (map P.numbers dst.old) }
 {
-    if has_four::<P>() {
-        let start = four::matte_runs::<N, A, O, P>(dst, src, clr, count);
-        if is_interleaved::<P>() {
-            let rest = &mut dst[start..];
-            start + interleaved::matte_runs::<N, A, O, P>(rest, &src[start..], clr, count - start)
-        } else {
-            start
-        }
-    } else if has_two::<P>() {
-        two::matte_runs::<N, A, O, P>(dst, src, clr, count)
-    } else {
-        0
-    }
+    coverage_runs::<O, P, Pix<N, P::Chan, Matte, A, Linear>>(dst, src, clr, count)
 }

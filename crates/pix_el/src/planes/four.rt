@@ -1,15 +1,17 @@
 //! Pixels of four channels by planes, sixteen at a time.
-ghost use Rattle.std.specs.Prelude.{◌≡◌, ◌≤◌, ℕ, List, [], ◌∷◌, length, map, take, replicate};
+ghost use Rattle.std.specs.Prelude.{◌≡◌, ◌≤◌, ℕ, List, [], ◌∷◌, length, map, refl};
 ghost use Rattle.pix_chan.specs.Planes.{in_turn};
 ghost use Rattle.pix_chan.specs.Runs.{over};
 ghost use Rattle.pix_el.specs.Planes.{by_fours, ArePlanes};
-ghost use Rattle.pix_el.specs.PixelComposite.{pixel_composite, matted_composite, matte_numbers, matte_value};
+ghost use Rattle.pix_el.specs.PixelComposite.{pixel_composite, matted_composite};
 
-use crate::el::{Pix, Pixel};
-use crate::matte::Matte;
-use crate::planes::interleaved::{four_channels, four_pixels, put_four_pixels};
-use crate::planes::{composite_first, matte_values, scale_first};
-use pix_chan::chan::{Alpha, Channel, Linear};
+use crate::el::Pixel;
+use crate::planes::block::Block;
+use crate::planes::coverage::{Coverage, matte_values};
+use crate::planes::interleaved::four_channels;
+use crate::planes::sixteen::{fours, put_fours};
+use crate::planes::{composite_first, scale_first};
+use pix_chan::chan::Channel;
 use pix_ops::ops::Blend;
 
 /// Returns the planes of sixteen pixels. Each `CALLER` has a copy of its own, since LLVM inlines what is called once.
@@ -23,12 +25,8 @@ fn planes<P: Pixel, const CALLER: usize>(
         (map P.Chan.number result.0) (map P.Chan.number result.1)
         (map P.Chan.number result.2) (map P.Chan.number result.3) }
 {
-    P::Chan::split4(
-        four_pixels(&p[..4]),
-        four_pixels(&p[4..8]),
-        four_pixels(&p[8..12]),
-        four_pixels(&p[12..16]),
-    )
+    let (a, b, c, d) = fours::<P, CALLER>(p);
+    P::Chan::split4(a, b, c, d)
 }
 
 /// Writes sixteen pixels from their planes.
@@ -47,10 +45,7 @@ fn put_planes<P: Pixel>(
         (map P.Chan.number three) (map P.Chan.number four)) }
 {
     let (a, b, c, d) = P::Chan::join4(one, two, three, four);
-    put_four_pixels(&mut p[..4], a);
-    put_four_pixels(&mut p[4..8], b);
-    put_four_pixels(&mut p[8..12], c);
-    put_four_pixels(&mut p[12..16], d);
+    put_fours(p, a, b, c, d);
 }
 
 /// Composites the sixteen pixels of these planes with those of `dst`. All alphas are read before a plane is written.
@@ -88,7 +83,7 @@ fn composite_sixteen<O: Blend, P: Pixel, const CALLER: usize>(
 ///
 /// Condition: the alpha is the last channel, and only the first may be a hue.
 #[inline(always)]
-fn composite_matted<O: Blend, P: Pixel, const CALLER: usize>(
+pub(super) fn composite_matted<O: Blend, P: Pixel, const CALLER: usize>(
     dst: &mut [P],
     mattes: &[P::Chan],
     a: P::Chan,
@@ -116,77 +111,35 @@ fn composite_matted<O: Blend, P: Pixel, const CALLER: usize>(
     composite_sixteen::<O, P, CALLER>(dst, one, two, three, four);
 }
 
-/// Composites as many of the first `count` pixels as go sixteen at a time, and returns how many these are.
-///
-/// Condition: the alpha is the last of four channels, and only the first may be a hue; both slices have `count` pixels.
-#[inline(always)]
-pub(super) fn composite_runs<O: Blend, P: Pixel>(dst: &mut [P], src: &[P], count: usize) -> usize
-    requires channels { P.layout.count ≡ 4 }
-    requires alpha { P.layout.alpha ≡ 3 }
-    requires hue { P.layout.hues.end ≤ 1 }
-    requires dst_has { count ≤ length dst.old }
-    requires src_has { count ≤ length src.now }
-    ensures some { result ≤ count }
-    ensures composite { map P.numbers dst.new ≡ over (pixel_composite P.layout O.op)
-        (take result (map P.numbers src.now)) (map P.numbers dst.old) }
-{
-    for i in 0..count / 16 {
-        let (one, two, three, four) = planes::<P, 2>(&src[16 * i..16 * i + 16]);
-        composite_sixteen::<O, P, 0>(&mut dst[16 * i..16 * i + 16], one, two, three, four);
-    }
-    count / 16 * 16
-}
+/// Pixels of four channels of which only the first may be a hue, sixteen at a time.
+pub(super) struct Four {}
 
-/// Composites `clr` with as many of the first pixels as go sixteen at a time, and returns how many these are.
-///
-/// Condition: the alpha is the last of four channels, and only the first may be a hue.
-#[inline(always)]
-pub(super) fn color_runs<O: Blend, P: Pixel>(dst: &mut [P], clr: &P) -> usize
-    requires channels { P.layout.count ≡ 4 }
-    requires alpha { P.layout.alpha ≡ 3 }
-    requires hue { P.layout.hues.end ≤ 1 }
-    ensures some { result ≤ length dst.old }
-    ensures composite { map P.numbers dst.new ≡ over (pixel_composite P.layout O.op)
-        (take result (replicate (length dst.old) (P.numbers clr.now))) (map P.numbers dst.old) }
-{
-    let (a, b, c, d) = four_channels(clr);
-    let count = dst.len();
-    for i in 0..count / 16 {
-        composite_sixteen::<O, P, 1>(
-            &mut dst[16 * i..16 * i + 16],
-            [a; 16],
-            [b; 16],
-            [c; 16],
-            [d; 16],
-        );
-    }
-    count / 16 * 16
-}
+impl<P: Pixel> Block<P> for Four {
+    ghost suits = { (P.layout.count ≡ 4) × (P.layout.alpha ≡ 3) × (P.layout.hues.end ≤ 1) };
 
-/// Composites `clr` through mattes with as many of the first `count` pixels as go sixteen at a time, and returns how many these are.
-///
-/// Condition: the alpha is the last of four channels, and only the first may be a hue; both slices have `count` elements.
-#[inline(always)]
-pub(super) fn matte_runs<const N: usize, A: Alpha, O: Blend, P: Pixel>(
-    dst: &mut [P],
-    src: &[Pix<N, P::Chan, Matte, A, Linear>],
-    clr: &P,
-    count: usize,
-) -> usize
-    requires channels { P.layout.count ≡ 4 }
-    requires alpha { P.layout.alpha ≡ 3 }
-    requires hue { P.layout.hues.end ≤ 1 }
-    requires dst_has { count ≤ length dst.old }
-    requires src_has { count ≤ length src.now }
-    ensures some { result ≤ count }
-    ensures composite { map P.numbers dst.new ≡ over (λ matte. matted_composite P.layout O.op
-        (matte_value P.layout matte) (P.numbers clr.now))
-        (take result (map (matte_numbers P.Chan.number) src.now)) (map P.numbers dst.old) }
-{
-    let (a, b, c, d) = four_channels(clr);
-    for i in 0..count / 16 {
-        let mattes = matte_values(&src[16 * i..16 * i + 16]);
-        composite_matted::<O, P, 3>(&mut dst[16 * i..16 * i + 16], &mattes, a, b, c, d);
+    ghost SIZE = { 16 };
+
+    const SIZE: usize = 16;
+
+    ghost more = { 15 };
+
+    ghost some = { refl };
+
+    #[inline(always)]
+    fn composite<O: Blend>(dst: &mut [P], src: &[P]) {
+        let (one, two, three, four) = planes::<P, 2>(src);
+        composite_sixteen::<O, P, 0>(dst, one, two, three, four);
     }
-    count / 16 * 16
+
+    #[inline(always)]
+    fn color<O: Blend>(dst: &mut [P], clr: &P) {
+        let (a, b, c, d) = four_channels(clr);
+        composite_sixteen::<O, P, 1>(dst, [a; 16], [b; 16], [c; 16], [d; 16]);
+    }
+
+    #[inline(always)]
+    fn matted<O: Blend, S: Coverage<P::Chan>>(dst: &mut [P], src: &[S], clr: &P) {
+        let (a, b, c, d) = four_channels(clr);
+        composite_matted::<O, P, 3>(dst, &matte_values(src), a, b, c, d);
+    }
 }

@@ -1,14 +1,14 @@
 //! Pixels of four channels without a hue, four at a time and with no planes: sixteen channels,
 //! pixel by pixel.
-ghost use Rattle.std.specs.Prelude.{◌≡◌, ◌≤◌, [], ◌∷◌, length, map, take, replicate};
+ghost use Rattle.std.specs.Prelude.{◌≡◌, [], ◌∷◌, length, map, replicate, refl};
 ghost use Rattle.pix_chan.specs.Runs.{over};
 ghost use Rattle.pix_el.specs.Planes.{by_fours, premultiplied_four};
-ghost use Rattle.pix_el.specs.Pixel.{channel};
-ghost use Rattle.pix_el.specs.PixelComposite.{pixel_composite, matted_composite, matte_numbers, matte_value};
+ghost use Rattle.pix_el.specs.PixelComposite.{pixel_composite, matted_composite};
 
-use crate::el::{Pix, Pixel};
-use crate::matte::Matte;
-use pix_chan::chan::{Alpha, Channel, Linear};
+use crate::el::Pixel;
+use crate::planes::block::Block;
+use crate::planes::coverage::Coverage;
+use pix_chan::chan::Channel;
 use pix_ops::ops::Blend;
 
 /// Returns the four channels of a pixel.
@@ -38,7 +38,7 @@ pub(super) fn four_pixels<P: Pixel>(p: &[P]) -> [P::Chan; 16]
 
 /// Returns the channels of four pixels of one color, pixel by pixel.
 #[inline(always)]
-fn four_times<P: Pixel>(clr: &P) -> [P::Chan; 16]
+pub(super) fn four_times<P: Pixel>(clr: &P) -> [P::Chan; 16]
     requires { P.layout.count ≡ 4 }
     ensures { by_fours (map P.Chan.number result) ≡ replicate 4 (P.numbers clr.now) }
 {
@@ -75,8 +75,27 @@ pub(super) fn put_four_pixels<P: Pixel>(p: &mut [P], c: [P::Chan; 16])
     put_pixel(&mut p[3], c[12], c[13], c[14], c[15]);
 }
 
-/// Composites the four pixels of these channels with those of `dst`: at each index, the
-/// alphas are those of its own pixel.
+/// Returns what four pixels become by the composite of those of `src`: at each index, the alphas are those of its own pixel.
+///
+/// Condition: the alpha is the last channel, and none is a hue.
+#[inline(always)]
+pub(super) fn composited<O: Blend, P: Pixel>(
+    mut to: [P::Chan; 16],
+    src: [P::Chan; 16],
+) -> [P::Chan; 16]
+    requires count { P.layout.count ≡ 4 }
+    requires alpha { P.layout.alpha ≡ 3 }
+    requires no_hue { P.layout.hues.end ≡ 0 }
+    ensures { by_fours (map P.Chan.number result) ≡ over (pixel_composite P.layout O.op)
+        (by_fours (map P.Chan.number src)) (by_fours (map P.Chan.number to)) }
+{
+    let da1 = P::Chan::less16(P::Chan::alphas4(to));
+    let sa1 = P::Chan::less16(P::Chan::alphas4(src));
+    O::composite_run(&mut to, &da1, &src, &sa1);
+    to
+}
+
+/// Composites the four pixels of these channels with those of `dst`.
 ///
 /// Condition: the alpha is the last channel, and none is a hue.
 #[inline(always)]
@@ -88,10 +107,7 @@ fn composite_four<O: Blend, P: Pixel>(dst: &mut [P], src: [P::Chan; 16])
     ensures { map P.numbers dst.new ≡ over (pixel_composite P.layout O.op)
         (by_fours (map P.Chan.number src)) (map P.numbers dst.old) }
 {
-    let mut to = four_pixels(dst);
-    let da1 = P::Chan::less16(P::Chan::alphas4(to));
-    let sa1 = P::Chan::less16(P::Chan::alphas4(src));
-    O::composite_run(&mut to, &da1, &src, &sa1);
+    let to = composited::<O, P>(four_pixels(dst), src);
     put_four_pixels(dst, to);
 }
 
@@ -99,11 +115,7 @@ fn composite_four<O: Blend, P: Pixel>(dst: &mut [P], src: [P::Chan; 16])
 ///
 /// Condition: the alpha is the last channel, and none is a hue.
 #[inline(always)]
-fn composite_matted<const N: usize, A: Alpha, O: Blend, P: Pixel>(
-    dst: &mut [P],
-    src: &[Pix<N, P::Chan, Matte, A, Linear>],
-    clr: &P,
-)
+fn composite_matted<O: Blend, P: Pixel, S: Coverage<P::Chan>>(dst: &mut [P], src: &[S], clr: &P)
     requires count { P.layout.count ≡ 4 }
     requires alpha { P.layout.alpha ≡ 3 }
     requires no_hue { P.layout.hues.end ≡ 0 }
@@ -111,14 +123,13 @@ fn composite_matted<const N: usize, A: Alpha, O: Blend, P: Pixel>(
     requires whole { length src.now ≡ 4 }
     ensures { map P.numbers dst.new ≡
         over (λ m. matted_composite P.layout O.op m (P.numbers clr.now))
-        (map (λ matte. channel P.Chan.max matte 0) (map (matte_numbers P.Chan.number) src.now))
-        (map P.numbers dst.old) }
+        (map S.value src.now) (map P.numbers dst.old) }
 {
     let (a, b, c, d) = (
-        src[0].alpha(),
-        src[1].alpha(),
-        src[2].alpha(),
-        src[3].alpha(),
+        src[0].coverage(),
+        src[1].coverage(),
+        src[2].coverage(),
+        src[3].coverage(),
     );
     let mattes = [a, a, a, a, b, b, b, b, c, c, c, c, d, d, d, d];
     let mut color = four_times(clr);
@@ -126,72 +137,34 @@ fn composite_matted<const N: usize, A: Alpha, O: Blend, P: Pixel>(
     composite_four::<O, P>(dst, color);
 }
 
-/// Composites as many of the first `count` pixels as go four at a time, and returns how many these are.
-///
-/// Condition: the alpha is the last of four channels, and none is a hue; both slices have `count` pixels.
-#[inline(always)]
-pub(super) fn composite_runs<O: Blend, P: Pixel>(dst: &mut [P], src: &[P], count: usize) -> usize
-    requires channels { P.layout.count ≡ 4 }
-    requires alpha { P.layout.alpha ≡ 3 }
-    requires no_hue { P.layout.hues.end ≡ 0 }
-    requires dst_has { count ≤ length dst.old }
-    requires src_has { count ≤ length src.now }
-    ensures some { result ≤ count }
-    ensures composite { map P.numbers dst.new ≡ over (pixel_composite P.layout O.op)
-        (take result (map P.numbers src.now)) (map P.numbers dst.old) }
-{
-    for i in 0..count / 4 {
-        let four = four_pixels(&src[4 * i..4 * i + 4]);
-        composite_four::<O, P>(&mut dst[4 * i..4 * i + 4], four);
-    }
-    count / 4 * 4
-}
+/// Pixels of four channels without a hue, four at a time.
+pub(super) struct Interleaved {}
 
-/// Composites `clr` with as many of the first pixels as go four at a time, and returns how many these are.
-///
-/// Condition: the alpha is the last of four channels, and none is a hue.
-#[inline(always)]
-pub(super) fn color_runs<O: Blend, P: Pixel>(dst: &mut [P], clr: &P) -> usize
-    requires channels { P.layout.count ≡ 4 }
-    requires alpha { P.layout.alpha ≡ 3 }
-    requires no_hue { P.layout.hues.end ≡ 0 }
-    ensures some { result ≤ length dst.old }
-    ensures composite { map P.numbers dst.new ≡ over (pixel_composite P.layout O.op)
-        (take result (replicate (length dst.old) (P.numbers clr.now))) (map P.numbers dst.old) }
-{
-    let four = four_times(clr);
-    let count = dst.len();
-    for i in 0..count / 4 {
-        composite_four::<O, P>(&mut dst[4 * i..4 * i + 4], four);
-    }
-    count / 4 * 4
-}
+impl<P: Pixel> Block<P> for Interleaved {
+    ghost suits = { (P.layout.count ≡ 4) × (P.layout.alpha ≡ 3) × (P.layout.hues.end ≡ 0) };
 
-/// Composites `clr` through mattes with as many of the first `count` pixels as go four at a time, and returns how many these are.
-///
-/// Condition: the alpha is the last of four channels, and none is a hue; both slices have `count` elements.
-#[inline(always)]
-pub(super) fn matte_runs<const N: usize, A: Alpha, O: Blend, P: Pixel>(
-    dst: &mut [P],
-    src: &[Pix<N, P::Chan, Matte, A, Linear>],
-    clr: &P,
-    count: usize,
-) -> usize
-    requires channels { P.layout.count ≡ 4 }
-    requires alpha { P.layout.alpha ≡ 3 }
-    requires no_hue { P.layout.hues.end ≡ 0 }
-    requires dst_has { count ≤ length dst.old }
-    requires src_has { count ≤ length src.now }
-    ensures some { result ≤ count }
-    ensures composite { map P.numbers dst.new ≡ over (λ matte. matted_composite P.layout O.op
-        (matte_value P.layout matte) (P.numbers clr.now))
-        (take result (map (matte_numbers P.Chan.number) src.now)) (map P.numbers dst.old) }
-{
-    for i in 0..count / 4 {
-        let mattes = &src[4 * i..4 * i + 4];
-        composite_matted::<N, A, O, P>(&mut dst[4 * i..4 * i + 4], mattes, clr);
+    ghost SIZE = { 4 };
+
+    const SIZE: usize = 4;
+
+    ghost more = { 3 };
+
+    ghost some = { refl };
+
+    #[inline(always)]
+    fn composite<O: Blend>(dst: &mut [P], src: &[P]) {
+        composite_four::<O, P>(dst, four_pixels(src));
     }
-    count / 4 * 4
+
+    #[inline(always)]
+    fn color<O: Blend>(dst: &mut [P], clr: &P) {
+        composite_four::<O, P>(dst, four_times(clr));
+    }
+
+    #[inline(always)]
+    fn matted<O: Blend, S: Coverage<P::Chan>>(dst: &mut [P], src: &[S], clr: &P) {
+        composite_matted::<O, P, S>(dst, src, clr);
+    }
 }
 
 /// Multiplies the colors of four straight pixels by the alphas of their own pixels.

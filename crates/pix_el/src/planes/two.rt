@@ -1,14 +1,14 @@
 //! Pixels of two channels by planes, sixteen at a time.
-ghost use Rattle.std.specs.Prelude.{◌≡◌, ◌≤◌, ℕ, List, [], ◌∷◌, length, map, take, replicate};
+ghost use Rattle.std.specs.Prelude.{◌≡◌, ℕ, List, [], ◌∷◌, length, map, refl};
 ghost use Rattle.pix_chan.specs.Planes.{both_in_turn};
 ghost use Rattle.pix_chan.specs.Runs.{over};
 ghost use Rattle.pix_el.specs.Planes.{by_twos, AreTwoPlanes};
-ghost use Rattle.pix_el.specs.PixelComposite.{pixel_composite, matted_composite, matte_numbers, matte_value};
+ghost use Rattle.pix_el.specs.PixelComposite.{pixel_composite, matted_composite};
 
-use crate::el::{Pix, Pixel};
-use crate::matte::Matte;
-use crate::planes::matte_values;
-use pix_chan::chan::{Alpha, Channel, Linear};
+use crate::el::Pixel;
+use crate::planes::block::Block;
+use crate::planes::coverage::{Coverage, matte_values};
+use pix_chan::chan::Channel;
 use pix_ops::ops::Blend;
 
 /// Returns the two channels of a pixel.
@@ -145,71 +145,35 @@ fn composite_matted<O: Blend, P: Pixel, const CALLER: usize>(
     composite_sixteen::<O, P, CALLER>(dst, one, two);
 }
 
-/// Composites as many of the first `count` pixels as go sixteen at a time, and returns how many these are.
-///
-/// Condition: the alpha is the second of two channels, and there is no hue; both slices have `count` pixels.
-#[inline(always)]
-pub(super) fn composite_runs<O: Blend, P: Pixel>(dst: &mut [P], src: &[P], count: usize) -> usize
-    requires channels { P.layout.count ≡ 2 }
-    requires alpha { P.layout.alpha ≡ 1 }
-    requires no_hue { P.layout.hues.end ≡ 0 }
-    requires dst_has { count ≤ length dst.old }
-    requires src_has { count ≤ length src.now }
-    ensures some { result ≤ count }
-    ensures composite { map P.numbers dst.new ≡ over (pixel_composite P.layout O.op)
-        (take result (map P.numbers src.now)) (map P.numbers dst.old) }
-{
-    for i in 0..count / 16 {
-        let (one, two) = planes::<P, 2>(&src[16 * i..16 * i + 16]);
-        composite_sixteen::<O, P, 0>(&mut dst[16 * i..16 * i + 16], one, two);
-    }
-    count / 16 * 16
-}
+/// Pixels of two channels without a hue, sixteen at a time.
+pub(super) struct Two {}
 
-/// Composites `clr` with as many of the first pixels as go sixteen at a time, and returns how many these are.
-///
-/// Condition: the alpha is the second of two channels, and there is no hue.
-#[inline(always)]
-pub(super) fn color_runs<O: Blend, P: Pixel>(dst: &mut [P], clr: &P) -> usize
-    requires channels { P.layout.count ≡ 2 }
-    requires alpha { P.layout.alpha ≡ 1 }
-    requires no_hue { P.layout.hues.end ≡ 0 }
-    ensures some { result ≤ length dst.old }
-    ensures composite { map P.numbers dst.new ≡ over (pixel_composite P.layout O.op)
-        (take result (replicate (length dst.old) (P.numbers clr.now))) (map P.numbers dst.old) }
-{
-    let (a, b) = two_channels(clr);
-    let count = dst.len();
-    for i in 0..count / 16 {
-        composite_sixteen::<O, P, 1>(&mut dst[16 * i..16 * i + 16], [a; 16], [b; 16]);
-    }
-    count / 16 * 16
-}
+impl<P: Pixel> Block<P> for Two {
+    ghost suits = { (P.layout.count ≡ 2) × (P.layout.alpha ≡ 1) × (P.layout.hues.end ≡ 0) };
 
-/// Composites `clr` through mattes with as many of the first `count` pixels as go sixteen at a time, and returns how many these are.
-///
-/// Condition: the alpha is the second of two channels, and there is no hue; both slices have `count` elements.
-#[inline(always)]
-pub(super) fn matte_runs<const N: usize, A: Alpha, O: Blend, P: Pixel>(
-    dst: &mut [P],
-    src: &[Pix<N, P::Chan, Matte, A, Linear>],
-    clr: &P,
-    count: usize,
-) -> usize
-    requires channels { P.layout.count ≡ 2 }
-    requires alpha { P.layout.alpha ≡ 1 }
-    requires no_hue { P.layout.hues.end ≡ 0 }
-    requires dst_has { count ≤ length dst.old }
-    requires src_has { count ≤ length src.now }
-    ensures some { result ≤ count }
-    ensures composite { map P.numbers dst.new ≡ over (λ matte. matted_composite P.layout O.op
-        (matte_value P.layout matte) (P.numbers clr.now))
-        (take result (map (matte_numbers P.Chan.number) src.now)) (map P.numbers dst.old) }
-{
-    let (a, b) = two_channels(clr);
-    for i in 0..count / 16 {
-        let mattes = matte_values(&src[16 * i..16 * i + 16]);
-        composite_matted::<O, P, 3>(&mut dst[16 * i..16 * i + 16], &mattes, a, b);
+    ghost SIZE = { 16 };
+
+    const SIZE: usize = 16;
+
+    ghost more = { 15 };
+
+    ghost some = { refl };
+
+    #[inline(always)]
+    fn composite<O: Blend>(dst: &mut [P], src: &[P]) {
+        let (one, two) = planes::<P, 2>(src);
+        composite_sixteen::<O, P, 0>(dst, one, two);
     }
-    count / 16 * 16
+
+    #[inline(always)]
+    fn color<O: Blend>(dst: &mut [P], clr: &P) {
+        let (a, b) = two_channels(clr);
+        composite_sixteen::<O, P, 1>(dst, [a; 16], [b; 16]);
+    }
+
+    #[inline(always)]
+    fn matted<O: Blend, S: Coverage<P::Chan>>(dst: &mut [P], src: &[S], clr: &P) {
+        let (a, b) = two_channels(clr);
+        composite_matted::<O, P, 3>(dst, &matte_values(src), a, b);
+    }
 }

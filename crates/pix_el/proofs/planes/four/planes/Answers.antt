@@ -1,21 +1,14 @@
 -- Of `planes`: that it meets its contract.
-use Rattle.std.proofs.Common.{◌≡◌, ◌∙◌, ◌++◌, ap, sym, arith, map, take, drop}
+use Rattle.std.proofs.Common.{◌++◌, arith, map}
 use Rattle.std.proofs.lemmas.List.{length-map}
-use Rattle.pix_el.specs.Planes.{by_fours}
-use Rattle.pix_el.proofs.FourPlanes.{are_planes, by_parts, parts}
+use Rattle.pix_el.proofs.FourPlanes.{are_planes}
 use Rattle.pix_el.proofs.planes.four.planes.Goals as goal
 
 pub returns : goal.returns
 returns g c =
     let v = g.P.Chan.Channel.number in
-    let n = g.P.Pixel.numbers in
-    let p = c.args.p.now in
-    let all : by_fours ((map v c.four_pixels.result ++ map v c.four_pixels-2.result) ++ (map v c.four_pixels-3.result ++ map v c.four_pixels-4.result)) ≡ map n p
-    = sym (by_parts n (take 4 p) (take 4 (drop 4 p)) (take 4 (drop 8 p)) (take 4 (drop 12 p)) _ _ _ _
-    (omega (arith, length-map c.four_pixels.result v)) (omega (arith, length-map c.four_pixels-2.result v)) (omega (arith, length-map c.four_pixels-3.result v)) (omega (arith, length-map c.four_pixels-4.result v))
-    (sym c.four_pixels.ensures) (sym c.four_pixels-2.ensures) (sym c.four_pixels-3.ensures) (sym c.four_pixels-4.ensures))
-    ∙ ap (map n) (parts p (omega arith)) in
-    are_planes g.P.Chan.Channel.max _ _ _ _ (map n p) (ap by_fours c.split4.ensures ∙ all)
-    (omega (arith, length-map c.split4.result.0 v, length-map c.split4.result.1 v))
-    (omega (arith, length-map c.split4.result.0 v, length-map c.split4.result.2 v))
-    (omega (arith, length-map c.split4.result.0 v, length-map c.split4.result.3 v))
+    let all = c.fours-a.result in
+    let each = c.split4.result in
+    are_planes g.P.Chan.Channel.max (map v each.0) (map v each.1) (map v each.2) (map v each.3) ((map v all.0 ++ map v all.1) ++ (map v all.2 ++ map v all.3)) (map g.P.Pixel.numbers c.args.p.now)
+    c.split4.ensures c.fours-a.ensures
+    (omega (arith, length-map each.0 v, length-map each.1 v)) (omega (arith, length-map each.0 v, length-map each.2 v)) (omega (arith, length-map each.0 v, length-map each.3 v))

@@ -12,8 +12,11 @@ returns g c =
     let v = g.P.Chan.Channel.number in
     let n = g.P.Pixel.numbers in
     let p = c.args.p.now in
-    let all : by_twos (map v c.eight_pixels.result ++ map v c.eight_pixels-2.result) ≡ map n p
-    = by_twos-joined 8 (map v c.eight_pixels.result) (map v c.eight_pixels-2.result) (omega (arith, length-map c.eight_pixels.result v))
+    let a = c.eight_pixels.result in
+    let b = c.eight_pixels-2.result in
+    let each = c.split2.result in
+    let pixels : by_twos (map v a ++ map v b) ≡ map n p
+    = by_twos-joined 8 (map v a) (map v b) (omega (arith, length-map a v))
     ∙ same_pair c.eight_pixels.ensures c.eight_pixels-2.ensures
     ∙ sym (map-append n (take 8 p) (take 8 (drop 8 p))) ∙ ap (map n) (halves p (omega arith)) in
-    are_two_planes g.P.Chan.Channel.max _ _ (map n p) (ap by_twos c.split2.ensures ∙ all) (omega (arith, length-map c.split2.result.0 v, length-map c.split2.result.1 v))
+    are_two_planes g.P.Chan.Channel.max (map v each.0) (map v each.1) (map v a ++ map v b) (map n p) c.split2.ensures pixels (omega (arith, length-map each.0 v, length-map each.1 v))

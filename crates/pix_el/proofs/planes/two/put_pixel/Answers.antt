@@ -1,10 +1,13 @@
 -- Of `put_pixel`: that it meets its contract.
-use Rattle.std.proofs.Common.{◌∙◌, ap, arith, map}
+use Rattle.std.proofs.Common.{◌∙◌, ap, arith, map, set}
 use Rattle.pix_el.proofs.TwoPlanes.{two_set}
 use Rattle.pix_el.proofs.planes.two.put_pixel.Goals as goal
 
 pub returns : goal.returns
 returns g c =
     let v = g.P.Chan.Channel.number in
-    g.met.P.Pixel.numbered _
-    ∙ ap (map v) (g.met.P.Pixel.with_list _ _ ∙ two_set c.channels_mut-to.result.now c.args.one c.args.two (omega arith))
+    let p = c.args.p.now in
+    let list = c.channels_mut-to.result.now in
+    let made = set (set list 0 c.args.one) 1 c.args.two in
+    g.met.P.Pixel.numbered (g.P.Pixel.with_channel_list p made)
+    ∙ ap (map v) (g.met.P.Pixel.with_list p made ∙ two_set list c.args.one c.args.two (omega arith))

@@ -1,0 +1,52 @@
+-- Pixels of one channel, which is their alpha.
+use Rattle.std.proofs.Common.{◌≡◌, ℕ, ◌+◌, ◌-◌, ◌≤◌, List, [], ◌∷◌, ◌++◌, length, map, take, drop, refl, ap, sym, ◌∙◌, arith, set, replicate}
+use lib.Lanes.{Each1}
+use borrow.Rule.Slice.PartMut.{put_mid}
+use Rattle.std.specs.declared.ops.Range.{Range}
+use Rattle.std.proofs.lemmas.List.{length-map, map-append}
+use Rattle.pix_ops.specs.declared.ops.Op.{Op}
+use Rattle.pix_chan.specs.Product.{channel_product}
+use Rattle.pix_chan.specs.Runs.{over, triples}
+use Rattle.pix_ops.specs.Composite.{run_composite}
+use Rattle.pix_el.specs.Planes.{by_ones}
+use Rattle.pix_el.specs.Pixel.{Layout}
+use Rattle.pix_el.specs.PixelComposite.{pixel_composite, matted_color}
+use Rattle.pix_chan.proofs.Planes.{cons}
+use Rattle.pix_el.proofs.FourPlanes.{is_layout, one_channel}
+
+pub one_set : {A : Type 0} (p : List A) (a : A) → length p ≡ 1 → set p 0 a ≡ a ∷ []
+one_set [] a h = absurd (omega arith)
+one_set (w ∷ []) a h = refl
+one_set (w ∷ x ∷ p) a h = absurd (omega arith)
+
+-- a layout of one channel, the alpha
+abbrev pub one_of : ℕ → Layout
+one_of max = record { max = max; count = 1; hues = record { start = 0; end = 0 }; alpha = 0 }
+
+pub is_one_of : (l : Layout) (max : ℕ) (hues : Range ℕ) (alpha : ℕ) → l ≡ record { max = max; count = l.count; hues = hues; alpha = alpha }
+    → l.count ≡ 1 → l.alpha ≡ 0 → l.hues.end ≡ 0 → hues.start ≡ 0 → l ≡ one_of max
+is_one_of l max hues alpha e f g h i = is_layout l (ap (λ (m : Layout). m.max) e) f (ap (λ (m : Layout). m.hues.start) e ∙ i) h g
+
+-- a run of alphas, each with one minus itself, and the composites of their pixels
+pub ones_composited : (max : ℕ) (op : Op) (ss ds : List ℕ) → length ss ≡ length ds → Each1 (λ v. v ≤ max) ss → Each1 (λ v. v ≤ max) ds
+    → by_ones (over (run_composite max op) (triples (map (λ x. max - x) ds) ss (map (λ x. max - x) ss)) ds)
+    ≡ over (pixel_composite (one_of max) op) (by_ones ss) (by_ones ds)
+ones_composited max op [] [] h p q = refl
+ones_composited max op [] (d ∷ ds) h p q = absurd (omega arith)
+ones_composited max op (s ∷ ss) [] h p q = absurd (omega arith)
+ones_composited max op (s ∷ ss) (d ∷ ds) h p q =
+    cons (cons (one_channel max op s s d d p.0 q.0) refl) (ones_composited max op ss ds (omega arith) p.1 q.1)
+
+-- one color again and again
+pub same_ones : {C : Type 0} (number : C → ℕ) (a : C) (color : List ℕ) → number a ∷ [] ≡ color → by_ones (map number (replicate 16 a)) ≡ replicate 16 color
+same_ones number a color e = ap (replicate 16) e
+
+-- a color through each of mattes
+pub ones_matted : (max a : ℕ) (color : List ℕ) → a ∷ [] ≡ color → (ms : List ℕ)
+    → by_ones (map (channel_product max a) ms) ≡ map (λ m. matted_color (one_of max) m color) ms
+ones_matted max a color e [] = refl
+ones_matted max a color e (m ∷ ms) = cons (ap (matted_color (one_of max) m) e) (ones_matted max a color e ms)
+
+-- the pixels of two lists of channels
+pub ones_joined : {C : Type 0} (number : C → ℕ) (p q : List C) → by_ones (map number p) ++ by_ones (map number q) ≡ by_ones (map number (p ++ q))
+ones_joined number p q = sym (ap by_ones (map-append number p q) ∙ map-append (λ (c : ℕ). c ∷ []) (map number p) (map number q))

@@ -1,0 +1,11 @@
+-- What holds at each turn of the loop over `i` in `color_blocks`.
+use Rattle.std.proofs.Common.{◌≡◌, ◌*◌, take, map, replicate, length}
+use Rattle.pix_chan.specs.Runs.{over}
+use Rattle.pix_el.specs.PixelComposite.{pixel_composite}
+use Rattle.pix_el.proofs.planes.block.color_blocks.Given as goal
+
+-- the pixels of the blocks below the index are composited
+abbrev pub invariant-loop-i : goal.invariant-loop-i
+invariant-loop-i g l =
+    let v = g.P.Pixel.numbers in
+    map v l.dst ≡ over (pixel_composite g.P.Pixel.layout g.O.Blend.op) (take (l.size * l.i) (replicate (length l.fn.dst) (v l.color))) (map v l.fn.dst)
