@@ -5,7 +5,7 @@ use Rattle.std.specs.List.{range_with_len}
 use Rattle.std.proofs.lemmas.List.FromFn.{take-map-range_with_len}
 use Rattle.pix_chan.specs.Runs.{over}
 use Rattle.pix_chan.specs.Modes.{AlphaMode, Straight, Premultiplied, alpha_kind, GammaMode, Linear, Srgb, gamma_kind}
-use Rattle.pix_el.specs.Pixel.{Layout}
+use Rattle.pix_el.specs.Pixel.{Layout, channel}
 use Rattle.pix_el.specs.Color.{rgba_of, of_rgba}
 use Rattle.pix_el.specs.Model.{Model, ModelRow, row}
 use Rattle.pix_el.specs.Conversion.{Format, at_depth, reencoded, of_depth, channel_reencoded, within_model, rgba_format, across_models, converted}
@@ -32,6 +32,25 @@ within_is format to gamma to_gamma layout to_layout pixel rescaled a b c d el et
     ∙ ap (λ (n : ℕ). map (channel_reencoded format gamma to to_gamma rescaled) (range_with_len 0 n)) (ap (λ (l : Layout). l.count) (sym et))
     ∙ ap (λ (p : List ℕ). map (channel_reencoded format gamma to to_gamma p) (range_with_len 0 to.layout.count))
     (ed ∙ ap (λ (l : Layout). of_depth l to_layout pixel) (sym el) ∙ ap (λ (l : Layout). of_depth format.layout l pixel) (sym et))
+
+-- the same of the pixel that is made of the four
+pub made_within : (format to : Format) (gamma to_gamma : GammaMode) (layout to_layout : Layout) (pixel rescaled made : List ℕ) (a b c d : ℕ)
+    → format.layout ≡ layout → to.layout ≡ to_layout → rescaled ≡ of_depth layout to_layout pixel → to_layout.count ≤ 4
+    → a ≡ channel_reencoded format gamma to to_gamma rescaled 0 → b ≡ channel_reencoded format gamma to to_gamma rescaled 1
+    → c ≡ channel_reencoded format gamma to to_gamma rescaled 2 → d ≡ channel_reencoded format gamma to to_gamma rescaled 3
+    → made ≡ take to_layout.count (a ∷ b ∷ c ∷ d ∷ []) → made ≡ within_model format gamma to to_gamma pixel
+made_within format to gamma to_gamma layout to_layout pixel rescaled made a b c d el et ed few e0 e1 e2 e3 em =
+    em ∙ within_is format to gamma to_gamma layout to_layout pixel rescaled a b c d el et ed few e0 e1 e2 e3
+
+-- at another depth, from its first four channels
+pub made_of_depth : (layout to : Layout) (max to_max : ℕ) (pixel made : List ℕ) (a b c d : ℕ) → layout.max ≡ max → to.max ≡ to_max → to.count ≤ 4
+    → a ≡ at_depth max to_max (channel max pixel 0) → b ≡ at_depth max to_max (channel max pixel 1)
+    → c ≡ at_depth max to_max (channel max pixel 2) → d ≡ at_depth max to_max (channel max pixel 3)
+    → made ≡ take to.count (a ∷ b ∷ c ∷ d ∷ []) → made ≡ of_depth layout to pixel
+made_of_depth layout to max to_max pixel made a b c d ef et few ea eb ec ed em =
+    em ∙ four_channels (λ ch. at_depth max to_max (channel max pixel ch)) a b c d to.count few ea eb ec ed
+    ∙ ap (λ (m : ℕ). map (λ ch. at_depth m to_max (channel m pixel ch)) (range_with_len 0 to.count)) (sym ef)
+    ∙ ap (λ (m : ℕ). map (λ ch. at_depth layout.max m (channel layout.max pixel ch)) (range_with_len 0 to.count)) (sym et)
 
 -- a format has no more channels than its model has
 pub fits_model : (layout stated : Layout) → layout ≡ stated → layout.count ≤ layout.alpha + 1 → layout.count ≤ stated.alpha + 1

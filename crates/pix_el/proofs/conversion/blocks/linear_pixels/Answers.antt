@@ -1,36 +1,45 @@
--- Of `linear_pixels`: the clause `pixels`, and that the invariant of its loop over `i` holds at first and stays.
-use Rattle.std.proofs.Common.{◌≡◌, length, map, get_or, [], arith, sym, ap, ◌∙◌, refl}
-use Rattle.std.proofs.lemmas.List.{length-map, map-set, get_or-map}
-use Rattle.std.proofs.lemmas.List.FromFn.{fill_by_all}
+-- Of `linear_pixels`: its clauses, and that the invariant of its loop over `i` holds at first and stays.
+use Rattle.std.proofs.Common.{◌+◌, map, take, get_or, arith, sym, ap, ◌∙◌, refl, ℕ, List}
+use Rattle.std.proofs.lemmas.List.{length-map, get_or-map, get_or_default, take_all}
 use Rattle.pix_el.specs.Planes.{linear_four}
-use Rattle.pix_el.proofs.Written.{written_none, written_more, written_all}
+use Rattle.pix_chan.proofs.Slices.{over-nil, mapped_one_step, over_both}
+use Rattle.pix_el.proofs.Written.{length_written, over_written}
 use Rattle.pix_el.proofs.conversion.blocks.linear_pixels.Goals as goal
 
 pub loop-i-init : goal.loop-i-init
-loop-i-init g c = written_none _ _ _
+loop-i-init g c =
+    let f = linear_four g.P.Chan.Channel.max g.D.Chan.Channel.max g.P.Gamma.Gamma-2.mode in
+    sym (over-nil (λ (d s : List ℕ). f s) (map g.D.Pixel.numbers c.args.dst.now))
 
 pub loop-i-preserved : goal.loop-i-preserved
 loop-i-preserved g c =
     let n = g.D.Pixel.numbers in
     let m = g.P.Pixel.numbers in
-    let f = linear_four g.P.Chan.Channel.max g.D.Chan.Channel.max g.P.Gamma.Gamma-2.mode in
+    let linear = linear_four g.P.Chan.Channel.max g.D.Chan.Channel.max g.P.Gamma.Gamma-2.mode in
+    let f = λ (d s : List ℕ). linear s in
     let i = c.loop-i.i in
     let src = c.args.src.now in
     let item = c.index-src-i.result in
-    let at : get_or (map f (map m src)) i [] ≡ f (m item) =
-    get_or-map f (map m src) i (m item) [] (omega (arith, length-map src m))
-    ∙ ap f (get_or-map m src i item (m item) (omega arith) ∙ ap m (sym c.index-src-i.is)) in
-    rw map-set
-    (written_more _ _ _ _ i (n c.linear_pixel.result) c.loop-i.invariant (omega (arith, length-map c.args.dst.now n)) (c.linear_pixel.ensures ∙ sym at))
+    let s = m item in
+    let made = c.linear_pixel.result in
+    let was = get_or c.loop-i.dst i made in
+    mapped_one_step n f i (i + 1) c.args.dst.now c.loop-i.dst made was s s s (map m src)
+    c.loop-i.invariant refl (omega arith) (omega (arith, length-map src m))
+    (ap m c.index-src-i.is ∙ sym (get_or-map m src i item s (omega arith))) (get_or_default c.loop-i.dst i made was (omega arith)) c.linear_pixel.ensures
+
+pub returns-clause-size : goal.returns-clause-size
+returns-clause-size g c =
+    let linear = linear_four g.P.Chan.Channel.max g.D.Chan.Channel.max g.P.Gamma.Gamma-2.mode in
+    length_written g.D.Pixel.numbers (λ (s d : List ℕ). linear s) c.args.dst.now c.loop-i.dst (take c.loop-i.i (map g.P.Pixel.numbers c.args.src.now)) c.loop-i.invariant
 
 pub returns-clause-pixels : goal.returns-clause-pixels
 returns-clause-pixels g c =
     let n = g.D.Pixel.numbers in
     let m = g.P.Pixel.numbers in
-    let f = linear_four g.P.Chan.Channel.max g.D.Chan.Channel.max g.P.Gamma.Gamma-2.mode in
-    let src = c.args.src.now in
-    let old = c.args.dst.now in
-    let all = map f (map m src) in
-    let long : length (map n old) ≡ length all = length-map old n ∙ c.requires.as_many ∙ sym (length-map src m) ∙ sym (length-map (map m src) f) in
-    written_all _ _ _ _ c.loop-i.i (length all) c.loop-i.invariant long (omega (arith, long, length-map old n))
-    ∙ sym (fill_by_all (λ k. get_or all k []) all (length all) [] refl (λ k h. refl))
+    let linear = linear_four g.P.Chan.Channel.max g.D.Chan.Channel.max g.P.Gamma.Gamma-2.mode in
+    let f = λ (d s : List ℕ). linear s in
+    let ds = map n c.args.dst.now in
+    let ss = map m c.args.src.now in
+    c.loop-i.invariant
+    ∙ over_both f c.loop-i.i ds ss (omega (arith, length-map c.args.dst.now n, length-map c.args.src.now m))
+    ∙ over_written linear ss ds (omega (arith, length-map c.args.dst.now n, length-map c.args.src.now m))

@@ -7,34 +7,41 @@ use Rattle.pix_el.specs.declared.matte.Matte.{Matte}
 use Rattle.pix_el.specs.Pixel.{Layout, channel}
 use Rattle.pix_el.specs.PixelComposite.{matted_composite, matte_numbers, matte_value}
 use Rattle.pix_chan.proofs.Slices.{mapped_one_step, over_both}
-use Rattle.pix_el.proofs.Written.{same_over}
+use Rattle.pix_el.proofs.Written.{replaced}
 use Rattle.pix_el.proofs.el.Pixel.composite_matte.Goals as goal
 
 pub loop-i-preserved : goal.loop-i-preserved
 loop-i-preserved g c =
     let n = g.Self.Pixel.numbers in
+    let op = g.O.Blend.op in
     let layout : Layout = g.Self.Pixel.layout in
+    let top = g.Self.Chan.Channel.max in
     let number = g.Self.Chan.Channel.number in
     let numbers = λ (m : Pix g.row.N g.row.Self-Chan.Denot Matte g.row.A.Denot Linear). matte_numbers number m in
     let color = n c.args.clr.now in
-    let f = λ (d m : List ℕ). matted_composite layout g.O.Blend.op (matte_value layout m) color d in
+    let f = λ (d m : List ℕ). matted_composite layout op (matte_value layout m) color d in
+    let i = c.loop-i.i in
     let src = c.args.src.now in
-    let matte = numbers c.index-src-i.result in
-    let max : g.Self.Chan.Channel.max ≡ layout.max = sym (ap (λ (l : Layout). l.max) g.met.Self.Pixel.laid_out) in
-    let value : number c.alpha.result ≡ matte_value layout matte = c.alpha.ensures ∙ ap (λ r. channel r matte 0) max in
-    mapped_one_step n f c.loop-i.i (c.loop-i.i + 1) c.args.dst.now c.loop-i.dst c.composite_channels_alpha.new.self c.index-dst-i.result color matte matte (map numbers src)
+    let item = c.index-src-i.result in
+    let matte = numbers item in
+    let old = c.index-dst-i.result in
+    let was = get_or c.loop-i.dst i old in
+    let new = c.composite_channels_alpha.new.self in
+    let max : top ≡ layout.max = sym (ap (λ (l : Layout). l.max) g.met.Self.Pixel.laid_out) in
+    let value : number c.alpha.result ≡ matte_value layout matte = replaced (λ (r : ℕ). channel r matte 0) top layout.max (number c.alpha.result) c.alpha.ensures max in
+    let made : n new ≡ matted_composite layout op (number c.alpha.result) color (n was) = c.composite_channels_alpha.ensures.composite in
+    let by_value : n new ≡ f (n was) matte = replaced (λ (z : ℕ). matted_composite layout op z color (n was)) (number c.alpha.result) (matte_value layout matte) (n new) made value in
+    mapped_one_step n f i (i + 1) c.args.dst.now c.loop-i.dst new old color matte matte (map numbers src)
     c.loop-i.invariant refl (omega arith) (omega (arith, length-map src numbers))
-    (ap numbers c.index-src-i.is ∙ sym (get_or-map numbers src c.loop-i.i c.index-src-i.result matte (omega arith))) c.index-dst-i.is
-    (c.composite_channels_alpha.ensures.composite
-    ∙ ap (λ (z : ℕ). matted_composite layout g.O.Blend.op z color (n (get_or c.loop-i.dst c.loop-i.i c.index-dst-i.result))) value
-    ∙ ap (λ z. f (n z) matte) (sym c.index-dst-i.is))
+    (ap numbers c.index-src-i.is ∙ sym (get_or-map numbers src i item matte (omega arith))) c.index-dst-i.is
+    (replaced (λ (z : List ℕ). f z matte) (n was) (n old) (n new) by_value (ap n (sym c.index-dst-i.is)))
 
 pub returns : goal.returns
 returns g c =
     let n = g.Self.Pixel.numbers in
     let layout : Layout = g.Self.Pixel.layout in
     let numbers = λ (m : Pix g.row.N g.row.Self-Chan.Denot Matte g.row.A.Denot Linear). matte_numbers g.Self.Chan.Channel.number m in
-    let h = λ (m d : List ℕ). matted_composite layout g.O.Blend.op (matte_value layout m) (n c.args.clr.now) d in
+    let color = n c.args.clr.now in
+    let f = λ (d m : List ℕ). matted_composite layout g.O.Blend.op (matte_value layout m) color d in
     c.loop-i.invariant
-    ∙ over_both (λ (d m : List ℕ). h m d) c.loop-i.i (map n c.args.dst.now) (map numbers c.args.src.now) (omega (arith, length-map c.args.dst.now n, length-map c.args.src.now numbers))
-    ∙ same_over h (map numbers c.args.src.now) (map n c.args.dst.now)
+    ∙ over_both f c.loop-i.i (map n c.args.dst.now) (map numbers c.args.src.now) (omega (arith, length-map c.args.dst.now n, length-map c.args.src.now numbers))

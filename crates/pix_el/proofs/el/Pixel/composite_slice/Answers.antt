@@ -3,7 +3,6 @@ use Rattle.std.proofs.Common.{◌+◌, ◌∙◌, sym, ap, arith, map, refl, Lis
 use Rattle.std.proofs.lemmas.List.{length-map, get_or-map}
 use Rattle.pix_el.specs.PixelComposite.{pixel_composite}
 use Rattle.pix_chan.proofs.Slices.{mapped_one_step, over_both}
-use Rattle.pix_el.proofs.Written.{same_over}
 use Rattle.pix_el.proofs.el.Pixel.composite_slice.Goals as goal
 
 pub loop-i-preserved : goal.loop-i-preserved
@@ -22,4 +21,3 @@ returns g c =
     let f = λ (d s : List ℕ). pixel_composite g.Self.Pixel.layout g.O.Blend.op s d in
     c.loop-i.invariant
     ∙ over_both f c.loop-i.i (map n c.args.dst.now) (map n c.args.src.now) (omega (arith, length-map c.args.dst.now n, length-map c.args.src.now n))
-    ∙ same_over (pixel_composite g.Self.Pixel.layout g.O.Blend.op) (map n c.args.src.now) (map n c.args.dst.now)

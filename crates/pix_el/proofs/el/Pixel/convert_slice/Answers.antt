@@ -3,7 +3,6 @@ use Rattle.std.proofs.Common.{◌+◌, ◌∙◌, sym, ap, arith, map, get_or, r
 use Rattle.std.proofs.lemmas.List.{length-map, get_or-map, get_or_default}
 use Rattle.pix_el.specs.Conversion.{converted}
 use Rattle.pix_chan.proofs.Slices.{mapped_one_step, over_both}
-use Rattle.pix_el.proofs.Written.{same_over}
 use Rattle.pix_el.proofs.el.Pixel.convert_slice.Goals as goal
 
 pub loop-i-preserved : goal.loop-i-preserved
@@ -24,4 +23,3 @@ returns g c =
     let f = λ (s d : List ℕ). converted g.Self.Pixel.format g.Self.Gamma.Gamma-2.mode g.D.Pixel.format g.D.Gamma.Gamma.mode s in
     c.loop-i.invariant
     ∙ over_both (λ (d s : List ℕ). f s d) c.loop-i.i (map n c.args.dst.now) (map m c.args.src.now) (omega (arith, length-map c.args.dst.now n, length-map c.args.src.now m))
-    ∙ same_over f (map m c.args.src.now) (map n c.args.dst.now)
