@@ -12,6 +12,8 @@ pub(crate) fn arithmetic(words: &[&str], alloc: Global) -> Result<String, Flaw> 
     let made = match words {
         ["8", "decode_srgb", x] => channel::<Ch8>(x)?.decode_srgb().to_u32(),
         ["8", "encode_srgb", x] => channel::<Ch8>(x)?.encode_srgb().to_u32(),
+        ["8", "decode_srgb16", x] => channel::<Ch8>(x)?.decode_srgb16().to_u32(),
+        ["16", "encode_srgb8", x] => channel::<Ch16>(x)?.encode_srgb8().to_u32(),
         ["8", "deepened", x] => Ch16::from(channel::<Ch8>(x)?).to_u32(),
         ["16", "shallowed", x] => Ch8::from(channel::<Ch16>(x)?).to_u32(),
         ["8", name, operands @ ..] => computed::<Ch8>(name, operands)?,

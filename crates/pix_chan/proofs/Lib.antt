@@ -12,3 +12,4 @@ pub mod Quotient
 pub mod Entries
 pub mod SrgbTables
 pub mod SrgbOnce
+pub mod Srgb16

@@ -10,7 +10,7 @@ grown_by true x x' y y' l r = l
 grown_by false x x' y y' l r = r
 
 -- a greater fraction has a greater side
-grown : (p q a b : ℕ) → a ≤ b → fraction_side p q a ≤ fraction_side p q b
+pub grown : (p q a b : ℕ) → a ≤ b → fraction_side p q a ≤ fraction_side p q b
 grown p q a b le =
     grown_by (is_straight p q) (1292 * q * a) (1292 * q * b) ((1055 * q) ^ 12 * a ^ 5) ((1055 * q) ^ 12 * b ^ 5)
     (mul-le (1292 * q) a (1292 * q) b (le_refl (1292 * q)) le)

@@ -7,6 +7,7 @@ pub mod Laws
 pub mod Channel
 pub mod SrgbCurve
 pub mod Srgb
+pub mod Srgb16
 pub mod Modes
 pub mod Runs
 pub mod Planes

@@ -21,6 +21,7 @@ mod bits16;
 mod bits8;
 mod modes;
 mod srgb;
+mod srgb16;
 mod whole;
 
 pub use bits8::Ch8;

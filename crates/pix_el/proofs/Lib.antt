@@ -3,6 +3,7 @@ pub mod Models
 pub mod Written
 pub mod Composited
 pub mod Conversions
+pub mod InLight
 pub mod FourPlanes
 pub mod TwoPlanes
 pub mod OnePlane

@@ -2,6 +2,7 @@ pub use Rattle.pix_chan.specs.Number
 pub use Rattle.pix_chan.specs.Product
 pub use Rattle.pix_chan.specs.Nearest
 pub use Rattle.pix_chan.specs.Depth
+pub use Rattle.pix_chan.specs.Srgb16
 pub use Rattle.pix_chan.specs.Modes
 pub use Rattle.pix_chan.specs.Laws
 pub use Rattle.pix_chan.specs.Channel
@@ -13,6 +14,7 @@ pub mod Model
 pub mod Pixel
 pub mod Color
 pub mod Conversion
+pub mod Light
 pub mod PixelComposite
 pub mod Planes
 pub mod Premultiplied

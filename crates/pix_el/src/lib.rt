@@ -8,6 +8,7 @@ mod conversion;
 mod each;
 pub mod el;
 mod hue;
+pub mod light;
 pub mod matte;
 pub mod model;
 mod planes;

@@ -21,6 +21,7 @@ use std::marker::Model;
 mod buffers;
 mod change;
 mod convert;
+mod light;
 mod row_change;
 mod samples;
 

@@ -64,6 +64,16 @@ pub fn modes() -> (Ch8, Ch8, Ch8, Ch8) {
     (light, shown, stored, straight)
 }
 
+/// Takes a channel through the sRGB curve to sixteen bits of linear light, and back.
+pub fn deep_modes() -> (Ch16, Ch8, Ch8)
+    ensures same { result.1.value ≡ 188 }
+{
+    let light = Ch8::new(188).decode_srgb16(); // 32957
+    let shown = light.encode_srgb8(); // 188
+    let dim = Ch16::new(10).encode_srgb8(); // 1
+    (light, shown, dim)
+}
+
 /// Finds an operator by its name, and by its number.
 pub fn found() -> (Option<Op>, Option<Op>)
     ensures number { result.1 ≡ Some Op.SrcOver }

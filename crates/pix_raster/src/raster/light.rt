@@ -1,0 +1,140 @@
+//! Rasters of sRGB of 8 bits made of those of linear light of 16 bits, and back.
+ghost use Rattle.std.specs.Prelude.{◌≡◌, ◌≤◌, ◌+◌, vec_len, length, map, IfOk, IfErr};
+ghost use Rattle.pix_el.specs.Light.{in_light, as_srgb};
+ghost use Rattle.pix_raster.specs.declared.fault.RasterFault.{RasterFault};
+
+use super::Raster;
+use crate::fault::RasterFault;
+use pix_chan::chan::Linear;
+use pix_el::el::Pixel;
+use pix_el::light::{Light, Transfer};
+use std::alloc::Global;
+
+impl<P: Pixel> Raster<P> {
+    /// Makes a raster of this size with each of these sRGB pixels of 8 bits decoded into linear light of 16 bits.
+    ///
+    /// Condition: that format has no more channels than its model.
+    ///
+    /// # Errors
+    ///
+    /// `Memory` where a request for memory was refused.
+    pub fn decode_srgb<D>(&self, alloc: Global) -> Result<Raster<D>, RasterFault>
+    where
+        D: Pixel<Model = P::Model, Gamma = Linear>,
+        P::Gamma: Transfer<P::Chan, D::Chan>,
+        requires few { D.layout.count ≤ D.layout.alpha + 1 }
+        ensures size { IfOk result
+            (λ r. (r.width ≡ self.now.width) × (r.height ≡ self.now.height)) }
+        ensures pixels { IfOk result (λ r. map D.numbers r.pixels ≡
+            map (in_light P.format D.format) (map P.numbers self.now.pixels)) }
+        ensures memory { IfErr result (λ fault. fault ≡ RasterFault.Memory) }
+    {
+        let pixels = decoded_pixels::<P, D>(alloc, self.pixels())?;
+        Ok(Raster {
+            width: self.width,
+            height: self.height,
+            pixels,
+        })
+    }
+
+    /// Makes a raster of this size with each of these linear pixels of 16 bits encoded as sRGB of 8 bits.
+    ///
+    /// Condition: that format has no more channels than its model.
+    ///
+    /// # Errors
+    ///
+    /// `Memory` where a request for memory was refused.
+    pub fn encode_srgb<D>(&self, alloc: Global) -> Result<Raster<D>, RasterFault>
+    where
+        P: Pixel<Gamma = Linear>,
+        D: Pixel<Model = P::Model>,
+        D::Gamma: Transfer<D::Chan, P::Chan>,
+        requires few { D.layout.count ≤ D.layout.alpha + 1 }
+        ensures size { IfOk result
+            (λ r. (r.width ≡ self.now.width) × (r.height ≡ self.now.height)) }
+        ensures pixels { IfOk result (λ r. map D.numbers r.pixels ≡
+            map (as_srgb P.format D.format) (map P.numbers self.now.pixels)) }
+        ensures memory { IfErr result (λ fault. fault ≡ RasterFault.Memory) }
+    {
+        let pixels = encoded_pixels::<P, D>(alloc, self.pixels())?;
+        Ok(Raster {
+            width: self.width,
+            height: self.height,
+            pixels,
+        })
+    }
+}
+
+/// Decodes each pixel of `src`, in memory that is reserved once.
+///
+/// # Errors
+///
+/// `Memory` where a request for memory was refused.
+fn decoded_pixels<S, P>(alloc: Global, src: &[S]) -> Result<Vec<P>, RasterFault>
+where
+    S: Pixel,
+    P: Pixel<Model = S::Model, Gamma = Linear>,
+    S::Gamma: Transfer<S::Chan, P::Chan>,
+    requires few { P.layout.count ≤ P.layout.alpha + 1 }
+    ensures pixels { IfOk result (λ made. map P.numbers made.items ≡
+        map (in_light S.format P.format) (map S.numbers src.now)) }
+    ensures count { IfOk result (λ made. vec_len made ≡ length src.now) }
+    ensures memory { IfErr result (λ fault. fault ≡ RasterFault.Memory) }
+{
+    let mut pixels = vec![in alloc; P::default(); src.len()].map_err(|_| RasterFault::Memory)?;
+    decode_each::<S, P>(&mut pixels, src);
+    Ok(pixels)
+}
+
+/// Decodes each pixel of `src` in the place of that of `dst` at its index.
+///
+/// Condition: there are as many of both, and that format has no more channels than its model.
+fn decode_each<S, P>(dst: &mut [P], src: &[S])
+where
+    S: Pixel,
+    P: Pixel<Model = S::Model, Gamma = Linear>,
+    S::Gamma: Transfer<S::Chan, P::Chan>,
+    requires few { P.layout.count ≤ P.layout.alpha + 1 }
+    requires as_many { length dst.old ≡ length src.now }
+    ensures { map P.numbers dst.new ≡
+        map (in_light S.format P.format) (map S.numbers src.now) }
+{
+    S::decode_srgb_slice::<P>(dst, src);
+}
+
+/// Encodes each pixel of `src`, in memory that is reserved once.
+///
+/// # Errors
+///
+/// `Memory` where a request for memory was refused.
+fn encoded_pixels<S, P>(alloc: Global, src: &[S]) -> Result<Vec<P>, RasterFault>
+where
+    S: Pixel<Gamma = Linear>,
+    P: Pixel<Model = S::Model>,
+    P::Gamma: Transfer<P::Chan, S::Chan>,
+    requires few { P.layout.count ≤ P.layout.alpha + 1 }
+    ensures pixels { IfOk result (λ made. map P.numbers made.items ≡
+        map (as_srgb S.format P.format) (map S.numbers src.now)) }
+    ensures count { IfOk result (λ made. vec_len made ≡ length src.now) }
+    ensures memory { IfErr result (λ fault. fault ≡ RasterFault.Memory) }
+{
+    let mut pixels = vec![in alloc; P::default(); src.len()].map_err(|_| RasterFault::Memory)?;
+    encode_each::<S, P>(&mut pixels, src);
+    Ok(pixels)
+}
+
+/// Encodes each pixel of `src` in the place of that of `dst` at its index.
+///
+/// Condition: there are as many of both, and that format has no more channels than its model.
+fn encode_each<S, P>(dst: &mut [P], src: &[S])
+where
+    S: Pixel<Gamma = Linear>,
+    P: Pixel<Model = S::Model>,
+    P::Gamma: Transfer<P::Chan, S::Chan>,
+    requires few { P.layout.count ≤ P.layout.alpha + 1 }
+    requires as_many { length dst.old ≡ length src.now }
+    ensures { map P.numbers dst.new ≡
+        map (as_srgb S.format P.format) (map S.numbers src.now) }
+{
+    S::encode_srgb_slice::<P>(dst, src);
+}
