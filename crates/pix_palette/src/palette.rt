@@ -1,5 +1,5 @@
 //! Palettes: tables of colors, to which images are indexed.
-ghost use Rattle.std.specs.Prelude.{◌≡◌, ℕ, ◌+◌, ◌<◌, ◌≤◌, Some, None, IfSome, vec_len, IfOk, IfErr, length, map, slice_get, true, MatchOption, slice_set, Any, nat_eq};
+ghost use Rattle.std.specs.Prelude.{◌≡◌, ℕ, ◌+◌, ◌<◌, ◌≤◌, Some, None, IfSome, vec_len, IsOk, IfOk, IfErr, length, map, slice_get, true, MatchOption, slice_set, Any, nat_eq};
 ghost use Rattle.std.specs.Option.{option_map};
 ghost use Rattle.pix_palette.specs.Palette.{Answers, IsSet, StandsFor, numbers};
 ghost use Rattle.pix_palette.specs.PaletteMatch.{IsMatch, IsMinimal, IsFirstOf};
@@ -25,7 +25,7 @@ impl Palette {
     ///
     /// # Errors
     ///
-    /// `Memory` on allocation failure, and where the limit is too large to be reserved.
+    /// `Memory` on allocation failure, and where the limit is too large to be reserved; never for a limit of 0.
     ///
     /// # Examples
     ///
@@ -41,6 +41,7 @@ impl Palette {
         ensures limit { IfOk result (λ p. p.limit ≡ limit) }
         ensures threshold { IfOk result (λ p. p.threshold ≡ None) }
         ensures refused { IfErr result (λ fault. fault ≡ RasterFault.Memory) }
+        ensures no_room { limit ≡ 0 → IsOk result }
     {
         let colors = Vec::with_capacity(alloc, limit).map_err(|_| RasterFault::Memory)?;
         Ok(Palette {
@@ -284,6 +285,7 @@ impl Palette {
         ensures limit { IfOk result (λ p. p.limit ≡ self.now.limit) }
         ensures threshold { IfOk result (λ p. p.threshold ≡ self.now.threshold) }
         ensures refused { IfErr result (λ fault. fault ≡ RasterFault.Memory) }
+        ensures no_room { self.now.limit ≡ 0 → IsOk result }
     {
         let limit = self.limit;
         let mut colors = Vec::with_capacity(alloc, limit).map_err(|_| RasterFault::Memory)?;

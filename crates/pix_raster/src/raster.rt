@@ -1,5 +1,5 @@
 //! Rasters: images in memory.
-ghost use Rattle.std.specs.Prelude.{◌≡◌, ℕ, ◌+◌, ◌*◌, ◌<◌, ◌≤◌, ℤ, pos, ◌&&◌, vec_len, length, map, slice_index_or, slice_get, slice_range, replicate, [], ◌∷◌, IfOk, IfErr, Some, None, Err, MatchOption, All, false};
+ghost use Rattle.std.specs.Prelude.{◌≡◌, ℕ, ◌+◌, ◌*◌, ◌<◌, ◌≤◌, ℤ, pos, ◌&&◌, vec_len, length, map, slice_index_or, slice_get, slice_range, replicate, [], ◌∷◌, IsOk, IfOk, IfErr, Some, None, Err, MatchOption, All, false};
 ghost use Rattle.pix_raster.specs.Region.{limit, covers, has_row, intersection_of};
 ghost use Rattle.pix_raster.specs.Sizes.{size_fault};
 ghost use Rattle.pix_raster.specs.Image.{IsPoint, IsInside, region_of};
@@ -59,7 +59,8 @@ impl<P: Pixel> Raster<P> {
     ///
     /// # Errors
     ///
-    /// `WidthTooBig`, `HeightTooBig` or `TooBig`, the first that applies; `Memory` on allocation failure.
+    /// `WidthTooBig`, `HeightTooBig` or `TooBig`, the first that applies; `Memory` on allocation failure, and never for a raster
+    /// without points.
     ///
     /// # Examples
     ///
@@ -76,6 +77,7 @@ impl<P: Pixel> Raster<P> {
             → result ≡ Err fault }
         ensures memory { IfErr result (λ fault. size_fault width height ≡ None
             → fault ≡ RasterFault.Memory) }
+        ensures no_room { size_fault width height ≡ None → height * width ≡ 0 → IsOk result }
     {
         Raster::with_color(alloc, width, height, P::default())
     }
@@ -84,7 +86,8 @@ impl<P: Pixel> Raster<P> {
     ///
     /// # Errors
     ///
-    /// `WidthTooBig`, `HeightTooBig` or `TooBig`, the first that applies; `Memory` on allocation failure.
+    /// `WidthTooBig`, `HeightTooBig` or `TooBig`, the first that applies; `Memory` on allocation failure, and never for a raster
+    /// without points.
     ///
     /// # Examples
     ///
@@ -105,6 +108,7 @@ impl<P: Pixel> Raster<P> {
             → result ≡ Err fault }
         ensures memory { IfErr result (λ fault. size_fault width height ≡ None
             → fault ≡ RasterFault.Memory) }
+        ensures no_room { size_fault width height ≡ None → height * width ≡ 0 → IsOk result }
     {
         let count = point_count(width, height)?;
         let mut pixels = Vec::with_capacity(alloc, count).map_err(|_| RasterFault::Memory)?;
