@@ -12,7 +12,8 @@ use std::alloc::{AllocError, Global};
 pub(crate) fn raster_text(alloc: Global, raster: &Raster<Rgba8p>) -> Result<Vec<u8>, AllocError>
     ensures { IfOk result (λ text. text.items ≡ picture_text (picture_of raster.now)) }
 {
-    let mut out = Vec::new(alloc);
+    // Eight digits a pixel, and what parts it from the next one or ends the row.
+    let mut out = Vec::with_capacity(alloc, raster.pixels().len().saturating_mul(9))?;
     let height = raster.height();
     let mut rows = raster.rows(Region::new(0, 0, raster.width(), height));
     for _ in 0..height {

@@ -3,7 +3,7 @@ ghost use Rattle.std.specs.Prelude.{◌≡◌, ◌++◌, OnOk, map};
 ghost use Rattle.pix_script.specs.Pixels.{color_numbers};
 ghost use Rattle.pix_script.specs.Text.{pixel_text, row_text};
 
-use crate::text::push_byte;
+use crate::text::byte_digits;
 use pix_el::chan::Ch8;
 use pix_el::el::Pixel;
 use pix_el::rgb::Rgba8p;
@@ -23,15 +23,25 @@ pub(crate) fn pixel_of(bytes: [u8; 4]) -> Rgba8p
     ])
 }
 
-/// Adds the text of a pixel.
+/// Adds the text of a pixel, eight digits at once.
 #[tactic(auto, unfolding(crate::specs::Text::pixel_text, crate::specs::Pixels::color_numbers))]
 fn push_pixel(out: &mut Vec<u8>, pixel: &Rgba8p) -> Result<(), AllocError>
     ensures { OnOk result (out.new.items ≡ out.old.items ++ pixel_text (color_numbers pixel.now)) }
 {
-    for channel in pixel.channels() {
-        push_byte(out, u8::from(*channel))?;
-    }
-    Ok(())
+    out.extend_from_slice(&pixel_digits(pixel))
+}
+
+/// The digits of a pixel's bytes: red, green, blue and alpha.
+#[tactic(auto, unfolding(crate::specs::Text::pixel_text, crate::specs::Pixels::color_numbers))]
+fn pixel_digits(pixel: &Rgba8p) -> [u8; 8]
+    ensures { result ≡ pixel_text (color_numbers pixel.now) }
+{
+    let channels = pixel.channels();
+    let [a, b] = byte_digits(channels[0].into());
+    let [c, d] = byte_digits(channels[1].into());
+    let [e, f] = byte_digits(channels[2].into());
+    let [g, h] = byte_digits(channels[3].into());
+    [a, b, c, d, e, f, g, h]
 }
 
 /// Adds the line of a row of pixels.

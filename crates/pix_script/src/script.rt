@@ -123,14 +123,18 @@ fn draw(alloc: Global, image: &mut Raster<Rgba8p>, commands: &[Line]) -> Result<
     let Ok(mut kept) = Raster::<Rgba8p>::with_clear(alloc, 0, 0) else {
         return Err(PaintFault::OutOfMemory);
     };
+    // A copy is made only where something was drawn since the last one.
+    let mut is_kept = false;
     for line in commands {
-        if line.keeps() {
+        if !line.keeps() {
+            draw_line(image, &kept, line);
+            is_kept = false;
+        } else if !is_kept {
             let Ok(copy) = image.try_clone(alloc) else {
                 return Err(PaintFault::OutOfMemory);
             };
             kept = copy;
-        } else {
-            draw_line(image, &kept, line);
+            is_kept = true;
         }
     }
     Ok(())
