@@ -36,11 +36,13 @@ static double now(void) {
 
 /* What reading the clock twice takes, at least. */
 static double of_clock(void) {
-    static double least = 1e300;
-    for (int i = 0; least > 1e299 || i < 1000; i++) {
+    static double least;
+    for (int i = 0; least == 0 && i < 1000; i++) {
+        static double best = 1e300;
         double took = now();
         took = now() - took;
-        least = took < least ? took : least;
+        best = took < best ? took : best;
+        least = i == 999 ? best : 0;
     }
     return least;
 }
