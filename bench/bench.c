@@ -1,196 +1,258 @@
-/* Times the library beside pixman and memcpy, in one run on one core. See README.md. */
+/* bench.c - times builds of the library beside pixman and plain loops in one run: see README.md.
+ *
+ *     bench FOLDER [--part NAME] [--row NAME] [--side N] [--rounds N] [--above] [--csv FILE] NAME=FOLDER [NAME=FOLDER]
+ *
+ * The first folder has the masks of text, and the others a build each: pix.so, and rasters.so for the part `raster`. */
+#define _GNU_SOURCE
+#include "cases.h"
+#include <dlfcn.h>
 #include <stdbool.h>
-#include <stddef.h>
-#include <stdint.h>
-#include <stdio.h>
 #include <stdlib.h>
 #include <string.h>
 #include <time.h>
-#ifdef WITH_PIXMAN
-#include <pixman.h>
-#endif
 
-enum { SIDE = 512, PIXELS = SIDE * SIDE, TILES = 100, TILE = 5 };
+enum { POINTS = MOST * MOST, RASTER_POINTS = 512 * 512, PASSES = 4, FEW = 3, FEW_RUNS = 4 };
 
-/* The library's call: a slice is a pointer and a length. */
-bool pix_bench(uint32_t work, uint32_t times, const uint8_t *dst, size_t dst_len, const uint8_t *src, size_t src_len,
-               uint8_t *out, size_t out_len);
+int run_pixman(const job_t *job);
+const char *pixman_says(void);
 
-static uint8_t dst[4 * PIXELS], src[4 * PIXELS], mask[PIXELS], out[4 * PIXELS], other[4 * PIXELS];
-static uint8_t few[3 * PIXELS], few_runs[3 * PIXELS]; /* pixels of 256 colors: at random, and in runs of 8 */
-static const uint8_t color[4] = {96, 32, 64, 128};
+/* The call of crates/pix_bench: a slice is a pointer and a length. */
+typedef bool (*rasters_t)(uint32_t work, uint32_t times, const uint8_t *src, size_t src_len, uint8_t *out, size_t out_len);
 
-static uint32_t below(uint32_t n) {
-    static uint64_t state = 88172645463325252u;
-    state ^= state << 13;
-    state ^= state >> 7;
-    state ^= state << 17;
-    return (uint32_t)((state >> 32) * n >> 32);
-}
+static struct {
+    const build_t *calls;
+    rasters_t rasters;
+} loaded[BUILDS];
 
-/* Premultiplied pixels of any alpha. */
-static void fill(uint8_t *p) {
-    for (int i = 0; i < PIXELS; i++) {
-        uint32_t alpha = below(256);
-        for (int k = 0; k < 3; k++)
-            p[4 * i + k] = (uint8_t)below(alpha + 1);
-        p[4 * i + 3] = (uint8_t)alpha;
-    }
-}
-
-/* Pixels of 256 colors in runs of this length. */
-static void fill_few(uint8_t *p, const uint8_t *colors, int run) {
-    const uint8_t *one = colors;
-    for (int i = 0; i < PIXELS; i++) {
-        if (i % run == 0)
-            one = colors + 3 * below(256);
-        memcpy(p + 3 * i, one, 3);
-    }
-}
+static builds_t builds;
+static int rounds = 40;
+static uint64_t before[POINTS], pixels[POINTS], read[POINTS], wanted[POINTS];
 
 static double now(void) {
-    struct timespec t;
-    clock_gettime(CLOCK_MONOTONIC, &t);
-    return (double)t.tv_sec * 1e9 + (double)t.tv_nsec;
+    struct timespec time;
+    clock_gettime(CLOCK_MONOTONIC, &time);
+    return (double)time.tv_sec * 1e9 + (double)time.tv_nsec;
 }
 
-static int rounds = 40;
-
-/* What is timed beside the library: it changes `out`, which is `dst` before. */
-typedef void (*peer_t)(void);
-
-static const char *peer_name = "";
-
-/* What a pass takes: the least time of many passes less the least time of none. */
-static double library(uint32_t work, const uint8_t *from, int channels) {
-    size_t len = (size_t)channels * PIXELS;
-    double least[2] = {1e300, 1e300};
-    for (int round = 0; round < rounds; round++)
-        for (uint32_t many = 0; many < 2; many++) {
-            double start = now();
-            if (!pix_bench(work, 8 * many, dst, len, from, from == mask ? PIXELS : len, out, sizeof out))
-                return -1;
-            double took = now() - start;
-            least[many] = took < least[many] ? took : least[many];
-        }
-    return (least[1] - least[0]) / 8;
-}
-
-static double beside(peer_t peer) {
-    double least = 1e300;
-    for (int round = 0; round < 8 * rounds; round++) {
-        memcpy(other, dst, sizeof other);
-        double start = now();
-        peer();
-        double took = now() - start;
-        least = took < least ? took : least;
+/* What reading the clock twice takes, at least. */
+static double of_clock(void) {
+    static double least;
+    for (int i = 0; least == 0 && i < 1000; i++) {
+        static double best = 1e300;
+        double took = now();
+        took = now() - took;
+        best = took < best ? took : best;
+        least = i == 999 ? best : 0;
     }
     return least;
 }
 
-static void row(const char *name, uint32_t work, const uint8_t *from, int channels, peer_t peer, bool is_copy) {
-    double took = library(work, from, channels);
-    if (took < 0) {
-        printf("%-34s refused\n", name);
+static void fail(const char *what) {
+    fprintf(stderr, "bench: %s\n", what);
+    exit(1);
+}
+
+/* ---- One cell, by one runner ---- */
+
+/* Does the work of a cell by a build, or by its peer, on pixels as they were before, and answers how long it took. */
+static double once(const block_t *block, const cell_t *cell, int build, int is_peer) {
+    const runner_t *runner = is_peer ? &loaded[build].calls->plain : &loaded[build].calls->pix;
+    int is_done;
+    double start;
+    if (block->work == COMPOSITE) {
+        memcpy(pixels, before, pixel_size(cell->job.kind) * cell->job.across * cell->job.across);
+        start = now();
+        is_done = is_peer && block->peer == PIXMAN ? run_pixman(&cell->job) : runner->run(&cell->job);
+    } else {
+        start = now();
+        is_done = runner->convert(&cell->conversion);
+    }
+    double took = now() - start - of_clock();
+    if (!is_done)
+        fail("a call was refused");
+    return took > 0 ? took : 0.1;
+}
+
+/* How many bytes a cell writes. */
+static size_t written(const block_t *block, const cell_t *cell) {
+    return block->work == COMPOSITE ? pixel_size(cell->job.kind) * cell->job.across * cell->job.across : 4 * (size_t)POINTS;
+}
+
+static void keep_least(double *least, double took, double points) {
+    if (*least == 0 || took / points < *least)
+        *least = took / points;
+}
+
+/* Whether a peer is there, and is another one for this build. */
+static int has_peer(const block_t *block, int build) {
+    return block->peer == PLAIN || (block->peer == PIXMAN && build == 0 && pixman_says());
+}
+
+static void compare(const block_t *block, cell_t *cell) {
+    if (!has_peer(block, 0))
         return;
+    memset(pixels, 0, sizeof pixels);
+    once(block, cell, 0, 1);
+    memcpy(wanted, pixels, written(block, cell));
+    for (int build = 0; build < builds.count; build++) {
+        memset(pixels, 0, sizeof pixels);
+        once(block, cell, build, 0);
+        cell->differs |= memcmp(wanted, pixels, written(block, cell)) != 0;
     }
-    printf("%-34s %7.3f", name, took / PIXELS);
-    if (peer) {
-        double theirs = beside(peer);
-        printf("  %-7s %7.3f  ratio %5.2f", is_copy ? "memcpy" : peer_name, theirs / PIXELS, took / theirs);
+}
+
+/* Times a cell: the library and its peers take turns, so that what else the machine does slows them alike. */
+static void measure(const block_t *block, cell_t *cell) {
+    const size_t across = block->work == COMPOSITE ? cell->job.across : MOST;
+    const double points = (double)across * (double)across;
+    const int times = across == MOST ? (rounds + PASSES - 1) / PASSES : 8 * rounds;
+    for (int round = 0; round < times; round++) {
+        for (int build = 0; build < builds.count; build++) {
+            keep_least(&cell->ns[build], once(block, cell, build, 0), points);
+            if (has_peer(block, build))
+                keep_least(&cell->peer_ns[build], once(block, cell, build, 1), points);
+        }
     }
-    printf("\n");
+    for (int build = 1; block->peer == PIXMAN && build < builds.count; build++)
+        cell->peer_ns[build] = cell->peer_ns[0];
+}
+
+/* ---- Data ---- */
+
+static kind_t kind_of(const block_t *block, const cell_t *cell) {
+    return block->work == COMPOSITE ? cell->job.kind : RGBA8;
+}
+
+/* Fills what a cell reads, unless the last one read the same. */
+static void fill(const block_t *block, cell_t *cell) {
+    static int last[5];
+    const kind_t kind = kind_of(block, cell);
+    const int is_mask = block->work == COMPOSITE && cell->job.source == MASK;
+    const uint32_t across = block->work == COMPOSITE ? cell->job.across : MOST;
+    const int these[5] = {1, (int)kind, is_mask, (int)across, (int)cell->shape};
+    cell->job.pixels = pixels;
+    cell->job.read = read;
+    cell->job.color = color_of(kind);
+    cell->conversion.src = (const uint8_t *)read;
+    cell->conversion.dst = (uint8_t *)pixels;
+    cell->conversion.count = POINTS;
+    if (memcmp(last, these, sizeof last) == 0)
+        return;
+    memcpy(last, these, sizeof last);
+    fill_pixels(kind, cell->shape, 0, across, before);
+    if (is_mask)
+        fill_mask(kind, cell->shape, across, read);
+    else
+        fill_pixels(kind, cell->shape, 1, across, read);
+}
+
+/* ---- Rasters ---- */
+
+/* The least time of many works less that of none: a call makes its rasters first. */
+static void measure_rasters(cell_t *cell) {
+    enum { TIMES = 4 };
+    const size_t channels = cell->number == 0 ? 4 : 3;
+    uint8_t *src = (uint8_t *)read;
+    if (cell->number < FEW)
+        fill_pixels(RGBA8, RANDOM, 1, MOST, src);
+    else
+        fill_few(cell->number == FEW_RUNS ? 8 : 1, RASTER_POINTS, src);
+    for (int build = 0; build < builds.count; build++) {
+        double least[2] = {0, 0};
+        for (int round = 0; loaded[build].rasters && round < rounds; round++)
+            for (uint32_t many = 0; many < 2; many++) {
+                double start = now();
+                if (!loaded[build].rasters(cell->number < FEW ? cell->number : FEW, TIMES * many, src,
+                                           channels * RASTER_POINTS, (uint8_t *)pixels, sizeof pixels))
+                    fail("a work on rasters was refused");
+                keep_least(&least[many], now() - start, RASTER_POINTS);
+            }
+        cell->ns[build] = (least[1] - least[0]) / TIMES;
+    }
+}
+
+/* ---- All of it ---- */
+
+/* Goes over the columns of a block, since cells of a column read the same. */
+static void pass_block(block_t *block, int pass) {
+    for (int k = 0; k < COLUMNS; k++)
+        for (int j = 0; j < block->row_count; j++) {
+            cell_t *cell = &block->rows[j].cells[k];
+            if (!cell->is_there)
+                continue;
+            if (block->work == RASTER) {
+                if (pass == 0)
+                    measure_rasters(cell);
+                continue;
+            }
+            fill(block, cell);
+            if (pass == 0)
+                compare(block, cell);
+            measure(block, cell);
+        }
+}
+
+static void print_load(const char *when) {
+    double load[3] = {0, 0, 0};
+    if (getloadavg(load, 3) == 3)
+        printf("load %s: %.2f %.2f %.2f\n", when, load[0], load[1], load[2]);
     fflush(stdout);
 }
 
-static void copied(void) { memcpy(other, src, sizeof other); }
-
-#ifdef WITH_PIXMAN
-static pixman_image_t *to, *from, *solid, *cover;
-
-static void composited(pixman_op_t op, pixman_image_t *image, pixman_image_t *through) {
-    pixman_image_composite32(op, image, through, to, 0, 0, 0, 0, 0, 0, SIDE, SIDE);
-}
-static void over(void) { composited(PIXMAN_OP_OVER, from, 0); }
-static void xor(void) { composited(PIXMAN_OP_XOR, from, 0); }
-static void one_color(void) { composited(PIXMAN_OP_OVER, solid, 0); }
-static void through_mask(void) { composited(PIXMAN_OP_OVER, solid, cover); }
-static void filled(void) { composited(PIXMAN_OP_SRC, solid, 0); }
-static void tiled(void) {
-    for (int y = 0; y < TILES; y++)
-        for (int x = 0; x < TILES; x++)
-            pixman_image_composite32(PIXMAN_OP_OVER, from, 0, to, 0, 0, 0, 0, TILE * x, TILE * y, TILE, TILE);
-}
-
-static void begin(void) {
-    peer_name = "pixman";
-    to = pixman_image_create_bits(PIXMAN_a8r8g8b8, SIDE, SIDE, (uint32_t *)(void *)other, 4 * SIDE);
-    from = pixman_image_create_bits(PIXMAN_a8r8g8b8, SIDE, SIDE, (uint32_t *)(void *)src, 4 * SIDE);
-    cover = pixman_image_create_bits(PIXMAN_a8, SIDE, SIDE, (uint32_t *)(void *)mask, SIDE);
-    pixman_color_t c = {(uint16_t)(257 * color[2]), (uint16_t)(257 * color[1]), (uint16_t)(257 * color[0]), (uint16_t)(257 * color[3])};
-    solid = pixman_image_create_solid_fill(&c);
-}
-#else
-#define over 0
-#define xor 0
-#define one_color 0
-#define through_mask 0
-#define filled 0
-#define tiled 0
-static void begin(void) {}
-#endif
-
-/* The outcomes of two libraries, compared: the greatest difference of a channel. */
-static void compare(const char *name, uint32_t work, const uint8_t *with, peer_t peer) {
-    int most = 0;
-    memcpy(other, dst, sizeof other);
-    if (!peer || !pix_bench(work, 1, dst, sizeof dst, with, with == mask ? PIXELS : sizeof src, out, sizeof out))
-        return;
-    peer();
-    for (size_t i = 0; i < sizeof out; i++) {
-        int far = abs(out[i] - other[i]);
-        most = far > most ? far : most;
-    }
-    printf("%-34s differs from %s by %d at most\n", name, peer_name, most);
+/* Loads the build that is given as NAME=FOLDER. */
+static void load(char *given) {
+    char path[4096], *folder = strchr(given, '=');
+    if (!folder || builds.count == BUILDS)
+        fail("give one or two builds, as NAME=FOLDER");
+    *folder++ = 0;
+    snprintf(path, sizeof path, "%s/pix.so", folder);
+    void *library = dlopen(path, RTLD_NOW | RTLD_LOCAL);
+    if (!library)
+        fail(dlerror());
+    loaded[builds.count].calls = (const build_t *)dlsym(library, "bench_build");
+    snprintf(path, sizeof path, "%s/rasters.so", folder);
+    void *rasters = dlopen(path, RTLD_NOW | RTLD_LOCAL);
+    if (rasters)
+        *(void **)&loaded[builds.count].rasters = dlsym(rasters, "pix_bench");
+    builds.names[builds.count++] = given;
 }
 
 int main(int argc, char **argv) {
-    if (argc > 1)
-        rounds = atoi(argv[1]);
-    fill(dst);
-    fill(src);
-    for (int i = 0; i < PIXELS; i++)
-        mask[i] = (uint8_t)below(256);
-    uint8_t colors[3 * 256];
-    for (int i = 0; i < 3 * 256; i++)
-        colors[i] = (uint8_t)below(256);
-    fill_few(few, colors, 1);
-    fill_few(few_runs, colors, 8);
-    begin();
-    printf("nanoseconds a pixel, %d by %d, the least of %d rounds\n", SIDE, SIDE, rounds);
-    row("SrcOver of a raster", 0, src, 4, over, false);
-    row("Xor of a raster", 1, src, 4, xor, false);
-    row("SrcOver of a color", 5, src, 4, one_color, false);
-    row("SrcOver through mattes", 6, mask, 4, through_mask, false);
-    row("SrcOver of tiles of 5 by 5", 7, src, 4, tiled, false);
-    row("SrcOver of Graya8p", 2, src, 2, 0, false);
-    row("SrcOver of Hsva8p", 3, src, 4, 0, false);
-    row("SrcOver of Rgba16p", 4, src, 4, 0, false);
-    row("copy_raster", 8, src, 4, copied, true);
-    row("copy_color", 9, src, 4, filled, false);
-    row("SRgba8 to Rgba8p", 10, src, 4, 0, false);
-    row("Rgba8p to SRgba8", 11, src, 4, 0, false);
-    row("Rgba8 to Rgba8p", 17, src, 4, 0, false);
-    row("Rgba8 to Bgra8", 12, src, 4, copied, true);
-    row("Rgb8 to Hsv8", 13, src, 3, 0, false);
-    row("YCbCr8 to Rgb8", 14, src, 3, 0, false);
-    row("Rgb8 to YCbCr8", 15, src, 3, 0, false);
-    row("make_indexed, at random", 16, few, 3, 0, false);
-    row("make_indexed, in runs of 8", 16, few_runs, 3, 0, false);
-    compare("SrcOver of a raster", 0, src, over);
-    compare("Xor of a raster", 1, src, xor);
-    compare("SrcOver of a color", 5, src, one_color);
-    compare("SrcOver through mattes", 6, mask, through_mask);
-    compare("SrcOver of tiles of 5 by 5", 7, src, tiled);
-    return 0;
+    static table_t table;
+    wanted_t what = {NULL, NULL, 0};
+    const char *csv = NULL;
+    int is_above = 0;
+    if (argc < 3 || !read_text(argv[1]))
+        fail("no masks of text");
+    for (int i = 2; i < argc; i++) {
+        const char *value = i + 1 < argc ? argv[i + 1] : "";
+        if (strcmp(argv[i], "--above") == 0)
+            is_above = 1;
+        else if (strncmp(argv[i], "--", 2) != 0)
+            load(argv[i]);
+        else if (i++, strcmp(argv[i - 1], "--part") == 0)
+            what.part = value;
+        else if (strcmp(argv[i - 1], "--row") == 0)
+            what.row = value;
+        else if (strcmp(argv[i - 1], "--side") == 0)
+            what.side = (uint32_t)atoi(value);
+        else if (strcmp(argv[i - 1], "--rounds") == 0)
+            rounds = atoi(value);
+        else if (strcmp(argv[i - 1], "--csv") == 0)
+            csv = value;
+        else
+            fail("no such option");
+    }
+    make_cases(&table, &what);
+    printf("nanoseconds a pixel of the peer, and ratios to it, the least of %d rounds in %d passes\n", rounds, PASSES);
+    print_load("before");
+    for (int pass = 0; pass < PASSES; pass++)
+        for (int i = 0; i < table.count; i++)
+            pass_block(&table.blocks[i], pass);
+    print_table(&table, &builds, is_above);
+    int differing = print_differences(&table);
+    print_load("after");
+    if (csv && !write_csv(csv, &table, &builds))
+        fail("the CSV could not be written");
+    return differing != 0;
 }

@@ -1,0 +1,75 @@
+/* peer.c - the same composites by pixman, on pixels of a8r8g8b8: the bytes of a pixel are those of pix_rgba8, in the order in which pixman
+ * takes blue for red. Without WITH_PIXMAN it does nothing. */
+#include "bench.h"
+
+int run_pixman(const job_t *job);
+const char *pixman_says(void);
+
+#ifdef WITH_PIXMAN
+#include <pixman.h>
+
+static const pixman_op_t operators[OPERATORS] = {
+    PIXMAN_OP_SRC, PIXMAN_OP_DST, PIXMAN_OP_OVER, PIXMAN_OP_OVER_REVERSE, PIXMAN_OP_OUT, PIXMAN_OP_OUT_REVERSE,
+    PIXMAN_OP_IN, PIXMAN_OP_IN_REVERSE, PIXMAN_OP_ATOP, PIXMAN_OP_ATOP_REVERSE, PIXMAN_OP_XOR, PIXMAN_OP_CLEAR,
+    PIXMAN_OP_ADD,
+};
+
+const char *pixman_says(void) {
+    return pixman_version_string();
+}
+
+static pixman_image_t *bits(pixman_format_code_t format, const void *of, uint32_t across, uint32_t size) {
+    return pixman_image_create_bits(format, (int)across, (int)across, (uint32_t *)(uintptr_t)of, (int)(size * across));
+}
+
+static pixman_image_t *solid(const uint8_t *color) {
+    const pixman_color_t wide = {
+        (uint16_t)(257 * color[2]), (uint16_t)(257 * color[1]), (uint16_t)(257 * color[0]), (uint16_t)(257 * color[3]),
+    };
+    return pixman_image_create_solid_fill(&wide);
+}
+
+/* The images of a job, made once for all rounds, as pixman's callers keep them. */
+typedef struct {
+    job_t job;
+    pixman_image_t *to, *from, *mask;
+} images_t;
+
+static const images_t *images_of(const job_t *job) {
+    static images_t made;
+    if (made.to && made.job.source == job->source && made.job.across == job->across && made.job.read == job->read)
+        return &made;
+    if (made.to) {
+        pixman_image_unref(made.to);
+        pixman_image_unref(made.from);
+        if (made.mask)
+            pixman_image_unref(made.mask);
+    }
+    const int is_image = job->source == IMAGE || job->source == COPY;
+    made.job = *job;
+    made.to = bits(PIXMAN_a8r8g8b8, job->pixels, job->across, 4);
+    made.from = is_image ? bits(PIXMAN_a8r8g8b8, job->read, job->across, 4) : solid((const uint8_t *)job->color);
+    made.mask = job->source == MASK ? bits(PIXMAN_a8, job->read, job->across, 1) : NULL;
+    return &made;
+}
+
+int run_pixman(const job_t *job) {
+    const images_t *it = images_of(job);
+    const pixman_op_t op = job->source == CLEAR ? PIXMAN_OP_CLEAR
+        : job->source == COPY || job->source == FILL ? PIXMAN_OP_SRC : operators[job->op];
+    const int side = (int)job->side;
+    for (int y = 0; y < (int)job->across; y += side)
+        for (int x = 0; x < (int)job->across; x += side)
+            pixman_image_composite32(op, it->from, it->mask, it->to, x, y, x, y, x, y, side, side);
+    return 1;
+}
+#else
+const char *pixman_says(void) {
+    return 0;
+}
+
+int run_pixman(const job_t *job) {
+    (void)job;
+    return 0;
+}
+#endif
