@@ -18,6 +18,7 @@ bool pix_bench(uint32_t work, uint32_t times, const uint8_t *dst, size_t dst_len
 
 static uint8_t dst[4 * PIXELS], src[4 * PIXELS], mask[PIXELS], out[4 * PIXELS], other[4 * PIXELS];
 static uint8_t few[3 * PIXELS], few_runs[3 * PIXELS]; /* pixels of 256 colors: at random, and in runs of 8 */
+static uint8_t opaque[4 * PIXELS]; /* straight pixels whose alpha is the maximum */
 static const uint8_t color[4] = {96, 32, 64, 128};
 
 static uint32_t below(uint32_t n) {
@@ -161,6 +162,8 @@ int main(int argc, char **argv) {
     fill(src);
     for (int i = 0; i < PIXELS; i++)
         mask[i] = (uint8_t)below(256);
+    for (int i = 0; i < 4 * PIXELS; i++)
+        opaque[i] = i % 4 == 3 ? 255 : (uint8_t)below(256);
     uint8_t colors[3 * 256];
     for (int i = 0; i < 3 * 256; i++)
         colors[i] = (uint8_t)below(256);
@@ -181,6 +184,9 @@ int main(int argc, char **argv) {
     row("SRgba8 to Rgba8p", 10, src, 4, 0, false);
     row("Rgba8p to SRgba8", 11, src, 4, 0, false);
     row("Rgba8 to Rgba8p", 17, src, 4, 0, false);
+    row("SRgba8 to Rgba16p", 18, src, 4, 0, false);
+    row("Rgba16p to SRgba8, any alpha", 19, src, 4, 0, false);
+    row("Rgba16p to SRgba8, opaque", 19, opaque, 4, 0, false);
     row("Rgba8 to Bgra8", 12, src, 4, copied, true);
     row("Rgb8 to Hsv8", 13, src, 3, 0, false);
     row("YCbCr8 to Rgb8", 14, src, 3, 0, false);

@@ -3,7 +3,7 @@ use crate::sides::{raster_of, write};
 use pix::Raster;
 use pix::bgr::Bgra8;
 use pix::hsv::Hsv8;
-use pix::rgb::{Rgb8, Rgba8, Rgba8p, SRgba8};
+use pix::rgb::{Rgb8, Rgba8, Rgba8p, Rgba16p, SRgba8};
 use pix::ycc::YCbCr8;
 use std::alloc::Global;
 
@@ -35,6 +35,8 @@ pub(crate) fn convert(
         14 => from_luma(alloc, times, src, out),
         15 => to_luma(alloc, times, src, out),
         17 => premultiplied(alloc, times, src, out),
+        18 => lit(alloc, times, src, out),
+        19 => shown(alloc, times, src, out),
         _ => None,
     }
 }
@@ -72,4 +74,25 @@ fn to_luma(alloc: Global, times: u32, src: &[u8], out: &mut [u8]) -> Option<()> 
 /// Straight to premultiplied.
 fn premultiplied(alloc: Global, times: u32, src: &[u8], out: &mut [u8]) -> Option<()> {
     converted!(Rgba8, Rgba8p, alloc, times, src, out)
+}
+
+/// Straight sRGB to premultiplied light of 16 bits.
+fn lit(alloc: Global, times: u32, src: &[u8], out: &mut [u8]) -> Option<()> {
+    let source: Raster<SRgba8> = raster_of(alloc, src)?;
+    let mut made = source.decode_srgb::<Rgba16p>(alloc).ok()?;
+    for _ in 0..times {
+        made = source.decode_srgb::<Rgba16p>(alloc).ok()?;
+    }
+    write(alloc, &made.encode_srgb::<SRgba8>(alloc).ok()?, out)
+}
+
+/// Premultiplied light of 16 bits to straight sRGB.
+fn shown(alloc: Global, times: u32, src: &[u8], out: &mut [u8]) -> Option<()> {
+    let source: Raster<SRgba8> = raster_of(alloc, src)?;
+    let light = source.decode_srgb::<Rgba16p>(alloc).ok()?;
+    let mut made = light.encode_srgb::<SRgba8>(alloc).ok()?;
+    for _ in 0..times {
+        made = light.encode_srgb::<SRgba8>(alloc).ok()?;
+    }
+    write(alloc, &made, out)
 }
