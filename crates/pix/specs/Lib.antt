@@ -6,6 +6,7 @@ pub use Rattle.pix_chan.specs.Depth
 pub use Rattle.pix_chan.specs.Laws
 pub use Rattle.pix_chan.specs.Channel
 pub use Rattle.pix_chan.specs.Srgb
+pub use Rattle.pix_chan.specs.Srgb16
 pub use Rattle.pix_chan.specs.Modes
 pub use Rattle.pix_chan.specs.Runs
 pub use Rattle.pix_ops.specs.Operators
@@ -22,6 +23,7 @@ pub use Rattle.pix_el.specs.ExactPixel
 pub use Rattle.pix_el.specs.Transparent
 pub use Rattle.pix_el.specs.Color
 pub use Rattle.pix_el.specs.Conversion
+pub use Rattle.pix_el.specs.Light
 pub use Rattle.pix_color.specs.Linear
 pub use Rattle.pix_color.specs.Hexcone
 pub use Rattle.pix_color.specs.Bgr

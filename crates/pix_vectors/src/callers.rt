@@ -4,7 +4,7 @@ use pix::gray::Gray8;
 use pix::lent::Shape;
 use pix::matte::Matte8;
 use pix::ops::Op;
-use pix::rgb::{Rgb8, Rgba8p, SRgb8};
+use pix::rgb::{Rgb8, Rgba8p, Rgba16p, SRgb8};
 use pix::{Command, Raster, RasterFault, Region};
 use pix_uses::bytes::tint_bytes;
 use pix_uses::channels::{fade, mean, raised, restored, there_and_back};
@@ -236,14 +236,14 @@ fn luminance_of_red(rt: HostRuntime) {
     assert_eq!(rt; luminance(red), Gray8::new(54));
 }
 
-/// 0xEF, 0x8C, 0xC7 are 0xDC, 0x43, 0x92 in light. Half a black over them leaves 127/255 of each: 110, 33 and 73, which are 0xAF, 0x65 and 0x92.
+/// 0xEF, 0x8C, 0xC7 are 56567, 17187, 37429 in light. Half a black over them leaves 32639/65535 of each: 28173, 8560 and 18641, which are 0xAF, 0x65 and 0x91.
 #[test]
 fn a_glaze_over_a_photograph(rt: HostRuntime) -> Result<(), Fail> {
     let photo = Raster::with_color(rt.alloc(), 3, 2, SRgb8::new::<u8>(0xEF, 0x8C, 0xC7))?;
-    let shown = photos::glaze(rt.alloc(), &photo, Rgba8p::new(0, 0, 0, 128))?;
+    let shown = photos::glaze(rt.alloc(), &photo, Rgba16p::new(0, 0, 0, 32896))?;
     assert_eq!(rt; (shown.width(), shown.height()), (3, 2));
     for pixel in shown.pixels() {
-        assert_eq!(rt; *pixel, SRgb8::new::<u8>(0xAF, 0x65, 0x92));
+        assert_eq!(rt; *pixel, SRgb8::new::<u8>(0xAF, 0x65, 0x91));
     }
     Ok(())
 }
