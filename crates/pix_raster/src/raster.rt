@@ -23,6 +23,7 @@ mod change;
 mod convert;
 mod row_change;
 mod samples;
+mod window;
 
 /// An image: `width` times `height` pixels of the format `P`, row by row from the top.
 ///
