@@ -46,6 +46,8 @@ pub use Rattle.pix_raster.specs.Run
 pub use Rattle.pix_raster.specs.Kept
 pub use Rattle.pix_raster.specs.Bounds
 pub use Rattle.pix_raster.specs.Stays
+pub use Rattle.pix_raster.specs.Claims
+pub use Rattle.pix_raster.specs.Window
 pub use Rattle.pix_palette.specs.PaletteMatch
 pub use Rattle.pix_palette.specs.Palette
 pub use Rattle.pix_palette.specs.Histogram

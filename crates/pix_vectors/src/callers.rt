@@ -10,7 +10,7 @@ use pix_uses::bytes::tint_bytes;
 use pix_uses::channels::{fade, mean, raised, restored, there_and_back};
 use pix_uses::colors::{glazed, sunrise, tint_top};
 use pix_uses::frames::flood;
-use pix_uses::lists::{draw, glaze_twice};
+use pix_uses::lists::{draw, draw_with_tile, glaze_twice};
 use pix_uses::models::{luminance, red_of};
 use pix_uses::photos;
 use pix_uses::pixels::{fill, opacity};
@@ -134,6 +134,33 @@ fn a_list_of_commands(rt: HostRuntime) -> Result<(), Fail> {
     ];
     draw(&mut page, &commands);
     assert_eq!(rt; page.pixels(), [glass(), ink].as_slice());
+    Ok(())
+}
+
+/// The last two points of the second row of a page, in memory of their own.
+#[test]
+fn a_tile_of_a_page(rt: HostRuntime) -> Result<(), Fail> {
+    let (ink, sand) = (opaque(10, 20, 30), opaque(200, 100, 50));
+    let mut page = Raster::with_color(rt.alloc(), 3, 2, sand)?;
+    let mut tile = Raster::with_color(rt.alloc(), 2, 1, sand)?;
+    let commands: [Command<'_, Rgba8p, Matte8>; 2] = [
+        Command::CopyColor {
+            reg: Region::new(2, 1, 9, 9),
+            clr: ink,
+        },
+        Command::Color {
+            reg: Region::new(-1, -1, 3, 3),
+            clr: ink,
+            op: Op::Clear,
+        },
+    ];
+    draw_with_tile(&mut page, &mut tile, 1, 1, &commands);
+    let none = Rgba8p::new(0, 0, 0, 0);
+    assert_eq!(rt; tile.pixels(), [none, ink].as_slice());
+    assert_eq!(rt;
+        page.pixels(),
+        [none, none, sand, none, none, ink].as_slice()
+    );
     Ok(())
 }
 

@@ -115,6 +115,19 @@ pub fn listed(page: &mut Raster<Rgba8p>) {
     page.run(&commands);
 }
 
+/// Paints a page tile by tile: here the tile at its point (64, 0).
+pub fn tiled(alloc: Global, sky: Rgba8p, sun: Rgba8p) -> Result<Raster<Rgba8p>, RasterFault> {
+    let (over_both, op) = (Region::new(60, 2, 8, 8), Op::SrcOver);
+    let commands: [Command<'_, Rgba8p, Matte8>; 1] = [Command::Color {
+        reg: over_both,
+        clr: sun,
+        op,
+    }];
+    let mut tile = Raster::with_color(alloc, 64, 48, sky)?; // the second of the page's tiles
+    tile.run_window(64, 0, &commands); // the first one by run_window(0, 0, &commands)
+    Ok(tile)
+}
+
 /// Writes the rows of a region.
 pub fn striped(page: &mut Raster<Gray8>) {
     let mut shade = 0_u8;
