@@ -11,24 +11,28 @@
 enum {
     KIND, OP, TO_X, TO_Y, TO_WIDTH, TO_HEIGHT, FROM_X, FROM_Y, FROM_WIDTH, FROM_HEIGHT, COLOR, GREEN, BLUE, ALPHA,
     PIXELS, PIXEL_COUNT, MATTES, MATTE_COUNT, WIDTH, HEIGHT, STRIDE, /* those of a command */
-    IMAGE, IMAGE_COUNT, IMAGE_WIDTH, IMAGE_HEIGHT, IMAGE_STRIDE, COMMANDS, COMMAND_COUNT, FIELDS
+    IMAGE, IMAGE_COUNT, IMAGE_WIDTH, IMAGE_HEIGHT, IMAGE_STRIDE, COMMANDS, COMMAND_COUNT,
+    LEFT, TOP, FIELDS /* the place of a window */
 };
 
 static const char *const names[FIELDS] = {
     "kind", "op", "to.x", "to.y", "to.width", "to.height", "from.x", "from.y", "from.width", "from.height", "color.r",
     "color.g", "color.b", "color.a", "pixels", "pixel_count", "mattes", "matte_count", "width", "height", "stride",
-    "the image", "its count", "its width", "its height", "its stride", "the list", "its count",
+    "the image", "its count", "its width", "its height", "its stride", "the list", "its count", "left", "top",
 };
 
 /* The source has 5 x 4 elements in rows of 8, which are 29; the image has 9 x 7 in rows of 11, which are 75. Pointers
  * are counted in elements from the start of a buffer. */
 enum { ELEMENTS = 160 };
 static const int64_t first[FIELDS] = {4, 2, 2, 1, 6, 5, -1, 1, 7, 4, 90, 70, 50, 200,
-                                      3, 29, 5, 28, 5, 4, 8, 4, 75, 9, 7, 11, 0, 1};
+                                      3, 29, 5, 28, 5, 4, 8, 4, 75, 9, 7, 11, 0, 1, 0, 0};
 static const int64_t other[FIELDS] = {2, 12, 3, 0, 4, 2, 1, 0, 3, 2, 60, 40, 20, 170,
-                                      4, 28, 6, 27, 3, 3, 7, 3, 74, 4, 3, 10, 1, 2};
+                                      4, 28, 6, 27, 3, 3, 7, 3, 74, 4, 3, 10, 1, 2, 1, 2};
 
 static int failures;
+
+/* Whether the list is run on a window, whose place is that of `first` too unless one of the two is tried. */
+static int is_window;
 
 static void fail(const char *kind, const char *field, const char *what) {
     fprintf(stderr, "fields: %s: %s: %s\n", kind, field, what);
@@ -92,7 +96,7 @@ static outcome model(const plain_kind *kind, const int64_t *n) {
     for (size_t i = 0; i < kind->channels; i++)
         list[0].color[i] = (uint64_t)n[i + 1 == kind->channels ? (int)ALPHA : COLOR + (int)i];
     list[1].kind = list[2].kind = PLAIN_CLEAR;
-    plain_run(kind, &image, list + n[COMMANDS], (size_t)n[COMMAND_COUNT]);
+    plain_run_in(kind, &image, n[LEFT], n[TOP], list + n[COMMANDS], (size_t)n[COMMAND_COUNT]);
     it.done = (size_t)n[COMMAND_COUNT];
     return it;
 }
@@ -124,10 +128,16 @@ static outcome model(const plain_kind *kind, const int64_t *n) {
         list[0].height = (uint32_t)n[HEIGHT];                                                                          \
         list[0].stride = (uint32_t)n[STRIDE];                                                                          \
         it.done = 77;                                                                                                  \
-        it.status = pix_run_commands##S((PIXEL *)(void *)it.after.image + n[IMAGE], (size_t)n[IMAGE_COUNT],            \
-                                        (uint32_t)n[IMAGE_WIDTH], (uint32_t)n[IMAGE_HEIGHT],                           \
-                                        (uint32_t)n[IMAGE_STRIDE], list + n[COMMANDS], (size_t)n[COMMAND_COUNT],       \
-                                        &it.done);                                                                     \
+        if (is_window)                                                                                                 \
+            it.status = pix_run_window##S((PIXEL *)(void *)it.after.image + n[IMAGE], (size_t)n[IMAGE_COUNT],          \
+                                          (uint32_t)n[LEFT], (uint32_t)n[TOP], (uint32_t)n[IMAGE_WIDTH],               \
+                                          (uint32_t)n[IMAGE_HEIGHT], (uint32_t)n[IMAGE_STRIDE], list + n[COMMANDS],    \
+                                          (size_t)n[COMMAND_COUNT], &it.done);                                         \
+        else                                                                                                           \
+            it.status = pix_run_commands##S((PIXEL *)(void *)it.after.image + n[IMAGE], (size_t)n[IMAGE_COUNT],        \
+                                            (uint32_t)n[IMAGE_WIDTH], (uint32_t)n[IMAGE_HEIGHT],                       \
+                                            (uint32_t)n[IMAGE_STRIDE], list + n[COMMANDS],                             \
+                                            (size_t)n[COMMAND_COUNT], &it.done);                                       \
         return it;                                                                                                     \
     }
 
@@ -144,6 +154,8 @@ static int is_read(const plain_kind *kind, int64_t command, int field) {
         return command != PLAIN_MATTE;
     if (field == MATTES || field == MATTE_COUNT || field == COLOR || field == ALPHA)
         return command == PLAIN_MATTE;
+    if (field == LEFT || field == TOP)
+        return is_window;
     if (field == GREEN || field == BLUE)
         return command == PLAIN_MATTE && kind->channels == 4;
     return 1;
@@ -208,12 +220,14 @@ int main(void) {
     static const plain_kind rgba8 = {255, 1, 4}, rgba16 = {65535, 2, 4}, graya8 = {255, 1, 2};
     if (pix_check_library() != PIX_OK)
         fail("layout", "all facts", pix_status_text(PIX_BAD_LIBRARY));
-    try_fields("rgba8, image", &rgba8, run, PLAIN_SOURCE);
-    try_fields("rgba8, matte", &rgba8, run, PLAIN_MATTE);
-    try_fields("rgba16, image", &rgba16, run_rgba16, PLAIN_SOURCE);
-    try_fields("rgba16, matte", &rgba16, run_rgba16, PLAIN_MATTE);
-    try_fields("graya8, image", &graya8, run_graya8, PLAIN_SOURCE);
-    try_fields("graya8, matte", &graya8, run_graya8, PLAIN_MATTE);
+    for (is_window = 0; is_window < 2; is_window++) {
+        try_fields("rgba8, image", &rgba8, run, PLAIN_SOURCE);
+        try_fields("rgba8, matte", &rgba8, run, PLAIN_MATTE);
+        try_fields("rgba16, image", &rgba16, run_rgba16, PLAIN_SOURCE);
+        try_fields("rgba16, matte", &rgba16, run_rgba16, PLAIN_MATTE);
+        try_fields("graya8, image", &graya8, run_graya8, PLAIN_SOURCE);
+        try_fields("graya8, matte", &graya8, run_graya8, PLAIN_MATTE);
+    }
     conversions();
     printf("fields: %d failures\n", failures);
     return failures != 0;

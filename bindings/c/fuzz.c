@@ -1,4 +1,5 @@
-/* Random lists of commands and random conversions by pix.h, beside the plain model of plain.h.
+/* Random lists of commands, on images and on windows of pictures, and random conversions by pix.h, beside the plain
+ * model of plain.h.
  *
  *     fuzz [LISTS [SEED]]
  *
@@ -120,7 +121,7 @@ static pix_region given(plain_region it) {
 
 typedef enum {
     NONE, IMAGE_SIDE, IMAGE_STRIDE, IMAGE_NULL, LIST_NULL, KIND, OPERATOR, REGION_TO, REGION_FROM, SOURCE_SIDE,
-    SOURCE_STRIDE, SOURCE_NULL, OVERLAP, LIST_OVERLAP, FAULTS
+    SOURCE_STRIDE, SOURCE_NULL, OVERLAP, LIST_OVERLAP, WINDOW_END, FAULTS
 } fault;
 
 /* The status of a fault, whether a command of its list has it, and whether that command must read a source. */
@@ -131,6 +132,7 @@ static const struct {
     {PIX_OK, 0, 0},         {PIX_BAD_SIZE, 0, 0},   {PIX_BAD_SIZE, 0, 0},   {PIX_NULL, 0, 0},       {PIX_NULL, 0, 0},
     {PIX_BAD_KIND, 1, 0},   {PIX_BAD_OP, 1, 0},     {PIX_BAD_REGION, 1, 0}, {PIX_BAD_REGION, 1, 1}, {PIX_BAD_SOURCE, 1, 1},
     {PIX_BAD_SOURCE, 1, 1}, {PIX_NULL, 1, 1},       {PIX_OVERLAP, 1, 1},    {PIX_OVERLAP, 0, 0},
+    {PIX_BAD_SIZE, 0, 0},
 };
 
 static int is_empty(const plain_rows *rows) {
@@ -159,19 +161,50 @@ typedef struct {
     fault fault;
     size_t at, count, read[COMMANDS];
     plain_command commands[COMMANDS];
+    int is_window;
+    uint32_t left, top;
 } list;
+
+/* The place of a window of so many columns, or rows: near the corner of a picture, anywhere, or at the limit. */
+static uint32_t place(uint64_t side) {
+    uint64_t last = INT32_MAX - side;
+    return (uint32_t)(one_in(3) ? below(20) : one_in(2) ? last - below(4) % (last + 1) : below(last + 1));
+}
+
+/* A region as far from a place as it was from the corner, where its coordinates are still of 32 bits. */
+static void move(plain_region *it, const list *all) {
+    if (it->x + all->left <= INT32_MAX)
+        it->x += all->left;
+    if (it->y + all->top <= INT32_MAX)
+        it->y += all->top;
+}
 
 static list random_list(const plain_kind *kind) {
     list it;
     memset(&it, 0, sizeof it);
     it.count = below(COMMANDS);
-    for (size_t i = 0; i < it.count; i++)
+    it.is_window = one_in(2);
+    if (it.is_window) {
+        it.left = place(image.rows.width);
+        it.top = place(image.rows.height);
+    }
+    for (size_t i = 0; i < it.count; i++) {
         it.commands[i] = random_command(kind, &it.read[i]);
+        if (!one_in(6))
+            move(&it.commands[i].to, &it);
+    }
     it.at = it.count ? below(it.count) : 0;
     if (one_in(4))
         it.fault = (fault)(1 + below(FAULTS - 1));
-    if (!fits(it.fault, it.count, &it.commands[it.at]))
+    if (!fits(it.fault, it.count, &it.commands[it.at]) || (it.fault == WINDOW_END && !it.is_window))
         it.fault = NONE;
+    if (it.fault == WINDOW_END) {
+        uint64_t past = one_in(2) ? 0 : below(UINT32_C(2147483648));
+        if (one_in(2))
+            it.left = (uint32_t)(INT32_MAX - image.rows.width + 1 + past);
+        else
+            it.top = (uint32_t)(INT32_MAX - image.rows.height + 1 + past);
+    }
     return it;
 }
 
@@ -227,6 +260,8 @@ static list random_list(const plain_kind *kind) {
         whole.stride = all->fault == IMAGE_STRIDE ? whole.width - 1 : whole.stride;                                    \
         if (all->fault == LIST_OVERLAP)                                                                                \
             commands = (const pix_command##S *)((uintptr_t)image.rows.bytes & ~(uintptr_t)15);                         \
+        if (all->is_window)                                                                                            \
+            return pix_run_in##S(whole, all->left, all->top, commands, all->count, done);                              \
         return pix_run##S(whole, commands, all->count, done);                                                          \
     }
 
@@ -269,7 +304,7 @@ static void try_list(uint64_t number) {
     if (done != at)
         fail(number, "the wrong command is refused");
     if (all.fault == NONE)
-        plain_run(kind, &image.model, all.commands, all.count);
+        plain_run_in(kind, &image.model, all.left, all.top, all.commands, all.count);
     compare(number, &image, "the image");
     for (size_t i = 0; i < SOURCES; i++)
         compare(number, &sources[i], "a source");

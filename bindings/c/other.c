@@ -51,11 +51,14 @@ static plain_region plain(pix_region it) {
                 return PIX_BAD_SOURCE;                                                                                 \
         return PIX_OK;                                                                                                 \
     }                                                                                                                  \
-    uint32_t pix_run_commands##S(PIXEL *pixels, size_t pixel_count, uint32_t width, uint32_t height, uint32_t stride,  \
-                                 const pix_command##S *commands, size_t command_count, size_t *done) {                 \
+    uint32_t pix_run_window##S(PIXEL *pixels, size_t pixel_count, uint32_t left, uint32_t top, uint32_t width,         \
+                               uint32_t height, uint32_t stride, const pix_command##S *commands,                       \
+                               size_t command_count, size_t *done) {                                                   \
         const plain_kind kind = KIND;                                                                                  \
         plain_rows image = {(unsigned char *)pixels, width, height, stride};                                           \
         *done = 0;                                                                                                     \
+        if ((uint64_t)left + width > INT32_MAX || (uint64_t)top + height > INT32_MAX)                                  \
+            return PIX_BAD_SIZE;                                                                                       \
         if (!is_sized(width, height, stride, pixel_count))                                                             \
             return PIX_BAD_SIZE;                                                                                       \
         for (; *done < command_count; ++*done)                                                                         \
@@ -66,9 +69,13 @@ static plain_region plain(pix_region it) {
             const void *read = it->kind == PLAIN_MATTE ? (const void *)it->mattes : (const void *)it->pixels;          \
             plain_rows source = {(unsigned char *)(uintptr_t)read, it->width, it->height, it->stride};                 \
             plain_command same = {it->kind, it->op, plain(it->to), plain(it->from), COLOR, &source};                   \
-            plain_run(&kind, &image, &same, 1);                                                                        \
+            plain_run_in(&kind, &image, left, top, &same, 1);                                                          \
         }                                                                                                              \
         return PIX_OK;                                                                                                 \
+    }                                                                                                                  \
+    uint32_t pix_run_commands##S(PIXEL *pixels, size_t pixel_count, uint32_t width, uint32_t height, uint32_t stride,  \
+                                 const pix_command##S *commands, size_t command_count, size_t *done) {                 \
+        return pix_run_window##S(pixels, pixel_count, 0, 0, width, height, stride, commands, command_count, done);     \
     }
 
 #define FOUR_ {it->color.r, it->color.g, it->color.b, it->color.a}

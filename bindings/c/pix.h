@@ -255,6 +255,19 @@ static inline pix_status pix_check_library(void);
  * PIX_OVERLAP. */
 static inline pix_status pix_run(pix_image image, const pix_command *commands, size_t count, size_t *done);
 
+/* Runs a list of commands on a window of a picture: `window` has the pixels of the part whose upper left pixel is the
+ * point (left, top) of the picture. The regions of the commands are those of the picture, and each pixel becomes what
+ * pix_run would make of it on the whole picture. So pictures painted tile by tile are the picture painted whole: tiles
+ * that are never in memory together, in any order, or bands of rows of one image in several threads at once.
+ *
+ * Windows of one image that are painted at once are bands of whole rows, as wide as the image: what lies between the
+ * rows of a window belongs to its call, so that columns side by side share memory. The tests of overlaps see the window
+ * alone: no source, matte, list or `done` may lie in another window of the image while that is painted.
+ *
+ * Answers what pix_run does, and PIX_BAD_SIZE too where left + width or top + height is above 2147483647. */
+static inline pix_status pix_run_in(pix_image window, uint32_t left, uint32_t top, const pix_command *commands,
+                                    size_t count, size_t *done);
+
 /* Runs one command. */
 static inline pix_status pix_do(pix_image image, pix_command command);
 
@@ -291,12 +304,12 @@ typedef struct {
 
 /* pix_image_of_rgba16, pix_source_of_rgba16, pix_source_of_image_rgba16, pix_clear_rgba16, pix_copy_color_rgba16,
  * pix_copy_image_rgba16, pix_composite_color_rgba16, pix_composite_image_rgba16, pix_composite_matte_rgba16 (through a
- * pix_matte16), pix_run_rgba16, pix_do_rgba16; and the same with _graya8 (through a pix_matte). They are defined below
- * together with those above. */
+ * pix_matte16), pix_run_rgba16, pix_run_in_rgba16, pix_do_rgba16; and the same with _graya8 (through a pix_matte). They
+ * are defined below together with those above. */
 
 /* ---- What libpix_c.a has ----
  *
- * The functions above go through these five, which are proved. They test sizes, kinds, regions, operators, sources,
+ * The functions above go through these eight, which are proved. They test sizes, kinds, regions, operators, sources,
  * formats and lengths. Here no pointer may be null or badly aligned, also where its length is 0, and those in commands
  * of other kinds neither; and the image, `done` and `dst` may share memory with nothing else that is passed. Lengths
  * are counted in elements. `stride` is at least the width, and 0 doesn't stand for it. */
@@ -309,6 +322,15 @@ uint32_t pix_run_commands_rgba16(pix_rgba16 *pixels, size_t pixel_count, uint32_
 uint32_t pix_run_commands_graya8(pix_graya8 *pixels, size_t pixel_count, uint32_t width, uint32_t height,
                                  uint32_t stride, const pix_command_graya8 *commands, size_t command_count,
                                  size_t *done);
+uint32_t pix_run_window(pix_rgba8 *pixels, size_t pixel_count, uint32_t left, uint32_t top, uint32_t width,
+                        uint32_t height, uint32_t stride, const pix_command *commands, size_t command_count,
+                        size_t *done);
+uint32_t pix_run_window_rgba16(pix_rgba16 *pixels, size_t pixel_count, uint32_t left, uint32_t top,
+                               uint32_t width, uint32_t height, uint32_t stride,
+                               const pix_command_rgba16 *commands, size_t command_count, size_t *done);
+uint32_t pix_run_window_graya8(pix_graya8 *pixels, size_t pixel_count, uint32_t left, uint32_t top,
+                               uint32_t width, uint32_t height, uint32_t stride,
+                               const pix_command_graya8 *commands, size_t command_count, size_t *done);
 uint32_t pix_convert_bytes(uint32_t from, uint32_t to, const uint8_t *src, size_t src_len, uint8_t *dst, size_t dst_len,
                            size_t count);
 
@@ -491,8 +513,9 @@ static inline const char *pix_status_text(pix_status status) {
             return status;                                                                                             \
         return pix_apart_(written, bytes, command->mattes, command->matte_count * sizeof(VALUE));                      \
     }                                                                                                                  \
-    static inline pix_status pix_run##S(pix_image##S image, const pix_command##S *commands, size_t count,              \
-                                         size_t *done) {                                                               \
+    /* Runs a list on an image, and where `corner` is not null on the window of a picture at that point. */            \
+    static inline pix_status pix_call_##S(pix_image##S image, const uint32_t *corner, const pix_command##S *commands,  \
+                                          size_t count, size_t *done) {                                                \
         uint32_t stride = image.stride ? image.stride : image.width;                                                   \
         size_t extent = pix_extent_(image.width, image.height, stride, sizeof(PIXEL)), at = 0;                         \
         uint64_t nothing = 0;                                                                                          \
@@ -506,12 +529,26 @@ static inline const char *pix_status_text(pix_status status) {
             status = pix_beside_##S(pixels, extent * sizeof(PIXEL), &commands[at]);                                    \
             at += status == PIX_OK;                                                                                    \
         }                                                                                                              \
-        if (status == PIX_OK)                                                                                          \
+        if (status == PIX_OK && corner)                                                                                \
+            status = (pix_status)pix_run_window##S((PIXEL *)pixels, extent, corner[0], corner[1], image.width,         \
+                                                   image.height, stride, (const pix_command##S *)list, count, &at);    \
+        else if (status == PIX_OK)                                                                                     \
             status = (pix_status)pix_run_commands##S((PIXEL *)pixels, extent, image.width, image.height, stride,       \
                                                      (const pix_command##S *)list, count, &at);                        \
         if (done && !is_inside)                                                                                        \
             *done = at;                                                                                                \
         return status;                                                                                                 \
+    }                                                                                                                  \
+    static inline pix_status pix_run##S(pix_image##S image, const pix_command##S *commands, size_t count,              \
+                                        size_t *done) {                                                                \
+        return pix_call_##S(image, NULL, commands, count, done);                                                       \
+    }                                                                                                                  \
+    static inline pix_status pix_run_in##S(pix_image##S window, uint32_t left, uint32_t top,                           \
+                                           const pix_command##S *commands, size_t count, size_t *done) {               \
+        uint32_t corner[2];                                                                                            \
+        corner[0] = left;                                                                                              \
+        corner[1] = top;                                                                                               \
+        return pix_call_##S(window, corner, commands, count, done);                                                    \
     }                                                                                                                  \
     static inline pix_status pix_do##S(pix_image##S image, pix_command##S command) {                                   \
         return pix_run##S(image, &command, 1, NULL);                                                                   \

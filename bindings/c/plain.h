@@ -143,8 +143,10 @@ static void plain_step(const plain_kind *kind, const plain_command *command, int
             pixel[i] = src[i];
 }
 
-/* Runs commands on an image: at each point the fold of those that reach it. */
-static void plain_run(const plain_kind *kind, const plain_rows *image, const plain_command *commands, size_t count) {
+/* Runs commands on a window of a picture, whose first pixel is the point (left, top) of the picture: at each point of
+ * the window the fold of those that reach the picture's point there. */
+static void plain_run_in(const plain_kind *kind, const plain_rows *image, int64_t left, int64_t top,
+                         const plain_command *commands, size_t count) {
     for (uint64_t y = 0; image->width && y < image->height; y++)
         for (uint64_t x = 0; x < image->width; x++) {
             unsigned char *at = image->bytes + (y * image->stride + x) * kind->channels * kind->bytes;
@@ -152,10 +154,16 @@ static void plain_run(const plain_kind *kind, const plain_rows *image, const pla
             for (size_t i = 0; i < kind->channels; i++)
                 pixel[i] = plain_channel(kind, at, i);
             for (size_t i = 0; i < count; i++)
-                plain_step(kind, &commands[i], (int64_t)x, (int64_t)y, pixel);
+                plain_step(kind, &commands[i], left + (int64_t)x, top + (int64_t)y, pixel);
             for (size_t i = 0; i < kind->channels; i++)
                 plain_set_channel(kind, at, i, pixel[i]);
         }
+}
+
+/* Runs commands on an image. */
+static inline void plain_run(const plain_kind *kind, const plain_rows *image, const plain_command *commands,
+                             size_t count) {
+    plain_run_in(kind, image, 0, 0, commands, count);
 }
 
 /* A format of bytes: its model (r, b for the reverse order, g for gray), whether it has an alpha, whether colors are

@@ -126,6 +126,51 @@ static void sources(void) {
     reset();
 }
 
+/* Whether a window of this size and place is refused so, of each kind of pixels, and nothing is changed. */
+static int is_refused_window(uint32_t left, uint32_t top, uint32_t width, uint32_t height, pix_status status) {
+    pix_command command = pix_clear();
+    pix_command_rgba16 wide = pix_clear_rgba16();
+    pix_command_graya8 gray = pix_clear_graya8();
+    pix_rgba16 words[POINTS];
+    pix_graya8 pairs[POINTS];
+    size_t done = 77, done16 = 77, done_gray = 77;
+    int equal = 1;
+    memset(words, 5, sizeof words);
+    memset(pairs, 5, sizeof pairs);
+    equal &= pix_run_in(pix_image_of(pixels, width, height), left, top, &command, 1, &done) == status;
+    equal &= pix_run_in_rgba16(pix_image_of_rgba16(words, width, height), left, top, &wide, 1, &done16) == status;
+    equal &= pix_run_in_graya8(pix_image_of_graya8(pairs, width, height), left, top, &gray, 1, &done_gray) == status;
+    for (int i = 0; i < POINTS; i++)
+        equal &= words[i].r == 0x505 && words[i].a == 0x505 && pairs[i].value == 5 && pairs[i].a == 5;
+    return equal && done == 0 && done16 == 0 && done_gray == 0 && is_reset();
+}
+
+static void windows(void) {
+    const pix_region first = pix_region_of(2147483643, 0, 1, 1);
+    const pix_rgba8 color = pix_rgba8_of(9, 9, 9, 9);
+    pix_command list[2];
+    size_t done = 77;
+    CHECK(is_refused_window(2147483644, 0, SIDE, SIDE, PIX_BAD_SIZE));
+    CHECK(is_refused_window(0, 2147483644, SIDE, SIDE, PIX_BAD_SIZE));
+    CHECK(is_refused_window(UINT32_MAX, 0, SIDE, SIDE, PIX_BAD_SIZE));
+    CHECK(is_refused_window(0, UINT32_MAX, SIDE, SIDE, PIX_BAD_SIZE));
+    CHECK(is_refused_window(LONG, LONG, 0, 0, PIX_BAD_SIZE));
+    CHECK(is_refused_window(1, 0, 2147483647, 0, PIX_BAD_SIZE));
+    CHECK(is_refused_window(0, 1, 0, 2147483647, PIX_BAD_SIZE));
+    CHECK(is_refused_window(0, 0, LONG, 0, PIX_BAD_SIZE));
+    CHECK(pix_run_in(pix_image_of(NULL, 0, 0), 2147483647, 2147483647, NULL, 0, &done) == PIX_OK && done == 0);
+    CHECK(pix_run_in(pix_image_of(NULL, 1, 1), 0, 0, NULL, 0, &done) == PIX_NULL && done == 0);
+    list[0] = pix_copy_color(first, color);
+    list[1] = pix_composite_color(first, color, (pix_op)13);
+    CHECK(pix_run_in(pix_image_of(pixels, SIDE, SIDE), 2147483643, 0, list, 2, &done) == PIX_BAD_OP && done == 1);
+    list[1] = pix_copy_image(first, pix_source_of(pixels, 1, 1), first);
+    CHECK(pix_run_in(pix_image_of(pixels, SIDE, SIDE), 2147483643, 0, list, 2, &done) == PIX_OVERLAP && done == 1);
+    CHECK(is_reset());
+    CHECK(pix_run_in(pix_image_of(pixels, SIDE, SIDE), 2147483643, 0, list, 1, &done) == PIX_OK && done == 1);
+    CHECK(pixels[0].a == 9 && pixels[1].a == 200);
+    reset();
+}
+
 /* What the header computes by itself, and the library tests all the same: the lengths. */
 static void lengths(void) {
     const pix_region whole = pix_region_of(0, 0, SIDE, SIDE);
@@ -289,6 +334,7 @@ int main(void) {
     images();
     commands();
     sources();
+    windows();
     lengths();
     strides();
     operators();

@@ -1,10 +1,11 @@
-/* Two threads paint two images from one source at once, and both images come out alike. */
+/* Two threads paint two images from one source at once, and both images come out alike; then four threads paint bands
+ * of rows of one image at once, and it is the image that one call paints. */
 #include "pix.h"
 #include <pthread.h>
 #include <stdio.h>
 #include <string.h>
 
-enum { SIDE = 64, ROUNDS = 500 };
+enum { SIDE = 64, ROUNDS = 500, BANDS = 4, HEIGHT = SIDE / BANDS };
 
 static pix_rgba8 source[SIDE * SIDE], images[2][SIDE * SIDE];
 static uint8_t values[SIDE * SIDE];
@@ -25,9 +26,54 @@ static void *paint(void *pixels) {
     return NULL;
 }
 
+/* The commands for both pictures. */
+static void fill_list(pix_command *list) {
+    const pix_region whole = pix_region_of(0, 0, SIDE, SIDE);
+    list[0] = pix_clear();
+    list[1] = pix_composite_image(pix_region_of(-3, 5, SIDE, SIDE), pix_source_of(source, SIDE, SIDE), whole,
+                                  PIX_OP_SRC_OVER);
+    list[2] = pix_composite_matte(whole, pix_matte_of(values, SIDE, SIDE), pix_region_of(2, -7, SIDE, SIDE),
+                                  pix_rgba8_of(0, 90, 0, 200), PIX_OP_SRC_ATOP);
+    list[3] = pix_composite_color(pix_region_of(9, 11, 40, 40), pix_rgba8_of(9, 9, 9, 99), PIX_OP_XOR);
+}
+
+/* Paints a band of the first image, that begins at a row, again and again, and returns null where all went well. */
+static void *paint_band(void *row) {
+    const size_t top = (size_t)((pix_rgba8 *)row - images[0]) / SIDE;
+    const pix_image band = pix_image_of((pix_rgba8 *)row, SIDE, HEIGHT);
+    pix_command list[4];
+    fill_list(list);
+    for (int i = 0; i < ROUNDS; i++)
+        if (pix_run_in(band, 0, (uint32_t)top, list, 4, NULL) != PIX_OK)
+            return row;
+    return NULL;
+}
+
+/* Waits for threads, and returns whether all of them went well. */
+static int join(pthread_t *threads, int count) {
+    int is_well = 1;
+    for (int i = 0; i < count; i++) {
+        void *answer = NULL;
+        pthread_join(threads[i], &answer);
+        is_well &= !answer;
+    }
+    return is_well;
+}
+
+/* Whether the bands of one image, painted at once, are the image painted whole. */
+static int try_bands(void) {
+    pthread_t threads[BANDS];
+    pix_command list[4];
+    fill_list(list);
+    for (int i = 0; i < BANDS; i++)
+        if (pthread_create(&threads[i], NULL, paint_band, images[0] + i * HEIGHT * SIDE))
+            return 0;
+    return join(threads, BANDS) && pix_run(pix_image_of(images[1], SIDE, SIDE), list, 4, NULL) == PIX_OK
+           && memcmp(images[0], images[1], sizeof images[0]) == 0;
+}
+
 int main(void) {
     pthread_t threads[2];
-    void *failed = NULL;
     for (int i = 0; i < SIDE * SIDE; i++) {
         source[i] = pix_rgba8_of((uint8_t)(i % SIDE), 0, 0, 64);
         values[i] = (uint8_t)(i / SIDE);
@@ -35,13 +81,10 @@ int main(void) {
     for (int i = 0; i < 2; i++)
         if (pthread_create(&threads[i], NULL, paint, images[i]))
             return 1;
-    for (int i = 0; i < 2; i++) {
-        void *answer = NULL;
-        pthread_join(threads[i], &answer);
-        failed = answer ? answer : failed;
-    }
-    if (memcmp(images[0], images[1], sizeof images[0]))
-        failed = images;
-    puts(failed ? "threads: failed" : "threads: both images are alike");
-    return failed != NULL;
+    const int alike = join(threads, 2) && memcmp(images[0], images[1], sizeof images[0]) == 0;
+    const int bands = alike && try_bands();
+    puts(!alike  ? "threads: failed"
+         : bands ? "threads: both images are alike, and bands are the whole"
+                 : "threads: the bands are not the whole");
+    return !bands;
 }

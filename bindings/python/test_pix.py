@@ -65,6 +65,23 @@ class Refusals(unittest.TestCase):
             self.refused(pix.Status.BAD_SOURCE, pix.composite_image(WHOLE, source, WHOLE))
         self.refused(pix.Status.BAD_SOURCE, pix.composite_matte(WHOLE, pix.Matte(bytes(15), 4, 4), COLOR))
 
+    def test_windows(self):
+        far = pix.copy_color((LONG - 5, 0, 9, 1), COLOR)
+        for origin in ((LONG - 4, 0), (0, LONG - 4), (2 * LONG - 1, 0), (0, 2 * LONG - 1)):
+            with self.assertRaises(pix.PixError) as caught:
+                self.image.run(far, origin=origin)
+            self.assertEqual((caught.exception.status, caught.exception.index), (pix.Status.BAD_SIZE, None))
+        for origin in ((-1, 0), (0, 2 * LONG), (1,), (1, 2, 3)):
+            self.assertRaises(ValueError, self.image.run, far, origin=origin)
+        for origin in ((0.5, 0), 3, None):
+            self.assertRaises(TypeError, self.image.run, far, origin=origin)
+        with self.assertRaises(pix.PixError) as caught:
+            self.image.run(far, pix.composite_color(WHOLE, COLOR, 13), origin=(LONG - 5, 0))
+        self.assertEqual((caught.exception.status, caught.exception.index), (pix.Status.BAD_OP, 1))
+        last = pix.Image.new(4, 4)
+        last.run(far, origin=[LONG - 5, 0])
+        self.assertEqual(bytes(last.pixels), bytes(COLOR) * 4 + bytes(48))
+
     def test_numbers(self):
         for region in ((LONG, 0, 1, 1), (0, -LONG - 1, 1, 1), (0, 0, -1, 1), (0, 0, 1, 2 * LONG)):
             self.assertRaises(ValueError, pix.copy_color, region, COLOR)
@@ -97,8 +114,8 @@ class Refusals(unittest.TestCase):
         self.assertRaises(TypeError, pix.Image(bytearray(16), 2, 1, type=pix.RGBA16).run, pix.composite_matte(WHOLE, matte, COLOR))
 
     def test_kinds_of_pixels(self):
-        self.assertRaises((TypeError, ValueError), pix.PixelType, "RGB8", 1, ctypes.c_uint8, "pix_run_commands")
-        self.assertRaises(ValueError, pix.PixelType, (1, ctypes.c_uint8, "pix_run_commands"))
+        self.assertRaises((TypeError, ValueError), pix.PixelType, "RGB8", 1, ctypes.c_uint8, "pix_run_window")
+        self.assertRaises(ValueError, pix.PixelType, (1, ctypes.c_uint8, "pix_run_window"))
         for name in ("max", "channels", "name"):
             self.assertRaises(AttributeError, setattr, pix.RGBA16, name, 1)
         self.assertEqual([(kind.name, kind.channels, kind.max) for kind in pix.PixelType],
@@ -317,6 +334,24 @@ class Threads(unittest.TestCase):
         self.assertTrue(any(self.most_at_once(images, commands) == 2 for _ in range(10)))
         self.assertEqual(images[0].pixels, images[1].pixels)
 
+    def test_threads_paint_bands_of_one_image(self):
+        whole, buffer = pix.Image.new(512, 512), bytearray(4 * 512 * 512)
+        commands = self.long_list(pix.Image.new(512, 512)) + [
+            pix.composite_color((-9, 100, 300, 200), (9, 8, 7, 99)), pix.composite_color((200, 99, 999, 300), (50, 0, 9, 60)),
+        ]  # fmt: skip
+        whole.run(*commands)
+
+        def paint(top):
+            rows = memoryview(buffer)[top * 2048 : (top + 128) * 2048]
+            pix.Image(rows, 512, 128).run(*commands, origin=(0, top))
+
+        threads = [threading.Thread(target=paint, args=[top]) for top in range(0, 512, 128)]
+        for thread in threads:
+            thread.start()
+        for thread in threads:
+            thread.join()
+        self.assertEqual(buffer, whole.pixels)
+
     def test_one_waits_for_what_another_writes(self):
         image, source = pix.Image.new(4, 4), pix.Image.new(4, 4)
         for written, read in ((image, []), (source, []), (pix.Image.new(1, 1), [image._rows.memory])):
@@ -361,6 +396,36 @@ class Threads(unittest.TestCase):
 
 
 class Paintings(unittest.TestCase):
+    def test_tiles_are_the_picture_painted_whole(self):
+        sprite = pix.Image(bytearray(range(100)), 5, 5)
+        commands = [
+            pix.copy_color((-3, -3, 9, 20), (0, 0, 9, 99)), pix.composite_image((5, 2, 5, 5), sprite),
+            pix.composite_image((-1, 9, 99, 99), sprite, (1, -2, 99, 99), pix.Op.XOR),
+            pix.composite_matte((3, 1, 7, 9), pix.Matte(bytes(range(0, 250, 4)), 7, 9), COLOR, op=pix.Op.SRC_ATOP),
+        ]  # fmt: skip
+        whole = bytearray(i % 251 for i in range(4 * 12 * 11))
+        parts = bytearray(whole)
+        pix.Image(whole, 12, 11).run(*commands)
+        for top, rows in ((5, 6), (0, 5)):
+            for left in (6, 0):
+                start, end = 4 * (top * 12 + left), 4 * ((top + rows - 1) * 12 + left + 6)
+                tile = pix.Image(memoryview(parts)[start:end], 6, rows, 12)
+                if left:  # in place, or in memory of its own by a pickle
+                    tile.run(*commands, origin=(left, top))
+                    continue
+                own = pickle.loads(pickle.dumps(tile))
+                own.run(*pickle.loads(pickle.dumps(commands)), origin=(left, top))
+                tile.run(pix.copy_image((0, 0, 6, rows), own))
+        self.assertEqual(parts, whole)
+
+    def test_windows_of_the_other_kinds(self):
+        for type, far in ((pix.RGBA16, (9, 8, 7, 6)), (pix.GRAYA8, (9, 8))):
+            image = pix.Image.new(2, 2, type)
+            image.run(pix.copy_color((7, 3, 1, 1), far), origin=(6, 2))
+            wanted = pix.Image.new(2, 2, type)
+            wanted.run(pix.copy_color((1, 1, 1, 1), far))
+            self.assertEqual(image.pixels, wanted.pixels)
+
     def test_rows_with_padding(self):
         pixels = bytearray(b"\x01\x02\x03\x04" * 13)
         rows = bytes(channel for i in range(13) for channel in (i, 0, 0, 255))

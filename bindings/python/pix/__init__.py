@@ -17,6 +17,10 @@ makes them of what image files hold, and back. A region is a tuple (x, y, width,
 what is outside an image is neither read nor written. A list is tested as a whole before its first command runs: where
 an exception is raised, no pixel was changed.
 
+A picture may be painted tile by tile, each an Image of its own that runs the same commands at its place, as
+tile.run(*commands, origin=(left, top)); that is the picture painted whole. Several threads may paint bands of rows of
+one buffer at once.
+
 A buffer has bytes, or, for pixels of 16 bits a channel, words of 16 bits in the machine's byte order. It is pinned as
 long as a view of it lives: a bytearray can't be resized meanwhile. A long run lets the interpreter's lock go, so that
 two threads paint at once; one that needs memory that another is writing waits. Other code of the program, such as an

@@ -3,13 +3,13 @@
 from __future__ import annotations
 
 import ctypes
-from typing import Optional, SupportsIndex
+from typing import Iterable, Optional, SupportsIndex
 
 from pix._command import Command, made
 from pix._library import LONG
 from pix._memory import Buffer, calls
 from pix._pixels import RGBA8, PixelType
-from pix._values import PixError, Status, u32
+from pix._values import PixError, Status, origin_of, u32
 from pix._views import View, rows_of
 
 
@@ -60,14 +60,22 @@ class Image(View):
     def __reduce__(self) -> tuple:
         return Image, (self._value(), self.width, self.height, None, self.type)
 
-    def run(self, *commands: Command) -> None:
+    def run(self, *commands: Command, origin: Iterable[SupportsIndex] = (0, 0)) -> None:
         """Runs the commands in order, or none of them.
 
-        Raises PixError where the library refuses one; TypeError where the buffer is read-only, where something is no
+        Where an `origin` is given, this image is a window of a picture: its first pixel is the point (left, top) of the
+        picture, and the regions of the commands are those of the picture. Each pixel becomes what a run on the whole
+        picture would make of it. So pictures painted tile by tile are the picture painted whole, in any order: tiles
+        that are never in memory together, or bands of rows of one buffer, each an image of its own over a slice of a
+        memoryview or an array, by several threads at once. Windows side by side in one buffer share the memory between
+        their rows, and wait for each other.
+
+        Raises PixError where the library refuses one, or where the window ends past 2147483647; TypeError where the buffer is read-only, where something is no
         Command, or where a source has another type of pixels; ValueError where a source or a matte shares memory with
         this image, or where a color is none of its type.
         """
         memory, _, count, width, height, stride, type = self._rows
+        left, top = origin_of(origin)
         taken = [made(command, type) for command in commands]
         read = [source for _, source in taken if source is not None]
         if memory.is_readonly and memory.length:
@@ -78,7 +86,7 @@ class Image(View):
         records = (type._command * max(1, len(taken)))(*(record for record, _ in taken))
         done, run = ctypes.c_size_t(), type._calls[width * height * len(taken) > LONG]
         with calls.turn(memory, read):
-            status = run(memory.address, count, width, height, stride, ctypes.addressof(records), len(taken), done)
+            status = run(memory.address, count, left, top, width, height, stride, ctypes.addressof(records), len(taken), done)
         if status == Status.BAD_SIZE:
             raise PixError(Status.BAD_SIZE)
         if status:

@@ -72,21 +72,20 @@ def why_not(path: str) -> str:
 def load(kind: Any) -> Any:
     """Loads the shared object, and declares its functions."""
     path = path_of_library(flags() if machine() == "x86-64" else None)
+    pointer, size, u32 = ctypes.c_void_p, ctypes.c_size_t, ctypes.c_uint32
+    run = [pointer, size, u32, u32, u32, u32, u32, pointer, size, ctypes.POINTER(size)]
+    calls = {"pix_layout": [size], "pix_convert_bytes": [u32, u32, pointer, size, pointer, size, size]}
+    calls.update((f"pix_run_window{kind}", run) for kind in ("", "_rgba16", "_graya8"))
     try:
         library = kind(path)
-        library.pix_layout.restype = ctypes.c_uint32
-        library.pix_layout.argtypes = [ctypes.c_size_t]
     except OSError as fault:
         raise ImportError(f"pix: {why_not(path)}") from fault
-    except AttributeError as fault:
-        raise ImportError(f"pix: {path} has another version than this package: it lacks pix_layout") from fault
-    pointer, size, u32 = ctypes.c_void_p, ctypes.c_size_t, ctypes.c_uint32
-    for name in ("pix_run_commands", "pix_run_commands_rgba16", "pix_run_commands_graya8"):
-        call = getattr(library, name)
-        call.restype = u32
-        call.argtypes = [pointer, size, u32, u32, u32, pointer, size, ctypes.POINTER(size)]
-    library.pix_convert_bytes.restype = u32
-    library.pix_convert_bytes.argtypes = [u32, u32, pointer, size, pointer, size, size]
+    for name, types in calls.items():
+        try:
+            call = getattr(library, name)
+        except AttributeError as fault:
+            raise ImportError(f"pix: {path} has another version than this package: it lacks {name}") from fault
+        call.restype, call.argtypes = u32, types
     return library
 
 

@@ -107,6 +107,12 @@ def u32(number: SupportsIndex, what: str) -> int:
     return taken
 
 
+def origin_of(origin: Iterable[SupportsIndex]) -> Tuple[int, int]:
+    """The numbers of the place (left, top) of a window."""
+    left, top = origin
+    return u32(left, "left"), u32(top, "top")
+
+
 def region_of(region: Iterable[SupportsIndex]) -> Region:
     """The numbers of a region (x, y, width, height)."""
     x, y, width, height = map(index, region)

@@ -6,6 +6,7 @@ pub use Rattle.pix_chan.specs.Depth
 pub use Rattle.pix_chan.specs.Laws
 pub use Rattle.pix_chan.specs.Channel
 pub use Rattle.pix_chan.specs.Srgb
+pub use Rattle.pix_chan.specs.Srgb16
 pub use Rattle.pix_chan.specs.Modes
 pub use Rattle.pix_chan.specs.Runs
 pub use Rattle.pix_ops.specs.Operators
@@ -22,6 +23,7 @@ pub use Rattle.pix_el.specs.ExactPixel
 pub use Rattle.pix_el.specs.Transparent
 pub use Rattle.pix_el.specs.Color
 pub use Rattle.pix_el.specs.Conversion
+pub use Rattle.pix_el.specs.Light
 pub use Rattle.pix_color.specs.Linear
 pub use Rattle.pix_color.specs.Hexcone
 pub use Rattle.pix_color.specs.Bgr
@@ -44,6 +46,8 @@ pub use Rattle.pix_raster.specs.Run
 pub use Rattle.pix_raster.specs.Kept
 pub use Rattle.pix_raster.specs.Bounds
 pub use Rattle.pix_raster.specs.Stays
+pub use Rattle.pix_raster.specs.Claims
+pub use Rattle.pix_raster.specs.Window
 pub use Rattle.pix_palette.specs.PaletteMatch
 pub use Rattle.pix_palette.specs.Palette
 pub use Rattle.pix_palette.specs.Histogram

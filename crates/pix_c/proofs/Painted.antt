@@ -1,16 +1,17 @@
 -- What each kind of command does to rows in memory.
 use Rattle.std.proofs.Common.{◌≡◌, ℕ, ◌<◌, ◌≤◌, List, [], ◌∷◌, length, arith, ap, subst, ◌∙◌, refl, true, false, Bool, cond}
-use Rattle.std.specs.Prelude.{replicate, not, ◌&&◌, ◌||◌, nat_eq, nat_lt, nat_le}
+use Rattle.std.specs.Prelude.{replicate, ◌+◌, not, ◌&&◌, ◌||◌, nat_eq, nat_lt, nat_le}
 use Rattle.std.proofs.lemmas.Bool.Decides.{nat_tests}
 use Rattle.pix_ops.specs.OperatorNames.{operators}
 use Rattle.pix_el.specs.Pixel.{Layout}
 use Rattle.pix_el.specs.PixelComposite.{pixel_composite, matted_composite, matte_value}
 use Rattle.pix.specs.Region.{Rectangle, whole}
-use Rattle.pix.specs.Lent.{read_at, where_covered, where_paired, IsShaped, ChangedIn}
+use Rattle.pix.specs.Lent.{read_at, where_covered, where_paired, IsShaped, ChangedIn, picture, in_window}
 use Rattle.pix.specs.Run.{Cleared, Copied, Composited, Matted, run_at}
 use Rattle.pix_raster.specs.declared.command.Command.{Command}
 use Rattle.pix_raster.specs.declared.command.Command.TheVariants as commands
 use Rattle.pix_raster.specs.declared.lent.Shape.{Shape}
+use Rattle.pix_raster.specs.declared.lent.Window.{Window}
 use Rattle.pix_c.specs.declared.command.FlatCommand.{FlatCommand}
 use Rattle.pix_c.specs.Command.{image_of, op_at, rectangle, lent, command_of}
 use Rattle.pix_c.specs.Status.{fits, has_source, fault_of}
@@ -52,37 +53,37 @@ pub mattes_shaped : {D M : Type 0} (c : FlatCommand D M) → fault_of c ≡ 0 �
     → IsShaped (record { width = c.width; height = c.height; stride = c.stride }) (length c.mattes.now)
 mattes_shaped c e k = sized_is_shaped c.width c.height c.stride (length c.mattes.now) (rw k at (sound c e).source)
 
-module _ {D M : Type 0} (layout : Layout) (n : D → List ℕ) (m : M → List ℕ) (shape : Shape) (c : FlatCommand D M) (old new : List D) where
+module _ {D M : Type 0} (layout : Layout) (n : D → List ℕ) (m : M → List ℕ) (window : Window) (c : FlatCommand D M) (old new : List D) where
   -- it was done
   abbrev pub Painted : Command D M → Type 0
-  Painted command = ChangedIn n shape old new (run_at layout n m (whole shape.width shape.height) (command ∷ []))
+  Painted command = ChangedIn n window.shape old new (in_window window (run_at layout n m (picture window) (command ∷ [])))
 
   -- a color in the place of each pixel
-  pub painted_clear : c.kind ≡ 0 → shape.width ≤ 2147483647 → shape.height ≤ 2147483647 → (reg : Rectangle) (f : List ℕ → List ℕ) → reg ≡ whole shape.width shape.height
-      → ((p : List ℕ) → f p ≡ replicate layout.count 0) → ChangedIn n shape old new (where_covered reg f) → Painted (command_of c)
+  pub painted_clear : c.kind ≡ 0 → window.left + window.shape.width ≤ 2147483647 → window.top + window.shape.height ≤ 2147483647 → (reg : Rectangle) (f : List ℕ → List ℕ) → reg ≡ picture window
+      → ((p : List ℕ) → f p ≡ replicate layout.count 0) → ChangedIn n window.shape old new (in_window window (where_covered reg f)) → Painted (command_of c)
   painted_clear kind wide high reg f er is changed =
       let e : commands.Clear ≡ command_of c = rw kind refl in
       subst Painted e
-      (changed_alike n shape old new (where_covered reg f) _
-      (λ x y pixel lx ly. ap (λ r. where_covered r f x y pixel) er ∙ whole_effect layout shape.width shape.height f Cleared x y pixel wide high lx ly is) changed)
+      (changed_alike n window.shape old new (in_window window (where_covered reg f)) _
+      (λ x y pixel lx ly. ap (λ r. where_covered r f (window.left + x) (window.top + y) pixel) er ∙ whole_effect layout (window.left + window.shape.width) (window.top + window.shape.height) f Cleared (window.left + x) (window.top + y) pixel wide high (omega arith) (omega arith) is) changed)
 
   -- a color in the place of each pixel of a region
   pub painted_copy_color : c.kind ≡ 1 → (reg : Rectangle) (f : List ℕ → List ℕ) → reg ≡ rectangle c.to
-      → ((p : List ℕ) → f p ≡ n c.color) → ChangedIn n shape old new (where_covered reg f) → Painted (command_of c)
+      → ((p : List ℕ) → f p ≡ n c.color) → ChangedIn n window.shape old new (in_window window (where_covered reg f)) → Painted (command_of c)
   painted_copy_color kind reg f er is changed =
       let e : commands.CopyColor (rectangle c.to) c.color ≡ command_of c = rw kind refl in
       subst Painted e
-      (changed_alike n shape old new (where_covered reg f) _
-      (λ x y pixel lx ly. ap (λ r. where_covered r f x y pixel) er ∙ covered_effect layout (rectangle c.to) f (Copied (n c.color)) x y pixel is) changed)
+      (changed_alike n window.shape old new (in_window window (where_covered reg f)) _
+      (λ x y pixel lx ly. ap (λ r. where_covered r f (window.left + x) (window.top + y) pixel) er ∙ covered_effect layout (rectangle c.to) f (Copied (n c.color)) (window.left + x) (window.top + y) pixel is) changed)
 
   -- a color that is composited
   pub painted_color : c.kind ≡ 3 → (reg : Rectangle) (f : List ℕ → List ℕ) → reg ≡ rectangle c.to
-      → ((p : List ℕ) → f p ≡ pixel_composite layout (op_at c.op) (n c.color) p) → ChangedIn n shape old new (where_covered reg f) → Painted (command_of c)
+      → ((p : List ℕ) → f p ≡ pixel_composite layout (op_at c.op) (n c.color) p) → ChangedIn n window.shape old new (in_window window (where_covered reg f)) → Painted (command_of c)
   painted_color kind reg f er is changed =
       let e : commands.Color (rectangle c.to) c.color (op_at c.op) ≡ command_of c = rw kind refl in
       subst Painted e
-      (changed_alike n shape old new (where_covered reg f) _
-      (λ x y pixel lx ly. ap (λ r. where_covered r f x y pixel) er ∙ covered_effect layout (rectangle c.to) f (Composited (op_at c.op) (n c.color)) x y pixel is) changed)
+      (changed_alike n window.shape old new (in_window window (where_covered reg f)) _
+      (λ x y pixel lx ly. ap (λ r. where_covered r f (window.left + x) (window.top + y) pixel) er ∙ covered_effect layout (rectangle c.to) f (Composited (op_at c.op) (n c.color)) (window.left + x) (window.top + y) pixel is) changed)
 
   -- the shape of a source
   abbrev pub source : Shape
@@ -90,38 +91,38 @@ module _ {D M : Type 0} (layout : Layout) (n : D → List ℕ) (m : M → List �
 
   -- what a blit makes of an image
   abbrev pub blitted : {S : Type 0} → (S → List ℕ) → List S → (List ℕ → List ℕ → List ℕ) → Rectangle → Rectangle → Shape → ℕ → ℕ → List ℕ → List ℕ
-  blitted reads src f to from of_source = where_paired to (whole shape.width shape.height) from (whole of_source.width of_source.height) (read_at reads of_source.stride src) f
+  blitted reads src f to from of_source = where_paired to (picture window) from (whole of_source.width of_source.height) (read_at reads of_source.stride src) f
 
   -- pixels that are copied
   pub painted_copy_image : c.kind ≡ 2 → fault_of c ≡ 0 → (to from : Rectangle) (of_source : Shape) (f : List ℕ → List ℕ → List ℕ)
       → to ≡ rectangle c.to → from ≡ rectangle c.from → of_source ≡ source → ((s p : List ℕ) → f s p ≡ s)
-      → ChangedIn n shape old new (blitted n c.pixels.now f to from of_source) → Painted (command_of c)
+      → ChangedIn n window.shape old new (in_window window (blitted n c.pixels.now f to from of_source)) → Painted (command_of c)
   painted_copy_image kind none to from of_source f et ef es is changed =
       let e : commands.CopyRaster (rectangle c.to) (lent (image_of c.width c.height c.stride c.pixels.now)) (rectangle c.from) ≡ command_of c = rw kind refl in
       subst Painted e
-      (changed_alike n shape old new (blitted n c.pixels.now f to from of_source) _
+      (changed_alike n window.shape old new (in_window window (blitted n c.pixels.now f to from of_source)) _
       (λ x y pixel lx ly. rw (et, ef, es)
-      (paired_effect layout (rectangle c.to) (whole shape.width shape.height) (rectangle c.from) n c.width c.height c.stride c.pixels.now f Copied x y pixel (pixels_shaped c none (rw kind refl)) is)) changed)
+      (paired_effect layout (rectangle c.to) (picture window) (rectangle c.from) n c.width c.height c.stride c.pixels.now f Copied (window.left + x) (window.top + y) pixel (pixels_shaped c none (rw kind refl)) is)) changed)
 
   -- pixels that are composited
   pub painted_image : c.kind ≡ 4 → fault_of c ≡ 0 → (to from : Rectangle) (of_source : Shape) (f : List ℕ → List ℕ → List ℕ)
       → to ≡ rectangle c.to → from ≡ rectangle c.from → of_source ≡ source → ((s p : List ℕ) → f s p ≡ pixel_composite layout (op_at c.op) s p)
-      → ChangedIn n shape old new (blitted n c.pixels.now f to from of_source) → Painted (command_of c)
+      → ChangedIn n window.shape old new (in_window window (blitted n c.pixels.now f to from of_source)) → Painted (command_of c)
   painted_image kind none to from of_source f et ef es is changed =
       let e : commands.Raster (rectangle c.to) (lent (image_of c.width c.height c.stride c.pixels.now)) (rectangle c.from) (op_at c.op) ≡ command_of c = rw kind refl in
       subst Painted e
-      (changed_alike n shape old new (blitted n c.pixels.now f to from of_source) _
+      (changed_alike n window.shape old new (in_window window (blitted n c.pixels.now f to from of_source)) _
       (λ x y pixel lx ly. rw (et, ef, es)
-      (paired_effect layout (rectangle c.to) (whole shape.width shape.height) (rectangle c.from) n c.width c.height c.stride c.pixels.now f (Composited (op_at c.op)) x y pixel (pixels_shaped c none (rw kind refl)) is)) changed)
+      (paired_effect layout (rectangle c.to) (picture window) (rectangle c.from) n c.width c.height c.stride c.pixels.now f (Composited (op_at c.op)) (window.left + x) (window.top + y) pixel (pixels_shaped c none (rw kind refl)) is)) changed)
 
   -- a color that is composited through mattes
   pub painted_matte : c.kind ≡ 5 → fault_of c ≡ 0 → (to from : Rectangle) (of_source : Shape) (f : List ℕ → List ℕ → List ℕ)
       → to ≡ rectangle c.to → from ≡ rectangle c.from → of_source ≡ source
       → ((s p : List ℕ) → f s p ≡ matted_composite layout (op_at c.op) (matte_value layout s) (n c.color) p)
-      → ChangedIn n shape old new (blitted m c.mattes.now f to from of_source) → Painted (command_of c)
+      → ChangedIn n window.shape old new (in_window window (blitted m c.mattes.now f to from of_source)) → Painted (command_of c)
   painted_matte kind none to from of_source f et ef es is changed =
       let e : commands.Matte (rectangle c.to) (lent (image_of c.width c.height c.stride c.mattes.now)) (rectangle c.from) c.color (op_at c.op) ≡ command_of c = rw kind refl in
       subst Painted e
-      (changed_alike n shape old new (blitted m c.mattes.now f to from of_source) _
+      (changed_alike n window.shape old new (in_window window (blitted m c.mattes.now f to from of_source)) _
       (λ x y pixel lx ly. rw (et, ef, es)
-      (paired_effect layout (rectangle c.to) (whole shape.width shape.height) (rectangle c.from) m c.width c.height c.stride c.mattes.now f (λ s. Matted (op_at c.op) s (n c.color)) x y pixel (mattes_shaped c none kind) is)) changed)
+      (paired_effect layout (rectangle c.to) (picture window) (rectangle c.from) m c.width c.height c.stride c.mattes.now f (λ s. Matted (op_at c.op) s (n c.color)) (window.left + x) (window.top + y) pixel (mattes_shaped c none kind) is)) changed)

@@ -1,42 +1,34 @@
 -- Runs of lists of commands on an image in memory.
-use Rattle.std.specs.Prelude.{◌≡◌, ℕ, List, [], map, slice_index_or}
-use Rattle.pix_ops.specs.ExactRun.{IsWithinBudget, IsWithinPremultipliedBound, HasSmallBudget}
+use Rattle.std.specs.Prelude.{◌≡◌, ℕ, ◌+◌, ◌≤◌, List, [], map, slice_index_or}
 use Rattle.pix_el.specs.Pixel.{Layout}
-use Rattle.pix.specs.Image.{Image, Changed, region_of}
-use Rattle.pix.specs.Run.{run_at, HasSwappedNeighbours}
-use Rattle.pix.specs.Bounds.{OfEachChannel}
-use Rattle.pix.specs.Kept.{KeepsPremultiplied}
-use Rattle.pix.specs.Stays.{StaysUnderTransparent}
+use Rattle.pix.specs.Region.{whole}
+use Rattle.pix.specs.Image.{Changed}
+use Rattle.pix.specs.Run.{run_at}
+use Rattle.pix.specs.Claims.{IsImageRun}
+use Rattle.pix.specs.Window.{command_from}
 use Rattle.pix.specs.Lent.{IsNoPoint}
-use Rattle.pix_raster.specs.declared.command.Command.{Command}
 use Rattle.pix_c.specs.declared.command.FlatCommand.{FlatCommand}
 use Rattle.pix_c.specs.Command.{image_of, command_of}
-
--- The claims on a run of commands on an image. `numbers` reads a pixel, and `mattes` a matte.
-pub record IsImageRun {D M : Type 0} (layout : Layout) (numbers : D → List ℕ) (mattes : M → List ℕ) (commands : List (Command D M))
-    (old new : Image D) : Type 0 where
-  -- at each point, the effects of just those commands that reach it, one after the other
-  pub fold : Changed numbers old new (run_at layout numbers mattes (region_of old) commands)
-  -- two neighbours that reach no common point may be swapped
-  pub swapped : (others : List (Command D M)) → HasSwappedNeighbours numbers mattes old commands others
-      → Changed numbers old new (run_at layout numbers mattes (region_of old) others)
-  -- where every color and source pixel that reaches a premultiplied pixel is premultiplied, the pixel stays premultiplied, and only
-  -- the sum of `Plus` ever saturates
-  pub premultiplied : KeepsPremultiplied layout numbers mattes commands old new
-  -- each channel lies within its rounding budget of the exact run
-  pub within_budget : OfEachChannel layout numbers mattes commands old new (IsWithinBudget layout.max)
-  -- the budgets after n unmatted commands are at most n² + n, and at most n after those of the listed kinds
-  pub small_budget : OfEachChannel layout numbers mattes commands old new (λ _ effects _. HasSmallBudget effects)
-  -- with premultiplied sources the bound is twice the count of products
-  pub premultiplied_bound : OfEachChannel layout numbers mattes commands old new (IsWithinPremultipliedBound layout.max)
-  -- a pixel that only transparent sources under `SrcOver` reach stays as it was
-  pub transparent : StaysUnderTransparent layout numbers mattes commands old new
 
 -- The run of a list of commands on an image in memory.
 pub record IsRun {D M : Type 0} (layout : Layout) (numbers : D → List ℕ) (mattes : M → List ℕ) (width height stride : ℕ)
     (commands : List (FlatCommand D M)) (old new : List D) : Type 0 where
   -- the run on the image that lies there
   pub run : IsImageRun layout numbers mattes (map command_of commands) (image_of width height stride old) (image_of width height stride new)
+  -- what stands between the rows and after them stays
+  pub stays : (place : ℕ) → IsNoPoint (record { width = width; height = height; stride = stride }) place
+      → slice_index_or (map numbers new) place [] ≡ slice_index_or (map numbers old) place []
+
+-- The run of a list of commands on a window of a picture: its first pixel lies at the picture's point (left, top).
+pub record IsWindowRun {D M : Type 0} (layout : Layout) (numbers : D → List ℕ) (mattes : M → List ℕ) (left top width height stride : ℕ)
+    (commands : List (FlatCommand D M)) (old new : List D) : Type 0 where
+  -- of each picture that has the window: at each point of the window, the effects of just those commands that reach the picture's point there
+  pub fold : (picture_width picture_height : ℕ) → left + width ≤ picture_width → top + height ≤ picture_height
+      → Changed numbers (image_of width height stride old) (image_of width height stride new)
+      (λ x y. run_at layout numbers mattes (whole picture_width picture_height) (map command_of commands) (left + x) (top + y))
+  -- and all that is claimed of a run on an image, of the commands as seen from the window
+  pub run : IsImageRun layout numbers mattes (map (command_from left top) (map command_of commands))
+      (image_of width height stride old) (image_of width height stride new)
   -- what stands between the rows and after them stays
   pub stays : (place : ℕ) → IsNoPoint (record { width = width; height = height; stride = stride }) place
       → slice_index_or (map numbers new) place [] ≡ slice_index_or (map numbers old) place []

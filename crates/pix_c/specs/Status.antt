@@ -46,3 +46,19 @@ status_of width height stride count commands = if is_sized width height stride c
 -- the index of the first command that is refused
 abbrev pub done_of : {D M : Type 0} → (width height stride count : ℕ) → List (FlatCommand D M) → ℕ
 done_of width height stride count commands = if is_sized width height stride count then count_before_fault commands else 0
+
+-- whether so many columns, or rows, from the first on end within the limit
+abbrev pub is_placed : (first count : ℕ) → Bool
+is_placed first count = nat_le (first + count) limit
+
+-- whether a window of a picture ends within the limit, and its rows lie in so many elements
+abbrev pub is_window : (left top width height stride count : ℕ) → Bool
+is_window left top width height stride count = (is_placed left width && is_placed top height) && is_sized width height stride count
+
+-- the status of a list of commands on a window of a picture: 1 if it is not a window in its pixels, and else the first fault
+abbrev pub window_status_of : {D M : Type 0} → (left top width height stride count : ℕ) → List (FlatCommand D M) → ℕ
+window_status_of left top width height stride count commands = if is_window left top width height stride count then first_fault commands else 1
+
+-- the index of the first command that is refused on a window
+abbrev pub window_done_of : {D M : Type 0} → (left top width height stride count : ℕ) → List (FlatCommand D M) → ℕ
+window_done_of left top width height stride count commands = if is_window left top width height stride count then count_before_fault commands else 0

@@ -24,6 +24,7 @@ mod run;
 mod sixteen;
 mod size;
 mod status;
+mod window;
 
 pub use crate::command::{PixCommand, PixCommandGraya8, PixCommandRgba16, PixRegion};
 pub use crate::convert::pix_convert_bytes;
@@ -32,6 +33,7 @@ pub use crate::layout::pix_layout;
 pub use crate::status::{
     BAD_FORMAT, BAD_KIND, BAD_LENGTH, BAD_OP, BAD_REGION, BAD_SIZE, BAD_SOURCE, DONE,
 };
+pub use crate::window::{pix_run_window, pix_run_window_graya8, pix_run_window_rgba16};
 use pix::gray::Graya8p;
 use pix::rgb::{Rgba8p, Rgba16p};
 

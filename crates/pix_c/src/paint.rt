@@ -1,8 +1,7 @@
 //! What a command does to the caller's pixels.
 ghost use Rattle.std.specs.Prelude.{◌≡◌, ◌<◌, [], ◌∷◌, length, true};
-ghost use Rattle.pix.specs.Region.{whole};
 ghost use Rattle.pix.specs.Run.{run_at};
-ghost use Rattle.pix.specs.Lent.{IsShaped, ChangedIn};
+ghost use Rattle.pix.specs.Lent.{IsWindow, ChangedIn, picture, in_window};
 ghost use Rattle.pix_c.specs.Command.{op_at, rectangle, command_of};
 ghost use Rattle.pix_c.specs.Status.{fits, fault_of};
 
@@ -15,7 +14,7 @@ use crate::sixteen::{CompositedColor, CompositedPixels, MattedColor};
 use pix::Region;
 use pix::chan::{Linear, Premultiplied};
 use pix::el::{Pix, Pixel};
-use pix::lent::{Shape, blit_region, fill_region};
+use pix::lent::{Shape, Window, blit_window, fill_window};
 use pix::matte::Matte;
 use pix::ops::{Blend, SliceVisitor};
 use std::marker::PhantomData;
@@ -43,11 +42,11 @@ fn source_shape<D, M>(command: &FlatCommand<'_, D, M>) -> Shape
     }
 }
 
-/// A command that composites, on an image of that shape.
+/// A command that composites, on a window of a picture.
 #[derive(Drop)]
 struct Composite<'b, 'a, P, D, M> {
     command: &'b FlatCommand<'a, D, M>,
-    shape: Shape,
+    window: Window,
     format: PhantomData<P>,
 }
 
@@ -58,22 +57,22 @@ impl<
     D: FlatPixel<P>,
     M: Flat<Pix<1, P::Chan, Matte, Premultiplied, Linear>>,
 > SliceVisitor<D> for Composite<'b, 'a, P, D, M> {
-    ghost can_visit = { λ it op count. IsShaped it.shape count × (fault_of it.command.now ≡ 0)
+    ghost can_visit = { λ it op count. IsWindow it.window count × (fault_of it.command.now ≡ 0)
         × (2 < it.command.now.kind) × (op ≡ op_at it.command.now.op) };
 
-    ghost visits = { λ it _ old new. ChangedIn D.numbers it.shape old new
-        (run_at P.layout D.numbers M.numbers (whole it.shape.width it.shape.height)
-        (command_of it.command.now ∷ [])) };
+    ghost visits = { λ it _ old new. ChangedIn D.numbers it.window.shape old new
+        (in_window it.window (run_at P.layout D.numbers M.numbers (picture it.window)
+        (command_of it.command.now ∷ []))) };
 
     fn visit<O: Blend>(&self, pixels: &mut [D], op: O) {
         let command = self.command;
-        let shape = self.shape;
+        let window = self.window;
         let to = region_of(command.to);
         let from = region_of(command.from);
         match command.kind {
             kind::COMPOSITE_COLOR => {
                 let clr = command.color.read();
-                fill_region(pixels, shape, to, &CompositedColor::<P, O> { clr, op });
+                fill_window(pixels, window, to, &CompositedColor::<P, O> { clr, op });
             }
             kind::COMPOSITE_IMAGE => {
                 let change = CompositedPixels::<P, O> {
@@ -81,45 +80,47 @@ impl<
                     format: PhantomData,
                 };
                 let src_shape = source_shape(command);
-                blit_region(pixels, shape, to, command.pixels, src_shape, from, &change);
+                blit_window(pixels, window, to, command.pixels, src_shape, from, &change);
             }
             _ => {
                 let clr = command.color.read();
                 let change = MattedColor::<P, O> { clr, op };
                 let src_shape = source_shape(command);
-                blit_region(pixels, shape, to, command.mattes, src_shape, from, &change);
+                blit_window(pixels, window, to, command.mattes, src_shape, from, &change);
             }
         }
     }
 }
 
-/// Draws a command on an image of that shape.
+/// Draws a command on a window of a picture.
 ///
-/// Condition: the rows of the image lie in `pixels`, and the command is not refused.
+/// Condition: the rows of the window lie in `pixels`, its sides end within the limit, and the command is not refused.
 pub(crate) fn paint<
     P: Pixel<Alpha = Premultiplied, Gamma = Linear>,
     D: FlatPixel<P>,
     M: Flat<Pix<1, P::Chan, Matte, Premultiplied, Linear>>,
->(pixels: &mut [D], shape: Shape, command: &FlatCommand<'_, D, M>)
-    requires shaped { IsShaped shape (length pixels.old) }
+>(pixels: &mut [D], window: Window, command: &FlatCommand<'_, D, M>)
+    requires placed { IsWindow window (length pixels.old) }
     requires sound { fault_of command.now ≡ 0 }
-    ensures { ChangedIn D.numbers shape pixels.old pixels.new
-        (run_at P.layout D.numbers M.numbers (whole shape.width shape.height)
-        (command_of command.now ∷ [])) }
+    ensures { ChangedIn D.numbers window.shape pixels.old pixels.new
+        (in_window window (run_at P.layout D.numbers M.numbers (picture window)
+        (command_of command.now ∷ []))) }
 {
     match command.kind {
         kind::CLEAR => {
             let clr = D::write(&P::default());
-            let all = Region::new(0, 0, shape.width, shape.height);
-            fill_region(pixels, shape, all, &CopiedColor { clr });
+            let right = window.left + window.shape.width;
+            let bottom = window.top + window.shape.height;
+            let all = Region::new(0, 0, right, bottom);
+            fill_window(pixels, window, all, &CopiedColor { clr });
         }
         kind::COPY_COLOR => {
             let clr = command.color;
-            fill_region(pixels, shape, region_of(command.to), &CopiedColor { clr });
+            fill_window(pixels, window, region_of(command.to), &CopiedColor { clr });
         }
-        kind::COPY_IMAGE => blit_region(
+        kind::COPY_IMAGE => blit_window(
             pixels,
-            shape,
+            window,
             region_of(command.to),
             command.pixels,
             source_shape(command),
@@ -129,7 +130,7 @@ pub(crate) fn paint<
         _ => {
             let composite = Composite::<P, D, M> {
                 command,
-                shape,
+                window,
                 format: PhantomData,
             };
             op_at(command.op).visit_slice(&composite, pixels);

@@ -1,20 +1,19 @@
 //! The run of a list of commands on the caller's pixels, for any format.
 ghost use Rattle.std.specs.Prelude.{◌≡◌, ◌≢◌, length, map};
-ghost use Rattle.pix.specs.Region.{whole};
 ghost use Rattle.pix.specs.Run.{run_at};
-ghost use Rattle.pix.specs.Lent.{IsShaped, ChangedIn};
+ghost use Rattle.pix.specs.Lent.{IsWindow, ChangedIn, picture, in_window};
 ghost use Rattle.pix_c.specs.Command.{command_of};
-ghost use Rattle.pix_c.specs.Status.{status_of, done_of, first_fault};
-ghost use Rattle.pix_c.specs.Run.{IsRun};
+ghost use Rattle.pix_c.specs.Status.{status_of, done_of, window_status_of, window_done_of, first_fault};
+ghost use Rattle.pix_c.specs.Run.{IsRun, IsWindowRun};
 
 use crate::command::Flatten;
 use crate::format::{Flat, FlatPixel};
 use crate::paint::paint;
-use crate::size::is_sized;
+use crate::size::is_window;
 use crate::status::{BAD_SIZE, DONE, first_fault};
 use pix::chan::{Linear, Premultiplied};
 use pix::el::{Pix, Pixel};
-use pix::lent::Shape;
+use pix::lent::{Shape, Window};
 use pix::matte::Matte;
 
 /// Runs `commands` in order on the image of that width, height and stride in `pixels`.
@@ -36,7 +35,37 @@ pub(crate) fn run<
     ensures run { result ≡ 0 → IsRun P.layout D.numbers M.numbers width height stride
         (map C.flat commands.now) pixels.old pixels.new }
 {
-    if !is_sized(width, height, stride, pixels.len()) {
+    run_window::<P, D, M, C>(pixels, 0, 0, width, height, stride, commands, done)
+}
+
+/// Runs `commands` in order on the window of a picture in `pixels`, of that width, height and stride, whose first pixel lies at the point
+/// (`left`, `top`) of the picture.
+///
+/// Returns what [`run`] does, and [`BAD_SIZE`] too where the window ends past the limit.
+pub(crate) fn run_window<
+    P: Pixel<Alpha = Premultiplied, Gamma = Linear>,
+    D: FlatPixel<P>,
+    M: Flat<Pix<1, P::Chan, Matte, Premultiplied, Linear>>,
+    C: Flatten<D, M>,
+>(
+    pixels: &mut [D],
+    left: u32,
+    top: u32,
+    width: u32,
+    height: u32,
+    stride: u32,
+    commands: &[C],
+    done: &mut usize,
+) -> u32
+    ensures status { result ≡ window_status_of left top width height stride (length pixels.old)
+        (map C.flat commands.now) }
+    ensures done { done.new ≡ window_done_of left top width height stride (length pixels.old)
+        (map C.flat commands.now) }
+    ensures refused { result ≢ 0 → pixels.new ≡ pixels.old }
+    ensures run { result ≡ 0 → IsWindowRun P.layout D.numbers M.numbers left top width height stride
+        (map C.flat commands.now) pixels.old pixels.new }
+{
+    if !is_window(left, top, width, height, stride, pixels.len()) {
         *done = 0;
         return BAD_SIZE;
     }
@@ -48,7 +77,8 @@ pub(crate) fn run<
             height,
             stride,
         };
-        run_all::<P, D, M, C>(pixels, shape, commands);
+        let window = Window { left, top, shape };
+        run_all::<P, D, M, C>(pixels, window, commands);
     }
     fault
 }
@@ -59,14 +89,14 @@ fn run_all<
     D: FlatPixel<P>,
     M: Flat<Pix<1, P::Chan, Matte, Premultiplied, Linear>>,
     C: Flatten<D, M>,
->(pixels: &mut [D], shape: Shape, commands: &[C])
-    requires shaped { IsShaped shape (length pixels.old) }
+>(pixels: &mut [D], window: Window, commands: &[C])
+    requires placed { IsWindow window (length pixels.old) }
     requires sound { first_fault (map C.flat commands.now) ≡ 0 }
-    ensures { ChangedIn D.numbers shape pixels.old pixels.new
-        (run_at P.layout D.numbers M.numbers (whole shape.width shape.height)
-        (map command_of (map C.flat commands.now))) }
+    ensures { ChangedIn D.numbers window.shape pixels.old pixels.new
+        (in_window window (run_at P.layout D.numbers M.numbers (picture window)
+        (map command_of (map C.flat commands.now)))) }
 {
     for command in commands {
-        paint::<P, D, M>(pixels, shape, &command.flat());
+        paint::<P, D, M>(pixels, window, &command.flat());
     }
 }

@@ -7,7 +7,6 @@ use Rattle.pix_chan.specs.Runs.{over}
 use Rattle.pix_chan.specs.Modes.{AlphaMode, Straight, Premultiplied, alpha_kind, GammaMode, Linear, Srgb, gamma_kind}
 use Rattle.pix_el.specs.Pixel.{Layout, channel}
 use Rattle.pix_el.specs.Color.{rgba_of, of_rgba}
-use Rattle.pix_el.specs.Model.{Model, ModelRow, row}
 use Rattle.pix_el.specs.Conversion.{Format, at_depth, reencoded, of_depth, channel_reencoded, within_model, rgba_format, across_models, converted}
 use Rattle.pix_el.specs.Planes.{linear_four, premultiplied_four}
 

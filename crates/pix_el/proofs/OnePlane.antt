@@ -1,9 +1,8 @@
 -- Pixels of one channel, which is their alpha.
-use Rattle.std.proofs.Common.{◌≡◌, ℕ, ◌+◌, ◌-◌, ◌≤◌, List, [], ◌∷◌, ◌++◌, length, map, take, drop, refl, ap, sym, ◌∙◌, arith, set, replicate}
+use Rattle.std.proofs.Common.{◌≡◌, ℕ, ◌-◌, ◌≤◌, List, [], ◌∷◌, ◌++◌, length, map, refl, ap, sym, ◌∙◌, arith, set, replicate}
 use lib.Lanes.{Each1}
-use borrow.Rule.Slice.PartMut.{put_mid}
 use Rattle.std.specs.declared.ops.Range.{Range}
-use Rattle.std.proofs.lemmas.List.{length-map, map-append}
+use Rattle.std.proofs.lemmas.List.{map-append}
 use Rattle.pix_ops.specs.declared.ops.Op.{Op}
 use Rattle.pix_chan.specs.Product.{channel_product}
 use Rattle.pix_chan.specs.Runs.{over, triples}

@@ -114,11 +114,36 @@ where
     }
 }
 
-/// Pixels between sRGB of 8 bits and linear light of 16 bits, of one color model.
+/// Pixels between sRGB of 8 bits and linear light of 16 bits, of one color model. Each [`Pixel`] has it.
+///
+/// An sRGB pixel that is decoded and encoded again is the pixel it was: in the same alpha mode always, and from straight to premultiplied
+/// and back where its alpha is 13 or more. Callers in `pix_uses::light` have these theorems as their contracts.
+///
+/// # Examples
+///
+/// ```rust
+/// let photo = [SRgba8::new::<u8>(188, 0, 0, 255), SRgba8::new::<u8>(0, 188, 0, 128)];
+/// let light = photo[0].decode_srgb::<Rgba16p>(); // (32957, 0, 0, 65535)
+/// let shown = light.encode_srgb::<SRgba8>(); // (188, 0, 0, 255)
+/// let (mut row, mut back) = ([Rgba16p::default(); 2], [SRgba8::default(); 2]);
+/// SRgba8::decode_srgb_slice::<Rgba16p>(&mut row, &photo);
+/// Rgba16p::encode_srgb_slice::<SRgba8>(&mut back, &row); // the photo as it was
+/// ```
 pub trait Light: Pixel {
     /// Decodes this sRGB pixel of 8 bits into linear light of 16 bits.
     ///
     /// Condition: that format has no more channels than its model.
+    ///
+    /// # Examples
+    ///
+    /// ```rust
+    /// let photo = [SRgba8::new::<u8>(188, 0, 0, 255), SRgba8::new::<u8>(0, 188, 0, 128)];
+    /// let light = photo[0].decode_srgb::<Rgba16p>(); // (32957, 0, 0, 65535)
+    /// let shown = light.encode_srgb::<SRgba8>(); // (188, 0, 0, 255)
+    /// let (mut row, mut back) = ([Rgba16p::default(); 2], [SRgba8::default(); 2]);
+    /// SRgba8::decode_srgb_slice::<Rgba16p>(&mut row, &photo);
+    /// Rgba16p::encode_srgb_slice::<SRgba8>(&mut back, &row); // the photo as it was
+    /// ```
     final fn decode_srgb<D>(self) -> D
     where
         D: Pixel<Model = Self::Model, Gamma = Linear>,
@@ -137,6 +162,17 @@ pub trait Light: Pixel {
     /// Encodes this linear pixel of 16 bits as sRGB of 8 bits: each color as the nearest level.
     ///
     /// Condition: that format has no more channels than its model.
+    ///
+    /// # Examples
+    ///
+    /// ```rust
+    /// let photo = [SRgba8::new::<u8>(188, 0, 0, 255), SRgba8::new::<u8>(0, 188, 0, 128)];
+    /// let light = photo[0].decode_srgb::<Rgba16p>(); // (32957, 0, 0, 65535)
+    /// let shown = light.encode_srgb::<SRgba8>(); // (188, 0, 0, 255)
+    /// let (mut row, mut back) = ([Rgba16p::default(); 2], [SRgba8::default(); 2]);
+    /// SRgba8::decode_srgb_slice::<Rgba16p>(&mut row, &photo);
+    /// Rgba16p::encode_srgb_slice::<SRgba8>(&mut back, &row); // the photo as it was
+    /// ```
     final fn encode_srgb<D>(self) -> D
     where
         Self: Pixel<Gamma = Linear>,
@@ -156,6 +192,17 @@ pub trait Light: Pixel {
     /// Decodes each sRGB pixel of `src` in the place of that of `dst` at its index; the shorter length decides, and the rest stays.
     ///
     /// Condition: the format of `dst` has no more channels than its model.
+    ///
+    /// # Examples
+    ///
+    /// ```rust
+    /// let photo = [SRgba8::new::<u8>(188, 0, 0, 255), SRgba8::new::<u8>(0, 188, 0, 128)];
+    /// let light = photo[0].decode_srgb::<Rgba16p>(); // (32957, 0, 0, 65535)
+    /// let shown = light.encode_srgb::<SRgba8>(); // (188, 0, 0, 255)
+    /// let (mut row, mut back) = ([Rgba16p::default(); 2], [SRgba8::default(); 2]);
+    /// SRgba8::decode_srgb_slice::<Rgba16p>(&mut row, &photo);
+    /// Rgba16p::encode_srgb_slice::<SRgba8>(&mut back, &row); // the photo as it was
+    /// ```
     final fn decode_srgb_slice<D>(dst: &mut [D], src: &[Self])
     where
         D: Pixel<Model = Self::Model, Gamma = Linear>,
@@ -173,6 +220,17 @@ pub trait Light: Pixel {
     /// Encodes each linear pixel of `src` in the place of that of `dst` at its index; the shorter length decides, and the rest stays.
     ///
     /// Condition: the format of `dst` has no more channels than its model.
+    ///
+    /// # Examples
+    ///
+    /// ```rust
+    /// let photo = [SRgba8::new::<u8>(188, 0, 0, 255), SRgba8::new::<u8>(0, 188, 0, 128)];
+    /// let light = photo[0].decode_srgb::<Rgba16p>(); // (32957, 0, 0, 65535)
+    /// let shown = light.encode_srgb::<SRgba8>(); // (188, 0, 0, 255)
+    /// let (mut row, mut back) = ([Rgba16p::default(); 2], [SRgba8::default(); 2]);
+    /// SRgba8::decode_srgb_slice::<Rgba16p>(&mut row, &photo);
+    /// Rgba16p::encode_srgb_slice::<SRgba8>(&mut back, &row); // the photo as it was
+    /// ```
     final fn encode_srgb_slice<D>(dst: &mut [D], src: &[Self])
     where
         Self: Pixel<Gamma = Linear>,

@@ -7,8 +7,12 @@ pub mod Steps
 pub mod Copies
 pub mod Shaped
 pub mod Overlaps
+pub mod Pictures
 pub mod Views
 pub mod RunBounds
 pub mod Transparent
+pub mod Claimed
+pub mod Seen
+pub mod Windows
 pub mod Points
 pub mod Samples

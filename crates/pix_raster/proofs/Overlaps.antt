@@ -179,22 +179,22 @@ one_or_none get f old a b m n true true hc hr = rw (hc refl, hr refl) refl
 one_or_none get f old a b m n true false hc hr = refl
 one_or_none get f old a b m n false r hc hr = refl
 
--- what is changed in an overlap, pixel by pixel, is changed where points are paired
-pub changed_in_overlap : {D S : Type 0} (to from : Rectangle) (reads : D → List ℕ) (shape : Shape) (old new : List D) (source_reads : S → List ℕ) (src_shape : Shape) (src : List S)
+-- what is changed in an overlap, pixel by pixel, is changed where points are paired; its points are those of a picture from (left, top) on
+pub changed_in_overlap : {D S : Type 0} (to dest from : Rectangle) (left top : ℕ) (reads : D → List ℕ) (shape : Shape) (old new : List D) (source_reads : S → List ℕ) (src_shape : Shape) (src : List S)
     (f : List ℕ → List ℕ → List ℕ) (o : Overlap)
     → o.columns.dst.end ≤ shape.width → o.rows.dst.end ≤ shape.height → shape.width ≤ shape.stride → 0 < shape.width
-    → ((x y : ℕ) → in_box o.columns.dst o.rows.dst x y ≡ is_paired to (whole shape.width shape.height) from (whole src_shape.width src_shape.height) (pos x -ℤ to.left) (pos y -ℤ to.top))
-    → ((x : ℕ) → lies_in o.columns.dst x ≡ true → o.columns.src_start + (x - o.columns.dst.start) ≡ natural (from.left +ℤ (pos x -ℤ to.left)))
-    → ((y : ℕ) → lies_in o.rows.dst y ≡ true → o.rows.src_start + (y - o.rows.dst.start) ≡ natural (from.top +ℤ (pos y -ℤ to.top)))
+    → ((x y : ℕ) → in_box o.columns.dst o.rows.dst x y ≡ is_paired to dest from (whole src_shape.width src_shape.height) (pos (left + x) -ℤ to.left) (pos (top + y) -ℤ to.top))
+    → ((x : ℕ) → lies_in o.columns.dst x ≡ true → o.columns.src_start + (x - o.columns.dst.start) ≡ natural (from.left +ℤ (pos (left + x) -ℤ to.left)))
+    → ((y : ℕ) → lies_in o.rows.dst y ≡ true → o.rows.src_start + (y - o.rows.dst.start) ≡ natural (from.top +ℤ (pos (top + y) -ℤ to.top)))
     → ((x y : ℕ) → x < shape.stride → read_at reads shape.stride new x y
     ≡ where_in o.columns.dst o.rows.dst
     (λ a b. f (read_at source_reads src_shape.stride src (o.columns.src_start + (a - o.columns.dst.start)) (o.rows.src_start + (b - o.rows.dst.start))))
     x y (read_at reads shape.stride old x y))
-    → ChangedIn reads shape old new (where_paired to (whole shape.width shape.height) from (whole src_shape.width src_shape.height) (read_at source_reads src_shape.stride src) f)
-changed_in_overlap to from reads shape old new source_reads src_shape src f o across down apart some points columns rows changed =
+    → ChangedIn reads shape old new (λ x y. where_paired to dest from (whole src_shape.width src_shape.height) (read_at source_reads src_shape.stride src) f (left + x) (top + y))
+changed_in_overlap to dest from left top reads shape old new source_reads src_shape src f o across down apart some points columns rows changed =
     let get = read_at source_reads src_shape.stride src in
     changed_in_box reads shape old new o.columns.dst o.rows.dst (λ a b. f (get (o.columns.src_start + (a - o.columns.dst.start)) (o.rows.src_start + (b - o.rows.dst.start)))) _ across down apart some changed
     (λ x y pixel _ _.
     one_or_none get f pixel (o.columns.src_start + (x - o.columns.dst.start)) (o.rows.src_start + (y - o.rows.dst.start))
-    (natural (from.left +ℤ (pos x -ℤ to.left))) (natural (from.top +ℤ (pos y -ℤ to.top))) (lies_in o.columns.dst x) (lies_in o.rows.dst y) (columns x) (rows y)
+    (natural (from.left +ℤ (pos (left + x) -ℤ to.left))) (natural (from.top +ℤ (pos (top + y) -ℤ to.top))) (lies_in o.columns.dst x) (lies_in o.rows.dst y) (columns x) (rows y)
     ∙ rw (points x y) refl)

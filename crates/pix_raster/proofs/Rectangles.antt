@@ -197,12 +197,17 @@ inside_image r image =
     (omega (arith, ints, clamps)) (omega (arith, ints, clamps)) (omega (arith, ints, clamps)) (omega (arith, ints, clamps))
     (omega (arith, ints, clamps)) (omega (arith, ints, clamps)) _ refl
 
--- a point of a raster lies in the rectangle of all of them
-pub covers_whole : (width height x y : ℕ) → width ≤ 2147483647 → height ≤ 2147483647 → x < width → y < height
+-- a point of a picture of any size lies in the rectangle of all of them, if its coordinates are below the limit
+pub covers_point : (width height x y : ℕ) → x < 2147483647 → y < 2147483647 → x < width → y < height
     → covers (whole width height) (pos x) (pos y) ≡ true
-covers_whole width height x y hw hh lx ly =
+covers_point width height x y hx hy lx ly =
     (Decides-lies (pos 0) (pos 0) (right (whole width height)) (bottom (whole width height)) (pos x) (pos y)).1
     ((omega (arith, ints, clamps), omega (arith, ints, clamps)), (omega (arith, ints, clamps), omega (arith, ints, clamps)))
+
+-- a point of a raster does
+pub covers_whole : (width height x y : ℕ) → width ≤ 2147483647 → height ≤ 2147483647 → x < width → y < height
+    → covers (whole width height) (pos x) (pos y) ≡ true
+covers_whole width height x y hw hh lx ly = covers_point width height x y (omega arith) (omega arith) lx ly
 
 -- a rectangle lies in a raster of that width and height
 pub record IsIn (r : Rectangle) (width height : ℕ) : Type 0 where

@@ -35,6 +35,18 @@ paired_effect : (layout : Layout) (effect : List ℕ → Effect) (f : List ℕ �
 paired_effect layout effect f source pixel true is = is pixel
 paired_effect layout effect f source pixel false is = refl
 
+-- a change of a point of a rectangle is the run of a command with that effect there
+pub covered_effect : (layout : Layout) (reg : Rectangle) (f : List ℕ → List ℕ) (effect : Effect) (x y : ℕ) (pixel : List ℕ) → ((p : List ℕ) → f p ≡ apply layout p effect)
+    → where_covered reg f x y pixel ≡ fold (apply layout) pixel (cond (covers reg (pos x) (pos y)) (effect ∷ []) [] ++ [])
+covered_effect layout reg f effect x y pixel is =
+    ap (λ p. cond (covers reg (pos x) (pos y)) p pixel) (is pixel) ∙ one_effect layout effect pixel (covers reg (pos x) (pos y))
+
+-- a change of a point that is paired with another is the run of a command with that effect
+pub from_pair_effect : (layout : Layout) (to dest from source : Rectangle) (get : ℕ → ℕ → List ℕ) (f : List ℕ → List ℕ → List ℕ) (effect : List ℕ → Effect) (x y : ℕ) (pixel : List ℕ)
+    → ((s p : List ℕ) → f s p ≡ apply layout p (effect s))
+    → where_paired to dest from source get f x y pixel ≡ fold (apply layout) pixel (from_pair to dest from source (λ a b. effect (get a b)) x y ++ [])
+from_pair_effect layout to dest from source get f effect x y pixel is = paired_effect layout effect f _ pixel _ (is _)
+
 -- a change of the points of a rectangle is the run of a command with that effect there
 pub changed_where_covered : {P : Type 0} (layout : Layout) (n : P → List ℕ) (old new : Image P) (reg : Rectangle) (f : List ℕ → List ℕ) (effect : Effect)
     → Changed n old new (where_covered reg f) → ((p : List ℕ) → f p ≡ apply layout p effect)
@@ -42,10 +54,7 @@ pub changed_where_covered : {P : Type 0} (layout : Layout) (n : P → List ℕ) 
 changed_where_covered layout n old new reg f effect changed is = record {
   same_width = changed.same_width;
   same_height = changed.same_height;
-  points = λ x y hx hy.
-      changed.points x y hx hy
-      ∙ ap (λ p. cond (covers reg (pos x) (pos y)) p (point n old x y)) (is (point n old x y))
-      ∙ one_effect layout effect (point n old x y) (covers reg (pos x) (pos y));
+  points = λ x y hx hy. changed.points x y hx hy ∙ covered_effect layout reg f effect x y (point n old x y) is;
 }
 
 -- a change of the points that are paired with others is the run of a command with those effects
@@ -55,7 +64,7 @@ pub changed_where_paired : {P S : Type 0} (layout : Layout) (n : P → List ℕ)
 changed_where_paired layout n s old new to from src f effect changed is = record {
   same_width = changed.same_width;
   same_height = changed.same_height;
-  points = λ x y hx hy. changed.points x y hx hy ∙ paired_effect layout effect f _ (point n old x y) _ (is _);
+  points = λ x y hx hy. changed.points x y hx hy ∙ from_pair_effect layout to (region_of old) from (region_of src) (point s src) f effect x y (point n old x y) is;
 }
 
 -- the effects of two lists of commands, one after the other

@@ -1,8 +1,9 @@
 -- Images in memory that the caller owns: rows of pixels that lie a stride apart, and a change of them at each point.
 use Rattle.std.specs.Prelude.{◌≡◌, ◌≢◌, ℕ, pos, ◌+◌, ◌*◌, ◌<◌, ◌≤◌, List, [], map, fold, slice_index_or, if◌then◌else◌}
-use Rattle.pix_raster.specs.Region.{Rectangle, limit, covers}
+use Rattle.pix_raster.specs.Region.{Rectangle, limit, covers, whole}
 use Rattle.pix_raster.specs.Reach.{from_pair}
 use Rattle.pix_raster.specs.declared.lent.Shape.{Shape}
+use Rattle.pix_raster.specs.declared.lent.Window.{Window}
 
 -- the numbers of the pixel at the point (x, y) of rows that lie `stride` pixels apart; `reads` reads a pixel
 abbrev pub read_at : {D : Type 0} → (D → List ℕ) → ℕ → List D → ℕ → ℕ → List ℕ
@@ -14,6 +15,20 @@ pub record IsShaped (shape : Shape) (count : ℕ) : Type 0 where
   pub high : shape.height ≤ limit
   pub apart : shape.width ≤ shape.stride
   pub last : (y : ℕ) → y < shape.height → y * shape.stride + shape.width ≤ count
+
+-- the rows of a window lie in so many pixels, and no point of it lies past the greatest coordinate
+pub record IsWindow (window : Window) (count : ℕ) : Type 0 where
+  pub shaped : IsShaped window.shape count
+  pub across : window.left + window.shape.width ≤ limit
+  pub down : window.top + window.shape.height ≤ limit
+
+-- the smallest picture that has the window
+abbrev pub picture : Window → Rectangle
+picture window = whole (window.left + window.shape.width) (window.top + window.shape.height)
+
+-- f at the point of the picture that lies at a point of the window
+abbrev pub in_window : {X : Type 0} → Window → (ℕ → ℕ → X) → ℕ → ℕ → X
+in_window window f x y = f (window.left + x) (window.top + y)
 
 -- the place is that of no point of an image: it lies between two rows or after the last
 abbrev pub IsNoPoint : Shape → ℕ → Type 0

@@ -13,4 +13,6 @@ pub mod Run
 pub mod Kept
 pub mod Stays
 pub mod Bounds
+pub mod Claims
+pub mod Window
 pub mod Clip

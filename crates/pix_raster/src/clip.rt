@@ -72,6 +72,35 @@ impl ClippedRect {
     }
 }
 
+impl ClippedRect {
+    /// Returns the points of the rectangle that are neither left of a point nor above it, as seen from there: by their distances from
+    /// its column and its row.
+    pub(crate) fn seen_from(self, left: u32, top: u32) -> ClippedRect
+        requires ordered { self.columns.start ≤ self.columns.end }
+        requires from_top { self.rows.start ≤ self.rows.end }
+        ensures right { result.columns.end ≡ self.columns.end - left }
+        ensures bottom { result.rows.end ≡ self.rows.end - top }
+        ensures ordered { result.columns.start ≤ result.columns.end }
+        ensures from_top { result.rows.start ≤ result.rows.end }
+        ensures points { (x y : ℕ) → in_box result.columns result.rows x y ≡
+            in_box self.columns self.rows (left + x) (top + y) }
+    {
+        ClippedRect {
+            columns: seen(self.columns, left as usize),
+            rows: seen(self.rows, top as usize),
+        }
+    }
+}
+
+/// Returns the numbers of a range from `first` on, each less `first`.
+fn seen(range: Range<usize>, first: usize) -> Range<usize>
+    ensures start { result.start ≡ range.start - first }
+    ensures end { result.end ≡ range.end - first }
+    ensures points { (x : ℕ) → lies_in result x ≡ lies_in range (first + x) }
+{
+    range.start.saturating_sub(first)..range.end.saturating_sub(first)
+}
+
 /// Returns the columns of a region. Condition: its left coordinate is at least 0.
 fn columns_of(reg: Region) -> Range<usize>
     requires { pos 0 ≤ℤ reg.left }
@@ -165,6 +194,66 @@ impl Overlap {
                 from.height(),
                 src_height,
             ),
+        }
+    }
+}
+
+impl Overlap {
+    /// Returns the points of the overlap that are neither left of a point of the destination nor above it, as seen from there: by their
+    /// distances from its column and its row. Each keeps its point of the source.
+    pub(crate) fn seen_from(self, left: u32, top: u32) -> Overlap
+        requires ordered { self.columns.dst.start ≤ self.columns.dst.end }
+        requires from_top { self.rows.dst.start ≤ self.rows.dst.end }
+        requires across { self.columns.src_start
+            + (self.columns.dst.end - self.columns.dst.start) ≤ limit }
+        requires down { self.rows.src_start
+            + (self.rows.dst.end - self.rows.dst.start) ≤ limit }
+        ensures right { result.columns.dst.end ≡ self.columns.dst.end - left }
+        ensures bottom { result.rows.dst.end ≡ self.rows.dst.end - top }
+        ensures ordered { result.columns.dst.start ≤ result.columns.dst.end }
+        ensures from_top { result.rows.dst.start ≤ result.rows.dst.end }
+        ensures in_src_width { result.columns.src_start
+            + (result.columns.dst.end - result.columns.dst.start)
+            ≤ self.columns.src_start + (self.columns.dst.end - self.columns.dst.start) }
+        ensures in_src_height { result.rows.src_start
+            + (result.rows.dst.end - result.rows.dst.start)
+            ≤ self.rows.src_start + (self.rows.dst.end - self.rows.dst.start) }
+        ensures columns { (x : ℕ) → lies_in result.columns.dst x ≡
+            lies_in self.columns.dst (left + x) }
+        ensures rows { (y : ℕ) → lies_in result.rows.dst y ≡ lies_in self.rows.dst (top + y) }
+        ensures src_columns { (x : ℕ) → lies_in result.columns.dst x ≡ true →
+            result.columns.src_start + (x - result.columns.dst.start)
+            ≡ self.columns.src_start + (left + x - self.columns.dst.start) }
+        ensures src_rows { (y : ℕ) → lies_in result.rows.dst y ≡ true →
+            result.rows.src_start + (y - result.rows.dst.start)
+            ≡ self.rows.src_start + (top + y - self.rows.dst.start) }
+    {
+        Overlap {
+            columns: self.columns.seen_from(left as usize),
+            rows: self.rows.seen_from(top as usize),
+        }
+    }
+}
+
+impl AxisOverlap {
+    /// Returns the overlap of the destination's columns, or rows, from `first` on, each less `first`.
+    fn seen_from(self, first: usize) -> AxisOverlap
+        requires ordered { self.dst.start ≤ self.dst.end }
+        requires short { self.src_start + (self.dst.end - self.dst.start) ≤ limit }
+        ensures end { result.dst.end ≡ self.dst.end - first }
+        ensures ordered { result.dst.start ≤ result.dst.end }
+        ensures in_src { result.src_start + (result.dst.end - result.dst.start)
+            ≤ self.src_start + (self.dst.end - self.dst.start) }
+        ensures points { (x : ℕ) → lies_in result.dst x ≡ lies_in self.dst (first + x) }
+        ensures sources { (x : ℕ) → lies_in result.dst x ≡ true →
+            result.src_start + (x - result.dst.start)
+            ≡ self.src_start + (first + x - self.dst.start) }
+    {
+        let count = self.dst.end - self.dst.start;
+        let skipped = first.saturating_sub(self.dst.start).min(count);
+        AxisOverlap {
+            src_start: self.src_start + skipped,
+            dst: seen(self.dst, first),
         }
     }
 }

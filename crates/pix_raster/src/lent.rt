@@ -2,7 +2,7 @@
 ghost use Rattle.std.specs.Prelude.{◌≡◌, ℕ, ◌+◌, ◌-◌, ◌*◌, ◌<◌, ◌≤◌, List, length, map};
 ghost use Rattle.pix_chan.specs.Runs.{over};
 ghost use Rattle.pix_raster.specs.Region.{limit, whole};
-ghost use Rattle.pix_raster.specs.Lent.{read_at, IsShaped, ChangedIn, where_covered, where_paired};
+ghost use Rattle.pix_raster.specs.Lent.{read_at, IsShaped, IsWindow, ChangedIn, where_covered, where_paired, picture, in_window};
 ghost use Rattle.pix_raster.specs.Clip.{where_in};
 
 use crate::clip::{ClippedRect, Overlap};
@@ -17,6 +17,19 @@ pub struct Shape {
     pub height: u32,
     /// How many pixels lie from the start of a row to the start of the next, at least the width.
     pub stride: usize,
+}
+
+/// A part of a picture: the shape of the part, and the point of the picture where its first pixel lies.
+///
+/// What is done to a window is what is done to those points of the picture, so that windows which are painted apart are the picture.
+#[derive(Clone, Copy, Debug, PartialEq, Eq)]
+pub struct Window {
+    /// The column of the picture where the first pixel lies. With the width it is at most 2147483647.
+    pub left: u32,
+    /// The row of the picture where the first pixel lies. With the height it is at most 2147483647.
+    pub top: u32,
+    /// The shape of the part.
+    pub shape: Shape,
 }
 
 /// A change of the pixels of a row, each by itself.
@@ -76,8 +89,29 @@ pub fn fill_region<D, F: Fill<D>>(pixels: &mut [D], shape: Shape, reg: Region, c
     ensures { ChangedIn F.reads shape pixels.old pixels.new
         (where_covered reg (F.makes change.now)) }
 {
+    let window = Window {
+        left: 0,
+        top: 0,
+        shape,
+    };
+    fill_window(pixels, window, reg, change);
+}
+
+/// Changes each point of `reg`, a region of the picture, that lies in the window. No other pixel changes.
+///
+/// Condition: `window` and its shape are as the docs of their fields say, its rows lie in `pixels`, and the change suits the format.
+pub fn fill_window<D, F: Fill<D>>(pixels: &mut [D], window: Window, reg: Region, change: &F)
+    requires can_fill { F.can_fill }
+    requires fits { IsWindow window (length pixels.old) }
+    ensures { ChangedIn F.reads window.shape pixels.old pixels.new
+        (in_window window (where_covered reg (F.makes change.now))) }
+{
+    let shape = window.shape;
     if shape.width > 0 {
-        let clipped = ClippedRect::new(reg, shape.width, shape.height);
+        let right = window.left + shape.width;
+        let bottom = window.top + shape.height;
+        let clipped = ClippedRect::new(reg, right, bottom);
+        let clipped = clipped.seen_from(window.left, window.top);
         fill_rows(pixels, shape.stride, clipped, change);
     }
 }
@@ -104,15 +138,42 @@ pub fn blit_region<D, S, B: Blit<D, S>>(
         from (whole src_shape.width src_shape.height)
         (read_at B.source_reads src_shape.stride src.now) (B.makes change.now)) }
 {
+    let window = Window {
+        left: 0,
+        top: 0,
+        shape,
+    };
+    blit_window(pixels, window, to, src, src_shape, from, change);
+}
+
+/// Changes the region `to` of a picture by the region `from` of a source, as [`blit_region`] does, in those points that lie in the window.
+/// No other pixel changes.
+///
+/// Condition: `window` and both shapes are as the docs of their fields say, the rows of the window lie in `pixels` and those of the source in
+/// `src`, and the change suits both formats.
+pub fn blit_window<D, S, B: Blit<D, S>>(
+    pixels: &mut [D],
+    window: Window,
+    to: Region,
+    src: &[S],
+    src_shape: Shape,
+    from: Region,
+    change: &B,
+)
+    requires can_blit { B.can_blit }
+    requires fits { IsWindow window (length pixels.old) }
+    requires src_fits { IsShaped src_shape (length src.now) }
+    ensures { ChangedIn B.reads window.shape pixels.old pixels.new
+        (in_window window (where_paired to (picture window)
+        from (whole src_shape.width src_shape.height)
+        (read_at B.source_reads src_shape.stride src.now) (B.makes change.now))) }
+{
+    let shape = window.shape;
     if shape.width > 0 {
-        let overlap = Overlap::new(
-            to,
-            shape.width,
-            shape.height,
-            from,
-            src_shape.width,
-            src_shape.height,
-        );
+        let right = window.left + shape.width;
+        let bottom = window.top + shape.height;
+        let overlap = Overlap::new(to, right, bottom, from, src_shape.width, src_shape.height);
+        let overlap = overlap.seen_from(window.left, window.top);
         blit_rows(pixels, shape.stride, src, src_shape.stride, overlap, change);
     }
 }

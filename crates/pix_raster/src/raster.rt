@@ -24,6 +24,7 @@ mod convert;
 mod light;
 mod row_change;
 mod samples;
+mod window;
 
 /// An image: `width` times `height` pixels of the format `P`, row by row from the top.
 ///

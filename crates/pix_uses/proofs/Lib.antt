@@ -5,3 +5,4 @@ pub mod Within
 pub mod Steps
 pub mod Grays
 pub mod Lossless
+pub mod LightAndBack

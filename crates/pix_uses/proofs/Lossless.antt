@@ -6,10 +6,9 @@ use Rattle.std.specs.declared.ops.Range.{Range}
 use Rattle.std.proofs.lemmas.Bool.{eq-eqb, cases_lt}
 use Rattle.std.proofs.Math.Nat.{mul-le-mul_left, mul-le-mul_right}
 use Rattle.std.proofs.Math.ListN.{get_or-eq_default}
-use Rattle.std.proofs.lemmas.Nat.{div-mul-add, le-div}
 use Rattle.std.proofs.lemmas.List.FromFn.{fill_by_all, length-map-range_with_len, get_or-map-range_with_len}
 use Rattle.pix_chan.specs.Depth.{to_16_bit, from_16_bit, IsDepth}
-use Rattle.pix_chan.specs.Product.{channel_product, channel_quotient}
+use Rattle.pix_chan.specs.Product.{channel_product}
 use Rattle.pix_chan.specs.Nearest.{nearest}
 use Rattle.pix_chan.specs.NearestLaws.{nearest_natural}
 use Rattle.pix_chan.specs.Modes.{AlphaMode, Straight, Premultiplied, GammaMode, Linear, alpha_kind, gamma_kind}
@@ -18,6 +17,7 @@ use Rattle.pix_el.specs.Color.{rgba_of, of_rgba, rgb_itself}
 use Rattle.pix_el.specs.Model.{row, Rgb, Gray}
 use Rattle.pix_el.specs.Premultiplied.{IsPremultiplied}
 use Rattle.pix_el.specs.Conversion.{Format, at_depth, of_depth, reencoded, channel_reencoded, within_model, rgba_format, converted}
+use Rattle.pix_el.proofs.InLight.{whole_quotient}
 use Rattle.pix_color.specs.Cmy.{complements}
 use Rattle.pix_color.specs.Gray.{luminance, rgb_of_gray, gray_of_rgb}
 use Rattle.pix_color.specs.Linear.{weighted_sum}
@@ -255,21 +255,6 @@ gray_and_back max mode gamma count (v ∷ a ∷ []) long hi lo depth fits =
     ∙ ap (λ (n : ℕ). take n (weighted_sum max luminance v v v ∷ a ∷ [])) (sym long) ∙ ap (λ (n : ℕ). n ∷ a ∷ []) (gray_stays max v h)
 gray_and_back max mode gamma count (v ∷ a ∷ e ∷ more) long hi lo depth fits =
     absurd (let n : suc (suc (suc (length more))) ≡ count = long in omega (arith, n, lo))
-
--- the quotient by the maximum
-whole_quotient : (max x : ℕ) → x ≤ max → channel_quotient max x max ≡ x
-whole_quotient zero x h = let e : 0 ≡ x = omega (arith, h) in e
-whole_quotient (suc m) x h =
-    let max : ℕ = suc m in
-    let parts : (max + 1) * x ≡ x * max + x = omega arith in
-    let at_least : x ≤ (max + 1) * x / max = rw parts (le-div x (x * max + x) max (omega arith) (omega arith)) in
-    elim (cases_lt x max) [
-      | inl below ↦
-          let e : (max + 1) * x / max ≡ x = ap (λ (n : ℕ). n / max) parts ∙ div-mul-add x max x below in
-          rw e (let k : min max x ≡ x = omega (arith, h) in k)
-      | inr above ↦
-          let k : min max ((max + 1) * x / max) ≡ x = omega (arith, at_least, above, h) in k
-    ]
 
 -- an opaque pixel multiplied by its alpha
 pub opaque_multiplied : (format to : Format) (pixel : List ℕ) → format.kind ≡ to.kind → format.layout ≡ to.layout → format.alpha_mode ≡ Straight → to.alpha_mode ≡ Premultiplied

@@ -1,3 +1,4 @@
 pub mod Rgba
 pub mod Pictures
 pub mod Photos
+pub mod Light

@@ -8,6 +8,7 @@ pub mod colors;
 pub mod conversions;
 pub mod examples;
 pub mod frames;
+pub mod light;
 pub mod lists;
 pub mod models;
 pub mod photos;

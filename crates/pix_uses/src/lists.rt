@@ -1,10 +1,11 @@
 //! Lists of commands.
-ghost use Rattle.std.specs.Prelude.{◌≡◌, ◌<◌, ℕ, pos, true, [], ◌∷◌, length, All};
+ghost use Rattle.std.specs.Prelude.{◌≡◌, ◌+◌, ◌<◌, ◌≤◌, ℕ, pos, true, [], ◌∷◌, length, All};
 ghost use Rattle.pix_ops.specs.declared.ops.Op.{Op};
 ghost use Rattle.pix_ops.specs.ExactRun.{exact_run, AreWithin, IsUnmatted, IsListed};
 ghost use Rattle.pix.specs.Image.{point};
-ghost use Rattle.pix.specs.Region.{covers};
+ghost use Rattle.pix.specs.Region.{covers, limit};
 ghost use Rattle.pix.specs.Run.{Composited};
+ghost use Rattle.pix.specs.Window.{IsPartOf};
 ghost use Rattle.pix.specs.Bounds.{OfEachChannel, channel_effects, with_alpha};
 ghost use Rattle.pix_uses.specs.Rgba.{rgba8, numbers, mattes};
 
@@ -20,6 +21,23 @@ pub fn draw(picture: &mut Raster<Rgba8p>, commands: &[Command<'_, Rgba8p, Matte8
         → AreWithin (length effects) (length effects) made (exact_run 255 start effects)) }
 {
     picture.run(commands);
+}
+
+/// Draws a list of commands on a picture, and on a tile of it that lies in memory by itself: it stays that part of the picture.
+pub fn draw_with_tile(
+    picture: &mut Raster<Rgba8p>,
+    tile: &mut Raster<Rgba8p>,
+    left: u32,
+    top: u32,
+    commands: &[Command<'_, Rgba8p, Matte8>],
+)
+    requires across { left + tile.old.width ≤ limit }
+    requires down { top + tile.old.height ≤ limit }
+    ensures { IsPartOf numbers tile.old left top picture.old
+        → IsPartOf numbers tile.new left top picture.new }
+{
+    picture.run(commands);
+    tile.run_window(left, top, commands);
 }
 
 /// Composites two colors over a region, one after the other.

@@ -4,13 +4,13 @@ use pix::gray::Gray8;
 use pix::lent::Shape;
 use pix::matte::Matte8;
 use pix::ops::Op;
-use pix::rgb::{Rgb8, Rgba8p, SRgb8};
+use pix::rgb::{Rgb8, Rgba8p, Rgba16p, SRgb8};
 use pix::{Command, Raster, RasterFault, Region};
 use pix_uses::bytes::tint_bytes;
 use pix_uses::channels::{fade, mean, raised, restored, there_and_back};
 use pix_uses::colors::{glazed, sunrise, tint_top};
 use pix_uses::frames::flood;
-use pix_uses::lists::{draw, glaze_twice};
+use pix_uses::lists::{draw, draw_with_tile, glaze_twice};
 use pix_uses::models::{luminance, red_of};
 use pix_uses::photos;
 use pix_uses::pixels::{fill, opacity};
@@ -137,6 +137,33 @@ fn a_list_of_commands(rt: HostRuntime) -> Result<(), Fail> {
     Ok(())
 }
 
+/// The last two points of the second row of a page, in memory of their own.
+#[test]
+fn a_tile_of_a_page(rt: HostRuntime) -> Result<(), Fail> {
+    let (ink, sand) = (opaque(10, 20, 30), opaque(200, 100, 50));
+    let mut page = Raster::with_color(rt.alloc(), 3, 2, sand)?;
+    let mut tile = Raster::with_color(rt.alloc(), 2, 1, sand)?;
+    let commands: [Command<'_, Rgba8p, Matte8>; 2] = [
+        Command::CopyColor {
+            reg: Region::new(2, 1, 9, 9),
+            clr: ink,
+        },
+        Command::Color {
+            reg: Region::new(-1, -1, 3, 3),
+            clr: ink,
+            op: Op::Clear,
+        },
+    ];
+    draw_with_tile(&mut page, &mut tile, 1, 1, &commands);
+    let none = Rgba8p::new(0, 0, 0, 0);
+    assert_eq!(rt; tile.pixels(), [none, ink].as_slice());
+    assert_eq!(rt;
+        page.pixels(),
+        [none, none, sand, none, none, ink].as_slice()
+    );
+    Ok(())
+}
+
 /// After the first glaze (150, 75, 101, 255); 150 * 191 / 255 = 112.4, 75 * 191 / 255 = 56.2, 64 + 101 * 191 / 255 = 139.7.
 #[test]
 fn two_glazes(rt: HostRuntime) -> Result<(), Fail> {
@@ -236,14 +263,14 @@ fn luminance_of_red(rt: HostRuntime) {
     assert_eq!(rt; luminance(red), Gray8::new(54));
 }
 
-/// 0xEF, 0x8C, 0xC7 are 0xDC, 0x43, 0x92 in light. Half a black over them leaves 127/255 of each: 110, 33 and 73, which are 0xAF, 0x65 and 0x92.
+/// 0xEF, 0x8C, 0xC7 are 56567, 17187, 37429 in light. Half a black over them leaves 32639/65535 of each: 28173, 8560 and 18641, which are 0xAF, 0x65 and 0x91.
 #[test]
 fn a_glaze_over_a_photograph(rt: HostRuntime) -> Result<(), Fail> {
     let photo = Raster::with_color(rt.alloc(), 3, 2, SRgb8::new::<u8>(0xEF, 0x8C, 0xC7))?;
-    let shown = photos::glaze(rt.alloc(), &photo, Rgba8p::new(0, 0, 0, 128))?;
+    let shown = photos::glaze(rt.alloc(), &photo, Rgba16p::new(0, 0, 0, 32896))?;
     assert_eq!(rt; (shown.width(), shown.height()), (3, 2));
     for pixel in shown.pixels() {
-        assert_eq!(rt; *pixel, SRgb8::new::<u8>(0xAF, 0x65, 0x92));
+        assert_eq!(rt; *pixel, SRgb8::new::<u8>(0xAF, 0x65, 0x91));
     }
     Ok(())
 }

@@ -1,8 +1,8 @@
 //! The values that the examples of the docs say.
-use pix::chan::Ch8;
+use pix::chan::{Ch8, Ch16};
 use pix::gray::{Gray8, Graya8p};
 use pix::ops::Op;
-use pix::rgb::{Rgb8, Rgba8, Rgba8p, Rgba16p, SRgb8};
+use pix::rgb::{Rgb8, Rgba8, Rgba8p, Rgba16p, SRgb8, SRgba8};
 use pix::{Raster, Region};
 use pix_uses::examples::{channels, models, palettes, pixels, rasters, regions};
 use std::test::Fail;
@@ -16,6 +16,8 @@ fn examples_of_channels(rt: HostRuntime) {
     assert_eq!(rt; channels::widths(), (43947, Ch8::new(171)));
     let [light, shown, stored, straight] = [128, 188, 64, 128].map(Ch8::new);
     assert_eq!(rt; channels::modes(), (light, shown, stored, straight));
+    let deep = (Ch16::new(32957), Ch8::new(188), Ch8::new(1));
+    assert_eq!(rt; channels::deep_modes(), deep);
     assert_eq!(rt; channels::found(), (Some(Op::SrcOver), Some(Op::SrcOver)));
     assert_eq!(rt; channels::composited(), Ch8::new(200));
 }
@@ -41,6 +43,9 @@ fn examples_of_pixels(rt: HostRuntime) {
     assert_eq!(rt; light, Rgba8p::new(128, 0, 0, 255));
     assert_eq!(rt; fine, Rgba16p::new(32896u16, 0u16, 0u16, 65535u16));
     assert_eq!(rt; row, [light, Rgba8p::new(0, 128, 0, 255)]);
+    let photo = [SRgba8::new(188, 0, 0, 255), SRgba8::new(0, 188, 0, 128)];
+    let light = Rgba16p::new(32957, 0, 0, 65535);
+    assert_eq!(rt; pixels::lit(), (light, photo[0], photo));
     assert_eq!(rt; pixels::over(), Graya8p::new(111, 255));
     assert_eq!(rt; pixels::masked(), [Rgba8p::new(0, 0, 0, 128); 4]);
 }

@@ -129,6 +129,20 @@ pub type RunCommands<P, M> = unsafe extern "C" fn(
     *mut usize,
 ) -> u32;
 
+/// A function that runs commands on a window of a picture, whose place comes behind the count of its pixels.
+pub type RunWindow<P, M> = unsafe extern "C" fn(
+    *mut P,
+    usize,
+    u32,
+    u32,
+    u32,
+    u32,
+    u32,
+    *const Command<P, M>,
+    usize,
+    *mut usize,
+) -> u32;
+
 #[link(name = "pix_c", kind = "static")]
 unsafe extern "C" {
     /// Runs all commands on an image of `Rgba8`, or none; `done` is their number, or the index of the refused one.
@@ -173,6 +187,60 @@ unsafe extern "C" {
     pub fn pix_run_commands_graya8(
         pixels: *mut Graya8,
         pixel_count: usize,
+        width: u32,
+        height: u32,
+        stride: u32,
+        commands: *const Command<Graya8, u8>,
+        command_count: usize,
+        done: *mut usize,
+    ) -> u32;
+
+    /// Runs all commands on a window of a picture, whose first pixel is the point (`left`, `top`) of the picture.
+    ///
+    /// # Safety
+    ///
+    /// As `pix_run_commands`.
+    pub fn pix_run_window(
+        pixels: *mut Rgba8,
+        pixel_count: usize,
+        left: u32,
+        top: u32,
+        width: u32,
+        height: u32,
+        stride: u32,
+        commands: *const Command<Rgba8, u8>,
+        command_count: usize,
+        done: *mut usize,
+    ) -> u32;
+
+    /// The same on a window of `Rgba16`.
+    ///
+    /// # Safety
+    ///
+    /// As `pix_run_commands`.
+    pub fn pix_run_window_rgba16(
+        pixels: *mut Rgba16,
+        pixel_count: usize,
+        left: u32,
+        top: u32,
+        width: u32,
+        height: u32,
+        stride: u32,
+        commands: *const Command<Rgba16, u16>,
+        command_count: usize,
+        done: *mut usize,
+    ) -> u32;
+
+    /// The same on a window of `Graya8`.
+    ///
+    /// # Safety
+    ///
+    /// As `pix_run_commands`.
+    pub fn pix_run_window_graya8(
+        pixels: *mut Graya8,
+        pixel_count: usize,
+        left: u32,
+        top: u32,
         width: u32,
         height: u32,
         stride: u32,

@@ -4,6 +4,7 @@ use crate::command::Command;
 use crate::error::Error;
 use crate::pixel::Pixel;
 use crate::pixel::private::Calls;
+use core::mem;
 use pix_sys::status;
 
 /// An image that is read: rows of pixels from top to bottom, or of a mask's values.
@@ -77,6 +78,21 @@ impl<'a, P: Pixel> ImageMut<'a, P> {
 
     /// Runs the commands in order, or none of them where one is refused.
     pub fn run(&mut self, commands: &[Command<'_, P>]) -> Result<(), Error> {
+        self.run_in(0, 0, commands)
+    }
+
+    /// Runs the commands on this image as a window of a picture, whose first pixel is the point (`left`, `top`) of the
+    /// picture. The regions of the commands are those of the picture.
+    ///
+    /// Each pixel becomes what [`run`](ImageMut::run) would make of it on the whole picture. So pictures painted tile by
+    /// tile are the picture painted whole, in any order, and [`bands`](ImageMut::bands) of one image by several threads.
+    /// It is refused too where `left` plus the width or `top` plus the height is above 2147483647.
+    pub fn run_in(
+        &mut self,
+        left: u32,
+        top: u32,
+        commands: &[Command<'_, P>],
+    ) -> Result<(), Error> {
         pix_sys::check_library()?;
         let mut done = 0;
         // SAFETY: pointers and counts are those of slices that are borrowed until the call is over, those of the
@@ -86,6 +102,8 @@ impl<'a, P: Pixel> ImageMut<'a, P> {
             <P as Calls<P::Matte>>::RUN(
                 self.pixels.as_mut_ptr(),
                 self.pixels.len(),
+                left,
+                top,
                 self.width,
                 self.height,
                 self.stride,
@@ -99,5 +117,72 @@ impl<'a, P: Pixel> ImageMut<'a, P> {
         } else {
             Err(Error::of(answer, done))
         }
+    }
+
+    /// Returns the bands of so many rows, at least one, from top to bottom: each with the row of the image where it begins.
+    /// The last one may have fewer.
+    ///
+    /// They borrow parts of the image that share nothing, so that threads may paint them at once.
+    ///
+    /// ```
+    /// use pix::{Command, ImageMut, Op, Region, Rgba8};
+    /// use std::thread;
+    ///
+    /// let mut pixels = vec![Rgba8::new(0, 0, 0, 255); 64 * 64];
+    /// let mut image = ImageMut::new(&mut pixels, 64, 64);
+    /// let (whole, red) = (Region::new(0, 0, 64, 64), Rgba8::new(128, 0, 0, 128));
+    /// let commands = [Command::composite_color(whole, red, Op::SrcOver)];
+    /// thread::scope(|threads| {
+    ///     let painting: Vec<_> = image
+    ///         .bands(16)
+    ///         .map(|(top, mut band)| threads.spawn(move || band.run_in(0, top, &commands)))
+    ///         .collect();
+    ///     painting.into_iter().try_for_each(|each| each.join().expect("a thread that paints"))
+    /// })?;
+    /// assert!(pixels.iter().all(|pixel| *pixel == Rgba8::new(128, 0, 0, 255)));
+    /// # Ok::<(), pix::Error>(())
+    /// ```
+    ///
+    /// Where the image has too few pixels, the bands that lack some are refused when they run.
+    pub fn bands(&mut self, rows: u32) -> Bands<'_, P> {
+        Bands {
+            pixels: self.pixels,
+            width: self.width,
+            height: self.height,
+            stride: self.stride,
+            rows: rows.max(1),
+            top: 0,
+        }
+    }
+}
+
+/// Bands of rows of an image that share nothing: see [`ImageMut::bands`].
+#[derive(Debug)]
+pub struct Bands<'a, P> {
+    pixels: &'a mut [P],
+    width: u32,
+    height: u32,
+    stride: u32,
+    rows: u32,
+    top: u32,
+}
+
+impl<'a, P: Pixel> Iterator for Bands<'a, P> {
+    type Item = (u32, ImageMut<'a, P>);
+
+    fn next(&mut self) -> Option<(u32, ImageMut<'a, P>)> {
+        if self.top >= self.height {
+            return None;
+        }
+        let (top, rows) = (self.top, self.rows.min(self.height - self.top));
+        let count = usize::try_from(u64::from(rows) * u64::from(self.stride)).unwrap_or(usize::MAX);
+        let pixels = mem::take(&mut self.pixels);
+        let (band, rest) = pixels.split_at_mut(count.min(pixels.len()));
+        self.pixels = rest;
+        self.top += rows;
+        Some((
+            top,
+            ImageMut::with_stride(band, self.width, rows, self.stride),
+        ))
     }
 }

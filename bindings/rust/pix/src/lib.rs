@@ -22,6 +22,9 @@
 //! neither read nor written. A list is tested as a whole before its first command runs, so that an [`Error`] means that
 //! no pixel was changed. The archive runs on processors of x86-64 with SSE4.1 and of aarch64, under Linux: another one,
 //! and an archive of another version or layout, is refused at the first call.
+//!
+//! A picture may be painted tile by tile, by [`ImageMut::run_in`], and one image by several threads, in
+//! [`bands`](ImageMut::bands) of rows: the outcome is the picture painted whole.
 #![no_std]
 
 mod command;
@@ -33,5 +36,5 @@ mod pixel;
 pub use crate::command::{Command, Op};
 pub use crate::error::Error;
 pub use crate::format::{Format, convert};
-pub use crate::image::{Image, ImageMut};
+pub use crate::image::{Bands, Image, ImageMut};
 pub use crate::pixel::{Graya8, Pixel, Region, Rgba8, Rgba16, bytes, bytes_mut};

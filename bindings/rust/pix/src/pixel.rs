@@ -11,11 +11,11 @@ pub trait Pixel: Copy + Default + private::Calls<Self::Matte> {
 }
 
 pub(crate) mod private {
-    use pix_sys::RunCommands;
+    use pix_sys::RunWindow;
 
     /// The library's call for a kind of pixels.
     pub trait Calls<M>: Sized {
-        const RUN: RunCommands<Self, M>;
+        const RUN: RunWindow<Self, M>;
     }
 }
 
@@ -24,7 +24,7 @@ impl Pixel for Rgba8 {
 }
 
 impl private::Calls<u8> for Rgba8 {
-    const RUN: pix_sys::RunCommands<Rgba8, u8> = pix_sys::pix_run_commands;
+    const RUN: pix_sys::RunWindow<Rgba8, u8> = pix_sys::pix_run_window;
 }
 
 impl Pixel for Rgba16 {
@@ -32,7 +32,7 @@ impl Pixel for Rgba16 {
 }
 
 impl private::Calls<u16> for Rgba16 {
-    const RUN: pix_sys::RunCommands<Rgba16, u16> = pix_sys::pix_run_commands_rgba16;
+    const RUN: pix_sys::RunWindow<Rgba16, u16> = pix_sys::pix_run_window_rgba16;
 }
 
 impl Pixel for Graya8 {
@@ -40,7 +40,7 @@ impl Pixel for Graya8 {
 }
 
 impl private::Calls<u8> for Graya8 {
-    const RUN: pix_sys::RunCommands<Graya8, u8> = pix_sys::pix_run_commands_graya8;
+    const RUN: pix_sys::RunWindow<Graya8, u8> = pix_sys::pix_run_window_graya8;
 }
 
 /// The bytes of pixels, in the order of their channels; those of a channel of 16 bits in the machine's order.

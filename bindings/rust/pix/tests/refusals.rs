@@ -274,3 +274,103 @@ fn formats_have_their_sizes() {
         }
     }
 }
+
+/// A list whose commands cross the borders of tiles.
+fn crossing(sprite: &[Rgba8; 16]) -> [Command<'_, Rgba8>; 4] {
+    let source = Image::new(sprite, 4, 4);
+    [
+        Command::copy_color(Region::new(-3, -3, 9, 20), Rgba8::new(0, 0, 9, 99)),
+        Command::composite_image(Region::new(5, 2, 4, 4), source, WHOLE, Op::SrcOver),
+        Command::composite_image(Region::new(-1, 9, 99, 99), source, WHOLE, Op::Xor),
+        Command::composite_color(Region::new(3, 1, 7, 9), COLOR, Op::SrcAtop),
+    ]
+}
+
+fn sprite() -> [Rgba8; 16] {
+    core::array::from_fn(|i| Rgba8::new(i as u8, 0, 0, 100 + i as u8))
+}
+
+/// A picture of twelve columns and eleven rows that no two pixels share.
+fn picture() -> Vec<Rgba8> {
+    (0..132).map(|i| Rgba8::new(i, 0, i / 2, 200)).collect()
+}
+
+#[test]
+fn tiles_are_the_picture_painted_whole() {
+    let (sprite, mut whole) = (sprite(), picture());
+    let list = crossing(&sprite);
+    ImageMut::new(&mut whole, 12, 11).run(&list).unwrap();
+    let mut tiles = picture();
+    for (left, top) in [(6, 0), (0, 5), (0, 0), (6, 5)] {
+        let (columns, rows) = (6, if top == 0 { 5 } else { 6 });
+        let start = top as usize * 12 + left as usize;
+        ImageMut::with_stride(&mut tiles[start..], columns, rows, 12)
+            .run_in(left, top, &list)
+            .unwrap();
+    }
+    assert_eq!(tiles, whole);
+}
+
+#[test]
+fn threads_paint_bands_of_one_image() {
+    let (sprite, mut whole) = (sprite(), picture());
+    let list = crossing(&sprite);
+    ImageMut::new(&mut whole, 12, 11).run(&list).unwrap();
+    for rows in [0, 1, 3, 4, 11, u32::MAX] {
+        let mut banded = picture();
+        let mut image = ImageMut::new(&mut banded, 12, 11);
+        thread::scope(|threads| {
+            let painting: Vec<_> = image
+                .bands(rows)
+                .map(|(top, mut band)| threads.spawn(move || band.run_in(0, top, &list)))
+                .collect();
+            assert_eq!(painting.len() as u32, 11_u32.div_ceil(rows.clamp(1, 11)));
+            for each in painting {
+                assert_eq!(each.join().unwrap(), Ok(()));
+            }
+        });
+        assert_eq!(banded, whole);
+    }
+}
+
+#[test]
+fn windows_are_tested() {
+    let mut image = pixels();
+    let far = [Command::copy_color(
+        Region::new(i32::MAX - 4, 0, 9, 1),
+        COLOR,
+    )];
+    for (left, top) in [(LONG - 4, 0), (0, LONG - 4), (u32::MAX, 0), (0, u32::MAX)] {
+        let answer = ImageMut::new(&mut image, 4, 4).run_in(left, top, &far);
+        assert_eq!(answer, Err(Error::Size));
+    }
+    let bad = Command::copy_color(Region::new(0, 0, LONG, 1), COLOR);
+    let answer = ImageMut::new(&mut image, 4, 4).run_in(LONG - 5, 0, &[far[0], bad]);
+    assert_eq!(answer, Err(Error::Region { index: 1 }));
+    assert_eq!(image, pixels());
+    assert_eq!(
+        ImageMut::new(&mut image, 4, 4).run_in(LONG - 5, 0, &far),
+        Ok(())
+    );
+    assert_eq!((image[0], image[3], image[4]), (COLOR, COLOR, pixels()[4]));
+    let mut short = pixels();
+    let answers: Vec<_> = ImageMut::new(&mut short[..15], 4, 4)
+        .bands(2)
+        .map(|(top, mut band)| band.run_in(0, top, &[Command::clear()]))
+        .collect();
+    assert_eq!(answers, [Ok(()), Err(Error::Size)]);
+}
+
+#[test]
+fn windows_of_the_other_kinds() {
+    let far = Region::new(7, 3, 1, 1);
+    let mut wide = [Rgba16::new(1, 2, 3, 4); 4];
+    let (one, dark) = (Rgba16::new(9, 9, 9, 9), Graya8::new(9, 9));
+    let list = [Command::copy_color(far, one)];
+    assert_eq!(ImageMut::new(&mut wide, 2, 2).run_in(6, 3, &list), Ok(()));
+    assert_eq!(wide.map(|pixel| pixel.r), [1, 9, 1, 1]);
+    let mut gray = [Graya8::new(1, 2); 4];
+    let list = [Command::copy_color(far, dark)];
+    assert_eq!(ImageMut::new(&mut gray, 2, 2).run_in(7, 2, &list), Ok(()));
+    assert_eq!(gray.map(|pixel| pixel.value), [1, 1, 9, 1]);
+}

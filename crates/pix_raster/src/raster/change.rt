@@ -20,7 +20,7 @@ use crate::region::Region;
 use pix_chan::chan::{Alpha, Linear, Premultiplied};
 use pix_el::el::{Pix, Pixel};
 use pix_el::matte::Matte;
-use pix_ops::ops::{Blend, OpVisitor};
+use pix_ops::ops::Blend;
 
 impl<P: Pixel> Raster<P> {
     /// Clears the raster: every pixel becomes the default one, whose channels are all 0.
@@ -77,7 +77,7 @@ impl<P: Pixel> Raster<P> {
 
 impl<P> Raster<P> {
     /// Returns the shape of the pixels: the rows follow one another.
-    fn shape(&self) -> Shape
+    pub(super) fn shape(&self) -> Shape
         ensures value { result ≡ record {
           width = self.now.width;
           height = self.now.height;
@@ -258,39 +258,8 @@ impl<P: Pixel<Alpha = Premultiplied, Gamma = Linear>> Raster<P> {
         ensures transparent { StaysUnderTransparent P.layout P.numbers
             (matte_numbers P.Chan.number) commands.now self.old self.new }
     {
-        for command in commands {
-            command.op().visit(command, self);
-        }
-    }
-}
-
-impl<'a, const N: usize, A: Alpha, P: Pixel<Alpha = Premultiplied, Gamma = Linear>> OpVisitor<
-    Raster<P>,
-> for Command<'a, P, Pix<N, P::Chan, Matte, A, Linear>> {
-    ghost can_visit = { λ command op. (P.layout.count ≡ P.layout.alpha + 1) × (op_of command ≡
-        op) };
-
-    ghost visits = { λ command _ old new. Changed P.numbers old new
-        (run_at P.layout P.numbers (matte_numbers P.Chan.number) (region_of old) (command ∷ [])) };
-
-    fn visit<O: Blend>(&self, raster: &mut Raster<P>, op: O) {
-        match self {
-            Command::Clear => raster.clear(),
-            Command::CopyColor { reg, clr } => raster.copy_color(*reg, *clr),
-            Command::CopyRaster { to, src, from } => raster.copy_raster(*to, src, *from),
-            Command::Color { reg, clr, .. } => raster.composite_color(*reg, *clr, op),
-            Command::Raster { to, src, from, .. } => {
-                raster.composite_raster(*to, src, *from, op);
-            }
-            Command::Matte {
-                to,
-                src,
-                from,
-                clr,
-                ..
-            } => {
-                raster.composite_matte(*to, src, *from, *clr, op);
-            }
-        }
+        // No side of a raster is above the limit.
+        prove!(self.width <= 2147483647 && self.height <= 2147483647);
+        self.run_window(0, 0, commands);
     }
 }

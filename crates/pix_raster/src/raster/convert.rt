@@ -21,9 +21,9 @@ impl<P: Pixel> Raster<P> {
     /// # Examples
     ///
     /// ```rust
-    /// let mut light = Raster::<Rgba8p>::with_raster(alloc, photo)?;
-    /// Rgba8p::composite_color(light.pixels_mut(), &clr, SrcOver);
-    /// Raster::<SRgb8>::with_raster(alloc, &light)
+    /// let product = Raster::<Rgba8p>::with_raster(alloc, picture)?; // each color times the alpha
+    /// let fine = Raster::<Rgba16p>::with_raster(alloc, &product)?; // 16 bits
+    /// Raster::<Bgra16p>::with_raster(alloc, &fine) // blue first
     /// ```
     pub fn with_raster<S>(alloc: Global, src: &Raster<S>) -> Result<Raster<P>, RasterFault>
     where

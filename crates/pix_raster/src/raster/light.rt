@@ -18,6 +18,14 @@ impl<P: Pixel> Raster<P> {
     /// # Errors
     ///
     /// `Memory` where a request for memory was refused.
+    ///
+    /// # Examples
+    ///
+    /// ```rust
+    /// let mut light = photo.decode_srgb::<Rgba16p>(alloc)?;
+    /// Rgba16p::composite_color(light.pixels_mut(), &clr, SrcOver);
+    /// light.encode_srgb::<SRgb8>(alloc)
+    /// ```
     pub fn decode_srgb<D>(&self, alloc: Global) -> Result<Raster<D>, RasterFault>
     where
         D: Pixel<Model = P::Model, Gamma = Linear>,
@@ -44,6 +52,14 @@ impl<P: Pixel> Raster<P> {
     /// # Errors
     ///
     /// `Memory` where a request for memory was refused.
+    ///
+    /// # Examples
+    ///
+    /// ```rust
+    /// let mut light = photo.decode_srgb::<Rgba16p>(alloc)?;
+    /// Rgba16p::composite_color(light.pixels_mut(), &clr, SrcOver);
+    /// light.encode_srgb::<SRgb8>(alloc)
+    /// ```
     pub fn encode_srgb<D>(&self, alloc: Global) -> Result<Raster<D>, RasterFault>
     where
         P: Pixel<Gamma = Linear>,

@@ -4,9 +4,10 @@ ghost use Rattle.std.specs.Prelude.{◌≡◌};
 use pix::chan::{Ch8, Ch16, Channel};
 use pix::el::Pixel;
 use pix::gray::Graya8p;
+use pix::light::Light;
 use pix::matte::Matte8;
 use pix::ops::SrcOver;
-use pix::rgb::{Rgb, Rgb8, Rgba8p, Rgba16p, SRgb8};
+use pix::rgb::{Rgb, Rgb8, Rgba8p, Rgba16p, SRgb8, SRgba8};
 
 /// Makes pixels from numbers and from channels.
 pub fn made() -> (Rgba8p, Rgba16p, Rgb8) {
@@ -54,6 +55,20 @@ pub fn converted() -> (Rgba8p, Rgba16p, [Rgba8p; 2]) {
     let mut row = [Rgba8p::default(); 2];
     SRgb8::convert_slice::<Rgba8p>(&mut row, &photo);
     (light, fine, row)
+}
+
+/// Takes an sRGB pixel into linear light of 16 bits and back, and a row of them.
+pub fn lit() -> (Rgba16p, SRgba8, [SRgba8; 2]) {
+    let photo = [
+        SRgba8::new::<u8>(188, 0, 0, 255),
+        SRgba8::new::<u8>(0, 188, 0, 128),
+    ];
+    let light = photo[0].decode_srgb::<Rgba16p>(); // (32957, 0, 0, 65535)
+    let shown = light.encode_srgb::<SRgba8>(); // (188, 0, 0, 255)
+    let (mut row, mut back) = ([Rgba16p::default(); 2], [SRgba8::default(); 2]);
+    SRgba8::decode_srgb_slice::<Rgba16p>(&mut row, &photo);
+    Rgba16p::encode_srgb_slice::<SRgba8>(&mut back, &row); // the photo as it was
+    (light, shown, back)
 }
 
 /// Composites a pixel with another.

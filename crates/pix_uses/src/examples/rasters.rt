@@ -2,10 +2,11 @@
 ghost use Rattle.std.specs.Prelude.{◌≡◌, IfOk, IfErr};
 ghost use Rattle.pix_raster.specs.declared.fault.RasterFault.{RasterFault};
 
+use pix::bgr::Bgra16p;
 use pix::gray::{Gray8, Gray16};
 use pix::matte::Matte8;
 use pix::ops::{Op, SrcOver};
-use pix::rgb::Rgba8p;
+use pix::rgb::{Rgba8, Rgba8p, Rgba16p};
 use pix::{Command, Raster, RasterFault, Region};
 use std::alloc::Global;
 
@@ -18,6 +19,13 @@ pub fn sizes(alloc: Global) -> Result<((u32, u32), Region, Region), RasterFault>
     let all = page.region(); // Region::new(0, 0, 64, 48)
     let part = page.intersection(Region::new(60, 40, 9, 9)); // Region::new(60, 40, 4, 8)
     Ok((size, all, part))
+}
+
+/// Makes rasters of other formats, one from another.
+pub fn reformatted(alloc: Global, picture: &Raster<Rgba8>) -> Result<Raster<Bgra16p>, RasterFault> {
+    let product = Raster::<Rgba8p>::with_raster(alloc, picture)?; // each color times the alpha
+    let fine = Raster::<Rgba16p>::with_raster(alloc, &product)?; // 16 bits
+    Raster::<Bgra16p>::with_raster(alloc, &fine) // blue first
 }
 
 /// Writes a pixel, and reads it again.
@@ -105,6 +113,19 @@ pub fn listed(page: &mut Raster<Rgba8p>) {
         Command::Color { reg, clr, op },
     ];
     page.run(&commands);
+}
+
+/// Paints a page tile by tile: here the tile at its point (64, 0).
+pub fn tiled(alloc: Global, sky: Rgba8p, sun: Rgba8p) -> Result<Raster<Rgba8p>, RasterFault> {
+    let (over_both, op) = (Region::new(60, 2, 8, 8), Op::SrcOver);
+    let commands: [Command<'_, Rgba8p, Matte8>; 1] = [Command::Color {
+        reg: over_both,
+        clr: sun,
+        op,
+    }];
+    let mut tile = Raster::with_color(alloc, 64, 48, sky)?; // the second of the page's tiles
+    tile.run_window(64, 0, &commands); // the first one by run_window(0, 0, &commands)
+    Ok(tile)
 }
 
 /// Writes the rows of a region.

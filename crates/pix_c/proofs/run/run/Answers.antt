@@ -1,36 +1,17 @@
--- Of `run`: the clause `run`, and the condition of its call of `run_all`.
-use Rattle.std.proofs.Common.{◌≡◌, ℕ, ◌≤◌, ◌<◌, ◌+◌, length, map, sym, ap, ◌∙◌, subst, arith}
-use Rattle.pix_chan.specs.Product.{channel_product, fineness, IsProduct}
-use Rattle.pix_el.specs.Pixel.{Layout, channel}
-use Rattle.pix_el.specs.Premultiplied.{IsBounded}
-use Rattle.pix_el.proofs.Models.{placed_by_row}
-use Rattle.pix_el.proofs.Composited.{alpha_bounded}
-use Rattle.pix.specs.Lent.{IsShaped}
-use Rattle.pix_raster.proofs.RunBounds.{IsFormat}
-use Rattle.pix_c.proofs.Images.{sized_is_shaped}
-use Rattle.pix_c.proofs.Ran.{ran_is_run}
+-- Of `run`: that it meets its contract.
+use Rattle.std.proofs.Common.{ℕ, Bool, cond, length, map, ap, ◌∙◌}
+use Rattle.pix_c.specs.Status.{first_fault, count_before_fault}
+use Rattle.pix_c.proofs.Images.{window_at_corner}
+use Rattle.pix_c.proofs.Ran.{run_at_corner}
 use Rattle.pix_c.proofs.run.run.Goals as goal
 
-pub run_all-requires-clause-shaped : goal.run_all-requires-clause-shaped
-run_all-requires-clause-shaped g c =
-    sized_is_shaped c.args.width c.args.height c.args.stride (length c.args.pixels.now) (sym c.is_sized.ensures ∙ c.if-not-is_sized.false)
-
-pub returns-then-fault-eq-DONE-clause-run : goal.returns-then-fault-eq-DONE-clause-run
-returns-then-fault-eq-DONE-clause-run g c =
-    let n = g.D.Numbered.numbers in
-    let mattes = g.M.Numbered.numbers in
-    let max = g.P.Chan.Channel.max in
-    let layout' : Layout = record { max = max; count = g.P.Pixel.layout.count; hues = g.P.Model.ColorModel.CIRCULAR; alpha = g.P.Model.ColorModel.ALPHA } in
-    let laid_out : g.P.Pixel.layout ≡ layout' = g.met.P.Pixel.laid_out in
-    let has_alpha : layout'.count ≡ layout'.alpha + 1 = g.met.D.FlatPixel.has_alpha ∙ ap (λ (l : Layout). l.alpha + 1) laid_out in
-    let format : IsFormat g.P.Pixel.layout n mattes =
+pub returns : goal.returns
+returns g c =
+    let commands = map g.C.Flatten.flat c.args.commands.now in
+    let same = window_at_corner c.args.width c.args.height c.args.stride (length c.args.pixels.now) in
     record {
-      laws = subst (λ (l : Layout). IsProduct fineness l.max (channel_product l.max)) (sym laid_out) g.met.P.Chan.Channel.product_law;
-      alpha = subst (λ (l : Layout). IsBounded l l.alpha) (sym laid_out) (alpha_bounded layout' g.P.Model.ColorModel.LINEAR (placed_by_row g.P.Model.ColorModel.model _ g.met.P.Model.ColorModel.stands) has_alpha);
-      fit = λ p. record { at = g.met.D.Flat.fits p };
-      mattes_fit = λ m. record { at = subst (λ (l : Layout). (ch : ℕ) → channel l.max (mattes m) ch ≤ l.max) (sym laid_out) (g.met.M.Flat.fits m) };
-    } in
-    let shaped : IsShaped (record { width = c.args.width; height = c.args.height; stride = c.args.stride }) (length c.args.pixels.now) =
-    sized_is_shaped c.args.width c.args.height c.args.stride (length c.args.pixels.now) (sym c.is_sized.ensures ∙ c.if-not-is_sized.false) in
-    λ e. ran_is_run g.P.Pixel.layout n mattes c.args.width c.args.height c.args.stride (map g.C.Flatten.flat c.args.commands.now) c.args.pixels.now c.run_all.new.pixels
-    format shaped c.run_all.auto.pixels c.run_all.ensures
+      status = c.run_window.ensures.status ∙ ap (λ (b : Bool). cond b (first_fault commands) 1) same;
+      done = c.run_window.ensures.done ∙ ap (λ (b : Bool). cond b (count_before_fault commands) 0) same;
+      refused = c.run_window.ensures.refused;
+      run = λ e. run_at_corner g.P.Pixel.layout g.D.Numbered.numbers g.M.Numbered.numbers c.args.width c.args.height c.args.stride commands c.args.pixels.now c.run_window.new.pixels (c.run_window.ensures.run e);
+    }

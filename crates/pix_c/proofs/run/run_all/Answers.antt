@@ -1,9 +1,8 @@
 -- Of `run_all`: that it meets its contract, that the invariant of its loop over `command` holds at first and stays, and the condition of its call of `paint`.
 use Rattle.std.proofs.Common.{◌≡◌, ◌<◌, ◌+◌, ◌∷◌, [], length, map, drop, get_or, sym, ap, ◌∙◌, arith, refl, subst}
 use Rattle.std.proofs.lemmas.List.{length-map, get_or-map, drop_all}
-use Rattle.pix.specs.Region.{whole}
 use Rattle.pix.specs.Run.{run_at}
-use Rattle.pix.specs.Lent.{read_at, ChangedIn}
+use Rattle.pix.specs.Lent.{read_at, ChangedIn, picture, in_window}
 use Rattle.pix_raster.proofs.Steps.{run_more}
 use Rattle.pix_c.specs.declared.command.FlatCommand.{FlatCommand}
 use Rattle.pix_c.specs.Command.{command_of}
@@ -32,20 +31,21 @@ loop-command-preserved g c =
     let i = c.loop-command.command-index in
     let item = c.command-item.result in
     let commands = c.args.commands.now in
-    let shape = c.args.shape in
-    let dest = whole shape.width shape.height in
+    let window = c.args.window in
+    let shape = window.shape in
+    let dest = picture window in
     let all = map command_of (map flat commands) in
     let command = command_of (flat item) in
     let within : i < length all = omega (arith, length-map commands flat, length-map (map flat commands) (command_of {D = g.row.D.Denot} {M = g.row.M.Denot}), c.loop-command-test.true) in
     let is : command ≡ get_or all i command =
     sym (get_or-map command_of (map flat commands) i (flat item) command (omega (arith, length-map commands flat, c.loop-command-test.true))
     ∙ ap command_of (get_or-map flat commands i item (flat item) c.loop-command-test.true ∙ ap flat (sym c.command-item.is))) in
-    let done : ChangedIn n shape c.loop-command.pixels c.paint.new.pixels (run_at layout n m dest (command ∷ [])) =
-    subst (λ (f : FlatCommand g.row.D.Denot g.row.M.Denot). ChangedIn n shape c.loop-command.pixels c.paint.new.pixels (run_at layout n m dest (command_of f ∷ []))) c.flat.ensures c.paint.ensures in
+    let done : ChangedIn n shape c.loop-command.pixels c.paint.new.pixels (in_window window (run_at layout n m dest (command ∷ []))) =
+    subst (λ (f : FlatCommand g.row.D.Denot g.row.M.Denot). ChangedIn n shape c.loop-command.pixels c.paint.new.pixels (in_window window (run_at layout n m dest (command_of f ∷ [])))) c.flat.ensures c.paint.ensures in
     record {
       rest = λ x y lx ly.
-          ap (run_at layout n m dest (drop (i + 1) all) x y) (done.points x y lx ly)
-          ∙ run_more layout n m dest all i command x y (read_at n shape.stride c.loop-command.pixels x y) within is
+          ap (run_at layout n m dest (drop (i + 1) all) (window.left + x) (window.top + y)) (done.points x y lx ly)
+          ∙ run_more layout n m dest all i command (window.left + x) (window.top + y) (read_at n shape.stride c.loop-command.pixels x y) within is
           ∙ c.loop-command.invariant.rest x y lx ly;
       stays = λ place none. done.stays place none ∙ c.loop-command.invariant.stays place none;
     }

@@ -1,8 +1,7 @@
 -- What holds at each turn of the loop over `command` in `run_all`.
 use Rattle.std.proofs.Common.{◌≡◌, ℕ, ◌<◌, [], drop, map, get_or}
-use Rattle.pix.specs.Region.{whole}
 use Rattle.pix.specs.Run.{run_at}
-use Rattle.pix.specs.Lent.{read_at, IsNoPoint}
+use Rattle.pix.specs.Lent.{read_at, IsNoPoint, picture, in_window}
 use Rattle.pix_c.specs.Command.{command_of}
 use Rattle.pix_c.proofs.run.run_all.Given as goal
 
@@ -10,11 +9,11 @@ use Rattle.pix_c.proofs.run.run_all.Given as goal
 abbrev pub invariant-loop-command : goal.invariant-loop-command
 invariant-loop-command g l =
     let n = g.D.Numbered.numbers in
-    let run = run_at g.P.Pixel.layout n g.M.Numbered.numbers (whole l.fn.shape.width l.fn.shape.height) in
+    let run = run_at g.P.Pixel.layout n g.M.Numbered.numbers (picture l.fn.window) in
     let all = map command_of (map g.C.Flatten.flat l.commands) in
-    let read = read_at n l.fn.shape.stride in
+    let read = read_at n l.fn.window.shape.stride in
     record {
-      rest : (x y : ℕ) → x < l.fn.shape.width → y < l.fn.shape.height
-          → run (drop l.command-index all) x y (read l.pixels x y) ≡ run all x y (read l.initial.pixels x y);
-      stays : (place : ℕ) → IsNoPoint l.fn.shape place → get_or (map n l.pixels) place [] ≡ get_or (map n l.initial.pixels) place [];
+      rest : (x y : ℕ) → x < l.fn.window.shape.width → y < l.fn.window.shape.height
+          → in_window l.fn.window (run (drop l.command-index all)) x y (read l.pixels x y) ≡ in_window l.fn.window (run all) x y (read l.initial.pixels x y);
+      stays : (place : ℕ) → IsNoPoint l.fn.window.shape place → get_or (map n l.pixels) place [] ≡ get_or (map n l.initial.pixels) place [];
     }

@@ -1,5 +1,5 @@
 -- Of `converted_within`: that it meets its contract, and the condition of its call of `from_four`.
-use Rattle.std.proofs.Common.{◌≡◌, ◌≤◌, refl, sym, ap, ◌∙◌, ℕ, List}
+use Rattle.std.proofs.Common.{◌≤◌, sym, ap, ◌∙◌}
 use Rattle.pix_el.specs.Pixel.{Layout}
 use Rattle.pix_el.specs.Conversion.{Format}
 use Rattle.pix_el.proofs.Conversions.{made_within, few_channels}

@@ -1,5 +1,5 @@
 -- Of `coverage_runs`: the clause `composite`.
-use Rattle.std.proofs.Common.{sym, arith, map, List, ℕ}
+use Rattle.std.proofs.Common.{sym, arith, map}
 use Rattle.pix_chan.proofs.Slices.{over-nil}
 use Rattle.pix_el.specs.PixelComposite.{matted_composite}
 use Rattle.pix_el.proofs.MattePlanes.{next_run}

@@ -1,4 +1,4 @@
--- Of `CompositeSliceVisitor::visit`: that it meets its contract, and the condition of its call of `blit_region`.
+-- Of `CompositeSliceVisitor::visit`: that it meets its contract, and the condition of its call of `blit_window`.
 use Rattle.std.proofs.Common.{◌≡◌, ◌<◌, ℕ, List, refl, sym, ap, subst, ◌∙◌, length, arith}
 use Rattle.pix_ops.specs.declared.ops.Op.{Op}
 use Rattle.pix_el.specs.PixelComposite.{pixel_composite, matted_composite, matte_value}
@@ -8,14 +8,14 @@ use Rattle.pix_c.specs.Command.{op_at}
 use Rattle.pix_c.proofs.Painted.{sound, pixels_shaped, mattes_shaped, painted_color, painted_image, painted_matte}
 use Rattle.pix_c.proofs.paint.CompositeSliceVisitor.visit.Goals as goal
 
-pub blit_region-requires-clause-src_fits : goal.blit_region-requires-clause-src_fits
-blit_region-requires-clause-src_fits g c =
+pub blit_window-requires-clause-src_fits : goal.blit_window-requires-clause-src_fits
+blit_window-requires-clause-src_fits g c =
     let command = c.args.self.now.command.now in
     subst (λ (s : Shape). IsShaped s (length command.pixels.now)) (sym c.source_shape-src_shape.ensures)
     (pixels_shaped command c.requires.1 (rw c.in-4.is refl))
 
-pub blit_region-requires-in_default-clause-src_fits : goal.blit_region-requires-in_default-clause-src_fits
-blit_region-requires-in_default-clause-src_fits g c =
+pub blit_window-requires-in_default-clause-src_fits : goal.blit_window-requires-in_default-clause-src_fits
+blit_window-requires-in_default-clause-src_fits g c =
     let command = c.args.self.now.command.now in
     let below : command.kind < 6 = (sound command c.requires.1).kind in
     let kind : command.kind ≡ 5 = omega arith in
@@ -27,20 +27,20 @@ returns-in-3 g c =
     let layout = g.P.Pixel.layout in
     let n = g.D.Numbered.numbers in
     let it = c.args.self.now in
-    painted_color layout n g.M.Numbered.numbers it.shape it.command.now c.args.pixels.now c.fill_region.new.pixels
+    painted_color layout n g.M.Numbered.numbers it.window it.command.now c.args.pixels.now c.fill_window.new.pixels
     c.in-3.is c.region_of-to.result _ c.region_of-to.ensures
     (λ p. ap (λ (o : Op). pixel_composite layout o (g.P.Pixel.numbers c.read-clr.result) p) c.requires.3
-    ∙ ap (λ (s : List ℕ). pixel_composite layout (op_at it.command.now.op) s p) c.read-clr.ensures) c.fill_region.ensures
+    ∙ ap (λ (s : List ℕ). pixel_composite layout (op_at it.command.now.op) s p) c.read-clr.ensures) c.fill_window.ensures
 
 pub returns-in-4 : goal.returns-in-4
 returns-in-4 g c =
     let layout = g.P.Pixel.layout in
     let n = g.D.Numbered.numbers in
     let it = c.args.self.now in
-    painted_image layout n g.M.Numbered.numbers it.shape it.command.now c.args.pixels.now c.blit_region.new.pixels
+    painted_image layout n g.M.Numbered.numbers it.window it.command.now c.args.pixels.now c.blit_window.new.pixels
     c.in-4.is c.requires.1 c.region_of-to.result c.region_of-from.result c.source_shape-src_shape.result _
     c.region_of-to.ensures c.region_of-from.ensures c.source_shape-src_shape.ensures
-    (λ s p. ap (λ (o : Op). pixel_composite layout o s p) c.requires.3) c.blit_region.ensures
+    (λ s p. ap (λ (o : Op). pixel_composite layout o s p) c.requires.3) c.blit_window.ensures
 
 pub returns-in_default : goal.returns-in_default
 returns-in_default g c =
@@ -50,8 +50,8 @@ returns-in_default g c =
     let command = c.args.self.now.command.now in
     let below : command.kind < 6 = (sound command c.requires.1).kind in
     let kind : command.kind ≡ 5 = omega arith in
-    painted_matte layout n g.M.Numbered.numbers it.shape it.command.now c.args.pixels.now c.blit_region-in_default.new.pixels
+    painted_matte layout n g.M.Numbered.numbers it.window it.command.now c.args.pixels.now c.blit_window-in_default.new.pixels
     kind c.requires.1 c.region_of-to.result c.region_of-from.result c.source_shape-src_shape-in_default.result _
     c.region_of-to.ensures c.region_of-from.ensures c.source_shape-src_shape-in_default.ensures
     (λ s p. ap (λ (o : Op). matted_composite layout o (matte_value layout s) (g.P.Pixel.numbers c.read-clr-in_default.result) p) c.requires.3
-    ∙ ap (λ (z : List ℕ). matted_composite layout (op_at it.command.now.op) (matte_value layout s) z p) c.read-clr-in_default.ensures) c.blit_region-in_default.ensures
+    ∙ ap (λ (z : List ℕ). matted_composite layout (op_at it.command.now.op) (matte_value layout s) z p) c.read-clr-in_default.ensures) c.blit_window-in_default.ensures

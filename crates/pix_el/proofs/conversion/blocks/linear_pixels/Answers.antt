@@ -1,9 +1,10 @@
 -- Of `linear_pixels`: its clauses, and that the invariant of its loop over `i` holds at first and stays.
-use Rattle.std.proofs.Common.{◌+◌, map, take, get_or, arith, sym, ap, ◌∙◌, refl, ℕ, List}
-use Rattle.std.proofs.lemmas.List.{length-map, get_or-map, get_or_default, take_all}
+use Rattle.std.proofs.Common.{map, take, get_or, arith, sym, List, ℕ}
+use Rattle.std.proofs.lemmas.List.{length-map, get_or_default}
 use Rattle.pix_el.specs.Planes.{linear_four}
-use Rattle.pix_chan.proofs.Slices.{over-nil, mapped_one_step, over_both}
-use Rattle.pix_el.proofs.Written.{length_written, over_written}
+use Rattle.pix_chan.proofs.Slices.{over-nil}
+use Rattle.pix_el.proofs.Blocks.{next_pixel, whole_run}
+use Rattle.pix_el.proofs.Written.{length_written, written_whole}
 use Rattle.pix_el.proofs.conversion.blocks.linear_pixels.Goals as goal
 
 pub loop-i-init : goal.loop-i-init
@@ -13,19 +14,14 @@ loop-i-init g c =
 
 pub loop-i-preserved : goal.loop-i-preserved
 loop-i-preserved g c =
-    let n = g.D.Pixel.numbers in
-    let m = g.P.Pixel.numbers in
     let linear = linear_four g.P.Chan.Channel.max g.D.Chan.Channel.max g.P.Gamma.Gamma-2.mode in
     let f = λ (d s : List ℕ). linear s in
     let i = c.loop-i.i in
-    let src = c.args.src.now in
     let item = c.index-src-i.result in
-    let s = m item in
-    let made = c.linear_pixel.result in
-    let was = get_or c.loop-i.dst i made in
-    mapped_one_step n f i (i + 1) c.args.dst.now c.loop-i.dst made was s s s (map m src)
-    c.loop-i.invariant refl (omega arith) (omega (arith, length-map src m))
-    (ap m c.index-src-i.is ∙ sym (get_or-map m src i item s (omega arith))) (get_or_default c.loop-i.dst i made was (omega arith)) c.linear_pixel.ensures
+    let new = c.linear_pixel.result in
+    let was = get_or c.loop-i.dst i new in
+    next_pixel g.D.Pixel.numbers g.P.Pixel.numbers f c.args.dst.now c.args.src.now i c.loop-i.dst new was item c.loop-i.invariant (omega arith) (omega arith)
+    c.index-src-i.is (get_or_default c.loop-i.dst i new was (omega arith)) c.linear_pixel.ensures
 
 pub returns-clause-size : goal.returns-clause-size
 returns-clause-size g c =
@@ -37,9 +33,8 @@ returns-clause-pixels g c =
     let n = g.D.Pixel.numbers in
     let m = g.P.Pixel.numbers in
     let linear = linear_four g.P.Chan.Channel.max g.D.Chan.Channel.max g.P.Gamma.Gamma-2.mode in
-    let f = λ (d s : List ℕ). linear s in
     let ds = map n c.args.dst.now in
     let ss = map m c.args.src.now in
-    c.loop-i.invariant
-    ∙ over_both f c.loop-i.i ds ss (omega (arith, length-map c.args.dst.now n, length-map c.args.src.now m))
-    ∙ over_written linear ss ds (omega (arith, length-map c.args.dst.now n, length-map c.args.src.now m))
+    written_whole linear ss ds (map n c.loop-i.dst)
+    (whole_run n m (λ (d s : List ℕ). linear s) c.args.dst.now c.args.src.now c.loop-i.i c.loop-i.dst c.loop-i.invariant (omega arith))
+    (omega (arith, length-map c.args.dst.now n, length-map c.args.src.now m))

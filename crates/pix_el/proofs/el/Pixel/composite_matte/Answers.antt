@@ -1,12 +1,11 @@
 -- Of `Pixel::composite_matte`: that it meets its contract, and that the invariant of its loop over `i` holds after each turn.
-use Rattle.std.proofs.Common.{◌≡◌, ◌+◌, ◌∙◌, sym, ap, arith, map, refl, get_or, List, ℕ}
-use Rattle.std.proofs.lemmas.List.{length-map, get_or-map}
+use Rattle.std.proofs.Common.{◌≡◌, sym, ap, arith, get_or, List, ℕ}
 use Rattle.pix_chan.specs.declared.chan.modes.Linear.{Linear}
 use Rattle.pix_el.specs.declared.el.Pix.{Pix}
 use Rattle.pix_el.specs.declared.matte.Matte.{Matte}
 use Rattle.pix_el.specs.Pixel.{Layout, channel}
 use Rattle.pix_el.specs.PixelComposite.{matted_composite, matte_numbers, matte_value}
-use Rattle.pix_chan.proofs.Slices.{mapped_one_step, over_both}
+use Rattle.pix_el.proofs.Blocks.{next_pixel, whole_run}
 use Rattle.pix_el.proofs.Written.{replaced}
 use Rattle.pix_el.proofs.el.Pixel.composite_matte.Goals as goal
 
@@ -31,9 +30,7 @@ loop-i-preserved g c =
     let value : number c.alpha.result ≡ matte_value layout matte = replaced (λ (r : ℕ). channel r matte 0) top layout.max (number c.alpha.result) c.alpha.ensures max in
     let made : n new ≡ matted_composite layout op (number c.alpha.result) color (n was) = c.composite_channels_alpha.ensures.composite in
     let by_value : n new ≡ f (n was) matte = replaced (λ (z : ℕ). matted_composite layout op z color (n was)) (number c.alpha.result) (matte_value layout matte) (n new) made value in
-    mapped_one_step n f i (i + 1) c.args.dst.now c.loop-i.dst new old color matte matte (map numbers src)
-    c.loop-i.invariant refl (omega arith) (omega (arith, length-map src numbers))
-    (ap numbers c.index-src-i.is ∙ sym (get_or-map numbers src i item matte (omega arith))) c.index-dst-i.is
+    next_pixel n numbers f c.args.dst.now src i c.loop-i.dst new old item c.loop-i.invariant (omega arith) (omega arith) c.index-src-i.is c.index-dst-i.is
     (replaced (λ (z : List ℕ). f z matte) (n was) (n old) (n new) by_value (ap n (sym c.index-dst-i.is)))
 
 pub returns : goal.returns
@@ -43,5 +40,4 @@ returns g c =
     let numbers = λ (m : Pix g.row.N g.row.Self-Chan.Denot Matte g.row.A.Denot Linear). matte_numbers g.Self.Chan.Channel.number m in
     let color = n c.args.clr.now in
     let f = λ (d m : List ℕ). matted_composite layout g.O.Blend.op (matte_value layout m) color d in
-    c.loop-i.invariant
-    ∙ over_both f c.loop-i.i (map n c.args.dst.now) (map numbers c.args.src.now) (omega (arith, length-map c.args.dst.now n, length-map c.args.src.now numbers))
+    whole_run n numbers f c.args.dst.now c.args.src.now c.loop-i.i c.loop-i.dst c.loop-i.invariant (omega arith)

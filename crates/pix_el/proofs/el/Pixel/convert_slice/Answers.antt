@@ -1,25 +1,21 @@
 -- Of `Pixel::convert_slice`: that it meets its contract, and that the invariant of its loop over `i` holds after each turn.
-use Rattle.std.proofs.Common.{◌+◌, ◌∙◌, sym, ap, arith, map, get_or, refl, List, ℕ}
-use Rattle.std.proofs.lemmas.List.{length-map, get_or-map, get_or_default}
+use Rattle.std.proofs.Common.{arith, get_or, List, ℕ}
+use Rattle.std.proofs.lemmas.List.{get_or_default}
 use Rattle.pix_el.specs.Conversion.{converted}
-use Rattle.pix_chan.proofs.Slices.{mapped_one_step, over_both}
+use Rattle.pix_el.proofs.Blocks.{next_pixel, whole_run}
 use Rattle.pix_el.proofs.el.Pixel.convert_slice.Goals as goal
 
 pub loop-i-preserved : goal.loop-i-preserved
 loop-i-preserved g c =
-    let n = g.D.Pixel.numbers in
-    let m = g.Self.Pixel.numbers in
     let f = λ (d s : List ℕ). converted g.Self.Pixel.format g.Self.Gamma.Gamma-2.mode g.D.Pixel.format g.D.Gamma.Gamma.mode s in
-    let s = m c.index-src-i.result in
-    let was = get_or c.loop-i.dst c.loop-i.i c.convert.result in
-    mapped_one_step n f c.loop-i.i (c.loop-i.i + 1) c.args.dst.now c.loop-i.dst c.convert.result was s s s (map m c.args.src.now)
-    c.loop-i.invariant refl (omega arith) (omega (arith, length-map c.args.src.now m))
-    (ap m c.index-src-i.is ∙ sym (get_or-map m c.args.src.now c.loop-i.i c.index-src-i.result s (omega arith))) (get_or_default c.loop-i.dst c.loop-i.i c.convert.result was (omega arith)) c.convert.ensures
+    let i = c.loop-i.i in
+    let item = c.index-src-i.result in
+    let new = c.convert.result in
+    let was = get_or c.loop-i.dst i new in
+    next_pixel g.D.Pixel.numbers g.Self.Pixel.numbers f c.args.dst.now c.args.src.now i c.loop-i.dst new was item c.loop-i.invariant (omega arith) (omega arith)
+    c.index-src-i.is (get_or_default c.loop-i.dst i new was (omega arith)) c.convert.ensures
 
 pub returns : goal.returns
 returns g c =
-    let n = g.D.Pixel.numbers in
-    let m = g.Self.Pixel.numbers in
-    let f = λ (s d : List ℕ). converted g.Self.Pixel.format g.Self.Gamma.Gamma-2.mode g.D.Pixel.format g.D.Gamma.Gamma.mode s in
-    c.loop-i.invariant
-    ∙ over_both (λ (d s : List ℕ). f s d) c.loop-i.i (map n c.args.dst.now) (map m c.args.src.now) (omega (arith, length-map c.args.dst.now n, length-map c.args.src.now m))
+    let f = λ (d s : List ℕ). converted g.Self.Pixel.format g.Self.Gamma.Gamma-2.mode g.D.Pixel.format g.D.Gamma.Gamma.mode s in
+    whole_run g.D.Pixel.numbers g.Self.Pixel.numbers f c.args.dst.now c.args.src.now c.loop-i.i c.loop-i.dst c.loop-i.invariant (omega arith)

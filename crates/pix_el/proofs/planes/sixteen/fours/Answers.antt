@@ -1,5 +1,5 @@
 -- Of `fours`: that it meets its contract.
-use Rattle.std.proofs.Common.{◌≡◌, ◌∙◌, ap, sym, arith, map, take, drop, List, ℕ}
+use Rattle.std.proofs.Common.{◌∙◌, ap, sym, arith, map, take, drop}
 use Rattle.std.proofs.lemmas.List.{length-map}
 use Rattle.pix_el.proofs.FourPlanes.{by_parts, parts}
 use Rattle.pix_el.proofs.planes.sixteen.fours.Goals as goal

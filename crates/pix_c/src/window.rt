@@ -1,0 +1,96 @@
+//! Lists of commands on a window of a picture: on a part of it that lies in memory by itself.
+ghost use Rattle.std.specs.Prelude.{◌≡◌, ◌≢◌, length, map};
+ghost use Rattle.pix_c.specs.Format.{rgba8, rgba8_numbers, rgba16, rgba16_numbers};
+ghost use Rattle.pix_c.specs.Format.{graya8, graya8_numbers};
+ghost use Rattle.pix_c.specs.Format.{matte8_numbers, matte16_numbers};
+ghost use Rattle.pix_c.specs.Command.{rgba8_command, rgba16_command, graya8_command};
+ghost use Rattle.pix_c.specs.Status.{window_status_of, window_done_of};
+ghost use Rattle.pix_c.specs.Run.{IsWindowRun};
+
+use crate::command::{PixCommand, PixCommandGraya8, PixCommandRgba16};
+use crate::format::{PixGraya8, PixRgba8, PixRgba16};
+use crate::run;
+use pix::gray::Graya8p;
+use pix::rgb::{Rgba8p, Rgba16p};
+
+/// Runs `commands` in order on a window of a picture: on the image of `width` columns and `height` rows, which start `stride` pixels
+/// apart in `pixels`, whose first pixel lies at the point (`left`, `top`) of the picture.
+///
+/// The regions of the commands are those of the picture, and each pixel becomes what it would become if the whole picture was passed
+/// to [`pix_run_commands`](crate::pix_run_commands). So windows of a picture may be painted apart, in any order.
+///
+/// Returns what [`pix_run_commands`](crate::pix_run_commands) returns, and [`BAD_SIZE`](crate::BAD_SIZE) too where `left + width` or
+/// `top + height` is above 2147483647.
+#[unsafe(no_mangle)]
+pub extern "C" fn pix_run_window(
+    pixels: &mut [PixRgba8],
+    left: u32,
+    top: u32,
+    width: u32,
+    height: u32,
+    stride: u32,
+    commands: &[PixCommand<'_>],
+    done: &mut usize,
+) -> u32
+    ensures status { result ≡ window_status_of left top width height stride (length pixels.old)
+        (map rgba8_command commands.now) }
+    ensures done { done.new ≡ window_done_of left top width height stride (length pixels.old)
+        (map rgba8_command commands.now) }
+    ensures refused { result ≢ 0 → pixels.new ≡ pixels.old }
+    ensures run { result ≡ 0 → IsWindowRun rgba8 rgba8_numbers matte8_numbers left top width height
+        stride (map rgba8_command commands.now) pixels.old pixels.new }
+{
+    run::run_window::<Rgba8p, PixRgba8, u8, PixCommand<'_>>(
+        pixels, left, top, width, height, stride, commands, done,
+    )
+}
+
+/// Does what [`pix_run_window`] does, on 16-bit pixels of red, green, blue and alpha.
+#[unsafe(no_mangle)]
+pub extern "C" fn pix_run_window_rgba16(
+    pixels: &mut [PixRgba16],
+    left: u32,
+    top: u32,
+    width: u32,
+    height: u32,
+    stride: u32,
+    commands: &[PixCommandRgba16<'_>],
+    done: &mut usize,
+) -> u32
+    ensures status { result ≡ window_status_of left top width height stride (length pixels.old)
+        (map rgba16_command commands.now) }
+    ensures done { done.new ≡ window_done_of left top width height stride (length pixels.old)
+        (map rgba16_command commands.now) }
+    ensures refused { result ≢ 0 → pixels.new ≡ pixels.old }
+    ensures run { result ≡ 0 → IsWindowRun rgba16 rgba16_numbers matte16_numbers left top width height
+        stride (map rgba16_command commands.now) pixels.old pixels.new }
+{
+    run::run_window::<Rgba16p, PixRgba16, u16, PixCommandRgba16<'_>>(
+        pixels, left, top, width, height, stride, commands, done,
+    )
+}
+
+/// Does what [`pix_run_window`] does, on 8-bit pixels of gray and alpha.
+#[unsafe(no_mangle)]
+pub extern "C" fn pix_run_window_graya8(
+    pixels: &mut [PixGraya8],
+    left: u32,
+    top: u32,
+    width: u32,
+    height: u32,
+    stride: u32,
+    commands: &[PixCommandGraya8<'_>],
+    done: &mut usize,
+) -> u32
+    ensures status { result ≡ window_status_of left top width height stride (length pixels.old)
+        (map graya8_command commands.now) }
+    ensures done { done.new ≡ window_done_of left top width height stride (length pixels.old)
+        (map graya8_command commands.now) }
+    ensures refused { result ≢ 0 → pixels.new ≡ pixels.old }
+    ensures run { result ≡ 0 → IsWindowRun graya8 graya8_numbers matte8_numbers left top width height
+        stride (map graya8_command commands.now) pixels.old pixels.new }
+{
+    run::run_window::<Graya8p, PixGraya8, u8, PixCommandGraya8<'_>>(
+        pixels, left, top, width, height, stride, commands, done,
+    )
+}

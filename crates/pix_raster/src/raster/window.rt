@@ -1,0 +1,172 @@
+//! Runs of commands on a window of a picture: on a part of it that lies in memory by itself.
+ghost use Rattle.std.specs.Prelude.{◌≡◌, ℕ, ◌+◌, ◌<◌, ◌≤◌, length, map, [], ◌∷◌};
+ghost use Rattle.pix_el.specs.PixelComposite.{matte_numbers};
+ghost use Rattle.pix_raster.specs.Region.{limit, whole};
+ghost use Rattle.pix_raster.specs.Image.{Image, Changed, point, region_of};
+ghost use Rattle.pix_raster.specs.Lent.{read_at, IsWindow, ChangedIn, where_paired, picture, in_window};
+ghost use Rattle.pix_raster.specs.Run.{run_at, op_of};
+ghost use Rattle.pix_raster.specs.Claims.{IsImageRun};
+ghost use Rattle.pix_raster.specs.Window.{IsPartOf, command_from};
+
+use super::Raster;
+use super::row_change::{
+    CompositedColor, CompositedPixels, CopiedColor, CopiedPixels, MattedColor,
+};
+use crate::command::Command;
+use crate::lent::{Blit, Window, blit_window, fill_window};
+use crate::region::Region;
+use pix_chan::chan::{Alpha, Linear, Premultiplied};
+use pix_el::el::{Pix, Pixel};
+use pix_el::matte::Matte;
+use pix_ops::ops::{Blend, SliceVisitor};
+
+impl<P: Pixel<Alpha = Premultiplied, Gamma = Linear>> Raster<P> {
+    /// Runs `commands` in order on this raster as a window of a picture: its first pixel is the point (`left`, `top`) of the picture,
+    /// and the regions of the commands are those of the picture.
+    ///
+    /// **Pictures painted tile by tile are the picture painted whole: whatever its size, each point of the window becomes what the same
+    /// commands, run on the whole picture, make of it.**
+    ///
+    /// So a picture that is larger than memory is painted a tile at a time, in any order, and one in memory by several threads. All that
+    /// [`Raster::run`] claims holds too, of the commands as seen from the window.
+    ///
+    /// Condition: the format has an alpha channel, and the window ends within the greatest coordinate: `left` plus the width and `top`
+    /// plus the height are at most 2147483647.
+    ///
+    /// # Examples
+    ///
+    /// ```rust
+    /// let mut tile = Raster::with_color(alloc, 64, 48, sky)?; // the second of the page's tiles
+    /// tile.run_window(64, 0, &commands); // the first one by run_window(0, 0, &commands)
+    /// Ok(tile)
+    /// ```
+    pub fn run_window<const N: usize, A: Alpha>(
+        &mut self,
+        left: u32,
+        top: u32,
+        commands: &[Command<'_, P, Pix<N, P::Chan, Matte, A, Linear>>],
+    )
+        requires has_alpha { P.layout.count ≡ P.layout.alpha + 1 }
+        requires across { left + self.old.width ≤ limit }
+        requires down { top + self.old.height ≤ limit }
+
+        // On each picture that has the window: what the run on the whole picture makes of the points of the window.
+        ensures window { (width height : ℕ) → left + self.old.width ≤ width
+            → top + self.old.height ≤ height → Changed P.numbers self.old self.new
+            (λ x y. run_at P.layout P.numbers (matte_numbers P.Chan.number)
+            (whole width height) commands.now (left + x) (top + y)) }
+
+        // A part of a picture is, after it, that part of the picture after the run on the whole.
+        ensures tile { (before after : Image P) → IsPartOf P.numbers self.old left top before
+            → Changed P.numbers before after (run_at P.layout P.numbers
+            (matte_numbers P.Chan.number) (region_of before) commands.now)
+            → IsPartOf P.numbers self.new left top after }
+
+        // All that is claimed of a run, of the commands as seen from the window.
+        ensures run { IsImageRun P.layout P.numbers (matte_numbers P.Chan.number)
+            (map (command_from left top) commands.now) self.old self.new }
+    {
+        for command in commands {
+            self.run_one(left, top, command);
+        }
+    }
+
+    /// Runs one command on this raster as a window of a picture.
+    fn run_one<const N: usize, A: Alpha>(
+        &mut self,
+        left: u32,
+        top: u32,
+        command: &Command<'_, P, Pix<N, P::Chan, Matte, A, Linear>>,
+    )
+        requires has_alpha { P.layout.count ≡ P.layout.alpha + 1 }
+        requires across { left + self.old.width ≤ limit }
+        requires down { top + self.old.height ≤ limit }
+        ensures { Changed P.numbers self.old self.new
+            (λ x y. run_at P.layout P.numbers (matte_numbers P.Chan.number)
+            (whole (left + self.old.width) (top + self.old.height)) (command.now ∷ [])
+            (left + x) (top + y)) }
+    {
+        let shape = self.shape();
+        let window = Window { left, top, shape };
+        command
+            .op()
+            .visit_slice(&InWindow { command, window }, &mut self.pixels);
+    }
+}
+
+/// A command on a window of a picture.
+#[derive(Drop)]
+struct InWindow<'b, 'a, P, M> {
+    command: &'b Command<'a, P, M>,
+    window: Window,
+}
+
+impl<
+    'b,
+    'a,
+    const N: usize,
+    A: Alpha,
+    P: Pixel<Alpha = Premultiplied, Gamma = Linear>,
+> SliceVisitor<P> for InWindow<'b, 'a, P, Pix<N, P::Chan, Matte, A, Linear>> {
+    ghost can_visit = { λ it op count. (P.layout.count ≡ P.layout.alpha + 1)
+        × IsWindow it.window count × (op_of it.command.now ≡ op) };
+
+    ghost visits = { λ it _ old new. (x y : ℕ) → x < it.window.shape.width
+        → y < it.window.shape.height → read_at P.numbers it.window.shape.stride new x y ≡
+        in_window it.window (run_at P.layout P.numbers (matte_numbers P.Chan.number)
+        (picture it.window) (it.command.now ∷ [])) x y
+        (read_at P.numbers it.window.shape.stride old x y) };
+
+    fn visit<O: Blend>(&self, pixels: &mut [P], op: O) {
+        let window = self.window;
+        match self.command {
+            Command::Clear => P::copy_color(pixels, &P::default()),
+            Command::CopyColor { reg, clr } => {
+                fill_window(pixels, window, *reg, &CopiedColor { clr: *clr });
+            }
+            Command::CopyRaster { to, src, from } => {
+                blit_from(pixels, window, *to, src, *from, &CopiedPixels {});
+            }
+            Command::Color { reg, clr, .. } => {
+                fill_window(pixels, window, *reg, &CompositedColor { clr: *clr, op });
+            }
+            Command::Raster { to, src, from, .. } => {
+                blit_from(pixels, window, *to, src, *from, &CompositedPixels { op });
+            }
+            Command::Matte {
+                to,
+                src,
+                from,
+                clr,
+                ..
+            } => {
+                blit_from(
+                    pixels,
+                    window,
+                    *to,
+                    src,
+                    *from,
+                    &MattedColor { clr: *clr, op },
+                );
+            }
+        }
+    }
+}
+
+/// Changes the region `to` of a picture by the region `from` of a raster, in those points that lie in the window.
+fn blit_from<D, S, B: Blit<D, S>>(
+    pixels: &mut [D],
+    window: Window,
+    to: Region,
+    src: &Raster<S>,
+    from: Region,
+    change: &B,
+)
+    requires can_blit { B.can_blit }
+    requires fits { IsWindow window (length pixels.old) }
+    ensures { ChangedIn B.reads window.shape pixels.old pixels.new
+        (in_window window (where_paired to (picture window) from (region_of src.now)
+        (point B.source_reads src.now) (B.makes change.now))) }
+{
+    blit_window(pixels, window, to, &src.pixels, src.shape(), from, change);
+}
