@@ -5,6 +5,7 @@
 ghost use Rattle.std.specs.Prelude.{◌≤◌};
 
 use crate::flaw::Flaw;
+use crate::models::{from_rgba8, from_rgba16, into_rgba8, into_rgba16};
 use pix::ColorModel;
 use pix::bgr::Bgr;
 use pix::chan::{Alpha, Ch8, Ch16, Channel, Gamma, Linear, Premultiplied, Srgb, Straight};
@@ -20,26 +21,20 @@ use pix::xyz::Xyz;
 use pix::ycc::YCbCr;
 use std::alloc::Global;
 
-/// What is done with a format that a name spells.
-pub(crate) trait FormatVisitor {
-    /// Answers for a format of eight bits.
-    fn eight<const N: usize, M: ColorModel, A: Alpha, G: Gamma<Ch8>>(
-        &self,
-        alloc: Global,
-    ) -> Result<String, Flaw>
-        requires { N ≤ 4 };
-
-    /// Answers for a format of sixteen bits, which is linear.
-    fn sixteen<const N: usize, M: ColorModel, A: Alpha>(
-        &self,
-        alloc: Global,
-    ) -> Result<String, Flaw>
-        requires { N ≤ 4 };
+/// What is done with a format.
+#[derive(Clone, Copy)]
+pub(crate) enum Task<'a> {
+    /// Describes it.
+    Describe,
+    /// Makes a color of it of red, green, blue and alpha.
+    FromRgba(&'a str),
+    /// Makes red, green, blue and alpha of a color of it.
+    IntoRgba(&'a str),
 }
 
 /// A color model.
 #[derive(Clone, Copy)]
-enum Model {
+pub(crate) enum Model {
     Rgb,
     Bgr,
     Cmy,
@@ -55,11 +50,11 @@ enum Model {
 /// A format, as its name spells it.
 #[derive(Clone, Copy)]
 pub(crate) struct Format {
-    model: Model,
+    pub model: Model,
     pub is_wide: bool,
-    is_srgb: bool,
-    has_alpha: bool,
-    is_premultiplied: bool,
+    pub is_srgb: bool,
+    pub has_alpha: bool,
+    pub is_premultiplied: bool,
 }
 
 impl Format {
@@ -88,59 +83,85 @@ impl Format {
         })
     }
 
-    /// Answers for this format.
-    pub(crate) fn visit<V: FormatVisitor>(
-        self,
-        visitor: &V,
-        alloc: Global,
-    ) -> Result<String, Flaw> {
+    /// Does a task for this format.
+    pub(crate) fn answer(self, task: Task, alloc: Global) -> Result<String, Flaw> {
         match self.model {
-            Model::Rgb => self.of_model::<3, 4, Rgb, V>(visitor, alloc),
-            Model::Bgr => self.of_model::<3, 4, Bgr, V>(visitor, alloc),
-            Model::Cmy => self.of_model::<3, 4, Cmy, V>(visitor, alloc),
-            Model::Gray => self.of_model::<1, 2, Gray, V>(visitor, alloc),
-            Model::Hsv => self.of_model::<3, 4, Hsv, V>(visitor, alloc),
-            Model::Hsl => self.of_model::<3, 4, Hsl, V>(visitor, alloc),
-            Model::Hwb => self.of_model::<3, 4, Hwb, V>(visitor, alloc),
-            Model::YCbCr => self.of_model::<3, 4, YCbCr, V>(visitor, alloc),
-            Model::Xyz => self.of_model::<3, 4, Xyz, V>(visitor, alloc),
-            Model::Matte => self.of_mode::<1, Matte, Premultiplied, V>(visitor, alloc),
+            Model::Rgb => self.of_model::<3, 4, Rgb>(task, alloc),
+            Model::Bgr => self.of_model::<3, 4, Bgr>(task, alloc),
+            Model::Cmy => self.of_model::<3, 4, Cmy>(task, alloc),
+            Model::Gray => self.of_model::<1, 2, Gray>(task, alloc),
+            Model::Hsv => self.of_model::<3, 4, Hsv>(task, alloc),
+            Model::Hsl => self.of_model::<3, 4, Hsl>(task, alloc),
+            Model::Hwb => self.of_model::<3, 4, Hwb>(task, alloc),
+            Model::YCbCr => self.of_model::<3, 4, YCbCr>(task, alloc),
+            Model::Xyz => self.of_model::<3, 4, Xyz>(task, alloc),
+            Model::Matte => self.of_mode::<1, Matte, Premultiplied>(task, alloc),
         }
     }
 
-    /// Answers for this format of a model, which has `N` channels without an alpha and `K` with one.
-    fn of_model<const N: usize, const K: usize, M: ColorModel, V: FormatVisitor>(
+    /// Does a task for this format of a model, which has `N` channels without an alpha and `K` with one.
+    fn of_model<const N: usize, const K: usize, M>(
         self,
-        visitor: &V,
+        task: Task,
         alloc: Global,
     ) -> Result<String, Flaw>
+    where
+        M: ColorModel,
         requires plain { N ≤ 4 }
         requires alpha { K ≤ 4 }
     {
         if self.is_premultiplied {
-            self.of_mode::<K, M, Premultiplied, V>(visitor, alloc)
+            self.of_mode::<K, M, Premultiplied>(task, alloc)
         } else if self.has_alpha {
-            self.of_mode::<K, M, Straight, V>(visitor, alloc)
+            self.of_mode::<K, M, Straight>(task, alloc)
         } else {
-            self.of_mode::<N, M, Straight, V>(visitor, alloc)
+            self.of_mode::<N, M, Straight>(task, alloc)
         }
     }
 
-    /// Answers for this format of a model and an alpha mode, which has `N` channels.
-    fn of_mode<const N: usize, M: ColorModel, A: Alpha, V: FormatVisitor>(
-        self,
-        visitor: &V,
-        alloc: Global,
-    ) -> Result<String, Flaw>
+    /// Does a task for this format of a model and an alpha mode, which has `N` channels.
+    fn of_mode<const N: usize, M, A>(self, task: Task, alloc: Global) -> Result<String, Flaw>
+    where
+        M: ColorModel,
+        A: Alpha,
         requires { N ≤ 4 }
     {
         if self.is_wide {
-            visitor.sixteen::<N, M, A>(alloc)
+            sixteen::<N, M, A>(task, alloc)
         } else if self.is_srgb {
-            visitor.eight::<N, M, A, Srgb>(alloc)
+            eight::<N, M, A, Srgb>(task, alloc)
         } else {
-            visitor.eight::<N, M, A, Linear>(alloc)
+            eight::<N, M, A, Linear>(task, alloc)
         }
+    }
+}
+
+/// Does a task for a format of eight bits.
+fn eight<const N: usize, M, A, G>(task: Task, alloc: Global) -> Result<String, Flaw>
+where
+    M: ColorModel,
+    A: Alpha,
+    G: Gamma<Ch8>,
+    requires { N ≤ 4 }
+{
+    match task {
+        Task::Describe => description::<Pix<N, Ch8, M, A, G>>(alloc),
+        Task::FromRgba(word) => from_rgba8::<N, M, A, G>(word, alloc),
+        Task::IntoRgba(word) => into_rgba8::<N, M, A, G>(word, alloc),
+    }
+}
+
+/// Does a task for a linear format of sixteen bits.
+fn sixteen<const N: usize, M, A>(task: Task, alloc: Global) -> Result<String, Flaw>
+where
+    M: ColorModel,
+    A: Alpha,
+    requires { N ≤ 4 }
+{
+    match task {
+        Task::Describe => description::<Pix<N, Ch16, M, A, Linear>>(alloc),
+        Task::FromRgba(word) => from_rgba16::<N, M, A>(word, alloc),
+        Task::IntoRgba(word) => into_rgba16::<N, M, A>(word, alloc),
     }
 }
 
@@ -169,33 +190,13 @@ fn model_of(name: &str) -> Result<Model, Flaw> {
     }
 }
 
-/// Describes a format.
-#[derive(Drop)]
-struct Describer {}
-
-impl FormatVisitor for Describer {
-    fn eight<const N: usize, M: ColorModel, A: Alpha, G: Gamma<Ch8>>(
-        &self,
-        alloc: Global,
-    ) -> Result<String, Flaw> {
-        description::<Pix<N, Ch8, M, A, G>>(alloc)
-    }
-
-    fn sixteen<const N: usize, M: ColorModel, A: Alpha>(
-        &self,
-        alloc: Global,
-    ) -> Result<String, Flaw> {
-        description::<Pix<N, Ch16, M, A, Linear>>(alloc)
-    }
-}
-
 /// `Rgb8`: a format, which is described by its count of channels, their maximum, its color model,
 /// its alpha mode and its gamma mode.
 pub(crate) fn described(words: &[&str], alloc: Global) -> Result<String, Flaw> {
     let &[format] = words else {
         return Err(Flaw::Count);
     };
-    Format::of(format)?.visit(&Describer {}, alloc)
+    Format::of(format)?.answer(Task::Describe, alloc)
 }
 
 /// The description of a format.
