@@ -1,18 +1,194 @@
 //! The formats by name.
+//!
+//! A call at a concrete format costs the prover seconds, so a format is handed on by its parts: the count of its channels, its color
+//! model, its alpha mode and its gamma mode.
+ghost use Rattle.std.specs.Prelude.{◌≤◌};
+
 use crate::flaw::Flaw;
-use pix::bgr::{Bgr8, Bgr16, Bgra8, Bgra8p, Bgra16, Bgra16p, SBgr8, SBgra8, SBgra8p};
-use pix::chan::Channel;
-use pix::cmy::{Cmy8, Cmy16, Cmya8, Cmya8p, Cmya16, Cmya16p, SCmy8, SCmya8, SCmya8p};
-use pix::el::Pixel;
-use pix::gray::{Gray8, Gray16, Graya8, Graya8p, Graya16, Graya16p, SGray8, SGraya8, SGraya8p};
-use pix::hsl::{Hsl8, Hsl16, Hsla8, Hsla8p, Hsla16, Hsla16p, SHsl8, SHsla8, SHsla8p};
-use pix::hsv::{Hsv8, Hsv16, Hsva8, Hsva8p, Hsva16, Hsva16p, SHsv8, SHsva8, SHsva8p};
-use pix::hwb::{Hwb8, Hwb16, Hwba8, Hwba8p, Hwba16, Hwba16p, SHwb8, SHwba8, SHwba8p};
-use pix::matte::{Matte8, Matte16};
-use pix::rgb::{Rgb8, Rgb16, Rgba8, Rgba8p, Rgba16, Rgba16p, SRgb8, SRgba8, SRgba8p};
-use pix::xyz::{Xyz8, Xyz16, Xyza8, Xyza8p, Xyza16, Xyza16p};
-use pix::ycc::{YCbCr8, YCbCr16, YCbCra8, YCbCra8p, YCbCra16, YCbCra16p};
+use crate::models::{from_rgba8, from_rgba16, into_rgba8, into_rgba16};
+use pix::ColorModel;
+use pix::bgr::Bgr;
+use pix::chan::{Alpha, Ch8, Ch16, Channel, Gamma, Linear, Premultiplied, Srgb, Straight};
+use pix::cmy::Cmy;
+use pix::el::{Pix, Pixel};
+use pix::gray::Gray;
+use pix::hsl::Hsl;
+use pix::hsv::Hsv;
+use pix::hwb::Hwb;
+use pix::matte::Matte;
+use pix::rgb::Rgb;
+use pix::xyz::Xyz;
+use pix::ycc::YCbCr;
 use std::alloc::Global;
+
+/// What is done with a format.
+#[derive(Clone, Copy)]
+pub(crate) enum Task<'a> {
+    /// Describes it.
+    Describe,
+    /// Makes a color of it of red, green, blue and alpha.
+    FromRgba(&'a str),
+    /// Makes red, green, blue and alpha of a color of it.
+    IntoRgba(&'a str),
+}
+
+/// A color model.
+#[derive(Clone, Copy)]
+pub(crate) enum Model {
+    Rgb,
+    Bgr,
+    Cmy,
+    Gray,
+    Hsv,
+    Hsl,
+    Hwb,
+    YCbCr,
+    Xyz,
+    Matte,
+}
+
+/// A format, as its name spells it.
+#[derive(Clone, Copy)]
+pub(crate) struct Format {
+    pub model: Model,
+    pub is_wide: bool,
+    pub is_srgb: bool,
+    pub has_alpha: bool,
+    pub is_premultiplied: bool,
+}
+
+impl Format {
+    /// The format of a name, as `SRgba8p`.
+    pub(crate) fn of(name: &str) -> Result<Format, Flaw> {
+        let (is_srgb, name) = without(name, name.strip_prefix("S"));
+        let (is_premultiplied, name) = without(name, name.strip_suffix("p"));
+        let (is_wide, name) = without(name, name.strip_suffix("16"));
+        let (is_narrow, name) = without(name, name.strip_suffix("8"));
+        let (has_alpha, name) = without(name, name.strip_suffix("a"));
+        let model = model_of(name)?;
+        let has_srgb = !is_wide && !matches!(model, Model::YCbCr | Model::Xyz | Model::Matte);
+        let is_matte = matches!(model, Model::Matte);
+        if is_wide == is_narrow || is_srgb && !has_srgb || is_premultiplied && !has_alpha {
+            return Err(Flaw::Name);
+        }
+        if is_matte && has_alpha {
+            return Err(Flaw::Name);
+        }
+        Ok(Format {
+            model,
+            is_wide,
+            is_srgb,
+            has_alpha,
+            is_premultiplied,
+        })
+    }
+
+    /// Does a task for this format.
+    pub(crate) fn answer(self, task: Task, alloc: Global) -> Result<String, Flaw> {
+        match self.model {
+            Model::Rgb => self.of_model::<3, 4, Rgb>(task, alloc),
+            Model::Bgr => self.of_model::<3, 4, Bgr>(task, alloc),
+            Model::Cmy => self.of_model::<3, 4, Cmy>(task, alloc),
+            Model::Gray => self.of_model::<1, 2, Gray>(task, alloc),
+            Model::Hsv => self.of_model::<3, 4, Hsv>(task, alloc),
+            Model::Hsl => self.of_model::<3, 4, Hsl>(task, alloc),
+            Model::Hwb => self.of_model::<3, 4, Hwb>(task, alloc),
+            Model::YCbCr => self.of_model::<3, 4, YCbCr>(task, alloc),
+            Model::Xyz => self.of_model::<3, 4, Xyz>(task, alloc),
+            Model::Matte => self.of_mode::<1, Matte, Premultiplied>(task, alloc),
+        }
+    }
+
+    /// Does a task for this format of a model, which has `N` channels without an alpha and `K` with one.
+    fn of_model<const N: usize, const K: usize, M>(
+        self,
+        task: Task,
+        alloc: Global,
+    ) -> Result<String, Flaw>
+    where
+        M: ColorModel,
+        requires plain { N ≤ 4 }
+        requires alpha { K ≤ 4 }
+    {
+        if self.is_premultiplied {
+            self.of_mode::<K, M, Premultiplied>(task, alloc)
+        } else if self.has_alpha {
+            self.of_mode::<K, M, Straight>(task, alloc)
+        } else {
+            self.of_mode::<N, M, Straight>(task, alloc)
+        }
+    }
+
+    /// Does a task for this format of a model and an alpha mode, which has `N` channels.
+    fn of_mode<const N: usize, M, A>(self, task: Task, alloc: Global) -> Result<String, Flaw>
+    where
+        M: ColorModel,
+        A: Alpha,
+        requires { N ≤ 4 }
+    {
+        if self.is_wide {
+            sixteen::<N, M, A>(task, alloc)
+        } else if self.is_srgb {
+            eight::<N, M, A, Srgb>(task, alloc)
+        } else {
+            eight::<N, M, A, Linear>(task, alloc)
+        }
+    }
+}
+
+/// Does a task for a format of eight bits.
+fn eight<const N: usize, M, A, G>(task: Task, alloc: Global) -> Result<String, Flaw>
+where
+    M: ColorModel,
+    A: Alpha,
+    G: Gamma<Ch8>,
+    requires { N ≤ 4 }
+{
+    match task {
+        Task::Describe => description::<Pix<N, Ch8, M, A, G>>(alloc),
+        Task::FromRgba(word) => from_rgba8::<N, M, A, G>(word, alloc),
+        Task::IntoRgba(word) => into_rgba8::<N, M, A, G>(word, alloc),
+    }
+}
+
+/// Does a task for a linear format of sixteen bits.
+fn sixteen<const N: usize, M, A>(task: Task, alloc: Global) -> Result<String, Flaw>
+where
+    M: ColorModel,
+    A: Alpha,
+    requires { N ≤ 4 }
+{
+    match task {
+        Task::Describe => description::<Pix<N, Ch16, M, A, Linear>>(alloc),
+        Task::FromRgba(word) => from_rgba16::<N, M, A>(word, alloc),
+        Task::IntoRgba(word) => into_rgba16::<N, M, A>(word, alloc),
+    }
+}
+
+/// Whether a part of a name is there, and the name without it.
+fn without<'a>(name: &'a str, rest: Option<&'a str>) -> (bool, &'a str) {
+    match rest {
+        Some(rest) => (true, rest),
+        None => (false, name),
+    }
+}
+
+/// The color model of a name.
+fn model_of(name: &str) -> Result<Model, Flaw> {
+    match name {
+        "Rgb" => Ok(Model::Rgb),
+        "Bgr" => Ok(Model::Bgr),
+        "Cmy" => Ok(Model::Cmy),
+        "Gray" => Ok(Model::Gray),
+        "Hsv" => Ok(Model::Hsv),
+        "Hsl" => Ok(Model::Hsl),
+        "Hwb" => Ok(Model::Hwb),
+        "YCbCr" => Ok(Model::YCbCr),
+        "Xyz" => Ok(Model::Xyz),
+        "Matte" => Ok(Model::Matte),
+        _ => Err(Flaw::Name),
+    }
+}
 
 /// `Rgb8`: a format, which is described by its count of channels, their maximum, its color model,
 /// its alpha mode and its gamma mode.
@@ -20,111 +196,7 @@ pub(crate) fn described(words: &[&str], alloc: Global) -> Result<String, Flaw> {
     let &[format] = words else {
         return Err(Flaw::Count);
     };
-    if format.starts_with('S') {
-        srgb(format, alloc)
-    } else if format.contains("16") {
-        linear16(format, alloc)
-    } else {
-        linear8(format, alloc)
-    }
-}
-
-/// Describes a linear format of eight bits.
-fn linear8(name: &str, alloc: Global) -> Result<String, Flaw> {
-    match name {
-        "Rgb8" => description::<Rgb8>(alloc),
-        "Rgba8" => description::<Rgba8>(alloc),
-        "Rgba8p" => description::<Rgba8p>(alloc),
-        "Bgr8" => description::<Bgr8>(alloc),
-        "Bgra8" => description::<Bgra8>(alloc),
-        "Bgra8p" => description::<Bgra8p>(alloc),
-        "Cmy8" => description::<Cmy8>(alloc),
-        "Cmya8" => description::<Cmya8>(alloc),
-        "Cmya8p" => description::<Cmya8p>(alloc),
-        "Gray8" => description::<Gray8>(alloc),
-        "Graya8" => description::<Graya8>(alloc),
-        "Graya8p" => description::<Graya8p>(alloc),
-        "Hsv8" => description::<Hsv8>(alloc),
-        "Hsva8" => description::<Hsva8>(alloc),
-        "Hsva8p" => description::<Hsva8p>(alloc),
-        "Hsl8" => description::<Hsl8>(alloc),
-        "Hsla8" => description::<Hsla8>(alloc),
-        "Hsla8p" => description::<Hsla8p>(alloc),
-        "Hwb8" => description::<Hwb8>(alloc),
-        "Hwba8" => description::<Hwba8>(alloc),
-        "Hwba8p" => description::<Hwba8p>(alloc),
-        "YCbCr8" => description::<YCbCr8>(alloc),
-        "YCbCra8" => description::<YCbCra8>(alloc),
-        "YCbCra8p" => description::<YCbCra8p>(alloc),
-        "Xyz8" => description::<Xyz8>(alloc),
-        "Xyza8" => description::<Xyza8>(alloc),
-        "Xyza8p" => description::<Xyza8p>(alloc),
-        "Matte8" => description::<Matte8>(alloc),
-        _ => Err(Flaw::Name),
-    }
-}
-
-/// Describes a linear format of sixteen bits.
-fn linear16(name: &str, alloc: Global) -> Result<String, Flaw> {
-    match name {
-        "Rgb16" => description::<Rgb16>(alloc),
-        "Rgba16" => description::<Rgba16>(alloc),
-        "Rgba16p" => description::<Rgba16p>(alloc),
-        "Bgr16" => description::<Bgr16>(alloc),
-        "Bgra16" => description::<Bgra16>(alloc),
-        "Bgra16p" => description::<Bgra16p>(alloc),
-        "Cmy16" => description::<Cmy16>(alloc),
-        "Cmya16" => description::<Cmya16>(alloc),
-        "Cmya16p" => description::<Cmya16p>(alloc),
-        "Gray16" => description::<Gray16>(alloc),
-        "Graya16" => description::<Graya16>(alloc),
-        "Graya16p" => description::<Graya16p>(alloc),
-        "Hsv16" => description::<Hsv16>(alloc),
-        "Hsva16" => description::<Hsva16>(alloc),
-        "Hsva16p" => description::<Hsva16p>(alloc),
-        "Hsl16" => description::<Hsl16>(alloc),
-        "Hsla16" => description::<Hsla16>(alloc),
-        "Hsla16p" => description::<Hsla16p>(alloc),
-        "Hwb16" => description::<Hwb16>(alloc),
-        "Hwba16" => description::<Hwba16>(alloc),
-        "Hwba16p" => description::<Hwba16p>(alloc),
-        "YCbCr16" => description::<YCbCr16>(alloc),
-        "YCbCra16" => description::<YCbCra16>(alloc),
-        "YCbCra16p" => description::<YCbCra16p>(alloc),
-        "Xyz16" => description::<Xyz16>(alloc),
-        "Xyza16" => description::<Xyza16>(alloc),
-        "Xyza16p" => description::<Xyza16p>(alloc),
-        "Matte16" => description::<Matte16>(alloc),
-        _ => Err(Flaw::Name),
-    }
-}
-
-/// Describes a format in sRGB.
-fn srgb(name: &str, alloc: Global) -> Result<String, Flaw> {
-    match name {
-        "SRgb8" => description::<SRgb8>(alloc),
-        "SRgba8" => description::<SRgba8>(alloc),
-        "SRgba8p" => description::<SRgba8p>(alloc),
-        "SBgr8" => description::<SBgr8>(alloc),
-        "SBgra8" => description::<SBgra8>(alloc),
-        "SBgra8p" => description::<SBgra8p>(alloc),
-        "SCmy8" => description::<SCmy8>(alloc),
-        "SCmya8" => description::<SCmya8>(alloc),
-        "SCmya8p" => description::<SCmya8p>(alloc),
-        "SGray8" => description::<SGray8>(alloc),
-        "SGraya8" => description::<SGraya8>(alloc),
-        "SGraya8p" => description::<SGraya8p>(alloc),
-        "SHsv8" => description::<SHsv8>(alloc),
-        "SHsva8" => description::<SHsva8>(alloc),
-        "SHsva8p" => description::<SHsva8p>(alloc),
-        "SHsl8" => description::<SHsl8>(alloc),
-        "SHsla8" => description::<SHsla8>(alloc),
-        "SHsla8p" => description::<SHsla8p>(alloc),
-        "SHwb8" => description::<SHwb8>(alloc),
-        "SHwba8" => description::<SHwba8>(alloc),
-        "SHwba8p" => description::<SHwba8p>(alloc),
-        _ => Err(Flaw::Name),
-    }
+    Format::of(format)?.answer(Task::Describe, alloc)
 }
 
 /// The description of a format.

@@ -6,6 +6,7 @@
 //! `cases.rt` says what a line is, and `classes.rt` lists the classes.
 #![tactic(auto)]
 
+mod aliases;
 mod buffers;
 mod cases;
 mod channels;
@@ -31,6 +32,7 @@ use std::process::ExitCode;
 use std::{env, fs, io};
 
 fn main(rt: HostRuntime) -> ExitCode {
+    aliases::compare();
     match run_files(&rt) {
         Ok(tally) if tally.wrong == 0 => ExitCode::SUCCESS,
         Ok(_) => ExitCode::FAILURE,
