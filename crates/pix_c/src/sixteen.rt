@@ -233,23 +233,6 @@ pub(crate) struct CompositedColor<P, O> {
     pub(crate) op: O,
 }
 
-/// Composites a color with the pixels of a row.
-#[inline(always)]
-fn color_parts<P: Pixel<Alpha = Premultiplied, Gamma = Linear>, O: Blend>(
-    row: &mut [P],
-    clr: &P,
-    op: O,
-)
-    requires { P.layout.count ≡ P.layout.alpha + 1 }
-    ensures { map P.numbers row.new ≡
-        map (pixel_composite P.layout O.op (P.numbers clr.now)) (map P.numbers row.old) }
-{
-    let count = row.len();
-    let part = first_part::<P>(count);
-    P::composite_color(&mut row[0..part], clr, op);
-    P::composite_color(&mut row[part..count], clr, op);
-}
-
 /// Composites a color with sixteen pixels in memory.
 #[inline(always)]
 fn color_sixteen<P: Pixel<Alpha = Premultiplied, Gamma = Linear>, D: FlatPixel<P>, O: Blend>(
@@ -263,7 +246,7 @@ fn color_sixteen<P: Pixel<Alpha = Premultiplied, Gamma = Linear>, D: FlatPixel<P
 {
     let mut pixels = [P::default(); 16];
     read_pixels::<P, D>(part, &mut pixels);
-    color_parts(&mut pixels, clr, op);
+    P::composite_color(&mut pixels, clr, op);
     write_pixels(part, &pixels);
 }
 
