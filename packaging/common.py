@@ -15,8 +15,8 @@ from typing import NamedTuple, Optional
 TOP = pathlib.Path(__file__).resolve().parent.parent
 HERE = TOP / "packaging"
 CALLS = [
-    "pix_convert_bytes", "pix_layout", "pix_run_commands", "pix_run_commands_graya8", "pix_run_commands_rgba16",
-    "pix_run_window", "pix_run_window_graya8", "pix_run_window_rgba16",
+    "pix_convert_bytes", "pix_convert_rows", "pix_layout", "pix_pixel_size", "pix_run_commands", "pix_run_commands_graya8",
+    "pix_run_commands_rgba16", "pix_run_window", "pix_run_window_graya8", "pix_run_window_rgba16",
 ]  # fmt: skip
 
 

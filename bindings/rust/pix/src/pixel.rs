@@ -1,5 +1,6 @@
 //! Pixels and regions.
 
+use crate::format::Format;
 use core::slice;
 
 pub use pix_sys::{Graya8, Region, Rgba8, Rgba16};
@@ -8,6 +9,9 @@ pub use pix_sys::{Graya8, Region, Rgba8, Rgba16};
 pub trait Pixel: Copy + Default + private::Calls<Self::Matte> {
     /// A value of a mask, from 0 (none of the color is composited) to the maximum (all of it).
     type Matte: Copy;
+
+    /// The format of such pixels in a bitmap.
+    const FORMAT: Format;
 }
 
 pub(crate) mod private {
@@ -21,6 +25,8 @@ pub(crate) mod private {
 
 impl Pixel for Rgba8 {
     type Matte = u8;
+
+    const FORMAT: Format = Format::Rgba8p;
 }
 
 impl private::Calls<u8> for Rgba8 {
@@ -29,6 +35,8 @@ impl private::Calls<u8> for Rgba8 {
 
 impl Pixel for Rgba16 {
     type Matte = u16;
+
+    const FORMAT: Format = Format::Rgba16p;
 }
 
 impl private::Calls<u16> for Rgba16 {
@@ -37,6 +45,8 @@ impl private::Calls<u16> for Rgba16 {
 
 impl Pixel for Graya8 {
     type Matte = u8;
+
+    const FORMAT: Format = Format::Graya8p;
 }
 
 impl private::Calls<u8> for Graya8 {
