@@ -251,8 +251,9 @@ def places(number):
 def try_budget(browser):
     """At each of many pixels, the page tells the pixel, the exact one, how far apart they are and the budget, and the bound of so many commands."""
     script = re.sub(r"^(keep|comp .*)\n", "", of(browser, "script", "value"), flags=re.M)
+    script += "paint Src 20 20 9 9 70605080\npaint SrcIn 24 20 9 9 40506070\npaint DestAtop 20 24 9 9 0A0B0C0D\n"
     enter(browser, "script", script)
-    for x, y in [(0, 0), (2, 2), (30, 20), (40, 30), (33, 33), (63, 47)]:
+    for x, y in [(0, 0), (2, 2), (20, 20), (28, 28), (30, 20), (40, 30), (33, 33), (44, 10), (10, 44), (63, 47)]:
         enter(browser, "pixel-x", str(x))
         enter(browser, "pixel-y", str(y))
         pixel, exact, budget, count, is_listed = worked_out(script, x, y)

@@ -50,8 +50,7 @@ function repaint(library) {
 
 // Shows the picture, as large as it goes by whole factors, and its pixel.
 function showPicture(library) {
-    element('picture').hidden = !painting;
-    element('pixel').hidden = !painting;
+    for (const part of ['picture', 'pixel', 'steps']) element(part).hidden = !painting;
     if (!painting) return;
     const { image } = painting;
     const top = library.top;
