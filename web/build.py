@@ -108,10 +108,24 @@ def prove(folder):
     (folder / "VERDICT").write_text(f"{verdicts[-1]}\n")
 
 
+def kit():
+    """Returns the folder of the kit."""
+    return pathlib.Path(run("rt", "doc").strip()).parent
+
+
+def stand_in(archive):
+    """Builds an archive that stands in for the proved one, of bindings/c/other.c, by the kit's compiler."""
+    made, here = archive.with_suffix(".o"), TOP / "web/stand-in"
+    archive.parent.mkdir(parents=True, exist_ok=True)
+    options = ["-std=c11", "-O2", "-ffreestanding", "-nostdinc", "-isystem", here, "-I", TOP / "bindings/c"]
+    run(kit() / "toolchain/bin/clang", f"--target={TARGET}", *options, "-c", here / "stand-in.c", "-o", made)
+    archive.unlink(missing_ok=True)
+    run(kit() / "toolchain/bin/llvm-ar", "rcsD", archive, made)
+
+
 def link(archive, module):
     """Links an archive for WebAssembly into a module."""
-    kit = pathlib.Path(run("rt", "doc").strip()).parent
-    run(kit / "bin/rattle-link", "--target", TARGET, "--toolchain", kit / "toolchain", "-o", module, archive)
+    run(kit() / "bin/rattle-link", "--target", TARGET, "--toolchain", kit() / "toolchain", "-o", module, archive)
 
 
 def build_module(folder):

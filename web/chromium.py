@@ -168,9 +168,10 @@ class Browser:
         self.ask("Emulation.setEmulatedMedia", features=[{"name": "prefers-color-scheme", "value": scheme}])
         self.frames()
 
-    def picture(self, path, height=None):
-        """Writes a picture of the page, down to a height or all of it."""
-        size = self.ask("Page.getLayoutMetrics")["cssContentSize"]
-        clip = {"x": 0, "y": 0, "width": size["width"], "height": height or size["height"], "scale": 1}
-        made = self.ask("Page.captureScreenshot", format="png", captureBeyondViewport=True, clip=clip)
-        pathlib.Path(path).write_bytes(base64.b64decode(made["data"]))
+    def picture(self, first, last):
+        """Returns a picture of the page as the bytes of a PNG file: from the top of one element to the bottom of another."""
+        code = """['%s', '%s'].map((id) => document.getElementById(id).getBoundingClientRect()).map((box, at) => (at ? box.bottom : box.top) + scrollY)"""
+        top, bottom = self.run(code % (first, last))
+        width = self.run("document.documentElement.clientWidth")
+        clip = {"x": 0, "y": top, "width": width, "height": bottom - top + 16, "scale": 1}
+        return base64.b64decode(self.ask("Page.captureScreenshot", format="png", captureBeyondViewport=True, clip=clip)["data"])

@@ -16,6 +16,8 @@ EXAMPLES = TOP / "crates/pix_examples/data"
 ROWS = TOP / "crates/pix_cases/data/scripts.txt"
 OPERATORS = model.operators((TOP / "docs/FORMATS.md").read_text(encoding="utf-8"))
 ORDER = re.findall(r"^row (\w+) =", (TOP / "crates/pix_ops/specs/Operators.antt").read_text(encoding="utf-8"), re.M)
+# The pictures of the page in pictures/: whether the page is light or dark, and the first and the last element that each shows.
+PICTURES = {"web.png": ("light", "page", "operators"), "web-dark.png": ("dark", "scripts", "text")}
 
 
 def wants(what, made, wanted):
@@ -329,6 +331,33 @@ def brightness(color):
     levels = [channel / 255 for channel in bytes.fromhex(color[1:])]
     light = [level / 12.92 if level <= 0.04045 else ((level + 0.055) / 1.055) ** 2.4 for level in levels]
     return 0.2126 * light[0] + 0.7152 * light[1] + 0.0722 * light[2]
+
+
+def take(browser, name):
+    """Returns a picture of the page as it is at first."""
+    scheme, first, last = PICTURES[name]
+    browser.look(1280, scheme)
+    browser.open(browser.run("location.href"), READY)
+    return browser.picture(first, last)
+
+
+def try_pictures(browser):
+    """The pictures of the page look as those in pictures/, but for a pixel in fifty: another browser or other fonts draw letters a little otherwise."""
+    for name in PICTURES:
+        (TOP / "out" / name).write_bytes(take(browser, name))
+        files = [base64.b64encode((TOP / folder / name).read_bytes()).decode() for folder in ("out", "pictures")]
+        code = f"""Promise.all({json.dumps(files)}.map(async (file) => {{
+            const image = new Image();
+            image.src = `data:image/png;base64,${{file}}`;
+            await image.decode();
+            const context = new OffscreenCanvas(image.width, image.height).getContext('2d');
+            context.drawImage(image, 0, 0);
+            return context.getImageData(0, 0, image.width, image.height);
+        }})).then(([one, two]) => [one.width - two.width, one.height - two.height,
+            one.data.filter((channel, at) => Math.abs(channel - two.data[at]) > 32).length / one.data.length])"""
+        width, height, share = browser.run(code)
+        wants(f"the size of out/{name} beside pictures/{name}", [width, height], [0, 0])
+        wants(f"whether out/{name} looks as pictures/{name}", share < 0.02, True)
 
 
 def try_alone(browser):
