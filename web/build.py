@@ -138,6 +138,8 @@ def build_module(folder):
         link(folder / "libpix_c.a", folder / "pix_c.wasm")
         (folder / "sources").write_text(sources)
     commit = run("git", "log", "-1", "--format=%H", cwd=TOP).strip()
+    if run("git", "status", "--porcelain", "--", "crates", "crates.txt", "bindings", "web", cwd=TOP):
+        commit += ", with changes that no commit has"
     return {"commit": commit, "kit": run("rt", "version").strip(), "verdict": (folder / "VERDICT").read_text().strip()}
 
 

@@ -142,11 +142,14 @@ def try_tab(browser):
     """The Tab key goes through all that can be used, in the order of the page, and each has a name for a screen reader."""
     wanted = browser.run("""[...document.querySelectorAll('a, button, input, select, textarea, canvas, summary, [tabindex]')]
         .filter((it) => it.tabIndex >= 0 && it.checkVisibility() && (it.type !== 'radio' || it.checked)).length""")
-    browser.run("document.activeElement?.blur(), window.scrollTo(0, 0), document.querySelector('.skip').focus()")
     seen = []
     for _ in range(wanted):
-        seen.append(browser.run("{ const it = document.activeElement; [...document.querySelectorAll('*')].indexOf(it) }"))
         browser.key("Tab")
+        place, is_marked = browser.run("""{ const it = document.activeElement, at = it.type === 'radio' ? it.parentElement : it;
+            const { outlineStyle, boxShadow } = getComputedStyle(at);
+            [[...document.querySelectorAll('*')].indexOf(it), outlineStyle !== 'none' || boxShadow !== 'none'] }""")
+        wants("whether the focus is seen", is_marked, True)
+        seen.append(place)
     wants("the stops of the Tab key", seen, sorted(set(seen)))
     for node in browser.ask("Accessibility.getFullAXTree")["nodes"]:
         role = node.get("role", {}).get("value")
@@ -160,6 +163,9 @@ def try_examples(browser):
     listed = browser.run("[...document.getElementById('example').options].map((it) => it.text)")
     names = sorted(path.stem for path in EXAMPLES.glob("*.paint"))
     wants("the examples", listed[1:], names)
+    wants("what is printed while nobody looks", of(browser, "printed", "textContent"), "")
+    browser.run("document.querySelector('#print summary').click()")
+    browser.wait_for("document.getElementById('printed').textContent.startsWith('f4e8d0ff ')")
     for name in names:
         wanted = (EXAMPLES / f"{name}.txt").read_text()
         browser.run("document.getElementById('printed').textContent = '?'")

@@ -8,8 +8,9 @@ const CHANNELS = ['red', 'green', 'blue', 'alpha'];
 const STEPS = { ArrowLeft: [-1, 0], ArrowRight: [1, 0], ArrowUp: [0, -1], ArrowDown: [0, 1] };
 const MOST = 1000;
 const SHOWN = 200;
-// What the page shows: a painting, or null where the script has a fault or makes no picture.
-let painting = null;
+// What the page shows: a painting, or null where the script has a fault or makes no picture; and the image of a script
+// without a fault, or null.
+let painting = null, image = null;
 
 const node = (name, text) => Object.assign(document.createElement(name), { textContent: text });
 
@@ -30,29 +31,33 @@ function selectLine(number) {
 
 // Paints the script of the field.
 function repaint(library) {
-    painting = null;
+    painting = image = null;
     const line = element('to-fault');
     line.hidden = true;
     try {
         const made = paint(library, new TextEncoder().encode(element('script').value));
         showFault('');
-        if (made.image && made.image.width * made.image.height > 0) painting = made;
-        element('printed').textContent = printed(library, made.image);
+        image = made.image;
+        if (image && image.width * image.height > 0) painting = made;
     } catch (fault) {
         showFault(fault.message);
-        element('printed').textContent = '';
         line.hidden = !fault.line;
         line.textContent = `Go to line ${fault.line}`;
         line.onclick = () => selectLine(fault.line);
     }
+    print(library);
     showPicture(library);
+}
+
+// Prints the picture as text, where the visitor looks at that: a large one takes a while.
+function print(library) {
+    element('printed').textContent = element('print').open ? printed(library, image) : '';
 }
 
 // Shows the picture, as large as it goes by whole factors, and its pixel.
 function showPicture(library) {
     for (const part of ['picture', 'pixel', 'steps']) element(part).hidden = !painting;
     if (!painting) return;
-    const { image } = painting;
     const top = library.top;
     show(library, image, checkerboard(library, image.width, image.height, false), element('painted'), false);
     library.top = top;
@@ -68,7 +73,6 @@ function showPicture(library) {
 
 // Shows the history of the chosen pixel.
 function showPixel(library) {
-    const { image } = painting;
     const [x, y] = ['x', 'y'].map((axis) => Number(element(`pixel-${axis}`).value) || 0);
     const mark = element('mark').style;
     mark.left = `${(100 * x) / image.width}%`;
@@ -130,7 +134,7 @@ function stepRow({ line, text, pixel, exact, budget }) {
 
 // Chooses a pixel, within the picture.
 function choose(x, y, redraw) {
-    const { width, height } = painting.image;
+    const { width, height } = image;
     element('pixel-x').value = Math.min(width - 1, Math.max(0, x));
     element('pixel-y').value = Math.min(height - 1, Math.max(0, y));
     redraw();
@@ -172,6 +176,7 @@ export async function showScripts(library) {
     element('example').append(...examples.map((name) => Object.assign(node('option', name), { value: `examples/${name}.paint` })));
     element('example').addEventListener('change', (event) => load(library, event.target.value));
     element('script').addEventListener('input', onceAFrame(() => repaint(library)));
+    element('print').addEventListener('toggle', () => print(library));
     listen(onceAFrame(() => { if (painting) showPixel(library); }));
     await load(library, element('example').value);
     onTheme(() => showPicture(library));
