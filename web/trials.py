@@ -18,6 +18,8 @@ OPERATORS = model.operators((TOP / "docs/FORMATS.md").read_text(encoding="utf-8"
 ORDER = re.findall(r"^row (\w+) =", (TOP / "crates/pix_ops/specs/Operators.antt").read_text(encoding="utf-8"), re.M)
 # The pictures of the page in pictures/: whether the page is light or dark, and the first and the last element that each shows.
 PICTURES = {"web.png": ("light", "page", "operators"), "web-dark.png": ("dark", "scripts", "text")}
+# The roles of what has to have a name.
+NAMED = "button slider textbox spinbutton checkbox radio combobox ColorWell img image application meter link region table".split()
 
 
 def wants(what, made, wanted):
@@ -153,7 +155,7 @@ def try_tab(browser):
     wants("the stops of the Tab key", seen, sorted(set(seen)))
     for node in browser.ask("Accessibility.getFullAXTree")["nodes"]:
         role = node.get("role", {}).get("value")
-        if not node.get("ignored") and role in ("button", "slider", "textbox", "spinbutton", "checkbox", "radio", "combobox", "img", "image", "application", "meter", "ColorWell"):
+        if not node.get("ignored") and role in NAMED:
             if not node.get("name", {}).get("value", "").strip():
                 raise Failed(f"a {role} has no name")
 
@@ -307,7 +309,8 @@ def try_library(browser):
         return [isTaken(answer), isTaken((index) => answer(index) + (index === 0)), isTaken((index) => index === FACTS.length ? 4 : answer(index))];
     })"""
     wants("which libraries are taken", browser.run(code), [True, False, False])
-    code = """Promise.all([import('./library.js'), fetch('pix_c.wasm').then((file) => file.arrayBuffer())]).then(async ([{ Library, copyImage, whole }, bytes]) => {
+    code = """import('./library.js').then(async ({ Library, copyImage, whole }) => {
+        const bytes = await (await fetch('pix_c.wasm')).arrayBuffer();
         const library = await Library.of(await WebAssembly.compile(bytes));
         const image = library.image(2, 2);
         const said = (command) => { try { library.run(image, [command]); return 'done'; } catch (error) { return error.message; } };
@@ -380,12 +383,14 @@ def try_without_memory64(browser):
     browser.ask("Page.removeScriptToEvaluateOnNewDocument", identifier=made["identifier"])
     wants("whether it is said", "memory64" in of(browser, "state", "textContent"), True)
     wants("whether it is an alert", of(browser, "state", "role"), "alert")
-    wants("what is hidden and shown", [browser.run(f"document.getElementById('{it}').checkVisibility()") for it in ("parts", "proof", "hues")], [False, True, True])
+    for part, is_shown in [("parts", False), ("proof", True), ("hues", True)]:
+        wants(f"whether {part} is shown", of(browser, part, "checkVisibility()"), is_shown)
 
 
 def try_a_module_that_is_missing(browser):
     """Where the module isn't there, the page says so."""
-    made = browser.ask("Page.addScriptToEvaluateOnNewDocument", source="{ const real = fetch; window.fetch = (file) => real(`${file}`.replace('pix_c', 'none')); }")
+    source = "{ const real = fetch; window.fetch = (file) => real(`${file}`.replace('pix_c', 'none')); }"
+    made = browser.ask("Page.addScriptToEvaluateOnNewDocument", source=source)
     url = browser.run("location.href")
     browser.open(url, "document.getElementById('state')?.className === 'bad'")
     browser.ask("Page.removeScriptToEvaluateOnNewDocument", identifier=made["identifier"])

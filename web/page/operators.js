@@ -31,7 +31,8 @@ function imageOf(library, side, isLight) {
     const { x, y, color } = shapeOf(side);
     const image = library.image(WIDTH, HEIGHT);
     const mask = library.mask(SIDE, SIDE, SHAPES[side]);
-    library.run(image, [compositeMask(SRC, [x, y, SIDE, SIDE], mask, whole(mask), premultiplied(library, color, isLight))]);
+    const full = premultiplied(library, color, isLight);
+    library.run(image, [compositeMask(SRC, [x, y, SIDE, SIDE], mask, whole(mask), full)]);
     return image;
 }
 
@@ -60,8 +61,9 @@ function say(library, isLight) {
     library.run(pixel, [copyColor(whole(pixel), dest), compositeImage(chosen(), whole(pixel), one, whole(one))]);
     const words = [source, dest, Array.from(library.pixels(pixel))].map((channels) => channels.join(' '));
     const { name } = OPERATORS[chosen()];
-    element('overlap').textContent = `Where they overlap: source ${words[0]}, destination ${words[1]}, ${name} ${words[2]}.`;
-    element('stage').setAttribute('aria-label', `The picture of ${name}. ${element('overlap').textContent}`);
+    const said = `Where they overlap: source ${words[0]}, destination ${words[1]}, ${name} ${words[2]}.`;
+    element('overlap').textContent = said;
+    element('stage').setAttribute('aria-label', `The picture of ${name}. ${said}`);
 }
 
 function placeHandles() {
@@ -115,7 +117,8 @@ function choices() {
     return OPERATORS.map((operator, number) => {
         const label = document.createElement('label');
         const canvas = Object.assign(document.createElement('canvas'), { id: `operator-${number}` });
-        const choice = Object.assign(document.createElement('input'), { type: 'radio', name: 'operator', value: number });
+        const choice = document.createElement('input');
+        Object.assign(choice, { type: 'radio', name: 'operator', value: number });
         choice.defaultChecked = operator.name === 'SrcOver';
         const name = Object.assign(document.createElement('span'), { textContent: operator.name });
         const term = Object.assign(document.createElement('small'), { textContent: formula(operator) });

@@ -107,7 +107,8 @@ function showDistances({ pixel, exact, budget }) {
         const most = (index < 3 ? budget.channel : budget.alpha) / 2;
         const row = document.createElement('tr');
         row.append(Object.assign(node('th', name), { scope: 'row' }), node('td', pixel[index]),
-            node('td', decimal(exact.channels[index], exact.whole)), node('td', decimal(apart, whole)), node('td', most));
+            node('td', decimal(exact.channels[index], exact.whole)), node('td', decimal(apart, whole)),
+            node('td', most));
         row.append(meter(name, Number(decimal(apart, whole)), most));
         return row;
     });
@@ -155,7 +156,8 @@ function listen(redraw) {
         if (!step) return;
         event.preventDefault();
         const far = event.shiftKey ? 10 : 1;
-        choose(Number(element('pixel-x').value) + far * step[0], Number(element('pixel-y').value) + far * step[1], redraw);
+        const [x, y] = ['x', 'y'].map((axis) => Number(element(`pixel-${axis}`).value));
+        choose(x + far * step[0], y + far * step[1], redraw);
     });
     for (const axis of ['x', 'y']) {
         element(`pixel-${axis}`).addEventListener('input', (event) => {
@@ -173,7 +175,8 @@ async function load(library, file) {
 // Shows scripts, by an instance of the library of their own.
 export async function showScripts(library) {
     const examples = await (await fetch('examples/list.json')).json();
-    element('example').append(...examples.map((name) => Object.assign(node('option', name), { value: `examples/${name}.paint` })));
+    const options = examples.map((name) => Object.assign(node('option', name), { value: `examples/${name}.paint` }));
+    element('example').append(...options);
     element('example').addEventListener('change', (event) => load(library, event.target.value));
     element('script').addEventListener('input', onceAFrame(() => repaint(library)));
     element('print').addEventListener('toggle', () => print(library));

@@ -24,7 +24,8 @@ function drawOn(library, canvas, isLight) {
     library.run(image, [...bars, text]);
     put(library, image, canvas, isLight);
     const way = isLight ? 'in linear light' : 'on the bytes as they are';
-    canvas.setAttribute('aria-label', `The text “${element('words').value}” over bars from dark to bright, composited ${way}.`);
+    const words = element('words').value;
+    canvas.setAttribute('aria-label', `The text “${words}” over bars from dark to bright, composited ${way}.`);
 }
 
 // Shows the text, by an instance of the library of its own.
