@@ -4,9 +4,10 @@ import { CALLS, FACTS, FORMATS, KINDS, STATUSES } from './facts.js';
 
 const PAGE = 65536;
 const NO_FACT = 0xffffffff;
-// The fields of a command that `writeCommand` sets: a library whose commands have another one is refused.
-const FIELDS = ['size', 'kind', 'op', 'to', 'from', 'color', 'pixels', 'pixel_count', 'mattes', 'matte_count',
-    'width', 'height', 'stride'];
+// The fields of a command that `writeCommand` sets. Others may be 0, but no slice may: each has a field for its count.
+const FIELDS = ['kind', 'op', 'to', 'from', 'color', 'pixels', 'pixel_count', 'mattes', 'matte_count', 'width', 'height',
+    'stride'];
+const isCount = (field) => field.endsWith('_count');
 const EVERYWHERE = [0, 0, 0, 0];
 
 // Commands, as the header's functions make them. A region is [x, y, width, height], a color [red, green, blue, alpha],
@@ -33,7 +34,9 @@ export function layoutOf(answer) {
         (layout[type] ??= {})[field] = answer(index);
     });
     const fields = Object.keys(layout.pix_command);
-    const isKnown = answer(0) === CALLS && answer(FACTS.length) === NO_FACT && `${fields}` === `${FIELDS}`;
+    const hasFields = FIELDS.every((field) => fields.includes(field))
+        && fields.filter(isCount).length === FIELDS.filter(isCount).length;
+    const isKnown = answer(0) === CALLS && answer(FACTS.length) === NO_FACT && hasFields;
     if (!isKnown) throw new Error('The library has another version or layout than this page.');
     return layout;
 }
