@@ -145,6 +145,7 @@ class Viewer(Trial):
                 self.assert_same(picture, wanted)
                 if depth == 24:
                     self.look_at_screen(size, first, environment)
+                    self.look_at_screen(size, wanted, environment, "--play", words + " wait=60000")
 
     @contextlib.contextmanager
     def x_server(self, depth):
@@ -156,15 +157,15 @@ class Viewer(Trial):
             finally:
                 server.terminate()
 
-    def look_at_screen(self, size, wanted, environment):
+    def look_at_screen(self, size, wanted, environment, *words):
         """Waits until a viewer that goes on shows the leaf, and ends it as a desktop would."""
-        command = [*self.program, "--size", "%dx%d" % size, "--save", self.folder / "ended.png", LEAF]
+        command = [*self.program, "--size", "%dx%d" % size, *words, "--save", self.folder / "ended.png", LEAF]
         with subprocess.Popen([str(word) for word in command], env={**os.environ, **environment}) as viewer:
             try:
                 for _ in range(100):
                     time.sleep(0.1)
                     screen = self.screen()
-                    if screen.getbbox() and screen.crop(screen.getbbox()).size == size:
+                    if screen.getbbox() and screen.crop(screen.getbbox()).tobytes() == wanted.convert("RGB").tobytes():
                         break
                 self.assert_same(screen.crop(screen.getbbox()), wanted.convert("RGB"))
             finally:
@@ -187,7 +188,8 @@ class Viewer(Trial):
             ("name a PNG or JPEG file",), ("one file is shown at a time", LEAF, LEAF), ("--wide: there is no such option", "--wide", LEAF),
             ("--size: a value is missing", LEAF, "--size"), ("a size is WxH", "--size", "0x4", LEAF), ("a size is WxH", "--size", "9", LEAF),
             ("a size is WxH", "--size", "9x9x9", LEAF), ("a size is WxH", "--size", "16385x9", LEAF),
-            ("no key has this name", "--play", "Hop", LEAF), ("no key has this name", "--play", "wheel=1", LEAF),
+            ("no key has this name", "--play", "Hop", LEAF), ("no key has this name", "--play", "wait=-1", LEAF),
+            ("no key has this name", "--play", "wheel=1", LEAF),
         ]:  # fmt: skip
             self.refuses(2, sentence, *words)
 
