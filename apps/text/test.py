@@ -46,6 +46,8 @@ class Text(Trial):
     def test_the_atlas_has_each_mask_once(self):
         self.write("--no-kerning", "llllllllllllllllllllllllllllll")
         self.assertIn(self.masks, (2, 3, 4))
+        self.write("--no-kerning", "abcdefghijklmnop")
+        self.assertEqual(self.masks, 16)
         atlas = self.folder / "atlas.png"
         self.write("--atlas", atlas, "ab")
         self.assertEqual(self.masks, 2)

@@ -87,14 +87,19 @@ class Viewer(Trial):
             self.assert_same(picture, noisy.resize(picture.size, Image.NEAREST))
 
     def test_made_smaller(self):
-        """An even color stays, though it is a sum of as many shares as the zoom says, each of which is rounded twice."""
-        flat = Image.new("RGBA", (95, 61), (200, 10, 120, 255))
-        path = self.picture("flat.png", flat)
-        for zoom in (2, 3, 7):
-            size = (-(-95 // zoom), -(-61 // zoom))
-            picture, places = self.shown(path, size)
+        """Squares become their mean, which is a sum of as many shares as the zoom says, each of them rounded; the last line
+        stands for those that are missing."""
+        for width, height, zoom in ((24, 15, 3), (23, 16, 2), (50, 31, 7)):
+            noisy = self.noisy(width, height)
+            size = (-(-width // zoom), -(-height // zoom))
+            picture, places = self.shown(self.picture("noisy.png", noisy), size)
             self.assertEqual(places[-1], ([*size, 0, 0, size[0] * size[1]], -zoom))
-            self.assert_same(picture, flat.resize(size), most=zoom)
+            wanted = Image.new("RGBA", size)
+            for x in range(size[0]):
+                for y in range(size[1]):
+                    square = [noisy.getpixel((min(x * zoom + i % zoom, width - 1), min(y * zoom + i // zoom, height - 1))) for i in range(zoom**2)]
+                    wanted.putpixel((x, y), tuple(round(sum(channel) / zoom**2) for channel in zip(*square)))
+            self.assert_same(picture, wanted, most=zoom)
 
     def test_only_what_changed_is_painted(self):
         """After any words the window shows what it would show if it were painted anew; and what moved is not painted."""
@@ -145,7 +150,7 @@ class Viewer(Trial):
                 self.assert_same(picture, wanted)
                 if depth == 24:
                     self.look_at_screen(size, first, environment)
-                    self.look_at_screen(size, wanted, environment, "--play", words + " wait=60000")
+                    self.look_at_screen(size, wanted, environment, "--play", "wait=1000 " + words + " wait=60000")
 
     @contextlib.contextmanager
     def x_server(self, depth):
@@ -209,7 +214,8 @@ class Viewer(Trial):
 
     def test_files_that_cannot_be_written(self):
         for file in (self.folder, self.folder / "none/out.png", "/dev/full"):
-            self.refuses(1, str(file), "--play", "", "--save", file, LEAF)
+            for picture in (LEAF, self.picture("dot.png", self.noisy(1, 1))):
+                self.refuses(1, str(file), "--play", "", "--size", "9x9", "--save", file, picture)
 
 
 if __name__ == "__main__":
