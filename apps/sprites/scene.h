@@ -26,7 +26,7 @@ template <typename Kind> class Scene {
           frame(std::size_t(width) * height), sky(frame), cells(Kind::decode(atlas)) {
         source = Kind::source_of(cells.data(), atlas.width, atlas.height);
         paint_sky();
-        std::minstd_rand random(7);
+        std::minstd_rand random(8);
         const int kinds = std::max(1, static_cast<int>(atlas.width / atlas.height));
         const auto below = [&random](int limit) { return static_cast<int>(random() % static_cast<unsigned>(limit)); };
         for (int i = 0; i < count; i++) {

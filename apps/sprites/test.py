@@ -52,7 +52,8 @@ class Sprites(Trial):
             white = seen.convert("L").point(lambda level: 255 if level == 255 else 0)
             self.assertIsNone(sky.convert("L").point(lambda level: 255 if level == 255 else 0).getbbox())
             boxes.append(white.getbbox())
-        self.assertEqual(len(set(boxes)), 3)
+        for places in zip(*boxes):
+            self.assertEqual(len(set(places)), 3)
         self.assertEqual(len({(right - left, bottom - top) for left, top, right, bottom in boxes}), 1)
 
     def test_bands_are_the_whole(self):

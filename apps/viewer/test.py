@@ -87,14 +87,19 @@ class Viewer(Trial):
             self.assert_same(picture, noisy.resize(picture.size, Image.NEAREST))
 
     def test_made_smaller(self):
-        """An even color stays, though it is a sum of as many shares as the zoom says, each of which is rounded twice."""
-        flat = Image.new("RGBA", (95, 61), (200, 10, 120, 255))
-        path = self.picture("flat.png", flat)
-        for zoom in (2, 3, 7):
-            size = (-(-95 // zoom), -(-61 // zoom))
-            picture, places = self.shown(path, size)
+        """Squares become their mean, which is a sum of as many shares as the zoom says, each of them rounded; the last line
+        stands for those that are missing."""
+        for width, height, zoom in ((24, 15, 3), (23, 16, 2), (50, 31, 7)):
+            noisy = self.noisy(width, height)
+            size = (-(-width // zoom), -(-height // zoom))
+            picture, places = self.shown(self.picture("noisy.png", noisy), size)
             self.assertEqual(places[-1], ([*size, 0, 0, size[0] * size[1]], -zoom))
-            self.assert_same(picture, flat.resize(size), most=zoom)
+            wanted = Image.new("RGBA", size)
+            for x in range(size[0]):
+                for y in range(size[1]):
+                    square = [noisy.getpixel((min(x * zoom + i % zoom, width - 1), min(y * zoom + i // zoom, height - 1))) for i in range(zoom**2)]
+                    wanted.putpixel((x, y), tuple(round(sum(channel) / zoom**2) for channel in zip(*square)))
+            self.assert_same(picture, wanted, most=zoom)
 
     def test_only_what_changed_is_painted(self):
         """After any words the window shows what it would show if it were painted anew; and what moved is not painted."""
@@ -145,6 +150,7 @@ class Viewer(Trial):
                 self.assert_same(picture, wanted)
                 if depth == 24:
                     self.look_at_screen(size, first, environment)
+                    self.look_at_screen(size, wanted, environment, "--play", "wait=1000 " + words + " wait=60000")
 
     @contextlib.contextmanager
     def x_server(self, depth):
@@ -156,15 +162,15 @@ class Viewer(Trial):
             finally:
                 server.terminate()
 
-    def look_at_screen(self, size, wanted, environment):
+    def look_at_screen(self, size, wanted, environment, *words):
         """Waits until a viewer that goes on shows the leaf, and ends it as a desktop would."""
-        command = [*self.program, "--size", "%dx%d" % size, "--save", self.folder / "ended.png", LEAF]
+        command = [*self.program, "--size", "%dx%d" % size, *words, "--save", self.folder / "ended.png", LEAF]
         with subprocess.Popen([str(word) for word in command], env={**os.environ, **environment}) as viewer:
             try:
                 for _ in range(100):
                     time.sleep(0.1)
                     screen = self.screen()
-                    if screen.getbbox() and screen.crop(screen.getbbox()).size == size:
+                    if screen.getbbox() and screen.crop(screen.getbbox()).tobytes() == wanted.convert("RGB").tobytes():
                         break
                 self.assert_same(screen.crop(screen.getbbox()), wanted.convert("RGB"))
             finally:
@@ -187,7 +193,8 @@ class Viewer(Trial):
             ("name a PNG or JPEG file",), ("one file is shown at a time", LEAF, LEAF), ("--wide: there is no such option", "--wide", LEAF),
             ("--size: a value is missing", LEAF, "--size"), ("a size is WxH", "--size", "0x4", LEAF), ("a size is WxH", "--size", "9", LEAF),
             ("a size is WxH", "--size", "9x9x9", LEAF), ("a size is WxH", "--size", "16385x9", LEAF),
-            ("no key has this name", "--play", "Hop", LEAF), ("no key has this name", "--play", "wheel=1", LEAF),
+            ("no key has this name", "--play", "Hop", LEAF), ("no key has this name", "--play", "wait=-1", LEAF),
+            ("no key has this name", "--play", "wheel=1", LEAF),
         ]:  # fmt: skip
             self.refuses(2, sentence, *words)
 
@@ -207,7 +214,8 @@ class Viewer(Trial):
 
     def test_files_that_cannot_be_written(self):
         for file in (self.folder, self.folder / "none/out.png", "/dev/full"):
-            self.refuses(1, str(file), "--play", "", "--save", file, LEAF)
+            for picture in (LEAF, self.picture("dot.png", self.noisy(1, 1))):
+                self.refuses(1, str(file), "--play", "", "--size", "9x9", "--save", file, picture)
 
 
 if __name__ == "__main__":

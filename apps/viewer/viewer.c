@@ -10,7 +10,7 @@ static const char usage[] =
     "\n"
     "  --size WxH      the size of the window at first (640x480)\n"
     "  --play WORDS    do what these words say, one after the other, and end: the name of a key,\n"
-    "                  wheel=STEPS@X,Y, drag=DX,DY, or WxH for another size of the window\n"
+    "                  wheel=STEPS@X,Y, drag=DX,DY, WxH for another size of the window, or wait=MILLISECONDS\n"
     "  --save PNG      write what the window shows at the end\n"
     "  --report        print a line for each painting: how much of the window was painted\n"
     "  --help          print this\n"
@@ -19,9 +19,18 @@ static const char usage[] =
     "size, F as large as fits, Q or Escape end.\n"
     "The status is 0, 1 after a file that can't be read or written, or 2 after another use.\n";
 
+/* What a word of --play makes happen: an event, or else another size of the window, or else so many milliseconds of
+ * waiting. */
 typedef struct {
-    const char *file, *play, *save;
-    int width, height, report;
+    SDL_Event event;
+    int width, height, wait;
+} action;
+
+typedef struct {
+    const char *file, *save;
+    int width, height, report, plays;
+    action *actions;
+    size_t count;
 } options;
 
 /* Ends the program with a sentence. */
@@ -39,8 +48,48 @@ static int read_size(const char *text, int *width, int *height) {
            *height <= 16384;
 }
 
+/* Whether a text is a word of --play. */
+static int read_action(const char *word, action *it) {
+    int x, y, steps;
+    char rest;
+    memset(it, 0, sizeof *it);
+    if (read_size(word, &it->width, &it->height))
+        return 1;
+    it->width = 0;
+    if (sscanf(word, "wait=%9d%c", &it->wait, &rest) == 1)
+        return it->wait > 0;
+    if (sscanf(word, "wheel=%5d@%5d,%5d%c", &steps, &x, &y, &rest) == 3) {
+        it->event.type = SDL_MOUSEWHEEL;
+        it->event.wheel.y = steps;
+        it->event.wheel.mouseX = x;
+        it->event.wheel.mouseY = y;
+    } else if (sscanf(word, "drag=%5d,%5d%c", &x, &y, &rest) == 2) {
+        it->event.type = SDL_MOUSEMOTION;
+        it->event.motion.state = SDL_BUTTON_LMASK;
+        it->event.motion.xrel = x;
+        it->event.motion.yrel = y;
+    } else {
+        it->event.type = SDL_KEYDOWN;
+        it->event.key.keysym.sym = SDL_GetKeyFromName(word);
+        return it->event.key.keysym.sym != SDLK_UNKNOWN;
+    }
+    return 1;
+}
+
+/* Takes the words of --play. */
+static void read_actions(options *it, const char *text) {
+    char *words = insist_memory(strdup(text));
+    it->plays = 1;
+    for (char *word = strtok(words, " "); word; word = strtok(NULL, " ")) {
+        it->actions = insist_memory(realloc(it->actions, (it->count + 1) * sizeof *it->actions));
+        if (!read_action(word, &it->actions[it->count++]))
+            fail(2, word, "no key has this name, and it is no other word of --play");
+    }
+    free(words);
+}
+
 static options read_options(int argc, char **argv) {
-    options it = {NULL, NULL, NULL, 640, 480, 0};
+    options it = {NULL, NULL, 640, 480, 0, 0, NULL, 0};
     for (int i = 1; i < argc; i++) {
         const char *word = argv[i], *value = i + 1 < argc ? argv[i + 1] : NULL;
         int takes = !strcmp(word, "--size") || !strcmp(word, "--play") || !strcmp(word, "--save");
@@ -52,7 +101,7 @@ static options read_options(int argc, char **argv) {
         } else if (!strcmp(word, "--size") && !read_size(value, &it.width, &it.height)) {
             fail(2, value, "a size is WxH, with sides from 1 to 16384");
         } else if (!strcmp(word, "--play")) {
-            it.play = value;
+            read_actions(&it, value);
         } else if (!strcmp(word, "--save")) {
             it.save = value;
         } else if (!strcmp(word, "--report")) {
@@ -174,43 +223,27 @@ static int on_events(view *it, SDL_Window *window, int report) {
     return goes_on;
 }
 
-/* Makes what a word of --play says happen, as if a user did it. */
-static void play_word(SDL_Window *window, const char *word) {
-    SDL_Event event;
-    int x, y, steps;
-    char rest;
-    memset(&event, 0, sizeof event);
-    if (read_size(word, &x, &y)) {
-        SDL_SetWindowSize(window, x, y);
-        return;
-    }
-    if (sscanf(word, "wheel=%d@%d,%d%c", &steps, &x, &y, &rest) == 3) {
-        event.type = SDL_MOUSEWHEEL;
-        event.wheel.y = steps;
-        event.wheel.mouseX = x;
-        event.wheel.mouseY = y;
-    } else if (sscanf(word, "drag=%d,%d%c", &x, &y, &rest) == 2) {
-        event.type = SDL_MOUSEMOTION;
-        event.motion.state = SDL_BUTTON_LMASK;
-        event.motion.xrel = x;
-        event.motion.yrel = y;
-    } else {
-        event.type = SDL_KEYDOWN;
-        event.key.keysym.sym = SDL_GetKeyFromName(word);
-        if (event.key.keysym.sym == SDLK_UNKNOWN)
-            fail(2, word, "no key has this name, and it is no other word of --play");
-    }
-    SDL_PushEvent(&event);
+/* Goes on for so long as if nothing were played. */
+static int wait_for(view *it, SDL_Window *window, int milliseconds, int report) {
+    const Uint64 end = SDL_GetTicks64() + (Uint64)milliseconds;
+    int goes_on = 1;
+    for (Uint64 now = SDL_GetTicks64(); goes_on && now < end; now = SDL_GetTicks64())
+        if (SDL_WaitEventTimeout(NULL, (int)(end - now)))
+            goes_on = on_events(it, window, report);
+    return goes_on;
 }
 
-static void play(view *it, SDL_Window *window, const options *chosen) {
-    char *words = insist_memory(strdup(chosen->play));
+/* Does what was asked for by --play, as if a user did it. */
+static void play(view *it, SDL_Window *window, options *chosen) {
     int goes_on = 1;
-    for (char *word = strtok(words, " "); word && goes_on; word = strtok(NULL, " ")) {
-        play_word(window, word);
-        goes_on = on_events(it, window, chosen->report);
+    for (size_t i = 0; i < chosen->count && goes_on; i++) {
+        action *next = &chosen->actions[i];
+        if (next->width)
+            SDL_SetWindowSize(window, next->width, next->height);
+        else if (next->event.type)
+            SDL_PushEvent(&next->event);
+        goes_on = next->wait ? wait_for(it, window, next->wait, chosen->report) : on_events(it, window, chosen->report);
     }
-    free(words);
 }
 
 int main(int argc, char **argv) {
@@ -226,14 +259,15 @@ int main(int argc, char **argv) {
     view it;
     view_open(&it, canvas_source(&picture), (uint32_t)chosen.width, (uint32_t)chosen.height);
     int goes_on = on_events(&it, window, chosen.report);
-    if (chosen.play)
+    if (chosen.plays)
         play(&it, window, &chosen);
-    while (!chosen.play && goes_on && SDL_WaitEvent(NULL))
+    while (!chosen.plays && goes_on && SDL_WaitEvent(NULL))
         goes_on = on_events(&it, window, chosen.report);
     if (chosen.save)
         save(chosen.save, it.screen);
     view_close(&it);
     canvas_free(&picture);
+    free(chosen.actions);
     SDL_DestroyWindow(window);
     SDL_Quit();
     return fflush(stdout) ? 1 : 0;
