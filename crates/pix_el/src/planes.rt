@@ -28,6 +28,7 @@ mod block;
 mod coverage;
 mod four;
 pub(crate) mod interleaved;
+mod kept;
 mod one;
 mod sixteen;
 mod two;
