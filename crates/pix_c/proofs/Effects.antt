@@ -1,5 +1,5 @@
 -- What fills and blits of rows in memory make of the points of an image, as effects of commands.
-use Rattle.std.proofs.Common.{◌≡◌, ℕ, ◌<◌, ◌≤◌, List, [], ◌∷◌, ◌++◌, length, fold, pos, ℤ, ◌+ℤ◌, ◌-ℤ◌, ◌<ℤ◌, Bool, true, false, cond, arith, ap, sym, ◌∙◌, refl}
+use Rattle.std.proofs.Common.{◌≡◌, ℕ, ◌<◌, List, [], ◌∷◌, ◌++◌, length, fold, pos, ℤ, ◌+ℤ◌, ◌-ℤ◌, ◌<ℤ◌, Bool, true, false, cond, arith, ap, sym, ◌∙◌, refl}
 use Rattle.std.specs.Prelude.{◌&&◌, not, int_lt}
 use Rattle.std.specs.Int.{int_min}
 use Rattle.std.proofs.lemmas.Int.{ints, clamps}
@@ -8,10 +8,9 @@ use Rattle.pix_el.specs.Pixel.{Layout}
 use Rattle.pix.specs.Region.{Rectangle, whole, covers, has_column}
 use Rattle.pix.specs.Image.{point, region_of}
 use Rattle.pix.specs.Reach.{from_pair, is_paired, has_offset, leads_into, natural}
-use Rattle.pix.specs.Lent.{read_at, where_covered, where_paired, IsShaped, ChangedIn}
+use Rattle.pix.specs.Lent.{read_at, where_covered, where_paired, IsShaped}
 use Rattle.pix.specs.Run.{Effect, apply}
-use Rattle.pix_raster.specs.declared.lent.Shape.{Shape}
-use Rattle.pix_raster.proofs.Rectangles.{below_is, covers_whole}
+use Rattle.pix_raster.proofs.Rectangles.{below_is}
 use Rattle.pix_c.specs.Command.{image_of}
 use Rattle.pix_c.proofs.Images.{point_read}
 

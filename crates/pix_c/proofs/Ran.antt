@@ -1,5 +1,5 @@
 -- A run on rows in memory, as one on an image.
-use Rattle.std.proofs.Common.{◌≡◌, ℕ, ◌<◌, ◌+◌, ◌≤◌, List, length, map, arith, ap, sym, ◌∙◌, refl}
+use Rattle.std.proofs.Common.{◌≡◌, ℕ, ◌+◌, ◌≤◌, List, length, map, arith, ap, sym, ◌∙◌, refl}
 use Rattle.pix_el.specs.Pixel.{Layout}
 use Rattle.pix.specs.Region.{limit, whole}
 use Rattle.pix.specs.Run.{run_at}

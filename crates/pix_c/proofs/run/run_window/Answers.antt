@@ -1,11 +1,10 @@
 -- Of `run_window`: the clause `run`, and the condition of its call of `paint_by_bands`.
-use Rattle.std.proofs.Common.{◌≡◌, ℕ, ◌≤◌, ◌<◌, ◌+◌, length, map, sym, ap, ◌∙◌, subst, arith}
+use Rattle.std.proofs.Common.{◌≡◌, ℕ, ◌≤◌, ◌+◌, length, map, sym, ap, ◌∙◌, subst}
 use Rattle.pix_chan.specs.Product.{channel_product, fineness, IsProduct}
 use Rattle.pix_el.specs.Pixel.{Layout, channel}
 use Rattle.pix_el.specs.Premultiplied.{IsBounded}
 use Rattle.pix_el.proofs.Models.{placed_by_row}
 use Rattle.pix_el.proofs.Composited.{alpha_bounded}
-use Rattle.pix.specs.Lent.{IsShaped}
 use Rattle.pix_raster.proofs.RunBounds.{IsFormat}
 use Rattle.pix_c.proofs.Images.{sized_is_shaped, sized_window}
 use Rattle.pix_c.proofs.Ran.{ran_in_window}
