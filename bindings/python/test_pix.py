@@ -97,6 +97,30 @@ class Refusals(unittest.TestCase):
         self.assertRaises(AttributeError, setattr, command, "source", self.other)
         self.assertRaises(TypeError, pix.Command, 4, WHOLE, source=bytes(64))
 
+    def test_prepared_lists(self):
+        good = pix.copy_color(WHOLE, COLOR)
+        for bad, status in ((pix.Command(6), pix.Status.BAD_KIND), (pix.composite_color(WHOLE, COLOR, 13), pix.Status.BAD_OP)):
+            with self.assertRaises(pix.PixError) as caught:
+                pix.CommandList(good, bad)
+            self.assertEqual((caught.exception.status, caught.exception.index), (status, 1))
+        for wrong in (None, [good], pix.CommandList(good)):
+            self.assertRaisesRegex(TypeError, "is not a Command", pix.CommandList, wrong)
+        self.assertRaises(ValueError, pix.CommandList, good, type=pix.GRAYA8)
+        self.assertRaises(TypeError, pix.CommandList, good, type=8)
+        prepared = pix.CommandList(good)
+        for wrong in ((prepared, prepared), (good, prepared)):
+            self.assertRaisesRegex(TypeError, "is not a Command", self.image.run, *wrong)
+        for other in (pix.GRAYA8, pix.RGBA16):
+            self.assertRaisesRegex(TypeError, "a list for RGBA8", pix.Image.new(4, 4, other).run, prepared)
+        self.assertRaises(TypeError, pix.Image(bytes(64), 4, 4).run, prepared)
+        near, far = pix.Image(memoryview(self.pixels)[60:], 1, 1), pix.Image.new(1, 1)
+        for sources, number in (((near, far), 0), ((far, near), 1), ((far, near, near, far), 1)):
+            shared = pix.CommandList(*(pix.copy_image((9, 9, 1, 1), source) for source in sources))
+            self.assertRaisesRegex(ValueError, f"command {number}: its source shares", self.image.run, shared)
+        with self.assertRaises(pix.PixError) as caught:
+            self.image.run(prepared, origin=(LONG - 4, 0))
+        self.assertEqual((caught.exception.status, caught.exception.index), (pix.Status.BAD_SIZE, None))
+
     def test_buffers(self):
         self.assertRaises(TypeError, pix.Image(bytes(64), 4, 4).run, pix.clear())
         self.assertRaises(TypeError, pix.Image, "text", 1, 1)
@@ -254,6 +278,29 @@ class Borders(unittest.TestCase):
         fault = pickle.loads(pickle.dumps(pix.PixError(pix.Status.BAD_OP, 3)))
         self.assertEqual((fault.status, fault.index, str(fault)), (pix.Status.BAD_OP, 3, "command 3: no such operator"))
 
+    def test_prepared_lists(self):
+        source = pix.Image(bytearray(range(36)), 3, 3)
+        commands = [pix.copy_color((0, 0, 2, 3), COLOR), pix.composite_image((1, 0, 3, 3), source, op=pix.Op.PLUS)]
+        prepared = pix.CommandList(*commands)
+        self.assertEqual((list(prepared), len(prepared), prepared[1], prepared.type), (commands, 2, commands[1], pix.RGBA8))
+        self.assertEqual(repr(prepared), "<pix.CommandList of 2, RGBA8>")
+        for value in (7, 200):  # what the source has is read at each run
+            source.run(pix.copy_color((1, 1, 1, 1), (value,) * 4))
+            one, all = pix.Image.new(3, 3), pix.Image.new(3, 3)
+            one.run(*commands, origin=(1, 0))
+            all.run(prepared, origin=(1, 0))
+            self.assertEqual(one.pixels, all.pixels)
+        del source, commands
+        gc.collect()
+        again = pickle.loads(pickle.dumps(prepared))
+        self.assertEqual((len(again), again.type, again[1].source.pixels), (2, pix.RGBA8, prepared[1].source.pixels))
+        other = pix.Image.new(3, 3)
+        other.run(again, origin=(1, 0))
+        self.assertEqual(other.pixels, all.pixels)
+        wide = pickle.loads(pickle.dumps(pix.CommandList(pix.copy_color((0, 0, 1, 1), (1, 2, 3, 65535)), type=pix.RGBA16)))
+        self.assertEqual(wide.type, pix.RGBA16)
+        pix.Image.new(1, 1).run(pix.CommandList())
+
     def test_texts(self):
         image, matte = pix.Image.new(3, 2, pix.RGBA16), pix.Matte(bytes(6), 3, 2)
         self.assertEqual((repr(image), repr(matte)), ("<pix.Image 3 x 2, RGBA16>", "<pix.Matte 3 x 2, 8 bits>"))
@@ -362,6 +409,7 @@ class Threads(unittest.TestCase):
                 self.assertFalse(done.wait(0.05))
             self.assertTrue(done.wait(10))
             thread.join()
+        self.assertEqual(_memory.calls.running, [])
         with _memory.calls.turn(image._rows.memory, []):
             self.assertRaises(RuntimeError, image.run)
         image.run()

@@ -58,6 +58,14 @@ class PixelType(Enum):
 
 RGBA8, RGBA16, GRAYA8 = PixelType
 
+
+def kind_of(type: Any) -> PixelType:
+    """The kind of pixels, if it is one."""
+    if not isinstance(type, PixelType):
+        raise TypeError(f"{type!r} is none of RGBA8, RGBA16 and GRAYA8")
+    return type
+
+
 # The version of the binary interface, and the fields whose offsets the library answers, in its order.
 ABI_VERSION = 1
 REGION = "x y width height"

@@ -1,5 +1,5 @@
 -- What fills and blits of rows in memory make of the points of an image, as effects of commands.
-use Rattle.std.proofs.Common.{◌≡◌, ℕ, ◌<◌, ◌≤◌, List, [], ◌∷◌, ◌++◌, length, fold, pos, ℤ, ◌+ℤ◌, ◌-ℤ◌, ◌<ℤ◌, Bool, true, false, cond, arith, ap, sym, ◌∙◌, refl}
+use Rattle.std.proofs.Common.{◌≡◌, ℕ, ◌<◌, List, [], ◌∷◌, ◌++◌, length, fold, pos, ℤ, ◌+ℤ◌, ◌-ℤ◌, ◌<ℤ◌, Bool, true, false, cond, arith, ap, sym, ◌∙◌, refl}
 use Rattle.std.specs.Prelude.{◌&&◌, not, int_lt}
 use Rattle.std.specs.Int.{int_min}
 use Rattle.std.proofs.lemmas.Int.{ints, clamps}
@@ -8,21 +8,11 @@ use Rattle.pix_el.specs.Pixel.{Layout}
 use Rattle.pix.specs.Region.{Rectangle, whole, covers, has_column}
 use Rattle.pix.specs.Image.{point, region_of}
 use Rattle.pix.specs.Reach.{from_pair, is_paired, has_offset, leads_into, natural}
-use Rattle.pix.specs.Lent.{read_at, where_covered, where_paired, IsShaped, ChangedIn}
+use Rattle.pix.specs.Lent.{read_at, where_covered, where_paired, IsShaped}
 use Rattle.pix.specs.Run.{Effect, apply}
-use Rattle.pix_raster.specs.declared.lent.Shape.{Shape}
-use Rattle.pix_raster.proofs.Rectangles.{below_is, covers_whole}
+use Rattle.pix_raster.proofs.Rectangles.{below_is}
 use Rattle.pix_c.specs.Command.{image_of}
 use Rattle.pix_c.proofs.Images.{point_read}
-
--- a change that makes the same of each point of an image
-pub changed_alike : {D : Type 0} (reads : D → List ℕ) (shape : Shape) (old new : List D) (f g : ℕ → ℕ → List ℕ → List ℕ)
-    → ((x y : ℕ) (pixel : List ℕ) → x < shape.width → y < shape.height → f x y pixel ≡ g x y pixel)
-    → ChangedIn reads shape old new f → ChangedIn reads shape old new g
-changed_alike reads shape old new f g alike changed = record {
-  points = λ x y lx ly. changed.points x y lx ly ∙ alike x y (read_at reads shape.stride old x y) lx ly;
-  stays = changed.stays;
-}
 
 one_effect : (layout : Layout) (effect : Effect) (f : List ℕ → List ℕ) (pixel : List ℕ) (reached : Bool) → ((p : List ℕ) → f p ≡ apply layout p effect)
     → cond reached (f pixel) pixel ≡ fold (apply layout) pixel (cond reached (effect ∷ []) [] ++ [])
@@ -33,12 +23,6 @@ one_effect layout effect f pixel false is = refl
 pub covered_effect : (layout : Layout) (reg : Rectangle) (f : List ℕ → List ℕ) (effect : Effect) (x y : ℕ) (pixel : List ℕ) → ((p : List ℕ) → f p ≡ apply layout p effect)
     → where_covered reg f x y pixel ≡ fold (apply layout) pixel (cond (covers reg (pos x) (pos y)) (effect ∷ []) [] ++ [])
 covered_effect layout reg f effect x y pixel is = one_effect layout effect f pixel (covers reg (pos x) (pos y)) is
-
--- and one at each point of the image, where the rectangle is all of it
-pub whole_effect : (layout : Layout) (width height : ℕ) (f : List ℕ → List ℕ) (effect : Effect) (x y : ℕ) (pixel : List ℕ) → width ≤ 2147483647 → height ≤ 2147483647 → x < width → y < height
-    → ((p : List ℕ) → f p ≡ apply layout p effect) → where_covered (whole width height) f x y pixel ≡ fold (apply layout) pixel (effect ∷ [] ++ [])
-whole_effect layout width height f effect x y pixel wide high lx ly is =
-    ap (λ (b : Bool). cond b (f pixel) pixel) (covers_whole width height x y wide high lx ly) ∙ is pixel
 
 and_left : (a b : Bool) → (a && b) ≡ true → a ≡ true
 and_left true b e = refl

@@ -12,11 +12,13 @@ use Rattle.pix_raster.specs.declared.command.Command.{Command}
 use Rattle.pix_raster.specs.declared.command.Command.TheVariants as commands
 use Rattle.pix_raster.specs.declared.lent.Shape.{Shape}
 use Rattle.pix_raster.specs.declared.lent.Window.{Window}
+use Rattle.pix_raster.proofs.Shaped.{changed_alike}
+use Rattle.pix_raster.proofs.Steps.{whole_effect}
 use Rattle.pix_c.specs.declared.command.FlatCommand.{FlatCommand}
 use Rattle.pix_c.specs.Command.{image_of, op_at, rectangle, lent, command_of}
 use Rattle.pix_c.specs.Status.{fits, has_source, fault_of}
 use Rattle.pix_c.proofs.Images.{sized_is_shaped}
-use Rattle.pix_c.proofs.Effects.{changed_alike, covered_effect, whole_effect, paired_effect}
+use Rattle.pix_c.proofs.Effects.{covered_effect, paired_effect}
 
 -- a command that is not refused
 pub record IsSound {D M : Type 0} (c : FlatCommand D M) : Type 0 where

@@ -1,5 +1,5 @@
 -- Commands by their numbers, as commands of the library on images in memory.
-use Rattle.std.specs.Prelude.{ℕ, zero, suc, List, [], ◌∷◌, ◌++◌, take, drop, nat_eq, slice_index_or, if◌then◌else◌}
+use Rattle.std.specs.Prelude.{ℕ, zero, suc, List, [], ◌++◌, take, drop, nat_eq, slice_index_or, if◌then◌else◌}
 use denote.Bor.{Bor}
 use Rattle.pix_ops.specs.declared.ops.Op.{Op}
 use Rattle.pix_ops.specs.declared.ops.Op.TheVariants.{Src}

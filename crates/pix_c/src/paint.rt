@@ -11,6 +11,7 @@ use crate::format::{Flat, FlatPixel};
 use crate::kind;
 use crate::operator::op_at;
 use crate::sixteen::{CompositedColor, CompositedPixels, MattedColor};
+use crate::size::LIMIT;
 use pix::Region;
 use pix::chan::{Linear, Premultiplied};
 use pix::el::{Pix, Pixel};
@@ -25,6 +26,15 @@ fn region_of(reg: PixRegion) -> Region
     ensures { result ≡ rectangle reg }
 {
     Region::new(reg.x, reg.y, reg.width, reg.height)
+}
+
+/// Returns the region of the destination of a command, all points of any picture for a clear; a side above the limit counts as the limit.
+pub(crate) fn reach<D, M>(command: &FlatCommand<'_, D, M>) -> Region {
+    if command.kind == kind::CLEAR {
+        return Region::new(0, 0, LIMIT, LIMIT);
+    }
+    let to = command.to;
+    Region::new(to.x, to.y, to.width.min(LIMIT), to.height.min(LIMIT))
 }
 
 /// Returns the shape of the source of a command.

@@ -1,6 +1,7 @@
 -- The files of lemmas. Answers, invariants and proofs of a function are found by its path.
 pub mod Rectangles
 pub mod Zones
+pub mod Bands
 pub mod Places
 pub mod Clear
 pub mod Steps

@@ -1,11 +1,10 @@
 -- What commands do to a point does not depend on how far the picture goes on to the right of it and below it.
-use Rattle.std.proofs.Common.{◌≡◌, ℕ, ◌<◌, ◌≤◌, ◌+◌, ℤ, pos, ◌+ℤ◌, ◌-ℤ◌, Bool, true, List, [], ◌∷◌, ◌++◌, fold, cond, arith, refl, ap, sym, ◌∙◌}
-use Rattle.std.specs.Prelude.{◌&&◌}
+use Rattle.std.proofs.Common.{◌≡◌, ℕ, ◌<◌, ◌≤◌, pos, ◌+ℤ◌, ◌-ℤ◌, Bool, true, List, [], ◌∷◌, fold, cond, arith, refl, ap, sym, ◌∙◌}
 use Rattle.std.proofs.lemmas.Int.{ints}
 use Rattle.pix_el.specs.Pixel.{Layout}
 use Rattle.pix_raster.specs.Region.{Rectangle, limit, covers, whole}
 use Rattle.pix_raster.specs.Image.{point, region_of}
-use Rattle.pix_raster.specs.Reach.{is_paired, has_offset, leads_into, from_pair, natural}
+use Rattle.pix_raster.specs.Reach.{is_paired, from_pair, natural}
 use Rattle.pix_raster.specs.Run.{Effect, Copied, Composited, Matted, effect_at, effects_at, apply, run_at}
 use Rattle.pix_raster.specs.declared.command.Command.{Command}
 use Rattle.pix_raster.specs.declared.command.Command.TheVariants as commands

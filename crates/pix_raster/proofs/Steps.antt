@@ -1,7 +1,7 @@
 -- A run, one command on.
-use Rattle.std.proofs.Common.{◌≡◌, ℕ, ◌<◌, ◌+◌, List, [], ◌∷◌, ◌++◌, length, get_or, drop, sym, ap, ◌∙◌, refl, fold, pos, Bool, true, false, cond, ◌⊎◌, inl, inr}
+use Rattle.std.proofs.Common.{◌≡◌, ℕ, ◌<◌, ◌≤◌, ◌+◌, List, [], ◌∷◌, ◌++◌, length, get_or, drop, sym, ap, ◌∙◌, refl, fold, pos, Bool, true, false, cond, ◌⊎◌, inl, inr}
 use Rattle.pix_el.specs.Pixel.{Layout}
-use Rattle.pix_raster.specs.Region.{Rectangle, covers}
+use Rattle.pix_raster.specs.Region.{Rectangle, covers, whole}
 use Rattle.pix_raster.specs.Image.{Image, Changed, point, region_of}
 use Rattle.pix_raster.specs.Reach.{from_pair}
 use Rattle.pix_raster.specs.Lent.{where_covered, where_paired}
@@ -9,6 +9,7 @@ use Rattle.std.proofs.lemmas.List.{drop_more, append-nil, append_assoc}
 use Rattle.std.proofs.lemmas.List.Sums.{fold-append}
 use Rattle.pix_raster.specs.declared.command.Command.{Command}
 use Rattle.pix_raster.specs.Run.{Effect, effect_at, effects_at, apply, run_at, HasSwappedNeighbours}
+use Rattle.pix_raster.proofs.Rectangles.{covers_whole}
 
 -- the run of the command at place i and then of those after it is the run of those from place i on
 pub run_more : {P M : Type 0} (layout : Layout) (n : P → List ℕ) (m : M → List ℕ) (dest : Rectangle) (commands : List (Command P M)) (i : ℕ) (command : Command P M) (x y : ℕ) (pixel : List ℕ)
@@ -40,6 +41,12 @@ pub covered_effect : (layout : Layout) (reg : Rectangle) (f : List ℕ → List 
     → where_covered reg f x y pixel ≡ fold (apply layout) pixel (cond (covers reg (pos x) (pos y)) (effect ∷ []) [] ++ [])
 covered_effect layout reg f effect x y pixel is =
     ap (λ p. cond (covers reg (pos x) (pos y)) p pixel) (is pixel) ∙ one_effect layout effect pixel (covers reg (pos x) (pos y))
+
+-- a change of a point of all those of a picture is
+pub whole_effect : (layout : Layout) (width height : ℕ) (f : List ℕ → List ℕ) (effect : Effect) (x y : ℕ) (pixel : List ℕ) → width ≤ 2147483647 → height ≤ 2147483647 → x < width → y < height
+    → ((p : List ℕ) → f p ≡ apply layout p effect) → where_covered (whole width height) f x y pixel ≡ fold (apply layout) pixel (effect ∷ [] ++ [])
+whole_effect layout width height f effect x y pixel wide high lx ly is =
+    ap (λ (b : Bool). cond b (f pixel) pixel) (covers_whole width height x y wide high lx ly) ∙ is pixel
 
 -- a change of a point that is paired with another is the run of a command with that effect
 pub from_pair_effect : (layout : Layout) (to dest from source : Rectangle) (get : ℕ → ℕ → List ℕ) (f : List ℕ → List ℕ → List ℕ) (effect : List ℕ → Effect) (x y : ℕ) (pixel : List ℕ)

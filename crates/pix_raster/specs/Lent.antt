@@ -26,6 +26,10 @@ pub record IsWindow (window : Window) (count : ℕ) : Type 0 where
 abbrev pub picture : Window → Rectangle
 picture window = whole (window.left + window.shape.width) (window.top + window.shape.height)
 
+-- the largest picture
+abbrev pub largest : Rectangle
+largest = whole limit limit
+
 -- f at the point of the picture that lies at a point of the window
 abbrev pub in_window : {X : Type 0} → Window → (ℕ → ℕ → X) → ℕ → ℕ → X
 in_window window f x y = f (window.left + x) (window.top + y)

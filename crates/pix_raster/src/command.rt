@@ -86,4 +86,15 @@ impl<'a, P, M> Command<'a, P, M> {
             _ => Op::Src,
         }
     }
+
+    /// Returns the region of the destination, all points of any raster for a clear.
+    pub(crate) fn reach(&self) -> Region {
+        match self {
+            Command::CopyColor { reg, .. } | Command::Color { reg, .. } => *reg,
+            Command::CopyRaster { to, .. }
+            | Command::Raster { to, .. }
+            | Command::Matte { to, .. } => *to,
+            _ => Region::new(0, 0, 2147483647, 2147483647),
+        }
+    }
 }

@@ -3,7 +3,7 @@ ghost use Rattle.std.specs.Prelude.{◌≡◌, ℕ, ◌+◌, ◌<◌, ◌≤◌,
 ghost use Rattle.pix_el.specs.PixelComposite.{matte_numbers};
 ghost use Rattle.pix_raster.specs.Region.{limit, whole};
 ghost use Rattle.pix_raster.specs.Image.{Image, Changed, point, region_of};
-ghost use Rattle.pix_raster.specs.Lent.{read_at, IsWindow, ChangedIn, where_paired, picture, in_window};
+ghost use Rattle.pix_raster.specs.Lent.{IsWindow, ChangedIn, where_paired, picture, largest, in_window};
 ghost use Rattle.pix_raster.specs.Run.{run_at, op_of};
 ghost use Rattle.pix_raster.specs.Claims.{IsImageRun};
 ghost use Rattle.pix_raster.specs.Window.{IsPartOf, command_from};
@@ -13,7 +13,7 @@ use super::row_change::{
     CompositedColor, CompositedPixels, CopiedColor, CopiedPixels, MattedColor,
 };
 use crate::command::Command;
-use crate::lent::{Blit, Window, blit_window, fill_window};
+use crate::lent::{Blit, Painting, Window, blit_window, fill_window, paint_by_bands, points_in};
 use crate::region::Region;
 use pix_chan::chan::{Alpha, Linear, Premultiplied};
 use pix_el::el::{Pix, Pixel};
@@ -66,32 +66,61 @@ impl<P: Pixel<Alpha = Premultiplied, Gamma = Linear>> Raster<P> {
         ensures run { IsImageRun P.layout P.numbers (matte_numbers P.Chan.number)
             (map (command_from left top) commands.now) self.old self.new }
     {
-        for command in commands {
-            self.run_one(left, top, command);
-        }
-    }
-
-    /// Runs one command on this raster as a window of a picture.
-    fn run_one<const N: usize, A: Alpha>(
-        &mut self,
-        left: u32,
-        top: u32,
-        command: &Command<'_, P, Pix<N, P::Chan, Matte, A, Linear>>,
-    )
-        requires has_alpha { P.layout.count ≡ P.layout.alpha + 1 }
-        requires across { left + self.old.width ≤ limit }
-        requires down { top + self.old.height ≤ limit }
-        ensures { Changed P.numbers self.old self.new
-            (λ x y. run_at P.layout P.numbers (matte_numbers P.Chan.number)
-            (whole (left + self.old.width) (top + self.old.height)) (command.now ∷ [])
-            (left + x) (top + y)) }
-    {
         let shape = self.shape();
         let window = Window { left, top, shape };
-        command
-            .op()
-            .visit_slice(&InWindow { command, window }, &mut self.pixels);
+        paint_by_bands(&mut self.pixels, window, &Commands { commands });
     }
+}
+
+/// A list of commands.
+#[derive(Drop)]
+struct Commands<'b, 'a, P, M> {
+    commands: &'b [Command<'a, P, M>],
+}
+
+impl<'b, 'a, const N: usize, A: Alpha, P: Pixel<Alpha = Premultiplied, Gamma = Linear>> Painting<P>
+    for Commands<'b, 'a, P, Pix<N, P::Chan, Matte, A, Linear>> {
+    ghost can_paint = { λ _. P.layout.count ≡ P.layout.alpha + 1 };
+
+    ghost reads = { P.numbers };
+
+    ghost makes = { λ it. run_at P.layout P.numbers (matte_numbers P.Chan.number) largest
+        it.commands.now };
+
+    fn commands(&self) -> usize {
+        self.commands.len()
+    }
+
+    fn reached(&self, window: Window) -> usize {
+        let mut points: usize = 0;
+        for command in self.commands {
+            points = points.saturating_add(points_in(window, command.reach()));
+        }
+        points
+    }
+
+    fn paint(&self, pixels: &mut [P], window: Window) {
+        for command in self.commands {
+            run_one(pixels, window, command);
+        }
+    }
+}
+
+/// Runs one command on a window of a picture.
+fn run_one<const N: usize, A: Alpha, P: Pixel<Alpha = Premultiplied, Gamma = Linear>>(
+    pixels: &mut [P],
+    window: Window,
+    command: &Command<'_, P, Pix<N, P::Chan, Matte, A, Linear>>,
+)
+    requires has_alpha { P.layout.count ≡ P.layout.alpha + 1 }
+    requires fits { IsWindow window (length pixels.old) }
+    ensures { ChangedIn P.numbers window.shape pixels.old pixels.new
+        (in_window window (run_at P.layout P.numbers (matte_numbers P.Chan.number)
+        (picture window) (command.now ∷ []))) }
+{
+    command
+        .op()
+        .visit_slice(&InWindow { command, window }, pixels);
 }
 
 /// A command on a window of a picture.
@@ -111,16 +140,19 @@ impl<
     ghost can_visit = { λ it op count. (P.layout.count ≡ P.layout.alpha + 1)
         × IsWindow it.window count × (op_of it.command.now ≡ op) };
 
-    ghost visits = { λ it _ old new. (x y : ℕ) → x < it.window.shape.width
-        → y < it.window.shape.height → read_at P.numbers it.window.shape.stride new x y ≡
-        in_window it.window (run_at P.layout P.numbers (matte_numbers P.Chan.number)
-        (picture it.window) (it.command.now ∷ [])) x y
-        (read_at P.numbers it.window.shape.stride old x y) };
+    ghost visits = { λ it _ old new. ChangedIn P.numbers it.window.shape old new
+        (in_window it.window (run_at P.layout P.numbers (matte_numbers P.Chan.number)
+        (picture it.window) (it.command.now ∷ []))) };
 
     fn visit<O: Blend>(&self, pixels: &mut [P], op: O) {
         let window = self.window;
         match self.command {
-            Command::Clear => P::copy_color(pixels, &P::default()),
+            Command::Clear => {
+                let right = window.left + window.shape.width;
+                let bottom = window.top + window.shape.height;
+                let all = Region::new(0, 0, right, bottom);
+                fill_window(pixels, window, all, &CopiedColor { clr: P::default() });
+            }
             Command::CopyColor { reg, clr } => {
                 fill_window(pixels, window, *reg, &CopiedColor { clr: *clr });
             }
