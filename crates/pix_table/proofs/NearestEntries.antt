@@ -1,5 +1,5 @@
 -- The nearest entry, one entry after the other.
-use Rattle.std.proofs.Common.{◌≡◌, ℕ, ◌+◌, ◌<◌, ◌≤◌, List, length, replicate, arith, subst, inl, inr}
+use Rattle.std.proofs.Common.{◌≡◌, ℕ, ◌+◌, ◌<◌, ◌≤◌, List, length, get_or, replicate, refl, arith, subst, inl, inr}
 use Rattle.std.proofs.lemmas.Bool.{cases_lt, cases_order}
 use Rattle.std.proofs.lemmas.List.Elements.{All-replicate}
 use Rattle.pix_table.specs.Nearest.{distance_to, IsNearest, IsFirst, numbers}
@@ -73,3 +73,14 @@ nearest_of_first entries color at i h f =
 pub all_known : (entries : List (List ℕ)) (n : ℕ) (clr : Color) (at : ℕ) → IsNearest entries (numbers clr) at
     → AreKnown entries (replicate n (record { clr = clr; at = at }))
 all_known entries n clr at h = All-replicate (λ known. IsNearest entries (numbers known.clr) known.at) n (record { clr = clr; at = at }) h
+
+-- a pixel of the same channels has the same nearest entry
+pub same_channels : (entries : List (List ℕ)) (clr : Color) (pixel : List ℕ) (at : ℕ) → clr.red ≡ get_or pixel 0 0 → clr.green ≡ get_or pixel 1 0
+    → clr.blue ≡ get_or pixel 2 0 → IsNearest entries (numbers clr) at → IsNearest entries pixel at
+same_channels entries clr pixel at red green blue h =
+    let same : (k : ℕ) → distance_to entries (numbers clr) k ≡ distance_to entries pixel k = (λ k. rw (red, green, blue) refl) in
+    record {
+      stands = h.stands;
+      least = λ k below. omega (arith, h.least k below, same k, same at);
+      first = λ k below. omega (arith, h.first k below, same k, same at);
+    }

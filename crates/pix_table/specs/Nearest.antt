@@ -1,5 +1,5 @@
 -- The nearest of a list of colors. A color is the list of its numbers: red, green and blue.
-use Rattle.std.specs.Prelude.{◌≡◌, ◌≢◌, ℕ, ◌+◌, ◌-◌, ◌*◌, ◌<◌, ◌≤◌, List, [], ◌∷◌, length, slice_index, slice_index_or, Option, Some, None}
+use Rattle.std.specs.Prelude.{◌⊎◌, ◌≡◌, ◌≢◌, ℕ, ◌+◌, ◌-◌, ◌*◌, ◌<◌, ◌≤◌, List, [], ◌∷◌, length, slice_index, slice_index_or, Option, Some, None}
 use Rattle.pix_table.specs.declared.color.Color.{Color}
 
 -- the numbers of a color
@@ -37,7 +37,16 @@ pub record IsFirst (entries : List (List ℕ)) (color : List ℕ) (i : ℕ) : Ty
   pub same : distance_to entries color i ≡ 0
   pub first : (k : ℕ) → k < i → distance_to entries color k ≢ 0
 
--- the index at each color's place is that of its nearest entry
-pub record AreNearest (entries colors : List (List ℕ)) (indices : List ℕ) : Type 0 where
-  pub many : length indices ≡ length colors
-  pub each : (k : ℕ) → k < length colors → IsNearest entries (slice_index_or colors k []) (slice_index indices k)
+-- the alpha of a pixel, which is its fourth number; a pixel without one is opaque
+abbrev pub alpha_of : List ℕ → ℕ
+alpha_of pixel = slice_index_or pixel 3 255
+
+-- the index of a pixel: the one that is kept for pixels below an alpha, and else that of its nearest entry
+abbrev pub IsMatched : List (List ℕ) → (alpha kept : ℕ) → List ℕ → ℕ → Type 0
+IsMatched entries alpha kept pixel i =
+    ((alpha_of pixel < alpha) × (i ≡ kept)) ⊎ ((alpha ≤ alpha_of pixel) × IsNearest entries pixel i)
+
+-- each pixel has its index at the same place
+pub record AreMatched (entries : List (List ℕ)) (alpha kept : ℕ) (pixels : List (List ℕ)) (indices : List ℕ) : Type 0 where
+  pub many : length indices ≡ length pixels
+  pub each : (k : ℕ) → k < length pixels → IsMatched entries alpha kept (slice_index_or pixels k []) (slice_index indices k)

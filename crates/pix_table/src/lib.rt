@@ -9,8 +9,8 @@ mod matcher;
 mod row;
 mod search;
 
-pub use crate::color::{Color, TableColor};
-pub use crate::look::{are_below, look_up};
-pub use crate::matcher::{Matcher, match_colors};
+pub use crate::color::{Color, TableColor, TablePixel};
+pub use crate::look::{are_below, count, look_up};
+pub use crate::matcher::{Matcher, match_pixels};
 pub use crate::row::{IndexDepth, RowFault, pack_row, unpack_row};
 pub use crate::search::nearest;

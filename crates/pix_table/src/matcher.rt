@@ -3,9 +3,9 @@
 //! A color that was asked for is stored near the place that its channels give, with its answer. Which place that is decides only how often the
 //! entries are searched: no answer depends on it.
 ghost use Rattle.std.specs.Prelude.{◌≡◌, ◌<◌, ◌≤◌, ◌⊎◌, length, map, take, MatchOption};
-ghost use Rattle.pix_table.specs.Nearest.{IsNearest, AreNearest, numbers};
+ghost use Rattle.pix_table.specs.Nearest.{IsNearest, IsMatched, AreMatched, numbers};
 
-use crate::color::{Color, TableColor};
+use crate::color::{Color, TableColor, TablePixel};
 use crate::search::nearest;
 use std::marker::Model;
 
@@ -23,6 +23,7 @@ pub struct Known {
 }
 
 /// A copy of a table of colors, to which many colors are matched.
+#[derive(Drop)]
 pub struct Matcher {
     entries: [Color; ENTRIES],
     len: usize,
@@ -103,15 +104,32 @@ fn search(entries: &[Color], clr: Color) -> u8
     }
 }
 
-/// Sets each index to that of the entry which is nearest to the color of the same place.
-///
-/// Condition: there are as many indices as colors.
-pub fn match_colors<C: TableColor>(matcher: &mut Matcher, colors: &[C], indices: &mut [u8])
-    requires { length indices.old ≡ length colors.now }
-    ensures nearest { AreNearest matcher.old (map C.channels colors.now) indices.new }
+/// Returns the index of a pixel: `kept` where its alpha is below `alpha`, and else that of the nearest entry.
+fn matched<P: TablePixel>(matcher: &mut Matcher, pixel: P, alpha: u8, kept: u8) -> u8
+    ensures matched { IsMatched matcher.old alpha kept (P.values pixel) result }
     ensures same { matcher.new ≡ matcher.old }
 {
-    for i in 0..colors.len() {
-        indices[i] = matcher.nearest(colors[i].color());
+    if pixel.alpha() < alpha {
+        return kept;
+    }
+    matcher.nearest(pixel.rgb())
+}
+
+/// Sets the index of each pixel: to `kept` where the pixel's alpha is below `alpha`, and else to that of the nearest entry.
+///
+/// Condition: there are as many indices as pixels.
+pub fn match_pixels<P: TablePixel>(
+    matcher: &mut Matcher,
+    pixels: &[P],
+    alpha: u8,
+    kept: u8,
+    indices: &mut [u8],
+)
+    requires { length indices.old ≡ length pixels.now }
+    ensures matched { AreMatched matcher.old alpha kept (map P.values pixels.now) indices.new }
+    ensures same { matcher.new ≡ matcher.old }
+{
+    for i in 0..pixels.len() {
+        indices[i] = matched(matcher, pixels[i], alpha, kept);
     }
 }
