@@ -10,3 +10,4 @@ pub mod OnePlane
 pub mod MattePlanes
 pub mod FourPixels
 pub mod Blocks
+pub mod Masked
