@@ -11,3 +11,4 @@ pub mod MattePlanes
 pub mod FourPixels
 pub mod Blocks
 pub mod Kept
+pub mod Masked

@@ -8,10 +8,12 @@ pub mod Steps
 pub mod Copies
 pub mod Shaped
 pub mod Overlaps
+pub mod Masked
 pub mod Pictures
 pub mod Views
 pub mod RunBounds
 pub mod Transparent
+pub mod Opacity
 pub mod Claimed
 pub mod Seen
 pub mod Windows

@@ -8,6 +8,10 @@ ghost use Rattle.pix_raster.specs.Clip.{where_in};
 use crate::clip::{ClippedRect, Overlap};
 use crate::region::Region;
 
+mod masked;
+
+pub use masked::{MaskedBlit, Source, blit_masked};
+
 /// The size of an image in points, and how many pixels its rows lie apart.
 #[derive(Clone, Copy, Debug, PartialEq, Eq)]
 pub struct Shape {

@@ -1,10 +1,10 @@
 -- Of the visitor of a command on a window: that it meets its contract.
 use Rattle.std.proofs.Common.{◌≡◌, ◌+◌, replicate, arith, refl, ap, sym, ◌∙◌}
 use Rattle.pix_ops.specs.declared.ops.Op.{Op}
-use Rattle.pix_el.specs.PixelComposite.{pixel_composite, matted_composite, matte_value, matte_numbers}
+use Rattle.pix_el.specs.PixelComposite.{pixel_composite}
 use Rattle.pix_raster.specs.Image.{point, region_of}
 use Rattle.pix_raster.specs.Lent.{where_covered, picture}
-use Rattle.pix_raster.specs.Run.{Cleared, Copied, Composited, Matted}
+use Rattle.pix_raster.specs.Run.{Cleared, Copied, Composited}
 use Rattle.pix_raster.proofs.Shaped.{changed_alike}
 use Rattle.pix_raster.proofs.Steps.{whole_effect, covered_effect, from_pair_effect}
 use Rattle.pix_raster.proofs.raster.window.InWindowPixChanMatteLinearSliceVisitor.visit.Goals as goal
@@ -55,17 +55,3 @@ returns-in-Raster g c =
     (λ x y pixel lx ly. from_pair_effect layout it.to (picture window) it.from (region_of it.src.now) (point n it.src.now) (pixel_composite layout g.O.Blend.op) (Composited it.op)
     (window.left + x) (window.top + y) pixel (λ s p. ap (λ (o : Op). pixel_composite layout o s p) (sym same)))
     c.blit_from-in-Raster.ensures)
-
-pub returns-in-Matte : goal.returns-in-Matte
-returns-in-Matte g c =
-    let layout = g.P.Pixel.layout in
-    let n = g.P.Pixel.numbers in
-    let m = matte_numbers g.P.Chan.Channel.number in
-    let window = c.args.self.now.window in
-    let it = c.in-Matte in
-    let same : it.op ≡ g.O.Blend.op = rw it.is at c.requires.2 in
-    rw it.is (changed_alike n window.shape c.args.pixels.now c.blit_from-in-Matte.new.pixels _ _
-    (λ x y pixel lx ly. from_pair_effect layout it.to (picture window) it.from (region_of it.src.now) (point m it.src.now)
-    (λ s. matted_composite layout g.O.Blend.op (matte_value layout s) (n it.clr)) (λ s. Matted it.op s (n it.clr)) (window.left + x) (window.top + y) pixel
-    (λ s p. ap (λ (o : Op). matted_composite layout o (matte_value layout s) (n it.clr) p) (sym same)))
-    c.blit_from-in-Matte.ensures)
