@@ -77,11 +77,11 @@ class Image(View):
         memory, _, count, width, height, stride, type = self._rows
         left, top = origin_of(origin)
         taken = [made(command, type) for command in commands]
-        read = [source for _, source in taken if source is not None]
+        read = [memory for _, memories in taken for memory in memories]
         if memory.is_readonly and memory.length:
             raise TypeError("the buffer is read-only")
-        for number, (_, source) in enumerate(taken):
-            if source is not None and not memory.is_apart(source):
+        for number, (_, memories) in enumerate(taken):
+            if not all(memory.is_apart(source) for source in memories):
                 raise ValueError(f"command {number}: its source shares memory with the image")
         records = (type._command * max(1, len(taken)))(*(record for record, _ in taken))
         done, run = ctypes.c_size_t(), type._calls[width * height * len(taken) > LONG]
