@@ -39,16 +39,18 @@ static plain_region plain(pix_region it) {
 
 #define OTHER_(S, PIXEL, KIND, COLOR)                                                                                  \
     static uint32_t fault##S(const pix_command##S *it) {                                                               \
-        if (it->kind > PLAIN_MATTE)                                                                                    \
+        if (it->kind > PLAIN_FADED)                                                                                    \
             return PIX_BAD_KIND;                                                                                       \
-        if (!is_within(it->to) || !is_within(it->from))                                                                \
+        if (!is_within(it->to) || !is_within(it->from) || !is_within(it->mask))                                        \
             return PIX_BAD_REGION;                                                                                     \
         if (it->op > PIX_OP_PLUS)                                                                                      \
             return PIX_BAD_OP;                                                                                         \
-        if (it->kind == PLAIN_COPY || it->kind == PLAIN_SOURCE || it->kind == PLAIN_MATTE)                             \
+        if (it->kind == PLAIN_COPY || it->kind >= PLAIN_SOURCE)                                                        \
             if (!is_sized(it->width, it->height, it->stride,                                                           \
                           it->kind == PLAIN_MATTE ? it->matte_count : it->pixel_count))                                \
                 return PIX_BAD_SOURCE;                                                                                 \
+        if (it->kind == PLAIN_MASKED && !is_sized(it->mask_width, it->mask_height, it->mask_stride, it->matte_count))  \
+            return PIX_BAD_SOURCE;                                                                                     \
         return PIX_OK;                                                                                                 \
     }                                                                                                                  \
     uint32_t pix_run_window##S(PIXEL *pixels, size_t pixel_count, uint32_t left, uint32_t top, uint32_t width,         \
@@ -68,7 +70,10 @@ static plain_region plain(pix_region it) {
             const pix_command##S *it = &commands[i];                                                                   \
             const void *read = it->kind == PLAIN_MATTE ? (const void *)it->mattes : (const void *)it->pixels;          \
             plain_rows source = {(unsigned char *)(uintptr_t)read, it->width, it->height, it->stride};                 \
-            plain_command same = {it->kind, it->op, plain(it->to), plain(it->from), COLOR, &source};                   \
+            plain_rows mask = {(unsigned char *)(uintptr_t)(const void *)it->mattes, it->mask_width, it->mask_height,  \
+                               it->mask_stride};                                                                       \
+            plain_command same = {it->kind, it->op,    plain(it->to), plain(it->from), plain(it->mask),                \
+                                  COLOR,    it->alpha, &source,       &mask};                                          \
             plain_run_in(&kind, &image, left, top, &same, 1);                                                          \
         }                                                                                                              \
         return PIX_OK;                                                                                                 \

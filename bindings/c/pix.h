@@ -87,8 +87,8 @@ typedef struct { const pix_rgba8 *pixels; uint32_t width, height, stride; } pix_
 typedef struct { const pix_rgba16 *pixels; uint32_t width, height, stride; } pix_source_rgba16;
 typedef struct { const pix_graya8 *pixels; uint32_t width, height, stride; } pix_source_graya8;
 
-/* A mask: the fraction of a color that is composited at each point, from 0 (none) to 255 (all), or to 65535 in
- * pix_matte16. pix_matte goes with images of 8 bits a channel, pix_matte16 with those of 16. The stride is counted in
+/* A mask: the fraction of a color or of a source that is composited at each point, from 0 (none) to 255 (all), or to
+ * 65535 in pix_matte16. pix_matte goes with images of 8 bits a channel, pix_matte16 with those of 16. The stride is counted in
  * values. */
 typedef struct { const uint8_t *values; uint32_t width, height, stride; } pix_matte;
 typedef struct { const uint16_t *values; uint32_t width, height, stride; } pix_matte16;
@@ -138,7 +138,7 @@ typedef enum {
     PIX_BAD_KIND = 2,   /* a command that no function of this header made */
     PIX_BAD_REGION = 3, /* a region of a command has a side above 2147483647 */
     PIX_BAD_OP = 4,     /* no such operator */
-    PIX_BAD_SOURCE = 5, /* the source or the matte of a command: as PIX_BAD_SIZE */
+    PIX_BAD_SOURCE = 5, /* the source, the matte or the mask of a command: as PIX_BAD_SIZE */
     PIX_BAD_FORMAT = 6, /* no such format */
     PIX_BAD_LENGTH = 7, /* more pixels to convert than a quarter of PTRDIFF_MAX, or more commands than memory holds */
     PIX_NULL = 8,       /* a pointer is null, and what it points to is not empty */
@@ -203,7 +203,9 @@ typedef enum {
     PIX_KIND_COPY_IMAGE = 2,
     PIX_KIND_COMPOSITE_COLOR = 3,
     PIX_KIND_COMPOSITE_IMAGE = 4,
-    PIX_KIND_COMPOSITE_MATTE = 5
+    PIX_KIND_COMPOSITE_MATTE = 5,
+    PIX_KIND_COMPOSITE_IMAGE_MATTE = 6,
+    PIX_KIND_COMPOSITE_IMAGE_ALPHA = 7
 } pix_kind;
 
 /* A command, laid out as the library reads it: make it by the functions below, and don't touch its members. The kind is
@@ -215,6 +217,9 @@ typedef struct {
     const pix_rgba8 *pixels; size_t pixel_count;
     const uint8_t *mattes; size_t matte_count;
     uint32_t width, height, stride;
+    pix_region mask;
+    uint32_t mask_width, mask_height, mask_stride;
+    uint8_t alpha;
 } pix_command;
 
 /* Makes all pixels of the image transparent: all channels 0. */
@@ -235,6 +240,17 @@ static inline pix_command pix_composite_image(pix_region to, pix_source source, 
 /* Composites a color, multiplied by the values of `from` in a matte, with the pixels of `to`: a glyph. */
 static inline pix_command pix_composite_matte(pix_region to, pix_matte matte, pix_region from, pix_rgba8 color,
                                               pix_op op);
+
+/* Composites the pixels of `from` in a source, multiplied by the values of `mask_from` in a mask, with those of `to`:
+ * soft edges. All three corners are paired, and a point is changed where all three regions and all of image, source and
+ * mask have it. */
+static inline pix_command pix_composite_image_matte(pix_region to, pix_source source, pix_region from, pix_matte mask,
+                                                    pix_region mask_from, pix_op op);
+
+/* Composites the pixels of `from` in a source, multiplied by `alpha`, with those of `to`: a fade. An alpha of 255 is
+ * pix_composite_image (65535 of 16 bits). */
+static inline pix_command pix_composite_image_alpha(pix_region to, pix_source source, pix_region from, uint8_t alpha,
+                                                    pix_op op);
 
 /* ---- Calls ---- */
 
@@ -291,6 +307,9 @@ typedef struct {
     const pix_rgba16 *pixels; size_t pixel_count;
     const uint16_t *mattes; size_t matte_count;
     uint32_t width, height, stride;
+    pix_region mask;
+    uint32_t mask_width, mask_height, mask_stride;
+    uint16_t alpha;
 } pix_command_rgba16;
 
 typedef struct {
@@ -300,11 +319,15 @@ typedef struct {
     const pix_graya8 *pixels; size_t pixel_count;
     const uint8_t *mattes; size_t matte_count;
     uint32_t width, height, stride;
+    pix_region mask;
+    uint32_t mask_width, mask_height, mask_stride;
+    uint8_t alpha;
 } pix_command_graya8;
 
 /* pix_image_of_rgba16, pix_source_of_rgba16, pix_source_of_image_rgba16, pix_clear_rgba16, pix_copy_color_rgba16,
- * pix_copy_image_rgba16, pix_composite_color_rgba16, pix_composite_image_rgba16, pix_composite_matte_rgba16 (through a
- * pix_matte16), pix_run_rgba16, pix_run_in_rgba16, pix_do_rgba16; and the same with _graya8 (through a pix_matte). They
+ * pix_copy_image_rgba16, pix_composite_color_rgba16, pix_composite_image_rgba16, pix_composite_matte_rgba16 and
+ * pix_composite_image_matte_rgba16 (through a pix_matte16), pix_composite_image_alpha_rgba16 (at a uint16_t),
+ * pix_run_rgba16, pix_run_in_rgba16, pix_do_rgba16; and the same with _graya8 (through a pix_matte, at a uint8_t). They
  * are defined below together with those above. */
 
 /* ---- What libpix_c.a has ----
@@ -373,7 +396,12 @@ PIX_ASSERT_(region, sizeof(pix_region) == 16 && offsetof(pix_region, width) == 8
     PIX_ASSERT_(width_##command, offsetof(command, width) == PIX_WORD_(4, PIXEL));                                     \
     PIX_ASSERT_(height_##command, offsetof(command, height) == PIX_WORD_(4, PIXEL) + 4);                               \
     PIX_ASSERT_(stride_##command, offsetof(command, stride) == PIX_WORD_(4, PIXEL) + 8);                               \
-    PIX_ASSERT_(size_of_##command, sizeof(command) == PIX_ROUND_(PIX_WORD_(4, PIXEL) + 12))
+    PIX_ASSERT_(mask_##command, offsetof(command, mask) == PIX_WORD_(4, PIXEL) + 12);                                  \
+    PIX_ASSERT_(mask_width_##command, offsetof(command, mask_width) == PIX_WORD_(4, PIXEL) + 28);                      \
+    PIX_ASSERT_(mask_height_##command, offsetof(command, mask_height) == PIX_WORD_(4, PIXEL) + 32);                    \
+    PIX_ASSERT_(mask_stride_##command, offsetof(command, mask_stride) == PIX_WORD_(4, PIXEL) + 36);                    \
+    PIX_ASSERT_(alpha_##command, offsetof(command, alpha) == PIX_WORD_(4, PIXEL) + 40);                                \
+    PIX_ASSERT_(size_of_##command, sizeof(command) == PIX_ROUND_(PIX_WORD_(4, PIXEL) + 42))
 
 PIX_LAYOUT_(pix_command, pix_rgba8);
 PIX_LAYOUT_(pix_command_rgba16, pix_rgba16);
@@ -384,7 +412,8 @@ PIX_LAYOUT_(pix_command_graya8, pix_graya8);
     sizeof(command), offsetof(command, kind), offsetof(command, op), offsetof(command, to), offsetof(command, from),   \
         offsetof(command, color), offsetof(command, pixels), offsetof(command, pixel_count),                           \
         offsetof(command, mattes), offsetof(command, matte_count), offsetof(command, width),                           \
-        offsetof(command, height), offsetof(command, stride)
+        offsetof(command, height), offsetof(command, stride), offsetof(command, mask), offsetof(command, mask_width),  \
+        offsetof(command, mask_height), offsetof(command, mask_stride), offsetof(command, alpha)
 #define PIX_FACTS_                                                                                                     \
     PIX_ABI_VERSION, sizeof(pix_rgba8), sizeof(pix_rgba16), sizeof(pix_graya8), sizeof(pix_region),                    \
         offsetof(pix_region, x), offsetof(pix_region, y), offsetof(pix_region, width), offsetof(pix_region, height),   \
@@ -446,6 +475,17 @@ static inline const char *pix_status_text(pix_status status) {
     if (source.source_elements || command.count)                                                                       \
         command.elements = source.source_elements
 
+/* Notes a mask in `command` likewise. */
+#define PIX_NOTE_MASK_(matte, region)                                                                                  \
+    command.mask = region;                                                                                             \
+    command.mask_width = matte.width;                                                                                  \
+    command.mask_height = matte.height;                                                                                \
+    command.mask_stride = matte.stride ? matte.stride : matte.width;                                                   \
+    command.matte_count =                                                                                              \
+        pix_extent_(command.mask_width, command.mask_height, command.mask_stride, sizeof *command.mattes);             \
+    if (matte.values || command.matte_count)                                                                           \
+        command.mattes = matte.values
+
 /* The views and commands of one kind of pixels: the end of their names, the pixel, the matte and its values. */
 #define PIX_COMMANDS_(S, PIXEL, MATTE, VALUE)                                                                          \
     static inline pix_image##S pix_image_of##S(PIXEL *pixels, uint32_t width, uint32_t height) {                       \
@@ -501,6 +541,20 @@ static inline const char *pix_status_text(pix_status status) {
         pix_command##S command = pix_command_of_##S(PIX_KIND_COMPOSITE_MATTE, op, to, from);                           \
         command.color = color;                                                                                         \
         PIX_NOTE_(matte, mattes, values, matte_count);                                                                 \
+        return command;                                                                                                \
+    }                                                                                                                  \
+    static inline pix_command##S pix_composite_image_matte##S(pix_region to, pix_source##S source, pix_region from,    \
+                                                              MATTE matte, pix_region matte_from, pix_op op) {         \
+        pix_command##S command = pix_command_of_##S(PIX_KIND_COMPOSITE_IMAGE_MATTE, op, to, from);                     \
+        PIX_NOTE_(source, pixels, pixels, pixel_count);                                                                \
+        PIX_NOTE_MASK_(matte, matte_from);                                                                             \
+        return command;                                                                                                \
+    }                                                                                                                  \
+    static inline pix_command##S pix_composite_image_alpha##S(pix_region to, pix_source##S source, pix_region from,    \
+                                                              VALUE opacity, pix_op op) {                              \
+        pix_command##S command = pix_command_of_##S(PIX_KIND_COMPOSITE_IMAGE_ALPHA, op, to, from);                     \
+        PIX_NOTE_(source, pixels, pixels, pixel_count);                                                                \
+        command.alpha = opacity;                                                                                       \
         return command;                                                                                                \
     }
 
@@ -590,6 +644,7 @@ static inline pix_status pix_convert(pix_format from, pix_format to, const void 
 #undef PIX_WORD_
 #undef PIX_LAYOUT_
 #undef PIX_NOTE_
+#undef PIX_NOTE_MASK_
 #undef PIX_COMMANDS_
 #undef PIX_CALLS_
 

@@ -56,7 +56,7 @@ class Refusals(unittest.TestCase):
         self.image.run()
 
     def test_commands(self):
-        self.refused(pix.Status.BAD_KIND, pix.Command(6))
+        self.refused(pix.Status.BAD_KIND, pix.Command(8))
         self.refused(pix.Status.BAD_OP, pix.composite_color(WHOLE, COLOR, 13))
         self.refused(pix.Status.BAD_REGION, pix.copy_color((0, 0, LONG, 1), COLOR))
         self.refused(pix.Status.BAD_REGION, pix.copy_image(WHOLE, self.other, (0, 0, 1, LONG)))
@@ -172,6 +172,7 @@ class Refusals(unittest.TestCase):
             self.assertRaises(ValueError, self.image.run, pix.copy_image(WHOLE, source))
         matte = pix.Matte(memoryview(self.pixels)[63:], 1, 1)
         self.assertRaises(ValueError, self.image.run, pix.composite_matte(WHOLE, matte, COLOR))
+        self.assertRaises(ValueError, self.image.run, pix.composite_image_matte(WHOLE, self.other, matte))
 
     def test_types(self):
         self.assertRaises(TypeError, pix.copy_image, WHOLE, pix.Matte(bytes(16), 4, 4))
@@ -179,6 +180,17 @@ class Refusals(unittest.TestCase):
         self.assertRaises(TypeError, self.image.run, pix.copy_image(WHOLE, pix.Image.new(4, 4, pix.GRAYA8)))
         matte = pix.Matte(bytes(32), 4, 4, bits=16)
         self.assertRaises(TypeError, self.image.run, pix.composite_matte(WHOLE, matte, COLOR))
+
+    def test_opacities(self):
+        for alpha in (-1, 256):
+            self.assertRaises(ValueError, self.image.run, pix.composite_image_alpha(WHOLE, self.other, alpha))
+        self.assertRaises(TypeError, pix.composite_image_alpha, WHOLE, self.other, 0.5)
+        matte = pix.Matte(bytes(16), 4, 4)
+        self.assertRaises(TypeError, pix.composite_image_matte, WHOLE, matte, matte)
+        self.assertRaises(TypeError, pix.composite_image_matte, WHOLE, self.other, self.other)
+        wide = pix.composite_image_matte(WHOLE, self.other, pix.Matte(bytes(32), 4, 4, bits=16))
+        self.assertRaises(TypeError, self.image.run, wide)
+        self.refused(pix.Status.BAD_SOURCE, pix.composite_image_matte(WHOLE, self.other, pix.Matte(bytes(15), 4, 4)))
 
     def test_conversions(self):
         four, three = pix.Format.RGBA8, pix.Format.RGB8
@@ -496,6 +508,25 @@ class Paintings(unittest.TestCase):
             image.run(pix.composite_color((0, 0, 1, 1), source, op))
             expected = [min(255, times(s, by_source[op]) + times(d, by_dest[op])) for s, d in zip(source, dest)]
             self.assertEqual(list(image.pixels), expected, op)
+
+    def test_masks_and_opacities(self):
+        source = pix.Image(bytes((200, 100, 0, 200)) * 3, 3, 1)
+        below = bytes((0, 0, 100, 255))
+        faded, kept = bytes((100, 50, 61, 255)), bytes((200, 100, 22, 255))
+        pixels = bytearray(below * 3)
+        image = pix.Image(pixels, 3, 1)
+        image.run(pix.composite_image_alpha((0, 0, 1, 1), source, 128))
+        self.assertEqual(pixels, faded + below * 2)
+        pixels[:] = below * 3
+        mask = pix.Matte(bytes((9, 9, 9, 128, 0, 255)), 3, 2)
+        command = pix.composite_image_matte((0, 0, 9, 9), source, mask, mask_from=(0, 1, 3, 1))
+        self.assertEqual((command.mask, command.mask_from, command.alpha), (mask, (0, 1, 3, 1), 0))
+        image.run(pickle.loads(pickle.dumps(command)))
+        self.assertEqual(pixels, faded + below + kept)
+        wide = pix.Image(array.array("H", (40000, 20000, 0, 40000)), 1, 1, type=pix.RGBA16)
+        words = array.array("H", [0] * 4)
+        pix.Image(words, 1, 1, type=pix.RGBA16).run(pix.composite_image_alpha((0, 0, 1, 1), wide, 32768, op=pix.Op.SRC))
+        self.assertEqual(list(words), [20000, 10000, 0, 20000])
 
     def test_wide_pixels(self):
         words = array.array("H", (1000, 2000, 3000, 65535) * 2)

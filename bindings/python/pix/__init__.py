@@ -39,7 +39,10 @@ from pix._command import Command
 from pix._convert import convert
 from pix._image import Image
 from pix._list import CommandList
-from pix._makers import clear, composite_color, composite_image, composite_matte, copy_color, copy_image
+from pix._makers import (
+    clear, composite_color, composite_image, composite_image_alpha, composite_image_matte, composite_matte, copy_color,
+    copy_image,
+)  # fmt: skip
 from pix._pixels import GRAYA8, RGBA8, RGBA16, PixelType
 from pix._values import Format, Op, PixError, Region, Status
 from pix._views import Matte
@@ -47,12 +50,15 @@ from pix._views import Matte
 __version__ = "0.2.0"
 __all__ = [
     "Op", "Format", "Status", "PixError", "PixelType", "RGBA8", "RGBA16", "GRAYA8", "Region", "Image", "Matte",
-    "Command", "CommandList", "clear", "copy_color", "copy_image", "composite_color", "composite_image", "composite_matte", "convert",
+    "Command", "CommandList", "clear", "copy_color", "copy_image", "composite_color", "composite_image", "composite_matte",
+    "composite_image_matte", "composite_image_alpha", "convert",
 ]  # fmt: skip
 
 # Users and pickles name them by this package, wherever they are defined.
 for _public in (Op, Format, Status, PixError, PixelType, Image, Matte, Command, CommandList, convert):
     _public.__module__ = __name__
 for _public in (clear, copy_color, copy_image, composite_color, composite_image, composite_matte):
+    _public.__module__ = __name__
+for _public in (composite_image_matte, composite_image_alpha):
     _public.__module__ = __name__
 del _public

@@ -25,9 +25,10 @@ class Listed:
         self.address = ctypes.addressof(self._records)
         # Each memory once, with the number of the first command that reads it.
         first = {}  # type: dict[int, Tuple[int, Memory]]
-        for number, (_, source) in enumerate(taken):
-            if source is not None and source.length:
-                first.setdefault(id(source), (number, source))
+        for number, (_, read) in enumerate(taken):
+            for source in read:
+                if source.length:
+                    first.setdefault(id(source), (number, source))
         self.numbers = [number for number, _ in first.values()]
         self.sources: List[Memory] = [source for _, source in first.values()]
         self.low = min((source.address for source in self.sources), default=0)

@@ -93,6 +93,11 @@ pub struct Command<P, M> {
     pub width: u32,
     pub height: u32,
     pub stride: u32,
+    pub mask: Region,
+    pub mask_width: u32,
+    pub mask_height: u32,
+    pub mask_stride: u32,
+    pub alpha: M,
 }
 
 /// Kinds of commands.
@@ -103,6 +108,8 @@ pub mod kind {
     pub const COMPOSITE_COLOR: u32 = 3;
     pub const COMPOSITE_IMAGE: u32 = 4;
     pub const COMPOSITE_MATTE: u32 = 5;
+    pub const COMPOSITE_IMAGE_MATTE: u32 = 6;
+    pub const COMPOSITE_IMAGE_ALPHA: u32 = 7;
 }
 
 /// What the functions answer.
@@ -275,15 +282,15 @@ pub const ABI_VERSION: u32 = 1;
 
 /// What [`pix_layout`] answers, from 0 on: the version; the sizes of the three kinds of pixels and of a region, and the
 /// offsets of its fields; the size of the command of each kind, and the offsets of its fields.
-pub const FACTS: [u32; 48] = facts();
+pub const FACTS: [u32; 63] = facts();
 
-const fn facts() -> [u32; 48] {
+const fn facts() -> [u32; 63] {
     let (four, wide, gray) = (
         command_facts::<Rgba8, u8>(),
         command_facts::<Rgba16, u16>(),
         command_facts::<Graya8, u8>(),
     );
-    let mut all = [ABI_VERSION; 48];
+    let mut all = [ABI_VERSION; 63];
     all[1] = size_of::<Rgba8>() as u32;
     all[2] = size_of::<Rgba16>() as u32;
     all[3] = size_of::<Graya8>() as u32;
@@ -293,17 +300,17 @@ const fn facts() -> [u32; 48] {
     all[7] = offset_of!(Region, width) as u32;
     all[8] = offset_of!(Region, height) as u32;
     let mut i = 0;
-    while i < 13 {
+    while i < 18 {
         all[9 + i] = four[i] as u32;
-        all[22 + i] = wide[i] as u32;
-        all[35 + i] = gray[i] as u32;
+        all[27 + i] = wide[i] as u32;
+        all[45 + i] = gray[i] as u32;
         i += 1;
     }
     all
 }
 
 /// The size of a command and the offsets of its fields.
-const fn command_facts<P, M>() -> [usize; 13] {
+const fn command_facts<P, M>() -> [usize; 18] {
     [
         size_of::<Command<P, M>>(),
         offset_of!(Command<P, M>, kind),
@@ -318,6 +325,11 @@ const fn command_facts<P, M>() -> [usize; 13] {
         offset_of!(Command<P, M>, width),
         offset_of!(Command<P, M>, height),
         offset_of!(Command<P, M>, stride),
+        offset_of!(Command<P, M>, mask),
+        offset_of!(Command<P, M>, mask_width),
+        offset_of!(Command<P, M>, mask_height),
+        offset_of!(Command<P, M>, mask_stride),
+        offset_of!(Command<P, M>, alpha),
     ]
 }
 
@@ -344,7 +356,12 @@ const fn is_laid_out<P, M>() -> bool {
         && offset_of!(Command<P, M>, width) == sizes
         && offset_of!(Command<P, M>, height) == sizes + 4
         && offset_of!(Command<P, M>, stride) == sizes + 8
-        && size_of::<Command<P, M>>() == (sizes + 12).next_multiple_of(word)
+        && offset_of!(Command<P, M>, mask) == sizes + 12
+        && offset_of!(Command<P, M>, mask_width) == sizes + 28
+        && offset_of!(Command<P, M>, mask_height) == sizes + 32
+        && offset_of!(Command<P, M>, mask_stride) == sizes + 36
+        && offset_of!(Command<P, M>, alpha) == sizes + 40
+        && size_of::<Command<P, M>>() == (sizes + 42).next_multiple_of(word)
 }
 
 const _: () = assert!(is_laid_out::<Rgba8, u8>() && size_of::<Rgba8>() == 4);
