@@ -4,7 +4,7 @@ from __future__ import annotations
 
 import ctypes
 from functools import partial
-from typing import Any, Iterator, List, Sequence, Tuple
+from typing import Any, Dict, Iterator, List, Sequence, Tuple
 
 from pix._command import Command, made
 from pix._memory import NOWHERE, Memory
@@ -24,7 +24,7 @@ class Listed:
         self._records = (type._command * max(1, len(taken)))(*(record for record, _ in taken))
         self.address = ctypes.addressof(self._records)
         # Each memory once, with the number of the first command that reads it.
-        first = {}  # type: dict[int, Tuple[int, Memory]]
+        first: Dict[int, Tuple[int, Memory]] = {}
         for number, (_, read) in enumerate(taken):
             for source in read:
                 if source.length:
