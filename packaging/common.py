@@ -16,7 +16,8 @@ TOP = pathlib.Path(__file__).resolve().parent.parent
 HERE = TOP / "packaging"
 CALLS = [
     "pix_convert_bytes", "pix_layout", "pix_run_commands", "pix_run_commands_graya8", "pix_run_commands_rgba16",
-    "pix_run_window", "pix_run_window_graya8", "pix_run_window_rgba16",
+    "pix_run_window", "pix_run_window_graya8", "pix_run_window_rgba16", "pix_table_count", "pix_table_look_up",
+    "pix_table_match", "pix_table_match_alpha", "pix_table_nearest", "pix_table_pack", "pix_table_unpack",
 ]  # fmt: skip
 
 
