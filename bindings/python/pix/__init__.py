@@ -20,6 +20,9 @@ an exception is raised, no pixel was changed.
 A list that is run often is made a CommandList, which is tested once: image.run(list) then takes a third of the time that
 as many commands take one by one.
 
+map_indexed() makes indices into a table of colors of a picture, for files such as GIF and PNG of a palette; look_up() makes
+colors of them again, and pack_row() bytes of several indices each.
+
 A picture may be painted tile by tile, each an Image of its own that runs the same commands at its place, as
 tile.run(*commands, origin=(left, top)); that is the picture painted whole. Several threads may paint bands of rows of
 one buffer at once.
@@ -38,6 +41,7 @@ a library of another version or layout, raises ImportError.
 from pix._command import Command
 from pix._convert import convert
 from pix._image import Image
+from pix._indexed import count_indices, look_up, map_indexed, pack_row, row_size, unpack_row
 from pix._list import CommandList
 from pix._makers import (
     clear, composite_color, composite_image, composite_image_alpha, composite_image_matte, composite_matte, copy_color,
@@ -52,10 +56,13 @@ __all__ = [
     "Op", "Format", "Status", "PixError", "PixelType", "RGBA8", "RGBA16", "GRAYA8", "Region", "Image", "Matte",
     "Command", "CommandList", "clear", "copy_color", "copy_image", "composite_color", "composite_image", "composite_matte",
     "composite_image_matte", "composite_image_alpha", "convert",
+    "map_indexed", "look_up", "count_indices", "row_size", "pack_row", "unpack_row",
 ]  # fmt: skip
 
 # Users and pickles name them by this package, wherever they are defined.
 for _public in (Op, Format, Status, PixError, PixelType, Image, Matte, Command, CommandList, convert):
+    _public.__module__ = __name__
+for _public in (map_indexed, look_up, count_indices, row_size, pack_row, unpack_row):
     _public.__module__ = __name__
 for _public in (clear, copy_color, copy_image, composite_color, composite_image, composite_matte):
     _public.__module__ = __name__

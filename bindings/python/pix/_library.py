@@ -76,6 +76,12 @@ def load(kind: Any) -> Any:
     run = [pointer, size, u32, u32, u32, u32, u32, pointer, size, ctypes.POINTER(size)]
     calls = {"pix_layout": [size], "pix_convert_bytes": [u32, u32, pointer, size, pointer, size, size]}
     calls.update((f"pix_run_window{kind}", run) for kind in ("", "_rgba16", "_graya8"))
+    buffer = [pointer, size]
+    calls["pix_table_match"] = buffer * 3
+    calls["pix_table_match_alpha"] = [*buffer * 2, ctypes.c_uint8, ctypes.c_uint8, *buffer]
+    calls["pix_table_look_up"] = buffer * 3
+    calls["pix_table_count"] = buffer * 2
+    calls["pix_table_pack"] = calls["pix_table_unpack"] = [u32, *buffer * 2]
     try:
         library = kind(path)
     except OSError as fault:

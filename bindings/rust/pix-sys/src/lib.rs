@@ -1,4 +1,4 @@
-//! The C interface of the library `pix`: the five functions of `libpix_c.a` and the types that cross to it.
+//! The C interface of the library `pix`: the functions of `libpix_c.a` and the types that cross to it.
 //!
 //! `bindings/c/pix.h` documents it. Programs in Rust use the crate `pix` above this one, which is safe. One that calls
 //! these functions asks [`check_library`] first whether the processor and the archive are the right ones.
@@ -53,6 +53,37 @@ pub struct Graya8 {
 impl Graya8 {
     pub const fn new(value: u8, a: u8) -> Graya8 {
         Graya8 { value, a }
+    }
+}
+
+/// Red, green and blue of 8 bits in sRGB: an entry of a table, or a pixel.
+#[repr(C)]
+#[derive(Clone, Copy, Debug, Default, PartialEq, Eq, Hash)]
+pub struct Srgb8 {
+    pub r: u8,
+    pub g: u8,
+    pub b: u8,
+}
+
+impl Srgb8 {
+    pub const fn new(r: u8, g: u8, b: u8) -> Srgb8 {
+        Srgb8 { r, g, b }
+    }
+}
+
+/// Red, green, blue and alpha of 8 bits in sRGB, not multiplied by the alpha.
+#[repr(C)]
+#[derive(Clone, Copy, Debug, Default, PartialEq, Eq, Hash)]
+pub struct Srgba8 {
+    pub r: u8,
+    pub g: u8,
+    pub b: u8,
+    pub a: u8,
+}
+
+impl Srgba8 {
+    pub const fn new(r: u8, g: u8, b: u8, a: u8) -> Srgba8 {
+        Srgba8 { r, g, b, a }
     }
 }
 
@@ -122,6 +153,9 @@ pub mod status {
     pub const BAD_SOURCE: u32 = 5;
     pub const BAD_FORMAT: u32 = 6;
     pub const BAD_LENGTH: u32 = 7;
+    pub const BAD_TABLE: u32 = 11;
+    pub const BAD_INDEX: u32 = 12;
+    pub const BAD_DEPTH: u32 = 13;
 }
 
 /// A function that runs commands on pixels `P` with mattes `M`.
@@ -254,6 +288,101 @@ unsafe extern "C" {
         commands: *const Command<Graya8, u8>,
         command_count: usize,
         done: *mut usize,
+    ) -> u32;
+
+    /// Writes the index of the entry of a table that is nearest to a color.
+    ///
+    /// # Safety
+    ///
+    /// The pointers are valid for their counts and not null. What is written shares no byte with what is read, and nothing
+    /// else reads or writes it during the call.
+    pub fn pix_table_nearest(
+        entries: *const Srgb8,
+        len: usize,
+        color: *const Srgb8,
+        index: *mut u8,
+    ) -> u32;
+
+    /// Writes the index of the nearest entry of each pixel.
+    ///
+    /// # Safety
+    ///
+    /// As `pix_table_nearest`.
+    pub fn pix_table_match(
+        entries: *const Srgb8,
+        len: usize,
+        pixels: *const Srgb8,
+        pixel_count: usize,
+        indices: *mut u8,
+        index_count: usize,
+    ) -> u32;
+
+    /// The same of pixels with an alpha: one below `alpha` has the index `kept`.
+    ///
+    /// # Safety
+    ///
+    /// As `pix_table_nearest`.
+    pub fn pix_table_match_alpha(
+        entries: *const Srgb8,
+        len: usize,
+        pixels: *const Srgba8,
+        pixel_count: usize,
+        alpha: u8,
+        kept: u8,
+        indices: *mut u8,
+        index_count: usize,
+    ) -> u32;
+
+    /// Writes the entry of each index.
+    ///
+    /// # Safety
+    ///
+    /// As `pix_table_nearest`.
+    pub fn pix_table_look_up(
+        entries: *const Srgb8,
+        len: usize,
+        indices: *const u8,
+        index_count: usize,
+        pixels: *mut Srgb8,
+        pixel_count: usize,
+    ) -> u32;
+
+    /// Writes how often each number below `len` stands among the indices.
+    ///
+    /// # Safety
+    ///
+    /// As `pix_table_nearest`.
+    pub fn pix_table_count(
+        indices: *const u8,
+        index_count: usize,
+        counts: *mut usize,
+        len: usize,
+    ) -> u32;
+
+    /// Packs a row of indices into bytes.
+    ///
+    /// # Safety
+    ///
+    /// As `pix_table_nearest`.
+    pub fn pix_table_pack(
+        bits: u32,
+        indices: *const u8,
+        index_count: usize,
+        bytes: *mut u8,
+        byte_count: usize,
+    ) -> u32;
+
+    /// Unpacks a row of indices from bytes.
+    ///
+    /// # Safety
+    ///
+    /// As `pix_table_nearest`.
+    pub fn pix_table_unpack(
+        bits: u32,
+        bytes: *const u8,
+        byte_count: usize,
+        indices: *mut u8,
+        index_count: usize,
     ) -> u32;
 
     /// Converts `count` pixels from a format to another one.
