@@ -1,5 +1,5 @@
 -- What fills and blits of rows in memory make of the points of an image, as effects of commands.
-use Rattle.std.proofs.Common.{◌≡◌, ℕ, ◌<◌, ◌≤◌, List, [], ◌∷◌, ◌++◌, length, map, fold, pos, ℤ, ◌+ℤ◌, ◌-ℤ◌, ◌<ℤ◌, Bool, true, false, cond, arith, ap, sym, ◌∙◌, refl}
+use Rattle.std.proofs.Common.{◌≡◌, ℕ, ◌<◌, ◌≤◌, List, [], ◌∷◌, ◌++◌, length, map, fold, pos, ℤ, ◌+ℤ◌, ◌-ℤ◌, Bool, true, false, cond, ap, sym, ◌∙◌, refl}
 use Rattle.std.specs.List.{zip}
 use Rattle.pix_el.specs.Pixel.{Layout}
 use Rattle.pix.specs.Region.{Rectangle, whole, covers}

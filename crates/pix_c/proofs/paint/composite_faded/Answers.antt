@@ -3,7 +3,6 @@ use Rattle.std.proofs.Common.{◌≡◌, ◌∙◌, List, ℕ, sym, ap, refl, su
 use Rattle.pix_ops.specs.declared.ops.Op.{Op}
 use Rattle.pix_el.specs.Pixel.{Layout, channel}
 use Rattle.pix_el.specs.PixelComposite.{matted_composite, matte_value}
-use Rattle.pix_el.proofs.Written.{replaced}
 use Rattle.pix.specs.Lent.{IsShaped}
 use Rattle.pix_raster.specs.declared.lent.Shape.{Shape}
 use Rattle.pix_c.specs.Command.{op_at}

@@ -1,5 +1,5 @@
 -- Of `matted_sixteens`: that the invariant of its loop over `k` holds at first and stays.
-use Rattle.std.proofs.Common.{◌≡◌, ◌+◌, ◌*◌, ◌-◌, ◌∙◌, take, drop, sym, ap, arith, map, refl, List, ℕ}
+use Rattle.std.proofs.Common.{◌+◌, ◌*◌, ◌-◌, ◌∙◌, take, drop, sym, ap, arith, map, List, ℕ}
 use Rattle.std.specs.List.{zip}
 use Rattle.pix_chan.specs.Runs.{over}
 use Rattle.pix_chan.proofs.Slices.{over-nil, next_block}
