@@ -29,13 +29,7 @@ pub fn paste(picture: &mut Raster<Rgba8p>, sprite: &Raster<Rgba8p>, x: i32, y: i
 }
 
 /// Composites a sprite at one opacity over a picture, with its corner at (x, y): so a sprite fades.
-pub fn fade(
-    picture: &mut Raster<Rgba8p>,
-    sprite: &Raster<Rgba8p>,
-    x: i32,
-    y: i32,
-    opacity: Matte8,
-)
+pub fn fade(picture: &mut Raster<Rgba8p>, sprite: &Raster<Rgba8p>, x: i32, y: i32, opacity: Matte8)
     ensures width { picture.new.width ≡ picture.old.width }
     ensures height { picture.new.height ≡ picture.old.height }
     ensures faded { (column row i j : ℕ) → has_point picture.old column row ≡ true
