@@ -99,7 +99,7 @@ class Refusals(unittest.TestCase):
 
     def test_prepared_lists(self):
         good = pix.copy_color(WHOLE, COLOR)
-        for bad, status in ((pix.Command(8), pix.Status.BAD_KIND), (pix.composite_color(WHOLE, COLOR, 13), pix.Status.BAD_OP)):
+        for bad, status in ((pix.Command(99), pix.Status.BAD_KIND), (pix.composite_color(WHOLE, COLOR, 13), pix.Status.BAD_OP)):
             with self.assertRaises(pix.PixError) as caught:
                 pix.CommandList(good, bad)
             self.assertEqual((caught.exception.status, caught.exception.index), (status, 1))
