@@ -320,7 +320,7 @@ impl<P: Pixel<Alpha = Premultiplied, Gamma = Linear>> Raster<P> {
     ///
     /// **After any list of clears, copies and composites run on a raster, every pixel is the fold of just those commands whose clipped regions reach it, no other pixel changes, and each non-hue channel lies within its budget of the same run in exact fractions: at most n units after n unmatted commands of the listed kinds, n² + n after n unmatted commands of any kind.**
     ///
-    /// A unit is one step of a channel, 1/`MAX`. A command is unmatted if it does not composite through a raster of mattes. The listed kinds are clears, copies, and
+    /// A unit is one step of a channel, 1/`MAX`. A command is unmatted if it composites neither through a raster of mattes nor at an opacity. The listed kinds are clears, copies, and
     /// composites by `Src`, `Dest`, `SrcOver`, `DestOut`, `DestIn`, `Clear` and `Plus`. The budget is how far rounding may have moved a channel, counted from the commands;
     /// twice the distance, in units, is within it, since each channel product is rounded to the nearest.
     /// It takes no memory and cannot fail.
