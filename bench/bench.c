@@ -26,7 +26,7 @@ static struct {
 
 static builds_t builds;
 static int rounds = 40;
-static uint64_t before[POINTS], pixels[POINTS], read[POINTS], wanted[POINTS];
+static uint64_t before[POINTS], pixels[POINTS], read[POINTS], wanted[POINTS], mask[POINTS];
 
 static double now(void) {
     struct timespec time;
@@ -133,6 +133,7 @@ static void fill(const block_t *block, cell_t *cell) {
     cell->job.pixels = pixels;
     cell->job.read = read;
     cell->job.color = color_of(kind);
+    cell->job.mask = mask;
     cell->conversion.src = (const uint8_t *)read;
     cell->conversion.dst = (uint8_t *)pixels;
     cell->conversion.count = POINTS;
@@ -144,6 +145,7 @@ static void fill(const block_t *block, cell_t *cell) {
         fill_mask(kind, cell->shape, across, read);
     else
         fill_pixels(kind, cell->shape, 1, across, read);
+    fill_mask(kind, cell->shape, across, mask);
 }
 
 /* ---- Rasters ---- */

@@ -8,10 +8,11 @@
 /* Kinds of pixels: 8 or 16 bits of red, green, blue and alpha, and 8 bits of gray and alpha. */
 typedef enum { RGBA8, RGBA16, GRAYA8, KINDS } kind_t;
 
-/* What is composited, or copied: the last three are a copy of an image and of a color, and a clear. */
-typedef enum { IMAGE, COLOR, MASK, COPY, FILL, CLEAR, SOURCES } source_t;
+/* What is composited, or copied: an image, a color, a color through a mask, an image through a mask and one at an opacity; the
+ * last three are a copy of an image and of a color, and a clear. */
+typedef enum { IMAGE, COLOR, MASK, MASKED, FADED, COPY, FILL, CLEAR, SOURCES } source_t;
 
-enum { OPERATORS = 13, DEST = 1, MOST = 1024 };
+enum { OPERATORS = 13, DEST = 1, MOST = 1024, OPACITY = 160 };
 
 /* A command on each tile of an image, whose tiles are all that it has. */
 typedef struct {
@@ -22,6 +23,7 @@ typedef struct {
     void *pixels;          /* of the image */
     const void *read;      /* the pixels of the source, or the values of the mask */
     const void *color;     /* a pixel */
+    const void *mask;      /* the values of an image's mask */
 } job_t;
 
 /* A conversion of pixels of 8 bits a channel, by the numbers of pix_format. */

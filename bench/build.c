@@ -14,6 +14,8 @@
         case IMAGE: return pix_composite_image##S(to, source, to, op);                                                 \
         case COLOR: return pix_composite_color##S(to, color, op);                                                      \
         case MASK: return pix_composite_matte##S(to, MATTE##_of((const VALUE *)job->read, across, across), to, color, op); \
+        case MASKED: return pix_composite_image_matte##S(to, source, to, MATTE##_of((const VALUE *)job->mask, across, across), to, op); \
+        case FADED: return pix_composite_image_alpha##S(to, source, to, (VALUE)(OPACITY * ((VALUE)-1 / 255)), op);     \
         case COPY: return pix_copy_image##S(to, source, to);                                                           \
         case FILL: return pix_copy_color##S(to, color);                                                                \
         default: return pix_clear##S();                                                                                \

@@ -6,9 +6,10 @@ static const char *const operators[OPERATORS] = {
     "Src", "Dest", "SrcOver", "DestOver", "SrcOut", "DestOut", "SrcIn", "DestIn", "SrcAtop", "DestAtop", "Xor", "Clear",
     "Plus",
 };
-static const char *const source_names[SOURCES] = {"image", "color", "mask", "copy of an image", "copy of a color", "clear"};
+static const char *const source_names[SOURCES] = {"image", "color", "mask", "masked image", "faded image", "copy of an image", "copy of a color", "clear"};
 static const char *const part_names[KINDS] = {"rgba8", "rgba16", "graya8"};
 static const uint32_t sides[COLUMNS] = {1024, 64, 8};
+static const source_t sources[] = {IMAGE, COLOR, MASK, MASKED, FADED};
 static const char *const side_names[COLUMNS] = {"1024", "64", "8"};
 
 /* A new block, or null where its part is not wanted. */
@@ -135,9 +136,9 @@ void make_cases(table_t *table, const wanted_t *wanted) {
     static const shape_t shapes[] = {RANDOM, SPRITES, TEXT12, TEXT20};
     table->count = 0;
     for (int kind = 0; kind < KINDS; kind++)
-        for (int source = IMAGE; source <= MASK; source++)
-            for (int i = 0; i < (source == MASK ? 4 : 2); i++)
-                add_composites(table, wanted, (kind_t)kind, (source_t)source, shapes[i]);
+        for (size_t k = 0; k < sizeof sources / sizeof *sources; k++)
+            for (int i = 0; i < (sources[k] == MASK ? 4 : sources[k] > MASK ? 1 : 2); i++)
+                add_composites(table, wanted, (kind_t)kind, sources[k], shapes[i]);
     add_copies(table, wanted);
     add_conversions(table, wanted);
     add_rasters(table, wanted);

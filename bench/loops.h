@@ -20,15 +20,17 @@ INLINE uint32_t term(uint32_t bits, char by, uint32_t channel, uint32_t alpha) {
     return by == '0' ? 0 : by == '1' ? channel : product(bits, channel, by == 'a' ? alpha : max - alpha);
 }
 
-/* A row under one operator, for channels of type T, N to a pixel: of pixels, of a color, or of a color through mattes. */
+/* A row under one operator, for channels of type T, N to a pixel: of pixels, of a color, of a color through mattes, and of pixels through
+ * mattes and at an opacity. */
 #define ROW_(S, T, N, BITS)                                                                                            \
-    INLINE void row##S(source_t source, char by, char dest_by, T *dst, const T *read, const T *color, size_t count) {  \
+    INLINE void row##S(source_t source, char by, char dest_by, T *dst, const T *read, const T *color, const T *mask, size_t count) { \
         const uint32_t max = (1u << BITS) - 1;                                                                         \
         for (size_t i = 0; i < count; i++, dst += N) {                                                                 \
             T src[N];                                                                                                  \
             for (int k = 0; k < N; k++)                                                                                \
                 src[k] = source == IMAGE ? read[N * i + k] : source == COLOR ? color[k]                                \
-                                                           : (T)product(BITS, color[k], read[i]);                     \
+                    : source == MASK ? (T)product(BITS, color[k], read[i])                                             \
+                                     : (T)product(BITS, read[N * i + k], source == MASKED ? mask[i] : max / 255 * OPACITY); \
             const uint32_t src_alpha = src[N - 1], dst_alpha = dst[N - 1];                                             \
             for (int k = 0; k < N; k++) {                                                                              \
                 uint32_t sum = term(BITS, by, src[k], dst_alpha) + term(BITS, dest_by, dst[k], src_alpha);             \
@@ -36,21 +38,21 @@ INLINE uint32_t term(uint32_t bits, char by, uint32_t channel, uint32_t alpha) {
             }                                                                                                          \
         }                                                                                                              \
     }                                                                                                                  \
-    INLINE void op##S(source_t source, uint32_t op, T *dst, const T *read, const T *color, size_t count) {             \
+    INLINE void op##S(source_t source, uint32_t op, T *dst, const T *read, const T *color, const T *mask, size_t count) { \
         switch (op) {                                                                                                  \
-        case 0: row##S(source, '1', '0', dst, read, color, count); break;                                              \
+        case 0: row##S(source, '1', '0', dst, read, color, mask, count); break;                                        \
         case 1: break;                                                                                                 \
-        case 2: row##S(source, '1', 'm', dst, read, color, count); break;                                              \
-        case 3: row##S(source, 'm', '1', dst, read, color, count); break;                                              \
-        case 4: row##S(source, 'm', '0', dst, read, color, count); break;                                              \
-        case 5: row##S(source, '0', 'm', dst, read, color, count); break;                                              \
-        case 6: row##S(source, 'a', '0', dst, read, color, count); break;                                              \
-        case 7: row##S(source, '0', 'a', dst, read, color, count); break;                                              \
-        case 8: row##S(source, 'a', 'm', dst, read, color, count); break;                                              \
-        case 9: row##S(source, 'm', 'a', dst, read, color, count); break;                                              \
-        case 10: row##S(source, 'm', 'm', dst, read, color, count); break;                                             \
+        case 2: row##S(source, '1', 'm', dst, read, color, mask, count); break;                                        \
+        case 3: row##S(source, 'm', '1', dst, read, color, mask, count); break;                                        \
+        case 4: row##S(source, 'm', '0', dst, read, color, mask, count); break;                                        \
+        case 5: row##S(source, '0', 'm', dst, read, color, mask, count); break;                                        \
+        case 6: row##S(source, 'a', '0', dst, read, color, mask, count); break;                                        \
+        case 7: row##S(source, '0', 'a', dst, read, color, mask, count); break;                                        \
+        case 8: row##S(source, 'a', 'm', dst, read, color, mask, count); break;                                        \
+        case 9: row##S(source, 'm', 'a', dst, read, color, mask, count); break;                                        \
+        case 10: row##S(source, 'm', 'm', dst, read, color, mask, count); break;                                       \
         case 11: memset(dst, 0, N * count * sizeof(T)); break;                                                         \
-        default: row##S(source, '1', '1', dst, read, color, count);                                                    \
+        default: row##S(source, '1', '1', dst, read, color, mask, count);                                              \
         }                                                                                                              \
     }                                                                                                                  \
     static void tiles##S(const job_t *job) {                                                                           \
@@ -59,11 +61,14 @@ INLINE uint32_t term(uint32_t bits, char by, uint32_t channel, uint32_t alpha) {
             for (size_t left = 0; left < across; left += side)                                                         \
                 for (size_t y = top; y < top + side; y++) {                                                            \
                     T *dst = (T *)job->pixels + N * (y * across + left);                                               \
-                    const T *read = (const T *)job->read, *color = (const T *)job->color;                              \
+                    const T *read = (const T *)job->read, *color = (const T *)job->color, *mask = (const T *)job->mask; \
+                    const size_t at = y * across + left;                                                               \
                     switch (job->source) {                                                                             \
-                    case IMAGE: op##S(IMAGE, job->op, dst, read + N * (y * across + left), color, side); break;        \
-                    case COLOR: op##S(COLOR, job->op, dst, read, color, side); break;                                  \
-                    default: op##S(MASK, job->op, dst, read + y * across + left, color, side);                         \
+                    case IMAGE: op##S(IMAGE, job->op, dst, read + N * at, color, mask, side); break;                   \
+                    case COLOR: op##S(COLOR, job->op, dst, read, color, mask, side); break;                            \
+                    case MASKED: op##S(MASKED, job->op, dst, read + N * at, color, mask + at, side); break;            \
+                    case FADED: op##S(FADED, job->op, dst, read + N * at, color, mask, side); break;                   \
+                    default: op##S(MASK, job->op, dst, read + at, color, mask, side);                                  \
                     }                                                                                                  \
                 }                                                                                                      \
     }

@@ -29,6 +29,12 @@ static pixman_image_t *solid(const uint8_t *color) {
     return pixman_image_create_solid_fill(&wide);
 }
 
+/* A mask of one value everywhere. */
+static pixman_image_t *opacity(void) {
+    const pixman_color_t color = {0, 0, 0, (uint16_t)(257 * OPACITY)};
+    return pixman_image_create_solid_fill(&color);
+}
+
 /* The images of a job, made once for all rounds, as pixman's callers keep them. */
 typedef struct {
     job_t job;
@@ -45,11 +51,14 @@ static const images_t *images_of(const job_t *job) {
         if (made.mask)
             pixman_image_unref(made.mask);
     }
-    const int is_image = job->source == IMAGE || job->source == COPY;
+    const int is_image = job->source == IMAGE || job->source == COPY || job->source == MASKED || job->source == FADED;
     made.job = *job;
     made.to = bits(PIXMAN_a8r8g8b8, job->pixels, job->across, 4);
     made.from = is_image ? bits(PIXMAN_a8r8g8b8, job->read, job->across, 4) : solid((const uint8_t *)job->color);
-    made.mask = job->source == MASK ? bits(PIXMAN_a8, job->read, job->across, 1) : NULL;
+    made.mask = job->source == MASK ? bits(PIXMAN_a8, job->read, job->across, 1)
+        : job->source == MASKED     ? bits(PIXMAN_a8, job->mask, job->across, 1)
+        : job->source == FADED      ? opacity()
+                                    : NULL;
     return &made;
 }
 

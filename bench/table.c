@@ -12,7 +12,7 @@ static double ratio(const cell_t *cell, int build) {
 
 /* Whether a cell counts in the means: `Dest` changes nothing, and then a ratio is one of two calls that do nothing. */
 static int counts(const block_t *block, const cell_t *cell) {
-    return cell->is_there && (block->work != COMPOSITE || cell->job.source > MASK || cell->job.op != DEST);
+    return cell->is_there && (block->work != COMPOSITE || cell->job.source >= COPY || cell->job.op != DEST);
 }
 
 static void print_cell(const block_t *block, const cell_t *cell, const builds_t *builds) {

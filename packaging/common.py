@@ -14,10 +14,8 @@ from typing import NamedTuple, Optional
 
 TOP = pathlib.Path(__file__).resolve().parent.parent
 HERE = TOP / "packaging"
-CALLS = [
-    "pix_convert_bytes", "pix_convert_rows", "pix_layout", "pix_pixel_size", "pix_run_commands", "pix_run_commands_graya8",
-    "pix_run_commands_rgba16", "pix_run_window", "pix_run_window_graya8", "pix_run_window_rgba16",
-]  # fmt: skip
+# The calls of the library that others may see: those that the header declares and doesn't define.
+CALLS = re.findall(r"^(?!static|typedef)[a-z][\w *]*?\b(pix_\w+)\(", (TOP / "bindings/c/pix.h").read_text(encoding="utf-8"), re.M)
 
 
 class Processor(NamedTuple):

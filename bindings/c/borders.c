@@ -53,6 +53,11 @@ enum { WIDE = 3, HIGH = 3, APART = 5, LENGTH = APART * (HIGH - 1) + WIDE, ALL = 
         CHECK(pix_do##S(image, pix_composite_matte##S(whole, matte, whole, ONE, PIX_OP_SRC_OVER)) == PIX_OK);          \
         matte.values += 1;                                                                                             \
         CHECK(pix_do##S(image, pix_composite_matte##S(whole, matte, whole, ONE, PIX_OP_SRC_OVER)) == PIX_OVERLAP);     \
+        /* And with the mask of an image that lies apart. */                                                           \
+        source = pix_source_of##S(memory, 1, 1);                                                                       \
+        CHECK(pix_do##S(image, pix_composite_image_matte##S(whole, source, whole, matte, whole, PIX_OP_XOR))           \
+              == PIX_OVERLAP);                                                                                         \
+        CHECK(pix_do##S(image, pix_composite_image_alpha##S(whole, source, whole, 9, PIX_OP_XOR)) == PIX_OK);          \
         for (i = 0; i < sizeof memory; i++)                                                                            \
             CHECK(((const unsigned char *)memory)[i] == 0);                                                            \
     }                                                                                                                  \

@@ -10,7 +10,8 @@
 
 enum {
     KIND, OP, TO_X, TO_Y, TO_WIDTH, TO_HEIGHT, FROM_X, FROM_Y, FROM_WIDTH, FROM_HEIGHT, COLOR, GREEN, BLUE, ALPHA,
-    PIXELS, PIXEL_COUNT, MATTES, MATTE_COUNT, WIDTH, HEIGHT, STRIDE, /* those of a command */
+    PIXELS, PIXEL_COUNT, MATTES, MATTE_COUNT, WIDTH, HEIGHT, STRIDE, MASK_X, MASK_Y, MASK_REGION_WIDTH,
+    MASK_REGION_HEIGHT, MASK_WIDTH, MASK_HEIGHT, MASK_STRIDE, OPACITY, /* those of a command */
     IMAGE, IMAGE_COUNT, IMAGE_WIDTH, IMAGE_HEIGHT, IMAGE_STRIDE, COMMANDS, COMMAND_COUNT,
     LEFT, TOP, FIELDS /* the place of a window */
 };
@@ -18,16 +19,16 @@ enum {
 static const char *const names[FIELDS] = {
     "kind", "op", "to.x", "to.y", "to.width", "to.height", "from.x", "from.y", "from.width", "from.height", "color.r",
     "color.g", "color.b", "color.a", "pixels", "pixel_count", "mattes", "matte_count", "width", "height", "stride",
-    "the image", "its count", "its width", "its height", "its stride", "the list", "its count", "left", "top",
+    "mask.x", "mask.y", "mask.width", "mask.height", "mask_width", "mask_height", "mask_stride", "alpha", "the image", "its count", "its width", "its height", "its stride", "the list", "its count", "left", "top",
 };
 
-/* The source has 5 x 4 elements in rows of 8, which are 29; the image has 9 x 7 in rows of 11, which are 75. Pointers
+/* The source has 5 x 4 elements in rows of 8, which are 29; the mask 6 x 5 in rows of 9, which are 42; the image has 9 x 7 in rows of 11, which are 75. Pointers
  * are counted in elements from the start of a buffer. */
 enum { ELEMENTS = 160 };
 static const int64_t first[FIELDS] = {4, 2, 2, 1, 6, 5, -1, 1, 7, 4, 90, 70, 50, 200,
-                                      3, 29, 5, 28, 5, 4, 8, 4, 75, 9, 7, 11, 0, 1, 0, 0};
+                                      3, 29, 5, 28, 5, 4, 8, -2, 2, 8, 3, 6, 5, 9, 150, 4, 75, 9, 7, 11, 0, 1, 0, 0};
 static const int64_t other[FIELDS] = {2, 12, 3, 0, 4, 2, 1, 0, 3, 2, 60, 40, 20, 170,
-                                      4, 28, 6, 27, 3, 3, 7, 3, 74, 4, 3, 10, 1, 2, 1, 2};
+                                      4, 28, 6, 27, 3, 3, 7, -3, 1, 5, 2, 3, 4, 10, 60, 3, 74, 4, 3, 10, 1, 2, 1, 2};
 
 static int failures;
 
@@ -70,7 +71,7 @@ static outcome model(const plain_kind *kind, const int64_t *n) {
     outcome it;
     size_t size = kind->bytes * kind->channels;
     int is_matte = n[KIND] == PLAIN_MATTE;
-    plain_rows image, source;
+    plain_rows image, source, mask;
     plain_command list[3];
     memset(&it, 0, sizeof it);
     fill(&it.after);
@@ -80,6 +81,9 @@ static outcome model(const plain_kind *kind, const int64_t *n) {
     source.bytes = is_matte ? (unsigned char *)it.after.mattes + (size_t)n[MATTES] * kind->bytes
                             : (unsigned char *)it.after.pixels + (size_t)n[PIXELS] * size;
     source.width = (uint64_t)n[WIDTH], source.height = (uint64_t)n[HEIGHT], source.stride = (uint64_t)n[STRIDE];
+    mask.bytes = (unsigned char *)it.after.mattes + (size_t)n[MATTES] * kind->bytes;
+    mask.width = (uint64_t)n[MASK_WIDTH], mask.height = (uint64_t)n[MASK_HEIGHT];
+    mask.stride = (uint64_t)n[MASK_STRIDE];
     if ((image.height - 1) * image.stride + image.width > (uint64_t)n[IMAGE_COUNT]) {
         it.status = PIX_BAD_SIZE;
         return it;
@@ -88,11 +92,18 @@ static outcome model(const plain_kind *kind, const int64_t *n) {
         it.status = PIX_BAD_SOURCE;
         return it;
     }
+    if (n[KIND] == PLAIN_MASKED && (mask.height - 1) * mask.stride + mask.width > (uint64_t)n[MATTE_COUNT]) {
+        it.status = PIX_BAD_SOURCE;
+        return it;
+    }
     memset(list, 0, sizeof list);
     list[0].kind = (uint32_t)n[KIND], list[0].op = (uint32_t)n[OP], list[0].source = &source;
     list[0].to.x = n[TO_X], list[0].to.y = n[TO_Y], list[0].to.width = n[TO_WIDTH], list[0].to.height = n[TO_HEIGHT];
     list[0].from.x = n[FROM_X], list[0].from.y = n[FROM_Y];
     list[0].from.width = n[FROM_WIDTH], list[0].from.height = n[FROM_HEIGHT];
+    list[0].mask_from.x = n[MASK_X], list[0].mask_from.y = n[MASK_Y];
+    list[0].mask_from.width = n[MASK_REGION_WIDTH], list[0].mask_from.height = n[MASK_REGION_HEIGHT];
+    list[0].mask = &mask, list[0].alpha = (uint64_t)n[OPACITY];
     for (size_t i = 0; i < kind->channels; i++)
         list[0].color[i] = (uint64_t)n[i + 1 == kind->channels ? (int)ALPHA : COLOR + (int)i];
     list[1].kind = list[2].kind = PLAIN_CLEAR;
@@ -127,6 +138,14 @@ static outcome model(const plain_kind *kind, const int64_t *n) {
         list[0].width = (uint32_t)n[WIDTH];                                                                            \
         list[0].height = (uint32_t)n[HEIGHT];                                                                          \
         list[0].stride = (uint32_t)n[STRIDE];                                                                          \
+        list[0].mask.x = (int32_t)n[MASK_X];                                                                           \
+        list[0].mask.y = (int32_t)n[MASK_Y];                                                                           \
+        list[0].mask.width = (uint32_t)n[MASK_REGION_WIDTH];                                                           \
+        list[0].mask.height = (uint32_t)n[MASK_REGION_HEIGHT];                                                         \
+        list[0].mask_width = (uint32_t)n[MASK_WIDTH];                                                                  \
+        list[0].mask_height = (uint32_t)n[MASK_HEIGHT];                                                                \
+        list[0].mask_stride = (uint32_t)n[MASK_STRIDE];                                                                \
+        list[0].alpha = (VALUE)n[OPACITY];                                                                             \
         it.done = 77;                                                                                                  \
         if (is_window)                                                                                                 \
             it.status = pix_run_window##S((PIXEL *)(void *)it.after.image + n[IMAGE], (size_t)n[IMAGE_COUNT],          \
@@ -152,8 +171,14 @@ RUN_OF(_graya8, pix_graya8, uint8_t, (CHANNEL(value, uint8_t, COLOR), CHANNEL(a,
 static int is_read(const plain_kind *kind, int64_t command, int field) {
     if (field == PIXELS || field == PIXEL_COUNT)
         return command != PLAIN_MATTE;
-    if (field == MATTES || field == MATTE_COUNT || field == COLOR || field == ALPHA)
+    if (field == MATTES || field == MATTE_COUNT)
+        return command == PLAIN_MATTE || command == PLAIN_MASKED;
+    if (field == COLOR || field == ALPHA)
         return command == PLAIN_MATTE;
+    if (field >= MASK_X && field <= MASK_STRIDE)
+        return command == PLAIN_MASKED;
+    if (field == OPACITY)
+        return command == PLAIN_FADED;
     if (field == LEFT || field == TOP)
         return is_window;
     if (field == GREEN || field == BLUE)
@@ -167,8 +192,10 @@ static void try_fields(const char *name, const plain_kind *kind, outcome (*run)(
     n[KIND] = command;
     if (command == PLAIN_MATTE)
         n[PIXEL_COUNT] = first[MATTE_COUNT], n[MATTE_COUNT] = first[PIXEL_COUNT];
+    if (command == PLAIN_MASKED)
+        n[MATTE_COUNT] = 42;
     if (kind->bytes == 2)
-        n[COLOR] = 30000, n[GREEN] = 20000, n[BLUE] = 10000, n[ALPHA] = 50000;
+        n[COLOR] = 30000, n[GREEN] = 20000, n[BLUE] = 10000, n[ALPHA] = 50000, n[OPACITY] = 45000;
     const outcome base = model(kind, n), same = run(n);
     if (!is_same(&base, &same))
         fail(name, "all fields", "not as the model has them");
@@ -227,6 +254,12 @@ int main(void) {
         try_fields("rgba16, matte", &rgba16, run_rgba16, PLAIN_MATTE);
         try_fields("graya8, image", &graya8, run_graya8, PLAIN_SOURCE);
         try_fields("graya8, matte", &graya8, run_graya8, PLAIN_MATTE);
+        try_fields("rgba8, mask", &rgba8, run, PLAIN_MASKED);
+        try_fields("rgba16, mask", &rgba16, run_rgba16, PLAIN_MASKED);
+        try_fields("graya8, mask", &graya8, run_graya8, PLAIN_MASKED);
+        try_fields("rgba8, opacity", &rgba8, run, PLAIN_FADED);
+        try_fields("rgba16, opacity", &rgba16, run_rgba16, PLAIN_FADED);
+        try_fields("graya8, opacity", &graya8, run_graya8, PLAIN_FADED);
     }
     conversions();
     printf("fields: %d failures\n", failures);

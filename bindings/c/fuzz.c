@@ -100,16 +100,19 @@ static plain_region region(void) {
 static plain_command random_command(const plain_kind *kind, size_t *read) {
     plain_command it;
     memset(&it, 0, sizeof it);
-    it.kind = one_in(12) ? PLAIN_CLEAR : 1 + (uint32_t)below(5);
+    it.kind = one_in(12) ? PLAIN_CLEAR : 1 + (uint32_t)below(PLAIN_FADED);
     it.op = (uint32_t)below(13);
     it.to = region();
     it.from = region();
+    it.mask_from = region();
+    it.alpha = one_in(4) ? kind->max * below(2) : below(kind->max + 1);
     uint64_t alpha = one_in(3) ? kind->max * below(2) : below(kind->max + 1);
     for (size_t i = 0; i < kind->channels; i++)
         it.color[i] = one_in(4) ? below(kind->max + 1) : plain_product(kind->max, below(kind->max + 1), alpha);
     it.color[kind->channels - 1] = alpha;
     *read = below(it.kind == PLAIN_MATTE ? MATTES : SOURCES);
     it.source = it.kind == PLAIN_MATTE ? &mattes[*read].model : &sources[*read].model;
+    it.mask = &mattes[*read % MATTES].model;
     return it;
 }
 
@@ -121,10 +124,12 @@ static pix_region given(plain_region it) {
 
 typedef enum {
     NONE, IMAGE_SIDE, IMAGE_STRIDE, IMAGE_NULL, LIST_NULL, KIND, OPERATOR, REGION_TO, REGION_FROM, SOURCE_SIDE,
-    SOURCE_STRIDE, SOURCE_NULL, OVERLAP, LIST_OVERLAP, WINDOW_END, FAULTS
+    SOURCE_STRIDE, SOURCE_NULL, OVERLAP, LIST_OVERLAP, WINDOW_END, REGION_MASK, MASK_SIDE, MASK_STRIDE, MASK_NULL,
+    MASK_OVERLAP, FAULTS
 } fault;
 
-/* The status of a fault, whether a command of its list has it, and whether that command must read a source. */
+/* The status of a fault, whether a command of its list has it, and whether that command must read a source, or a mask
+ * too. */
 static const struct {
     pix_status status;
     int of_command, of_source;
@@ -132,7 +137,8 @@ static const struct {
     {PIX_OK, 0, 0},         {PIX_BAD_SIZE, 0, 0},   {PIX_BAD_SIZE, 0, 0},   {PIX_NULL, 0, 0},       {PIX_NULL, 0, 0},
     {PIX_BAD_KIND, 1, 0},   {PIX_BAD_OP, 1, 0},     {PIX_BAD_REGION, 1, 0}, {PIX_BAD_REGION, 1, 1}, {PIX_BAD_SOURCE, 1, 1},
     {PIX_BAD_SOURCE, 1, 1}, {PIX_NULL, 1, 1},       {PIX_OVERLAP, 1, 1},    {PIX_OVERLAP, 0, 0},
-    {PIX_BAD_SIZE, 0, 0},
+    {PIX_BAD_SIZE, 0, 0},   {PIX_BAD_REGION, 1, 2}, {PIX_BAD_SOURCE, 1, 2}, {PIX_BAD_SOURCE, 1, 2}, {PIX_NULL, 1, 2},
+    {PIX_OVERLAP, 1, 2},
 };
 
 static int is_empty(const plain_rows *rows) {
@@ -141,7 +147,7 @@ static int is_empty(const plain_rows *rows) {
 
 /* Whether a list can have the fault here. */
 static int fits(fault it, size_t count, const plain_command *command) {
-    if (it == IMAGE_NULL || it == OVERLAP || it == LIST_OVERLAP)
+    if (it == IMAGE_NULL || it == OVERLAP || it == LIST_OVERLAP || it == MASK_OVERLAP)
         if (is_empty(&image.rows))
             return 0;
     if (it == IMAGE_STRIDE && image.rows.width < 2)
@@ -150,7 +156,10 @@ static int fits(fault it, size_t count, const plain_command *command) {
         return 0;
     if (!faults[it].of_source)
         return 1;
-    if (command->kind != PLAIN_COPY && command->kind != PLAIN_SOURCE && command->kind != PLAIN_MATTE)
+    if (faults[it].of_source == 2)
+        return command->kind == PLAIN_MASKED && !is_empty(command->mask)
+               && (it != MASK_STRIDE || command->mask->width >= 2);
+    if (command->kind != PLAIN_COPY && command->kind < PLAIN_SOURCE)
         return 0;
     return !is_empty(command->source) && (it != SOURCE_STRIDE || command->source->width >= 2);
 }
@@ -216,8 +225,19 @@ static list random_list(const plain_kind *kind) {
         pix_source##S source = {(const PIXEL *)(const void *)rows->bytes, (uint32_t)rows->width,                       \
                                 (uint32_t)rows->height, (uint32_t)rows->stride};                                       \
         MATTE matte = {(const VALUE *)(const void *)rows->bytes, source.width, source.height, source.stride};          \
+        const plain_rows *covers = &mattes[all->read[i] % MATTES].rows;                                                \
+        MATTE mask = {(const VALUE *)(const void *)covers->bytes, (uint32_t)covers->width, (uint32_t)covers->height,   \
+                      (uint32_t)covers->stride};                                                                       \
         fault has = i == all->at ? all->fault : NONE;                                                                  \
-        pix_region to = given(it->to), from = given(it->from);                                                         \
+        pix_region to = given(it->to), from = given(it->from), mask_from = given(it->mask_from);                       \
+        mask_from.width = has == REGION_MASK ? UINT32_MAX : mask_from.width;                                           \
+        if (has == MASK_SIDE) {                                                                                        \
+            mask.width = mask.stride = UINT32_C(2147483648);                                                           \
+            mask.height = 0;                                                                                           \
+        }                                                                                                              \
+        mask.stride = has == MASK_STRIDE ? mask.width - 1 : mask.stride;                                               \
+        mask.values = has == MASK_NULL ? NULL : has == MASK_OVERLAP ? (const VALUE *)(const void *)image.rows.bytes    \
+                                                                    : mask.values;                                     \
         to.width = has == REGION_TO ? UINT32_C(2147483648) : to.width;                                                 \
         from.height = has == REGION_FROM ? UINT32_MAX : from.height;                                                   \
         if (has == SOURCE_SIDE) {                                                                                      \
@@ -237,11 +257,13 @@ static list random_list(const plain_kind *kind) {
         case PLAIN_COLOR: made = pix_composite_color##S(to, COLOR, op); break;                                         \
         case PLAIN_SOURCE: made = pix_composite_image##S(to, source, from, op); break;                                 \
         case PLAIN_MATTE: made = pix_composite_matte##S(to, matte, from, COLOR, op); break;                            \
+        case PLAIN_MASKED: made = pix_composite_image_matte##S(to, source, from, mask, mask_from, op); break;          \
+        case PLAIN_FADED: made = pix_composite_image_alpha##S(to, source, from, (VALUE)it->alpha, op); break;          \
         default: break;                                                                                                \
         }                                                                                                              \
         made.to = to;                                                                                                  \
         made.op = (uint32_t)op;                                                                                        \
-        made.kind = has == KIND ? 6 + (uint32_t)below(9) : made.kind;                                                  \
+        made.kind = has == KIND ? 8 + (uint32_t)below(9) : made.kind;                                                  \
         return made;                                                                                                   \
     }                                                                                                                  \
                                                                                                                        \

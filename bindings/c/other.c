@@ -40,16 +40,18 @@ static plain_region plain(pix_region it) {
 
 #define OTHER_(S, PIXEL, KIND, COLOR)                                                                                  \
     static uint32_t fault##S(const pix_command##S *it) {                                                               \
-        if (it->kind > PLAIN_MATTE)                                                                                    \
+        if (it->kind > PLAIN_FADED)                                                                                    \
             return PIX_BAD_KIND;                                                                                       \
-        if (!is_within(it->to) || !is_within(it->from))                                                                \
+        if (!is_within(it->to) || !is_within(it->from) || !is_within(it->mask))                                        \
             return PIX_BAD_REGION;                                                                                     \
         if (it->op > PIX_OP_PLUS)                                                                                      \
             return PIX_BAD_OP;                                                                                         \
-        if (it->kind == PLAIN_COPY || it->kind == PLAIN_SOURCE || it->kind == PLAIN_MATTE)                             \
+        if (it->kind == PLAIN_COPY || it->kind >= PLAIN_SOURCE)                                                        \
             if (!is_sized(it->width, it->height, it->stride,                                                           \
                           it->kind == PLAIN_MATTE ? it->matte_count : it->pixel_count))                                \
                 return PIX_BAD_SOURCE;                                                                                 \
+        if (it->kind == PLAIN_MASKED && !is_sized(it->mask_width, it->mask_height, it->mask_stride, it->matte_count))  \
+            return PIX_BAD_SOURCE;                                                                                     \
         return PIX_OK;                                                                                                 \
     }                                                                                                                  \
     uint32_t pix_run_window##S(PIXEL *pixels, size_t pixel_count, uint32_t left, uint32_t top, uint32_t width,         \
@@ -69,7 +71,10 @@ static plain_region plain(pix_region it) {
             const pix_command##S *it = &commands[i];                                                                   \
             const void *read = it->kind == PLAIN_MATTE ? (const void *)it->mattes : (const void *)it->pixels;          \
             plain_rows source = {(unsigned char *)(uintptr_t)read, it->width, it->height, it->stride};                 \
-            plain_command same = {it->kind, it->op, plain(it->to), plain(it->from), COLOR, &source};                   \
+            plain_rows mask = {(unsigned char *)(uintptr_t)(const void *)it->mattes, it->mask_width, it->mask_height,  \
+                               it->mask_stride};                                                                       \
+            plain_command same = {it->kind, it->op,    plain(it->to), plain(it->from), plain(it->mask),                \
+                                  COLOR,    it->alpha, &source,       &mask};                                          \
             plain_run_in(&kind, &image, left, top, &same, 1);                                                          \
         }                                                                                                              \
         return PIX_OK;                                                                                                 \
@@ -135,5 +140,44 @@ uint32_t pix_convert_rows(uint32_t from, uint32_t to, const uint8_t *src, size_t
         for (uint32_t x = 0; x < width; x++)
             plain_cross(&source, &target, row_at(src, src_stride, height, y) + x * size,
                         (uint8_t *)(uintptr_t)row_at(dst, dst_stride, height, y) + x * to_size);
+    return PIX_OK;
+}
+
+/* Tables of colors: what the calls refuse, and no more. */
+uint32_t pix_table_nearest(const pix_srgb8 *entries, size_t len, const pix_srgb8 *color, uint8_t *index) {
+    (void)entries, (void)color, (void)index;
+    return len && len <= 256 ? PIX_OK : PIX_BAD_TABLE;
+}
+
+uint32_t pix_table_match(const pix_srgb8 *entries, size_t len, const pix_srgb8 *pixels, size_t pixel_count,
+                         uint8_t *indices, size_t index_count) {
+    (void)entries, (void)pixels, (void)indices;
+    return !len || len > 256 ? PIX_BAD_TABLE : index_count != pixel_count ? PIX_BAD_LENGTH : PIX_OK;
+}
+
+uint32_t pix_table_match_alpha(const pix_srgb8 *entries, size_t len, const pix_srgba8 *pixels, size_t pixel_count,
+                               uint8_t alpha, uint8_t kept, uint8_t *indices, size_t index_count) {
+    (void)entries, (void)pixels, (void)alpha, (void)kept, (void)indices;
+    return !len || len > 256 ? PIX_BAD_TABLE : index_count != pixel_count ? PIX_BAD_LENGTH : PIX_OK;
+}
+
+uint32_t pix_table_look_up(const pix_srgb8 *entries, size_t len, const uint8_t *indices, size_t index_count,
+                           pix_srgb8 *pixels, size_t pixel_count) {
+    (void)entries, (void)len, (void)indices, (void)pixels;
+    return index_count != pixel_count ? PIX_BAD_LENGTH : PIX_OK;
+}
+
+uint32_t pix_table_count(const uint8_t *indices, size_t index_count, size_t *counts, size_t len) {
+    (void)indices, (void)index_count, (void)counts, (void)len;
+    return PIX_OK;
+}
+
+uint32_t pix_table_pack(uint32_t bits, const uint8_t *indices, size_t index_count, uint8_t *bytes, size_t byte_count) {
+    (void)bits, (void)indices, (void)index_count, (void)bytes, (void)byte_count;
+    return PIX_OK;
+}
+
+uint32_t pix_table_unpack(uint32_t bits, const uint8_t *bytes, size_t byte_count, uint8_t *indices, size_t index_count) {
+    (void)bits, (void)bytes, (void)byte_count, (void)indices, (void)index_count;
     return PIX_OK;
 }

@@ -143,8 +143,8 @@ typedef struct { const pix_graya8 *pixels; uint32_t width, height, stride; } pix
 typedef struct { void *pixels; uint32_t width, height; ptrdiff_t stride; pix_format format; } pix_bitmap;
 typedef struct { const void *pixels; uint32_t width, height; ptrdiff_t stride; pix_format format; } pix_bitmap_source;
 
-/* A mask: the fraction of a color that is composited at each point, from 0 (none) to 255 (all), or to 65535 in
- * pix_matte16. pix_matte goes with images of 8 bits a channel, pix_matte16 with those of 16. The stride is counted in
+/* A mask: the fraction of a color or of a source that is composited at each point, from 0 (none) to 255 (all), or to
+ * 65535 in pix_matte16. pix_matte goes with images of 8 bits a channel, pix_matte16 with those of 16. The stride is counted in
  * values. */
 typedef struct { const uint8_t *values; uint32_t width, height, stride; } pix_matte;
 typedef struct { const uint16_t *values; uint32_t width, height, stride; } pix_matte16;
@@ -177,12 +177,15 @@ typedef enum {
     PIX_BAD_KIND = 2,   /* a command that no function of this header made */
     PIX_BAD_REGION = 3, /* a region of a command has a side above 2147483647 */
     PIX_BAD_OP = 4,     /* no such operator */
-    PIX_BAD_SOURCE = 5, /* the source or the matte of a command: as PIX_BAD_SIZE */
+    PIX_BAD_SOURCE = 5, /* the source, the matte or the mask of a command: as PIX_BAD_SIZE */
     PIX_BAD_FORMAT = 6, /* no such format */
     PIX_BAD_LENGTH = 7, /* more pixels to convert than a quarter of PTRDIFF_MAX, or more commands than memory holds */
     PIX_NULL = 8,       /* a pointer is null, and what it points to is not empty */
     PIX_OVERLAP = 9,    /* a source, a matte, the list of commands or `done` shares memory with what is written */
-    PIX_BAD_LIBRARY = 10 /* the archive that is linked has another version or another layout than this header */
+    PIX_BAD_LIBRARY = 10, /* the archive that is linked has another version or another layout than this header */
+    PIX_BAD_TABLE = 11, /* a table has no entry, or more than 256 */
+    PIX_BAD_INDEX = 12, /* an index is past the end, or takes more bits than it is to have */
+    PIX_BAD_DEPTH = 13  /* indices take 1, 2, 4 or 8 bits */
 } pix_status;
 
 /* A line of English that says what a status means. */
@@ -242,7 +245,9 @@ typedef enum {
     PIX_KIND_COPY_IMAGE = 2,
     PIX_KIND_COMPOSITE_COLOR = 3,
     PIX_KIND_COMPOSITE_IMAGE = 4,
-    PIX_KIND_COMPOSITE_MATTE = 5
+    PIX_KIND_COMPOSITE_MATTE = 5,
+    PIX_KIND_COMPOSITE_IMAGE_MATTE = 6,
+    PIX_KIND_COMPOSITE_IMAGE_ALPHA = 7
 } pix_kind;
 
 /* A command, laid out as the library reads it: make it by the functions below, and don't touch its members. The kind is
@@ -254,6 +259,9 @@ typedef struct {
     const pix_rgba8 *pixels; size_t pixel_count;
     const uint8_t *mattes; size_t matte_count;
     uint32_t width, height, stride;
+    pix_region mask;
+    uint32_t mask_width, mask_height, mask_stride;
+    uint8_t alpha;
 } pix_command;
 
 /* Makes all pixels of the image transparent: all channels 0. */
@@ -274,6 +282,17 @@ static inline pix_command pix_composite_image(pix_region to, pix_source source, 
 /* Composites a color, multiplied by the values of `from` in a matte, with the pixels of `to`: a glyph. */
 static inline pix_command pix_composite_matte(pix_region to, pix_matte matte, pix_region from, pix_rgba8 color,
                                               pix_op op);
+
+/* Composites the pixels of `from` in a source, multiplied by the values of `mask_from` in a mask, with those of `to`:
+ * soft edges. All three corners are paired, and a point is changed where all three regions and all of image, source and
+ * mask have it. */
+static inline pix_command pix_composite_image_matte(pix_region to, pix_source source, pix_region from, pix_matte mask,
+                                                    pix_region mask_from, pix_op op);
+
+/* Composites the pixels of `from` in a source, multiplied by `alpha`, with those of `to`: a fade. An alpha of 255 is
+ * pix_composite_image (65535 of 16 bits). */
+static inline pix_command pix_composite_image_alpha(pix_region to, pix_source source, pix_region from, uint8_t alpha,
+                                                    pix_op op);
 
 /* ---- Calls ---- */
 
@@ -355,6 +374,53 @@ static inline pix_image_rgba16 pix_part_of_rgba16(pix_image_rgba16 image, pix_re
 static inline pix_image_graya8 pix_part_of_graya8(pix_image_graya8 image, pix_region region);
 static inline pix_bitmap pix_part_of_bitmap(pix_bitmap image, pix_region region);
 
+/* ---- Tables of colors, for images of indices ----
+ *
+ * Colors here are as files of indexed images hold them: sRGB, and not multiplied by an alpha. The bytes of pix_srgb8 are those of
+ * a color table of a GIF or of the chunk PLTE of a PNG. pix_convert makes such pixels of others (PIX_FORMAT_SRGB8,
+ * PIX_FORMAT_SRGBA8). All that is written must share no memory with what is read. What is refused changes nothing. */
+
+/* A color of 8 bits a channel, and a pixel with an alpha. */
+typedef struct { uint8_t r, g, b; } pix_srgb8;
+typedef struct { uint8_t r, g, b, a; } pix_srgba8;
+
+/* A table of `len` colors, from 1 to 256. */
+typedef struct { const pix_srgb8 *entries; size_t len; } pix_table;
+
+static inline pix_table pix_table_of(const pix_srgb8 *entries, size_t len);
+
+/* Writes the index of the entry that is nearest to a color, the first of equals: the one with the least sum of the squares of the
+ * differences in red, green and blue. Answers PIX_OK, PIX_BAD_TABLE, PIX_NULL or PIX_OVERLAP. */
+static inline pix_status pix_nearest(pix_table table, pix_srgb8 color, uint8_t *index);
+
+/* Writes the index of the nearest entry of each of `count` pixels. Answers PIX_OK, PIX_BAD_TABLE, PIX_BAD_LENGTH (more pixels
+ * than a quarter of PTRDIFF_MAX), PIX_NULL or PIX_OVERLAP. */
+static inline pix_status pix_map_indexed(pix_table table, const pix_srgb8 *pixels, size_t count, uint8_t *indices);
+
+/* The same of pixels with an alpha. One whose alpha is below `alpha` has the index `kept`, which may be that of a transparent entry;
+ * of the others the alpha is not looked at. */
+static inline pix_status pix_map_indexed_alpha(pix_table table, const pix_srgba8 *pixels, size_t count, uint8_t alpha,
+                                               uint8_t kept, uint8_t *indices);
+
+/* Writes the entry of each of `count` indices. The table may have no entry, or more than 256. Answers PIX_OK, PIX_BAD_INDEX where an
+ * index is past the end, PIX_BAD_LENGTH, PIX_NULL or PIX_OVERLAP. */
+static inline pix_status pix_look_up(pix_table table, const uint8_t *indices, size_t count, pix_srgb8 *pixels);
+
+/* Writes for each number below `len` how often it stands among `count` indices. Answers PIX_OK, PIX_BAD_INDEX where an index is not
+ * below `len`, PIX_BAD_LENGTH, PIX_NULL or PIX_OVERLAP. */
+static inline pix_status pix_count_indices(const uint8_t *indices, size_t count, size_t *counts, size_t len);
+
+/* How many bytes a row of `count` indices of 1, 2, 4 or 8 bits takes, and 0 for another number of bits. */
+static inline size_t pix_row_size(uint32_t bits, size_t count);
+
+/* Packs a row of `count` indices into pix_row_size(bits, count) bytes, as PNG, BMP and TIFF have them: in order, those of a byte from
+ * its most significant bits on, and 0 in the bits that are left over in the last byte. Answers PIX_OK, PIX_BAD_DEPTH,
+ * PIX_BAD_INDEX where an index takes more bits, PIX_BAD_LENGTH, PIX_NULL or PIX_OVERLAP. */
+static inline pix_status pix_pack_row(uint32_t bits, const uint8_t *indices, size_t count, uint8_t *bytes);
+
+/* Unpacks a row of `count` indices from pix_row_size(bits, count) bytes; bits that are left over are not looked at. */
+static inline pix_status pix_unpack_row(uint32_t bits, const uint8_t *bytes, size_t count, uint8_t *indices);
+
 /* ---- The other kinds of pixels ---- */
 
 typedef struct {
@@ -364,6 +430,9 @@ typedef struct {
     const pix_rgba16 *pixels; size_t pixel_count;
     const uint16_t *mattes; size_t matte_count;
     uint32_t width, height, stride;
+    pix_region mask;
+    uint32_t mask_width, mask_height, mask_stride;
+    uint16_t alpha;
 } pix_command_rgba16;
 
 typedef struct {
@@ -373,17 +442,21 @@ typedef struct {
     const pix_graya8 *pixels; size_t pixel_count;
     const uint8_t *mattes; size_t matte_count;
     uint32_t width, height, stride;
+    pix_region mask;
+    uint32_t mask_width, mask_height, mask_stride;
+    uint8_t alpha;
 } pix_command_graya8;
 
 /* pix_image_of_rgba16, pix_source_of_rgba16, pix_source_of_image_rgba16, pix_clear_rgba16, pix_copy_color_rgba16,
- * pix_copy_image_rgba16, pix_composite_color_rgba16, pix_composite_image_rgba16, pix_composite_matte_rgba16 (through a
- * pix_matte16), pix_run_rgba16, pix_run_in_rgba16, pix_do_rgba16; and the same with _graya8 (through a pix_matte). They
+ * pix_copy_image_rgba16, pix_composite_color_rgba16, pix_composite_image_rgba16, pix_composite_matte_rgba16 and
+ * pix_composite_image_matte_rgba16 (through a pix_matte16), pix_composite_image_alpha_rgba16 (at a uint16_t),
+ * pix_run_rgba16, pix_run_in_rgba16, pix_do_rgba16; and the same with _graya8 (through a pix_matte, at a uint8_t). They
  * are defined below together with those above. */
 
 /* ---- What libpix_c.a has ----
  *
- * The functions above go through these ten, which are proved. They test sizes, kinds, regions, operators, sources,
- * formats and lengths. Here no pointer may be null or badly aligned, also where its length is 0, and those in commands
+ * The functions above go through these, which are proved. They test sizes, kinds, regions, operators, sources,
+ * formats, lengths, tables, indices and depths. Here no pointer may be null or badly aligned, also where its length is 0, and those in commands
  * of other kinds neither; and the image, `done` and `dst` may share memory with nothing else that is passed. Lengths
  * are counted in elements. `stride` is at least the width, and 0 doesn't stand for it. */
 
@@ -413,6 +486,16 @@ uint32_t pix_convert_bytes(uint32_t from, uint32_t to, const uint8_t *src, size_
 uint32_t pix_convert_rows(uint32_t from, uint32_t to, const uint8_t *src, size_t src_len, uint8_t *dst, size_t dst_len,
                           int64_t src_stride, int64_t dst_stride, uint32_t width, uint32_t height);
 uint32_t pix_pixel_size(uint32_t format);
+uint32_t pix_table_nearest(const pix_srgb8 *entries, size_t len, const pix_srgb8 *color, uint8_t *index);
+uint32_t pix_table_match(const pix_srgb8 *entries, size_t len, const pix_srgb8 *pixels, size_t pixel_count,
+                         uint8_t *indices, size_t index_count);
+uint32_t pix_table_match_alpha(const pix_srgb8 *entries, size_t len, const pix_srgba8 *pixels, size_t pixel_count,
+                               uint8_t alpha, uint8_t kept, uint8_t *indices, size_t index_count);
+uint32_t pix_table_look_up(const pix_srgb8 *entries, size_t len, const uint8_t *indices, size_t index_count,
+                           pix_srgb8 *pixels, size_t pixel_count);
+uint32_t pix_table_count(const uint8_t *indices, size_t index_count, size_t *counts, size_t len);
+uint32_t pix_table_pack(uint32_t bits, const uint8_t *indices, size_t index_count, uint8_t *bytes, size_t byte_count);
+uint32_t pix_table_unpack(uint32_t bits, const uint8_t *bytes, size_t byte_count, uint8_t *indices, size_t index_count);
 
 /* Fact number `index` of the library: first its version, and then the sizes and offsets of PIX_FACTS_ in bytes, in that
  * order. UINT32_MAX where there are no more. */
@@ -436,6 +519,8 @@ uint32_t pix_layout(size_t index);
 PIX_ASSERT_(lengths, sizeof(size_t) == sizeof(void *));
 PIX_ASSERT_(rgba8, sizeof(pix_rgba8) == 4 && offsetof(pix_rgba8, g) == 1 && offsetof(pix_rgba8, a) == 3);
 PIX_ASSERT_(rgba16, sizeof(pix_rgba16) == 8 && offsetof(pix_rgba16, g) == 2 && offsetof(pix_rgba16, a) == 6);
+PIX_ASSERT_(srgb8, sizeof(pix_srgb8) == 3 && offsetof(pix_srgb8, g) == 1 && offsetof(pix_srgb8, b) == 2);
+PIX_ASSERT_(srgba8, sizeof(pix_srgba8) == 4 && offsetof(pix_srgba8, g) == 1 && offsetof(pix_srgba8, a) == 3);
 PIX_ASSERT_(graya8, sizeof(pix_graya8) == 2 && offsetof(pix_graya8, a) == 1);
 PIX_ASSERT_(region, sizeof(pix_region) == 16 && offsetof(pix_region, width) == 8);
 
@@ -453,7 +538,12 @@ PIX_ASSERT_(region, sizeof(pix_region) == 16 && offsetof(pix_region, width) == 8
     PIX_ASSERT_(width_##command, offsetof(command, width) == PIX_WORD_(4, PIXEL));                                     \
     PIX_ASSERT_(height_##command, offsetof(command, height) == PIX_WORD_(4, PIXEL) + 4);                               \
     PIX_ASSERT_(stride_##command, offsetof(command, stride) == PIX_WORD_(4, PIXEL) + 8);                               \
-    PIX_ASSERT_(size_of_##command, sizeof(command) == PIX_ROUND_(PIX_WORD_(4, PIXEL) + 12))
+    PIX_ASSERT_(mask_##command, offsetof(command, mask) == PIX_WORD_(4, PIXEL) + 12);                                  \
+    PIX_ASSERT_(mask_width_##command, offsetof(command, mask_width) == PIX_WORD_(4, PIXEL) + 28);                      \
+    PIX_ASSERT_(mask_height_##command, offsetof(command, mask_height) == PIX_WORD_(4, PIXEL) + 32);                    \
+    PIX_ASSERT_(mask_stride_##command, offsetof(command, mask_stride) == PIX_WORD_(4, PIXEL) + 36);                    \
+    PIX_ASSERT_(alpha_##command, offsetof(command, alpha) == PIX_WORD_(4, PIXEL) + 40);                                \
+    PIX_ASSERT_(size_of_##command, sizeof(command) == PIX_ROUND_(PIX_WORD_(4, PIXEL) + 42))
 
 PIX_LAYOUT_(pix_command, pix_rgba8);
 PIX_LAYOUT_(pix_command_rgba16, pix_rgba16);
@@ -464,7 +554,8 @@ PIX_LAYOUT_(pix_command_graya8, pix_graya8);
     sizeof(command), offsetof(command, kind), offsetof(command, op), offsetof(command, to), offsetof(command, from),   \
         offsetof(command, color), offsetof(command, pixels), offsetof(command, pixel_count),                           \
         offsetof(command, mattes), offsetof(command, matte_count), offsetof(command, width),                           \
-        offsetof(command, height), offsetof(command, stride)
+        offsetof(command, height), offsetof(command, stride), offsetof(command, mask), offsetof(command, mask_width),  \
+        offsetof(command, mask_height), offsetof(command, mask_stride), offsetof(command, alpha)
 #define PIX_FACTS_                                                                                                     \
     PIX_ABI_VERSION, sizeof(pix_rgba8), sizeof(pix_rgba16), sizeof(pix_graya8), sizeof(pix_region),                    \
         offsetof(pix_region, x), offsetof(pix_region, y), offsetof(pix_region, width), offsetof(pix_region, height),   \
@@ -513,6 +604,9 @@ static inline const char *pix_status_text(pix_status status) {
     case PIX_NULL: return "a pointer is null";
     case PIX_OVERLAP: return "a source, a matte, the list or `done` shares memory with what is written";
     case PIX_BAD_LIBRARY: return "the library has another version or layout than this header";
+    case PIX_BAD_TABLE: return "a table has no entry, or more than 256";
+    case PIX_BAD_INDEX: return "an index is past the end, or takes more bits than it is to have";
+    case PIX_BAD_DEPTH: return "indices take 1, 2, 4 or 8 bits";
     }
     return "no such status";
 }
@@ -525,6 +619,17 @@ static inline const char *pix_status_text(pix_status status) {
     command.count = pix_extent_(command.width, command.height, command.stride, sizeof *command.elements);              \
     if (source.source_elements || command.count)                                                                       \
         command.elements = source.source_elements
+
+/* Notes a mask in `command` likewise. */
+#define PIX_NOTE_MASK_(matte, region)                                                                                  \
+    command.mask = region;                                                                                             \
+    command.mask_width = matte.width;                                                                                  \
+    command.mask_height = matte.height;                                                                                \
+    command.mask_stride = matte.stride ? matte.stride : matte.width;                                                   \
+    command.matte_count =                                                                                              \
+        pix_extent_(command.mask_width, command.mask_height, command.mask_stride, sizeof *command.mattes);             \
+    if (matte.values || command.matte_count)                                                                           \
+        command.mattes = matte.values
 
 /* The views and commands of one kind of pixels: the end of their names, the pixel, the matte and its values. */
 #define PIX_COMMANDS_(S, PIXEL, MATTE, VALUE)                                                                          \
@@ -581,6 +686,20 @@ static inline const char *pix_status_text(pix_status status) {
         pix_command##S command = pix_command_of_##S(PIX_KIND_COMPOSITE_MATTE, op, to, from);                           \
         command.color = color;                                                                                         \
         PIX_NOTE_(matte, mattes, values, matte_count);                                                                 \
+        return command;                                                                                                \
+    }                                                                                                                  \
+    static inline pix_command##S pix_composite_image_matte##S(pix_region to, pix_source##S source, pix_region from,    \
+                                                              MATTE matte, pix_region matte_from, pix_op op) {         \
+        pix_command##S command = pix_command_of_##S(PIX_KIND_COMPOSITE_IMAGE_MATTE, op, to, from);                     \
+        PIX_NOTE_(source, pixels, pixels, pixel_count);                                                                \
+        PIX_NOTE_MASK_(matte, matte_from);                                                                             \
+        return command;                                                                                                \
+    }                                                                                                                  \
+    static inline pix_command##S pix_composite_image_alpha##S(pix_region to, pix_source##S source, pix_region from,    \
+                                                              VALUE opacity, pix_op op) {                              \
+        pix_command##S command = pix_command_of_##S(PIX_KIND_COMPOSITE_IMAGE_ALPHA, op, to, from);                     \
+        PIX_NOTE_(source, pixels, pixels, pixel_count);                                                                \
+        command.alpha = opacity;                                                                                       \
         return command;                                                                                                \
     }
 
@@ -791,11 +910,154 @@ static inline pix_bitmap pix_part_of_bitmap(pix_bitmap image, pix_region region)
     return part;
 }
 
+static inline pix_table pix_table_of(const pix_srgb8 *entries, size_t len) {
+    pix_table table;
+    table.entries = entries;
+    table.len = len;
+    return table;
+}
+
+/* Whether so many elements, of at most eight bytes, are more than memory holds. */
+static inline int pix_too_many_(size_t count) {
+    return count > (size_t)PTRDIFF_MAX / 8;
+}
+
+static inline pix_status pix_nearest(pix_table table, pix_srgb8 color, uint8_t *index) {
+    pix_status status;
+    if (!table.len || table.len > 256)
+        return PIX_BAD_TABLE;
+    status = pix_apart_(index, 1, table.entries, table.len * sizeof *table.entries);
+    if (status != PIX_OK)
+        return status;
+    return (pix_status)pix_table_nearest(table.entries, table.len, &color, index);
+}
+
+static inline pix_status pix_map_indexed(pix_table table, const pix_srgb8 *pixels, size_t count, uint8_t *indices) {
+    const pix_srgb8 none = {0, 0, 0};
+    uint8_t nothing = 0;
+    pix_status status;
+    if (!table.len || table.len > 256)
+        return PIX_BAD_TABLE;
+    if (pix_too_many_(count))
+        return PIX_BAD_LENGTH;
+    if (!count) {
+        pixels = &none;
+        indices = &nothing;
+    }
+    status = pix_apart_(indices, count, table.entries, table.len * sizeof *table.entries);
+    if (status == PIX_OK)
+        status = pix_apart_(indices, count, pixels, count * sizeof *pixels);
+    if (status != PIX_OK)
+        return status;
+    return (pix_status)pix_table_match(table.entries, table.len, pixels, count, indices, count);
+}
+
+static inline pix_status pix_map_indexed_alpha(pix_table table, const pix_srgba8 *pixels, size_t count, uint8_t alpha,
+                                               uint8_t kept, uint8_t *indices) {
+    const pix_srgba8 none = {0, 0, 0, 0};
+    uint8_t nothing = 0;
+    pix_status status;
+    if (!table.len || table.len > 256)
+        return PIX_BAD_TABLE;
+    if (pix_too_many_(count))
+        return PIX_BAD_LENGTH;
+    if (!count) {
+        pixels = &none;
+        indices = &nothing;
+    }
+    status = pix_apart_(indices, count, table.entries, table.len * sizeof *table.entries);
+    if (status == PIX_OK)
+        status = pix_apart_(indices, count, pixels, count * sizeof *pixels);
+    if (status != PIX_OK)
+        return status;
+    return (pix_status)pix_table_match_alpha(table.entries, table.len, pixels, count, alpha, kept, indices, count);
+}
+
+static inline pix_status pix_look_up(pix_table table, const uint8_t *indices, size_t count, pix_srgb8 *pixels) {
+    const pix_srgb8 no_entry = {0, 0, 0};
+    pix_srgb8 none = {0, 0, 0};
+    const uint8_t nothing = 0;
+    pix_status status;
+    if (pix_too_many_(count) || pix_too_many_(table.len))
+        return PIX_BAD_LENGTH;
+    if (!count) {
+        indices = &nothing;
+        pixels = &none;
+    }
+    if (!table.len)
+        table.entries = &no_entry;
+    status = pix_apart_(pixels, count * sizeof *pixels, table.entries, table.len * sizeof *table.entries);
+    if (status == PIX_OK)
+        status = pix_apart_(pixels, count * sizeof *pixels, indices, count);
+    if (status != PIX_OK)
+        return status;
+    return (pix_status)pix_table_look_up(table.entries, table.len, indices, count, pixels, count);
+}
+
+static inline pix_status pix_count_indices(const uint8_t *indices, size_t count, size_t *counts, size_t len) {
+    const uint8_t nothing = 0;
+    size_t none = 0;
+    pix_status status;
+    if (pix_too_many_(count) || pix_too_many_(len))
+        return PIX_BAD_LENGTH;
+    if (!count)
+        indices = &nothing;
+    if (!len)
+        counts = &none;
+    status = pix_apart_(counts, len * sizeof *counts, indices, count);
+    if (status != PIX_OK)
+        return status;
+    return (pix_status)pix_table_count(indices, count, counts, len);
+}
+
+static inline size_t pix_row_size(uint32_t bits, size_t count) {
+    size_t places;
+    if (bits != 1 && bits != 2 && bits != 4 && bits != 8)
+        return 0;
+    places = 8 / bits;
+    return count / places + (count % places != 0);
+}
+
+static inline pix_status pix_pack_row(uint32_t bits, const uint8_t *indices, size_t count, uint8_t *bytes) {
+    const uint8_t no_index = 0;
+    uint8_t nothing = 0;
+    size_t size = pix_row_size(bits, count);
+    pix_status status;
+    if (pix_too_many_(count))
+        return PIX_BAD_LENGTH;
+    if (!count) {
+        indices = &no_index;
+        bytes = &nothing;
+    }
+    status = pix_apart_(bytes, size, indices, count);
+    if (status != PIX_OK)
+        return status;
+    return (pix_status)pix_table_pack(bits, indices, count, bytes, size);
+}
+
+static inline pix_status pix_unpack_row(uint32_t bits, const uint8_t *bytes, size_t count, uint8_t *indices) {
+    const uint8_t no_byte = 0;
+    uint8_t nothing = 0;
+    size_t size = pix_row_size(bits, count);
+    pix_status status;
+    if (pix_too_many_(count))
+        return PIX_BAD_LENGTH;
+    if (!count) {
+        bytes = &no_byte;
+        indices = &nothing;
+    }
+    status = pix_apart_(indices, count, bytes, size);
+    if (status != PIX_OK)
+        return status;
+    return (pix_status)pix_table_unpack(bits, bytes, size, indices, count);
+}
+
 #undef PIX_ASSERT_
 #undef PIX_ROUND_
 #undef PIX_WORD_
 #undef PIX_LAYOUT_
 #undef PIX_NOTE_
+#undef PIX_NOTE_MASK_
 #undef PIX_COMMANDS_
 #undef PIX_CALLS_
 #undef PIX_PARTS_

@@ -78,6 +78,42 @@ static pixman_image_t *words(uint32_t *pixels) {
     return pixman_image_create_bits(PIXMAN_a8b8g8r8, WIDE, HIGH, pixels, 4 * APART);
 }
 
+/* Composites an image through a mask by pixman, where all three regions and all three images have a point. */
+static void composite_masked(uint32_t op, pixman_image_t *src, pixman_image_t *mask, pix_region to, pix_region from,
+                             pix_region mask_from) {
+    pixman_image_t *dest = words(other);
+    int64_t at[3] = {to.x, from.x, mask_from.x}, down[3] = {to.y, from.y, mask_from.y};
+    int64_t width = to.width, height = to.height, i;
+    width = width < (int64_t)from.width ? width : (int64_t)from.width;
+    width = width < (int64_t)mask_from.width ? width : (int64_t)mask_from.width;
+    height = height < (int64_t)from.height ? height : (int64_t)from.height;
+    height = height < (int64_t)mask_from.height ? height : (int64_t)mask_from.height;
+    for (i = 0; i < 3; i++) {
+        int64_t left = at[i] < 0 ? -at[i] : 0, top = down[i] < 0 ? -down[i] : 0, j;
+        for (j = 0; j < 3; j++) {
+            at[j] += left;
+            down[j] += top;
+        }
+        width -= left;
+        height -= top;
+    }
+    for (i = 0; i < 3; i++) {
+        width = width < WIDE - at[i] ? width : WIDE - at[i];
+        height = height < HIGH - down[i] ? height : HIGH - down[i];
+    }
+    if (width > 0 && height > 0)
+        pixman_image_composite32(operators[op], src, mask, dest, (int32_t)at[1], (int32_t)down[1], (int32_t)at[2],
+                                 (int32_t)down[2], (int32_t)at[0], (int32_t)down[0], (int32_t)width, (int32_t)height);
+    pixman_image_unref(dest);
+}
+
+/* A mask of one value everywhere: one pixel that is repeated. */
+static pixman_image_t *repeated(uint32_t *value) {
+    pixman_image_t *mask = pixman_image_create_bits(PIXMAN_a8, 1, 1, value, 4);
+    pixman_image_set_repeat(mask, PIXMAN_REPEAT_NORMAL);
+    return mask;
+}
+
 /* Composites by pixman where both regions and both images have a point; `mask` may be null. */
 static void composite(uint32_t op, pixman_image_t *src, pixman_image_t *mask, pix_region to, pix_region from,
                       int has_from) {
@@ -107,16 +143,17 @@ static pixman_image_t *solid(pix_rgba8 color) {
 
 /* Makes a random command, and does the same by pixman. */
 static pix_command next(void) {
-    enum { CLEAR = 0, COPY_COLOR = 1, COPY = 3, COLOR = 6, IMAGE = 9 };
-    const pix_region to = region(), from = region(), whole = pix_region_of(0, 0, WIDE, HIGH);
+    enum { CLEAR = 0, COPY_COLOR = 1, COPY = 3, COLOR = 6, IMAGE = 9, MATTE = 12, MASKED = 15 };
+    const pix_region to = region(), from = region(), mask_from = region(), whole = pix_region_of(0, 0, WIDE, HIGH);
     const pix_rgba8 color = pixel();
-    const uint32_t which = below(SOURCES), op = below(13), kind = below(13);
+    const uint32_t which = below(SOURCES), through = below(SOURCES), op = below(13), kind = below(19);
     pix_source source = pix_source_of(sources[which], WIDE, HIGH);
-    pix_matte matte = pix_matte_of(mattes[which], WIDE, HIGH);
+    pix_matte matte = pix_matte_of(mattes[which], WIDE, HIGH), cover = pix_matte_of(mattes[through], WIDE, HIGH);
+    uint32_t opacity = byte();
     pixman_image_t *plain = solid(color), *src = words(copies[which]);
     pixman_image_t *mask = pixman_image_create_bits(PIXMAN_a8, WIDE, HIGH, masks[which], APART);
     pix_command command;
-    source.stride = matte.stride = APART;
+    source.stride = matte.stride = cover.stride = APART;
     if (kind <= CLEAR) {
         command = pix_clear();
         composite(PIX_OP_CLEAR, plain, NULL, whole, whole, 0);
@@ -132,9 +169,19 @@ static pix_command next(void) {
     } else if (kind <= IMAGE) {
         command = pix_composite_image(to, source, from, (pix_op)op);
         composite(op, src, NULL, to, from, 1);
-    } else {
+    } else if (kind <= MATTE) {
         command = pix_composite_matte(to, matte, from, color, (pix_op)op);
         composite(op, plain, mask, to, from, 1);
+    } else if (kind <= MASKED) {
+        pixman_image_t *covers = pixman_image_create_bits(PIXMAN_a8, WIDE, HIGH, masks[through], APART);
+        command = pix_composite_image_matte(to, source, from, cover, mask_from, (pix_op)op);
+        composite_masked(op, src, covers, to, from, mask_from);
+        pixman_image_unref(covers);
+    } else {
+        pixman_image_t *one = repeated(&opacity);
+        command = pix_composite_image_alpha(to, source, from, (uint8_t)opacity, (pix_op)op);
+        composite(op, src, one, to, from, 1);
+        pixman_image_unref(one);
     }
     pixman_image_unref(plain);
     pixman_image_unref(src);

@@ -24,14 +24,16 @@ typedef struct {
     int64_t x, y, width, height;
 } plain_region;
 
-enum { PLAIN_CLEAR, PLAIN_COPY_COLOR, PLAIN_COPY, PLAIN_COLOR, PLAIN_SOURCE, PLAIN_MATTE };
+enum {
+    PLAIN_CLEAR, PLAIN_COPY_COLOR, PLAIN_COPY, PLAIN_COLOR, PLAIN_SOURCE, PLAIN_MATTE, PLAIN_MASKED, PLAIN_FADED
+};
 
-/* A command; `source` has the pixels or the mattes that it reads. */
+/* A command; `source` has the pixels or the mattes that it reads, and `mask` the mattes of an image. */
 typedef struct {
     uint32_t kind, op;
-    plain_region to, from;
-    uint64_t color[4];
-    const plain_rows *source;
+    plain_region to, from, mask_from;
+    uint64_t color[4], alpha;
+    const plain_rows *source, *mask;
 } plain_command;
 
 /* The coefficients of the operators, by their numbers: 0, 1, the other side's alpha (a), or one minus it (m). */
@@ -97,13 +99,13 @@ static inline int plain_covers(const plain_region *reg, int64_t x, int64_t y, in
 }
 
 /* The bytes of the point of a source that is paired with a point, or null where there is none. */
-static inline const unsigned char *plain_paired(const plain_command *command, size_t size, int64_t x, int64_t y) {
+static inline const unsigned char *plain_paired(const plain_region *to, const plain_rows *source, const plain_region *from,
+                                                size_t size, int64_t x, int64_t y) {
     int64_t column, row;
-    if (!plain_covers(&command->to, x, y, &column, &row) || column >= command->from.width || row >= command->from.height)
+    if (!plain_covers(to, x, y, &column, &row) || column >= from->width || row >= from->height)
         return NULL;
-    column += command->from.x;
-    row += command->from.y;
-    const plain_rows *source = command->source;
+    column += from->x;
+    row += from->y;
     if (column < 0 || row < 0 || column >= (int64_t)source->width || row >= (int64_t)source->height)
         return NULL;
     return source->bytes + ((uint64_t)row * source->stride + (uint64_t)column) * size;
@@ -113,7 +115,7 @@ static inline const unsigned char *plain_paired(const plain_command *command, si
 static inline void plain_step(const plain_kind *kind, const plain_command *command, int64_t x, int64_t y, uint64_t *pixel) {
     uint64_t src[4] = {0, 0, 0, 0};
     int64_t column, row;
-    const unsigned char *paired;
+    const unsigned char *paired, *covered = NULL;
     size_t size = kind->bytes * (command->kind == PLAIN_MATTE ? 1 : kind->channels);
     switch (command->kind) {
     case PLAIN_COPY_COLOR:
@@ -126,13 +128,19 @@ static inline void plain_step(const plain_kind *kind, const plain_command *comma
     case PLAIN_COPY:
     case PLAIN_SOURCE:
     case PLAIN_MATTE:
-        paired = plain_paired(command, size, x, y);
-        if (!paired)
+    case PLAIN_MASKED:
+    case PLAIN_FADED:
+        paired = plain_paired(&command->to, command->source, &command->from, size, x, y);
+        if (command->kind == PLAIN_MASKED)
+            covered = plain_paired(&command->to, command->mask, &command->mask_from, kind->bytes, x, y);
+        if (!paired || (command->kind == PLAIN_MASKED && !covered))
             return;
         for (size_t i = 0; i < kind->channels; i++)
             src[i] = command->kind == PLAIN_MATTE
                 ? plain_product(kind->max, command->color[i], plain_channel(kind, paired, 0))
                 : plain_channel(kind, paired, i);
+        for (size_t i = 0; command->kind >= PLAIN_MASKED && i < kind->channels; i++)
+            src[i] = plain_product(kind->max, src[i], covered ? plain_channel(kind, covered, 0) : command->alpha);
         break;
     default: break;
     }

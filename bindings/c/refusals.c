@@ -74,7 +74,7 @@ static void commands(void) {
     const pix_source source = pix_source_of(other, SIDE, SIDE);
     const pix_matte matte = pix_matte_of(values, SIDE, SIDE);
     pix_command command = pix_clear();
-    command.kind = 6;
+    command.kind = 8;
     CHECK(is_refused(command, PIX_BAD_KIND));
     command.kind = UINT32_MAX;
     CHECK(is_refused(command, PIX_BAD_KIND));
@@ -85,6 +85,9 @@ static void commands(void) {
     CHECK(is_refused(pix_composite_image(whole, source, pix_region_of(0, 0, 1, LONG), PIX_OP_PLUS), PIX_BAD_REGION));
     CHECK(is_refused(pix_composite_matte(whole, matte, pix_region_of(0, 0, LONG, 1), color, PIX_OP_SRC),
                      PIX_BAD_REGION));
+    CHECK(is_refused(pix_composite_image_matte(whole, source, whole, matte, pix_region_of(0, 0, 1, LONG), PIX_OP_SRC),
+                     PIX_BAD_REGION));
+    CHECK(is_refused(pix_composite_image_alpha(whole, source, pix_region_of(0, 0, LONG, 1), 9, PIX_OP_SRC), PIX_BAD_REGION));
     CHECK(is_refused(pix_composite_color(whole, color, (pix_op)13), PIX_BAD_OP));
     CHECK(is_refused(pix_composite_image(whole, source, whole, (pix_op)15), PIX_BAD_OP));
     CHECK(is_refused(pix_composite_matte(whole, matte, whole, color, (pix_op)14), PIX_BAD_OP));
@@ -324,7 +327,7 @@ static void gray_pixels(void) {
     CHECK(image[0].value == 9 && image[1].value == 50 && image[2].value == 100 + times(50, 55) && image[2].a == 255);
     CHECK(pix_do_graya8(pix_image_of_graya8(image, 2, 2), list[2]) == PIX_OK);
     CHECK(image[0].value == 255 && image[1].value == 50 && image[2].value == 51 + times(100 + times(50, 55), 204));
-    list[1].kind = 6;
+    list[1].kind = 8;
     CHECK(pix_run_graya8(pix_image_of_graya8(image, 2, 2), list, 3, &done) == PIX_BAD_KIND && done == 1);
     CHECK(image[0].value == 255 && image[3].value == 1);
 }

@@ -1,5 +1,6 @@
-/* Pictures painted tile by tile beside the same pictures painted whole, by random lists of commands; and windows whose
- * places and regions lie at the ends of 32 bits.
+/* Pictures painted tile by tile beside the same pictures painted whole, by random lists of commands; pictures larger than
+ * the nearest cache, painted by a list and command by command; and windows whose places and regions lie at the ends of
+ * 32 bits.
  *
  *     tiles [LISTS]
  *
@@ -8,9 +9,10 @@
 #include <stdio.h>
 #include <stdlib.h>
 
-enum { SIDE = 40, COMMANDS = 8 };
+enum { SIDE = 40, COMMANDS = 8, WIDE = 1000, HIGH = 2 * SIDE, STRIDE = WIDE + 3 };
 
 static pix_rgba8 whole[SIDE * SIDE], parts[SIDE * SIDE], source[SIDE * SIDE], tile[SIDE * SIDE];
+static pix_rgba8 large[2][STRIDE * HIGH];
 static uint8_t values[SIDE * SIDE];
 static unsigned long windows;
 
@@ -116,6 +118,26 @@ static int try_list(void) {
     return memcmp(whole, parts, sizeof whole) ? fail("the tiles are not the whole") : 0;
 }
 
+/* ---- Large pictures ---- */
+
+/* The library goes over a large picture by bands of rows, and over one that gets a single command at once. */
+static int try_large(void) {
+    const uint32_t height = HIGH - below(SIDE);
+    pix_command list[COMMANDS];
+    pix_image at_once = pix_image_of(large[0], WIDE, height), one_by_one = pix_image_of(large[1], WIDE, height);
+    at_once.stride = one_by_one.stride = STRIDE;
+    for (size_t i = 0; i < STRIDE * HIGH; i++)
+        large[0][i] = large[1][i] = color();
+    for (size_t i = 0; i < COMMANDS; i++)
+        list[i] = command(SIDE, SIDE);
+    if (pix_run(at_once, list, COMMANDS, NULL) != PIX_OK)
+        return fail("a large picture is refused");
+    for (size_t i = 0; i < COMMANDS; i++)
+        if (pix_run(one_by_one, list + i, 1, NULL) != PIX_OK)
+            return fail("a command on a large picture is refused");
+    return memcmp(large[0], large[1], sizeof large[0]) ? fail("a list is not its commands, one by one") : 0;
+}
+
 /* ---- The ends of 32 bits ---- */
 
 /* The alphas of the window of two columns and two rows that ends at the limit, after a command. */
@@ -160,8 +182,12 @@ int main(int count, char **words) {
     for (unsigned long i = 0; i < lists; i++)
         if (try_list())
             return 1;
+    for (unsigned long i = 0; i < lists / 15; i++)
+        if (try_large())
+            return 1;
     if (try_ends())
         return 1;
-    printf("tiles: %lu pictures painted in %lu tiles are the pictures painted whole\n", lists, windows);
+    printf("tiles: %lu pictures painted in %lu tiles are the pictures painted whole, and %lu large ones by lists\n", lists,
+           windows, lists / 15);
     return 0;
 }

@@ -126,7 +126,7 @@ static void what_is_refused(void) {
         uint32_t width, height, stride;
         pix_status status;
     } table[] = {
-        {"kind 6", 6, 2, 1, 1, 1, 0, 0, 1, 1, 1, PIX_BAD_KIND},
+        {"kind 8", 8, 2, 1, 1, 1, 0, 0, 1, 1, 1, PIX_BAD_KIND},
         {"the greatest kind", UINT32_MAX, 2, 1, 1, 1, 0, 0, 1, 1, 1, PIX_BAD_KIND},
         {"a wide region", 1, 2, 2147483648, 1, 1, 0, 0, 1, 1, 1, PIX_BAD_REGION},
         {"a high region that is not read", 1, 2, 1, 1, UINT32_MAX, 0, 0, 1, 1, 1, PIX_BAD_REGION},
@@ -283,6 +283,46 @@ static void sixteen_bits(void) {
     run_rgba16(&image, 1, 1, 1, 1, &it, 1, PIX_BAD_SOURCE, 0);
 }
 
+/* A fade by 128 of 255: 200 * 128 / 255 = 100.4, 100 * 128 / 255 = 50.2; over 100 with one minus 100: 100 * 155 / 255 = 60.8.
+ * The mask has rows of three, and its second row is read. */
+static void masks_and_opacities(void) {
+    static const uint8_t values[] = {9, 9, 9, 128, 0, 255};
+    static const pix_rgba8 pixel = {200, 100, 0, 200}, faded = {100, 50, 61, 255}, below = {0, 0, 100, 255};
+    static const pix_rgba8 kept = {200, 100, 22, 255}; /* 100 * 55 / 255 = 21.6 */
+    const pix_region all = pix_region_of(0, 0, 9, 9), one = pix_region_of(0, 0, 1, 1);
+    const pix_source source = pix_source_of(&pixel, 1, 1);
+    pix_rgba8 image[3] = {below, below, below}, row[3];
+    const pix_rgba8 wanted[3] = {faded, below, kept};
+    pix_matte mask = pix_matte_of(values, 3, 2);
+    pix_command it = pix_composite_image_alpha(one, source, all, 128, PIX_OP_SRC_OVER);
+    begin("masks_and_opacities: at an opacity");
+    run(image, 3, 3, 1, 3, &it, 1, PIX_OK, 1);
+    compare_pixels(image, &faded, 1);
+    compare_pixels(image + 1, &below, 1);
+    it = pix_composite_image_alpha(one, source, all, 255, PIX_OP_SRC);
+    begin("masks_and_opacities: opaque");
+    run(image, 3, 3, 1, 3, &it, 1, PIX_OK, 1);
+    compare_pixels(image, &pixel, 1);
+    row[0] = row[1] = row[2] = pixel;
+    image[0] = below;
+    it = pix_composite_image_matte(all, pix_source_of(row, 3, 1), all, mask, pix_region_of(0, 1, 3, 9), PIX_OP_SRC_OVER);
+    begin("masks_and_opacities: through a mask");
+    run(image, 3, 3, 1, 3, &it, 1, PIX_OK, 1);
+    compare_pixels(image, wanted, 3);
+    begin("masks_and_opacities: a mask of another stride");
+    mask.width = 2, mask.stride = 3, image[0] = image[1] = image[2] = below;
+    it = pix_composite_image_matte(all, pix_source_of(row, 2, 1), all, mask, pix_region_of(0, 1, 3, 9), PIX_OP_SRC_OVER);
+    run(image, 3, 3, 1, 3, &it, 1, PIX_OK, 1);
+    compare_pixels(image, wanted, 2);
+    compare_pixels(image + 2, &below, 1);
+    it.matte_count = 4;
+    begin("masks_and_opacities: too few mattes");
+    run(image, 3, 3, 1, 3, &it, 1, PIX_BAD_SOURCE, 0);
+    it.matte_count = 5, it.pixel_count = 1;
+    begin("masks_and_opacities: too few pixels");
+    run(image, 3, 3, 1, 3, &it, 1, PIX_BAD_SOURCE, 0);
+}
+
 /* SRC_OVER with the alpha 51: 100 * 204 / 255 = 80, 204 * 204 / 255 = 163.2. */
 static void gray_and_alpha(void) {
     static const pix_graya8 pixel = {50, 51}, wanted = {130, 214};
@@ -390,6 +430,7 @@ int main(void) {
     an_empty_list();
     sixteen_bits();
     gray_and_alpha();
+    masks_and_opacities();
     wide("of_eight_bits", &eight);
     wide_rgba16("of_sixteen_bits", &sixteen);
     wide_graya8("of_gray", &gray);

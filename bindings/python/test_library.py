@@ -76,9 +76,9 @@ class Libraries(unittest.TestCase):
         library.pix_layout.restype = ctypes.c_uint32
         library.pix_layout.argtypes = [ctypes.c_size_t]
         fact = ctypes.c_size_t.in_dll(library, "other_fact")
-        for fact.value in range(49):
+        for fact.value in range(64):
             self.assertRaises(ImportError, _pixels.refuse_another, library)
-        fact.value = 49
+        fact.value = 64
         _pixels.refuse_another(library)
 
 

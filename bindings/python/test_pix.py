@@ -58,7 +58,7 @@ class Refusals(unittest.TestCase):
         self.image.run()
 
     def test_commands(self):
-        self.refused(pix.Status.BAD_KIND, pix.Command(6))
+        self.refused(pix.Status.BAD_KIND, pix.Command(8))
         self.refused(pix.Status.BAD_OP, pix.composite_color(WHOLE, COLOR, 13))
         self.refused(pix.Status.BAD_REGION, pix.copy_color((0, 0, LONG, 1), COLOR))
         self.refused(pix.Status.BAD_REGION, pix.copy_image(WHOLE, self.other, (0, 0, 1, LONG)))
@@ -98,6 +98,30 @@ class Refusals(unittest.TestCase):
                 self.image.run(wrong)
         self.assertRaises(AttributeError, setattr, command, "source", self.other)
         self.assertRaises(TypeError, pix.Command, 4, WHOLE, source=bytes(64))
+
+    def test_prepared_lists(self):
+        good = pix.copy_color(WHOLE, COLOR)
+        for bad, status in ((pix.Command(99), pix.Status.BAD_KIND), (pix.composite_color(WHOLE, COLOR, 13), pix.Status.BAD_OP)):
+            with self.assertRaises(pix.PixError) as caught:
+                pix.CommandList(good, bad)
+            self.assertEqual((caught.exception.status, caught.exception.index), (status, 1))
+        for wrong in (None, [good], pix.CommandList(good)):
+            self.assertRaisesRegex(TypeError, "is not a Command", pix.CommandList, wrong)
+        self.assertRaises(ValueError, pix.CommandList, good, type=pix.GRAYA8)
+        self.assertRaises(TypeError, pix.CommandList, good, type=8)
+        prepared = pix.CommandList(good)
+        for wrong in ((prepared, prepared), (good, prepared)):
+            self.assertRaisesRegex(TypeError, "is not a Command", self.image.run, *wrong)
+        for other in (pix.GRAYA8, pix.RGBA16):
+            self.assertRaisesRegex(TypeError, "a list for RGBA8", pix.Image.new(4, 4, other).run, prepared)
+        self.assertRaises(TypeError, pix.Image(bytes(64), 4, 4).run, prepared)
+        near, far = pix.Image(memoryview(self.pixels)[60:], 1, 1), pix.Image.new(1, 1)
+        for sources, number in (((near, far), 0), ((far, near), 1), ((far, near, near, far), 1)):
+            shared = pix.CommandList(*(pix.copy_image((9, 9, 1, 1), source) for source in sources))
+            self.assertRaisesRegex(ValueError, f"command {number}: its source shares", self.image.run, shared)
+        with self.assertRaises(pix.PixError) as caught:
+            self.image.run(prepared, origin=(LONG - 4, 0))
+        self.assertEqual((caught.exception.status, caught.exception.index), (pix.Status.BAD_SIZE, None))
 
     def test_buffers(self):
         self.assertRaises(TypeError, pix.Image(bytes(64), 4, 4).run, pix.clear())
@@ -150,6 +174,7 @@ class Refusals(unittest.TestCase):
             self.assertRaises(ValueError, self.image.run, pix.copy_image(WHOLE, source))
         matte = pix.Matte(memoryview(self.pixels)[63:], 1, 1)
         self.assertRaises(ValueError, self.image.run, pix.composite_matte(WHOLE, matte, COLOR))
+        self.assertRaises(ValueError, self.image.run, pix.composite_image_matte(WHOLE, self.other, matte))
 
     def test_types(self):
         self.assertRaises(TypeError, pix.copy_image, WHOLE, pix.Matte(bytes(16), 4, 4))
@@ -157,6 +182,17 @@ class Refusals(unittest.TestCase):
         self.assertRaises(TypeError, self.image.run, pix.copy_image(WHOLE, pix.Image.new(4, 4, pix.GRAYA8)))
         matte = pix.Matte(bytes(32), 4, 4, bits=16)
         self.assertRaises(TypeError, self.image.run, pix.composite_matte(WHOLE, matte, COLOR))
+
+    def test_opacities(self):
+        for alpha in (-1, 256):
+            self.assertRaises(ValueError, self.image.run, pix.composite_image_alpha(WHOLE, self.other, alpha))
+        self.assertRaises(TypeError, pix.composite_image_alpha, WHOLE, self.other, 0.5)
+        matte = pix.Matte(bytes(16), 4, 4)
+        self.assertRaises(TypeError, pix.composite_image_matte, WHOLE, matte, matte)
+        self.assertRaises(TypeError, pix.composite_image_matte, WHOLE, self.other, self.other)
+        wide = pix.composite_image_matte(WHOLE, self.other, pix.Matte(bytes(32), 4, 4, bits=16))
+        self.assertRaises(TypeError, self.image.run, wide)
+        self.refused(pix.Status.BAD_SOURCE, pix.composite_image_matte(WHOLE, self.other, pix.Matte(bytes(15), 4, 4)))
 
     def test_conversions(self):
         four, three = pix.Format.RGBA8, pix.Format.RGB8
@@ -255,6 +291,29 @@ class Borders(unittest.TestCase):
         self.assertEqual(painted[0].pixels, painted[1].pixels)
         fault = pickle.loads(pickle.dumps(pix.PixError(pix.Status.BAD_OP, 3)))
         self.assertEqual((fault.status, fault.index, str(fault)), (pix.Status.BAD_OP, 3, "command 3: no such operator"))
+
+    def test_prepared_lists(self):
+        source = pix.Image(bytearray(range(36)), 3, 3)
+        commands = [pix.copy_color((0, 0, 2, 3), COLOR), pix.composite_image((1, 0, 3, 3), source, op=pix.Op.PLUS)]
+        prepared = pix.CommandList(*commands)
+        self.assertEqual((list(prepared), len(prepared), prepared[1], prepared.type), (commands, 2, commands[1], pix.RGBA8))
+        self.assertEqual(repr(prepared), "<pix.CommandList of 2, RGBA8>")
+        for value in (7, 200):  # what the source has is read at each run
+            source.run(pix.copy_color((1, 1, 1, 1), (value,) * 4))
+            one, all = pix.Image.new(3, 3), pix.Image.new(3, 3)
+            one.run(*commands, origin=(1, 0))
+            all.run(prepared, origin=(1, 0))
+            self.assertEqual(one.pixels, all.pixels)
+        del source, commands
+        gc.collect()
+        again = pickle.loads(pickle.dumps(prepared))
+        self.assertEqual((len(again), again.type, again[1].source.pixels), (2, pix.RGBA8, prepared[1].source.pixels))
+        other = pix.Image.new(3, 3)
+        other.run(again, origin=(1, 0))
+        self.assertEqual(other.pixels, all.pixels)
+        wide = pickle.loads(pickle.dumps(pix.CommandList(pix.copy_color((0, 0, 1, 1), (1, 2, 3, 65535)), type=pix.RGBA16)))
+        self.assertEqual(wide.type, pix.RGBA16)
+        pix.Image.new(1, 1).run(pix.CommandList())
 
     def test_texts(self):
         image, matte = pix.Image.new(3, 2, pix.RGBA16), pix.Matte(bytes(6), 3, 2)
@@ -367,6 +426,7 @@ class Threads(unittest.TestCase):
                 self.assertFalse(done.wait(0.05))
             self.assertTrue(done.wait(10))
             thread.join()
+        self.assertEqual(_memory.calls.running, [])
         with _memory.calls.turn(image._rows.memory, []):
             self.assertRaises(RuntimeError, image.run)
         image.run()
@@ -453,6 +513,25 @@ class Paintings(unittest.TestCase):
             image.run(pix.composite_color((0, 0, 1, 1), source, op))
             expected = [min(255, times(s, by_source[op]) + times(d, by_dest[op])) for s, d in zip(source, dest)]
             self.assertEqual(list(image.pixels), expected, op)
+
+    def test_masks_and_opacities(self):
+        source = pix.Image(bytes((200, 100, 0, 200)) * 3, 3, 1)
+        below = bytes((0, 0, 100, 255))
+        faded, kept = bytes((100, 50, 61, 255)), bytes((200, 100, 22, 255))
+        pixels = bytearray(below * 3)
+        image = pix.Image(pixels, 3, 1)
+        image.run(pix.composite_image_alpha((0, 0, 1, 1), source, 128))
+        self.assertEqual(pixels, faded + below * 2)
+        pixels[:] = below * 3
+        mask = pix.Matte(bytes((9, 9, 9, 128, 0, 255)), 3, 2)
+        command = pix.composite_image_matte((0, 0, 9, 9), source, mask, mask_from=(0, 1, 3, 1))
+        self.assertEqual((command.mask, command.mask_from, command.alpha), (mask, (0, 1, 3, 1), 0))
+        image.run(pickle.loads(pickle.dumps(command)))
+        self.assertEqual(pixels, faded + below + kept)
+        wide = pix.Image(array.array("H", (40000, 20000, 0, 40000)), 1, 1, type=pix.RGBA16)
+        words = array.array("H", [0] * 4)
+        pix.Image(words, 1, 1, type=pix.RGBA16).run(pix.composite_image_alpha((0, 0, 1, 1), wide, 32768, op=pix.Op.SRC))
+        self.assertEqual(list(words), [20000, 10000, 0, 20000])
 
     def test_wide_pixels(self):
         words = array.array("H", (1000, 2000, 3000, 65535) * 2)

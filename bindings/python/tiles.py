@@ -31,7 +31,7 @@ def make_commands(side):
             pix.composite_image((x, y, 64, 64), sprite),
             pix.composite_matte((y, x, 64, 64), pix.Matte(bytes(disk), 64, 64), (40, 0, 90, 200), op=pix.Op.SRC_ATOP),
         ]
-    return commands
+    return pix.CommandList(*commands)
 
 
 def paint(path, side, left, top, tile, commands):
@@ -39,7 +39,7 @@ def paint(path, side, left, top, tile, commands):
     picture = numpy.memmap(path, numpy.uint8, "r+", shape=(side, side, 4))
     there = picture[top : top + tile, left : left + tile]
     own = numpy.array(there)
-    pix.Image(own).run(*commands, origin=(left, top))
+    pix.Image(own).run(commands, origin=(left, top))
     there[:] = own
     picture.flush()
 
@@ -59,7 +59,7 @@ if __name__ == "__main__":
     print(f"tiles: {main(side, tile, path)} tiles are painted")
     if sys.argv[4:] == ["--compare"]:
         whole = numpy.zeros((side, side, 4), numpy.uint8)
-        pix.Image(whole).run(*make_commands(side))
+        pix.Image(whole).run(make_commands(side))
         if not numpy.array_equal(whole, numpy.memmap(path, numpy.uint8, "r", shape=(side, side, 4))):
             sys.exit("tiles: the tiles are not the picture painted whole")
         print("tiles: they are the picture painted whole")

@@ -27,14 +27,14 @@ apt_lines() {
     ran+=("$1 apt")
     mkdir "$folder" && cp "$dist"/* "$work/program/demo.c" "$work/src/refusals.c" "$folder" && cp "$work/src/demo.c" "$folder/painting.c" || return
     lines_of "$1" apt >"$folder/lines.sh" && [ -s "$folder/lines.sh" ] || return
-    cat "$folder/lines.sh" - >"$folder/script.sh" <<'END'
+    { echo "calls=$calls" && cat "$folder/lines.sh" -; } >"$folder/script.sh" <<'END'
 cc -O2 painting.c -lpix -o painting && ./painting picture.ppm
 cc -O2 -DPIX_STATIC refusals.c -lpix -o refusals && ./refusals
-dpkg --verify libpix1 libpix-dev && dpkg -s libpix1 libpix-dev | grep '^Version' | sort -u >version
-(cd / && sha256sum -c --quiet usr/share/doc/libpix1/PROVENANCE.amd64 usr/share/doc/libpix-dev/PROVENANCE.amd64)
-ldconfig -p | grep 'libpix.so.1 '
-apt-get install ./libpix1_*_arm64.deb >refused 2>&1 || echo refused
-apt-get remove -y libpix1 >/dev/null && ! ldconfig -p | grep 'libpix.so.1 '
+dpkg --verify libpix$calls libpix-dev && dpkg -s libpix$calls libpix-dev | grep '^Version' | sort -u >version
+(cd / && sha256sum -c --quiet usr/share/doc/libpix$calls/PROVENANCE.amd64 usr/share/doc/libpix-dev/PROVENANCE.amd64)
+ldconfig -p | grep "libpix.so.$calls "
+apt-get install ./libpix${calls}_*_arm64.deb >refused 2>&1 || echo refused
+apt-get remove -y libpix$calls >/dev/null && ! ldconfig -p | grep "libpix.so.$calls "
 END
     in_layer "$folder" "$folder/script.sh" "$folder/left" && cp "$folder/left/picture.ppm" "$work/apt.ppm" \
         && [ "$(cat "$folder/left/version")" = "Version: $version" ] && grep 'arm64' "$folder/left/refused"
@@ -46,7 +46,7 @@ deb_aarch64() {
     for file in "$dist"/libpix*_"$version"_arm64.deb; do
         dpkg-deb -x "$file" "$root" || return
     done
-    (cd "$root" && sha256sum -c --quiet usr/share/doc/libpix1/PROVENANCE.arm64 usr/share/doc/libpix-dev/PROVENANCE.arm64) || return
+    (cd "$root" && sha256sum -c --quiet usr/share/doc/libpix$calls/PROVENANCE.arm64 usr/share/doc/libpix-dev/PROVENANCE.arm64) || return
     for file in "$dist"/libpix*_"$version"_amd64.deb; do
         dpkg-deb -x "$file" "$work/amd64" || return
     done

@@ -31,24 +31,25 @@ c_aarch64() {
 }
 
 cpp_by_cmake() {
-    mkdir "$work/cmake" && cp "$work/src/demo.cpp" "$work/cmake" && cat >"$work/cmake/CMakeLists.txt" <<'END'
+    mkdir "$work/cmake" && cp "$work/src/demo.cpp" "$work/cmake" && cat >"$work/cmake/CMakeLists.txt" <<END
 cmake_minimum_required(VERSION 3.13)
 project(demo CXX)
-find_package(pix 0.2 REQUIRED)
+find_package(pix ${version%.*} REQUIRED)
 foreach(kind "" "_static")
-  add_executable(demo${kind} demo.cpp)
-  target_link_libraries(demo${kind} pix::pix${kind})
+  add_executable(demo\${kind} demo.cpp)
+  target_link_libraries(demo\${kind} pix::pix\${kind})
 endforeach()
 END
     cd "$work/cmake" && cmake -S . -B build -DCMAKE_PREFIX_PATH="$work/x86_64" && cmake --build build \
         && build/demo "$work/cpp-shared.ppm" && build/demo_static "$work/cpp-static.ppm"
 }
 
-# The shared libraries of a processor show the five calls alone, under the version of the calls, and ask for no glibc after 2.17.
+# The shared libraries of a processor show just the calls that the installed header declares, under the version of the calls, and ask for no glibc
+# after 2.17.
 shows() {
-    local file calls wanted needed
-    calls=$(sed -n 's/^#define PIX_ABI_VERSION //p' "$work/$1/include/pix.h")
-    wanted=$(printf "%s@@PIX_$calls\n" pix_convert_bytes pix_layout pix_run_commands pix_run_commands_graya8 pix_run_commands_rgba16)
+    local file wanted needed
+    wanted=$(grep -oP '^(?!static|typedef)[a-z][\w *]*?\bpix_\w+(?=\()' "$work/$1/include/pix.h" | sed "s/.* //; s/$/@@PIX_$calls/" | sort)
+    [ -n "$wanted" ] || return
     while read -r file; do
         [ "$(nm -D --defined-only "$file" | awk '$2 != "A" { print $3 }' | sort)" = "$wanted" ] || { nm -D "$file"; return 1; }
         "$2"readelf -d "$file" | grep -F "soname: [libpix.so.$calls]" || return
@@ -74,17 +75,17 @@ another_library() {
     mkdir "$work/other" && echo '#include "pix.h"
 int main(void) { return pix_check_library() == PIX_OK ? 0 : pix_check_library() == PIX_BAD_LIBRARY ? 7 : 1; }' >"$work/src/check.c"
     compile check x86_64 shared check.c cc -std=c99 && LD_LIBRARY_PATH=$work/x86_64/lib "$work/check" || return
-    local options=(-std=c99 -O1 -fPIC -shared -I "$work/x86_64/include" -I "$top/bindings/c" -Wl,-soname,libpix.so.1)
-    cc "${options[@]}" "$top/bindings/c/other.c" -o "$work/other/libpix.so.1" -lm && LD_LIBRARY_PATH=$work/other "$work/check" || return
-    cc "${options[@]}" -DOTHER_FACT=0 "$top/bindings/c/other.c" -o "$work/other/libpix.so.1" -lm || return
+    local options=(-std=c99 -O1 -fPIC -shared -I "$work/x86_64/include" -I "$top/bindings/c" -Wl,-soname,libpix.so.$calls)
+    cc "${options[@]}" "$top/bindings/c/other.c" -o "$work/other/libpix.so.$calls" -lm && LD_LIBRARY_PATH=$work/other "$work/check" || return
+    cc "${options[@]}" -DOTHER_FACT=0 "$top/bindings/c/other.c" -o "$work/other/libpix.so.$calls" -lm || return
     LD_LIBRARY_PATH=$work/other "$work/check"
     [ $? -eq 7 ]
 }
 
 # A library of other calls has another soname, and isn't loaded in the place of this one.
 another_soname() {
-    mkdir -p "$work/later" && cp "$work/x86_64/lib/libpix.so.1" "$work/later/libpix.so.2" \
-        && refuses 'libpix.so.1: cannot open shared object file' env LD_LIBRARY_PATH="$work/later" "$work/check"
+    mkdir -p "$work/later" && cp "$work/x86_64/lib/libpix.so.$calls" "$work/later/libpix.so.$((calls + 1))" \
+        && refuses "libpix.so.$calls: cannot open shared object file" env LD_LIBRARY_PATH="$work/later" "$work/check"
 }
 
 another_version() {
@@ -97,7 +98,7 @@ another_version() {
 }
 
 another_processor() {
-    local options=(-DCMAKE_SYSTEM_NAME=Linux -DCMAKE_SYSTEM_PROCESSOR=aarch64 -DCMAKE_C_COMPILER=aarch64-linux-gnu-gcc -DWANTED=0.2)
+    local options=(-DCMAKE_SYSTEM_NAME=Linux -DCMAKE_SYSTEM_PROCESSOR=aarch64 -DCMAKE_C_COMPILER=aarch64-linux-gnu-gcc -DWANTED="${version%.*}")
     refuses '(for x86_64 under Linux, and not for aarch64' cmake -S "$work/other" -B "$work/other/cross" "${options[@]}" -DCMAKE_PREFIX_PATH="$work/x86_64" \
         && cmake -S "$work/other" -B "$work/other/right" "${options[@]}" -DCMAKE_PREFIX_PATH="$work/aarch64"
 }

@@ -18,6 +18,12 @@ back: in 16 bits a channel nothing is lost. convert() does it in 8 bits, and con
 what is outside an image is neither read nor written. A list is tested as a whole before its first command runs: where
 an exception is raised, no pixel was changed.
 
+A list that is run often is made a CommandList, which is tested once: image.run(list) then takes a third of the time that
+as many commands take one by one.
+
+map_indexed() makes indices into a table of colors of a picture, for files such as GIF and PNG of a palette; look_up() makes
+colors of them again, and pack_row() bytes of several indices each.
+
 A picture may be painted tile by tile, each an Image of its own that runs the same commands at its place, as
 tile.run(*commands, origin=(left, top)); that is the picture painted whole. Several threads may paint bands of rows of
 one buffer at once.
@@ -37,7 +43,12 @@ from pix._bitmap import convert_bitmap
 from pix._command import Command
 from pix._convert import convert
 from pix._image import Image
-from pix._makers import clear, composite_color, composite_image, composite_matte, copy_color, copy_image
+from pix._indexed import count_indices, look_up, map_indexed, pack_row, row_size, unpack_row
+from pix._list import CommandList
+from pix._makers import (
+    clear, composite_color, composite_image, composite_image_alpha, composite_image_matte, composite_matte, copy_color,
+    copy_image,
+)  # fmt: skip
 from pix._pixels import GRAYA8, RGBA8, RGBA16, PixelType
 from pix._values import Format, Op, PixError, Region, Status
 from pix._views import Matte
@@ -45,8 +56,10 @@ from pix._views import Matte
 __version__ = "0.2.0"
 __all__ = [
     "Op", "Format", "Status", "PixError", "PixelType", "RGBA8", "RGBA16", "GRAYA8", "Region", "Image", "Matte",
-    "Command", "clear", "copy_color", "copy_image", "composite_color", "composite_image", "composite_matte", "convert",
-    "convert_bitmap", "SRGBA8", "SRGBA8P", "SBGRA8", "SBGRA8P", "SRGB8", "SBGR8", "SGRAY8", "SGRAYA8", "SRGBX8", "SBGRX8",
+    "Command", "CommandList", "clear", "copy_color", "copy_image", "composite_color", "composite_image", "composite_matte",
+    "composite_image_matte", "composite_image_alpha", "convert", "convert_bitmap",
+    "map_indexed", "look_up", "count_indices", "row_size", "pack_row", "unpack_row",
+    "SRGBA8", "SRGBA8P", "SBGRA8", "SBGRA8P", "SRGB8", "SBGR8", "SGRAY8", "SGRAYA8", "SRGBX8", "SBGRX8",
 ]  # fmt: skip
 
 # The formats that pictures mostly come in.
@@ -55,8 +68,12 @@ SRGB8, SBGR8, SGRAY8, SGRAYA8 = Format.SRGB8, Format.SBGR8, Format.SGRAY8, Forma
 SRGBX8, SBGRX8 = Format.SRGBX8, Format.SBGRX8
 
 # Users and pickles name them by this package, wherever they are defined.
-for _public in (Op, Format, Status, PixError, PixelType, Image, Matte, Command, convert, convert_bitmap):
+for _public in (Op, Format, Status, PixError, PixelType, Image, Matte, Command, CommandList, convert, convert_bitmap):
+    _public.__module__ = __name__
+for _public in (map_indexed, look_up, count_indices, row_size, pack_row, unpack_row):
     _public.__module__ = __name__
 for _public in (clear, copy_color, copy_image, composite_color, composite_image, composite_matte):
+    _public.__module__ = __name__
+for _public in (composite_image_matte, composite_image_alpha):
     _public.__module__ = __name__
 del _public

@@ -3,39 +3,43 @@
 from __future__ import annotations
 
 from operator import index
-from typing import Any, Iterable, Optional, SupportsIndex, Tuple
+from typing import Any, Iterable, List, Optional, SupportsIndex, Tuple
 
 from pix._memory import NOWHERE, Memory
 from pix._pixels import PixelType, RegionRecord
 from pix._values import Op, Region, region_of, u32
 from pix._views import Rows, View
 
-NAMES = ("clear", "copy_color", "copy_image", "composite_color", "composite_image", "composite_matte")
+NAMES = ("clear", "copy_color", "copy_image", "composite_color", "composite_image", "composite_matte",
+         "composite_image_matte", "composite_image_alpha")  # fmt: skip
 
 
 class Command:
     """A change of an image; the functions of this package make it. It holds its source, and its numbers stay as they are."""
 
-    __slots__ = ("_kind", "_op", "_to", "_color", "_source", "_from")
+    __slots__ = ("_kind", "_op", "_to", "_color", "_source", "_from", "_mask", "_mask_from", "_alpha")
 
     def __init__(
         self, kind: SupportsIndex, to: Iterable[SupportsIndex] = (0, 0, 0, 0), color: Optional[Iterable[SupportsIndex]] = None,
         op: SupportsIndex = Op.SRC, source: Optional[View] = None, from_: Optional[Iterable[SupportsIndex]] = None,
+        mask: Optional[View] = None, mask_from: Optional[Iterable[SupportsIndex]] = None, alpha: SupportsIndex = 0,
     ) -> None:  # fmt: skip
-        if source is not None and not isinstance(source, View):
-            raise TypeError(f"{type(source).__name__} is neither an Image nor a Matte")
+        for view in (source, mask):
+            if view is not None and not isinstance(view, View):
+                raise TypeError(f"{type(view).__name__} is neither an Image nor a Matte")
         self._kind = u32(kind, "kind")
         self._op = u32(op, "operator")
         self._to = region_of(to)
         self._color = None if color is None else tuple(map(index, color))
         self._source = source
-        if from_ is None:
-            from_ = (0, 0, 0, 0) if source is None else (0, 0, source.width, source.height)
-        self._from = region_of(from_)
+        self._from = _all_of(source) if from_ is None else region_of(from_)
+        self._mask = mask
+        self._mask_from = _all_of(mask) if mask_from is None else region_of(mask_from)
+        self._alpha = index(alpha)
 
     @property
     def kind(self) -> int:
-        """0 clears, 1 and 2 copy a color and an image, 3, 4 and 5 composite a color, an image and a matte."""
+        """0 clears, 1 and 2 copy a color and an image, 3 to 5 composite a color, an image and a matte, 6 and 7 an image through a mask and at an opacity."""
         return self._kind
 
     @property
@@ -63,17 +67,39 @@ class Command:
         """The region of the source, in its pixels or values."""
         return self._from
 
+    @property
+    def mask(self) -> Any:
+        """The Matte through which an image is composited, where there is one."""
+        return self._mask
+
+    @property
+    def mask_from(self) -> Region:
+        """The region of the mask, in its values."""
+        return self._mask_from
+
+    @property
+    def alpha(self) -> int:
+        """The opacity at which an image is composited."""
+        return self._alpha
+
     def __repr__(self) -> str:
         name = NAMES[self._kind] if self._kind < len(NAMES) else f"command {self._kind}"
-        op = f", {Op(self._op)!r}" if 2 < self._kind < 6 and self._op < len(Op) else ""
-        parts = [part for part in (self._color, self._source) if part is not None]
+        op = f", {Op(self._op)!r}" if 2 < self._kind < len(NAMES) and self._op < len(Op) else ""
+        alpha = self._alpha if self._kind == 7 else None
+        parts = [part for part in (self._color, self._source, self._mask, alpha) if part is not None]
         return f"<pix.{name} to {self._to}{''.join(f', {part}' for part in parts)}{op}>"
 
     def __reduce__(self) -> tuple:
-        return Command, (self._kind, self._to, self._color, self._op, self._source, self._from)
+        numbers = self._kind, self._to, self._color, self._op, self._source, self._from
+        return Command, (*numbers, self._mask, self._mask_from, self._alpha)
 
 
-def made(command: Command, type: PixelType) -> Tuple[Any, Optional[Memory]]:
+def _all_of(view: Optional[View]) -> Region:
+    """The region of all of a view, and none where there is none."""
+    return region_of((0, 0, 0, 0) if view is None else (0, 0, view.width, view.height))
+
+
+def made(command: Command, type: PixelType) -> Tuple[Any, List[Memory]]:
     """The command as the library reads it, for an image of this type, and the memory that it reads.
 
     It runs no code of the caller: all numbers and buffers were taken when the command was made.
@@ -89,9 +115,13 @@ def made(command: Command, type: PixelType) -> Tuple[Any, Optional[Memory]]:
         if len(color) != type.channels or not all(0 <= channel <= type.max for channel in color):
             raise ValueError(f"{color} is not a color of {type}")
         record.color = type._color(*color)
-    if source is None:
-        return record, None
-    return record, note(record, source._rows, type)
+    read = [] if source is None else [note(record, source._rows, type)]
+    if command._mask is not None:
+        read.append(note_mask(record, command._mask._rows, command._mask_from, type))
+    if not 0 <= command._alpha <= type.max:
+        raise ValueError(f"{command._alpha} is no opacity of {type}")
+    record.alpha = command._alpha
+    return record, read
 
 
 def note(record: Any, rows: Rows, type: PixelType) -> Memory:
@@ -102,7 +132,20 @@ def note(record: Any, rows: Rows, type: PixelType) -> Memory:
             raise TypeError(f"a source of {rows.type} doesn't go with {type}")
         record.pixels, record.pixel_count = rows.memory.address, rows.elements
     else:
-        if rows.element is not type._channel:
-            raise TypeError(f"a matte of other bits doesn't go with {type}")
-        record.mattes, record.matte_count = rows.memory.address, rows.elements
+        note_mattes(record, rows, type)
+    return rows.memory
+
+
+def note_mattes(record: Any, rows: Rows, type: PixelType) -> None:
+    """Notes the values of a matte in a command for an image of this type."""
+    if rows.type is not None or rows.element is not type._channel:
+        raise TypeError(f"a matte of other bits doesn't go with {type}")
+    record.mattes, record.matte_count = rows.memory.address, rows.elements
+
+
+def note_mask(record: Any, rows: Rows, from_: Region, type: PixelType) -> Memory:
+    """Notes the mask of an image in a command, and returns the memory that is read."""
+    record.mask = RegionRecord(*from_)
+    record.mask_width, record.mask_height, record.mask_stride = rows.width, rows.height, rows.stride
+    note_mattes(record, rows, type)
     return rows.memory

@@ -3,22 +3,16 @@
 from __future__ import annotations
 
 import ctypes
-from typing import Any, Iterable, Optional, SupportsIndex
+from typing import Any, Iterable, Optional, SupportsIndex, Union
 
 from pix._bitmap import MODES, Bitmap, new_array, write
-from pix._command import Command, made
+from pix._command import Command
 from pix._library import LONG
+from pix._list import CommandList, Listed
 from pix._memory import Buffer, calls
-from pix._pixels import RGBA8, RGBA16, PixelType
+from pix._pixels import RGBA8, RGBA16, PixelType, kind_of
 from pix._values import Format, PixError, Status, origin_of, u32
 from pix._views import View, rows_of
-
-
-def _kind(type: PixelType) -> PixelType:
-    """The kind of pixels, if it is one."""
-    if not isinstance(type, PixelType):
-        raise TypeError(f"{type!r} is none of RGBA8, RGBA16 and GRAYA8")
-    return type
 
 
 class Image(View):
@@ -37,13 +31,13 @@ class Image(View):
         self, pixels: Buffer, width: Optional[SupportsIndex] = None, height: Optional[SupportsIndex] = None,
         stride: Optional[SupportsIndex] = None, type: PixelType = RGBA8,
     ) -> None:  # fmt: skip
-        super().__init__(rows_of(pixels, width, height, stride, _kind(type)._color, type))
+        super().__init__(rows_of(pixels, width, height, stride, kind_of(type)._color, type))
 
     @classmethod
     def new(cls, width: SupportsIndex, height: SupportsIndex, type: PixelType = RGBA8) -> Image:
         """Makes a transparent image of so many pixels; its buffer is its `pixels`, of bytes."""
         columns, rows = u32(width, "width"), u32(height, "height")
-        return cls(bytearray(columns * rows * ctypes.sizeof(_kind(type)._color)), columns, rows, type=type)
+        return cls(bytearray(columns * rows * ctypes.sizeof(kind_of(type)._color)), columns, rows, type=type)
 
     @classmethod
     def from_array(cls, array: Buffer, format: Format, type: PixelType = RGBA16) -> Image:
@@ -106,8 +100,8 @@ class Image(View):
     def __reduce__(self) -> tuple:
         return Image, (self._value(), self.width, self.height, None, self.type)
 
-    def run(self, *commands: Command, origin: Iterable[SupportsIndex] = (0, 0)) -> None:
-        """Runs the commands in order, or none of them.
+    def run(self, *commands: Union[Command, CommandList], origin: Iterable[SupportsIndex] = (0, 0)) -> None:
+        """Runs the commands in order, or none of them; or those of one CommandList, which is checked already.
 
         Where an `origin` is given, this image is a window of a picture: its first pixel is the point (left, top) of the
         picture, and the regions of the commands are those of the picture. Each pixel becomes what a run on the whole
@@ -122,17 +116,24 @@ class Image(View):
         """
         memory, _, count, width, height, stride, type = self._rows
         left, top = origin_of(origin)
-        taken = [made(command, type) for command in commands]
-        read = [source for _, source in taken if source is not None]
+        if len(commands) == 1 and isinstance(commands[0], CommandList):
+            listed = commands[0]._listed
+            if listed.type is not type:
+                raise TypeError(f"a list for {listed.type} doesn't go with {type}")
+        else:
+            listed = Listed(commands, type)
         if memory.is_readonly and memory.length:
             raise TypeError("the buffer is read-only")
-        for number, (_, source) in enumerate(taken):
-            if source is not None and not memory.is_apart(source):
-                raise ValueError(f"command {number}: its source shares memory with the image")
-        records = (type._command * max(1, len(taken)))(*(record for record, _ in taken))
-        done, run = ctypes.c_size_t(), type._calls[width * height * len(taken) > LONG]
-        with calls.turn(memory, read):
-            status = run(memory.address, count, left, top, width, height, stride, ctypes.addressof(records), len(taken), done)
+        listed.refuse_shared(memory)
+        done, size = ctypes.c_size_t(), len(listed.commands)
+        arguments = memory.address, count, left, top, width, height, stride, listed.address, size, done
+        if width * height * size > LONG:
+            with calls.turn(memory, listed.sources):
+                status = type._calls[1](*arguments)
+        else:
+            with calls.short_turn:
+                calls.wait(memory, listed.sources)
+                status = type._calls[0](*arguments)
         if status == Status.BAD_SIZE:
             raise PixError(Status.BAD_SIZE)
         if status:

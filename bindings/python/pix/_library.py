@@ -79,6 +79,12 @@ def load(kind: Any) -> Any:
     calls["pix_convert_rows"] = [u32, u32, pointer, size, pointer, size, i64, i64, u32, u32]
     calls["pix_pixel_size"] = [u32]
     calls.update((f"pix_run_window{kind}", run) for kind in ("", "_rgba16", "_graya8"))
+    buffer = [pointer, size]
+    calls["pix_table_match"] = buffer * 3
+    calls["pix_table_match_alpha"] = [*buffer * 2, ctypes.c_uint8, ctypes.c_uint8, *buffer]
+    calls["pix_table_look_up"] = buffer * 3
+    calls["pix_table_count"] = buffer * 2
+    calls["pix_table_pack"] = calls["pix_table_unpack"] = [u32, *buffer * 2]
     try:
         library = kind(path)
     except OSError as fault:

@@ -56,3 +56,24 @@ def composite_matte(
 ) -> Command:
     """Composites a color, multiplied by the values of `from_` in a matte, with the pixels of `to`: a glyph."""
     return Command(5, to, color, op, _source(matte, Matte), from_)
+
+
+def composite_image_matte(
+    to: _Region, source: Image, mask: Matte, from_: Optional[_Region] = None, mask_from: Optional[_Region] = None,
+    op: Op = Op.SRC_OVER,
+) -> Command:  # fmt: skip
+    """Composites the pixels of `from_` in another image, multiplied by the values of `mask_from` in a matte, with those of `to`: soft edges.
+
+    All three corners are paired, and a point is changed where all three regions and all of image, source and mask have it.
+    """
+    return Command(6, to, None, op, _source(source, Image), from_, _source(mask, Matte), mask_from)
+
+
+def composite_image_alpha(
+    to: _Region, source: Image, alpha: SupportsIndex, from_: Optional[_Region] = None, op: Op = Op.SRC_OVER
+) -> Command:
+    """Composites the pixels of `from_` in another image, multiplied by `alpha`, with those of `to`: a fade.
+
+    The opacity is from 0 to 255, or to 65535 in RGBA16, at which it is composite_image.
+    """
+    return Command(7, to, op=op, source=_source(source, Image), from_=from_, alpha=alpha)

@@ -147,19 +147,32 @@ class Calls:
         mine = _Call(threading.get_ident(), written, read)
         try:
             with self._changed:
-                while True:
-                    clashes = [other for other in self.running if not mine.is_apart(other)]
-                    if not clashes:
-                        break
-                    if any(other.thread == mine.thread for other in clashes):
-                        raise RuntimeError("this thread is already painting there")
-                    self._changed.wait()
+                self._wait_for(mine)
                 self.running.append(mine)
             yield
         finally:
             with self._changed:
                 self.running = [other for other in self.running if other is not mine]
                 self._changed.notify_all()
+
+    @property
+    def short_turn(self) -> threading.Condition:
+        """What a call holds that keeps the interpreter's lock: no other call begins meanwhile. It has to wait() first."""
+        return self._changed
+
+    def wait(self, written: Memory, read: Sequence[Memory]) -> None:
+        """Waits, in a short turn, until no call runs that clashes with one that writes and reads this memory."""
+        if self.running:
+            self._wait_for(_Call(threading.get_ident(), written, read))
+
+    def _wait_for(self, mine: _Call) -> None:
+        while True:
+            clashes = [other for other in self.running if not mine.is_apart(other)]
+            if not clashes:
+                return
+            if any(other.thread == mine.thread for other in clashes):
+                raise RuntimeError("this thread is already painting there")
+            self._changed.wait()
 
 
 calls = Calls()

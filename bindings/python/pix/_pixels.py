@@ -15,12 +15,14 @@ class RegionRecord(ctypes.Structure):
     _fields_ = [("x", ctypes.c_int32), ("y", ctypes.c_int32), ("width", ctypes.c_uint32), ("height", ctypes.c_uint32)]
 
 
-def command_record(name: str, color: Any) -> Any:
-    """Makes the class of a command as the library reads it, with a color of this type."""
+def command_record(name: str, color: Any, channel: Any) -> Any:
+    """Makes the class of a command as the library reads it, with a color and an opacity of these types."""
     fields = [("kind", ctypes.c_uint32), ("op", ctypes.c_uint32), ("to", RegionRecord), ("from_", RegionRecord)]
     fields += [("color", color), ("pixels", ctypes.c_void_p), ("pixel_count", ctypes.c_size_t)]
     fields += [("mattes", ctypes.c_void_p), ("matte_count", ctypes.c_size_t)]
     fields += [("width", ctypes.c_uint32), ("height", ctypes.c_uint32), ("stride", ctypes.c_uint32)]
+    fields += [("mask", RegionRecord), ("mask_width", ctypes.c_uint32), ("mask_height", ctypes.c_uint32)]
+    fields += [("mask_stride", ctypes.c_uint32), ("alpha", channel)]
     return type(name, (ctypes.Structure,), {"_fields_": fields})
 
 
@@ -35,7 +37,7 @@ class PixelType(Enum):
         self._channel = channel
         self._color = channel * channels
         self._calls = [getattr(library, call) for library in libraries]
-        self._command = command_record(f"Command{self.name}", self._color)
+        self._command = command_record(f"Command{self.name}", self._color, channel)
 
     @property
     def channels(self) -> int:
@@ -58,10 +60,18 @@ class PixelType(Enum):
 
 RGBA8, RGBA16, GRAYA8 = PixelType
 
+
+def kind_of(type: Any) -> PixelType:
+    """The kind of pixels, if it is one."""
+    if not isinstance(type, PixelType):
+        raise TypeError(f"{type!r} is none of RGBA8, RGBA16 and GRAYA8")
+    return type
+
+
 # The version of the binary interface, and the fields whose offsets the library answers, in its order.
 ABI_VERSION = 1
 REGION = "x y width height"
-COMMAND = "kind op to from_ color pixels pixel_count mattes matte_count width height stride"
+COMMAND = "kind op to from_ color pixels pixel_count mattes matte_count width height stride mask mask_width mask_height mask_stride alpha"
 
 
 def layout(structure: Any, names: str) -> List[int]:

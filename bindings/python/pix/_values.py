@@ -152,6 +152,9 @@ class Status(IntEnum):
     BAD_SOURCE = 5
     BAD_FORMAT = 6
     BAD_LENGTH = 7
+    BAD_TABLE = 11
+    BAD_INDEX = 12
+    BAD_DEPTH = 13
 
 
 _TEXTS = {
@@ -162,6 +165,9 @@ _TEXTS = {
     Status.BAD_SOURCE: "its source has a bad size or stride, or a buffer that is too short",
     Status.BAD_FORMAT: "no such format",
     Status.BAD_LENGTH: "the bytes are not those of so many pixels",
+    Status.BAD_TABLE: "a table has no entry, or more than 256",
+    Status.BAD_INDEX: "an index is past the end, or takes more bits than it is to have",
+    Status.BAD_DEPTH: "indices take 1, 2, 4 or 8 bits",
 }
 
 

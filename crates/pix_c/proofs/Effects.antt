@@ -1,28 +1,17 @@
 -- What fills and blits of rows in memory make of the points of an image, as effects of commands.
-use Rattle.std.proofs.Common.{◌≡◌, ℕ, ◌<◌, ◌≤◌, List, [], ◌∷◌, ◌++◌, length, fold, pos, ℤ, ◌+ℤ◌, ◌-ℤ◌, ◌<ℤ◌, Bool, true, false, cond, arith, ap, sym, ◌∙◌, refl}
-use Rattle.std.specs.Prelude.{◌&&◌, not, int_lt}
-use Rattle.std.specs.Int.{int_min}
-use Rattle.std.proofs.lemmas.Int.{ints, clamps}
-use lib.IntN.{negsuc}
+use Rattle.std.proofs.Common.{◌≡◌, ℕ, ◌<◌, ◌≤◌, List, [], ◌∷◌, ◌++◌, length, map, fold, pos, ℤ, ◌+ℤ◌, ◌-ℤ◌, Bool, true, false, cond, ap, sym, ◌∙◌, refl}
+use Rattle.std.specs.List.{zip}
 use Rattle.pix_el.specs.Pixel.{Layout}
-use Rattle.pix.specs.Region.{Rectangle, whole, covers, has_column}
+use Rattle.pix.specs.Region.{Rectangle, whole, covers}
 use Rattle.pix.specs.Image.{point, region_of}
-use Rattle.pix.specs.Reach.{from_pair, is_paired, has_offset, leads_into, natural}
-use Rattle.pix.specs.Lent.{read_at, where_covered, where_paired, IsShaped, ChangedIn}
+use Rattle.pix.specs.Reach.{from_pair, is_paired, natural}
+use Rattle.pix.specs.Lent.{read_at, where_covered, where_paired, where_masked, IsShaped, ChangedIn}
 use Rattle.pix.specs.Run.{Effect, apply}
 use Rattle.pix_raster.specs.declared.lent.Shape.{Shape}
-use Rattle.pix_raster.proofs.Rectangles.{below_is, covers_whole}
+use Rattle.pix_raster.proofs.Masked.{paired_below}
+use Rattle.pix_raster.proofs.Steps.{masked_effect as raster_masked}
 use Rattle.pix_c.specs.Command.{image_of}
 use Rattle.pix_c.proofs.Images.{point_read}
-
--- a change that makes the same of each point of an image
-pub changed_alike : {D : Type 0} (reads : D → List ℕ) (shape : Shape) (old new : List D) (f g : ℕ → ℕ → List ℕ → List ℕ)
-    → ((x y : ℕ) (pixel : List ℕ) → x < shape.width → y < shape.height → f x y pixel ≡ g x y pixel)
-    → ChangedIn reads shape old new f → ChangedIn reads shape old new g
-changed_alike reads shape old new f g alike changed = record {
-  points = λ x y lx ly. changed.points x y lx ly ∙ alike x y (read_at reads shape.stride old x y) lx ly;
-  stays = changed.stays;
-}
 
 one_effect : (layout : Layout) (effect : Effect) (f : List ℕ → List ℕ) (pixel : List ℕ) (reached : Bool) → ((p : List ℕ) → f p ≡ apply layout p effect)
     → cond reached (f pixel) pixel ≡ fold (apply layout) pixel (cond reached (effect ∷ []) [] ++ [])
@@ -34,37 +23,9 @@ pub covered_effect : (layout : Layout) (reg : Rectangle) (f : List ℕ → List 
     → where_covered reg f x y pixel ≡ fold (apply layout) pixel (cond (covers reg (pos x) (pos y)) (effect ∷ []) [] ++ [])
 covered_effect layout reg f effect x y pixel is = one_effect layout effect f pixel (covers reg (pos x) (pos y)) is
 
--- and one at each point of the image, where the rectangle is all of it
-pub whole_effect : (layout : Layout) (width height : ℕ) (f : List ℕ → List ℕ) (effect : Effect) (x y : ℕ) (pixel : List ℕ) → width ≤ 2147483647 → height ≤ 2147483647 → x < width → y < height
-    → ((p : List ℕ) → f p ≡ apply layout p effect) → where_covered (whole width height) f x y pixel ≡ fold (apply layout) pixel (effect ∷ [] ++ [])
-whole_effect layout width height f effect x y pixel wide high lx ly is =
-    ap (λ (b : Bool). cond b (f pixel) pixel) (covers_whole width height x y wide high lx ly) ∙ is pixel
-
-and_left : (a b : Bool) → (a && b) ≡ true → a ≡ true
-and_left true b e = refl
-and_left false b e = absurd (let f : false ≡ true = e in cc)
-
-and_right : (a b : Bool) → (a && b) ≡ true → b ≡ true
-and_right true b e = e
-and_right false b e = absurd (let f : false ≡ true = e in cc)
-
--- a coordinate from 0 to a side
-natural_below : (z : ℤ) (side : ℕ) → (not (int_lt z (pos 0)) && int_lt z (int_min (pos 0 +ℤ pos side) (pos 2147483647))) ≡ true → natural z < side
-natural_below (pos n) side e =
-    let h : pos n <ℤ int_min (pos 0 +ℤ pos side) (pos 2147483647) = below_is (pos n) _ (and_right (not (int_lt (pos n) (pos 0))) _ e) in
-    omega (arith, ints, clamps, h)
-natural_below (negsuc n) side e = absurd (let f : false ≡ true = e in cc)
-
--- a point of the source that another is paired with lies in the source
-pub paired_below : (to dest from : Rectangle) (width height : ℕ) (i j : ℤ) → is_paired to dest from (whole width height) i j ≡ true
-    → (natural (from.left +ℤ i) < width) × (natural (from.top +ℤ j) < height)
-paired_below to dest from width height i j e =
-    let source : Rectangle = whole width height in
-    let a : ℤ = from.left +ℤ i in
-    let b : ℤ = from.top +ℤ j in
-    let there : covers source a b ≡ true =
-    and_right (covers from a b) _ (and_right (leads_into to dest i j) _ (and_right (has_offset to i j && has_offset from i j) _ e)) in
-    (natural_below a width (and_left (has_column source a) _ there), natural_below b height (and_right (has_column source a) _ there))
+one_read : {X : Type 0} (s t : X) (reached : Bool) → (reached ≡ true → s ≡ t) → cond reached (s ∷ []) [] ≡ cond reached (t ∷ []) []
+one_read {X = X} s t true same = ap (λ (z : X). z ∷ []) (same refl)
+one_read s t false same = refl
 
 paired_step : (layout : Layout) (effect : List ℕ → Effect) (f : List ℕ → List ℕ → List ℕ) (s t pixel : List ℕ) (reached : Bool) → (reached ≡ true → s ≡ t)
     → ((source p : List ℕ) → f source p ≡ apply layout p (effect source))
@@ -83,3 +44,32 @@ paired_effect layout to dest from m width height stride src f effect x y pixel s
     paired_step layout effect f _ _ pixel (is_paired to dest from (whole width height) i j)
     (λ e. let below = paired_below to dest from width height i j e in
     sym (point_read m width height stride src (natural (from.left +ℤ i)) (natural (from.top +ℤ j)) shaped below.0 below.1)) is
+
+-- what is read at the point that a point is paired with stands there in the image
+pair_read : {S : Type 0} (to dest from : Rectangle) (m : S → List ℕ) (width height stride : ℕ) (src : List S) (x y : ℕ) → IsShaped (record { width = width; height = height; stride = stride }) (length src)
+    → from_pair to dest from (whole width height) (read_at m stride src) x y
+    ≡ from_pair to dest from (region_of (image_of width height stride src)) (point m (image_of width height stride src)) x y
+pair_read to dest from m width height stride src x y shaped =
+    let i : ℤ = pos x -ℤ to.left in
+    let j : ℤ = pos y -ℤ to.top in
+    one_read _ _ (is_paired to dest from (whole width height) i j)
+    (λ e. let below = paired_below to dest from width height i j e in
+    sym (point_read m width height stride src (natural (from.left +ℤ i)) (natural (from.top +ℤ j)) shaped below.0 below.1))
+
+-- a change of the points that are paired with others of a mask and of an image is one effect at each
+pub masked_effect : {S M : Type 0} (layout : Layout) (to dest from mask_from : Rectangle) (n : S → List ℕ) (width height stride : ℕ) (src : List S)
+    (m : M → List ℕ) (mask_width mask_height mask_stride : ℕ) (mask : List M) (f : List ℕ → List ℕ → List ℕ → List ℕ) (effect : List ℕ → List ℕ → Effect) (x y : ℕ) (pixel : List ℕ)
+    → IsShaped (record { width = width; height = height; stride = stride }) (length src)
+    → IsShaped (record { width = mask_width; height = mask_height; stride = mask_stride }) (length mask)
+    → ((matte source p : List ℕ) → f matte source p ≡ apply layout p (effect matte source))
+    → where_masked to dest from (whole width height) mask_from (whole mask_width mask_height) (read_at n stride src) (read_at m mask_stride mask) f x y pixel
+    ≡ fold (apply layout) pixel (map (λ t. effect t.0 t.1)
+    (zip (from_pair to dest mask_from (region_of (image_of mask_width mask_height mask_stride mask)) (point m (image_of mask_width mask_height mask_stride mask)) x y)
+    (from_pair to dest from (region_of (image_of width height stride src)) (point n (image_of width height stride src)) x y)) ++ [])
+masked_effect layout to dest from mask_from n width height stride src m mask_width mask_height mask_stride mask f effect x y pixel shaped mask_shaped is =
+    let image = image_of width height stride src in
+    let mattes = image_of mask_width mask_height mask_stride mask in
+    let made = λ (us vs : List (List ℕ)). fold (λ p t. f t.0 t.1 p) pixel (zip us vs) in
+    ap (λ us. made us (from_pair to dest from (whole width height) (read_at n stride src) x y)) (pair_read to dest mask_from m mask_width mask_height mask_stride mask x y mask_shaped)
+    ∙ ap (made (from_pair to dest mask_from (region_of mattes) (point m mattes) x y)) (pair_read to dest from n width height stride src x y shaped)
+    ∙ raster_masked layout to dest from (region_of image) mask_from (region_of mattes) (point n image) (point m mattes) f effect x y pixel is

@@ -9,6 +9,9 @@ cases_zero : (n : ℕ) → (n ≡ 0) ⊎ (n ≢ 0)
 cases_zero zero = inl refl
 cases_zero (suc n) = inr (λ e. absurd (omega arith))
 
+not_zero : (n : ℕ) → n ≢ 0 → nat_eq n 0 ≡ false
+not_zero n ne = grind (arith, nat_tests)
+
 module _ {D M : Type 0} where
   -- a command that is not refused
   pub first_fault_on : (c : FlatCommand D M) (cs : List (FlatCommand D M)) → fault_of c ≡ 0 → first_fault (c ∷ cs) ≡ first_fault cs
@@ -19,10 +22,10 @@ module _ {D M : Type 0} where
 
   -- one that is
   pub first_fault_here : (c : FlatCommand D M) (cs : List (FlatCommand D M)) → fault_of c ≢ 0 → first_fault (c ∷ cs) ≡ fault_of c
-  first_fault_here c cs ne = let e : nat_eq (fault_of c) 0 ≡ false = grind (arith, nat_tests) in rw e refl
+  first_fault_here c cs ne = let e : nat_eq (fault_of c) 0 ≡ false = not_zero (fault_of c) ne in rw e refl
 
   pub count_here : (c : FlatCommand D M) (cs : List (FlatCommand D M)) → fault_of c ≢ 0 → count_before_fault (c ∷ cs) ≡ 0
-  count_here c cs ne = let e : nat_eq (fault_of c) 0 ≡ false = grind (arith, nat_tests) in rw e refl
+  count_here c cs ne = let e : nat_eq (fault_of c) 0 ≡ false = not_zero (fault_of c) ne in rw e refl
 
   -- where the command at place i is the first that is left
   pub left_from : {C : Type 0} (flat : C → FlatCommand D M) (commands : List C) (i : ℕ) (command : C) → i < length commands → command ≡ get_or commands i command

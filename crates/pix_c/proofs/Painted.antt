@@ -6,52 +6,75 @@ use Rattle.pix_ops.specs.OperatorNames.{operators}
 use Rattle.pix_el.specs.Pixel.{Layout}
 use Rattle.pix_el.specs.PixelComposite.{pixel_composite, matted_composite, matte_value}
 use Rattle.pix.specs.Region.{Rectangle, whole}
-use Rattle.pix.specs.Lent.{read_at, where_covered, where_paired, IsShaped, ChangedIn, picture, in_window}
+use Rattle.pix.specs.Lent.{read_at, where_covered, where_paired, where_masked, IsShaped, ChangedIn, picture, in_window}
 use Rattle.pix.specs.Run.{Cleared, Copied, Composited, Matted, run_at}
 use Rattle.pix_raster.specs.declared.command.Command.{Command}
 use Rattle.pix_raster.specs.declared.command.Command.TheVariants as commands
 use Rattle.pix_raster.specs.declared.lent.Shape.{Shape}
 use Rattle.pix_raster.specs.declared.lent.Window.{Window}
+use Rattle.pix_raster.proofs.Shaped.{changed_alike}
+use Rattle.pix_raster.proofs.Steps.{whole_effect}
 use Rattle.pix_c.specs.declared.command.FlatCommand.{FlatCommand}
 use Rattle.pix_c.specs.Command.{image_of, op_at, rectangle, lent, command_of}
-use Rattle.pix_c.specs.Status.{fits, has_source, fault_of}
+use Rattle.pix_c.specs.Status.{fits, has_pixels, has_mask, has_source, fault_of}
 use Rattle.pix_c.proofs.Images.{sized_is_shaped}
-use Rattle.pix_c.proofs.Effects.{changed_alike, covered_effect, whole_effect, paired_effect}
+use Rattle.pix_c.proofs.Effects.{covered_effect, paired_effect, masked_effect}
 
 -- a command that is not refused
 pub record IsSound {D M : Type 0} (c : FlatCommand D M) : Type 0 where
-  pub kind : c.kind < 6
+  pub kind : c.kind < 8
   pub to : fits c.to ≡ true
   pub from : fits c.from ≡ true
+  pub mask : fits c.mask ≡ true
   pub source : has_source c ≡ true
 
 -- the fault by the tests of a command
-abbrev fault_by : (kind to from op source : Bool) → ℕ
-fault_by kind to from op source = cond kind 2 (cond (not (to && from)) 3 (cond op 4 (cond source 0 5)))
+abbrev fault_by : (kind to from mask op source : Bool) → ℕ
+fault_by kind to from mask op source = cond kind 2 (cond (not (to && (from && mask))) 3 (cond op 4 (cond source 0 5)))
 
-tests_pass : (kind to from op source : Bool) → fault_by kind to from op source ≡ 0
-    → (kind ≡ false) × (to ≡ true) × (from ≡ true) × (op ≡ false) × (source ≡ true)
-tests_pass true to from op source e = absurd (omega arith)
-tests_pass false false from op source e = absurd (omega arith)
-tests_pass false true false op source e = absurd (omega arith)
-tests_pass false true true true source e = absurd (omega arith)
-tests_pass false true true false false e = absurd (omega arith)
-tests_pass false true true false true e = (refl, refl, refl, refl, refl)
+tests_pass : (kind to from mask op source : Bool) → fault_by kind to from mask op source ≡ 0
+    → (kind ≡ false) × (to ≡ true) × (from ≡ true) × (mask ≡ true) × (op ≡ false) × (source ≡ true)
+tests_pass true to from mask op source e = absurd (omega arith)
+tests_pass false false from mask op source e = absurd (omega arith)
+tests_pass false true false mask op source e = absurd (omega arith)
+tests_pass false true true false op source e = absurd (omega arith)
+tests_pass false true true true true source e = absurd (omega arith)
+tests_pass false true true true false false e = absurd (omega arith)
+tests_pass false true true true false true e = (refl, refl, refl, refl, refl, refl)
 
 pub sound : {D M : Type 0} (c : FlatCommand D M) → fault_of c ≡ 0 → IsSound c
 sound c e =
-    let t = tests_pass (nat_lt 5 c.kind) (fits c.to) (fits c.from) (nat_le (length operators) c.op) (has_source c) e in
-    let k : nat_lt 5 c.kind ≡ false = t.0 in
-    record { kind = grind (arith, nat_tests); to = t.1; from = t.2; source = t.4 }
+    let t = tests_pass (nat_lt 7 c.kind) (fits c.to) (fits c.from) (fits c.mask) (nat_le (length operators) c.op) (has_source c) e in
+    let k : nat_lt 7 c.kind ≡ false = t.0 in
+    record { kind = grind (arith, nat_tests); to = t.1; from = t.2; mask = t.3; source = t.5 }
 
 -- the sources that are read
-pub pixels_shaped : {D M : Type 0} (c : FlatCommand D M) → fault_of c ≡ 0 → (nat_eq c.kind 2 || nat_eq c.kind 4) ≡ true
+pub pixels_shaped : {D M : Type 0} (c : FlatCommand D M) → fault_of c ≡ 0 → (nat_eq c.kind 2 || (nat_eq c.kind 4 || nat_eq c.kind 7)) ≡ true
     → IsShaped (record { width = c.width; height = c.height; stride = c.stride }) (length c.pixels.now)
 pixels_shaped c e k = sized_is_shaped c.width c.height c.stride (length c.pixels.now) (rw k at (sound c e).source)
 
 pub mattes_shaped : {D M : Type 0} (c : FlatCommand D M) → fault_of c ≡ 0 → c.kind ≡ 5
     → IsShaped (record { width = c.width; height = c.height; stride = c.stride }) (length c.mattes.now)
 mattes_shaped c e k = sized_is_shaped c.width c.height c.stride (length c.mattes.now) (rw k at (sound c e).source)
+
+-- of an image that is composited through a mask
+both_left : (a b : Bool) → (a && b) ≡ true → a ≡ true
+both_left true b e = refl
+both_left false b e = e
+
+both_right : (a b : Bool) → (a && b) ≡ true → b ≡ true
+both_right true b e = e
+both_right false true e = refl
+both_right false false e = e
+
+pub masked_shaped : {D M : Type 0} (c : FlatCommand D M) → fault_of c ≡ 0 → c.kind ≡ 6
+    → IsShaped (record { width = c.width; height = c.height; stride = c.stride }) (length c.pixels.now)
+    × IsShaped (record { width = c.mask_width; height = c.mask_height; stride = c.mask_stride }) (length c.mattes.now)
+masked_shaped c e k =
+    let both : (has_pixels c && has_mask c) ≡ true = rw k at (sound c e).source in (
+      sized_is_shaped c.width c.height c.stride (length c.pixels.now) (both_left (has_pixels c) (has_mask c) both),
+      sized_is_shaped c.mask_width c.mask_height c.mask_stride (length c.mattes.now) (both_right (has_pixels c) (has_mask c) both),
+    )
 
 module _ {D M : Type 0} (layout : Layout) (n : D → List ℕ) (m : M → List ℕ) (window : Window) (c : FlatCommand D M) (old new : List D) where
   -- it was done
@@ -126,3 +149,39 @@ module _ {D M : Type 0} (layout : Layout) (n : D → List ℕ) (m : M → List �
       (changed_alike n window.shape old new (in_window window (blitted m c.mattes.now f to from of_source)) _
       (λ x y pixel lx ly. rw (et, ef, es)
       (paired_effect layout (rectangle c.to) (picture window) (rectangle c.from) m c.width c.height c.stride c.mattes.now f (λ s. Matted (op_at c.op) s (n c.color)) (window.left + x) (window.top + y) pixel (mattes_shaped c none kind) is)) changed)
+
+  -- pixels that are composited at an opacity
+  pub painted_faded : c.kind ≡ 7 → fault_of c ≡ 0 → (to from : Rectangle) (of_source : Shape) (f : List ℕ → List ℕ → List ℕ)
+      → to ≡ rectangle c.to → from ≡ rectangle c.from → of_source ≡ source
+      → ((s p : List ℕ) → f s p ≡ matted_composite layout (op_at c.op) (matte_value layout (m c.alpha)) s p)
+      → ChangedIn n window.shape old new (in_window window (blitted n c.pixels.now f to from of_source)) → Painted (command_of c)
+  painted_faded kind none to from of_source f et ef es is changed =
+      let e : commands.RasterAlpha (rectangle c.to) (lent (image_of c.width c.height c.stride c.pixels.now)) (rectangle c.from) c.alpha (op_at c.op) ≡ command_of c = rw kind refl in
+      subst Painted e
+      (changed_alike n window.shape old new (in_window window (blitted n c.pixels.now f to from of_source)) _
+      (λ x y pixel lx ly. rw (et, ef, es)
+      (paired_effect layout (rectangle c.to) (picture window) (rectangle c.from) n c.width c.height c.stride c.pixels.now f (Matted (op_at c.op) (m c.alpha)) (window.left + x) (window.top + y) pixel (pixels_shaped c none (rw kind refl)) is)) changed)
+
+  -- the shape of a mask
+  abbrev pub mask : Shape
+  mask = record { width = c.mask_width; height = c.mask_height; stride = c.mask_stride }
+
+  -- what a blit makes of an image and a mask
+  abbrev pub masked : (List ℕ → List ℕ → List ℕ → List ℕ) → (to from mask_from : Rectangle) → (of_source of_mask : Shape) → ℕ → ℕ → List ℕ → List ℕ
+  masked f to from mask_from of_source of_mask = where_masked to (picture window) from (whole of_source.width of_source.height) mask_from (whole of_mask.width of_mask.height)
+      (read_at n of_source.stride c.pixels.now) (read_at m of_mask.stride c.mattes.now) f
+
+  -- pixels that are composited through a mask
+  pub painted_masked : c.kind ≡ 6 → fault_of c ≡ 0 → (to from mask_from : Rectangle) (of_source of_mask : Shape) (f : List ℕ → List ℕ → List ℕ → List ℕ)
+      → to ≡ rectangle c.to → from ≡ rectangle c.from → mask_from ≡ rectangle c.mask → of_source ≡ source → of_mask ≡ mask
+      → ((t s p : List ℕ) → f t s p ≡ matted_composite layout (op_at c.op) (matte_value layout t) s p)
+      → ChangedIn n window.shape old new (in_window window (masked f to from mask_from of_source of_mask)) → Painted (command_of c)
+  painted_masked kind none to from mask_from of_source of_mask f et ef em es ek is changed =
+      let shaped = masked_shaped c none kind in
+      let e : commands.RasterMatte (rectangle c.to) (lent (image_of c.width c.height c.stride c.pixels.now)) (rectangle c.from)
+      (lent (image_of c.mask_width c.mask_height c.mask_stride c.mattes.now)) (rectangle c.mask) (op_at c.op) ≡ command_of c = rw kind refl in
+      subst Painted e
+      (changed_alike n window.shape old new (in_window window (masked f to from mask_from of_source of_mask)) _
+      (λ x y pixel lx ly. rw (et, ef, em, es, ek)
+      (masked_effect layout (rectangle c.to) (picture window) (rectangle c.from) (rectangle c.mask) n c.width c.height c.stride c.pixels.now m c.mask_width c.mask_height c.mask_stride c.mattes.now
+      f (Matted (op_at c.op)) (window.left + x) (window.top + y) pixel shaped.0 shaped.1 is)) changed)

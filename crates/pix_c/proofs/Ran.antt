@@ -1,15 +1,16 @@
 -- A run on rows in memory, as one on an image.
-use Rattle.std.proofs.Common.{◌≡◌, ℕ, ◌+◌, ◌≤◌, List, length, map, ap, sym, ◌∙◌, refl}
+use Rattle.std.proofs.Common.{◌≡◌, ℕ, ◌+◌, ◌≤◌, List, length, map, arith, ap, sym, ◌∙◌, refl}
 use Rattle.pix_el.specs.Pixel.{Layout}
-use Rattle.pix.specs.Region.{whole}
+use Rattle.pix.specs.Region.{limit, whole}
 use Rattle.pix.specs.Run.{run_at}
 use Rattle.pix.specs.Window.{command_from}
 use Rattle.pix.specs.Claims.{IsImageRun}
-use Rattle.pix.specs.Lent.{IsShaped, ChangedIn}
+use Rattle.pix.specs.Lent.{IsShaped, ChangedIn, largest}
 use Rattle.pix_raster.specs.declared.lent.Shape.{Shape}
 use Rattle.pix_raster.proofs.RunBounds.{IsFormat}
 use Rattle.pix_raster.proofs.Claimed.{claims}
 use Rattle.pix_raster.proofs.Seen.{commands_there}
+use Rattle.pix_raster.proofs.Pictures.{run_in_picture}
 use Rattle.pix_raster.proofs.Windows.{RanIn, ran_on, ran_seen}
 use Rattle.pix_c.specs.declared.command.FlatCommand.{FlatCommand}
 use Rattle.pix_c.specs.Command.{image_of, command_of}
@@ -22,7 +23,7 @@ module _ {D M : Type 0} (layout : Layout) (n : D → List ℕ) (m : M → List �
 
   -- it was done on a window of a picture
   abbrev Ran : Type 0
-  Ran = ChangedIn n shape old new (λ x y. run_at layout n m (whole (left + width) (top + height)) (map command_of commands) (left + x) (top + y))
+  Ran = ChangedIn n shape old new (λ x y. run_at layout n m largest (map command_of commands) (left + x) (top + y))
 
   -- and what follows of it
   pub ran_in_window : IsFormat layout n m → left + width ≤ 2147483647 → top + height ≤ 2147483647 → IsShaped shape (length old) → length new ≡ length old → Ran
@@ -38,6 +39,7 @@ module _ {D M : Type 0} (layout : Layout) (n : D → List ℕ) (m : M → List �
         points = λ x y lx ly.
             point_read n width height stride new x y shaped_new lx ly
             ∙ ran.points x y lx ly
+            ∙ sym (run_in_picture layout n m cs (left + width) (top + height) limit limit (left + x) (top + y) _ across down across down (omega arith) (omega arith))
             ∙ ap (run_at layout n m (whole (left + width) (top + height)) cs (left + x) (top + y)) (sym (point_read n width height stride old x y shaped lx ly));
       } in
       record {

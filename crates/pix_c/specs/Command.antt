@@ -1,5 +1,5 @@
 -- Commands by their numbers, as commands of the library on images in memory.
-use Rattle.std.specs.Prelude.{ℕ, zero, suc, List, [], ◌∷◌, ◌++◌, take, drop, nat_eq, slice_index_or, if◌then◌else◌}
+use Rattle.std.specs.Prelude.{ℕ, zero, suc, List, [], ◌++◌, take, drop, nat_eq, slice_index_or, if◌then◌else◌}
 use denote.Bor.{Bor}
 use Rattle.pix_ops.specs.declared.ops.Op.{Op}
 use Rattle.pix_ops.specs.declared.ops.Op.TheVariants.{Src}
@@ -43,12 +43,15 @@ abbrev pub command_of : {D M : Type 0} → FlatCommand D M → Command D M
 command_of c =
     let pixels = lent (image_of c.width c.height c.stride c.pixels.now) in
     let mattes = lent (image_of c.width c.height c.stride c.mattes.now) in
+    let mask = lent (image_of c.mask_width c.mask_height c.mask_stride c.mattes.now) in
     if nat_eq c.kind 0 then commands.Clear
     else (if nat_eq c.kind 1 then commands.CopyColor (rectangle c.to) c.color
     else (if nat_eq c.kind 2 then commands.CopyRaster (rectangle c.to) pixels (rectangle c.from)
     else (if nat_eq c.kind 3 then commands.Color (rectangle c.to) c.color (op_at c.op)
     else (if nat_eq c.kind 4 then commands.Raster (rectangle c.to) pixels (rectangle c.from) (op_at c.op)
-    else commands.Matte (rectangle c.to) mattes (rectangle c.from) c.color (op_at c.op)))))
+    else (if nat_eq c.kind 5 then commands.Matte (rectangle c.to) mattes (rectangle c.from) c.color (op_at c.op)
+    else (if nat_eq c.kind 6 then commands.RasterMatte (rectangle c.to) pixels (rectangle c.from) mask (rectangle c.mask) (op_at c.op)
+    else commands.RasterAlpha (rectangle c.to) pixels (rectangle c.from) c.alpha (op_at c.op)))))))
 
 -- a command of each format, with the same fields in the layout of all formats
 abbrev pub rgba8_command : PixCommand → FlatCommand PixRgba8 ℕ
@@ -63,6 +66,11 @@ rgba8_command c = record {
   width = c.width;
   height = c.height;
   stride = c.stride;
+  mask = c.mask;
+  mask_width = c.mask_width;
+  mask_height = c.mask_height;
+  mask_stride = c.mask_stride;
+  alpha = c.alpha;
 }
 
 abbrev pub rgba16_command : PixCommandRgba16 → FlatCommand PixRgba16 ℕ
@@ -77,6 +85,11 @@ rgba16_command c = record {
   width = c.width;
   height = c.height;
   stride = c.stride;
+  mask = c.mask;
+  mask_width = c.mask_width;
+  mask_height = c.mask_height;
+  mask_stride = c.mask_stride;
+  alpha = c.alpha;
 }
 
 abbrev pub graya8_command : PixCommandGraya8 → FlatCommand PixGraya8 ℕ
@@ -91,4 +104,9 @@ graya8_command c = record {
   width = c.width;
   height = c.height;
   stride = c.stride;
+  mask = c.mask;
+  mask_width = c.mask_width;
+  mask_height = c.mask_height;
+  mask_stride = c.mask_stride;
+  alpha = c.alpha;
 }

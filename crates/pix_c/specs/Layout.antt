@@ -45,7 +45,8 @@ region_facts R = size_of R ∷ offset R 0 ∷ offset R 1 ∷ offset R 2 ∷ offs
 -- the size of a command, and the offsets of its fields in their order, those of a slice and of its count one after the other
 abbrev pub command_facts : RattleType → List ℕ
 command_facts R = size_of R ∷ offset R 0 ∷ offset R 1 ∷ offset R 2 ∷ offset R 3 ∷ offset R 4
-    ∷ offset R 5 ∷ count_offset R 5 ∷ offset R 6 ∷ count_offset R 6 ∷ offset R 7 ∷ offset R 8 ∷ offset R 9 ∷ []
+    ∷ offset R 5 ∷ count_offset R 5 ∷ offset R 6 ∷ count_offset R 6 ∷ offset R 7 ∷ offset R 8 ∷ offset R 9
+    ∷ offset R 10 ∷ offset R 11 ∷ offset R 12 ∷ offset R 13 ∷ offset R 14 ∷ []
 
 -- the version; the sizes of the pixels; the region; the command of each format, for any lifetime of its slices
 abbrev pub facts : List ℕ

@@ -6,3 +6,4 @@ pub mod Run
 pub mod Formats
 pub mod Converted
 pub mod Layout
+pub mod Table

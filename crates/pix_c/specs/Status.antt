@@ -15,17 +15,29 @@ is_sized width height stride count =
 abbrev pub fits : PixRegion → Bool
 fits r = nat_le r.width limit && nat_le r.height limit
 
--- whether a command has what its kind reads: the pixels of an image that is copied (2) or composited (4), or the mattes of a color (5)
+-- whether the rows of a command's image, of its mattes as a source and of its mask lie in what was passed
+abbrev pub has_pixels : {D M : Type 0} → FlatCommand D M → Bool
+has_pixels c = is_sized c.width c.height c.stride (length c.pixels.now)
+
+abbrev pub has_mattes : {D M : Type 0} → FlatCommand D M → Bool
+has_mattes c = is_sized c.width c.height c.stride (length c.mattes.now)
+
+abbrev pub has_mask : {D M : Type 0} → FlatCommand D M → Bool
+has_mask c = is_sized c.mask_width c.mask_height c.mask_stride (length c.mattes.now)
+
+-- whether a command has what its kind reads: the pixels of an image that is copied (2) or composited (4, at an opacity 7), the mattes of a
+-- color (5), or the pixels of an image and its mask (6)
 abbrev pub has_source : {D M : Type 0} → FlatCommand D M → Bool
 has_source c =
-    if nat_eq c.kind 2 || nat_eq c.kind 4 then is_sized c.width c.height c.stride (length c.pixels.now)
-    else (if nat_eq c.kind 5 then is_sized c.width c.height c.stride (length c.mattes.now) else true)
+    if nat_eq c.kind 2 || (nat_eq c.kind 4 || nat_eq c.kind 7) then has_pixels c
+    else (if nat_eq c.kind 5 then has_mattes c
+    else (if nat_eq c.kind 6 then has_pixels c && has_mask c else true))
 
--- why a command is refused: 2 for its kind, 3 for a region, 4 for its operator, 5 for its source, and 0 if it is not
+-- why a command is refused: 2 for its kind, 3 for a region, 4 for its operator, 5 for its source or its mask, and 0 if it is not
 abbrev pub fault_of : {D M : Type 0} → FlatCommand D M → ℕ
 fault_of c =
-    if nat_lt 5 c.kind then 2
-    else (if not (fits c.to && fits c.from) then 3
+    if nat_lt 7 c.kind then 2
+    else (if not (fits c.to && (fits c.from && fits c.mask)) then 3
     else (if nat_le (length operators) c.op then 4
     else (if has_source c then 0 else 5)))
 

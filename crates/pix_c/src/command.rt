@@ -21,12 +21,13 @@ pub struct PixRegion {
 
 /// A change of an image of 8-bit pixels of red, green, blue and alpha.
 ///
-/// The operator and both regions are tested for every kind; a source only where the kind reads it.
+/// The operator and all regions are tested for every kind; a source only where the kind reads it.
 #[repr(C)]
 #[derive(Clone, Copy, Drop)]
 pub struct PixCommand<'a> {
-    /// What is done: 0 clears the image, 1 copies a color, 2 copies an image, 3 composites a color, 4 composites an image, and 5
-    /// composites a color through mattes. The constants of `kind.rt` name them.
+    /// What is done: 0 clears the image, 1 copies a color, 2 copies an image, 3 composites a color, 4 composites an image, 5
+    /// composites a color through mattes, 6 an image through mattes, and 7 an image at an opacity. The constants of `kind.rt` name
+    /// them.
     pub kind: u32,
     /// The number of the operator, its index in `Op::ALL`.
     pub op: u32,
@@ -36,9 +37,9 @@ pub struct PixCommand<'a> {
     pub from: PixRegion,
     /// The color of kinds 1, 3 and 5.
     pub color: PixRgba8,
-    /// The pixels of the source of kinds 2 and 4.
+    /// The pixels of the source of kinds 2, 4, 6 and 7.
     pub pixels: &'a [PixRgba8],
-    /// The mattes of kind 5.
+    /// The mattes of kinds 5 and 6.
     pub mattes: &'a [u8],
     /// The width of the source in columns.
     pub width: u32,
@@ -46,6 +47,16 @@ pub struct PixCommand<'a> {
     pub height: u32,
     /// How many pixels or mattes lie from the start of a row of the source to the start of the next.
     pub stride: u32,
+    /// The region of the mask of kind 6.
+    pub mask: PixRegion,
+    /// The width of that mask in columns.
+    pub mask_width: u32,
+    /// The height of that mask in rows.
+    pub mask_height: u32,
+    /// How many mattes lie from the start of a row of that mask to the start of the next.
+    pub mask_stride: u32,
+    /// The opacity of kind 7, as a matte.
+    pub alpha: u8,
 }
 
 /// A change of an image of 16-bit pixels of red, green, blue and alpha, by the fields of [`PixCommand`].
@@ -72,6 +83,16 @@ pub struct PixCommandRgba16<'a> {
     pub height: u32,
     /// The stride of the source.
     pub stride: u32,
+    /// The region of the mask.
+    pub mask: PixRegion,
+    /// The width of the mask.
+    pub mask_width: u32,
+    /// The height of the mask.
+    pub mask_height: u32,
+    /// The stride of the mask.
+    pub mask_stride: u32,
+    /// The opacity.
+    pub alpha: u16,
 }
 
 /// A change of an image of 8-bit pixels of gray and alpha, by the fields of [`PixCommand`].
@@ -98,6 +119,16 @@ pub struct PixCommandGraya8<'a> {
     pub height: u32,
     /// The stride of the source.
     pub stride: u32,
+    /// The region of the mask.
+    pub mask: PixRegion,
+    /// The width of the mask.
+    pub mask_width: u32,
+    /// The height of the mask.
+    pub mask_height: u32,
+    /// The stride of the mask.
+    pub mask_stride: u32,
+    /// The opacity.
+    pub alpha: u8,
 }
 
 /// A command on pixels `D`, with mattes `M`.
@@ -113,6 +144,11 @@ pub(crate) struct FlatCommand<'a, D, M> {
     pub(crate) width: u32,
     pub(crate) height: u32,
     pub(crate) stride: u32,
+    pub(crate) mask: PixRegion,
+    pub(crate) mask_width: u32,
+    pub(crate) mask_height: u32,
+    pub(crate) mask_stride: u32,
+    pub(crate) alpha: M,
 }
 
 /// A command that C lays out for one format.
@@ -139,6 +175,11 @@ macro_rules! flat_command {
             width: $command.width,
             height: $command.height,
             stride: $command.stride,
+            mask: $command.mask,
+            mask_width: $command.mask_width,
+            mask_height: $command.mask_height,
+            mask_stride: $command.mask_stride,
+            alpha: $command.alpha,
         }
     };
 }

@@ -17,3 +17,9 @@ pub const COMPOSITE_IMAGE: u32 = 4;
 
 /// A color is composited through mattes.
 pub const COMPOSITE_MATTE: u32 = 5;
+
+/// A region of an image is composited through mattes.
+pub const COMPOSITE_IMAGE_MATTE: u32 = 6;
+
+/// A region of an image is composited at an opacity.
+pub const COMPOSITE_IMAGE_ALPHA: u32 = 7;

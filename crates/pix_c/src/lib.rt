@@ -25,6 +25,7 @@ mod run;
 mod sixteen;
 mod size;
 mod status;
+mod table;
 mod window;
 
 pub use crate::bitmap::{pix_convert_rows, pix_pixel_size};
@@ -34,6 +35,10 @@ pub use crate::format::{PixGraya8, PixRgba8, PixRgba16};
 pub use crate::layout::pix_layout;
 pub use crate::status::{
     BAD_FORMAT, BAD_KIND, BAD_LENGTH, BAD_OP, BAD_REGION, BAD_SIZE, BAD_SOURCE, DONE,
+};
+pub use crate::table::{
+    BAD_DEPTH, BAD_INDEX, BAD_TABLE, PixSrgba8, pix_table_count, pix_table_look_up,
+    pix_table_match, pix_table_match_alpha, pix_table_nearest, pix_table_pack, pix_table_unpack,
 };
 pub use crate::window::{pix_run_window, pix_run_window_graya8, pix_run_window_rgba16};
 use pix::gray::Graya8p;

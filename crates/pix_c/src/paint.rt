@@ -10,11 +10,12 @@ use crate::copy::{CopiedColor, CopiedPixels};
 use crate::format::{Flat, FlatPixel};
 use crate::kind;
 use crate::operator::op_at;
-use crate::sixteen::{CompositedColor, CompositedPixels, MattedColor};
+use crate::sixteen::{CompositedColor, CompositedPixels, FadedPixels, MattedColor, MattedPixels};
+use crate::size::LIMIT;
 use pix::Region;
 use pix::chan::{Linear, Premultiplied};
 use pix::el::{Pix, Pixel};
-use pix::lent::{Shape, Window, blit_window, fill_window};
+use pix::lent::{Shape, Source, Window, blit_masked, blit_window, fill_window};
 use pix::matte::Matte;
 use pix::ops::{Blend, SliceVisitor};
 use std::marker::PhantomData;
@@ -25,6 +26,15 @@ fn region_of(reg: PixRegion) -> Region
     ensures { result ≡ rectangle reg }
 {
     Region::new(reg.x, reg.y, reg.width, reg.height)
+}
+
+/// Returns the region of the destination of a command, all points of any picture for a clear; a side above the limit counts as the limit.
+pub(crate) fn reach<D, M>(command: &FlatCommand<'_, D, M>) -> Region {
+    if command.kind == kind::CLEAR {
+        return Region::new(0, 0, LIMIT, LIMIT);
+    }
+    let to = command.to;
+    Region::new(to.x, to.y, to.width.min(LIMIT), to.height.min(LIMIT))
 }
 
 /// Returns the shape of the source of a command.
@@ -39,6 +49,21 @@ fn source_shape<D, M>(command: &FlatCommand<'_, D, M>) -> Shape
         width: command.width,
         height: command.height,
         stride: command.stride as usize,
+    }
+}
+
+/// Returns the shape of the mask of a command.
+fn mask_shape<D, M>(command: &FlatCommand<'_, D, M>) -> Shape
+    ensures { result ≡ record {
+      width = command.now.mask_width;
+      height = command.now.mask_height;
+      stride = command.now.mask_stride;
+    } }
+{
+    Shape {
+        width: command.mask_width,
+        height: command.mask_height,
+        stride: command.mask_stride as usize,
     }
 }
 
@@ -82,14 +107,82 @@ impl<
                 let src_shape = source_shape(command);
                 blit_window(pixels, window, to, command.pixels, src_shape, from, &change);
             }
-            _ => {
+            kind::COMPOSITE_MATTE => {
                 let clr = command.color.read();
                 let change = MattedColor::<P, O> { clr, op };
                 let src_shape = source_shape(command);
                 blit_window(pixels, window, to, command.mattes, src_shape, from, &change);
             }
+            kind::COMPOSITE_IMAGE_MATTE => composite_masked::<P, D, M, O>(
+                pixels, window, command, op,
+            ),
+            _ => composite_faded::<P, D, M, O>(pixels, window, command, op),
         }
     }
+}
+
+/// Composites an image through a mask on a window of a picture.
+fn composite_masked<
+    P: Pixel<Alpha = Premultiplied, Gamma = Linear>,
+    D: FlatPixel<P>,
+    M: Flat<Pix<1, P::Chan, Matte, Premultiplied, Linear>>,
+    O: Blend,
+>(pixels: &mut [D], window: Window, command: &FlatCommand<'_, D, M>, op: O)
+    requires placed { IsWindow window (length pixels.old) }
+    requires sound { fault_of command.now ≡ 0 }
+    requires kind { command.now.kind ≡ 6 }
+    requires same { O.op ≡ op_at command.now.op }
+    ensures { ChangedIn D.numbers window.shape pixels.old pixels.new
+        (in_window window (run_at P.layout D.numbers M.numbers (picture window)
+        (command_of command.now ∷ []))) }
+{
+    let src = Source {
+        pixels: command.pixels,
+        shape: source_shape(command),
+        from: region_of(command.from),
+    };
+    let mask = Source {
+        pixels: command.mattes,
+        shape: mask_shape(command),
+        from: region_of(command.mask),
+    };
+    let change = MattedPixels::<P, O> {
+        op,
+        format: PhantomData,
+    };
+    blit_masked(pixels, window, region_of(command.to), &src, &mask, &change);
+}
+
+/// Composites an image at an opacity on a window of a picture.
+fn composite_faded<
+    P: Pixel<Alpha = Premultiplied, Gamma = Linear>,
+    D: FlatPixel<P>,
+    M: Flat<Pix<1, P::Chan, Matte, Premultiplied, Linear>>,
+    O: Blend,
+>(pixels: &mut [D], window: Window, command: &FlatCommand<'_, D, M>, op: O)
+    requires placed { IsWindow window (length pixels.old) }
+    requires sound { fault_of command.now ≡ 0 }
+    requires kind { command.now.kind ≡ 7 }
+    requires same { O.op ≡ op_at command.now.op }
+    ensures { ChangedIn D.numbers window.shape pixels.old pixels.new
+        (in_window window (run_at P.layout D.numbers M.numbers (picture window)
+        (command_of command.now ∷ []))) }
+{
+    let matte = command.alpha.read();
+    let change = FadedPixels::<P, P::Chan, O> {
+        alpha: matte.alpha(),
+        op,
+        format: PhantomData,
+    };
+    blit_window(
+        pixels,
+        window,
+        region_of(command.to),
+        command.pixels,
+        source_shape(command),
+        region_of(command.from),
+        &change,
+    );
 }
 
 /// Draws a command on a window of a picture.

@@ -1,20 +1,21 @@
 //! The run of a list of commands on the caller's pixels, for any format.
 ghost use Rattle.std.specs.Prelude.{◌≡◌, ◌≢◌, length, map};
 ghost use Rattle.pix.specs.Run.{run_at};
-ghost use Rattle.pix.specs.Lent.{IsWindow, ChangedIn, picture, in_window};
+ghost use Rattle.pix.specs.Lent.{largest};
 ghost use Rattle.pix_c.specs.Command.{command_of};
 ghost use Rattle.pix_c.specs.Status.{status_of, done_of, window_status_of, window_done_of, first_fault};
 ghost use Rattle.pix_c.specs.Run.{IsRun, IsWindowRun};
 
 use crate::command::Flatten;
 use crate::format::{Flat, FlatPixel};
-use crate::paint::paint;
+use crate::paint::{paint, reach};
 use crate::size::is_window;
 use crate::status::{BAD_SIZE, DONE, first_fault};
 use pix::chan::{Linear, Premultiplied};
 use pix::el::{Pix, Pixel};
-use pix::lent::{Shape, Window};
+use pix::lent::{Painting, Shape, Window, paint_by_bands, points_in};
 use pix::matte::Matte;
+use std::marker::PhantomData;
 
 /// Runs `commands` in order on the image of that width, height and stride in `pixels`.
 ///
@@ -78,25 +79,49 @@ pub(crate) fn run_window<
             stride,
         };
         let window = Window { left, top, shape };
-        run_all::<P, D, M, C>(pixels, window, commands);
+        let format = PhantomData;
+        let list = Commands::<P, M, C> { commands, format };
+        paint_by_bands(pixels, window, &list);
     }
     fault
 }
 
-/// Runs commands of which none is refused.
-fn run_all<
+/// A list of commands of which none is refused.
+#[derive(Drop)]
+struct Commands<'b, P, M, C> {
+    commands: &'b [C],
+    format: PhantomData<(P, M)>,
+}
+
+impl<
+    'b,
     P: Pixel<Alpha = Premultiplied, Gamma = Linear>,
     D: FlatPixel<P>,
     M: Flat<Pix<1, P::Chan, Matte, Premultiplied, Linear>>,
     C: Flatten<D, M>,
->(pixels: &mut [D], window: Window, commands: &[C])
-    requires placed { IsWindow window (length pixels.old) }
-    requires sound { first_fault (map C.flat commands.now) ≡ 0 }
-    ensures { ChangedIn D.numbers window.shape pixels.old pixels.new
-        (in_window window (run_at P.layout D.numbers M.numbers (picture window)
-        (map command_of (map C.flat commands.now)))) }
-{
-    for command in commands {
-        paint::<P, D, M>(pixels, window, &command.flat());
+> Painting<D> for Commands<'b, P, M, C> {
+    ghost can_paint = { λ it. first_fault (map C.flat it.commands.now) ≡ 0 };
+
+    ghost reads = { D.numbers };
+
+    ghost makes = { λ it. run_at P.layout D.numbers M.numbers largest
+        (map command_of (map C.flat it.commands.now)) };
+
+    fn commands(&self) -> usize {
+        self.commands.len()
+    }
+
+    fn reached(&self, window: Window) -> usize {
+        let mut points: usize = 0;
+        for command in self.commands {
+            points = points.saturating_add(points_in(window, reach(&command.flat())));
+        }
+        points
+    }
+
+    fn paint(&self, pixels: &mut [D], window: Window) {
+        for command in self.commands {
+            paint::<P, D, M>(pixels, window, &command.flat());
+        }
     }
 }

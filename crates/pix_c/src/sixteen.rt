@@ -11,6 +11,10 @@ use pix::matte::Matte;
 use pix::ops::Blend;
 use std::marker::PhantomData;
 
+mod masked;
+
+pub(crate) use masked::{FadedPixels, MattedPixels};
+
 /// Reads as many pixels of the library.
 #[inline(always)]
 fn read_pixels<P: Pixel, S: Flat<P>>(part: &[S], pixels: &mut [P])

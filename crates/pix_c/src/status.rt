@@ -1,6 +1,6 @@
 //! Statuses, and which commands are refused.
 ghost use Rattle.std.specs.Prelude.{◌≡◌, map};
-ghost use Rattle.pix_c.specs.Status.{fits, has_source, fault_of, first_fault, count_before_fault};
+ghost use Rattle.pix_c.specs.Status.{fits, has_pixels, has_mask, has_source, fault_of, first_fault, count_before_fault};
 
 use crate::command::{FlatCommand, Flatten, PixRegion};
 use crate::kind;
@@ -22,7 +22,7 @@ pub const BAD_REGION: u32 = 3;
 /// There is no such operator.
 pub const BAD_OP: u32 = 4;
 
-/// The source that the kind reads is refused for what [`BAD_SIZE`] says of the image.
+/// The source or the mask that the kind reads is refused for what [`BAD_SIZE`] says of the image.
 pub const BAD_SOURCE: u32 = 5;
 
 /// There is no format of such a number.
@@ -38,19 +38,37 @@ fn fits(reg: PixRegion) -> bool
     reg.width <= LIMIT && reg.height <= LIMIT
 }
 
+/// Returns whether the rows of a command's image lie in its pixels.
+fn has_pixels<D, M>(command: &FlatCommand<'_, D, M>) -> bool
+    ensures { result ≡ has_pixels command.now }
+{
+    let (width, height, stride) = (command.width, command.height, command.stride);
+    is_sized(width, height, stride, command.pixels.len())
+}
+
+/// Returns whether the rows of a command's mask lie in its mattes.
+fn has_mask<D, M>(command: &FlatCommand<'_, D, M>) -> bool
+    ensures { result ≡ has_mask command.now }
+{
+    let (width, height) = (command.mask_width, command.mask_height);
+    is_sized(width, height, command.mask_stride, command.mattes.len())
+}
+
 /// Returns whether the source that the kind reads has a size that is accepted.
 fn has_source<D, M>(command: &FlatCommand<'_, D, M>) -> bool
     ensures { result ≡ has_source command.now }
 {
-    let (width, height, stride) = (command.width, command.height, command.stride);
     match command.kind {
-        kind::COPY_IMAGE | kind::COMPOSITE_IMAGE => is_sized(
-            width,
-            height,
-            stride,
-            command.pixels.len(),
+        kind::COPY_IMAGE | kind::COMPOSITE_IMAGE | kind::COMPOSITE_IMAGE_ALPHA => {
+            has_pixels(command)
+        }
+        kind::COMPOSITE_MATTE => is_sized(
+            command.width,
+            command.height,
+            command.stride,
+            command.mattes.len(),
         ),
-        kind::COMPOSITE_MATTE => is_sized(width, height, stride, command.mattes.len()),
+        kind::COMPOSITE_IMAGE_MATTE => has_pixels(command) && has_mask(command),
         _ => true,
     }
 }
@@ -59,10 +77,10 @@ fn has_source<D, M>(command: &FlatCommand<'_, D, M>) -> bool
 fn fault_of<D, M>(command: &FlatCommand<'_, D, M>) -> u32
     ensures { result ≡ fault_of command.now }
 {
-    if command.kind > kind::COMPOSITE_MATTE {
+    if command.kind > kind::COMPOSITE_IMAGE_ALPHA {
         return BAD_KIND;
     }
-    if !fits(command.to) || !fits(command.from) {
+    if !fits(command.to) || !fits(command.from) || !fits(command.mask) {
         return BAD_REGION;
     }
     if command.op as usize >= Op::ALL.len() {

@@ -1,6 +1,8 @@
 -- Lists of four, eight and sixteen, element by element.
-use Rattle.std.proofs.Common.{◌≡◌, ℕ, ◌+◌, List, [], ◌∷◌, ◌++◌, length, map, take, drop, get_or, refl, ap, arith}
-use lib.Lanes.{pick_l}
+use Rattle.std.proofs.Common.{◌≡◌, ℕ, zero, suc, ◌+◌, ◌*◌, ◌/◌, ◌%◌, ◌<◌, List, [], ◌∷◌, ◌++◌, length, map, take, drop, get_or, replicate, refl, ap, ◌∙◌, arith, w8, Fits}
+use lib.Lanes.{zip2, Each1, pick_l, number_l, digits_l}
+use Rattle.pix_chan.proofs.Lanes.{shr}
+use Rattle.pix_chan.proofs.Planes.{cons, four_times}
 use Rattle.std.proofs.lemmas.List.{length-take, length-drop, take-append-drop}
 use Rattle.pix_chan.specs.Lanes.{indexes}
 use Rattle.pix_chan.specs.Planes.{both_in_turn, last_of_four}
@@ -67,10 +69,90 @@ pub mapped8 : {A B : Type 0} (f : A → B) (xs : List A) (d0 d1 d2 d3 d4 d5 d6 d
 mapped8 {B = B} f xs d0 d1 d2 d3 d4 d5 d6 d7 h e0 e1 e2 e3 e4 e5 e6 e7 =
     rw (e0, e1, e2, e3, e4, e5, e6, e7) (ap (map f) (whole8 xs d0 d1 d2 d3 d4 d5 d6 d7 h))
 
--- the last channels of four pixels, by their places
-pub spread_are : (u : List ℕ) → length u ≡ 16
-    → pick_l 0 (u ++ u) (3 ∷ 3 ∷ 3 ∷ 3 ∷ 7 ∷ 7 ∷ 7 ∷ 7 ∷ 11 ∷ 11 ∷ 11 ∷ 11 ∷ 15 ∷ 15 ∷ 15 ∷ 15 ∷ []) ≡ last_of_four u
-spread_are u h = rw (← (is_sixteen u h).1) refl
+-- the last of each four bytes: words shifted down by the other three
+fourth_of_word : (w x y z r : ℕ) → w < 256 → x < 256 → y < 256 → z < 256
+    → shr ((w + 256 * (x + 256 * (y + 256 * (z + 256 * r)))) % 4294967296) 24 ≡ z
+fourth_of_word w x y z r a b c d = omega arith
+
+word_rest : (w x y z r : ℕ) → w < 256 → x < 256 → y < 256 → z < 256
+    → (w + 256 * (x + 256 * (y + 256 * (z + 256 * r)))) / 4294967296 ≡ r
+word_rest w x y z r a b c d = omega arith
+
+abbrev fourths : List ℕ → List ℕ
+fourths [] = []
+fourths (w ∷ []) = []
+fourths (w ∷ x ∷ []) = []
+fourths (w ∷ x ∷ y ∷ []) = []
+fourths (w ∷ x ∷ y ∷ z ∷ u) = z ∷ fourths u
+
+fourths_are : (n : ℕ) (u : List ℕ) → length u ≡ four_times n → Each1 (Fits w8) u
+    → zip2 shr (digits_l 4294967296 n (number_l 256 u)) (replicate n 24) ≡ fourths u
+fourths_are zero [] h f = refl
+fourths_are zero (w ∷ u) h f = absurd (omega arith)
+fourths_are (suc n) [] h f = absurd (omega arith)
+fourths_are (suc n) (w ∷ []) h f = absurd (omega arith)
+fourths_are (suc n) (w ∷ x ∷ []) h f = absurd (omega arith)
+fourths_are (suc n) (w ∷ x ∷ y ∷ []) h f = absurd (omega arith)
+fourths_are (suc n) (w ∷ x ∷ y ∷ z ∷ u) h f =
+    let a : w < 256 = f.0.fits in
+    let b : x < 256 = f.1.0.fits in
+    let c : y < 256 = f.1.1.0.fits in
+    let d : z < 256 = f.1.1.1.0.fits in
+    cons (fourth_of_word w x y z (number_l 256 u) a b c d)
+    (ap (λ r. zip2 shr (digits_l 4294967296 n r) (replicate n 24)) (word_rest w x y z (number_l 256 u) a b c d)
+    ∙ fourths_are n u (omega arith) f.1.1.1.1)
+
+-- the bytes of words below 256: each and three of 0
+byte_of_word : (v r : ℕ) → v < 256 → (v + 4294967296 * r) % 256 ≡ v
+byte_of_word v r a = omega arith
+
+second_of_word : (v r : ℕ) → v < 256 → (v + 4294967296 * r) / 256 % 256 ≡ 0
+second_of_word v r a = omega arith
+
+third_of_word : (v r : ℕ) → v < 256 → (v + 4294967296 * r) / 256 / 256 % 256 ≡ 0
+third_of_word v r a = omega arith
+
+last_of_word : (v r : ℕ) → v < 256 → (v + 4294967296 * r) / 256 / 256 / 256 % 256 ≡ 0
+last_of_word v r a = omega arith
+
+after_word : (v r : ℕ) → v < 256 → (v + 4294967296 * r) / 256 / 256 / 256 / 256 ≡ r
+after_word v r a = omega arith
+
+abbrev spaced : List ℕ → List ℕ
+spaced [] = []
+spaced (v ∷ u) = v ∷ 0 ∷ 0 ∷ 0 ∷ spaced u
+
+spaced_are : (n : ℕ) (u : List ℕ) → length u ≡ n → Each1 (Fits w8) u → digits_l 256 (four_times n) (number_l 4294967296 u) ≡ spaced u
+spaced_are zero [] h f = refl
+spaced_are zero (v ∷ u) h f = absurd (omega arith)
+spaced_are (suc n) [] h f = absurd (omega arith)
+spaced_are (suc n) (v ∷ u) h f =
+    let a : v < 256 = f.0.fits in
+    let r = number_l 4294967296 u in
+    cons (byte_of_word v r a) (cons (second_of_word v r a) (cons (third_of_word v r a) (cons (last_of_word v r a)
+    (ap (digits_l 256 (four_times n)) (after_word v r a) ∙ spaced_are n u (omega arith) f.1))))
+
+-- the last channels of four pixels, by the words of their channels
+spread_fourths : (u : List ℕ) → length u ≡ 16
+    → (length (fourths u) ≡ 4)
+    × (pick_l 0 (spaced (fourths u) ++ spaced (fourths u)) (0 ∷ 0 ∷ 0 ∷ 0 ∷ 4 ∷ 4 ∷ 4 ∷ 4 ∷ 8 ∷ 8 ∷ 8 ∷ 8 ∷ 12 ∷ 12 ∷ 12 ∷ 12 ∷ []) ≡ last_of_four u)
+spread_fourths u h = rw (← (is_sixteen u h).1) (refl, refl)
+
+Each1-fourths : (u : List ℕ) → Each1 (Fits w8) u → Each1 (Fits w8) (fourths u)
+Each1-fourths [] f = tt
+Each1-fourths (w ∷ []) f = tt
+Each1-fourths (w ∷ x ∷ []) f = tt
+Each1-fourths (w ∷ x ∷ y ∷ []) f = tt
+Each1-fourths (w ∷ x ∷ y ∷ z ∷ u) f = (f.1.1.1.0, Each1-fourths u f.1.1.1.1)
+
+pub spread_are : (u : List ℕ) → length u ≡ 16 → Each1 (Fits w8) u
+    → let bytes = digits_l 256 16 (number_l 4294967296 (zip2 shr (digits_l 4294967296 4 (number_l 256 u)) (replicate 4 24))) in
+    pick_l 0 (bytes ++ bytes) (0 ∷ 0 ∷ 0 ∷ 0 ∷ 4 ∷ 4 ∷ 4 ∷ 4 ∷ 8 ∷ 8 ∷ 8 ∷ 8 ∷ 12 ∷ 12 ∷ 12 ∷ 12 ∷ []) ≡ last_of_four u
+spread_are u h f =
+    let both = spread_fourths u h in
+    let words = fourths_are 4 u h f in
+    let bytes = ap (λ (l : List ℕ). digits_l 256 16 (number_l 4294967296 l)) words ∙ spaced_are 4 (fourths u) both.0 (Each1-fourths u f) in
+    ap (λ (l : List ℕ). pick_l 0 (l ++ l) (0 ∷ 0 ∷ 0 ∷ 0 ∷ 4 ∷ 4 ∷ 4 ∷ 4 ∷ 8 ∷ 8 ∷ 8 ∷ 8 ∷ 12 ∷ 12 ∷ 12 ∷ 12 ∷ [])) bytes ∙ both.1
 
 alphas_at : {A : Type 0} (f : A → ℕ) (u : List A) (d0 d1 d2 d3 : A) → length u ≡ 16
     → let a = f (get_or u 3 d0) in

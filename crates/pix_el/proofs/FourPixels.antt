@@ -92,7 +92,7 @@ module _ (max : ℕ) (op : Op) where
       cons (one_pixel s0 s1 s2 s3 d0 d1 d2 d3 p.1.1.1.0 q.1.1.1.0) (fours_composited n ss ds (omega arith) (omega arith) p.1.1.1.1 q.1.1.1.1)
 
 -- four pixels, each multiplied by a matte
-each_matted : (max a b c d : ℕ) (cs : List ℕ) → length cs ≡ 16
+pub each_matted : (max a b c d : ℕ) (cs : List ℕ) → length cs ≡ 16
     → by_fours (over (λ y x. channel_product max x y) (a ∷ a ∷ a ∷ a ∷ b ∷ b ∷ b ∷ b ∷ c ∷ c ∷ c ∷ c ∷ d ∷ d ∷ d ∷ d ∷ []) cs)
     ≡ over (matted_color (four_of max 0)) (a ∷ b ∷ c ∷ d ∷ []) (by_fours cs)
 each_matted max a b c d cs h = rw (← (is_sixteen cs h).1) refl

@@ -10,3 +10,5 @@ pub mod OnePlane
 pub mod MattePlanes
 pub mod FourPixels
 pub mod Blocks
+pub mod Kept
+pub mod Masked

@@ -1,10 +1,10 @@
 -- Pixels by planes: a plane holds the channels of one number. No public clause cites this file.
-use Rattle.std.specs.Prelude.{◌≡◌, ℕ, ◌-◌, List, [], ◌∷◌, map, if◌then◌else◌}
+use Rattle.std.specs.Prelude.{◌≡◌, ◌≤◌, ℕ, ◌-◌, List, [], ◌∷◌, map, if◌then◌else◌}
 use Rattle.std.specs.declared.ops.Range.{Range}
 use Rattle.pix_ops.specs.declared.ops.Op.{Op}
 use Rattle.pix_chan.specs.Product.{channel_product}
-use Rattle.pix_ops.specs.Hue.{hue_composite}
-use Rattle.pix_ops.specs.Composite.{run_composite}
+use Rattle.pix_ops.specs.Hue.{hue_composite, hue_weight}
+use Rattle.pix_ops.specs.Composite.{channel_composite, run_composite}
 use Rattle.pix_chan.specs.Modes.{GammaMode, to_linear}
 use Rattle.pix_el.specs.Pixel.{lies_in, channel}
 use Rattle.pix_el.specs.Conversion.{at_depth}
@@ -54,6 +54,14 @@ run_first max hues op t d = if lies_in hues 0 then run_hue max op t d else run_c
 -- the first channel x multiplied by a matte, but a hue as it is
 abbrev pub matted_first : ℕ → Range ℕ → ℕ → ℕ → ℕ
 matted_first max hues matte x = if lies_in hues 0 then x else channel_product max x matte
+
+-- the source's channel s, of alpha sa, leaves each channel of a destination as it is, and moves no hue
+abbrev pub Keeps : ℕ → Op → ℕ → ℕ → Type 0
+Keeps max op s sa = (d da : ℕ) → d ≤ max → da ≤ max → (channel_composite max op s sa d da ≡ d) × (hue_weight max op sa da ≡ 0)
+
+-- any source does
+abbrev pub KeepsAll : ℕ → Op → Type 0
+KeepsAll max op = (s sa : ℕ) → Keeps max op s sa
 
 -- a straight pixel of four channels, premultiplied
 abbrev pub premultiplied_four : ℕ → List ℕ → List ℕ

@@ -1,6 +1,7 @@
 //! Pixels of any format: channels of a color model, with an alpha mode and a gamma mode.
 ghost use Rattle.std.specs.Prelude.{◌≡◌, ℕ, ◌+◌, ◌-◌, ◌<◌, ◌≤◌, IsTrue, List, [], ◌∷◌, length, replicate, map, take, slice_get, slice_set, Some, refl, nat_eq};
 ghost use Rattle.std.specs.Cmp.Lexicographic.{pointwise};
+ghost use Rattle.std.specs.List.{zip};
 ghost use Rattle.std.specs.Borrow.{Lends, sem, Array};
 ghost use Rattle.pix_ops.specs.declared.ops.Op.{Op};
 ghost use Rattle.pix_ops.specs.Operators.{sum_fits};
@@ -11,13 +12,13 @@ ghost use Rattle.pix_el.specs.ExactPixel.{IsNearExact, IsNearExactMatted, HuesMo
 ghost use Rattle.pix_el.specs.Premultiplied.{IsPremultiplied, IsUncut};
 ghost use Rattle.pix_el.specs.Conversion.{Format, of_depth, converted};
 ghost use Rattle.pix_el.specs.Transparent.{IsTransparent, IsUnchanged};
-ghost use Rattle.pix_el.specs.contracts.el.Pix.{the_row};
 
 use crate::conversion::blocks::convert_blocks;
 use crate::conversion::{at_depth, channel_at_depth, converted_within, reencoded_color};
 use crate::each::{composite_each, scale_each};
 use crate::matte::Matte;
 use crate::model::ColorModel;
+use crate::planes::masked::{faded_runs, masked_runs};
 use crate::planes::{color_runs, composite_runs, matte_runs};
 use crate::private::Sealed;
 use crate::rgb::Rgb;
@@ -27,6 +28,7 @@ use std::fmt::Debug;
 use std::marker::PhantomData;
 
 mod array;
+mod items;
 mod new;
 
 /// The format of red, green, blue and alpha with the channels, the alpha mode and the gamma mode of `P`.
@@ -39,41 +41,6 @@ pub struct Pix<const N: usize, C, M, A, G> {
     _model: PhantomData<M>,
     _alpha: PhantomData<A>,
     _gamma: PhantomData<G>,
-}
-
-impl<const N: usize, C, M, A, G> Pix<N, C, M, A, G> {
-    /// Lends the channels.
-    fn items_mut(&mut self) -> &mut [C]
-        ensures* lends { sem 𝓛 (Lends (the_row N.row C.row M.row A.row G.row)
-            (Array C.row 0) self.entry result
-            (λ w. record self.old { channels = w })) }
-        ensures channels { result.now ≡ self.old.channels }
-        ensures count { length result.now ≡ N }
-    {
-        &mut self.channels
-    }
-
-    /// Lends the channel of number `ch`. Condition: there is one.
-    fn item_at_mut(&mut self, ch: usize) -> &mut C
-        requires { ch < N }
-        ensures* lends { sem 𝓛 (Lends
-            (the_row N.row C.row M.row A.row G.row) C.row self.entry result
-            (λ c. record self.old { channels = slice_set self.old.channels ch c })) }
-        ensures now { slice_get self.old.channels ch ≡ Some result.now }
-    {
-        let items = self.items_mut();
-        item_mut(items, ch)
-    }
-}
-
-/// Lends one item of a slice. Condition: there is one at that index.
-fn item_mut<C>(items: &mut [C], index: usize) -> &mut C
-    requires { index < length items.old }
-    ensures* lends { sem 𝓛 (Lends (Array C.row 0) C.row items.entry result
-        (slice_set items.old index)) }
-    ensures now { slice_get items.old index ≡ Some result.now }
-{
-    &mut items[index]
 }
 
 /// A pixel: its channels in the order of its color model. This trait is sealed: the pixels are [`Pix`].
@@ -424,6 +391,55 @@ pub trait Pixel: Sealed + Clone + Copy + Debug + Default + PartialEq {
         let start = matte_runs::<N, A, O, Self>(dst, src, clr, count);
         for i in start..count {
             dst[i].composite_channels_alpha(clr, op, &src[i].alpha());
+        }
+    }
+
+    /// Composites each pixel of `src` with the pixel of `dst` of the same index through the matte of that index; the shortest length
+    /// decides, and the rest stays.
+    ///
+    /// Condition: the format has an alpha channel.
+    final fn composite_slice_matte<const N: usize, A: Alpha, O: Blend>(
+        dst: &mut [Self],
+        src: &[Self],
+        mattes: &[Pix<N, Self::Chan, Matte, A, Linear>],
+        op: O,
+    )
+    where
+        Self: Pixel<Alpha = Premultiplied, Gamma = Linear>,
+        requires has_alpha { layout.count ≡ layout.alpha + 1 }
+        ensures { map numbers dst.new ≡
+            over (λ t. matted_composite layout O.op (matte_value layout t.0) t.1)
+            (zip (map (matte_numbers Self.Chan.number) mattes.now) (map numbers src.now))
+            (map numbers dst.old) }
+    {
+        let count = dst.len().min(src.len()).min(mattes.len());
+        let start = masked_runs::<N, A, O, Self>(dst, src, mattes, count);
+        for i in start..count {
+            dst[i].composite_channels_alpha(&src[i], op, &mattes[i].alpha());
+        }
+    }
+
+    /// Composites each pixel of `src` with the pixel of `dst` of the same index through the matte value `alpha`; the shorter length
+    /// decides, and the rest stays.
+    ///
+    /// Condition: the format has an alpha channel.
+    final fn composite_slice_alpha<O: Blend>(
+        dst: &mut [Self],
+        src: &[Self],
+        op: O,
+        alpha: &Self::Chan,
+    )
+    where
+        Self: Pixel<Alpha = Premultiplied, Gamma = Linear>,
+        requires has_alpha { layout.count ≡ layout.alpha + 1 }
+        ensures { map numbers dst.new ≡
+            over (matted_composite layout O.op (Self.Chan.number alpha.now))
+            (map numbers src.now) (map numbers dst.old) }
+    {
+        let count = dst.len().min(src.len());
+        let start = faded_runs::<O, Self>(dst, src, *alpha, count);
+        for i in start..count {
+            dst[i].composite_channels_alpha(&src[i], op, alpha);
         }
     }
 

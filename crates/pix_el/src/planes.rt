@@ -2,7 +2,8 @@
 //!
 //! Each way to go is a `Block`. Pixels of four channels without a hue go sixteen at a time and then four, interleaved, as they lie. Pixels
 //! of four channels with a hue at the first go by planes, arrays of sixteen channels of one number, and so do pixels of two channels without
-//! a hue. A pixel of one channel is its own alpha, so that mattes go as they lie. A color through sixteen mattes goes by planes.
+//! a hue. A pixel of one channel is its own alpha, so that mattes go as they lie. A color through sixteen mattes goes by planes. Pixels through mattes go
+//! four at a time (`masked.rt`).
 //!
 //! Nothing of this is in a contract above, so another way to cut a slice into blocks changes this file and its folder alone.
 ghost use Rattle.std.specs.Prelude.{◌≡◌, ◌≤◌, ◌+◌, ◌-◌, length, map, take, true, replicate};
@@ -28,6 +29,8 @@ mod block;
 mod coverage;
 mod four;
 pub(crate) mod interleaved;
+mod kept;
+pub(crate) mod masked;
 mod one;
 mod sixteen;
 mod two;

@@ -1,5 +1,5 @@
 -- What follows of a run at each point.
-use Rattle.std.proofs.Common.{◌≡◌, ℕ, ◌+◌, List, ap, sym, subst, ◌∙◌}
+use Rattle.std.proofs.Common.{ℕ, List}
 use Rattle.pix_el.specs.Pixel.{Layout}
 use Rattle.pix_raster.specs.Image.{Image, Changed, region_of}
 use Rattle.pix_raster.specs.Run.{run_at}

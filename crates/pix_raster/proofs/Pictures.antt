@@ -1,11 +1,11 @@
 -- What commands do to a point does not depend on how far the picture goes on to the right of it and below it.
-use Rattle.std.proofs.Common.{◌≡◌, ℕ, ◌<◌, ◌≤◌, ◌+◌, ℤ, pos, ◌+ℤ◌, ◌-ℤ◌, Bool, true, List, [], ◌∷◌, ◌++◌, fold, cond, arith, refl, ap, sym, ◌∙◌}
-use Rattle.std.specs.Prelude.{◌&&◌}
+use Rattle.std.proofs.Common.{◌≡◌, ℕ, ◌<◌, ◌≤◌, pos, ◌+ℤ◌, ◌-ℤ◌, Bool, true, List, [], ◌∷◌, map, fold, cond, arith, refl, ap, sym, ◌∙◌}
+use Rattle.std.specs.List.{zip}
 use Rattle.std.proofs.lemmas.Int.{ints}
 use Rattle.pix_el.specs.Pixel.{Layout}
 use Rattle.pix_raster.specs.Region.{Rectangle, limit, covers, whole}
 use Rattle.pix_raster.specs.Image.{point, region_of}
-use Rattle.pix_raster.specs.Reach.{is_paired, has_offset, leads_into, from_pair, natural}
+use Rattle.pix_raster.specs.Reach.{is_paired, from_pair, natural}
 use Rattle.pix_raster.specs.Run.{Effect, Copied, Composited, Matted, effect_at, effects_at, apply, run_at}
 use Rattle.pix_raster.specs.declared.command.Command.{Command}
 use Rattle.pix_raster.specs.declared.command.Command.TheVariants as commands
@@ -35,6 +35,14 @@ effect_alike n m dest other (commands.Raster to src from op) x y e =
     pair_alike to dest other from (region_of src.now) (λ a b. Composited op (point n src.now a b)) x y e
 effect_alike n m dest other (commands.Matte to src from clr op) x y e =
     pair_alike to dest other from (region_of src.now) (λ a b. Matted op (point m src.now a b) (n clr)) x y e
+effect_alike n m dest other (commands.RasterMatte to src from mask mask_from op) x y e =
+    let made = λ (mattes sources : List (List ℕ)). map (λ t. Matted op t.0 t.1) (zip mattes sources) in
+    let get = point n src.now in
+    let get_mask = point m mask.now in
+    ap (λ l. made l (from_pair to dest from (region_of src.now) get x y)) (pair_alike to dest other mask_from (region_of mask.now) get_mask x y e)
+    ∙ ap (made (from_pair to other mask_from (region_of mask.now) get_mask x y)) (pair_alike to dest other from (region_of src.now) get x y e)
+effect_alike n m dest other (commands.RasterAlpha to src from alpha op) x y e =
+    pair_alike to dest other from (region_of src.now) (λ a b. Matted op (m alpha) (point n src.now a b)) x y e
 
 effects_alike : {P M : Type 0} (n : P → List ℕ) (m : M → List ℕ) (dest other : Rectangle) (cs : List (Command P M)) (x y : ℕ)
     → covers dest (pos x) (pos y) ≡ covers other (pos x) (pos y) → effects_at n m dest cs x y ≡ effects_at n m other cs x y

@@ -1,5 +1,6 @@
 -- What a run keeps of a format, and how near it is to the exact run: from one channel to all of an image.
 use Rattle.std.specs.Prelude.{All}
+use Rattle.std.specs.List.{zip}
 use Rattle.std.proofs.Common.{◌≡◌, ℕ, zero, suc, ◌<◌, ◌≤◌, ◌+◌, List, [], ◌∷◌, map, fold, get_or, replicate, cond, Bool, true, false, refl, sym, ap, ◌∙◌, arith, le_refl, subst, inl, inr, ◌*◌}
 use Rattle.std.proofs.lemmas.Bool.{cases_lt}
 use Rattle.std.proofs.lemmas.List.{get_or-replicate, get_or_past, length-replicate}
@@ -49,6 +50,13 @@ all_where : (F : Effect → Type 0) (effect : Effect) (reached : Bool) → F eff
 all_where F effect true f = All-cons F effect [] f (All-nil F)
 all_where F effect false f = All-nil F
 
+-- one effect where both of two tests hold
+all_both : (F : Effect → Type 0) (effect : List ℕ → List ℕ → Effect) (matte source : List ℕ) (reached covered : Bool) → F (effect matte source)
+    → All F (map (λ t. effect t.0 t.1) (zip (cond reached (matte ∷ []) []) (cond covered (source ∷ []) [])))
+all_both F effect matte source true true f = All-cons F (effect matte source) [] f (All-nil F)
+all_both F effect matte source true false f = All-nil F
+all_both F effect matte source false covered f = All-nil F
+
 effect_fits : {P M : Type 0} (layout : Layout) (n : P → List ℕ) (m : M → List ℕ) (dest : Rectangle) (command : Command P M) (x y : ℕ) → IsFormat layout n m
     → All (IsFit layout) (effect_at n m dest command x y)
 effect_fits layout n m dest commands.Clear x y format = All-cons (IsFit layout) Cleared [] tt (All-nil (IsFit layout))
@@ -60,6 +68,10 @@ effect_fits layout n m dest (commands.Raster to src from op) x y format =
     all_where (IsFit layout) _ _ (point_fits layout.max n src.now _ _ format.fit)
 effect_fits layout n m dest (commands.Matte to src from clr op) x y format =
     all_where (IsFit layout) _ _ (point_fits layout.max m src.now _ _ format.mattes_fit, format.fit clr)
+effect_fits layout n m dest (commands.RasterMatte to src from mask mask_from op) x y format =
+    all_both (IsFit layout) (Matted op) _ _ _ _ (point_fits layout.max m mask.now _ _ format.mattes_fit, point_fits layout.max n src.now _ _ format.fit)
+effect_fits layout n m dest (commands.RasterAlpha to src from alpha op) x y format =
+    all_where (IsFit layout) _ _ (format.mattes_fit alpha, point_fits layout.max n src.now _ _ format.fit)
 
 -- what the commands bring to a point fits
 pub effects_fit : {P M : Type 0} (layout : Layout) (n : P → List ℕ) (m : M → List ℕ) (dest : Rectangle) (cs : List (Command P M)) (x y : ℕ) → IsFormat layout n m

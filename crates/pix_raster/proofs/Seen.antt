@@ -1,7 +1,8 @@
 -- Commands on a picture, as seen from a point of it.
-use Rattle.std.proofs.Common.{◌≡◌, ℕ, ◌<◌, ◌≤◌, ◌+◌, ℤ, pos, ◌+ℤ◌, ◌-ℤ◌, ◌<ℤ◌, ◌≤ℤ◌, Bool, true, List, [], ◌∷◌, ◌++◌, map, fold, cond, arith, refl, ap, sym, ◌∙◌}
+use Rattle.std.proofs.Common.{◌≡◌, ℕ, ◌<◌, ◌≤◌, ◌+◌, ℤ, pos, ◌+ℤ◌, ◌-ℤ◌, ◌<ℤ◌, ◌≤ℤ◌, Bool, true, List, [], ◌∷◌, map, fold, cond, arith, refl, ap, sym, ◌∙◌}
 use Rattle.std.specs.Prelude.{◌&&◌, not, int_lt}
 use Rattle.std.specs.Int.{int_min}
+use Rattle.std.specs.List.{zip}
 use Rattle.std.proofs.lemmas.Bool.Decides.{Decides-and, Decides-like, same_from_decides}
 use Rattle.std.proofs.lemmas.Int.{ints, clamps}
 use Rattle.pix_el.specs.Pixel.{Layout}
@@ -65,6 +66,13 @@ module _ (left top width height x y : ℕ) (across : left + width ≤ limit) (do
   effect_seen n m (commands.Color reg clr op) = ap (λ (b : Bool). cond b (Composited op (n clr) ∷ []) []) (covers_seen reg)
   effect_seen n m (commands.Raster to src from op) = pair_seen to from (region_of src.now) (λ a b. Composited op (point n src.now a b))
   effect_seen n m (commands.Matte to src from clr op) = pair_seen to from (region_of src.now) (λ a b. Matted op (point m src.now a b) (n clr))
+  effect_seen n m (commands.RasterMatte to src from mask mask_from op) =
+      let made = λ (mattes sources : List (List ℕ)). map (λ t. Matted op t.0 t.1) (zip mattes sources) in
+      let get = point n src.now in
+      let get_mask = point m mask.now in
+      ap (λ l. made l (from_pair to (whole (left + width) (top + height)) from (region_of src.now) get (left + x) (top + y))) (pair_seen to mask_from (region_of mask.now) get_mask)
+      ∙ ap (made (from_pair (seen_from left top to) (whole width height) mask_from (region_of mask.now) get_mask x y)) (pair_seen to from (region_of src.now) get)
+  effect_seen n m (commands.RasterAlpha to src from alpha op) = pair_seen to from (region_of src.now) (λ a b. Matted op (m alpha) (point n src.now a b))
 
   effects_seen : {P M : Type 0} (n : P → List ℕ) (m : M → List ℕ) (cs : List (Command P M))
       → effects_at n m (whole (left + width) (top + height)) cs (left + x) (top + y) ≡ effects_at n m (whole width height) (map (command_from left top) cs) x y
@@ -91,6 +99,8 @@ command_there (commands.CopyRaster to src from) = rw (rectangle_there to) refl
 command_there (commands.Color reg clr op) = rw (rectangle_there reg) refl
 command_there (commands.Raster to src from op) = rw (rectangle_there to) refl
 command_there (commands.Matte to src from clr op) = rw (rectangle_there to) refl
+command_there (commands.RasterMatte to src from mask mask_from op) = rw (rectangle_there to) refl
+command_there (commands.RasterAlpha to src from alpha op) = rw (rectangle_there to) refl
 
 pub commands_there : {P M : Type 0} (cs : List (Command P M)) → map (command_from 0 0) cs ≡ cs
 commands_there [] = refl

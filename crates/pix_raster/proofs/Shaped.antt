@@ -1,9 +1,9 @@
 -- changes of rows that lie a stride apart
-use Rattle.std.proofs.Common.{◌≡◌, ℕ, ◌<◌, ◌≤◌, ◌+◌, ◌*◌, ◌/◌, ◌%◌, List, [], map, get_or, false, cond, ◌⊎◌, inl, inr, arith, ap, ◌∙◌}
+use Rattle.std.proofs.Common.{◌≡◌, ℕ, ◌<◌, ◌≤◌, ◌+◌, ◌*◌, ◌/◌, ◌%◌, List, false, cond, ◌⊎◌, inl, inr, arith, ap, ◌∙◌}
 use Rattle.std.proofs.lemmas.Bool.{cases_lt}
 use Rattle.std.proofs.lemmas.Bool.Decides.{nat_tests}
 use Rattle.std.specs.declared.ops.Range.{Range}
-use Rattle.pix_raster.specs.Lent.{read_at, IsNoPoint, ChangedIn}
+use Rattle.pix_raster.specs.Lent.{read_at, ChangedIn}
 use Rattle.pix_raster.specs.Clip.{in_box, where_in}
 use Rattle.pix_raster.specs.declared.lent.Shape.{Shape}
 
@@ -38,4 +38,13 @@ changed_in_box reads shape old new columns rows f g across down apart some chang
       let stays : read_at reads shape.stride new x y ≡ stood = changed x y (omega arith)
       ∙ ap (λ b. cond b (f x y stood) stood) (outside columns rows shape.width shape.height x y across down (far shape x y (λ lx ly. none x y lx ly e))) in
       rw e at stays;
+}
+
+-- a change that makes the same of each point of an image
+pub changed_alike : {D : Type 0} (reads : D → List ℕ) (shape : Shape) (old new : List D) (f g : ℕ → ℕ → List ℕ → List ℕ)
+    → ((x y : ℕ) (pixel : List ℕ) → x < shape.width → y < shape.height → f x y pixel ≡ g x y pixel)
+    → ChangedIn reads shape old new f → ChangedIn reads shape old new g
+changed_alike reads shape old new f g alike changed = record {
+  points = λ x y lx ly. changed.points x y lx ly ∙ alike x y (read_at reads shape.stride old x y) lx ly;
+  stays = changed.stays;
 }

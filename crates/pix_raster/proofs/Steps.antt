@@ -1,14 +1,16 @@
 -- A run, one command on.
-use Rattle.std.proofs.Common.{◌≡◌, ℕ, ◌<◌, ◌+◌, List, [], ◌∷◌, ◌++◌, length, get_or, drop, sym, ap, ◌∙◌, refl, fold, pos, Bool, true, false, cond, ◌⊎◌, inl, inr}
+use Rattle.std.proofs.Common.{◌≡◌, ℕ, ◌<◌, ◌≤◌, ◌+◌, List, [], ◌∷◌, ◌++◌, length, map, get_or, drop, sym, ap, ◌∙◌, refl, fold, pos, Bool, true, false, cond, ◌⊎◌, inl, inr}
 use Rattle.pix_el.specs.Pixel.{Layout}
-use Rattle.pix_raster.specs.Region.{Rectangle, covers}
+use Rattle.pix_raster.specs.Region.{Rectangle, covers, whole}
 use Rattle.pix_raster.specs.Image.{Image, Changed, point, region_of}
 use Rattle.pix_raster.specs.Reach.{from_pair}
-use Rattle.pix_raster.specs.Lent.{where_covered, where_paired}
+use Rattle.pix_raster.specs.Lent.{where_covered, where_paired, where_masked}
+use Rattle.std.specs.List.{zip}
 use Rattle.std.proofs.lemmas.List.{drop_more, append-nil, append_assoc}
 use Rattle.std.proofs.lemmas.List.Sums.{fold-append}
 use Rattle.pix_raster.specs.declared.command.Command.{Command}
 use Rattle.pix_raster.specs.Run.{Effect, effect_at, effects_at, apply, run_at, HasSwappedNeighbours}
+use Rattle.pix_raster.proofs.Rectangles.{covers_whole}
 
 -- the run of the command at place i and then of those after it is the run of those from place i on
 pub run_more : {P M : Type 0} (layout : Layout) (n : P → List ℕ) (m : M → List ℕ) (dest : Rectangle) (commands : List (Command P M)) (i : ℕ) (command : Command P M) (x y : ℕ) (pixel : List ℕ)
@@ -41,6 +43,12 @@ pub covered_effect : (layout : Layout) (reg : Rectangle) (f : List ℕ → List 
 covered_effect layout reg f effect x y pixel is =
     ap (λ p. cond (covers reg (pos x) (pos y)) p pixel) (is pixel) ∙ one_effect layout effect pixel (covers reg (pos x) (pos y))
 
+-- a change of a point of all those of a picture is
+pub whole_effect : (layout : Layout) (width height : ℕ) (f : List ℕ → List ℕ) (effect : Effect) (x y : ℕ) (pixel : List ℕ) → width ≤ 2147483647 → height ≤ 2147483647 → x < width → y < height
+    → ((p : List ℕ) → f p ≡ apply layout p effect) → where_covered (whole width height) f x y pixel ≡ fold (apply layout) pixel (effect ∷ [] ++ [])
+whole_effect layout width height f effect x y pixel wide high lx ly is =
+    ap (λ (b : Bool). cond b (f pixel) pixel) (covers_whole width height x y wide high lx ly) ∙ is pixel
+
 -- a change of a point that is paired with another is the run of a command with that effect
 pub from_pair_effect : (layout : Layout) (to dest from source : Rectangle) (get : ℕ → ℕ → List ℕ) (f : List ℕ → List ℕ → List ℕ) (effect : List ℕ → Effect) (x y : ℕ) (pixel : List ℕ)
     → ((s p : List ℕ) → f s p ≡ apply layout p (effect s))
@@ -65,6 +73,36 @@ changed_where_paired layout n s old new to from src f effect changed is = record
   same_width = changed.same_width;
   same_height = changed.same_height;
   points = λ x y hx hy. changed.points x y hx hy ∙ from_pair_effect layout to (region_of old) from (region_of src) (point s src) f effect x y (point n old x y) is;
+}
+
+-- changes by what a mask and a source have are the effects of those
+mapped_effects : (layout : Layout) (effect : List ℕ × List ℕ → Effect) (f : List ℕ × List ℕ → List ℕ → List ℕ) (ts : List (List ℕ × List ℕ)) (pixel : List ℕ)
+    → ((t : List ℕ × List ℕ) (p : List ℕ) → f t p ≡ apply layout p (effect t)) → fold (λ p t. f t p) pixel ts ≡ fold (apply layout) pixel (map effect ts ++ [])
+mapped_effects layout effect f [] pixel is = refl
+mapped_effects layout effect f (t ∷ ts) pixel is =
+    ap (λ p. fold (λ p t. f t p) p ts) (is t pixel) ∙ mapped_effects layout effect f ts (apply layout pixel (effect t)) is
+
+-- a change of a point that is paired with one of a mask and with one of a source is the run of a command with that effect
+pub masked_effect : (layout : Layout) (to dest from source mask_from mask : Rectangle) (get get_mask : ℕ → ℕ → List ℕ) (f : List ℕ → List ℕ → List ℕ → List ℕ)
+    (effect : List ℕ → List ℕ → Effect) (x y : ℕ) (pixel : List ℕ) → ((m s p : List ℕ) → f m s p ≡ apply layout p (effect m s))
+    → where_masked to dest from source mask_from mask get get_mask f x y pixel
+    ≡ fold (apply layout) pixel (map (λ t. effect t.0 t.1) (zip (from_pair to dest mask_from mask get_mask x y) (from_pair to dest from source get x y)) ++ [])
+masked_effect layout to dest from source mask_from mask get get_mask f effect x y pixel is =
+    mapped_effects layout (λ t. effect t.0 t.1) (λ t. f t.0 t.1) (zip (from_pair to dest mask_from mask get_mask x y) (from_pair to dest from source get x y)) pixel (λ t p. is t.0 t.1 p)
+
+-- a change of such points is the run of a command with those effects
+pub changed_where_masked : {P S M : Type 0} (layout : Layout) (n : P → List ℕ) (s : S → List ℕ) (m : M → List ℕ) (old new : Image P) (to from : Rectangle) (src : Image S)
+    (mask_from : Rectangle) (mask : Image M) (f : List ℕ → List ℕ → List ℕ → List ℕ) (effect : List ℕ → List ℕ → Effect)
+    → Changed n old new (where_masked to (region_of old) from (region_of src) mask_from (region_of mask) (point s src) (point m mask) f)
+    → ((matte source p : List ℕ) → f matte source p ≡ apply layout p (effect matte source))
+    → Changed n old new (λ x y pixel. fold (apply layout) pixel (map (λ t. effect t.0 t.1) (zip (from_pair to (region_of old) mask_from (region_of mask) (point m mask) x y)
+    (from_pair to (region_of old) from (region_of src) (point s src) x y)) ++ []))
+changed_where_masked layout n s m old new to from src mask_from mask f effect changed is = record {
+  same_width = changed.same_width;
+  same_height = changed.same_height;
+  points = λ x y hx hy.
+      changed.points x y hx hy
+      ∙ masked_effect layout to (region_of old) from (region_of src) mask_from (region_of mask) (point s src) (point m mask) f effect x y (point n old x y) is;
 }
 
 -- the effects of two lists of commands, one after the other

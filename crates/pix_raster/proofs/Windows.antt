@@ -1,9 +1,10 @@
 -- Runs on a window of a picture.
-use Rattle.std.proofs.Common.{◌≡◌, ℕ, ◌<◌, ◌≤◌, ◌+◌, List, map, arith, ap, sym, ◌∙◌}
+use Rattle.std.proofs.Common.{ℕ, ◌<◌, ◌≤◌, ◌+◌, List, map, arith, refl, ap, sym, ◌∙◌}
 use Rattle.pix_el.specs.Pixel.{Layout}
 use Rattle.pix_raster.specs.Region.{limit, whole}
-use Rattle.pix_raster.specs.Image.{Image, Changed, point, region_of}
+use Rattle.pix_raster.specs.Image.{Image, Changed, region_of}
 use Rattle.pix_raster.specs.Run.{run_at}
+use Rattle.pix_raster.specs.Lent.{ChangedIn, largest}
 use Rattle.pix_raster.specs.Window.{IsPartOf, command_from}
 use Rattle.pix_raster.specs.declared.command.Command.{Command}
 use Rattle.pix_raster.proofs.Pictures.{run_in_picture}
@@ -54,3 +55,16 @@ module _ {P M : Type 0} (layout : Layout) (n : P → List ℕ) (m : M → List �
               ∙ ap (run_at layout n m (region_of before) cs (left + x) (top + y)) (part.points x y in_width in_height)
               ∙ sym (whole_run.points (left + x) (top + y) (omega arith) (omega arith));
         }
+
+-- what is painted in rows that follow one another, was done on an image
+pub ran_rows : {P M : Type 0} (layout : Layout) (n : P → List ℕ) (m : M → List ℕ) (left top : ℕ) (cs : List (Command P M)) (width height : ℕ) (before after : List P)
+    → left + width ≤ limit → top + height ≤ limit
+    → ChangedIn n (record { width = width; height = height; stride = width }) before after (λ x y. run_at layout n m largest cs (left + x) (top + y))
+    → RanIn layout n m left top cs (record { width = width; height = height; pixels = before }) (record { width = width; height = height; pixels = after })
+ran_rows layout n m left top cs width height before after across down painted = record {
+  same_width = refl;
+  same_height = refl;
+  points = λ x y lx ly.
+      painted.points x y lx ly
+      ∙ sym (run_in_picture layout n m cs (left + width) (top + height) limit limit (left + x) (top + y) _ across down across down (omega arith) (omega arith));
+}

@@ -1,5 +1,6 @@
 -- Images in memory that the caller owns: rows of pixels that lie a stride apart, and a change of them at each point.
 use Rattle.std.specs.Prelude.{◌≡◌, ◌≢◌, ℕ, pos, ◌+◌, ◌*◌, ◌<◌, ◌≤◌, List, [], map, fold, slice_index_or, if◌then◌else◌}
+use Rattle.std.specs.List.{zip}
 use Rattle.pix_raster.specs.Region.{Rectangle, limit, covers, whole}
 use Rattle.pix_raster.specs.Reach.{from_pair}
 use Rattle.pix_raster.specs.declared.lent.Shape.{Shape}
@@ -26,6 +27,10 @@ pub record IsWindow (window : Window) (count : ℕ) : Type 0 where
 abbrev pub picture : Window → Rectangle
 picture window = whole (window.left + window.shape.width) (window.top + window.shape.height)
 
+-- the largest picture
+abbrev pub largest : Rectangle
+largest = whole limit limit
+
 -- f at the point of the picture that lies at a point of the window
 abbrev pub in_window : {X : Type 0} → Window → (ℕ → ℕ → X) → ℕ → ℕ → X
 in_window window f x y = f (window.left + x) (window.top + y)
@@ -47,3 +52,10 @@ where_covered r f x y pixel = if covers r (pos x) (pos y) then f pixel else pixe
 -- f of what the source has at the point that a point is paired with and of what stands there, and what stands elsewhere
 abbrev pub where_paired : (to dest from source : Rectangle) → (ℕ → ℕ → List ℕ) → (List ℕ → List ℕ → List ℕ) → ℕ → ℕ → List ℕ → List ℕ
 where_paired to dest from source get f x y pixel = fold (λ p source. f source p) pixel (from_pair to dest from source get x y)
+
+-- f of what a mask and a source have at the points that a point is paired with and of what stands there, where it is paired in both, and what
+-- stands elsewhere
+abbrev pub where_masked : (to dest from source mask_from mask : Rectangle) → (get get_mask : ℕ → ℕ → List ℕ) → (List ℕ → List ℕ → List ℕ → List ℕ)
+    → ℕ → ℕ → List ℕ → List ℕ
+where_masked to dest from source mask_from mask get get_mask f x y pixel =
+    fold (λ p t. f t.0 t.1 p) pixel (zip (from_pair to dest mask_from mask get_mask x y) (from_pair to dest from source get x y))

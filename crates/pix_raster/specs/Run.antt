@@ -1,5 +1,6 @@
 -- The run of a list of commands at one point.
-use Rattle.std.specs.Prelude.{◌≡◌, ◌<◌, ◌⊎◌, ℕ, pos, List, [], ◌∷◌, ◌++◌, fold, replicate, if◌then◌else◌}
+use Rattle.std.specs.Prelude.{◌≡◌, ◌<◌, ◌⊎◌, ℕ, pos, Bool, true, false, List, [], ◌∷◌, ◌++◌, map, fold, replicate, if◌then◌else◌}
+use Rattle.std.specs.List.{zip}
 use Rattle.pix_ops.specs.declared.ops.Op.{Op}
 use Rattle.pix_ops.specs.declared.ops.Op.TheVariants.{Src}
 use Rattle.pix_el.specs.Pixel.{Layout}
@@ -18,8 +19,9 @@ pub data Effect : Type 0 where
   Composited : (op : Op) (source : List ℕ) → Effect
   Matted : (op : Op) (matte source : List ℕ) → Effect
 
--- the effect of a command at the point (x, y) of a destination, none where it does not reach the point;
--- `numbers` reads a pixel, and `mattes` a pixel of a raster of mattes
+-- The effect of a command at the point (x, y) of a destination, none where it does not reach the point;
+-- `numbers` reads a pixel, and `mattes` a pixel of a raster of mattes. An image is composited through a mask where the point is paired
+-- with a point of the mask and with one of the image, and an opacity is a matte of that value at each of them.
 abbrev pub effect_at : {P M : Type 0} → (P → List ℕ) → (M → List ℕ) → Rectangle → Command P M → ℕ → ℕ → List Effect
 effect_at numbers mattes dest commands.Clear x y = Cleared ∷ []
 effect_at numbers mattes dest (commands.CopyColor reg clr) x y = if covers reg (pos x) (pos y) then Copied (numbers clr) ∷ [] else []
@@ -30,6 +32,11 @@ effect_at numbers mattes dest (commands.Raster to src from op) x y =
     from_pair to dest from (region_of src.now) (λ a b. Composited op (point numbers src.now a b)) x y
 effect_at numbers mattes dest (commands.Matte to src from clr op) x y =
     from_pair to dest from (region_of src.now) (λ a b. Matted op (point mattes src.now a b) (numbers clr)) x y
+effect_at numbers mattes dest (commands.RasterMatte to src from mask mask_from op) x y =
+    map (λ t. Matted op t.0 t.1) (zip (from_pair to dest mask_from (region_of mask.now) (point mattes mask.now) x y)
+    (from_pair to dest from (region_of src.now) (point numbers src.now) x y))
+effect_at numbers mattes dest (commands.RasterAlpha to src from alpha op) x y =
+    from_pair to dest from (region_of src.now) (λ a b. Matted op (mattes alpha) (point numbers src.now a b)) x y
 
 -- the effects of just those commands that reach the point, in their order
 abbrev pub effects_at : {P M : Type 0} → (P → List ℕ) → (M → List ℕ) → Rectangle → List (Command P M) → ℕ → ℕ → List Effect
@@ -52,11 +59,20 @@ abbrev pub op_of : {P M : Type 0} → Command P M → Op
 op_of (commands.Color reg clr op) = op
 op_of (commands.Raster to src from op) = op
 op_of (commands.Matte to src from clr op) = op
+op_of (commands.RasterMatte to src from mask mask_from op) = op
+op_of (commands.RasterAlpha to src from alpha op) = op
 op_of command = Src
 
 -- the same for one command that takes no mattes
 abbrev pub done_at : {P : Type 0} → Layout → (P → List ℕ) → Rectangle → Command P P → ℕ → ℕ → List ℕ → List ℕ
 done_at layout numbers dest command = run_at layout numbers numbers dest (command ∷ [])
+
+-- whether a command composites through mattes, or at an opacity
+abbrev pub is_masked : {P M : Type 0} → Command P M → Bool
+is_masked (commands.Matte to src from clr op) = true
+is_masked (commands.RasterMatte to src from mask mask_from op) = true
+is_masked (commands.RasterAlpha to src from alpha op) = true
+is_masked command = false
 
 -- the two commands are disjoint: they reach no common point of the image
 abbrev pub AreDisjoint : {P M : Type 0} → (P → List ℕ) → (M → List ℕ) → Image P → Command P M → Command P M → Type 0

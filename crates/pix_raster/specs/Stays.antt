@@ -1,6 +1,8 @@
 -- Transparent sources over a pixel: it stays.
-use Rattle.std.specs.Prelude.{◌≡◌, ℕ, ◌<◌, List, All}
+use Rattle.std.specs.Prelude.{◌≡◌, ℕ, ◌<◌, Bool, true, false, List, All}
+use Rattle.pix_ops.specs.declared.ops.Op.{Op}
 use Rattle.pix_ops.specs.declared.ops.Op.TheVariants.{SrcOver}
+use Rattle.pix_ops.specs.Operators.{Coefficient, Zero, One, Alpha, OneMinusAlpha, row}
 use Rattle.pix_el.specs.Pixel.{Layout}
 use Rattle.pix_el.specs.Transparent.{IsTransparent, IsUnchanged}
 use Rattle.pix_raster.specs.Image.{Image, point, region_of}
@@ -19,3 +21,14 @@ abbrev pub StaysUnderTransparent : {P M : Type 0} → Layout → (P → List ℕ
 StaysUnderTransparent layout numbers mattes commands old new =
     (x y : ℕ) → x < old.width → y < old.height → All (IsTransparentOver layout) (effects_at numbers mattes (region_of old) commands x y)
     → IsUnchanged layout (point numbers old x y) (point numbers new x y)
+
+-- whether a coefficient is one where the other side's alpha is 0
+abbrev pub is_one_at_none : Coefficient → Bool
+is_one_at_none Zero = false
+is_one_at_none One = true
+is_one_at_none Alpha = false
+is_one_at_none OneMinusAlpha = true
+
+-- whether an operator keeps a pixel under a transparent source: by the destination's coefficient
+abbrev pub keeps_under : Op → Bool
+keeps_under op = is_one_at_none (row op).dest

@@ -23,3 +23,5 @@ command_from left top (commands.CopyRaster to src from) = commands.CopyRaster (s
 command_from left top (commands.Color reg clr op) = commands.Color (seen_from left top reg) clr op
 command_from left top (commands.Raster to src from op) = commands.Raster (seen_from left top to) src from op
 command_from left top (commands.Matte to src from clr op) = commands.Matte (seen_from left top to) src from clr op
+command_from left top (commands.RasterMatte to src from mask mask_from op) = commands.RasterMatte (seen_from left top to) src from mask mask_from op
+command_from left top (commands.RasterAlpha to src from alpha op) = commands.RasterAlpha (seen_from left top to) src from alpha op

@@ -73,6 +73,34 @@ pub enum Command<'a, P, M> {
         /// The operator.
         op: Op,
     },
+    /// Composites a region of another raster through a region of a raster of mattes, as [`Raster::composite_raster_matte`] does.
+    RasterMatte {
+        /// The region of the destination.
+        to: Region,
+        /// The source.
+        src: &'a Raster<P>,
+        /// The region of the source.
+        from: Region,
+        /// The coverage masks.
+        mask: &'a Raster<M>,
+        /// The region of the coverage masks.
+        mask_from: Region,
+        /// The operator.
+        op: Op,
+    },
+    /// Composites a region of another raster at one opacity, as [`Raster::composite_raster_alpha`] does.
+    RasterAlpha {
+        /// The region of the destination.
+        to: Region,
+        /// The source.
+        src: &'a Raster<P>,
+        /// The region of the source.
+        from: Region,
+        /// The opacity, as a coverage mask.
+        alpha: M,
+        /// The operator.
+        op: Op,
+    },
 }
 
 impl<'a, P, M> Command<'a, P, M> {
@@ -81,9 +109,25 @@ impl<'a, P, M> Command<'a, P, M> {
         ensures { result ≡ op_of self.now }
     {
         match self {
-            Command::Color { op, .. } | Command::Raster { op, .. } | Command::Matte { op, .. } =>
-                *op,
+            Command::Color { op, .. }
+            | Command::Raster { op, .. }
+            | Command::Matte { op, .. }
+            | Command::RasterMatte { op, .. }
+            | Command::RasterAlpha { op, .. } => *op,
             _ => Op::Src,
+        }
+    }
+
+    /// Returns the region of the destination, all points of any raster for a clear.
+    pub(crate) fn reach(&self) -> Region {
+        match self {
+            Command::CopyColor { reg, .. } | Command::Color { reg, .. } => *reg,
+            Command::CopyRaster { to, .. }
+            | Command::Raster { to, .. }
+            | Command::Matte { to, .. }
+            | Command::RasterMatte { to, .. }
+            | Command::RasterAlpha { to, .. } => *to,
+            _ => Region::new(0, 0, 2147483647, 2147483647),
         }
     }
 }

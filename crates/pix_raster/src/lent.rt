@@ -8,6 +8,10 @@ ghost use Rattle.pix_raster.specs.Clip.{where_in};
 use crate::clip::{ClippedRect, Overlap};
 use crate::region::Region;
 
+mod masked;
+
+pub use masked::{MaskedBlit, Source, blit_masked};
+
 /// The size of an image in points, and how many pixels its rows lie apart.
 #[derive(Clone, Copy, Debug, PartialEq, Eq)]
 pub struct Shape {
@@ -79,6 +83,42 @@ pub trait Blit<D, S> {
         ensures { map reads row.new ≡ over (makes self.now) (map source_reads src.now)
             (map reads row.old) };
 }
+
+/// What is painted on windows of a picture, such as a list of commands.
+///
+/// What becomes of a point depends on where it lies in the picture and on what stood there, and not on the window that is painted.
+pub trait Painting<D> {
+    /// What it needs.
+    ghost can_paint: { Self → Type 0 };
+
+    /// How a pixel is read.
+    ghost reads: { D → List ℕ };
+
+    /// What it makes of the picture's point (x, y) and of what stood there.
+    ghost makes: { Self → ℕ → ℕ → List ℕ → List ℕ };
+
+    /// Returns how many commands it has. Only speed depends on it.
+    fn commands(&self) -> usize;
+
+    /// Returns how many points of a window its commands reach, each counted as often as a command reaches it. Only speed depends on it.
+    fn reached(&self, window: Window) -> usize
+        requires across { window.left + window.shape.width ≤ limit }
+        requires down { window.top + window.shape.height ≤ limit };
+
+    /// Paints a window. What lies between its rows and after them stays.
+    fn paint(&self, pixels: &mut [D], window: Window)
+        requires can_paint { can_paint self.now }
+        requires fits { IsWindow window (length pixels.old) }
+        ensures { ChangedIn reads window.shape pixels.old pixels.new
+            (in_window window (makes self.now)) };
+}
+
+/// How many pixels a band of [`paint_by_bands`] has, or less: in any format of 8 or 16 bits at most 256 KB.
+const BAND: u32 = 32768;
+
+/// How many points of a band a command has to reach, on the average of a list, that bands take no longer than the list done command by
+/// command: where it reaches none of a band, it takes as long to find that out.
+const POINTS: usize = 128;
 
 /// Changes each point of `reg`, clipped to the image of that shape. No other pixel changes.
 ///
@@ -176,6 +216,71 @@ pub fn blit_window<D, S, B: Blit<D, S>>(
         let overlap = overlap.seen_from(window.left, window.top);
         blit_rows(pixels, shape.stride, src, src_shape.stride, overlap, change);
     }
+}
+
+/// Paints a window band by band: as many whole rows as the nearest cache holds, by all commands, before the next. It is the painting of
+/// the window at once, and where there is more than the cache holds it takes less time.
+///
+/// Condition: `window` and its shape are as the docs of their fields say, its rows lie in `pixels`, and `work` can be painted.
+pub fn paint_by_bands<D, W: Painting<D>>(pixels: &mut [D], window: Window, work: &W)
+    requires can_paint { W.can_paint work.now }
+    requires fits { IsWindow window (length pixels.old) }
+    ensures { ChangedIn W.reads window.shape pixels.old pixels.new
+        (in_window window (W.makes work.now)) }
+{
+    let Shape {
+        width,
+        height,
+        stride,
+    } = window.shape;
+    let rows = band_rows(window, work);
+    let mut first = 0;
+    while first < height {
+        let height = rows.min(height - first);
+        let band = Window {
+            left: window.left,
+            top: window.top + first,
+            shape: Shape {
+                width,
+                height,
+                stride,
+            },
+        };
+        work.paint(&mut pixels[first as usize * stride..], band);
+        first += height;
+    }
+}
+
+/// Returns how many rows of a window are painted at a time, at least one.
+fn band_rows<D, W: Painting<D>>(window: Window, work: &W) -> u32
+    requires across { window.left + window.shape.width ≤ limit }
+    requires down { window.top + window.shape.height ≤ limit }
+    ensures { 0 < result }
+{
+    let shape = window.shape;
+    let rows = (BAND / shape.width.max(1)).max(1);
+    let commands = work.commands();
+    if rows < shape.height && commands > 1 {
+        let bands = (shape.height / rows) as usize;
+        if work.reached(window) / POINTS >= commands.saturating_mul(bands) {
+            return rows;
+        }
+    }
+    shape.height.max(1)
+}
+
+/// Returns how many points of `reg`, a region of the picture, lie in the window.
+///
+/// Condition: `window` and its shape are as the docs of their fields say.
+pub fn points_in(window: Window, reg: Region) -> usize
+    requires across { window.left + window.shape.width ≤ limit }
+    requires down { window.top + window.shape.height ≤ limit }
+{
+    let right = window.left + window.shape.width;
+    let bottom = window.top + window.shape.height;
+    let there = ClippedRect::new(reg, right, bottom).seen_from(window.left, window.top);
+    let columns = there.columns.end - there.columns.start;
+    columns.saturating_mul(there.rows.end - there.rows.start)
 }
 
 /// Changes the pixels of a clipped rectangle of rows that lie `stride` pixels apart.

@@ -1,4 +1,4 @@
-//! The C interface of the library `pix`: the ten functions of `libpix_c.a` and the types that cross to it.
+//! The C interface of the library `pix`: the functions of `libpix_c.a` and the types that cross to it.
 //!
 //! `bindings/c/pix.h` documents it. Programs in Rust use the crate `pix` above this one, which is safe. One that calls
 //! these functions asks [`check_library`] first whether the processor and the archive are the right ones.
@@ -56,6 +56,37 @@ impl Graya8 {
     }
 }
 
+/// Red, green and blue of 8 bits in sRGB: an entry of a table, or a pixel.
+#[repr(C)]
+#[derive(Clone, Copy, Debug, Default, PartialEq, Eq, Hash)]
+pub struct Srgb8 {
+    pub r: u8,
+    pub g: u8,
+    pub b: u8,
+}
+
+impl Srgb8 {
+    pub const fn new(r: u8, g: u8, b: u8) -> Srgb8 {
+        Srgb8 { r, g, b }
+    }
+}
+
+/// Red, green, blue and alpha of 8 bits in sRGB, not multiplied by the alpha.
+#[repr(C)]
+#[derive(Clone, Copy, Debug, Default, PartialEq, Eq, Hash)]
+pub struct Srgba8 {
+    pub r: u8,
+    pub g: u8,
+    pub b: u8,
+    pub a: u8,
+}
+
+impl Srgba8 {
+    pub const fn new(r: u8, g: u8, b: u8, a: u8) -> Srgba8 {
+        Srgba8 { r, g, b, a }
+    }
+}
+
 /// A rectangle of points, anywhere; a side of at most 2147483647 is accepted.
 #[repr(C)]
 #[derive(Clone, Copy, Debug, Default, PartialEq, Eq, Hash)]
@@ -93,6 +124,11 @@ pub struct Command<P, M> {
     pub width: u32,
     pub height: u32,
     pub stride: u32,
+    pub mask: Region,
+    pub mask_width: u32,
+    pub mask_height: u32,
+    pub mask_stride: u32,
+    pub alpha: M,
 }
 
 /// Kinds of commands.
@@ -103,6 +139,8 @@ pub mod kind {
     pub const COMPOSITE_COLOR: u32 = 3;
     pub const COMPOSITE_IMAGE: u32 = 4;
     pub const COMPOSITE_MATTE: u32 = 5;
+    pub const COMPOSITE_IMAGE_MATTE: u32 = 6;
+    pub const COMPOSITE_IMAGE_ALPHA: u32 = 7;
 }
 
 /// What the functions answer.
@@ -115,6 +153,9 @@ pub mod status {
     pub const BAD_SOURCE: u32 = 5;
     pub const BAD_FORMAT: u32 = 6;
     pub const BAD_LENGTH: u32 = 7;
+    pub const BAD_TABLE: u32 = 11;
+    pub const BAD_INDEX: u32 = 12;
+    pub const BAD_DEPTH: u32 = 13;
 }
 
 /// A function that runs commands on pixels `P` with mattes `M`.
@@ -249,6 +290,101 @@ unsafe extern "C" {
         done: *mut usize,
     ) -> u32;
 
+    /// Writes the index of the entry of a table that is nearest to a color.
+    ///
+    /// # Safety
+    ///
+    /// The pointers are valid for their counts and not null. What is written shares no byte with what is read, and nothing
+    /// else reads or writes it during the call.
+    pub fn pix_table_nearest(
+        entries: *const Srgb8,
+        len: usize,
+        color: *const Srgb8,
+        index: *mut u8,
+    ) -> u32;
+
+    /// Writes the index of the nearest entry of each pixel.
+    ///
+    /// # Safety
+    ///
+    /// As `pix_table_nearest`.
+    pub fn pix_table_match(
+        entries: *const Srgb8,
+        len: usize,
+        pixels: *const Srgb8,
+        pixel_count: usize,
+        indices: *mut u8,
+        index_count: usize,
+    ) -> u32;
+
+    /// The same of pixels with an alpha: one below `alpha` has the index `kept`.
+    ///
+    /// # Safety
+    ///
+    /// As `pix_table_nearest`.
+    pub fn pix_table_match_alpha(
+        entries: *const Srgb8,
+        len: usize,
+        pixels: *const Srgba8,
+        pixel_count: usize,
+        alpha: u8,
+        kept: u8,
+        indices: *mut u8,
+        index_count: usize,
+    ) -> u32;
+
+    /// Writes the entry of each index.
+    ///
+    /// # Safety
+    ///
+    /// As `pix_table_nearest`.
+    pub fn pix_table_look_up(
+        entries: *const Srgb8,
+        len: usize,
+        indices: *const u8,
+        index_count: usize,
+        pixels: *mut Srgb8,
+        pixel_count: usize,
+    ) -> u32;
+
+    /// Writes how often each number below `len` stands among the indices.
+    ///
+    /// # Safety
+    ///
+    /// As `pix_table_nearest`.
+    pub fn pix_table_count(
+        indices: *const u8,
+        index_count: usize,
+        counts: *mut usize,
+        len: usize,
+    ) -> u32;
+
+    /// Packs a row of indices into bytes.
+    ///
+    /// # Safety
+    ///
+    /// As `pix_table_nearest`.
+    pub fn pix_table_pack(
+        bits: u32,
+        indices: *const u8,
+        index_count: usize,
+        bytes: *mut u8,
+        byte_count: usize,
+    ) -> u32;
+
+    /// Unpacks a row of indices from bytes.
+    ///
+    /// # Safety
+    ///
+    /// As `pix_table_nearest`.
+    pub fn pix_table_unpack(
+        bits: u32,
+        bytes: *const u8,
+        byte_count: usize,
+        indices: *mut u8,
+        index_count: usize,
+    ) -> u32;
+
     /// Converts `count` pixels from a format to another one.
     ///
     /// # Safety
@@ -297,15 +433,15 @@ pub const ABI_VERSION: u32 = 1;
 
 /// What [`pix_layout`] answers, from 0 on: the version; the sizes of the three kinds of pixels and of a region, and the
 /// offsets of its fields; the size of the command of each kind, and the offsets of its fields.
-pub const FACTS: [u32; 48] = facts();
+pub const FACTS: [u32; 63] = facts();
 
-const fn facts() -> [u32; 48] {
+const fn facts() -> [u32; 63] {
     let (four, wide, gray) = (
         command_facts::<Rgba8, u8>(),
         command_facts::<Rgba16, u16>(),
         command_facts::<Graya8, u8>(),
     );
-    let mut all = [ABI_VERSION; 48];
+    let mut all = [ABI_VERSION; 63];
     all[1] = size_of::<Rgba8>() as u32;
     all[2] = size_of::<Rgba16>() as u32;
     all[3] = size_of::<Graya8>() as u32;
@@ -315,17 +451,17 @@ const fn facts() -> [u32; 48] {
     all[7] = offset_of!(Region, width) as u32;
     all[8] = offset_of!(Region, height) as u32;
     let mut i = 0;
-    while i < 13 {
+    while i < 18 {
         all[9 + i] = four[i] as u32;
-        all[22 + i] = wide[i] as u32;
-        all[35 + i] = gray[i] as u32;
+        all[27 + i] = wide[i] as u32;
+        all[45 + i] = gray[i] as u32;
         i += 1;
     }
     all
 }
 
 /// The size of a command and the offsets of its fields.
-const fn command_facts<P, M>() -> [usize; 13] {
+const fn command_facts<P, M>() -> [usize; 18] {
     [
         size_of::<Command<P, M>>(),
         offset_of!(Command<P, M>, kind),
@@ -340,6 +476,11 @@ const fn command_facts<P, M>() -> [usize; 13] {
         offset_of!(Command<P, M>, width),
         offset_of!(Command<P, M>, height),
         offset_of!(Command<P, M>, stride),
+        offset_of!(Command<P, M>, mask),
+        offset_of!(Command<P, M>, mask_width),
+        offset_of!(Command<P, M>, mask_height),
+        offset_of!(Command<P, M>, mask_stride),
+        offset_of!(Command<P, M>, alpha),
     ]
 }
 
@@ -366,7 +507,12 @@ const fn is_laid_out<P, M>() -> bool {
         && offset_of!(Command<P, M>, width) == sizes
         && offset_of!(Command<P, M>, height) == sizes + 4
         && offset_of!(Command<P, M>, stride) == sizes + 8
-        && size_of::<Command<P, M>>() == (sizes + 12).next_multiple_of(word)
+        && offset_of!(Command<P, M>, mask) == sizes + 12
+        && offset_of!(Command<P, M>, mask_width) == sizes + 28
+        && offset_of!(Command<P, M>, mask_height) == sizes + 32
+        && offset_of!(Command<P, M>, mask_stride) == sizes + 36
+        && offset_of!(Command<P, M>, alpha) == sizes + 40
+        && size_of::<Command<P, M>>() == (sizes + 42).next_multiple_of(word)
 }
 
 const _: () = assert!(is_laid_out::<Rgba8, u8>() && size_of::<Rgba8>() == 4);

@@ -20,6 +20,11 @@ fn command(kind: u32) -> Command<Rgba8, u8> {
         width: 2,
         height: 1,
         stride: 2,
+        mask: WHOLE,
+        mask_width: 2,
+        mask_height: 1,
+        mask_stride: 2,
+        alpha: 51,
     }
 }
 
@@ -55,7 +60,7 @@ fn statuses_are_those_of_the_archive() {
     let good = command(kind::COPY_IMAGE);
     assert_eq!(run(2, good), (status::OK, [1, 4]));
     assert_eq!(run(3, good), untouched(status::BAD_SIZE));
-    assert_eq!(run(2, command(6)), untouched(status::BAD_KIND));
+    assert_eq!(run(2, command(8)), untouched(status::BAD_KIND));
     let mut wrong = good;
     wrong.to.width = 1 << 31;
     assert_eq!(run(2, wrong), untouched(status::BAD_REGION));
@@ -79,6 +84,8 @@ fn kinds_are_those_of_the_archive() {
     assert_eq!(reds(kind::COMPOSITE_COLOR), [109, 109]);
     assert_eq!(reds(kind::COMPOSITE_IMAGE), [101, 104]);
     assert_eq!(reds(kind::COMPOSITE_MATTE), [109, 100]);
+    assert_eq!(reds(kind::COMPOSITE_IMAGE_MATTE), [101, 100]);
+    assert_eq!(reds(kind::COMPOSITE_IMAGE_ALPHA), [100, 101]);
 }
 
 #[test]

@@ -122,6 +122,41 @@ impl<'a, P: Pixel> Command<'a, P> {
         command.with_size(matte, from)
     }
 
+    /// Composites the pixels of `from` in a source, multiplied by the values of `mask_from` in a mask, with those of `to`:
+    /// soft edges. All three corners are paired, and a point is changed where all three regions and all of image, source
+    /// and mask have it.
+    pub fn composite_image_matte(
+        to: Region,
+        source: Image<'a, P>,
+        from: Region,
+        mask: Image<'a, P::Matte>,
+        mask_from: Region,
+        op: Op,
+    ) -> Command<'a, P> {
+        let mut command = Command::plain(kind::COMPOSITE_IMAGE_MATTE, op, to, P::default());
+        command.raw.mattes = mask.pixels.as_ptr();
+        command.raw.matte_count = mask.pixels.len();
+        command.raw.mask = mask_from;
+        command.raw.mask_width = mask.width;
+        command.raw.mask_height = mask.height;
+        command.raw.mask_stride = mask.stride;
+        command.with_pixels(source, from)
+    }
+
+    /// Composites the pixels of `from` in a source, multiplied by `alpha`, with those of `to`: a fade. At the maximum it is
+    /// [`Command::composite_image`].
+    pub fn composite_image_alpha(
+        to: Region,
+        source: Image<'a, P>,
+        from: Region,
+        alpha: P::Matte,
+        op: Op,
+    ) -> Command<'a, P> {
+        let mut command = Command::plain(kind::COMPOSITE_IMAGE_ALPHA, op, to, P::default());
+        command.raw.alpha = alpha;
+        command.with_pixels(source, from)
+    }
+
     /// A command without a source.
     fn plain(kind: u32, op: Op, to: Region, color: P) -> Command<'a, P> {
         let raw = pix_sys::Command {
@@ -137,6 +172,11 @@ impl<'a, P: Pixel> Command<'a, P> {
             width: 0,
             height: 0,
             stride: 0,
+            mask: Region::default(),
+            mask_width: 0,
+            mask_height: 0,
+            mask_stride: 0,
+            alpha: P::Matte::default(),
         };
         Command {
             raw,

@@ -19,6 +19,10 @@ pub enum Error {
     Format,
     /// The bytes to convert, or those to write, are not those of so many whole pixels.
     Length,
+    /// A table of colors has no entry, or more than 256.
+    Table,
+    /// An index is past the end of a table or of the counts, or takes more bits than it is to have.
+    Index,
     /// The processor is none of x86-64 with SSE4.1, and none of aarch64.
     Processor,
     /// The archive has another version or layout than the crate `pix-sys`.
@@ -36,6 +40,8 @@ impl Error {
             status::BAD_SOURCE => Error::Source { index },
             status::BAD_FORMAT => Error::Format,
             status::BAD_LENGTH => Error::Length,
+            status::BAD_TABLE => Error::Table,
+            status::BAD_INDEX => Error::Index,
             _ => Error::Unknown { status, index },
         }
     }
@@ -65,6 +71,10 @@ impl fmt::Display for Error {
             }
             Error::Format => f.write_str("in place, a pixel would be larger"),
             Error::Length => f.write_str("the bytes are not those of so many pixels"),
+            Error::Table => f.write_str("a table has no entry, or more than 256"),
+            Error::Index => {
+                f.write_str("an index is past the end, or takes more bits than it is to have")
+            }
             Error::Processor => LibraryFault::Processor.fmt(f),
             Error::Library => LibraryFault::Archive.fmt(f),
             Error::Unknown { status, index } => write!(f, "command {index}: status {status}"),

@@ -33,6 +33,7 @@ mod error;
 mod format;
 mod image;
 mod pixel;
+mod table;
 
 pub use crate::bitmap::{Bitmap, BitmapMut};
 pub use crate::command::{Command, Op};
@@ -40,3 +41,6 @@ pub use crate::error::Error;
 pub use crate::format::{Format, convert};
 pub use crate::image::{Bands, Image, ImageMut};
 pub use crate::pixel::{Graya8, Pixel, Region, Rgba8, Rgba16, bytes, bytes_mut};
+pub use crate::table::{
+    IndexDepth, Srgb8, Srgba8, Table, count_indices, pack_row, unpack_row,
+};

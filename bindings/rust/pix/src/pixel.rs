@@ -8,7 +8,7 @@ pub use pix_sys::{Graya8, Region, Rgba8, Rgba16};
 /// A pixel that can be composited: [`Rgba8`], [`Rgba16`] or [`Graya8`]. This trait is sealed.
 pub trait Pixel: Copy + Default + private::Calls<Self::Matte> {
     /// A value of a mask, from 0 (none of the color is composited) to the maximum (all of it).
-    type Matte: Copy;
+    type Matte: Copy + Default;
 
     /// The format of such pixels in a bitmap.
     const FORMAT: Format;

@@ -199,6 +199,45 @@ fn operators_are_those_of_their_names() {
 }
 
 #[test]
+fn masks_and_opacities() {
+    let (pixel, below) = (Rgba8::new(200, 100, 0, 200), Rgba8::new(0, 0, 100, 255));
+    let (faded, kept) = (Rgba8::new(100, 50, 61, 255), Rgba8::new(200, 100, 22, 255));
+    let whole = Region::new(0, 0, 3, 1);
+    let sources = [pixel; 3];
+    let source = Image::new(&sources, 3, 1);
+    let mut pixels = [below; 3];
+    let list = [Command::composite_image_alpha(
+        Region::new(0, 0, 1, 1),
+        source,
+        whole,
+        128,
+        Op::SrcOver,
+    )];
+    assert_eq!(ImageMut::new(&mut pixels, 3, 1).run(&list), Ok(()));
+    assert_eq!(pixels, [faded, below, below]);
+    pixels = [below; 3];
+    let mask = Image::new(&[9, 9, 9, 128, 0, 255], 3, 2);
+    let second = Region::new(0, 1, 3, 1);
+    let list = [Command::composite_image_matte(
+        whole,
+        source,
+        whole,
+        mask,
+        second,
+        Op::SrcOver,
+    )];
+    assert_eq!(ImageMut::new(&mut pixels, 3, 1).run(&list), Ok(()));
+    assert_eq!(pixels, [faded, below, kept]);
+    let short = Image::new(&[255; 5], 3, 2);
+    let command =
+        Command::composite_image_matte(whole, source, whole, short, whole, Op::SrcOver);
+    assert_eq!(
+        ImageMut::new(&mut pixels, 3, 1).run(&[command]),
+        Err(Error::Source { index: 0 })
+    );
+}
+
+#[test]
 fn wide_and_gray_pixels() {
     let whole = Region::new(0, 0, 2, 1);
     let mut wide = [Rgba16::new(1000, 2000, 3000, 65535); 2];

@@ -5,6 +5,7 @@ ghost use Rattle.pix_el.specs.PixelComposite.{pixel_composite, matted_composite}
 
 use crate::el::Pixel;
 use crate::planes::coverage::Coverage;
+use crate::planes::kept::{are_clear, keeps_all, keeps_under_clear, see_channels};
 use pix_ops::ops::Blend;
 
 /// A way to composite the pixels of a format by blocks of one size.
@@ -91,9 +92,36 @@ pub(super) fn color_blocks<O: Blend, P: Pixel, B: Block<P>>(dst: &mut [P], clr: 
     count / size * size
 }
 
+/// Composites `clr` with each pixel of a block through the matte of the same index. A block is passed over where the operator keeps any
+/// pixel, and where it keeps those that a transparent source is composited with and all mattes are 0.
+///
+/// Condition: the format has an alpha channel.
+#[inline(always)]
+fn matted_block<O: Blend, P: Pixel, S: Coverage<P::Chan>, B: Block<P>>(
+    dst: &mut [P],
+    src: &[S],
+    clr: &P,
+)
+    requires has_alpha { P.layout.count ≡ P.layout.alpha + 1 }
+    requires suits { B.suits }
+    requires size { length dst.old ≡ B.SIZE }
+    requires src_size { length src.now ≡ B.SIZE }
+    ensures { map P.numbers dst.new ≡
+        over (λ m. matted_composite P.layout O.op m (P.numbers clr.now))
+        (map S.value src.now) (map P.numbers dst.old) }
+{
+    if keeps_all::<O, P::Chan>() {
+        see_channels(dst);
+    } else if keeps_under_clear::<O, P::Chan>() && are_clear::<P::Chan, S>(src) {
+        see_channels(dst);
+    } else {
+        B::matted::<O, S>(dst, src, clr);
+    }
+}
+
 /// Composites `clr` through mattes with as many of the first `count` pixels as go by whole blocks, and returns how many these are.
 ///
-/// Condition: both slices have `count` elements.
+/// Condition: the format has an alpha channel, and both slices have `count` elements.
 #[inline(always)]
 pub(super) fn matte_blocks<O: Blend, P: Pixel, S: Coverage<P::Chan>, B: Block<P>>(
     dst: &mut [P],
@@ -101,6 +129,7 @@ pub(super) fn matte_blocks<O: Blend, P: Pixel, S: Coverage<P::Chan>, B: Block<P>
     clr: &P,
     count: usize,
 ) -> usize
+    requires has_alpha { P.layout.count ≡ P.layout.alpha + 1 }
     requires suits { B.suits }
     requires dst_has { count ≤ length dst.old }
     requires src_has { count ≤ length src.now }
@@ -113,7 +142,7 @@ pub(super) fn matte_blocks<O: Blend, P: Pixel, S: Coverage<P::Chan>, B: Block<P>
     let size = B::SIZE;
     for i in 0..count / size {
         let at = size * i;
-        B::matted::<O, S>(&mut dst[at..at + size], &src[at..at + size], &color);
+        matted_block::<O, P, S, B>(&mut dst[at..at + size], &src[at..at + size], &color);
     }
     count / size * size
 }

@@ -99,7 +99,7 @@ pub(super) fn composited<O: Blend, P: Pixel>(
 ///
 /// Condition: the alpha is the last channel, and none is a hue.
 #[inline(always)]
-fn composite_four<O: Blend, P: Pixel>(dst: &mut [P], src: [P::Chan; 16])
+pub(super) fn composite_four<O: Blend, P: Pixel>(dst: &mut [P], src: [P::Chan; 16])
     requires count { P.layout.count ≡ 4 }
     requires alpha { P.layout.alpha ≡ 3 }
     requires no_hue { P.layout.hues.end ≡ 0 }

@@ -1,21 +1,25 @@
 //! Changes of a raster: clears, copies, composites, and runs of them.
-ghost use Rattle.std.specs.Prelude.{◌≡◌, ℕ, List, length, ◌+◌, ◌∷◌, []};
-ghost use Rattle.pix_el.specs.PixelComposite.{matte_numbers};
+ghost use Rattle.std.specs.Prelude.{◌≡◌, ℕ, ℤ, ◌<◌, IsTrue, true, List, length, ◌+◌, ◌∷◌, []};
+ghost use Rattle.pix_el.specs.PixelComposite.{matte_numbers, matte_value};
+ghost use Rattle.pix_el.specs.Transparent.{IsUnchanged};
 ghost use Rattle.pix_raster.specs.Image.{point, region_of, Changed};
 ghost use Rattle.pix_raster.specs.Run.{run_at, done_at, op_of, HasSwappedNeighbours};
 ghost use Rattle.pix_ops.specs.ExactRun.{IsWithinBudget, IsWithinPremultipliedBound, HasSmallBudget};
 ghost use Rattle.pix_raster.specs.Bounds.{OfEachChannel};
 ghost use Rattle.pix_raster.specs.Kept.{KeepsPremultiplied};
-ghost use Rattle.pix_raster.specs.Stays.{StaysUnderTransparent};
-ghost use Rattle.pix_raster.specs.Lent.{IsShaped, where_covered, where_paired};
+ghost use Rattle.pix_raster.specs.Stays.{StaysUnderTransparent, keeps_under};
+ghost use Rattle.pix_raster.specs.Reach.{is_paired};
+ghost use Rattle.pix_raster.specs.Lent.{IsShaped, where_covered, where_paired, where_masked};
 ghost use Rattle.pix_raster.specs.declared.command.Command.{Command};
 
 use super::Raster;
 use super::row_change::{
-    CompositedColor, CompositedPixels, CopiedColor, CopiedPixels, MattedColor,
+    CompositedColor, CompositedPixels, CopiedColor, CopiedPixels, FadedPixels, MattedColor,
+    MattedPixels,
 };
+use super::window::masked_from;
 use crate::command::Command;
-use crate::lent::{self, Blit, Fill, Shape};
+use crate::lent::{self, Blit, Fill, MaskedBlit, Shape, Window};
 use crate::region::Region;
 use pix_chan::chan::{Alpha, Linear, Premultiplied};
 use pix_el::el::{Pix, Pixel};
@@ -127,6 +131,41 @@ impl<P> Raster<P> {
     }
 }
 
+impl<P> Raster<P> {
+    /// Changes each point of the overlap of three regions by its point of the source and its matte.
+    fn blit_masked<S, M, B: MaskedBlit<P, S, M>>(
+        &mut self,
+        to: Region,
+        src: &Raster<S>,
+        from: Region,
+        mask: &Raster<M>,
+        mask_from: Region,
+        change: &B,
+    )
+        requires { B.can_blit }
+        ensures { Changed B.reads self.old self.new (where_masked to
+            (region_of self.old) from (region_of src.now) mask_from (region_of mask.now)
+            (point B.source_reads src.now) (point B.mask_reads mask.now)
+            (B.makes change.now)) }
+    {
+        let window = Window {
+            left: 0,
+            top: 0,
+            shape: self.shape(),
+        };
+        masked_from(
+            &mut self.pixels,
+            window,
+            to,
+            src,
+            from,
+            mask,
+            mask_from,
+            change,
+        );
+    }
+}
+
 impl<P: Pixel<Alpha = Premultiplied, Gamma = Linear>> Raster<P> {
     /// Composites `clr` with each pixel of `reg`, clipped to the raster. No other pixel changes.
     ///
@@ -195,11 +234,93 @@ impl<P: Pixel<Alpha = Premultiplied, Gamma = Linear>> Raster<P> {
         self.blit_region(to, src, from, &MattedColor { clr, op });
     }
 
+    /// Composites the region `from` of `src` with the region `to` of this raster through the region `mask_from` of `mask`, a raster of
+    /// coverage masks.
+    ///
+    /// Points are paired by their offsets from the corners of all three regions: an offset counts where it lies within the sides of all
+    /// three, and its points in this raster, in `src` and in `mask`. No other pixel changes.
+    ///
+    /// Condition: the format has an alpha channel.
+    ///
+    /// # Examples
+    ///
+    /// ```rust
+    /// let at = Region::from((10, 10));
+    /// let soft = Raster::with_color(alloc, 16, 16, Matte8::new(64))?;
+    /// page.composite_raster_matte(at, sprite, sprite.region(), &soft, soft.region(), SrcOver);
+    /// ```
+    pub fn composite_raster_matte<const N: usize, A: Alpha, O: Blend>(
+        &mut self,
+        to: Region,
+        src: &Raster<P>,
+        from: Region,
+        mask: &Raster<Pix<N, P::Chan, Matte, A, Linear>>,
+        mask_from: Region,
+        op: O,
+    )
+        requires has_alpha { P.layout.count ≡ P.layout.alpha + 1 }
+        ensures change { Changed P.numbers self.old self.new (run_at P.layout P.numbers
+            (matte_numbers P.Chan.number) (region_of self.old)
+            (Command.RasterMatte to src.entry from mask.entry mask_from O.op ∷ [])) }
+
+        // A mask of one value, which has a matte wherever the source has a pixel, is that opacity.
+        ensures opacity { (alpha : Pix N P.Chan Matte A Linear) → ((x y : ℕ) → x < mask.now.width
+            → y < mask.now.height → point (matte_numbers P.Chan.number) mask.now x y ≡
+            matte_numbers P.Chan.number alpha) → ((i j : ℤ) →
+            is_paired to (region_of self.old) from (region_of src.now) i j ≡ true →
+            is_paired to (region_of self.old) mask_from (region_of mask.now) i j ≡ true)
+            → Changed P.numbers self.old self.new (run_at P.layout P.numbers
+            (matte_numbers P.Chan.number) (region_of self.old)
+            (Command.RasterAlpha to src.entry from alpha O.op ∷ [])) }
+    {
+        self.blit_masked(to, src, from, mask, mask_from, &MattedPixels { op });
+    }
+
+    /// Composites the region `from` of `src` with the region `to` of this raster at one opacity, whose points are paired as by
+    /// [`Raster::copy_raster`]: each pixel through a matte of the value of `alpha`. No other pixel changes.
+    ///
+    /// Condition: the format has an alpha channel.
+    ///
+    /// # Examples
+    ///
+    /// ```rust
+    /// let at = Region::from((10, 10));
+    /// let half = Matte8::new(128);
+    /// page.composite_raster_alpha(at, sprite, sprite.region(), half, SrcOver);
+    /// ```
+    pub fn composite_raster_alpha<const N: usize, A: Alpha, O: Blend>(
+        &mut self,
+        to: Region,
+        src: &Raster<P>,
+        from: Region,
+        alpha: Pix<N, P::Chan, Matte, A, Linear>,
+        op: O,
+    )
+        requires has_alpha { P.layout.count ≡ P.layout.alpha + 1 }
+        ensures change { Changed P.numbers self.old self.new (run_at P.layout P.numbers
+            (matte_numbers P.Chan.number) (region_of self.old)
+            (Command.RasterAlpha to src.entry from alpha O.op ∷ [])) }
+
+        // At the maximum it is the plain composite.
+        ensures whole { matte_value P.layout (matte_numbers P.Chan.number alpha) ≡ P.layout.max
+            → Changed P.numbers self.old self.new (done_at P.layout P.numbers
+            (region_of self.old) (Command.Raster to src.entry from O.op)) }
+
+        // At 0 nothing changes, by an operator that keeps a pixel under a transparent source.
+        ensures none { matte_value P.layout (matte_numbers P.Chan.number alpha) ≡ 0
+            → IsTrue (keeps_under O.op) → (x y : ℕ) → x < self.old.width → y < self.old.height
+            → IsUnchanged P.layout (point P.numbers self.old x y)
+            (point P.numbers self.new x y) }
+    {
+        let alpha = alpha.alpha();
+        self.blit_region(to, src, from, &FadedPixels { alpha, op });
+    }
+
     /// Runs `commands` in order: at each point, those that reach it, one after the other. No other pixel changes.
     ///
     /// **After any list of clears, copies and composites run on a raster, every pixel is the fold of just those commands whose clipped regions reach it, no other pixel changes, and each non-hue channel lies within its budget of the same run in exact fractions: at most n units after n unmatted commands of the listed kinds, n² + n after n unmatted commands of any kind.**
     ///
-    /// A unit is one step of a channel, 1/`MAX`. A command is unmatted if it does not composite through a raster of mattes. The listed kinds are clears, copies, and
+    /// A unit is one step of a channel, 1/`MAX`. A command is unmatted if it composites neither through a raster of mattes nor at an opacity. The listed kinds are clears, copies, and
     /// composites by `Src`, `Dest`, `SrcOver`, `DestOut`, `DestIn`, `Clear` and `Plus`. The budget is how far rounding may have moved a channel, counted from the commands;
     /// twice the distance, in units, is within it, since each channel product is rounded to the nearest.
     /// It takes no memory and cannot fail.

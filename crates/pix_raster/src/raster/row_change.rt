@@ -1,10 +1,10 @@
-//! Changes of the pixels of a row: copies, composites, and composites of a color through mattes.
+//! Changes of the pixels of a row: copies, composites, and composites of a color or of pixels through mattes.
 //!
-//! A drawing call of another kind is another struct here, with its `Fill` or `Blit`; the walks of `lent.rt` stay as they are.
+//! A drawing call of another kind is another struct here, with its `Fill`, `Blit` or `MaskedBlit`; the walks of `lent.rt` stay as they are.
 ghost use Rattle.std.specs.Prelude.{◌≡◌, ◌+◌, ⊤};
 ghost use Rattle.pix_el.specs.PixelComposite.{pixel_composite, matted_composite, matte_value, matte_numbers};
 
-use crate::lent::{Blit, Fill};
+use crate::lent::{Blit, Fill, MaskedBlit};
 use pix_chan::chan::{Alpha, Linear, Premultiplied};
 use pix_el::el::{Pix, Pixel};
 use pix_el::matte::Matte;
@@ -107,5 +107,54 @@ impl<const N: usize, A: Alpha, P: Pixel<Alpha = Premultiplied, Gamma = Linear>, 
 
     fn blit(&self, row: &mut [P], src: &[Pix<N, P::Chan, Matte, A, Linear>]) {
         P::composite_matte(row, src, &self.clr, self.op);
+    }
+}
+
+/// Composites pixels through mattes.
+#[derive(Clone, Copy)]
+pub(crate) struct MattedPixels<O> {
+    pub(crate) op: O,
+}
+
+impl<
+    const N: usize,
+    A: Alpha,
+    P: Pixel<Alpha = Premultiplied, Gamma = Linear>,
+    O: Blend,
+> MaskedBlit<P, P, Pix<N, P::Chan, Matte, A, Linear>> for MattedPixels<O> {
+    ghost can_blit = { P.layout.count ≡ P.layout.alpha + 1 };
+
+    ghost reads = { P.numbers };
+
+    ghost source_reads = { P.numbers };
+
+    ghost mask_reads = { matte_numbers P.Chan.number };
+
+    ghost makes = { λ _ matte. matted_composite P.layout O.op (matte_value P.layout matte) };
+
+    fn blit(&self, row: &mut [P], src: &[P], mask: &[Pix<N, P::Chan, Matte, A, Linear>]) {
+        P::composite_slice_matte(row, src, mask, self.op);
+    }
+}
+
+/// Composites pixels at one opacity.
+#[derive(Clone, Copy)]
+pub(crate) struct FadedPixels<C, O> {
+    pub(crate) alpha: C,
+    pub(crate) op: O,
+}
+
+impl<P: Pixel<Alpha = Premultiplied, Gamma = Linear>, O: Blend> Blit<P, P>
+    for FadedPixels<P::Chan, O> {
+    ghost can_blit = { P.layout.count ≡ P.layout.alpha + 1 };
+
+    ghost reads = { P.numbers };
+
+    ghost source_reads = { P.numbers };
+
+    ghost makes = { λ it. matted_composite P.layout O.op (P.Chan.number it.alpha) };
+
+    fn blit(&self, row: &mut [P], src: &[P]) {
+        P::composite_slice_alpha(row, src, self.op, &self.alpha);
     }
 }

@@ -103,6 +103,25 @@ pub fn composited(alloc: Global, page: &mut Raster<Rgba8p>) -> Result<(), Raster
     Ok(())
 }
 
+/// Composites a sprite through a mask.
+pub fn masked(
+    alloc: Global,
+    page: &mut Raster<Rgba8p>,
+    sprite: &Raster<Rgba8p>,
+) -> Result<(), RasterFault> {
+    let at = Region::from((10, 10));
+    let soft = Raster::with_color(alloc, 16, 16, Matte8::new(64))?;
+    page.composite_raster_matte(at, sprite, sprite.region(), &soft, soft.region(), SrcOver);
+    Ok(())
+}
+
+/// Composites a sprite at half opacity.
+pub fn faded(page: &mut Raster<Rgba8p>, sprite: &Raster<Rgba8p>) {
+    let at = Region::from((10, 10));
+    let half = Matte8::new(128);
+    page.composite_raster_alpha(at, sprite, sprite.region(), half, SrcOver);
+}
+
 /// Runs a list of commands.
 pub fn listed(page: &mut Raster<Rgba8p>) {
     let (reg, clr) = (Region::new(8, 8, 16, 16), Rgba8p::new(0, 0, 64, 64));

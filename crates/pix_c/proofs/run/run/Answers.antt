@@ -1,5 +1,5 @@
 -- Of `run`: that it meets its contract.
-use Rattle.std.proofs.Common.{ℕ, Bool, cond, length, map, ap, ◌∙◌}
+use Rattle.std.proofs.Common.{Bool, cond, length, map, ap, ◌∙◌}
 use Rattle.pix_c.specs.Status.{first_fault, count_before_fault}
 use Rattle.pix_c.proofs.Images.{window_at_corner}
 use Rattle.pix_c.proofs.Ran.{run_at_corner}

@@ -1,18 +1,17 @@
--- Of `run_window`: the clause `run`, and the condition of its call of `run_all`.
-use Rattle.std.proofs.Common.{◌≡◌, ℕ, ◌≤◌, ◌<◌, ◌+◌, length, map, sym, ap, ◌∙◌, subst, arith}
+-- Of `run_window`: the clause `run`, and the condition of its call of `paint_by_bands`.
+use Rattle.std.proofs.Common.{◌≡◌, ℕ, ◌≤◌, ◌+◌, length, map, sym, ap, ◌∙◌, subst}
 use Rattle.pix_chan.specs.Product.{channel_product, fineness, IsProduct}
 use Rattle.pix_el.specs.Pixel.{Layout, channel}
 use Rattle.pix_el.specs.Premultiplied.{IsBounded}
 use Rattle.pix_el.proofs.Models.{placed_by_row}
 use Rattle.pix_el.proofs.Composited.{alpha_bounded}
-use Rattle.pix.specs.Lent.{IsShaped}
 use Rattle.pix_raster.proofs.RunBounds.{IsFormat}
 use Rattle.pix_c.proofs.Images.{sized_is_shaped, sized_window}
 use Rattle.pix_c.proofs.Ran.{ran_in_window}
 use Rattle.pix_c.proofs.run.run_window.Goals as goal
 
-pub run_all-requires-clause-placed : goal.run_all-requires-clause-placed
-run_all-requires-clause-placed g c =
+pub paint_by_bands-requires-clause-fits : goal.paint_by_bands-requires-clause-fits
+paint_by_bands-requires-clause-fits g c =
     let placed = sized_window c.args.left c.args.top c.args.width c.args.height c.args.stride (length c.args.pixels.now) (sym c.is_window.ensures ∙ c.if-not-is_window.false) in
     record {
       shaped = sized_is_shaped c.args.width c.args.height c.args.stride (length c.args.pixels.now) placed.2;
@@ -36,5 +35,5 @@ returns-then-fault-eq-DONE-clause-run g c =
       mattes_fit = λ m. record { at = subst (λ (l : Layout). (ch : ℕ) → channel l.max (mattes m) ch ≤ l.max) (sym laid_out) (g.met.M.Flat.fits m) };
     } in
     let placed = sized_window c.args.left c.args.top c.args.width c.args.height c.args.stride (length c.args.pixels.now) (sym c.is_window.ensures ∙ c.if-not-is_window.false) in
-    λ e. ran_in_window g.P.Pixel.layout n mattes c.args.left c.args.top c.args.width c.args.height c.args.stride (map g.C.Flatten.flat c.args.commands.now) c.args.pixels.now c.run_all.new.pixels
-    format placed.0 placed.1 (sized_is_shaped c.args.width c.args.height c.args.stride (length c.args.pixels.now) placed.2) c.run_all.auto.pixels c.run_all.ensures
+    λ e. ran_in_window g.P.Pixel.layout n mattes c.args.left c.args.top c.args.width c.args.height c.args.stride (map g.C.Flatten.flat c.args.commands.now) c.args.pixels.now c.paint_by_bands.new.pixels
+    format placed.0 placed.1 (sized_is_shaped c.args.width c.args.height c.args.stride (length c.args.pixels.now) placed.2) c.paint_by_bands.auto.pixels c.paint_by_bands.ensures

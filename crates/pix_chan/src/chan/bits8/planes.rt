@@ -40,14 +40,15 @@ fn mesh(a: u8x16, b: u8x16) -> (u8x16, u8x16)
 }
 
 /// Returns, for four pixels of four channels, at each lane the last channel of its pixel.
+///
+/// The shift of words reads all lanes: of a bare shuffle LLVM sees that it needs the last channels alone, and where nothing else needs the
+/// others it loads byte by byte.
 #[inline(always)]
 pub(super) fn spread(pixels: u8x16) -> u8x16
     ensures { result ≡ last_of_four pixels }
 {
-    pixels.shuffle(
-        pixels,
-        [3, 3, 3, 3, 7, 7, 7, 7, 11, 11, 11, 11, 15, 15, 15, 15],
-    )
+    let last = (u32x4::from_le_bytes(pixels) >> u32x4::splat(24)).to_le_bytes();
+    last.shuffle(last, [0, 0, 0, 0, 4, 4, 4, 4, 8, 8, 8, 8, 12, 12, 12, 12])
 }
 
 /// Returns the planes of sixteen pixels of four channels: each vector is four pixels.

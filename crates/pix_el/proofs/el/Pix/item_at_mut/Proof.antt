@@ -40,8 +40,8 @@ use Rattle.pix_el.proofs.el.Pix.item_at_mut.Statement.{statement}
 use Rattle.pix_el.proofs.el.Pix.item_at_mut.Code as code
 use Rattle.pix_el.specs.contracts.el.Pix.items_mut as g
 use Rattle.pix_el.proofs.el.Pix.items_mut.Met.{met as items_met}
-use Rattle.pix_el.specs.contracts.el.item_mut as h
-use Rattle.pix_el.proofs.el.item_mut.Met.{met as item_met}
+use Rattle.pix_el.specs.contracts.el.items.item_mut as h
+use Rattle.pix_el.proofs.el.items.item_mut.Met.{met as item_met}
 
 module _ (N C X A Y : RattleType) where
   abbrev args : Args
@@ -114,7 +114,7 @@ item_at_mut_spec 𝓤 𝓛 𝓜 𝓡 wired n C X A Y fits LC LX LA LY =
     use0 𝓛 (raw (fact 𝓤 (ch < length r.now))) (fact_i 𝓤 (ch < length r.now) (emp 𝓤) (subst (λ n. ch < n) (sym long) inside)) $
     use0 𝓛 (raw (fact 𝓤 (κC ⊑ C.lives))) (fact_i 𝓤 (κC ⊑ C.lives) (emp 𝓤) kc) $ join ! $
     move ! (1 ∷ 0 ∷ []) $ use2 𝓛 (raw (H.pre zh)) (id⊢ 𝓤 _) $
-    calls_at ! (framed 𝓤 𝓛.H 𝓜 𝓣) H (item_met 𝓤 𝓛 𝓜 𝓡 (code.calls-pix_el::el::item_mut 𝓡.env wired) C LC) zh (and_then ! (get ! refl) (and_then ! (get ! refl) (no_more !))) (λ w.
+    calls_at ! (framed 𝓤 𝓛.H 𝓜 𝓣) H (item_met 𝓤 𝓛 𝓜 𝓡 (code.calls-pix_el::el::items::item_mut 𝓡.env wired) C LC) zh (and_then ! (get ! refl) (and_then ! (get ! refl) (no_more !))) (λ w.
     use1 𝓛 (later (some (λ (x : MutBor C.Denot). ((‵ (flft κ q) ⊛ ‵ (flft κC qC) ⊛ ‵ ftrue) ⊛ ‵ (Item.own_val x (w ∷ []))) ⊛
     some (λ (ws : Unit {0} × (Unit {0} × Unit {0})). ‵ (lasts (h.ended C) (κ, (κC, tt)) (r, (ch, tt)) ws) ⊛ (‵ (follows (Array E 0) E r.ghost_name x.ghost_name (slice_set r.now ch))
     ⊛ raw (fact 𝓤 (slice_get r.now ch ≡ Some x.now))))))) (id⊢ 𝓤 _) $

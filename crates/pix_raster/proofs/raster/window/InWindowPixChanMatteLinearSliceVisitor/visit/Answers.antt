@@ -1,25 +1,26 @@
 -- Of the visitor of a command on a window: that it meets its contract.
-use Rattle.std.proofs.Common.{◌≡◌, ◌<◌, ◌≤◌, ◌+◌, ◌*◌, length, map, replicate, get_or, [], arith, refl, ap, sym, ◌∙◌}
+use Rattle.std.proofs.Common.{◌≡◌, ◌+◌, replicate, arith, refl, ap, sym, ◌∙◌}
 use Rattle.pix_ops.specs.declared.ops.Op.{Op}
-use Rattle.pix_el.specs.PixelComposite.{pixel_composite, matted_composite, matte_value, matte_numbers}
+use Rattle.pix_el.specs.PixelComposite.{pixel_composite}
 use Rattle.pix_raster.specs.Image.{point, region_of}
-use Rattle.pix_raster.specs.Lent.{picture}
-use Rattle.pix_raster.specs.Run.{Copied, Composited, Matted}
-use Rattle.pix_raster.proofs.Clear.{cleared_place}
-use Rattle.pix_raster.proofs.Steps.{covered_effect, from_pair_effect}
+use Rattle.pix_raster.specs.Lent.{where_covered, picture}
+use Rattle.pix_raster.specs.Run.{Cleared, Copied, Composited}
+use Rattle.pix_raster.proofs.Shaped.{changed_alike}
+use Rattle.pix_raster.proofs.Steps.{whole_effect, covered_effect, from_pair_effect}
 use Rattle.pix_raster.proofs.raster.window.InWindowPixChanMatteLinearSliceVisitor.visit.Goals as goal
 
 pub returns-in-Clear : goal.returns-in-Clear
 returns-in-Clear g c =
+    let layout = g.P.Pixel.layout in
     let n = g.P.Pixel.numbers in
-    let shape = c.args.self.now.window.shape in
-    let none : n c.default.result ≡ replicate g.P.Pixel.layout.count 0 = g.met.P.Pixel.default_is_clear c.default.result c.default.ensures in
-    rw c.in-Clear.is (λ x y lx ly.
-    let row : y * shape.stride + shape.width ≤ length c.args.pixels.now = c.requires.1.shaped.last y ly in
-    let within : y * shape.stride + x < length c.args.pixels.now = omega arith in
-    ap (λ l. get_or (map n l) (y * shape.stride + x) []) c.copy_color.ensures
-    ∙ cleared_place n c.default.result _ (y * shape.stride + x) [] within
-    ∙ none)
+    let window = c.args.self.now.window in
+    let fits = c.requires.1 in
+    let none : n c.default.result ≡ replicate layout.count 0 = g.met.P.Pixel.default_is_clear c.default.result c.default.ensures in
+    rw c.in-Clear.is (changed_alike n window.shape c.args.pixels.now c.fill_window.new.pixels _ _
+    (λ x y pixel lx ly.
+    ap (λ r. where_covered r (λ p. n c.default.result) (window.left + x) (window.top + y) pixel) c.new-all.ensures
+    ∙ whole_effect layout (window.left + window.shape.width) (window.top + window.shape.height) (λ p. n c.default.result) Cleared (window.left + x) (window.top + y) pixel
+    fits.across fits.down (omega arith) (omega arith) (λ p. none)) c.fill_window.ensures)
 
 pub returns-in-CopyRaster : goal.returns-in-CopyRaster
 returns-in-CopyRaster g c =
@@ -27,9 +28,9 @@ returns-in-CopyRaster g c =
     let n = g.P.Pixel.numbers in
     let window = c.args.self.now.window in
     let it = c.in-CopyRaster in
-    rw it.is (λ x y lx ly.
-    c.blit_from.ensures.points x y lx ly
-    ∙ from_pair_effect layout it.to (picture window) it.from (region_of it.src.now) (point n it.src.now) (λ s p. s) Copied (window.left + x) (window.top + y) _ (λ s p. refl))
+    rw it.is (changed_alike n window.shape c.args.pixels.now c.blit_from.new.pixels _ _
+    (λ x y pixel lx ly. from_pair_effect layout it.to (picture window) it.from (region_of it.src.now) (point n it.src.now) (λ s p. s) Copied (window.left + x) (window.top + y) pixel (λ s p. refl))
+    c.blit_from.ensures)
 
 pub returns-in-Color : goal.returns-in-Color
 returns-in-Color g c =
@@ -38,10 +39,10 @@ returns-in-Color g c =
     let window = c.args.self.now.window in
     let it = c.in-Color in
     let same : it.op ≡ g.O.Blend.op = rw it.is at c.requires.2 in
-    rw it.is (λ x y lx ly.
-    c.fill_window-in-Color.ensures.points x y lx ly
-    ∙ covered_effect layout it.reg (pixel_composite layout g.O.Blend.op (n it.clr)) (Composited it.op (n it.clr)) (window.left + x) (window.top + y) _
+    rw it.is (changed_alike n window.shape c.args.pixels.now c.fill_window-in-Color.new.pixels _ _
+    (λ x y pixel lx ly. covered_effect layout it.reg (pixel_composite layout g.O.Blend.op (n it.clr)) (Composited it.op (n it.clr)) (window.left + x) (window.top + y) pixel
     (λ p. ap (λ (o : Op). pixel_composite layout o (n it.clr) p) (sym same)))
+    c.fill_window-in-Color.ensures)
 
 pub returns-in-Raster : goal.returns-in-Raster
 returns-in-Raster g c =
@@ -50,21 +51,7 @@ returns-in-Raster g c =
     let window = c.args.self.now.window in
     let it = c.in-Raster in
     let same : it.op ≡ g.O.Blend.op = rw it.is at c.requires.2 in
-    rw it.is (λ x y lx ly.
-    c.blit_from-in-Raster.ensures.points x y lx ly
-    ∙ from_pair_effect layout it.to (picture window) it.from (region_of it.src.now) (point n it.src.now) (pixel_composite layout g.O.Blend.op) (Composited it.op) (window.left + x) (window.top + y) _
-    (λ s p. ap (λ (o : Op). pixel_composite layout o s p) (sym same)))
-
-pub returns-in-Matte : goal.returns-in-Matte
-returns-in-Matte g c =
-    let layout = g.P.Pixel.layout in
-    let n = g.P.Pixel.numbers in
-    let m = matte_numbers g.P.Chan.Channel.number in
-    let window = c.args.self.now.window in
-    let it = c.in-Matte in
-    let same : it.op ≡ g.O.Blend.op = rw it.is at c.requires.2 in
-    rw it.is (λ x y lx ly.
-    c.blit_from-in-Matte.ensures.points x y lx ly
-    ∙ from_pair_effect layout it.to (picture window) it.from (region_of it.src.now) (point m it.src.now)
-    (λ s. matted_composite layout g.O.Blend.op (matte_value layout s) (n it.clr)) (λ s. Matted it.op s (n it.clr)) (window.left + x) (window.top + y) _
-    (λ s p. ap (λ (o : Op). matted_composite layout o (matte_value layout s) (n it.clr) p) (sym same)))
+    rw it.is (changed_alike n window.shape c.args.pixels.now c.blit_from-in-Raster.new.pixels _ _
+    (λ x y pixel lx ly. from_pair_effect layout it.to (picture window) it.from (region_of it.src.now) (point n it.src.now) (pixel_composite layout g.O.Blend.op) (Composited it.op)
+    (window.left + x) (window.top + y) pixel (λ s p. ap (λ (o : Op). pixel_composite layout o s p) (sym same)))
+    c.blit_from-in-Raster.ensures)

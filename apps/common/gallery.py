@@ -1,0 +1,71 @@
+#!/usr/bin/env python3
+"""Makes the pictures of docs/GALLERY.md again, each by the command beside it, and compares them with those that stand there.
+
+    gallery.py [--pictures]
+
+A picture is followed by its command, as an indented block: it writes a file of the picture's name into out/gallery. With --pictures what is made is put
+in the place of what stands there. A picture has to be the same, but where fonts or JPEG files were read: another version of FreeType, HarfBuzz, the font or
+libjpeg may draw it a little otherwise, and then it has to be near. The status is 1 where one is another.
+"""
+
+import os
+import pathlib
+import re
+import shutil
+import subprocess
+import sys
+
+from trial import TOP, ImageChops, open_picture
+
+PAGE = TOP / "docs/GALLERY.md"
+MADE = TOP / "out/gallery"
+PICTURE = re.compile(r"^!\[.*\]\((\S+)\)\n\n((?:    .*\n)+)", re.M)
+PROGRAM = TOP / "crates/pixpaint/out/pixpaint"
+
+
+def is_near(picture, other):
+    """Whether at most one pixel of a hundred differs by more than 32 in a channel, and the mean by less than 1."""
+    if picture.size != other.size:
+        return False
+    apart = ImageChops.difference(picture.convert("RGB"), other.convert("RGB")).convert("L")
+    levels = apart.histogram()
+    return sum(levels[32:]) * 100 <= sum(levels) and sum(i * n for i, n in enumerate(levels)) < sum(levels)
+
+
+def trouble(picture, command):
+    """Runs a command, and returns what is wrong with the picture that it makes, or else nothing."""
+    ran = subprocess.run(command, shell=True, cwd=TOP, env={"SDL_VIDEODRIVER": "dummy", **os.environ}, capture_output=True, text=True)
+    made = MADE / picture.name
+    if ran.returncode or not made.is_file():
+        return f"status {ran.returncode}: {ran.stderr.strip()}"
+    if "--pictures" in sys.argv:
+        shutil.copyfile(made, picture)
+    mine, there = open_picture(made), open_picture(picture)
+    if mine.size == there.size and mine.tobytes() == there.tobytes():
+        return ""
+    if not re.search(r"apps/out/text|apps/encoder|\.jpg", command):
+        return "it is another picture"
+    return "" if is_near(mine, there) else "it is not even near"
+
+
+def main():
+    """Prints a line for each picture that is another or is not made."""
+    shutil.rmtree(MADE, ignore_errors=True)
+    MADE.mkdir(parents=True)
+    count, troubles = 0, 0
+    for name, lines in PICTURE.findall(PAGE.read_text(encoding="utf-8")):
+        command = re.sub(r"^    ", "", lines, flags=re.M)
+        if "./pixpaint" in command and not PROGRAM.is_file():
+            print(f"gallery: {name} is not made: ./pixpaint is not built yet")
+            continue
+        count += 1
+        said = trouble((PAGE.parent / name).resolve(), command)
+        if said:
+            troubles += 1
+            print(f"gallery: {name}: {said}\n    {command.strip()}")
+    print(f"gallery: {count} pictures were made, and {count - troubles} are as they stand there")
+    return troubles > 0 or not count
+
+
+if __name__ == "__main__":
+    sys.exit(main())

@@ -1,0 +1,92 @@
+"""What the tests of the programs share: they run a program, and look at the pictures that it writes.
+
+APPS in the environment names the folder with the programs.
+"""
+
+import os
+import pathlib
+import subprocess
+import sys
+import tempfile
+import unittest
+
+from PIL import Image, ImageChops
+
+TOP = pathlib.Path(__file__).resolve().parent.parent.parent
+PICTURES = TOP / "apps/pictures"
+PROGRAMS = pathlib.Path(os.environ.get("APPS", TOP / "apps/out")).resolve()
+
+
+def differences(picture, other):
+    """Returns the greatest difference of two pictures in any channel, and the share of the pixels that have one."""
+    apart = ImageChops.difference(picture.convert("RGBA"), other.convert("RGBA"))
+    levels = [most for _, most in apart.getextrema()]
+    changed = sum(1 for pixel in apart.getdata() if any(pixel))
+    return max(levels), changed / max(1, picture.width * picture.height)
+
+
+class Trial(unittest.TestCase):
+    """The base of a test: `program` is the command of the program."""
+
+    program = ()
+
+    def setUp(self):
+        folder = tempfile.TemporaryDirectory()
+        self.addCleanup(folder.cleanup)
+        self.folder = pathlib.Path(folder.name)
+
+    def run_program(self, *words, status=0, **more):
+        """Runs the program, which has to end with this status, and returns what it printed."""
+        words = [str(word) for word in (*self.program, *words)]
+        environment = {"SDL_VIDEODRIVER": "dummy", **os.environ, **more.pop("env", {})}
+        ran = subprocess.run(words, capture_output=True, text=True, timeout=600, env=environment, stdin=subprocess.DEVNULL, **more)
+        self.assertEqual(ran.returncode, status, f"{words}: {ran.stdout}{ran.stderr}")
+        if status == 0:
+            self.assertEqual(ran.stderr, "")
+        return ran
+
+    def refuses(self, status, sentence, *words):
+        """The program ends with this status and prints one line with this sentence, or for a wrong use another one that names the help."""
+        ran = self.run_program(*words, status=status)
+        lines = ran.stderr.splitlines()
+        self.assertIn(sentence, lines[0])
+        self.assertEqual(len(lines), status, ran.stderr)
+        self.assertEqual(ran.stdout, "")
+
+    def file(self, name, data):
+        """Returns the path of a new file with these bytes."""
+        path = self.folder / name
+        path.write_bytes(data)
+        return path
+
+    def picture(self, name, picture, **options):
+        """Returns the path of a new file with this picture."""
+        path = self.folder / name
+        picture.save(path, **options)
+        return path
+
+    def assert_same(self, picture, other, most=0):
+        """Two pictures are of one size, and no channel differs by more than `most`."""
+        self.assertEqual(picture.size, other.size)
+        apart, share = differences(picture, other)
+        self.assertLessEqual(apart, most, f"{share:.2%} of the pixels differ")
+
+    def has_help(self):
+        """--help prints the use, every option with it, and fails where it can't be printed."""
+        said = self.run_program("--help").stdout
+        self.assertTrue(said.startswith("usage: "))
+        self.assertIn("--help", said)
+        with open("/dev/full", "w") as full:
+            ran = subprocess.run([*map(str, self.program), "--help"], stdout=full, stderr=subprocess.PIPE)
+        self.assertNotEqual(ran.returncode, 0)
+
+
+def open_picture(path):
+    """Returns the picture of a file, as red, green, blue and alpha."""
+    with Image.open(path) as picture:
+        return picture.convert("RGBA")
+
+
+def main():
+    """Runs the tests of the script that calls it."""
+    unittest.main(argv=[sys.argv[0], *sys.argv[1:]])

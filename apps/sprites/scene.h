@@ -1,0 +1,109 @@
+// scene.h - sprites that move over a sky, painted by lists of commands.
+#ifndef SCENE_H
+#define SCENE_H
+
+#include "../common/files.h"
+#include "kinds.h"
+
+#include <algorithm>
+#include <functional>
+#include <random>
+#include <thread>
+#include <vector>
+
+// Rows of bytes to be shown: blue, green, red, alpha.
+struct Screen {
+    std::uint8_t *bytes;
+    std::size_t pitch;
+};
+
+// A kind of pixels is one of kinds.h.
+template <typename Kind> class Scene {
+  public:
+    // The atlas has square sprites, as high as it is.
+    Scene(const file_picture &atlas, int width, int height, int count, int threads)
+        : width(width), height(height), threads(threads), side(static_cast<int>(atlas.height)),
+          frame(std::size_t(width) * height), sky(frame), cells(Kind::decode(atlas)) {
+        source = Kind::source_of(cells.data(), atlas.width, atlas.height);
+        paint_sky();
+        std::minstd_rand random(8);
+        const int kinds = std::max(1, static_cast<int>(atlas.width / atlas.height));
+        const auto below = [&random](int limit) { return static_cast<int>(random() % static_cast<unsigned>(limit)); };
+        for (int i = 0; i < count; i++) {
+            const int x = below(width + side) - side, y = below(height + side) - side;
+            sprites.push_back({x, y, below(7) - 3, below(7) - 3, below(kinds)});
+        }
+    }
+
+    // Moves each sprite on by its step; at the ends it turns round.
+    void move() {
+        for (Sprite &it : sprites) {
+            it.x += it.dx;
+            it.y += it.dy;
+            if (it.x < -side || it.x > width)
+                it.dx = -it.dx;
+            if (it.y < -side || it.y > height)
+                it.dy = -it.dy;
+        }
+    }
+
+    // Paints a frame: one list, run on each band of rows at its place.
+    void paint() {
+        const std::uint32_t cell = static_cast<std::uint32_t>(side);
+        const pix_region all = {0, 0, static_cast<std::uint32_t>(width), static_cast<std::uint32_t>(height)};
+        std::vector<typename Kind::command> list = {
+            Kind::copy_image(all, Kind::source_of(sky.data(), width, height), all)};
+        for (const Sprite &it : sprites)
+            list.push_back(Kind::composite_image({it.x, it.y, cell, cell}, source, {it.cell * side, 0, cell, cell},
+                                                 PIX_OP_SRC_OVER));
+        in_bands([&](int top, int bottom) {
+            const auto band = Kind::image_of(&frame[std::size_t(top) * width], width, bottom - top);
+            return Kind::run_in(band, 0, top, list.data(), list.size());
+        });
+    }
+
+    // Writes the frame as the bytes that are shown.
+    void encode(const Screen &screen) {
+        in_bands([&](int top, int bottom) {
+            pix_status status = PIX_OK;
+            for (int y = top; y < bottom && status == PIX_OK; y++)
+                status = Kind::encode(&frame[std::size_t(y) * width], screen.bytes + y * screen.pitch, width);
+            return status;
+        });
+    }
+
+  private:
+    struct Sprite {
+        int x, y, dx, dy, cell;
+    };
+
+    int width, height, threads, side;
+    std::vector<typename Kind::pixel> frame, sky, cells;
+    typename Kind::source source;
+    std::vector<Sprite> sprites;
+
+    // Paints a sky that grows lighter to the bottom, by layers of a faint color.
+    void paint_sky() {
+        const std::uint32_t columns = width, rows = height;
+        std::vector<typename Kind::command> list = {Kind::copy_color({0, 0, columns, rows}, Kind::night())};
+        for (int y = 0; y < height; y += std::max(1, height / 40))
+            list.push_back(Kind::composite_color({0, y, columns, rows}, Kind::haze(), PIX_OP_SRC_OVER));
+        insist(Kind::run_in(Kind::image_of(sky.data(), columns, rows), 0, 0, list.data(), list.size()));
+    }
+
+    // Calls a function for each band of rows, from `top` to `bottom`, each but the first in a thread of its own.
+    void in_bands(const std::function<pix_status(int, int)> &call) {
+        std::vector<pix_status> statuses(threads);
+        std::vector<std::thread> others;
+        const auto band = [&](int i) { statuses[i] = call(height * i / threads, height * (i + 1) / threads); };
+        for (int i = 1; i < threads; i++)
+            others.emplace_back(band, i);
+        band(0);
+        for (std::thread &other : others)
+            other.join();
+        for (pix_status status : statuses)
+            insist(status);
+    }
+};
+
+#endif

@@ -1,0 +1,88 @@
+#!/usr/bin/env python3
+"""Tries the sprites: where they are painted, that they move, that bands by threads are the whole, and what is refused."""
+
+import pathlib
+import re
+import sys
+
+sys.path.insert(0, str(pathlib.Path(__file__).resolve().parent.parent / "common"))
+from trial import PICTURES, PROGRAMS, Image, Trial, main, open_picture  # noqa: E402
+
+ATLAS = PICTURES / "atlas.png"
+LINE = re.compile(r"(\d+) sprites, (\d+) x (\d+), (\d+) threads?: (\d+) frames, [\d.]+ a second; .*\n")
+
+
+class Sprites(Trial):
+    """In a window that no screen shows."""
+
+    program = (PROGRAMS / "sprites",)
+
+    def frame(self, atlas, count, frames, *more, size=(60, 40)):
+        """Returns the last of so many frames, and the words of the line at the end."""
+        saved = self.folder / "frame.png"
+        words = ["--count", count, "--frames", frames, "--size", "%dx%d" % size, "--save", saved, *more]
+        line = LINE.fullmatch(self.run_program(*words, atlas).stdout)
+        self.assertEqual([int(n) for n in line.group(1, 2, 3, 5)], [count, *size, frames])
+        return open_picture(saved), line
+
+    def cells(self, *colors, side=8):
+        """Returns an atlas of squares of these colors."""
+        atlas = Image.new("RGBA", (side * len(colors), side))
+        for number, color in enumerate(colors):
+            atlas.paste(color, (side * number, 0, side * number + side, side))
+        return self.picture("cells.png", atlas)
+
+    def test_squares_over_the_sky(self):
+        """Opaque sprites are seen in their own color, each whole where it lies inside, and the sky is as it was around them."""
+        red = (250, 3, 7, 255)
+        sky, _ = self.frame(self.cells((0, 0, 0, 0)), 4, 1)
+        seen, _ = self.frame(self.cells(red), 4, 1)
+        count = 0
+        for painted, under in zip(seen.getdata(), sky.getdata()):
+            self.assertIn(painted, (red, under))
+            count += painted == red
+        self.assertTrue(64 <= count <= 4 * 64, count)
+
+    def test_sprites_move(self):
+        """After some frames a sprite is a square elsewhere."""
+        boxes = []
+        for frames in (1, 4, 9):
+            sky, _ = self.frame(self.cells((0, 0, 0, 0)), 1, frames, size=(200, 200))
+            seen, _ = self.frame(self.cells((255, 255, 255, 255)), 1, frames, size=(200, 200))
+            white = seen.convert("L").point(lambda level: 255 if level == 255 else 0)
+            self.assertIsNone(sky.convert("L").point(lambda level: 255 if level == 255 else 0).getbbox())
+            boxes.append(white.getbbox())
+        for places in zip(*boxes):
+            self.assertEqual(len(set(places)), 3)
+        self.assertEqual(len({(right - left, bottom - top) for left, top, right, bottom in boxes}), 1)
+
+    def test_bands_are_the_whole(self):
+        whole, _ = self.frame(ATLAS, 50, 2, size=(150, 101))
+        for threads in (2, 3, 7, 150):
+            bands, line = self.frame(ATLAS, 50, 2, "--threads", threads, size=(150, 101))
+            self.assertEqual(int(line[4]), threads)
+            self.assert_same(bands, whole)
+
+    def test_help(self):
+        self.has_help()
+
+    def test_wrong_uses(self):
+        for sentence, *words in [
+            ("name an atlas",), ("there is one atlas", ATLAS, ATLAS), ("there is no option --wide", "--wide", "3", ATLAS),
+            ("its value is missing", ATLAS, "--count"), ("--count takes a number from 1", "--count", "0", ATLAS),
+            ("and not -3", "--count", "-3", ATLAS), ("and not 3x", "--count", "3x", ATLAS), ("and not many", "--count", "many", ATLAS),
+            ("and not 99999999999999999999", "--count", "99999999999999999999", ATLAS), ("--frames takes", "--frames", "0", ATLAS),
+            ("--threads takes a number from 1 to 256", "--threads", "257", ATLAS), ("takes a width and a height", "--size", "9", ATLAS),
+            ("--size takes a number", "--size", "9x", ATLAS), ("--size takes a number", "--size", "9x9x9", ATLAS),
+        ]:  # fmt: skip
+            self.refuses(2, sentence, *words)
+
+    def test_files(self):
+        for file in (self.folder / "none.png", self.folder, self.file("words.png", b"words")):
+            self.refuses(1, str(file), "--frames", "1", file)
+        for file in (self.folder, self.folder / "none/out.png", "/dev/full"):
+            self.refuses(1, str(file), "--frames", "1", "--count", "1", "--size", "8x8", "--save", file, ATLAS)
+
+
+if __name__ == "__main__":
+    main()

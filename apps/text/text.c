@@ -1,0 +1,203 @@
+/* Text over a photograph: see --help. */
+#include "../common/files.h"
+#include "font.h"
+#include <stdio.h>
+#include <stdlib.h>
+
+static const char usage[] =
+    "usage: text [OPTION].. --photo FILE --save PNG LINE..\n"
+    "Writes lines over the middle of a PNG or JPEG file, twice side by side: composited in the bytes of\n"
+    "the file on the left, and in linear light on the right. Each line is in a color of its own and smaller\n"
+    "than the one before it.\n"
+    "\n"
+    "  --font FILE     a font file with outlines (DejaVu Serif of Debian)\n"
+    "  --size N        the size of the first line, in pixels, from 4 to 400 (44)\n"
+    "  --no-kerning    set all pairs of letters at their plain distance\n"
+    "  --atlas PNG     write the masks of all glyphs, too\n"
+    "  --report        print how wide each line is, and how many masks and commands there are\n"
+    "  --help          print this\n"
+    "\n"
+    "Shaping is HarfBuzz's, and masks are FreeType's. The status is 0, 1 after a file that can't be read or\n"
+    "written, or 2 after another use.\n";
+
+enum { MARGIN = 14 };
+
+typedef struct {
+    const char *photo, *save, *font, *atlas;
+    char **lines;
+    int count, size, has_kerning, report;
+} options;
+
+/* A line of text, and its color in the bytes of a file. */
+typedef struct {
+    placed_mask *masks;
+    size_t count;
+    uint8_t color[4];
+} line;
+
+static void fail(int status, const char *about, const char *what) {
+    fprintf(stderr, "text: %s%s%s\n", about, *about ? ": " : "", what);
+    if (status == 2)
+        fprintf(stderr, "text: try text --help\n");
+    exit(status);
+}
+
+static void insist(pix_status status) {
+    if (status != PIX_OK)
+        fail(1, "", pix_status_text(status));
+}
+
+static void *insist_memory(void *memory) {
+    if (!memory)
+        fail(1, "", "there is not enough memory");
+    return memory;
+}
+
+/* Takes an option with its value, and answers whether it is one. */
+static int set_option(options *it, const char *word, const char *value) {
+    char rest;
+    const char **text = !strcmp(word, "--photo")   ? &it->photo
+                        : !strcmp(word, "--save")  ? &it->save
+                        : !strcmp(word, "--font")  ? &it->font
+                        : !strcmp(word, "--atlas") ? &it->atlas
+                                                   : NULL;
+    if (!text && strcmp(word, "--size"))
+        return 0;
+    if (!value)
+        fail(2, word, "a value is missing");
+    if (text)
+        *text = value;
+    else if (sscanf(value, "%4d%c", &it->size, &rest) != 1 || it->size < 4 || it->size > 400)
+        fail(2, value, "a size is a number from 4 to 400");
+    return 1;
+}
+
+static options read_options(int argc, char **argv) {
+    options it = {NULL, NULL, "/usr/share/fonts/truetype/dejavu/DejaVuSerif.ttf", NULL, argv, 0, 44, 1, 0};
+    int has_options = 1;
+    for (int i = 1; i < argc; i++) {
+        if (!has_options || strncmp(argv[i], "--", 2)) {
+            it.lines[it.count++] = argv[i];
+        } else if (!strcmp(argv[i], "--")) {
+            has_options = 0;
+        } else if (!strcmp(argv[i], "--help")) {
+            fputs(usage, stdout);
+            exit(fflush(stdout) ? 1 : 0);
+        } else if (!strcmp(argv[i], "--no-kerning")) {
+            it.has_kerning = 0;
+        } else if (!strcmp(argv[i], "--report")) {
+            it.report = 1;
+        } else if (set_option(&it, argv[i], i + 1 < argc ? argv[i + 1] : NULL)) {
+            i++;
+        } else {
+            fail(2, argv[i], "there is no such option");
+        }
+    }
+    if (!it.photo || !it.save)
+        fail(2, "", "name a photograph (--photo) and a file to write (--save)");
+    if (!it.count)
+        fail(2, "", "give a line of text");
+    return it;
+}
+
+/* Shapes all lines, one below the other. */
+static line *shape(font *letters, const options *chosen) {
+    static const uint8_t colors[][4] = {{255, 255, 255, 255}, {255, 216, 60, 255},  {0, 0, 0, 255},
+                                        {210, 30, 40, 255},   {120, 240, 255, 255}, {255, 255, 255, 150}};
+    line *lines = insist_memory(calloc((size_t)chosen->count, sizeof *lines));
+    int size = chosen->size, baseline = 0;
+    for (int i = 0; i < chosen->count; i++) {
+        baseline += size + size / 4;
+        const char *sentence = font_shape(letters, chosen->lines[i], size, chosen->has_kerning, MARGIN, baseline,
+                                          &lines[i].masks, &lines[i].count);
+        if (sentence)
+            fail(1, chosen->font, sentence);
+        memcpy(lines[i].color, colors[(size_t)i % (sizeof colors / sizeof *colors)], 4);
+        if (chosen->report && lines[i].count) {
+            const pix_region *first = &lines[i].masks[0].to, *last = &lines[i].masks[lines[i].count - 1].to;
+            printf("%s: %zu masks, %d pixels wide at a size of %d\n", chosen->lines[i], lines[i].count,
+                   last->x + (int)last->width - first->x, size);
+        }
+        if (size > 12)
+            size -= size / 4;
+    }
+    return lines;
+}
+
+/* Composites all lines over an image, by one list: their colors are in the straight format `as`. */
+static void draw(pix_image image, pix_format as, const line *lines, int line_count, pix_matte atlas) {
+    size_t count = 0, all = 1;
+    for (int i = 0; i < line_count; i++)
+        all += lines[i].count;
+    pix_command *list = insist_memory(malloc(all * sizeof *list));
+    for (int i = 0; i < line_count; i++) {
+        pix_rgba8 color;
+        insist(pix_convert(as, PIX_FORMAT_RGBA8P, lines[i].color, &color, 1));
+        for (size_t j = 0; j < lines[i].count; j++)
+            list[count++] =
+                pix_composite_matte(lines[i].masks[j].to, atlas, lines[i].masks[j].from, color, PIX_OP_SRC_OVER);
+    }
+    insist(pix_run(image, list, count, NULL));
+    free(list);
+}
+
+/* Draws over the middle of a photograph, with its bytes in the straight format `as`, and writes half as many columns to
+ * `half`, whose rows lie as far apart as those of the photograph. */
+static void draw_half(const file_picture *photo, pix_format as, const line *lines, int line_count, pix_matte atlas,
+                      uint8_t *half) {
+    uint32_t width = photo->width / 2, height = photo->height;
+    size_t pitch = (size_t)4 * photo->width, middle = (size_t)4 * ((photo->width - width) / 2);
+    pix_rgba8 *pixels = insist_memory(malloc((size_t)width * height * sizeof *pixels + 1));
+    for (uint32_t y = 0; y < height; y++)
+        insist(
+            pix_convert(as, PIX_FORMAT_RGBA8P, photo->bytes + y * pitch + middle, pixels + (size_t)y * width, width));
+    draw(pix_image_of(pixels, width, height), as, lines, line_count, atlas);
+    for (uint32_t y = 0; y < height; y++)
+        insist(pix_convert(PIX_FORMAT_RGBA8P, as, pixels + (size_t)y * width, half + y * pitch, width));
+    free(pixels);
+}
+
+static void save(const char *name, file_picture picture) {
+    char sentence[FILE_SENTENCE];
+    if (!file_write_png(name, &picture, sentence))
+        fail(1, "", sentence);
+    free(picture.bytes);
+}
+
+static void save_atlas(const char *name, pix_matte atlas) {
+    size_t count = (size_t)atlas.width * atlas.height;
+    file_picture picture = {insist_memory(malloc(4 * count + 1)), atlas.width, atlas.height};
+    insist(pix_convert(PIX_FORMAT_GRAY8, PIX_FORMAT_RGBA8, atlas.values, picture.bytes, count));
+    save(name, picture);
+}
+
+int main(int argc, char **argv) {
+    options chosen = read_options(argc, argv);
+    file_picture photo, drawn;
+    font letters;
+    char read[FILE_SENTENCE];
+    insist(pix_check_library());
+    if (!file_read(chosen.photo, &photo, read))
+        fail(1, "", read);
+    const char *sentence = font_open(&letters, chosen.font);
+    if (sentence)
+        fail(1, chosen.font, sentence);
+    line *lines = shape(&letters, &chosen);
+    pix_matte atlas = font_atlas(&letters);
+    drawn = photo;
+    drawn.bytes = insist_memory(calloc((size_t)4 * photo.width + 1, photo.height));
+    draw_half(&photo, PIX_FORMAT_RGBA8, lines, chosen.count, atlas, drawn.bytes);
+    draw_half(&photo, PIX_FORMAT_SRGBA8, lines, chosen.count, atlas,
+              drawn.bytes + (size_t)4 * (photo.width - photo.width / 2));
+    if (chosen.report)
+        printf("%zu masks in an atlas of %u x %u\n", letters.count, atlas.width, atlas.height);
+    if (chosen.atlas)
+        save_atlas(chosen.atlas, atlas);
+    save(chosen.save, drawn);
+    for (int i = 0; i < chosen.count; i++)
+        free(lines[i].masks);
+    free(lines);
+    free(photo.bytes);
+    font_close(&letters);
+    return fflush(stdout) ? 1 : 0;
+}

@@ -1,0 +1,230 @@
+#include "view.h"
+#include <stdlib.h>
+
+enum { CELL = 16 };
+
+static uint32_t scaled(uint32_t side, int zoom) {
+    return zoom > 0 ? side * (uint32_t)zoom : (side + (uint32_t)-zoom - 1) / (uint32_t)-zoom;
+}
+
+/* Where a side of the picture begins: in the middle of the window where it is the shorter one, and else so that no room
+ * is left. */
+static int32_t settled(int32_t at, uint32_t side, uint32_t room) {
+    int32_t least = (int32_t)room - (int32_t)side;
+    if (least >= 0)
+        return least / 2;
+    return at < least ? least : at > 0 ? 0 : at;
+}
+
+static void settle(view *it) {
+    place *to = &it->wanted;
+    to->x = settled(to->x, scaled(it->picture.width, to->zoom), to->width);
+    to->y = settled(to->y, scaled(it->picture.height, to->zoom), to->height);
+}
+
+void view_open(view *it, pix_source picture, uint32_t width, uint32_t height) {
+    memset(it, 0, sizeof *it);
+    it->picture = picture;
+    it->wanted.zoom = 1;
+    it->wanted.width = width;
+    it->wanted.height = height;
+    view_fit(it, 1);
+}
+
+void view_close(view *it) {
+    SDL_FreeSurface(it->screen);
+    canvas_free(&it->shrunk);
+}
+
+void view_resize(view *it, uint32_t width, uint32_t height) {
+    it->wanted.x += ((int32_t)width - (int32_t)it->wanted.width) / 2;
+    it->wanted.y += ((int32_t)height - (int32_t)it->wanted.height) / 2;
+    it->wanted.width = width;
+    it->wanted.height = height;
+    if (it->fits)
+        view_fit(it, it->fits);
+    settle(it);
+}
+
+void view_pan(view *it, int32_t dx, int32_t dy) {
+    it->wanted.x += dx;
+    it->wanted.y += dy;
+    settle(it);
+}
+
+int view_next_zoom(const view *it, int steps) {
+    int zoom = it->wanted.zoom;
+    for (; steps > 0 && zoom < MOST_ZOOM; steps--)
+        zoom = zoom == -2 ? 1 : zoom + 1;
+    for (; steps < 0 && zoom > LEAST_ZOOM; steps++)
+        zoom = zoom == 1 ? -2 : zoom - 1;
+    return zoom;
+}
+
+void view_fit(view *it, int most) {
+    place *to = &it->wanted;
+    int zoom = most;
+    while (zoom > LEAST_ZOOM &&
+           (scaled(it->picture.width, zoom) > to->width || scaled(it->picture.height, zoom) > to->height))
+        zoom = zoom == 1 ? -2 : zoom - 1;
+    view_zoom(it, zoom, 0, 0);
+    it->fits = most;
+}
+
+/* Where the corner goes so that what is at `fixed` stays there. */
+static int32_t about(int32_t fixed, int32_t at, uint32_t before, uint32_t after) {
+    return fixed - (int32_t)(((int64_t)fixed - at) * after / (before ? before : 1));
+}
+
+void view_zoom(view *it, int zoom, int32_t x, int32_t y) {
+    place *to = &it->wanted;
+    pix_source picture = it->picture;
+    to->x = about(x, to->x, scaled(picture.width, to->zoom), scaled(picture.width, zoom));
+    to->y = about(y, to->y, scaled(picture.height, to->zoom), scaled(picture.height, zoom));
+    to->zoom = zoom;
+    it->fits = 0;
+    settle(it);
+}
+
+/* The part of a side that is seen from `from` to `from + length`, in the picture's own pixels: its first one, and how
+ * many. */
+static uint32_t seen(int32_t at, int zoom, uint32_t side, int32_t from, uint32_t length, uint32_t *count) {
+    int64_t first = ((int64_t)from - at) / zoom, last = ((int64_t)from + length - at + zoom - 1) / zoom;
+    first = first < 0 ? 0 : first > side ? side : first;
+    last = last < first ? first : last > side ? side : last;
+    *count = (uint32_t)(last - first);
+    return (uint32_t)first;
+}
+
+/* The picture as it is seen in a part of the window, with where it lies there; `made` is to be freed after its use. */
+static pix_source shown(view *it, pix_region part, pix_region *to, canvas *made) {
+    const place *at = &it->wanted;
+    pix_source source = it->picture;
+    if (at->zoom == 1) {
+        *to = pix_region_of(at->x, at->y, source.width, source.height);
+        return source;
+    }
+    if (at->zoom < 0) {
+        if (it->shrunk_at != at->zoom) {
+            canvas_free(&it->shrunk);
+            it->shrunk = scale_down(source, (uint32_t)-at->zoom);
+            it->shrunk_at = at->zoom;
+        }
+        *to = pix_region_of(at->x, at->y, it->shrunk.width, it->shrunk.height);
+        return canvas_source(&it->shrunk);
+    }
+    uint32_t width, height, left = seen(at->x, at->zoom, source.width, part.x, part.width, &width);
+    uint32_t top = seen(at->y, at->zoom, source.height, part.y, part.height, &height);
+    source.pixels += (size_t)top * source.stride + left;
+    source.width = width;
+    source.height = height;
+    *made = scale_up(source, (uint32_t)at->zoom);
+    *to = pix_region_of(at->x + (int32_t)left * at->zoom, at->y + (int32_t)top * at->zoom, made->width, made->height);
+    return canvas_source(made);
+}
+
+/* Adds the dark cells of the checkerboard that reach a part of the window; the board moves with the picture. */
+static size_t add_cells(pix_command *list, const place *at, pix_region frame, pix_region part) {
+    const pix_rgba8 dark = pix_rgba8_of(153, 153, 153, 255);
+    size_t count = 0;
+    int32_t right = part.x + (int32_t)part.width, bottom = part.y + (int32_t)part.height;
+    int32_t frame_right = frame.x + (int32_t)frame.width, frame_bottom = frame.y + (int32_t)frame.height;
+    int32_t first_row = part.y > at->y ? (part.y - at->y) / CELL : 0,
+            first_column = part.x > at->x ? (part.x - at->x) / CELL : 0;
+    for (int32_t row = first_row; at->y + row * CELL < bottom && at->y + row * CELL < frame_bottom; row++)
+        for (int32_t column = first_column; at->x + column * CELL < right && at->x + column * CELL < frame_right;
+             column++) {
+            int32_t x = at->x + column * CELL, y = at->y + row * CELL;
+            if ((row + column) % 2)
+                list[count++] = pix_copy_color(pix_region_of(x, y, (uint32_t)SDL_min(CELL, frame_right - x),
+                                                             (uint32_t)SDL_min(CELL, frame_bottom - y)),
+                                               dark);
+        }
+    return count;
+}
+
+/* Writes pixels as the bytes of a part of the screen. */
+static void encode(const canvas *tile, SDL_Surface *screen, int32_t x, int32_t y) {
+    for (uint32_t row = 0; row < tile->height; row++) {
+        uint8_t *to =
+            (uint8_t *)screen->pixels + (size_t)(y + (int32_t)row) * (size_t)screen->pitch + (size_t)4 * (size_t)x;
+        insist(pix_convert(PIX_FORMAT_RGBA8P, PIX_FORMAT_BGRA8, tile->pixels + (size_t)row * tile->width, to,
+                           tile->width));
+    }
+}
+
+/* Paints a part of the window: as a tile, by the commands of the whole window. */
+static void paint_part(view *it, pix_region part) {
+    const place *at = &it->wanted;
+    canvas tile = canvas_of(part.width, part.height), made = {NULL, 0, 0};
+    pix_region frame;
+    pix_source source = shown(it, part, &frame, &made);
+    pix_region picture =
+        pix_region_of(at->x, at->y, scaled(it->picture.width, at->zoom), scaled(it->picture.height, at->zoom));
+    size_t most = (size_t)(part.width / CELL + 2) * (part.height / CELL + 2) + 3, count = 0;
+    pix_command *list = insist_memory(malloc(most * sizeof *list));
+    list[count++] = pix_copy_color(part, pix_rgba8_of(40, 40, 44, 255));
+    list[count++] = pix_copy_color(picture, pix_rgba8_of(204, 204, 204, 255));
+    count += add_cells(list + count, at, picture, part);
+    list[count++] =
+        pix_composite_image(frame, source, pix_region_of(0, 0, source.width, source.height), PIX_OP_SRC_OVER);
+    insist(pix_run_in(canvas_image(&tile), (uint32_t)part.x, (uint32_t)part.y, list, count, NULL));
+    encode(&tile, it->screen, part.x, part.y);
+    free(list);
+    canvas_free(&made);
+    canvas_free(&tile);
+}
+
+/* A screen as rows of four bytes a pixel: the library moves them, whatever they mean. */
+static pix_image rows_of(SDL_Surface *screen) {
+    pix_image image = pix_image_of(screen->pixels, (uint32_t)screen->w, (uint32_t)screen->h);
+    image.stride = (uint32_t)screen->pitch / 4;
+    return image;
+}
+
+/* Moves what was painted to where it is wanted on a new screen, and answers the part of the window that it covers. */
+static SDL_Rect move_screen(view *it, SDL_Surface *screen) {
+    SDL_Rect covered = {0, 0, 0, 0};
+    if (it->screen && it->painted.zoom == it->wanted.zoom) {
+        SDL_Rect old = {it->wanted.x - it->painted.x, it->wanted.y - it->painted.y, it->screen->w, it->screen->h};
+        SDL_Rect all = {0, 0, screen->w, screen->h};
+        SDL_IntersectRect(&old, &all, &covered);
+        run_one(rows_of(screen), pix_copy_image(pix_region_of(old.x, old.y, (uint32_t)old.w, (uint32_t)old.h),
+                                                pix_source_of_image(rows_of(it->screen)),
+                                                pix_region_of(0, 0, (uint32_t)old.w, (uint32_t)old.h)));
+    }
+    return covered;
+}
+
+/* Adds a part with points in it. */
+static void add_part(painting *done, int x, int y, int width, int height) {
+    SDL_Rect part = {x, y, width, height};
+    if (width > 0 && height > 0)
+        done->parts[done->count++] = part;
+}
+
+painting view_paint(view *it) {
+    painting done = {{{0, 0, 0, 0}}, 0, 0};
+    if (it->screen && !memcmp(&it->wanted, &it->painted, sizeof it->wanted))
+        return done;
+    int width = (int)it->wanted.width, height = (int)it->wanted.height;
+    SDL_Surface *screen = insist_memory(SDL_CreateRGBSurfaceWithFormat(0, width, height, 32, SDL_PIXELFORMAT_BGRA32));
+    SDL_SetSurfaceBlendMode(screen, SDL_BLENDMODE_NONE);
+    SDL_Rect covered = move_screen(it, screen);
+    SDL_FreeSurface(it->screen);
+    it->screen = screen;
+    it->painted = it->wanted;
+    done.moved = covered.w > 0 && covered.h > 0;
+    if (!done.moved)
+        covered.y = covered.h = covered.w = covered.x = 0;
+    int right = covered.x + covered.w, bottom = covered.y + covered.h;
+    add_part(&done, 0, 0, width, covered.y);
+    add_part(&done, 0, bottom, width, height - bottom);
+    add_part(&done, 0, covered.y, covered.x, covered.h);
+    add_part(&done, right, covered.y, width - right, covered.h);
+    for (int i = 0; i < done.count; i++) {
+        SDL_Rect part = done.parts[i];
+        paint_part(it, pix_region_of(part.x, part.y, (uint32_t)part.w, (uint32_t)part.h));
+    }
+    return done;
+}

@@ -1,0 +1,155 @@
+"""Images of indices into a table of colors, and rows of packed indices."""
+
+from __future__ import annotations
+
+import ctypes
+from operator import index
+from typing import Any, List, Optional, SupportsIndex
+
+from pix._library import LONG, libraries
+from pix._memory import Buffer, Memory, calls
+from pix._values import Format, PixError, Status
+
+# The formats of pixels that a table of colors is beside: sRGB, and not multiplied by an alpha.
+_PIXELS = {Format.SRGB8: 3, Format.SRGBA8: 4}
+
+
+def _read(buffer: Any) -> Memory:
+    """The memory of a buffer of bytes without gaps."""
+    memory = Memory(buffer)
+    if memory.has_gaps:
+        raise ValueError("the buffer has gaps between its rows: pass them one by one")
+    return memory
+
+
+def _written(buffer: Any, *read: Memory) -> Memory:
+    """The memory of a buffer that is written, apart from those that are read."""
+    memory = _read(buffer)
+    if memory.is_readonly and memory.length:
+        raise TypeError("the buffer is read-only")
+    if not all(memory.is_apart(other) for other in read):
+        raise ValueError("two buffers share memory")
+    return memory
+
+
+def _count(memory: Memory, size: int) -> int:
+    """How many elements of a size the memory has."""
+    count = memory.length // size
+    if memory.length != count * size:
+        raise PixError(Status.BAD_LENGTH)
+    return count
+
+
+def _byte(number: SupportsIndex, what: str) -> int:
+    """The number, if it fits in a byte."""
+    taken = index(number)
+    if not 0 <= taken < 256:
+        raise ValueError(f"{what} {taken} is not from 0 to 255")
+    return taken
+
+
+def _done(status: int) -> None:
+    """Raises what a status says."""
+    if status:
+        raise PixError(Status(status))
+
+
+def map_indexed(
+    table: Buffer,
+    pixels: Buffer,
+    indices: Any = None,
+    format: Format = Format.SRGB8,
+    alpha: SupportsIndex = 0,
+    kept: SupportsIndex = 0,
+) -> Any:
+    """Writes for each pixel the index of the nearest entry of `table`, and returns `indices`, without which it makes a bytearray.
+
+    The table has from 1 to 256 colors of three bytes: red, green and blue in sRGB. The pixels are of the format SRGB8, or of
+    SRGBA8. The nearest entry, the first of equals, is the one with the least sum of the squares of the differences in red, green
+    and blue. A pixel whose alpha is below `alpha` has the index `kept`; of the others the alpha is not looked at.
+
+    Raises PixError where the table or the lengths don't fit, and leaves `indices` as they were.
+    """
+    size = _PIXELS.get(Format(format))
+    if size is None:
+        raise PixError(Status.BAD_FORMAT)
+    alpha, kept = _byte(alpha, "alpha"), _byte(kept, "index")
+    entries, source = _read(table), _read(pixels)
+    entry_count, count = _count(entries, 3), _count(source, size)
+    if indices is None:
+        indices = bytearray(count)
+    target = _written(indices, entries, source)
+    with calls.turn(target, [entries, source]):
+        library = libraries[count > LONG]
+        read = (entries.address, entry_count, source.address, count)
+        if size == 3:
+            _done(library.pix_table_match(*read, target.address, target.length))
+        else:
+            _done(library.pix_table_match_alpha(*read, alpha, kept, target.address, target.length))
+    return indices
+
+
+def look_up(table: Buffer, indices: Buffer, pixels: Any = None) -> Any:
+    """Writes the entry of `table` of each index, three bytes each, and returns `pixels`, without which it makes a bytearray.
+
+    Raises PixError where an index is past the end of the table, or the lengths don't fit, and leaves `pixels` as they were.
+    """
+    entries, source = _read(table), _read(indices)
+    entry_count = _count(entries, 3)
+    if pixels is None:
+        pixels = bytearray(3 * source.length)
+    target = _written(pixels, entries, source)
+    count = _count(target, 3)
+    with calls.turn(target, [entries, source]):
+        library = libraries[count > LONG]
+        _done(library.pix_table_look_up(entries.address, entry_count, source.address, source.length, target.address, count))
+    return pixels
+
+
+def count_indices(indices: Buffer, length: SupportsIndex = 256) -> List[int]:
+    """How often each number below `length` stands among the indices. Raises PixError where an index is not below it."""
+    source = _read(indices)
+    counts = (ctypes.c_size_t * index(length))()
+    target = ctypes.addressof(counts)
+    _done(libraries[source.length > LONG].pix_table_count(source.address, source.length, target, len(counts)))
+    return list(counts)
+
+
+def row_size(bits: SupportsIndex, count: SupportsIndex) -> int:
+    """How many bytes a row of `count` indices of 1, 2, 4 or 8 bits takes."""
+    if index(bits) not in (1, 2, 4, 8):
+        raise PixError(Status.BAD_DEPTH)
+    return -(-index(count) * index(bits) // 8)
+
+
+def pack_row(bits: SupportsIndex, indices: Buffer, row: Any = None) -> Any:
+    """Packs indices of 1, 2, 4 or 8 bits into the bytes of a row, and returns `row`, without which it makes a bytearray.
+
+    The indices are in order, those of a byte from its most significant bits on, and the bits that are left over in the last byte
+    are 0. Raises PixError where an index takes more bits or the lengths don't fit, and leaves `row` as it was.
+    """
+    source = _read(indices)
+    size = row_size(bits, source.length)
+    if row is None:
+        row = bytearray(size)
+    target = _written(row, source)
+    with calls.turn(target, [source]):
+        library = libraries[source.length > LONG]
+        _done(library.pix_table_pack(index(bits), source.address, source.length, target.address, target.length))
+    return row
+
+
+def unpack_row(bits: SupportsIndex, row: Buffer, indices: Any = None, count: Optional[SupportsIndex] = None) -> Any:
+    """Unpacks `count` indices of 1, 2, 4 or 8 bits from the bytes of a row, or fills `indices`, and returns them.
+
+    Raises PixError where the row has not just as many bytes as they take, and leaves `indices` as they were.
+    """
+    row_size(bits, 0)
+    source = _read(row)
+    if indices is None:
+        indices = bytearray(source.length * 8 // index(bits) if count is None else index(count))
+    target = _written(indices, source)
+    with calls.turn(target, [source]):
+        library = libraries[target.length > LONG]
+        _done(library.pix_table_unpack(index(bits), source.address, source.length, target.address, target.length))
+    return indices

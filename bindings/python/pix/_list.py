@@ -1,0 +1,87 @@
+"""Lists of commands that are checked once and run often."""
+
+from __future__ import annotations
+
+import ctypes
+from functools import partial
+from typing import Any, Dict, Iterator, List, Sequence, Tuple
+
+from pix._command import Command, made
+from pix._memory import NOWHERE, Memory
+from pix._pixels import RGBA8, PixelType, kind_of
+from pix._values import PixError, Status
+
+
+class Listed:
+    """Commands as the library reads them, for images of one type: none of it changes, and it pins what they read."""
+
+    __slots__ = ("commands", "type", "address", "sources", "numbers", "low", "high", "_records")
+
+    def __init__(self, commands: Sequence[Command], type: PixelType) -> None:
+        taken = [made(command, type) for command in commands]
+        self.commands = tuple(commands)
+        self.type = type
+        self._records = (type._command * max(1, len(taken)))(*(record for record, _ in taken))
+        self.address = ctypes.addressof(self._records)
+        # Each memory once, with the number of the first command that reads it.
+        first: Dict[int, Tuple[int, Memory]] = {}
+        for number, (_, read) in enumerate(taken):
+            for source in read:
+                if source.length:
+                    first.setdefault(id(source), (number, source))
+        self.numbers = [number for number, _ in first.values()]
+        self.sources: List[Memory] = [source for _, source in first.values()]
+        self.low = min((source.address for source in self.sources), default=0)
+        self.high = max((source.address + source.length for source in self.sources), default=0)
+
+    def refuse_shared(self, memory: Memory) -> None:
+        """Raises a ValueError where a command reads this memory."""
+        if memory.address + memory.length <= self.low or self.high <= memory.address:
+            return
+        for number, source in zip(self.numbers, self.sources):
+            if not memory.is_apart(source):
+                raise ValueError(f"command {number}: its source shares memory with the image")
+
+
+class CommandList(Sequence):
+    """A list of commands for images of one `type`, which is checked once, when it is made, and run often.
+
+    Image.run() takes it in the place of its commands, and then tests nothing again but what depends on the image. It
+    stays as it is; what its sources hold is read at each run. A pickle has its commands, with pixels of their own.
+
+        screen = pix.CommandList(pix.clear(), pix.composite_image((8, 8, 16, 16), sprite))
+        for image in images:
+            image.run(screen)
+
+    Raises what Image.run() raises for a command that is refused.
+    """
+
+    __slots__ = ("_listed",)
+
+    def __init__(self, *commands: Command, type: PixelType = RGBA8) -> None:
+        listed, done = Listed(commands, kind_of(type)), ctypes.c_size_t()
+        # On an image of no pixels all commands are tested, and none paints.
+        status = type._calls[0](NOWHERE, 0, 0, 0, 0, 0, 0, listed.address, len(commands), done)
+        if status:
+            raise PixError(Status(status), done.value)
+        self._listed = listed
+
+    @property
+    def type(self) -> PixelType:
+        """The kind of pixels of the images that it is for."""
+        return self._listed.type
+
+    def __len__(self) -> int:
+        return len(self._listed.commands)
+
+    def __getitem__(self, index: Any) -> Any:
+        return self._listed.commands[index]
+
+    def __iter__(self) -> Iterator[Command]:
+        return iter(self._listed.commands)
+
+    def __repr__(self) -> str:
+        return f"<pix.CommandList of {len(self)}, {self.type}>"
+
+    def __reduce__(self) -> tuple:
+        return partial(CommandList, type=self.type), self._listed.commands

@@ -1,0 +1,84 @@
+"""Images of indices beside plain loops, and what is refused."""
+
+import random
+import unittest
+
+import pix
+
+
+def plain_nearest(table, color):
+    """The nearest entry, by all of them: min answers the first of equals."""
+    return min(range(len(table)), key=lambda i: sum((x - y) ** 2 for x, y in zip(table[i], color)))
+
+
+def joined(colors):
+    return bytes(channel for color in colors for channel in color)
+
+
+class Tables(unittest.TestCase):
+    def test_nearest(self):
+        chance = random.Random(1)
+        for length, levels in ((1, 256), (2, 2), (16, 4), (255, 3), (256, 256)):
+            step = 255 // (levels - 1)
+            table = [tuple(step * chance.randrange(levels) for _ in range(3)) for _ in range(length)]
+            pixels = [tuple(chance.randrange(256) for _ in range(3)) for _ in range(300)]
+            pixels += [tuple(step * chance.randrange(levels) for _ in range(3)) for _ in range(200)]
+            wanted = bytes(plain_nearest(table, pixel) for pixel in pixels)
+            self.assertEqual(pix.map_indexed(joined(table), joined(pixels)), wanted)
+            back = pix.look_up(joined(table), wanted)
+            self.assertEqual(back, joined(table[i] for i in wanted))
+            with_alpha = joined((*pixel, 126 + i % 4) for i, pixel in enumerate(pixels))
+            kept = bytes(77 if i % 4 < 2 else index for i, index in enumerate(wanted))
+            found = pix.map_indexed(joined(table), with_alpha, format=pix.Format.SRGBA8, alpha=128, kept=77)
+            self.assertEqual(found, kept)
+
+    def test_rows(self):
+        chance = random.Random(2)
+        for bits in (1, 2, 4, 8):
+            for count in range(40):
+                indices = bytes(chance.randrange(2**bits) for _ in range(count))
+                spelled = "".join(f"{index:0{bits}b}" for index in indices)
+                spelled += "0" * (-len(spelled) % 8)
+                wanted = bytes(int(spelled[i : i + 8], 2) for i in range(0, len(spelled), 8))
+                self.assertEqual(pix.row_size(bits, count), len(wanted))
+                self.assertEqual(pix.pack_row(bits, indices), wanted)
+                self.assertEqual(pix.unpack_row(bits, wanted, count=count), indices)
+
+    def test_counts(self):
+        self.assertEqual(pix.count_indices(b"\3\0\3", 4), [1, 0, 0, 2])
+        self.assertEqual(sum(pix.count_indices(bytes(1000))), 1000)
+        with self.assertRaises(pix.PixError) as refused:
+            pix.count_indices(b"\4", 4)
+        self.assertEqual(refused.exception.status, pix.Status.BAD_INDEX)
+
+    def refused(self, status, call, *words, **more):
+        with self.assertRaises(pix.PixError) as refused:
+            call(*words, **more)
+        self.assertEqual(refused.exception.status, status)
+
+    def test_refusals(self):
+        status, kept = pix.Status, bytearray(b"\x09\x09")
+        self.refused(status.BAD_TABLE, pix.map_indexed, b"", b"abc")
+        self.refused(status.BAD_TABLE, pix.map_indexed, bytes(3 * 257), b"abc")
+        self.refused(status.BAD_LENGTH, pix.map_indexed, b"ab", b"abc")
+        self.refused(status.BAD_LENGTH, pix.map_indexed, b"abc", b"abcd")
+        self.refused(status.BAD_LENGTH, pix.map_indexed, b"abc", b"abc", kept)
+        self.refused(status.BAD_FORMAT, pix.map_indexed, b"abc", b"abcd", format=pix.Format.RGBA8P)
+        self.refused(status.BAD_INDEX, pix.look_up, b"abc", b"\0\1")
+        self.refused(status.BAD_LENGTH, pix.look_up, b"abc", b"\0", bytearray(6))
+        self.refused(status.BAD_DEPTH, pix.pack_row, 3, b"\0")
+        self.refused(status.BAD_DEPTH, pix.unpack_row, 0, b"\0")
+        self.refused(status.BAD_INDEX, pix.pack_row, 1, b"\0\2", bytearray(1))
+        self.refused(status.BAD_LENGTH, pix.pack_row, 1, b"\0", kept)
+        self.refused(status.BAD_LENGTH, pix.unpack_row, 1, b"\0\0", kept)
+        self.assertEqual(kept, b"\x09\x09")
+        for wrong in (-1, 256):
+            self.assertRaises(ValueError, pix.map_indexed, b"abc", b"abcd", format=pix.Format.SRGBA8, alpha=wrong)
+        self.assertRaises(TypeError, pix.map_indexed, b"abc", b"abc", b"\0")
+        shared = bytearray(6)
+        self.assertRaises(ValueError, pix.map_indexed, b"abc", shared, memoryview(shared)[:2])
+        self.assertRaises(ValueError, pix.look_up, shared, b"\0", memoryview(shared)[3:])
+
+
+if __name__ == "__main__":
+    unittest.main()

@@ -1,0 +1,208 @@
+//! Tables of colors, for images of indices.
+
+use crate::error::Error;
+pub use pix_sys::{Srgb8, Srgba8};
+use pix_sys::{check_library, status};
+
+/// A table of 1 to 256 colors, which it borrows.
+///
+/// ```
+/// use pix::{Srgb8, Table};
+///
+/// let entries = [Srgb8::new(0, 0, 0), Srgb8::new(255, 255, 255)];
+/// let table = Table::new(&entries)?;
+/// let mut indices = [0; 2];
+/// table.map_indexed(&[Srgb8::new(200, 190, 180), Srgb8::new(30, 20, 10)], &mut indices)?;
+/// assert_eq!(indices, [1, 0]);
+/// # Ok::<(), pix::Error>(())
+/// ```
+#[derive(Clone, Copy, Debug)]
+pub struct Table<'a> {
+    entries: &'a [Srgb8],
+}
+
+/// How many bits an index takes in a packed row.
+#[repr(u32)]
+#[derive(Clone, Copy, Debug, PartialEq, Eq, Hash)]
+pub enum IndexDepth {
+    One = 1,
+    Two = 2,
+    Four = 4,
+    Eight = 8,
+}
+
+impl IndexDepth {
+    /// How many bytes a row of so many indices takes.
+    pub const fn row_size(self, count: usize) -> usize {
+        count.div_ceil(8 / self as usize)
+    }
+}
+
+/// What a status says.
+fn done(answer: u32) -> Result<(), Error> {
+    if answer == status::OK {
+        Ok(())
+    } else {
+        Err(Error::of(answer, 0))
+    }
+}
+
+impl<'a> Table<'a> {
+    /// A table of these entries, in order.
+    ///
+    /// # Errors
+    ///
+    /// `Table` where there is none, or more than 256.
+    pub fn new(entries: &'a [Srgb8]) -> Result<Table<'a>, Error> {
+        if entries.is_empty() || entries.len() > 256 {
+            return Err(Error::Table);
+        }
+        Ok(Table { entries })
+    }
+
+    /// The entries, in order.
+    pub fn entries(&self) -> &'a [Srgb8] {
+        self.entries
+    }
+
+    /// The index of the entry that is nearest to a color, the first of equals: the one with the least sum of the squares
+    /// of the differences in red, green and blue.
+    pub fn nearest(&self, color: Srgb8) -> Result<u8, Error> {
+        check_library()?;
+        let mut index = 0;
+        // SAFETY: the pointers are those of a slice and of two values of this function.
+        let answer = unsafe {
+            pix_sys::pix_table_nearest(
+                self.entries.as_ptr(),
+                self.entries.len(),
+                &color,
+                &mut index,
+            )
+        };
+        done(answer).map(|()| index)
+    }
+
+    /// Sets each index to that of the entry that is nearest to the pixel of the same place.
+    ///
+    /// # Errors
+    ///
+    /// `Length` where there are not as many indices as pixels. They are unchanged.
+    pub fn map_indexed(&self, pixels: &[Srgb8], indices: &mut [u8]) -> Result<(), Error> {
+        check_library()?;
+        // SAFETY: pointers and lengths are those of three slices, and the exclusive one shares no byte with the others.
+        done(unsafe {
+            pix_sys::pix_table_match(
+                self.entries.as_ptr(),
+                self.entries.len(),
+                pixels.as_ptr(),
+                pixels.len(),
+                indices.as_mut_ptr(),
+                indices.len(),
+            )
+        })
+    }
+
+    /// Does what [`map_indexed`](Table::map_indexed) does, on pixels with an alpha. One whose alpha is below `alpha` has the
+    /// index `kept`, which may be that of a transparent entry; of the others the alpha is not looked at.
+    pub fn map_indexed_alpha(
+        &self,
+        pixels: &[Srgba8],
+        alpha: u8,
+        kept: u8,
+        indices: &mut [u8],
+    ) -> Result<(), Error> {
+        check_library()?;
+        // SAFETY: pointers and lengths are those of three slices, and the exclusive one shares no byte with the others.
+        done(unsafe {
+            pix_sys::pix_table_match_alpha(
+                self.entries.as_ptr(),
+                self.entries.len(),
+                pixels.as_ptr(),
+                pixels.len(),
+                alpha,
+                kept,
+                indices.as_mut_ptr(),
+                indices.len(),
+            )
+        })
+    }
+
+    /// Sets each pixel to the entry of the index of the same place.
+    ///
+    /// # Errors
+    ///
+    /// `Length` where there are not as many pixels as indices, and `Index` where an index is past the end. The pixels are
+    /// unchanged.
+    pub fn look_up(&self, indices: &[u8], pixels: &mut [Srgb8]) -> Result<(), Error> {
+        check_library()?;
+        // SAFETY: pointers and lengths are those of three slices, and the exclusive one shares no byte with the others.
+        done(unsafe {
+            pix_sys::pix_table_look_up(
+                self.entries.as_ptr(),
+                self.entries.len(),
+                indices.as_ptr(),
+                indices.len(),
+                pixels.as_mut_ptr(),
+                pixels.len(),
+            )
+        })
+    }
+}
+
+/// Sets the count of each number to how often it stands among the indices.
+///
+/// # Errors
+///
+/// `Index` where an index has no count. The counts are unchanged.
+pub fn count_indices(indices: &[u8], counts: &mut [usize]) -> Result<(), Error> {
+    check_library()?;
+    // SAFETY: pointers and lengths are those of two slices, and the exclusive one shares no byte with the other.
+    done(unsafe {
+        pix_sys::pix_table_count(
+            indices.as_ptr(),
+            indices.len(),
+            counts.as_mut_ptr(),
+            counts.len(),
+        )
+    })
+}
+
+/// Packs a row of indices into the bytes of a row: in order, those of a byte from its most significant bits on, and 0 in
+/// the bits that are left over in the last byte.
+///
+/// # Errors
+///
+/// `Length` where there are not just as many bytes as the row takes, and `Index` where an index takes more bits. The bytes
+/// are unchanged.
+pub fn pack_row(depth: IndexDepth, indices: &[u8], bytes: &mut [u8]) -> Result<(), Error> {
+    check_library()?;
+    // SAFETY: pointers and lengths are those of two slices, and the exclusive one shares no byte with the other.
+    done(unsafe {
+        pix_sys::pix_table_pack(
+            depth as u32,
+            indices.as_ptr(),
+            indices.len(),
+            bytes.as_mut_ptr(),
+            bytes.len(),
+        )
+    })
+}
+
+/// Unpacks a row of indices from its bytes; bits that are left over in the last byte are not looked at.
+///
+/// # Errors
+///
+/// `Length` where there are not just as many bytes as the row takes. The indices are unchanged.
+pub fn unpack_row(depth: IndexDepth, bytes: &[u8], indices: &mut [u8]) -> Result<(), Error> {
+    check_library()?;
+    // SAFETY: pointers and lengths are those of two slices, and the exclusive one shares no byte with the other.
+    done(unsafe {
+        pix_sys::pix_table_unpack(
+            depth as u32,
+            bytes.as_ptr(),
+            bytes.len(),
+            indices.as_mut_ptr(),
+            indices.len(),
+        )
+    })
+}

@@ -1,0 +1,124 @@
+//! Tables of colors beside plain loops, and what is refused.
+
+use pix::{Error, IndexDepth, Srgb8, Srgba8, Table, count_indices, pack_row, unpack_row};
+
+/// Bytes that look random.
+fn bytes(seed: u32) -> impl FnMut() -> u8 {
+    let mut state = seed;
+    move || {
+        state = state.wrapping_mul(1664525).wrapping_add(1013904223);
+        (state >> 24) as u8
+    }
+}
+
+fn distance(p: Srgb8, q: Srgb8) -> i32 {
+    let square = |x: u8, y: u8| (i32::from(x) - i32::from(y)).pow(2);
+    square(p.r, q.r) + square(p.g, q.g) + square(p.b, q.b)
+}
+
+#[test]
+fn nearest_entries() {
+    for (len, mask) in [(1, 255), (16, 0xc0), (255, 255), (256, 0xf0)] {
+        let mut next = bytes(len as u32);
+        let mut color = |mask: u8| Srgb8::new(next() & mask, next() & mask, next() & mask);
+        let entries: Vec<Srgb8> = (0..len).map(|_| color(mask)).collect();
+        let pixels: Vec<Srgb8> = (0..3000)
+            .map(|i| color(if i % 2 == 0 { mask } else { 255 }))
+            .collect();
+        let table = Table::new(&entries).unwrap();
+        let mut indices = vec![9; pixels.len()];
+        table.map_indexed(&pixels, &mut indices).unwrap();
+        for (pixel, index) in pixels.iter().zip(&indices) {
+            // min_by_key answers the first of equals.
+            let plain = (0..len)
+                .min_by_key(|at| distance(entries[*at], *pixel))
+                .unwrap();
+            assert_eq!(usize::from(*index), plain);
+        }
+        assert_eq!(table.nearest(pixels[0]), Ok(indices[0]));
+        let with_alpha: Vec<Srgba8> = pixels
+            .iter()
+            .enumerate()
+            .map(|(i, p)| Srgba8::new(p.r, p.g, p.b, (126 + i % 4) as u8))
+            .collect();
+        let mut kept = vec![9; pixels.len()];
+        table
+            .map_indexed_alpha(&with_alpha, 128, 77, &mut kept)
+            .unwrap();
+        for (i, index) in kept.iter().enumerate() {
+            assert_eq!(*index, if i % 4 < 2 { 77 } else { indices[i] });
+        }
+        let mut back = vec![Srgb8::default(); pixels.len()];
+        table.look_up(&indices, &mut back).unwrap();
+        for (pixel, index) in back.iter().zip(&indices) {
+            assert_eq!(*pixel, entries[usize::from(*index)]);
+        }
+    }
+}
+
+#[test]
+fn rows_of_indices() {
+    for depth in [
+        IndexDepth::One,
+        IndexDepth::Two,
+        IndexDepth::Four,
+        IndexDepth::Eight,
+    ] {
+        let bits = depth as usize;
+        for count in 0..40 {
+            let mut next = bytes(count as u32);
+            let indices: Vec<u8> = (0..count).map(|_| next() >> (8 - bits)).collect();
+            let mut row = vec![0x5a; depth.row_size(count)];
+            pack_row(depth, &indices, &mut row).unwrap();
+            let spelled = row
+                .iter()
+                .map(|byte| format!("{byte:08b}"))
+                .collect::<String>();
+            let wanted = indices
+                .iter()
+                .map(|index| format!("{index:0bits$b}"))
+                .collect::<String>();
+            assert_eq!(spelled, format!("{wanted:0<width$}", width = row.len() * 8));
+            let mut back = vec![0x5a; count];
+            unpack_row(depth, &row, &mut back).unwrap();
+            assert_eq!(back, indices);
+        }
+    }
+}
+
+#[test]
+fn counts() {
+    let mut counts = [9; 4];
+    count_indices(&[3, 0, 3], &mut counts).unwrap();
+    assert_eq!(counts, [1, 0, 0, 2]);
+    assert_eq!(count_indices(&[4], &mut counts), Err(Error::Index));
+    assert_eq!(counts, [1, 0, 0, 2]);
+}
+
+#[test]
+fn what_is_refused_changes_nothing() {
+    let entries = [Srgb8::new(1, 2, 3); 257];
+    assert_eq!(Table::new(&[]).unwrap_err(), Error::Table);
+    assert_eq!(Table::new(&entries).unwrap_err(), Error::Table);
+    let table = Table::new(&entries[..2]).unwrap();
+    let (mut indices, mut pixels) = ([9; 2], [Srgb8::default(); 2]);
+    assert_eq!(
+        table.map_indexed(&entries[..3], &mut indices),
+        Err(Error::Length)
+    );
+    assert_eq!(table.look_up(&[0, 2], &mut pixels), Err(Error::Index));
+    assert_eq!(table.look_up(&[0], &mut pixels), Err(Error::Length));
+    assert_eq!(
+        pack_row(IndexDepth::Four, &[1, 16], &mut indices[..1]),
+        Err(Error::Index)
+    );
+    assert_eq!(
+        pack_row(IndexDepth::Four, &[1, 2, 3], &mut indices[..1]),
+        Err(Error::Length)
+    );
+    assert_eq!(
+        unpack_row(IndexDepth::Two, &[1, 2], &mut indices),
+        Err(Error::Length)
+    );
+    assert_eq!((indices, pixels), ([9; 2], [Srgb8::default(); 2]));
+}

@@ -1,0 +1,57 @@
+-- The calls on tables of colors: what is refused, by which status.
+use Rattle.std.specs.Prelude.{◌≡◌, ℕ, ◌<◌, List, [], ◌∷◌, Bool, ◌&&◌, nat_eq, nat_lt, nat_le, length, slice_index, Option, Some, None, if◌then◌else◌}
+use Rattle.pix_table.specs.LookUp.{all_below}
+use Rattle.pix_table.specs.Packing.{pack_fault, unpack_fault}
+use Rattle.pix_table.specs.declared.row.IndexDepth.{IndexDepth}
+use Rattle.pix_table.specs.declared.row.IndexDepth.TheVariants.{One, Two, Four, Eight}
+use Rattle.pix_table.specs.declared.row.RowFault.{RowFault}
+use Rattle.pix_table.specs.declared.row.RowFault.TheVariants.{Length, Index}
+use Rattle.pix_c.specs.declared.table.PixSrgba8.{PixSrgba8}
+
+-- the numbers of a pixel with an alpha
+abbrev pub srgba8_numbers : PixSrgba8 → List ℕ
+srgba8_numbers pixel = pixel.red ∷ pixel.green ∷ pixel.blue ∷ pixel.alpha ∷ []
+
+-- whether there are as many entries as a table has: at least one, and at most 256
+abbrev pub is_table : ℕ → Bool
+is_table len = nat_lt 0 len && nat_le len 256
+
+-- the status of a search: 11 without a table, and else 0
+abbrev pub nearest_status : ℕ → ℕ
+nearest_status len = if is_table len then 0 else 11
+
+-- the status of matching pixels: 11 without a table, 7 where there are not as many indices as pixels, and else 0
+abbrev pub match_status : (len pixels indices : ℕ) → ℕ
+match_status len pixels indices = if is_table len then (if nat_eq indices pixels then 0 else 7) else 11
+
+-- the status of looking indices up: 7 where there are not as many pixels, 12 where an index is past the entries, and else 0
+abbrev pub look_up_status : ℕ → List ℕ → ℕ → ℕ
+look_up_status len indices pixels = if nat_eq pixels (length indices) then (if all_below len indices then 0 else 12) else 7
+
+-- the status of counting: 12 where an index has no count, and else 0
+abbrev pub count_status : ℕ → List ℕ → ℕ
+count_status len indices = if all_below len indices then 0 else 12
+
+-- the depth of so many bits, if it is one
+abbrev pub depth_of : ℕ → Option IndexDepth
+depth_of bits =
+    if nat_eq bits 1 then Some One
+    else (if nat_eq bits 2 then Some Two
+    else (if nat_eq bits 4 then Some Four
+    else (if nat_eq bits 8 then Some Eight else None)))
+
+-- the status of a row's fault: 7 for its length, 12 for an index, and 0 without one
+abbrev pub row_status : Option RowFault → ℕ
+row_status None = 0
+row_status (Some Length) = 7
+row_status (Some Index) = 12
+
+-- the status of packing a row: 13 where there is no such depth, and else that of its fault
+abbrev pub pack_status : Option IndexDepth → List ℕ → ℕ → ℕ
+pack_status None indices len = 13
+pack_status (Some depth) indices len = row_status (pack_fault depth indices len)
+
+-- the status of unpacking a row: the same
+abbrev pub unpack_status : Option IndexDepth → ℕ → ℕ → ℕ
+unpack_status None len count = 13
+unpack_status (Some depth) len count = row_status (unpack_fault depth len count)

@@ -1,0 +1,231 @@
+//! Tables of colors, for images of indices.
+ghost use Rattle.std.specs.Prelude.{◌≡◌, ◌≢◌, ℕ, ◌<◌, length, map, Some, slice_index};
+ghost use Rattle.pix_table.specs.Nearest.{numbers, IsNearest, AreMatched};
+ghost use Rattle.pix_table.specs.LookUp.{AreLookedUp, AreCounted};
+ghost use Rattle.pix_table.specs.Packing.{ArePacked, AreUnpacked};
+ghost use Rattle.pix_table.specs.declared.row.IndexDepth.{IndexDepth};
+ghost use Rattle.pix_c.specs.Table.{srgba8_numbers, nearest_status, match_status, look_up_status};
+ghost use Rattle.pix_c.specs.Table.{count_status, pack_status, unpack_status, depth_of, row_status};
+
+use crate::status::{BAD_LENGTH, DONE};
+use pix_table::{
+    Color, IndexDepth, Matcher, RowFault, TablePixel, count, look_up, match_pixels, pack_row,
+    unpack_row,
+};
+
+/// A table has no entry, or more than 256.
+pub const BAD_TABLE: u32 = 11;
+
+/// An index is past the end, or takes more bits than it is to have.
+pub const BAD_INDEX: u32 = 12;
+
+/// Indices take 1, 2, 4 or 8 bits.
+pub const BAD_DEPTH: u32 = 13;
+
+/// A pixel of red, green, blue and alpha of eight bits each, in sRGB, not multiplied by the alpha.
+#[repr(C)]
+#[derive(Clone, Copy, Debug, PartialEq, Eq)]
+pub struct PixSrgba8 {
+    /// The red channel.
+    pub red: u8,
+    /// The green channel.
+    pub green: u8,
+    /// The blue channel.
+    pub blue: u8,
+    /// The alpha.
+    pub alpha: u8,
+}
+
+impl TablePixel for PixSrgba8 {
+    ghost values = { srgba8_numbers };
+
+    fn rgb(self) -> Color {
+        Color {
+            red: self.red,
+            green: self.green,
+            blue: self.blue,
+        }
+    }
+
+    fn alpha(self) -> u8 {
+        self.alpha
+    }
+}
+
+/// Writes the index of the entry that is nearest to a color, the first of equals, by the sum of the squares of the differences of red, green
+/// and blue.
+///
+/// Returns 0, or 11 where there is no entry or more than 256: then nothing is written.
+#[unsafe(no_mangle)]
+pub extern "C" fn pix_table_nearest(entries: &[Color], clr: &Color, index: &mut u8) -> u32
+    ensures status { result ≡ nearest_status (length entries.now) }
+    ensures refused { result ≢ 0 → index.new ≡ index.old }
+    ensures done { result ≡ 0
+        → IsNearest (map numbers entries.now) (numbers clr.now) index.new }
+{
+    let Some(mut matcher) = Matcher::new(entries) else {
+        return BAD_TABLE;
+    };
+    *index = matcher.nearest(*clr);
+    DONE
+}
+
+/// Writes for each pixel the index of the entry that is nearest to it, as [`pix_table_nearest`].
+///
+/// Returns 0 when they are written. Else nothing is, and the status is 11 where there is no entry or more than 256, and otherwise 7 where
+/// there are not as many indices as pixels.
+#[unsafe(no_mangle)]
+pub extern "C" fn pix_table_match(entries: &[Color], pixels: &[Color], indices: &mut [u8]) -> u32
+    ensures status { result ≡
+        match_status (length entries.now) (length pixels.now) (length indices.old) }
+    ensures refused { result ≢ 0 → indices.new ≡ indices.old }
+    ensures done { result ≡ 0 → AreMatched (map numbers entries.now) 0 0
+        (map numbers pixels.now) indices.new }
+{
+    match_all(entries, pixels, 0, 0, indices)
+}
+
+/// Does what [`pix_table_match`] does, on pixels with an alpha. One whose alpha is below `alpha` has the index `kept`, and else the alpha is
+/// not looked at.
+#[unsafe(no_mangle)]
+pub extern "C" fn pix_table_match_alpha(
+    entries: &[Color],
+    pixels: &[PixSrgba8],
+    alpha: u8,
+    kept: u8,
+    indices: &mut [u8],
+) -> u32
+    ensures status { result ≡
+        match_status (length entries.now) (length pixels.now) (length indices.old) }
+    ensures refused { result ≢ 0 → indices.new ≡ indices.old }
+    ensures done { result ≡ 0 → AreMatched (map numbers entries.now) alpha kept
+        (map srgba8_numbers pixels.now) indices.new }
+{
+    match_all(entries, pixels, alpha, kept, indices)
+}
+
+/// Matches pixels of any kind.
+fn match_all<P: TablePixel>(
+    entries: &[Color],
+    pixels: &[P],
+    alpha: u8,
+    kept: u8,
+    indices: &mut [u8],
+) -> u32
+    ensures status { result ≡
+        match_status (length entries.now) (length pixels.now) (length indices.old) }
+    ensures refused { result ≢ 0 → indices.new ≡ indices.old }
+    ensures done { result ≡ 0 → AreMatched (map numbers entries.now) alpha kept
+        (map P.values pixels.now) indices.new }
+{
+    let Some(mut matcher) = Matcher::new(entries) else {
+        return BAD_TABLE;
+    };
+    if indices.len() != pixels.len() {
+        return BAD_LENGTH;
+    }
+    match_pixels(&mut matcher, pixels, alpha, kept, indices);
+    DONE
+}
+
+/// Writes for each index its entry.
+///
+/// Returns 0 when they are written. Else nothing is, and the status is 7 where there are not as many pixels as indices, and otherwise 12 where
+/// an index is past the entries.
+#[unsafe(no_mangle)]
+pub extern "C" fn pix_table_look_up(entries: &[Color], indices: &[u8], pixels: &mut [Color]) -> u32
+    ensures status { result ≡
+        look_up_status (length entries.now) indices.now (length pixels.old) }
+    ensures refused { result ≢ 0 → pixels.new ≡ pixels.old }
+    ensures done { result ≡ 0 → AreLookedUp entries.now indices.now pixels.new }
+{
+    if pixels.len() != indices.len() {
+        return BAD_LENGTH;
+    }
+    if look_up(entries, indices, pixels) {
+        DONE
+    } else {
+        BAD_INDEX
+    }
+}
+
+/// Writes for each number below the count of `counts` how often it stands in the indices.
+///
+/// Returns 0 when they are written, or 12 where an index has no count: then nothing is.
+#[unsafe(no_mangle)]
+pub extern "C" fn pix_table_count(indices: &[u8], counts: &mut [usize]) -> u32
+    ensures status { result ≡ count_status (length counts.old) indices.now }
+    ensures refused { result ≢ 0 → counts.new ≡ counts.old }
+    ensures done { result ≡ 0 → AreCounted (length counts.old) indices.now counts.new }
+{
+    if count(indices, counts) {
+        DONE
+    } else {
+        BAD_INDEX
+    }
+}
+
+/// Packs a row of indices of `bits` bits each into bytes: in order, those of a byte from its most significant bits on, and 0 in the bits that
+/// are left over in the last byte.
+///
+/// Returns 0 when it is packed. Else nothing is written, and the status is 13 where `bits` is neither 1, 2, 4 nor 8, otherwise 7 where there
+/// are not just as many bytes as the row takes, and otherwise 12 where an index takes more bits.
+#[unsafe(no_mangle)]
+pub extern "C" fn pix_table_pack(bits: u32, indices: &[u8], bytes: &mut [u8]) -> u32
+    ensures status { result ≡ pack_status (depth_of bits) indices.now (length bytes.old) }
+    ensures refused { result ≢ 0 → bytes.new ≡ bytes.old }
+    ensures done { (depth : IndexDepth) → depth_of bits ≡ Some depth → result ≡ 0
+        → ArePacked depth indices.now bytes.new }
+{
+    let Some(depth) = depth_of(bits) else {
+        return BAD_DEPTH;
+    };
+    match pack_row(depth, indices, bytes) {
+        Ok(()) => DONE,
+        Err(fault) => status_of(fault),
+    }
+}
+
+/// Unpacks a row of indices of `bits` bits each from its bytes.
+///
+/// Returns 0 when it is unpacked. Else nothing is written, and the status is 13 where `bits` is neither 1, 2, 4 nor 8, and otherwise 7 where
+/// there are not just as many bytes as the row takes.
+#[unsafe(no_mangle)]
+pub extern "C" fn pix_table_unpack(bits: u32, bytes: &[u8], indices: &mut [u8]) -> u32
+    ensures status { result ≡
+        unpack_status (depth_of bits) (length bytes.now) (length indices.old) }
+    ensures refused { result ≢ 0 → indices.new ≡ indices.old }
+    ensures done { (depth : IndexDepth) → depth_of bits ≡ Some depth → result ≡ 0
+        → AreUnpacked depth bytes.now indices.new }
+{
+    let Some(depth) = depth_of(bits) else {
+        return BAD_DEPTH;
+    };
+    match unpack_row(depth, bytes, indices) {
+        Ok(()) => DONE,
+        Err(fault) => status_of(fault),
+    }
+}
+
+/// Returns the depth of so many bits.
+fn depth_of(bits: u32) -> Option<IndexDepth>
+    ensures { result ≡ depth_of bits }
+{
+    match bits {
+        1 => Some(IndexDepth::One),
+        2 => Some(IndexDepth::Two),
+        4 => Some(IndexDepth::Four),
+        8 => Some(IndexDepth::Eight),
+        _ => None,
+    }
+}
+
+/// Returns the status of a fault.
+fn status_of(fault: RowFault) -> u32
+    ensures { result ≡ row_status (Some fault) }
+{
+    match fault {
+        RowFault::Length => BAD_LENGTH,
+        RowFault::Index => BAD_INDEX,
+    }
+}

@@ -1,0 +1,65 @@
+//! Composites that leave pixels as they are, or replace them, told by the factors of the operator.
+ghost use Rattle.std.specs.Prelude.{◌≡◌, ◌<◌, ℕ, [], length, map, get_or, true};
+ghost use Rattle.pix_ops.specs.Operators as operators;
+ghost use Rattle.pix_el.specs.Planes.{Keeps, KeepsAll};
+
+use crate::el::Pixel;
+use crate::planes::coverage::Coverage;
+use pix_chan::chan::Channel;
+use pix_ops::ops::Blend;
+use pix_ops::ops::run::Factor;
+
+/// Returns whether a factor is 0: it makes 0 of the maximum, whether the other side is transparent or opaque.
+#[inline(always)]
+fn is_zero<F: Factor, C: Channel>() -> bool
+    ensures { result ≡ true → F.coefficient ≡ operators.Zero }
+{
+    F::term(C::MAX, C::MAX) == C::MIN && F::term(C::MAX, C::MIN) == C::MIN
+}
+
+/// Returns whether a factor is 1: it leaves the maximum, whether the other side is transparent or opaque.
+#[inline(always)]
+fn is_one<F: Factor, C: Channel>() -> bool
+    ensures { result ≡ true → F.coefficient ≡ operators.One }
+{
+    F::term(C::MAX, C::MAX) == C::MAX && F::term(C::MAX, C::MIN) == C::MAX
+}
+
+/// Returns whether an operator keeps what it is composited with, whatever the source: the destination alone counts, as it is.
+#[inline(always)]
+pub(super) fn keeps_all<O: Blend, C: Channel>() -> bool
+    ensures { result ≡ true → KeepsAll C.max O.op }
+{
+    is_zero::<O::Source, C>() && is_one::<O::Dest, C>()
+}
+
+/// Returns whether an operator keeps what a transparent source is composited with: the destination's factor leaves it there.
+#[inline(always)]
+pub(super) fn keeps_under_clear<O: Blend, C: Channel>() -> bool
+    ensures { result ≡ true → Keeps C.max O.op 0 0 }
+{
+    <O::Dest as Factor>::term(C::MAX, C::MAX) == C::MAX
+}
+
+/// Returns whether all of these mattes are 0.
+#[inline(always)]
+pub(super) fn are_clear<C: Channel, S: Coverage<C>>(src: &[S]) -> bool
+    ensures { result ≡ true → (k : ℕ) → get_or (map S.value src.now) k 0 ≡ 0 }
+{
+    let mut any = 0;
+    for i in 0..src.len() {
+        any |= src[i].coverage().to_u32();
+    }
+    any == 0
+}
+
+/// Sees that each pixel has the channels of its format, which takes no step of the processor.
+#[inline(always)]
+pub(super) fn see_channels<P: Pixel>(pixels: &[P])
+    ensures { (k : ℕ) → k < length pixels.now
+        → length (get_or (map P.numbers pixels.now) k []) ≡ P.layout.count }
+{
+    for i in 0..pixels.len() {
+        let _ = pixels[i].channels();
+    }
+}

@@ -1,0 +1,152 @@
+//! Pixels through mattes, and at one opacity, four at a time: each pixel's channels are multiplied by its matte and composited as they lie.
+ghost use Rattle.std.specs.Prelude.{◌≡◌, ◌≤◌, ◌+◌, [], ◌∷◌, length, map, take};
+ghost use Rattle.std.specs.List.{zip};
+ghost use Rattle.pix_chan.specs.Runs.{over};
+ghost use Rattle.pix_el.specs.PixelComposite.{matted_composite, matte_numbers, matte_value};
+
+use crate::el::{Pix, Pixel};
+use crate::matte::Matte;
+use crate::planes::coverage::Coverage;
+use crate::planes::interleaved::{composite_four, four_pixels};
+use crate::planes::is_interleaved;
+use pix_chan::chan::{Alpha, Channel, Linear};
+use pix_ops::ops::Blend;
+
+/// Composites four pixels with those of `dst`, each through one of these matte values.
+///
+/// Condition: the alpha is the last channel, and none is a hue.
+#[inline(always)]
+fn composite_masked<O: Blend, P: Pixel>(
+    dst: &mut [P],
+    src: &[P],
+    a: P::Chan,
+    b: P::Chan,
+    c: P::Chan,
+    d: P::Chan,
+)
+    requires count { P.layout.count ≡ 4 }
+    requires alpha { P.layout.alpha ≡ 3 }
+    requires no_hue { P.layout.hues.end ≡ 0 }
+    requires size { length dst.old ≡ 4 }
+    requires src_size { length src.now ≡ 4 }
+    ensures { map P.numbers dst.new ≡ over (λ t. matted_composite P.layout O.op t.0 t.1)
+        (zip (P.Chan.number a ∷ P.Chan.number b ∷ P.Chan.number c ∷ P.Chan.number d ∷ [])
+        (map P.numbers src.now)) (map P.numbers dst.old) }
+{
+    let mattes = [a, a, a, a, b, b, b, b, c, c, c, c, d, d, d, d];
+    let mut colors = four_pixels(src);
+    P::Chan::mul_run(&mut colors, &mattes);
+    composite_four::<O, P>(dst, colors);
+}
+
+/// Composites four pixels with those of `dst`, each through the matte of the same index.
+///
+/// Condition: the alpha is the last channel, and none is a hue.
+#[inline(always)]
+fn composite_covered<O: Blend, P: Pixel, S: Coverage<P::Chan>>(
+    dst: &mut [P],
+    src: &[P],
+    mattes: &[S],
+)
+    requires count { P.layout.count ≡ 4 }
+    requires alpha { P.layout.alpha ≡ 3 }
+    requires no_hue { P.layout.hues.end ≡ 0 }
+    requires size { length dst.old ≡ 4 }
+    requires src_size { length src.now ≡ 4 }
+    requires whole { length mattes.now ≡ 4 }
+    ensures { map P.numbers dst.new ≡ over (λ t. matted_composite P.layout O.op t.0 t.1)
+        (zip (map S.value mattes.now) (map P.numbers src.now)) (map P.numbers dst.old) }
+{
+    let (a, b) = (mattes[0].coverage(), mattes[1].coverage());
+    let (c, d) = (mattes[2].coverage(), mattes[3].coverage());
+    composite_masked::<O, P>(dst, src, a, b, c, d);
+}
+
+/// Composites as many of the first `count` pixels as go by blocks, each through the matte of the same index, and returns how many
+/// these are.
+///
+/// Condition: the format has an alpha channel, and all three slices have `count` elements.
+#[inline(always)]
+fn covered_runs<O: Blend, P: Pixel, S: Coverage<P::Chan>>(
+    dst: &mut [P],
+    src: &[P],
+    mattes: &[S],
+    count: usize,
+) -> usize
+    requires has_alpha { P.layout.count ≡ P.layout.alpha + 1 }
+    requires dst_has { count ≤ length dst.old }
+    requires src_has { count ≤ length src.now }
+    requires mattes_have { count ≤ length mattes.now }
+    ensures some { result ≤ count }
+    ensures composite { map P.numbers dst.new ≡ over (λ t. matted_composite P.layout O.op t.0 t.1)
+        (take result (zip (map S.value mattes.now) (map P.numbers src.now)))
+        (map P.numbers dst.old) }
+{
+    if !is_interleaved::<P>() {
+        return 0;
+    }
+    for i in 0..count / 4 {
+        let at = 4 * i;
+        composite_covered::<O, P, S>(&mut dst[at..at + 4], &src[at..at + 4], &mattes[at..at + 4]);
+    }
+    count / 4 * 4
+}
+
+/// Composites as many of the first `count` pixels as go by blocks, each through the matte of the same index, and returns how many
+/// these are.
+///
+/// Condition: the format has an alpha channel, and all three slices have `count` elements.
+#[inline(always)]
+pub(crate) fn masked_runs<const N: usize, A: Alpha, O: Blend, P: Pixel>(
+    dst: &mut [P],
+    src: &[P],
+    mattes: &[Pix<N, P::Chan, Matte, A, Linear>],
+    count: usize,
+) -> usize
+    requires has_alpha { P.layout.count ≡ P.layout.alpha + 1 }
+    requires dst_has { count ≤ length dst.old }
+    requires src_has { count ≤ length src.now }
+    requires mattes_have { count ≤ length mattes.now }
+    ensures some { result ≤ count }
+    ensures composite { map P.numbers dst.new ≡
+        over (λ t. matted_composite P.layout O.op (matte_value P.layout t.0) t.1)
+        (take result (zip (map (matte_numbers P.Chan.number) mattes.now)
+        (map P.numbers src.now))) (map P.numbers dst.old) }
+{
+    covered_runs::<O, P, Pix<N, P::Chan, Matte, A, Linear>>(dst, src, mattes, count)
+}
+
+/// Composites as many of the first `count` pixels as go by blocks, each through the same matte value, and returns how many these are.
+///
+/// Condition: the format has an alpha channel, and both slices have `count` pixels.
+#[inline(always)]
+pub(crate) fn faded_runs<O: Blend, P: Pixel>(
+    dst: &mut [P],
+    src: &[P],
+    alpha: P::Chan,
+    count: usize,
+) -> usize
+    requires has_alpha { P.layout.count ≡ P.layout.alpha + 1 }
+    requires dst_has { count ≤ length dst.old }
+    requires src_has { count ≤ length src.now }
+    ensures some { result ≤ count }
+    ensures composite { map P.numbers dst.new ≡
+        over (matted_composite P.layout O.op (P.Chan.number alpha))
+        (take result (map P.numbers src.now)) (map P.numbers dst.old) }
+{
+    if !is_interleaved::<P>() {
+        return 0;
+    }
+    for i in 0..count / 4 {
+        let at = 4 * i;
+        composite_masked::<O, P>(
+            &mut dst[at..at + 4],
+            &src[at..at + 4],
+            alpha,
+            alpha,
+            alpha,
+            alpha,
+        );
+    }
+    count / 4 * 4
+}

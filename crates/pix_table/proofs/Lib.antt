@@ -1,0 +1,5 @@
+-- The files of lemmas. Answers and invariants of a function are found by its path.
+pub mod NearestEntries
+pub mod Writes
+pub mod Below
+pub mod Places

@@ -1,0 +1,21 @@
+-- Of `Matcher::new`: that the invariant of its loop over `i` holds after each turn, and that of the struct at its end.
+use Rattle.std.proofs.Common.{refl, ◌∙◌, length-set, arith}
+use Rattle.pix_table.proofs.NearestEntries.{all_known}
+use Rattle.pix_table.proofs.Writes.{copy_more}
+use Rattle.pix_table.proofs.matcher.Matcher.new.Goals as goal
+
+pub loop-i-preserved : goal.loop-i-preserved
+loop-i-preserved g c = record {
+  copied = copy_more _ _ c.loop-i.entries c.args.colors.now c.loop-i.i _ c.index-colors-i.result (omega arith) (omega arith) c.index-colors-i.is
+      c.color.ensures c.loop-i.invariant.copied;
+  long = length-set _ _ _ ∙ c.loop-i.invariant.long;
+}
+
+pub invariant_of-result : goal.invariant_of-result
+invariant_of-result g c = (
+  omega arith,
+  omega arith,
+  c.loop-i.invariant.long,
+  refl,
+  all_known _ 8192 c.color-clr.result c.search-at.result c.search-at.ensures,
+)

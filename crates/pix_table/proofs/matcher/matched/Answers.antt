@@ -1,0 +1,7 @@
+-- Of `matched`: the index of a pixel whose alpha is not below.
+use Rattle.std.proofs.Common.{inr, arith}
+use Rattle.pix_table.proofs.NearestEntries.{same_channels}
+use Rattle.pix_table.proofs.matcher.matched.Goals as goal
+
+pub returns-clause-matched : goal.returns-clause-matched
+returns-clause-matched g c = inr (omega (arith, c.alpha.ensures), same_channels _ _ _ _ c.rgb.ensures.red c.rgb.ensures.green c.rgb.ensures.blue c.nearest.ensures.nearest)

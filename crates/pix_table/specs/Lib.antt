@@ -1,0 +1,4 @@
+pub mod Nearest
+pub mod Known
+pub mod LookUp
+pub mod Packing

@@ -1,0 +1,61 @@
+//! What is needed of a color.
+ghost use Rattle.std.specs.Prelude.{◌≡◌, ℕ, List, slice_index};
+ghost use Rattle.pix_table.specs.Nearest.{numbers, alpha_of};
+
+/// Red, green and blue, of eight bits each.
+#[repr(C)]
+#[derive(Clone, Copy, Debug, Default, PartialEq, Eq)]
+pub struct Color {
+    /// The red channel.
+    pub red: u8,
+    /// The green channel.
+    pub green: u8,
+    /// The blue channel.
+    pub blue: u8,
+}
+
+/// A type of colors that a table may be of.
+pub trait TableColor: Copy {
+    /// The numbers of red, green and blue.
+    ghost channels: { Self → List ℕ };
+
+    /// Returns the color.
+    fn color(self) -> Color
+        ensures { numbers result ≡ Self.channels self };
+}
+
+impl TableColor for Color {
+    ghost channels = { numbers };
+
+    fn color(self) -> Color {
+        self
+    }
+}
+
+/// A pixel of red, green and blue, and an alpha if it has one.
+pub trait TablePixel: Copy {
+    /// The numbers of the pixel: red, green, blue, and the alpha.
+    ghost values: { Self → List ℕ };
+
+    /// Returns its color, which is not multiplied by the alpha.
+    fn rgb(self) -> Color
+        ensures red { result.red ≡ slice_index (values self) 0 }
+        ensures green { result.green ≡ slice_index (values self) 1 }
+        ensures blue { result.blue ≡ slice_index (values self) 2 };
+
+    /// Returns its alpha, or 255 where it has none.
+    fn alpha(self) -> u8
+        ensures { result ≡ alpha_of (values self) };
+}
+
+impl TablePixel for Color {
+    ghost values = { numbers };
+
+    fn rgb(self) -> Color {
+        self
+    }
+
+    fn alpha(self) -> u8 {
+        255
+    }
+}

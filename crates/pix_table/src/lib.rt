@@ -1,0 +1,16 @@
+//! Tables of colors: the nearest entry of a color, colors of indices, and indices packed into bytes.
+//!
+//! The tables and the indices are slices that the caller owns, and nothing is allocated.
+#![tactic(auto)]
+
+mod color;
+mod look;
+mod matcher;
+mod row;
+mod search;
+
+pub use crate::color::{Color, TableColor, TablePixel};
+pub use crate::look::{are_below, count, look_up};
+pub use crate::matcher::{Matcher, match_pixels};
+pub use crate::row::{IndexDepth, RowFault, pack_row, unpack_row};
+pub use crate::search::nearest;

@@ -1,0 +1,45 @@
+//! The nearest entry of a color.
+ghost use Rattle.std.specs.Prelude.{◌≡◌, ℕ, length, map, Some, None, IfSome};
+ghost use Rattle.pix_table.specs.Nearest.{IsNearestOf, IsFirst, numbers, distance, squared_difference};
+
+use crate::color::{Color, TableColor};
+
+/// Returns the index of the entry of `colors` that is nearest to `clr`, the first of equals; or `None` where there is no entry.
+///
+/// How near a color is, is the sum of the squares of its differences in red, green and blue.
+pub fn nearest<C: TableColor>(colors: &[C], clr: Color) -> Option<usize>
+    ensures nearest { IsNearestOf (map C.channels colors.now) (numbers clr) result }
+    ensures standing { (i : ℕ) → IsFirst (map C.channels colors.now) (numbers clr) i
+        → result ≡ Some i }
+{
+    if colors.is_empty() {
+        return None;
+    }
+    let mut at = 0;
+    let mut least = distance(colors[0].color(), clr);
+    for i in 0..colors.len() {
+        let next = distance(colors[i].color(), clr);
+        if next < least {
+            at = i;
+            least = next;
+        }
+    }
+    Some(at)
+}
+
+/// Returns how far two colors are apart.
+fn distance(p: Color, q: Color) -> u32
+    ensures { result ≡ distance (numbers p) (numbers q) }
+{
+    squared_difference(p.red, q.red)
+        + squared_difference(p.green, q.green)
+        + squared_difference(p.blue, q.blue)
+}
+
+/// Returns the square of how far two channels are apart.
+fn squared_difference(x: u8, y: u8) -> u32
+    ensures { result ≡ squared_difference x y }
+{
+    let apart = u32::from(x.abs_diff(y));
+    apart * apart
+}

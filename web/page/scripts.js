@@ -1,0 +1,186 @@
+// A paint script, its picture and its faults, and what became of the pixel under the mouse.
+import { decimal, distance } from './exact.js';
+import { historyOf } from './history.js';
+import { paint, printed } from './painting.js';
+import { checkerboard, element, onTheme, onceAFrame, show } from './view.js';
+
+const CHANNELS = ['red', 'green', 'blue', 'alpha'];
+const STEPS = { ArrowLeft: [-1, 0], ArrowRight: [1, 0], ArrowUp: [0, -1], ArrowDown: [0, 1] };
+const MOST = 1000;
+const SHOWN = 200;
+// What the page shows: a painting, or null where the script has a fault or makes no picture; and the image of a script
+// without a fault, or null.
+let painting = null, image = null;
+
+const node = (name, text) => Object.assign(document.createElement(name), { textContent: text });
+
+// Shows the first fault of the script, and marks its line.
+function showFault(fault) {
+    element('fault').textContent = fault;
+    element('script').setAttribute('aria-invalid', String(fault !== ''));
+}
+
+// Selects the line of the fault in the script.
+function selectLine(number) {
+    const field = element('script');
+    const lines = field.value.split('\n');
+    const start = lines.slice(0, number - 1).join('\n').length + (number > 1 ? 1 : 0);
+    field.focus();
+    field.setSelectionRange(start, start + lines[number - 1].length);
+}
+
+// Paints the script of the field.
+function repaint(library) {
+    painting = image = null;
+    const line = element('to-fault');
+    line.hidden = true;
+    try {
+        const made = paint(library, new TextEncoder().encode(element('script').value));
+        showFault('');
+        image = made.image;
+        if (image && image.width * image.height > 0) painting = made;
+    } catch (fault) {
+        showFault(fault.message);
+        line.hidden = !fault.line;
+        line.textContent = `Go to line ${fault.line}`;
+        line.onclick = () => selectLine(fault.line);
+    }
+    print(library);
+    showPicture(library);
+}
+
+// Prints the picture as text, where the visitor looks at that: a large one takes a while.
+function print(library) {
+    element('printed').textContent = element('print').open ? printed(library, image) : '';
+}
+
+// Shows the picture, as large as it goes by whole factors, and its pixel.
+function showPicture(library) {
+    for (const part of ['picture', 'pixel', 'steps']) element(part).hidden = !painting;
+    if (!painting) return;
+    const top = library.top;
+    show(library, image, checkerboard(library, image.width, image.height, false), element('painted'), false);
+    library.top = top;
+    const factor = Math.max(1, Math.floor(576 / Math.max(image.width, image.height)));
+    element('frame').style.width = `${image.width * factor}px`;
+    for (const [axis, side] of [['x', image.width], ['y', image.height]]) {
+        const field = element(`pixel-${axis}`);
+        field.max = side - 1;
+        if (Number(field.value) >= side) field.value = side - 1;
+    }
+    showPixel(library);
+}
+
+// Shows the history of the chosen pixel.
+function showPixel(library) {
+    const [x, y] = ['x', 'y'].map((axis) => Number(element(`pixel-${axis}`).value) || 0);
+    const mark = element('mark').style;
+    mark.left = `${(100 * x) / image.width}%`;
+    mark.top = `${(100 * y) / image.height}%`;
+    mark.width = `${100 / image.width}%`;
+    const history = historyOf(library, painting, x, y, MOST);
+    const last = history?.states.at(-1);
+    element('distances').hidden = !last;
+    element('steps').hidden = !last;
+    element('bound').textContent = history ? sentence(x, y, history)
+        : `More than ${MOST} commands reach the pixel (${x}, ${y}): this page works out the exact run of no more.`;
+    if (!last) return;
+    showDistances(last);
+    element('step-rows').replaceChildren(...history.states.slice(-SHOWN).map(stepRow));
+}
+
+// The bound in words: as the main theorem says it, for so many commands.
+function sentence(x, y, { states, isListed }) {
+    const n = states.length;
+    if (n === 0) return `No command reaches the pixel (${x}, ${y}): it stays clear, and nothing was rounded.`;
+    const bound = isListed ? `n = ${n}` : `n² + n = ${n * n + n}`;
+    const kinds = isListed ? 'all of the listed kinds' : 'not all of the listed kinds';
+    const reach = n === 1 ? 'One command reaches' : `${n} commands reach`;
+    return `${reach} the pixel (${x}, ${y}), ${kinds}: rounding moved no channel by more than ${bound} `
+        + `unit${isListed && n === 1 ? '' : 's'}. The budgets below are closer.`;
+}
+
+// Shows each channel of the pixel beside the exact one: how far apart they are, and the budget.
+function showDistances({ pixel, exact, budget }) {
+    const rows = CHANNELS.map((name, index) => {
+        const [apart, whole] = distance(pixel[index], exact.channels[index], exact.whole);
+        const most = (index < 3 ? budget.channel : budget.alpha) / 2;
+        const row = document.createElement('tr');
+        row.append(Object.assign(node('th', name), { scope: 'row' }), node('td', pixel[index]),
+            node('td', decimal(exact.channels[index], exact.whole)), node('td', decimal(apart, whole)),
+            node('td', most));
+        row.append(meter(name, Number(decimal(apart, whole)), most));
+        return row;
+    });
+    element('distance-rows').replaceChildren(...rows);
+}
+
+// A bar of the distance within the budget.
+function meter(name, apart, most) {
+    const bar = Object.assign(document.createElement('meter'), { min: 0, max: most || 1, value: apart });
+    bar.setAttribute('aria-label', `${name}: ${apart} of ${most} units`);
+    const cell = document.createElement('td');
+    cell.append(bar);
+    return cell;
+}
+
+// A row of the table of steps.
+function stepRow({ line, text, pixel, exact, budget }) {
+    const row = document.createElement('tr');
+    const exactly = exact.channels.map((value) => decimal(value, exact.whole)).join(' ');
+    const cells = [line, text, pixel.join(' '), exactly, `${budget.channel / 2}, ${budget.alpha / 2}`];
+    row.append(...cells.map((cell) => node('td', cell)));
+    return row;
+}
+
+// Chooses a pixel, within the picture.
+function choose(x, y, redraw) {
+    const { width, height } = image;
+    element('pixel-x').value = Math.min(width - 1, Math.max(0, x));
+    element('pixel-y').value = Math.min(height - 1, Math.max(0, y));
+    redraw();
+}
+
+// Lets a pixel be chosen by the mouse, a finger, the arrow keys and its numbers.
+function listen(redraw) {
+    const canvas = element('painted');
+    const point = (event) => {
+        const box = canvas.getBoundingClientRect();
+        choose(Math.floor(((event.clientX - box.left) * canvas.width) / box.width),
+            Math.floor(((event.clientY - box.top) * canvas.height) / box.height), redraw);
+    };
+    canvas.addEventListener('pointermove', point);
+    canvas.addEventListener('pointerdown', point);
+    canvas.addEventListener('keydown', (event) => {
+        const step = STEPS[event.key];
+        if (!step) return;
+        event.preventDefault();
+        const far = event.shiftKey ? 10 : 1;
+        const [x, y] = ['x', 'y'].map((axis) => Number(element(`pixel-${axis}`).value));
+        choose(x + far * step[0], y + far * step[1], redraw);
+    });
+    for (const axis of ['x', 'y']) {
+        element(`pixel-${axis}`).addEventListener('input', (event) => {
+            if (event.target.checkValidity()) redraw();
+        });
+    }
+}
+
+// Loads an example into the field.
+async function load(library, file) {
+    element('script').value = await (await fetch(file)).text();
+    repaint(library);
+}
+
+// Shows scripts, by an instance of the library of their own.
+export async function showScripts(library) {
+    const examples = await (await fetch('examples/list.json')).json();
+    const options = examples.map((name) => Object.assign(node('option', name), { value: `examples/${name}.paint` }));
+    element('example').append(...options);
+    element('example').addEventListener('change', (event) => load(library, event.target.value));
+    element('script').addEventListener('input', onceAFrame(() => repaint(library)));
+    element('print').addEventListener('toggle', () => print(library));
+    listen(onceAFrame(() => { if (painting) showPixel(library); }));
+    await load(library, element('example').value);
+    onTheme(() => showPicture(library));
+}

@@ -1,0 +1,2 @@
+double floor(double x);
+double pow(double x, double y);

@@ -1,0 +1,60 @@
+/* stand-in.c - the library of plain C, bindings/c/other.c, for WebAssembly, with what it needs of a C library: tools/web --stand-in tries the page over it.
+ * Nothing here is proved. */
+#include "pix.h"
+#include <math.h>
+#include <stdlib.h>
+#include <string.h>
+
+/* A call that the host sees. */
+#define SHOWN_(name) extern __typeof__(name) name __attribute__((export_name(#name)))
+SHOWN_(pix_layout);
+SHOWN_(pix_run_commands);
+SHOWN_(pix_run_window);
+SHOWN_(pix_convert_bytes);
+
+#include "other.c"
+
+void *memcpy(void *to, const void *from, size_t count) {
+    for (size_t i = 0; i < count; i++)
+        ((volatile char *)to)[i] = ((const char *)from)[i];
+    return to;
+}
+
+void *memset(void *to, int byte, size_t count) {
+    for (size_t i = 0; i < count; i++)
+        ((volatile char *)to)[i] = (char)byte;
+    return to;
+}
+
+char *getenv(const char *name) {
+    (void)name;
+    return NULL;
+}
+
+unsigned long strtoul(const char *text, char **end, int base) {
+    (void)text, (void)end, (void)base;
+    return 0;
+}
+
+double floor(double x) {
+    return __builtin_floor(x);
+}
+
+/* x to the power of y, of x from 0 to 2 and y from 0 to 3, by the series of the logarithm and of its inverse. */
+double pow(double x, double y) {
+    double log = 0, power = 1, term = 1;
+    int halves = 0;
+    if (x <= 0)
+        return 0;
+    for (; x < 0.75; x *= 2)
+        halves++;
+    double t = (x - 1) / (x + 1);
+    for (int i = 59; i > 0; i -= 2)
+        log = log * t * t + 1.0 / i;
+    log = y * (2 * t * log - halves * 0.69314718055994530942) / 64;
+    for (int i = 1; i < 20; i++)
+        power += term *= log / i;
+    for (int i = 0; i < 6; i++)
+        power *= power;
+    return power;
+}

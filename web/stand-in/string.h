@@ -1,0 +1,2 @@
+void *memcpy(void *to, const void *from, size_t count);
+void *memset(void *to, int byte, size_t count);

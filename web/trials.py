@@ -1,0 +1,403 @@
+"""What is tried of the page in a browser. Each trial is a function of this module whose name begins with `try_`; it throws `Failed` where the page shows
+anything but what it must."""
+
+import base64
+import json
+import pathlib
+import re
+from fractions import Fraction
+
+import model
+from chromium import Failed
+
+TOP = pathlib.Path(__file__).resolve().parent.parent
+READY = "document.documentElement?.dataset.ready === 'yes'"
+EXAMPLES = TOP / "crates/pix_examples/data"
+ROWS = TOP / "crates/pix_cases/data/scripts.txt"
+OPERATORS = model.operators((TOP / "docs/FORMATS.md").read_text(encoding="utf-8"))
+ORDER = re.findall(r"^row (\w+) =", (TOP / "crates/pix_ops/specs/Operators.antt").read_text(encoding="utf-8"), re.M)
+# The pictures of the page in pictures/: whether the page is light or dark, and the first and the last element that each shows.
+PICTURES = {"web.png": ("light", "page", "operators"), "web-dark.png": ("dark", "scripts", "text")}
+# The roles of what has to have a name.
+NAMED = "button slider textbox spinbutton checkbox radio combobox ColorWell img image application meter link region table".split()
+
+
+def wants(what, made, wanted):
+    """Fails where something is not as it must be."""
+    if made != wanted:
+        raise Failed(f"{what}: {str(made)[:300]!r}, and not {str(wanted)[:300]!r}")
+
+
+def of(browser, id_, what):
+    """Returns a property of an element."""
+    return browser.run(f"document.getElementById({json.dumps(id_)}).{what}")
+
+
+def enter(browser, id_, value):
+    """Sets a field as a visitor would, with its event."""
+    browser.run(f"""{{ const field = document.getElementById({json.dumps(id_)}); field.value = {json.dumps(value)};
+        for (const kind of ['input', 'change']) field.dispatchEvent(new Event(kind, {{ bubbles: true }})); }}""")
+    browser.frames()
+
+
+def canvas(browser, id_):
+    """Returns the bytes of a canvas, four a pixel."""
+    code = f"""{{ const canvas = document.getElementById({json.dumps(id_)});
+        const {{ data }} = canvas.getContext('2d').getImageData(0, 0, canvas.width, canvas.height);
+        let text = ''; for (const byte of data) text += String.fromCharCode(byte); btoa(text) }}"""
+    return base64.b64decode(browser.run(code))
+
+
+def middle(browser, id_):
+    """Brings an element into view, and returns the middle of its box."""
+    code = f"""{{ const it = document.getElementById({json.dumps(id_)}); it.scrollIntoView({{ block: 'center' }});
+        const box = it.getBoundingClientRect(); [box.x + box.width / 2, box.y + box.height / 2] }}"""
+    return browser.run(code)
+
+
+def shapes(browser):
+    """Returns the picture of source and destination, as the fields say it."""
+    made = []
+    for side, is_inside in [("source", model.in_square), ("dest", model.in_disc)]:
+        x, y, alpha = (int(of(browser, f"{side}-{field}", "value")) for field in ("x", "y", "alpha"))
+        color = bytes.fromhex(of(browser, f"{side}-color", "value")[1:])
+        made.append(model.shape(is_inside, (x, y), [*color, alpha], of(browser, "is-light", "checked")))
+    return made
+
+
+def see_operators(browser, scheme="light"):
+    """Compares each of the thirteen pictures, and the large one, with those that the fields ask for."""
+    source, dest = shapes(browser)
+    is_light = of(browser, "is-light", "checked")
+    wants("the operators", len(ORDER), len(OPERATORS))
+    for number, name in enumerate(ORDER):
+        rows = [[model.composite(OPERATORS[name], s, d) for s, d in zip(*pair)] for pair in zip(source, dest)]
+        bytes_ = model.shown(rows, scheme, is_light, OPERATORS["SrcOver"])
+        wants(f"the picture of {name}", canvas(browser, f"operator-{number}").hex(), bytes_.hex())
+        if browser.run(f"document.querySelector('input[name=operator]:checked').value === '{number}'"):
+            wants("the large picture", canvas(browser, "stage").hex(), bytes_.hex())
+
+
+def try_operators(browser):
+    """The pictures as they are first, with other alphas, colors and places, and in linear light."""
+    see_operators(browser)
+    for id_, value in [("source-alpha", "255"), ("dest-alpha", "100"), ("source-color", "#f01e96"), ("dest-x", "-20"), ("source-y", "88")]:
+        enter(browser, id_, value)
+    see_operators(browser)
+    browser.run("document.getElementById('is-light').click()")
+    browser.frames()
+    see_operators(browser)
+    enter(browser, "dest-x", "9999")
+    wants("a place beyond the picture", "at 120, 8" in of(browser, "dest-handle", "ariaLabel"), True)
+
+
+def try_sliders(browser):
+    """The sliders, by their keys: each tells its number, and the pictures follow."""
+    for side in ("source", "dest"):
+        before = int(of(browser, f"{side}-alpha", "value"))
+        browser.run(f"document.getElementById('{side}-alpha').focus()")
+        for key in ("ArrowLeft", "ArrowLeft", "ArrowRight"):
+            browser.key(key)
+        wants(f"the slider of {side}", of(browser, f"{side}-alpha-said", "textContent"), str(before - 1))
+        see_operators(browser)
+        browser.key("Home")
+        wants(f"the slider of {side} at its start", of(browser, f"{side}-alpha", "value"), "0")
+        see_operators(browser)
+
+
+def try_dragging(browser):
+    """Both shapes are dragged by the mouse, and stay where it is let go."""
+    for side in ("source", "dest"):
+        x, y = middle(browser, f"{side}-handle")
+        before = [int(of(browser, f"{side}-{axis}", "value")) for axis in "xy"]
+        scale = of(browser, "stage", "getBoundingClientRect().width") / model.WIDTH
+        corner = -1 if side == "dest" else 1
+        x, y = x + corner * 10 * scale, y + corner * 10 * scale
+        browser.mouse("mousePressed", x, y, 1)
+        for step in (4, 8, 12):
+            browser.mouse("mouseMoved", x + step * scale, y - step * scale, 1)
+        browser.mouse("mouseReleased", x + 12 * scale, y - 12 * scale)
+        browser.mouse("mouseMoved", x, y)
+        browser.frames()
+        wants(f"{side} after it was dragged", [int(of(browser, f"{side}-{axis}", "value")) for axis in "xy"], [before[0] + 12, before[1] - 12])
+        see_operators(browser)
+
+
+def try_keys(browser):
+    """Shapes, operators and the pixel of a picture are moved by keys alone."""
+    browser.run("document.getElementById('source-handle').focus()")
+    for key, shift in [("ArrowRight", False), ("ArrowDown", True), ("ArrowLeft", True), ("ArrowUp", False)]:
+        browser.key(key, shift)
+    wants("the source after four keys", [of(browser, f"source-{axis}", "value") for axis in "xy"], ["37", "35"])
+    see_operators(browser)
+    browser.run("document.querySelector('input[name=operator]:checked').focus()")
+    browser.key("ArrowRight")
+    wants("the next operator", "DestOver" in of(browser, "overlap", "textContent"), True)
+    see_operators(browser)
+    browser.run("document.getElementById('painted').focus()")
+    for key, shift in [("ArrowRight", False), ("ArrowDown", True), ("ArrowUp", False)]:
+        browser.key(key, shift)
+    wants("the pixel after three keys", [of(browser, f"pixel-{axis}", "value") for axis in "xy"], ["31", "29"])
+
+
+def try_tab(browser):
+    """The Tab key goes through all that can be used, in the order of the page, and each has a name for a screen reader."""
+    wanted = browser.run("""[...document.querySelectorAll('a, button, input, select, textarea, canvas, summary, [tabindex]')]
+        .filter((it) => it.tabIndex >= 0 && it.checkVisibility() && (it.type !== 'radio' || it.checked)).length""")
+    seen = []
+    for _ in range(wanted):
+        browser.key("Tab")
+        place, is_marked = browser.run("""{ const it = document.activeElement, at = it.type === 'radio' ? it.parentElement : it;
+            const { outlineStyle, boxShadow } = getComputedStyle(at);
+            [[...document.querySelectorAll('*')].indexOf(it), outlineStyle !== 'none' || boxShadow !== 'none'] }""")
+        wants("whether the focus is seen", is_marked, True)
+        seen.append(place)
+    wants("the stops of the Tab key", seen, sorted(set(seen)))
+    for node in browser.ask("Accessibility.getFullAXTree")["nodes"]:
+        role = node.get("role", {}).get("value")
+        if not node.get("ignored") and role in NAMED:
+            if not node.get("name", {}).get("value", "").strip():
+                raise Failed(f"a {role} has no name")
+
+
+def try_examples(browser):
+    """Each example's picture is that of pixpaint, as text and on the canvas, and a fault is told as pixpaint tells it."""
+    listed = browser.run("[...document.getElementById('example').options].map((it) => it.text)")
+    names = sorted(path.stem for path in EXAMPLES.glob("*.paint"))
+    wants("the examples", listed[1:], names)
+    wants("what is printed while nobody looks", of(browser, "printed", "textContent"), "")
+    browser.run("document.querySelector('#print summary').click()")
+    browser.wait_for("document.getElementById('printed').textContent.startsWith('f4e8d0ff ')")
+    for name in names:
+        wanted = (EXAMPLES / f"{name}.txt").read_text()
+        browser.run("document.getElementById('printed').textContent = '?'")
+        enter(browser, "example", f"examples/{name}.paint")
+        browser.wait_for("document.getElementById('printed').textContent !== '?'")
+        is_fault = wanted.startswith("line ")
+        wants(name, of(browser, "printed", "textContent"), "" if is_fault else wanted)
+        wants(f"the fault of {name}", of(browser, "fault", "textContent"), wanted.rstrip("\n") if is_fault else "")
+        wants(f"whether {name} has a picture", of(browser, "picture", "hidden"), is_fault)
+        if not is_fault:
+            shown = model.shown(model.parsed(wanted), "light", False, OPERATORS["SrcOver"])
+            wants(f"the canvas of {name}", canvas(browser, "painted").hex(), shown.hex())
+
+
+def unquoted(text):
+    """Returns the bytes of a text of a file of cases."""
+    parts = re.sub(r"\\(?:x(..)|(.))", lambda it: chr(int(it[1], 16)) if it[1] else {"n": "\n", "r": "\r", "t": "\t"}[it[2]], text)
+    return parts.encode("latin-1")
+
+
+def try_rows(browser):
+    """Each script of the file of cases of pixpaint has its picture, or its fault."""
+    rows = re.findall(r'^script: "(.*?)" -> (.*)$', ROWS.read_text(encoding="utf-8"), re.M)
+    wants("whether there are scripts", len(rows) > 100, True)
+    scripts = [base64.b64encode(unquoted(script)).decode() for script, _ in rows]
+    made = browser.run(f"""Promise.all(['library', 'painting'].map((name) => import(`./${{name}}.js`))).then(async ([{{ Library }}, {{ paint, printed }}]) => {{
+        const module = await WebAssembly.compile(await (await fetch('pix_c.wasm')).arrayBuffer());
+        const library = await Library.of(module);
+        const bytes = (text) => Uint8Array.from(atob(text), (letter) => letter.charCodeAt(0));
+        return {json.dumps(scripts)}.map((script) => {{
+            try {{ return {{ text: printed(library, paint(library, bytes(script)).image) }}; }}
+            catch (fault) {{ return {{ fault: fault.message }}; }}
+        }});
+    }})""")
+    for (script, wanted), answer in zip(rows, made):
+        if wanted.startswith("fault"):
+            wants(script, answer.get("fault"), wanted.partition(": ")[2])
+        else:
+            wants(script, answer.get("text"), unquoted(wanted[1:-1]).decode("latin-1"))
+    too_long = browser.run("""import('./script.js').then(({ readScript }) => [0, 1].map((more) => {
+        try { return readScript(new Uint8Array(1048576 + more).fill(32)).length; } catch (fault) { return fault.message; } }))""")
+    wants("the longest script, and one byte more", too_long, [0, "input too long"])
+
+
+def try_fault(browser):
+    """A fault is told with its line while the visitor writes; the button marks the line, and the mended script has its picture again."""
+    script = of(browser, "script", "value")
+    enter(browser, "script", script.replace("keep", "keeep"))
+    line = 1 + script[: script.index("\nkeep")].count("\n") + 1
+    wants("the fault", of(browser, "fault", "textContent"), f"line {line}: unknown word")
+    wants("whether the field is marked", of(browser, "script", "ariaInvalid"), "true")
+    wants("whether there is a picture", of(browser, "picture", "hidden"), True)
+    browser.run("document.getElementById('to-fault').click()")
+    marked = browser.run("{ const it = document.getElementById('script'); it.value.slice(it.selectionStart, it.selectionEnd) }")
+    wants("the marked line", marked, "keeep")
+    enter(browser, "script", script)
+    wants("the fault of the mended script", [of(browser, "fault", "textContent"), of(browser, "picture", "hidden")], ["", False])
+    enter(browser, "script", "image 0 4")
+    wants("an image without points", [of(browser, "fault", "textContent"), of(browser, "picture", "hidden")], ["", True])
+
+
+def effects_at(script, x, y):
+    """Returns what each command of a script without copies does to a pixel: its operator, or none where it replaces it, and the color."""
+    for words in (line.split() for line in script.splitlines()):
+        if words and words[0] in ("fill", "paint"):
+            left, top, width, height = (int(word) for word in words[-5:-1])
+            if left <= x < left + width and top <= y < top + height:
+                yield (words[1] if words[0] == "paint" else None), tuple(bytes.fromhex(words[-1]))
+
+
+def worked_out(script, x, y):
+    """Returns the pixel, the exact one and the budgets after a script without copies, the count of the commands, and whether all are of listed kinds."""
+    pixel, exact, budget, count, is_listed = (0,) * 4, [Fraction(0)] * 4, (0, 0), 0, True
+    for name, color in effects_at(script, x, y):
+        count += 1
+        if name is None:
+            pixel, exact, budget = color, [Fraction(channel) for channel in color], (0, 0)
+            continue
+        operator = OPERATORS[name]
+        pixel, exact, budget = model.composite(operator, color, pixel), model.exactly(operator, color, exact), model.budget(operator, budget)
+        is_listed &= not model.products(operator)[0]
+    return pixel, exact, budget, count, is_listed
+
+
+def places(number):
+    """Returns a fraction of four places, rounded down."""
+    scaled = number * 10000 // 1
+    return f"{scaled // 10000}.{scaled % 10000:04d}"
+
+
+def try_budget(browser):
+    """At each of many pixels, the page tells the pixel, the exact one, how far apart they are and the budget, and the bound of so many commands."""
+    script = re.sub(r"^(keep|comp .*)\n", "", of(browser, "script", "value"), flags=re.M)
+    script += "paint Src 20 20 9 9 70605080\npaint SrcIn 24 20 9 9 40506070\npaint DestAtop 20 24 9 9 0A0B0C0D\n"
+    enter(browser, "script", script)
+    for x, y in [(0, 0), (2, 2), (20, 20), (28, 28), (30, 20), (40, 30), (33, 33), (44, 10), (10, 44), (63, 47)]:
+        enter(browser, "pixel-x", str(x))
+        enter(browser, "pixel-y", str(y))
+        pixel, exact, budget, count, is_listed = worked_out(script, x, y)
+        rows = browser.run("[...document.querySelectorAll('#distance-rows tr')].map((row) => [...row.cells].map((cell) => cell.textContent))")
+        for index, row in enumerate(rows):
+            apart, most = abs(pixel[index] - exact[index]), Fraction(budget[index == 3], 2)
+            wants(f"channel {index} of ({x}, {y})", row[1:5], [str(pixel[index]), places(exact[index]), places(apart), f"{float(most):g}"])
+            wants("whether it is within the budget", apart <= most, True)
+        bound = of(browser, "bound", "textContent")
+        wants("the bound", f"n = {count} unit" in bound if is_listed else f"n² + n = {count * count + count} unit" in bound, True)
+        steps = browser.run("document.querySelectorAll('#step-rows tr').length")
+        wants("the steps", steps, count)
+
+
+def try_mouse(browser):
+    """The pixel under the mouse is the one that is told."""
+    x, y = middle(browser, "painted")
+    browser.mouse("mouseMoved", x + 0.5, y + 0.5)
+    browser.frames()
+    wants("the pixel in the middle", [of(browser, f"pixel-{axis}", "value") for axis in "xy"], ["32", "24"])
+
+
+def try_text(browser):
+    """Text is drawn over both bars: clear of an alpha of 0, and otherwise not."""
+    pictures = {}
+    for alpha in ("0", "255"):
+        enter(browser, "words-alpha", alpha)
+        for way in ("linear", "bytes"):
+            pictures[way, alpha] = canvas(browser, f"words-{way}")
+    for way in ("linear", "bytes"):
+        bars, words = pictures[way, "0"], pictures[way, "255"]
+        wants("how many colors the bars have", len({bars[i : i + 4] for i in range(0, len(bars), 4)}), 12)
+        changed = [i for i in range(0, len(bars), 4) if bars[i : i + 4] != words[i : i + 4]]
+        wants("whether there are letters", 1000 < len(changed) < len(bars) // 8, True)
+        wants("the color of whole letters", bytes([0xD0, 0x10, 0x3C, 255]) in {words[i : i + 4] for i in changed} or way == "linear", True)
+
+
+def try_library(browser):
+    """A library of another version, with one fact more or of another field is refused."""
+    code = """Promise.all([import('./library.js'), import('./facts.js')]).then(([{ layoutOf }, { CALLS, FACTS }]) => {
+        const answer = (index) => index === 0 ? CALLS : index < FACTS.length ? 4 : 0xffffffff;
+        const isTaken = (answer) => { try { layoutOf(answer); return true; } catch { return false; } };
+        return [isTaken(answer), isTaken((index) => answer(index) + (index === 0)), isTaken((index) => index === FACTS.length ? 4 : answer(index))];
+    })"""
+    wants("which libraries are taken", browser.run(code), [True, False, False])
+    code = """import('./library.js').then(async ({ Library, copyImage, whole }) => {
+        const bytes = await (await fetch('pix_c.wasm')).arrayBuffer();
+        const library = await Library.of(await WebAssembly.compile(bytes));
+        const image = library.image(2, 2);
+        const said = (command) => { try { library.run(image, [command]); return 'done'; } catch (error) { return error.message; } };
+        return [said(copyImage(whole(image), image, whole(image))), said({ kind: 99 }), said({ kind: 3, op: 13, to: whole(image), color: [0, 0, 0, 0] })];
+    })"""
+    wants("what is refused", browser.run(code), ["An image is its own source.", "no such kind of command", "no such operator"])
+
+
+def try_looks(browser):
+    """Nothing is wider than the window, in light and in dark, and all text stands out from its ground."""
+    for scheme in ("dark", "light"):
+        for width in (1280, 700, 320):
+            browser.look(width, scheme)
+            wants(f"the width of the page in {width}", browser.run("document.documentElement.scrollWidth") <= width, True)
+        colors = browser.run("""['ink', 'soft', 'accent', 'bad', 'ground', 'paper'].map((name) =>
+            getComputedStyle(document.documentElement).getPropertyValue(`--${name}`).trim())""")
+        *inks, ground, paper = [brightness(color) for color in colors]
+        for ink in inks:
+            for under in (ground, paper):
+                wants(f"whether text stands out in {scheme}", (max(ink, under) + 0.05) / (min(ink, under) + 0.05) >= 4.5, True)
+    browser.look(1280, "dark")
+    see_operators(browser, "dark")
+
+
+def brightness(color):
+    """Returns the relative luminance of a color of a style, as WCAG has it."""
+    levels = [channel / 255 for channel in bytes.fromhex(color[1:])]
+    light = [level / 12.92 if level <= 0.04045 else ((level + 0.055) / 1.055) ** 2.4 for level in levels]
+    return 0.2126 * light[0] + 0.7152 * light[1] + 0.0722 * light[2]
+
+
+def take(browser, name):
+    """Returns a picture of the page as it is at first."""
+    scheme, first, last = PICTURES[name]
+    browser.look(1280, scheme)
+    browser.open(browser.run("location.href"), READY)
+    return browser.picture(first, last)
+
+
+def try_pictures(browser):
+    """The pictures of the page look as those in pictures/, but for a pixel in fifty: another browser or other fonts draw letters a little otherwise."""
+    for name in PICTURES:
+        (TOP / "out" / name).write_bytes(take(browser, name))
+        files = [base64.b64encode((TOP / folder / name).read_bytes()).decode() for folder in ("out", "pictures")]
+        code = f"""Promise.all({json.dumps(files)}.map(async (file) => {{
+            const image = new Image();
+            image.src = `data:image/png;base64,${{file}}`;
+            await image.decode();
+            const context = new OffscreenCanvas(image.width, image.height).getContext('2d');
+            context.drawImage(image, 0, 0);
+            return context.getImageData(0, 0, image.width, image.height);
+        }})).then(([one, two]) => [one.width - two.width, one.height - two.height,
+            one.data.filter((channel, at) => Math.abs(channel - two.data[at]) > 32).length / one.data.length])"""
+        width, height, share = browser.run(code)
+        wants(f"the size of out/{name} beside pictures/{name}", [width, height], [0, 0])
+        wants(f"whether out/{name} looks as pictures/{name}", share < 0.02, True)
+
+
+def try_alone(browser):
+    """Everything that the page fetches comes from its own folder."""
+    outside = browser.run("performance.getEntriesByType('resource').map((it) => it.name).filter((name) => !name.startsWith(new URL('.', location).href))")
+    wants("what is fetched from elsewhere", outside, [])
+
+
+def try_without_memory64(browser):
+    """Where memories of 64 bits are missing, the page says so, shows no field that does nothing, and keeps what needs no library."""
+    made = browser.ask("Page.addScriptToEvaluateOnNewDocument", source="WebAssembly.validate = () => false;")
+    url = browser.run("location.href")
+    browser.open(url, "document.getElementById('state')?.className === 'bad'")
+    browser.ask("Page.removeScriptToEvaluateOnNewDocument", identifier=made["identifier"])
+    wants("whether it is said", "memory64" in of(browser, "state", "textContent"), True)
+    wants("whether it is an alert", of(browser, "state", "role"), "alert")
+    for part, is_shown in [("parts", False), ("proof", True), ("hues", True)]:
+        wants(f"whether {part} is shown", of(browser, part, "checkVisibility()"), is_shown)
+
+
+def try_a_module_that_is_missing(browser):
+    """Where the module isn't there, the page says so."""
+    source = "{ const real = fetch; window.fetch = (file) => real(`${file}`.replace('pix_c', 'none')); }"
+    made = browser.ask("Page.addScriptToEvaluateOnNewDocument", source=source)
+    url = browser.run("location.href")
+    browser.open(url, "document.getElementById('state')?.className === 'bad'")
+    browser.ask("Page.removeScriptToEvaluateOnNewDocument", identifier=made["identifier"])
+    wants("what is said", of(browser, "state", "textContent").startswith("The library could not be loaded"), True)
+    browser.faults.clear()
+
+
+def all_trials():
+    """Returns each trial with its name, in the order of this file."""
+    return [(name[4:].replace("_", " "), it) for name, it in globals().items() if name.startswith("try_")]
