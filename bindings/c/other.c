@@ -1,4 +1,4 @@
-/* other.c - another library of the same calls, made of plain.h and of nothing that is proved.
+/* other.c - another library of the same calls, made of plain.h, plain_table.h and of nothing that is proved.
  *
  * tools/bindings sees by it that a program refuses a library of another version or layout: the fact whose number is
  * `other_fact`, which -DOTHER_FACT=n sets, or PIX_OTHER_FACT in the environment, is one too large. Where no fact is
@@ -7,6 +7,7 @@
 #include "pix.h"
 #include "plain.h"
 #include "plain_bitmap.h"
+#include "plain_table.h"
 #include <stdlib.h>
 
 static const uint32_t facts[] = {PIX_FACTS_};
@@ -143,41 +144,75 @@ uint32_t pix_convert_rows(uint32_t from, uint32_t to, const uint8_t *src, size_t
     return PIX_OK;
 }
 
-/* Tables of colors: what the calls refuse, and no more. */
+/* Tables of colors. */
+static const uint8_t *bytes_of(const void *pixels) {
+    return (const uint8_t *)pixels;
+}
+
 uint32_t pix_table_nearest(const pix_srgb8 *entries, size_t len, const pix_srgb8 *color, uint8_t *index) {
-    (void)entries, (void)color, (void)index;
-    return len && len <= 256 ? PIX_OK : PIX_BAD_TABLE;
+    if (!len || len > 256)
+        return PIX_BAD_TABLE;
+    *index = plain_nearest(bytes_of(entries), len, bytes_of(color));
+    return PIX_OK;
+}
+
+static uint32_t match(const pix_srgb8 *entries, size_t len, const void *pixels, size_t size, size_t pixel_count,
+                      uint8_t alpha, uint8_t kept, uint8_t *indices, size_t index_count) {
+    if (!len || len > 256)
+        return PIX_BAD_TABLE;
+    if (index_count != pixel_count)
+        return PIX_BAD_LENGTH;
+    plain_match(bytes_of(entries), len, bytes_of(pixels), size, pixel_count, alpha, kept, indices);
+    return PIX_OK;
 }
 
 uint32_t pix_table_match(const pix_srgb8 *entries, size_t len, const pix_srgb8 *pixels, size_t pixel_count,
                          uint8_t *indices, size_t index_count) {
-    (void)entries, (void)pixels, (void)indices;
-    return !len || len > 256 ? PIX_BAD_TABLE : index_count != pixel_count ? PIX_BAD_LENGTH : PIX_OK;
+    return match(entries, len, pixels, 3, pixel_count, 0, 0, indices, index_count);
 }
 
 uint32_t pix_table_match_alpha(const pix_srgb8 *entries, size_t len, const pix_srgba8 *pixels, size_t pixel_count,
                                uint8_t alpha, uint8_t kept, uint8_t *indices, size_t index_count) {
-    (void)entries, (void)pixels, (void)alpha, (void)kept, (void)indices;
-    return !len || len > 256 ? PIX_BAD_TABLE : index_count != pixel_count ? PIX_BAD_LENGTH : PIX_OK;
+    return match(entries, len, pixels, 4, pixel_count, alpha, kept, indices, index_count);
 }
 
 uint32_t pix_table_look_up(const pix_srgb8 *entries, size_t len, const uint8_t *indices, size_t index_count,
                            pix_srgb8 *pixels, size_t pixel_count) {
-    (void)entries, (void)len, (void)indices, (void)pixels;
-    return index_count != pixel_count ? PIX_BAD_LENGTH : PIX_OK;
+    if (index_count != pixel_count)
+        return PIX_BAD_LENGTH;
+    if (!plain_below(indices, index_count, len))
+        return PIX_BAD_INDEX;
+    for (size_t i = 0; i < index_count; i++)
+        pixels[i] = entries[indices[i]];
+    return PIX_OK;
 }
 
 uint32_t pix_table_count(const uint8_t *indices, size_t index_count, size_t *counts, size_t len) {
-    (void)indices, (void)index_count, (void)counts, (void)len;
+    if (!plain_below(indices, index_count, len))
+        return PIX_BAD_INDEX;
+    for (size_t i = 0; i < len; i++)
+        counts[i] = 0;
+    for (size_t i = 0; i < index_count; i++)
+        counts[indices[i]]++;
     return PIX_OK;
 }
 
 uint32_t pix_table_pack(uint32_t bits, const uint8_t *indices, size_t index_count, uint8_t *bytes, size_t byte_count) {
-    (void)bits, (void)indices, (void)index_count, (void)bytes, (void)byte_count;
+    if (!plain_depth(bits))
+        return PIX_BAD_DEPTH;
+    if (byte_count != plain_row_size(bits, index_count))
+        return PIX_BAD_LENGTH;
+    if (!plain_below(indices, index_count, (size_t)1 << bits))
+        return PIX_BAD_INDEX;
+    plain_pack(bits, indices, index_count, bytes);
     return PIX_OK;
 }
 
 uint32_t pix_table_unpack(uint32_t bits, const uint8_t *bytes, size_t byte_count, uint8_t *indices, size_t index_count) {
-    (void)bits, (void)bytes, (void)byte_count, (void)indices, (void)index_count;
+    if (!plain_depth(bits))
+        return PIX_BAD_DEPTH;
+    if (byte_count != plain_row_size(bits, index_count))
+        return PIX_BAD_LENGTH;
+    plain_unpack(bits, bytes, index_count, indices);
     return PIX_OK;
 }
