@@ -185,11 +185,25 @@ static void parts(void) {
     insist(painted == 8 && pixels[6 * 12 + 5].r == 1 && pixels[7 * 12 + 8].b == 3, "what is painted on a part");
 }
 
+static void colors(void) {
+    static const uint8_t white[] = {255, 255, 255, 128}, mixed[] = {200, 100, 50, 128}, red[] = {188, 0, 0};
+    pix_rgba16 light = pix_color_of_rgba16(PIX_FORMAT_SRGBA8, white), wide = pix_color_of_rgba16(PIX_FORMAT_SRGB8, red);
+    pix_rgba8 bytes = pix_color_of(PIX_FORMAT_RGBA8, mixed), none = pix_color_of((pix_format)81, mixed);
+    pix_graya8 gray = pix_color_of_graya8(PIX_FORMAT_GRAYA8, mixed + 2);
+    insist(light.r == 32896 && light.g == 32896 && light.b == 32896 && light.a == 32896, "half a white in light");
+    insist(wide.r == 32957 && wide.g == 0 && wide.b == 0 && wide.a == 65535, "half a red in light");
+    insist(bytes.r == 100 && bytes.g == 50 && bytes.b == 25 && bytes.a == 128, "half a color of bytes");
+    insist(gray.value == 25 && gray.a == 128, "half a gray");
+    insist(!none.r && !none.g && !none.b && !none.a, "a color of no format");
+    insist(!pix_color_of_rgba16(PIX_FORMAT_SRGBA8, NULL).a, "no color");
+}
+
 int main(int argc, char **argv) {
     unsigned long count = argc > 1 ? strtoul(argv[1], NULL, 10) : 20000;
     seed = argc > 2 ? strtoull(argv[2], NULL, 10) : 1;
     refusals();
     parts();
+    colors();
     comes_back(PIX_FORMAT_SRGBA8, 4);
     comes_back(PIX_FORMAT_SBGRA8, 4);
     comes_back(PIX_FORMAT_SRGB8, 3);

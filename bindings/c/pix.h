@@ -367,6 +367,12 @@ static inline pix_bitmap pix_bitmap_of_image(pix_image image);
 static inline pix_bitmap pix_bitmap_of_image_rgba16(pix_image_rgba16 image);
 static inline pix_bitmap pix_bitmap_of_image_graya8(pix_image_graya8 image);
 
+/* A pixel of a format, as one to paint with: pix_color_of_rgba16(PIX_FORMAT_SRGBA8, bytes) is the light of a color of sRGB.
+ * It is clear where there is no such format, or no pixel. */
+static inline pix_rgba8 pix_color_of(pix_format format, const void *pixel);
+static inline pix_rgba16 pix_color_of_rgba16(pix_format format, const void *pixel);
+static inline pix_graya8 pix_color_of_graya8(pix_format format, const void *pixel);
+
 /* The part of an image that lies in a region, clipped to the image; without points where it lies outside. Its first pixel is
  * the point (0, 0) of the part: paint in coordinates of the whole image by pix_run_in. */
 static inline pix_image pix_part_of(pix_image image, pix_region region);
@@ -877,7 +883,7 @@ static inline void pix_cut_(int32_t start, uint32_t length, uint32_t limit, uint
     *first = *count ? (uint32_t)begin : 0;
 }
 
-#define PIX_PARTS_(S, FORMAT)                                                                                          \
+#define PIX_PARTS_(S, PIXEL, FORMAT)                                                                                   \
     static inline pix_bitmap pix_bitmap_of_image##S(pix_image##S image) {                                              \
         pix_bitmap same = {image.pixels, image.width, image.height, 0, FORMAT};                                        \
         same.stride = (ptrdiff_t)((image.stride ? image.stride : image.width) * sizeof *image.pixels);                 \
@@ -892,10 +898,16 @@ static inline void pix_cut_(int32_t start, uint32_t length, uint32_t limit, uint
         if (part.width && part.height)                                                                                 \
             part.pixels += (size_t)top * part.stride + left;                                                           \
         return part;                                                                                                   \
+    }                                                                                                                  \
+    static inline PIXEL pix_color_of##S(pix_format format, const void *pixel) {                                        \
+        PIXEL color;                                                                                                   \
+        memset(&color, 0, sizeof color);                                                                               \
+        pix_convert_bitmap(pix_bitmap_source_of(pixel, 1, 1, format), pix_bitmap_of(&color, 1, 1, FORMAT));            \
+        return color;                                                                                                  \
     }
-PIX_PARTS_(, PIX_FORMAT_RGBA8P)
-PIX_PARTS_(_rgba16, PIX_FORMAT_RGBA16P)
-PIX_PARTS_(_graya8, PIX_FORMAT_GRAYA8P)
+PIX_PARTS_(, pix_rgba8, PIX_FORMAT_RGBA8P)
+PIX_PARTS_(_rgba16, pix_rgba16, PIX_FORMAT_RGBA16P)
+PIX_PARTS_(_graya8, pix_graya8, PIX_FORMAT_GRAYA8P)
 
 static inline pix_bitmap pix_part_of_bitmap(pix_bitmap image, pix_region region) {
     pix_bitmap part = image;

@@ -27,8 +27,7 @@ def panel(format, type):
     """The picture in sRGB bytes, painted on pixels of a type; `format` is what the bytes are taken as."""
 
     def color(red, green, blue, alpha=255):
-        pixel = memoryview(bytes([red, green, blue, alpha])).cast("B", (1, 1, 4))
-        return tuple(pix.Image.from_array(pixel, format, type).pixels.cast("B" if type.max == 255 else "H"))
+        return pix.color_of(format, (red, green, blue, alpha), type)
 
     text = pix.Matte(*mask(os.path.join(HERE, "..", "..", "bench", "text-20.pgm"), type.max), bits=8 if type.max == 255 else 16)
     black, white = color(0, 0, 0), color(255, 255, 255)

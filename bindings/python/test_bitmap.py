@@ -80,6 +80,23 @@ class Bitmaps(unittest.TestCase):
         self.assertEqual(memoryview(wide).cast("H").tolist(), [10 * 257, 20 * 257, 30 * 257, 65535])
         self.assertEqual(pix.convert_bitmap(Format.RGBA16, wide, pix.SBGRX8, None, (1, 1))[3], 255)
 
+    def test_colors(self):
+        self.assertEqual(pix.color_of(pix.SRGBA8, (255, 255, 255, 128)), (32896,) * 4)
+        self.assertEqual(pix.color_of(pix.SRGB8, (188, 0, 0)), (32957, 0, 0, 65535))
+        self.assertEqual(pix.color_of(Format.RGBA8, [200, 100, 50, 128], pix.RGBA8), (100, 50, 25, 128))
+        self.assertEqual(pix.color_of(Format.GRAYA16, (65535, 257 * 128), pix.GRAYA8), (128, 128))
+        for wrong in ((1, 2, 3), (1, 2, 3, 4, 5), (1, 2, 3, 256), (-1, 2, 3, 4)):
+            self.assertRaises(ValueError, pix.color_of, pix.SRGBA8, wrong)
+        self.assertRaises(TypeError, pix.color_of, pix.SRGBA8, (1, 2, 3, 4.0))
+
+    def test_bytes_without_a_shape(self):
+        photo = bytes(photograph(3))
+        image = pix.Image.from_array(photo, pix.SRGB8, size=(WIDTH, HEIGHT))
+        self.assertEqual(bytes(image.to_array(pix.SRGB8)), photo)
+        with self.assertRaises(PixError) as refused:
+            pix.Image.from_array(photo, pix.SRGB8, size=(WIDTH, HEIGHT + 1))
+        self.assertEqual(refused.exception.status, Status.BAD_SOURCE)
+
     def test_refusals(self):
         picture, image = bytes(16), bytearray(16)
         with self.assertRaises(PixError) as refused:

@@ -3,7 +3,9 @@
 from __future__ import annotations
 
 import ctypes
-from typing import Any, Iterable, Optional, SupportsIndex, Union
+from array import array
+from operator import index
+from typing import Any, Iterable, Optional, SupportsIndex, Tuple, Union
 
 from pix._bitmap import MODES, Bitmap, new_array, write
 from pix._command import Command
@@ -40,14 +42,18 @@ class Image(View):
         return cls(bytearray(columns * rows * ctypes.sizeof(kind_of(type)._color)), columns, rows, type=type)
 
     @classmethod
-    def from_array(cls, array: Buffer, format: Format, type: PixelType = RGBA16) -> Image:
+    def from_array(
+        cls, array: Buffer, format: Format, type: PixelType = RGBA16, size: Optional[Tuple[SupportsIndex, SupportsIndex]] = None
+    ) -> Image:
         """Makes an image of the picture in an array, or another buffer, of (height, width, samples) or (height, width * samples)
-        elements in a format; rows may lie apart, and from bottom to top.
+        elements in a format; rows may lie apart, and from bottom to top. Of a buffer of one dimension, such as bytes, `size` is
+        the width and the height.
 
         An sRGB picture in an image of RGBA16 is in light: to_array() in the same format gives it back as it was where
         nothing was painted, but for pixels whose alpha is from 1 to 12.
         """
-        source = Bitmap(array, format)
+        width, height = (None, None) if size is None else size
+        source = Bitmap(array, format, width, height)
         image = cls.new(source.width, source.height, type)
         write(image._bitmap(), source)
         return image
@@ -138,3 +144,13 @@ class Image(View):
             raise PixError(Status.BAD_SIZE)
         if status:
             raise PixError(Status(status), done.value)
+
+
+def color_of(format: Format, pixel: Iterable[SupportsIndex], type: PixelType = RGBA16) -> Tuple[int, ...]:
+    """A pixel in a format, given by its numbers, as a color to paint with: color_of(pix.SRGBA8, (200, 120, 40, 255)) is the light
+    of a color of sRGB."""
+    format, given = Format(format), tuple(map(index, pixel))
+    if len(given) != format.samples or not all(0 <= number < 1 << format.bits for number in given):
+        raise ValueError(f"{given} are not {format.samples} numbers of {format.bits} bits")
+    image = Image.from_array(array("H" if format.bits == 16 else "B", given), format, type, (1, 1))
+    return tuple(image.pixels.cast("H" if type.max > 255 else "B"))

@@ -1,5 +1,7 @@
 //! Pixels and regions.
 
+use crate::bitmap::{Bitmap, BitmapMut};
+use crate::error::Error;
 use crate::format::Format;
 use core::slice;
 
@@ -12,6 +14,22 @@ pub trait Pixel: Copy + Default + private::Calls<Self::Matte> {
 
     /// The format of such pixels in a bitmap.
     const FORMAT: Format;
+
+    /// The first pixel of these bytes, which are of a format, as one to paint with.
+    ///
+    /// ```
+    /// use pix::{Format, Pixel, Rgba16};
+    ///
+    /// let half_white = Rgba16::of(Format::SRgba8, &[255, 255, 255, 128])?; // in light
+    /// assert_eq!(half_white, Rgba16::new(32896, 32896, 32896, 32896));
+    /// # Ok::<(), pix::Error>(())
+    /// ```
+    fn of(format: Format, pixel: &[u8]) -> Result<Self, Error> {
+        let mut color = [Self::default()];
+        let source = Bitmap::new(pixel, 1, 1, format);
+        BitmapMut::new(bytes_mut(&mut color), 1, 1, Self::FORMAT).convert_from(source)?;
+        Ok(color[0])
+    }
 }
 
 pub(crate) mod private {

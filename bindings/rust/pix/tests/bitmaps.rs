@@ -1,7 +1,7 @@
 //! Pictures as files hold them: they come back from light as they were, whatever their stride; and what is refused.
 #![forbid(unsafe_code)]
 
-use pix::{Bitmap, BitmapMut, Command, Error, Format, ImageMut, Op, Region, Rgba8, Rgba16};
+use pix::{Bitmap, BitmapMut, Command, Error, Format, ImageMut, Op, Pixel, Region, Rgba8, Rgba16};
 
 const WIDTH: u32 = 320;
 const HEIGHT: u32 = 200;
@@ -100,6 +100,16 @@ fn in_place() {
     let image = BitmapMut::new(&mut bytes, 2, 1, Format::Rgbx8);
     image.convert_in_place(Format::Rgb8).expect("smaller");
     assert_eq!(bytes, [100, 50, 25, 0, 0, 0, 0, 0]);
+}
+
+#[test]
+fn colors() {
+    let half_white = Rgba16::of(Format::SRgba8, &[255, 255, 255, 128]);
+    assert_eq!(half_white, Ok(Rgba16::new(32896, 32896, 32896, 32896)));
+    assert_eq!(Rgba16::of(Format::SRgb8, &[188, 0, 0]), Ok(Rgba16::new(32957, 0, 0, 65535)));
+    assert_eq!(Rgba8::of(Format::Rgba8, &[200, 100, 50, 128]), Ok(Rgba8::new(100, 50, 25, 128)));
+    let few = Rgba8::of(Format::Rgba8, &[200, 100, 50]);
+    assert_eq!(few, Err(Error::Source { index: 0 }));
 }
 
 #[test]
