@@ -15,7 +15,8 @@ import shutil
 import subprocess
 import sys
 
-from trial import TOP, ImageChops, open_picture
+from PIL import ImageSequence
+from trial import TOP, Image, ImageChops
 
 PAGE = TOP / "docs/GALLERY.md"
 MADE = TOP / "out/gallery"
@@ -32,20 +33,33 @@ def is_near(picture, other):
     return sum(levels[32:]) * 100 <= sum(levels) and sum(i * n for i, n in enumerate(levels)) < sum(levels)
 
 
+def frames_of(path):
+    """Returns the frames of a file, as red, green, blue and alpha: one of a PNG."""
+    with Image.open(path) as file:
+        return [frame.convert("RGBA") for frame in ImageSequence.Iterator(file)]
+
+
 def trouble(picture, command):
     """Runs a command, and returns what is wrong with the picture that it makes, or else nothing."""
-    ran = subprocess.run(command, shell=True, cwd=TOP, env={"SDL_VIDEODRIVER": "dummy", **os.environ}, capture_output=True, text=True)
     made = MADE / picture.name
+    made.unlink(missing_ok=True)
+    # Programs in Python run by this one.
+    path = f"{pathlib.Path(sys.executable).parent}:{os.environ.get('PATH', '')}"
+    environment = {"SDL_VIDEODRIVER": "dummy", **os.environ, "PATH": path}
+    ran = subprocess.run(command, shell=True, cwd=TOP, env=environment, capture_output=True, text=True)
     if ran.returncode or not made.is_file():
         return f"status {ran.returncode}: {ran.stderr.strip()}"
     if "--pictures" in sys.argv:
         shutil.copyfile(made, picture)
-    mine, there = open_picture(made), open_picture(picture)
-    if mine.size == there.size and mine.tobytes() == there.tobytes():
+    mine, there = frames_of(made), frames_of(picture)
+    if len(mine) != len(there):
+        return f"it has {len(mine)} frames, and not {len(there)}"
+    pairs = list(zip(mine, there))
+    if all(one.size == other.size and one.tobytes() == other.tobytes() for one, other in pairs):
         return ""
     if not re.search(r"apps/out/text|apps/encoder|\.jpg", command):
         return "it is another picture"
-    return "" if is_near(mine, there) else "it is not even near"
+    return "" if all(is_near(*pair) for pair in pairs) else "it is not even near"
 
 
 def main():
