@@ -165,6 +165,9 @@ def main(words):
         progress.end()
         print(f"encode.py: {error}", file=sys.stderr)
         return 1
+    except KeyboardInterrupt:
+        progress.end()
+        return 130
     return 0
 
 

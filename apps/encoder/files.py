@@ -28,18 +28,27 @@ class Picture:
         return (0, 0, *self.size)
 
 
+def pixels_of(picture):
+    """Returns the bytes of a picture of Pillow. Of a gray of 16 bits, which Pillow would cut off at 255, the upper eight count."""
+    if picture.mode == "I" or picture.mode.startswith("I;16"):
+        return pix.convert_bitmap(pix.Format.GRAY16, picture.convert("I;16").tobytes(), pix.Format.RGBA8, size=picture.size)
+    return picture.convert("RGBA").tobytes()
+
+
 def read(name, ground=None):
     """Returns the picture of a file, the first one of several, the right way up; over a color of sRGB where one is given."""
     try:
         with PIL.Image.open(name) as file:
-            read = PIL.ImageOps.exif_transpose(file).convert("RGBA")
+            upright = PIL.ImageOps.exif_transpose(file)
+            picture = Picture(upright.size, bytes(pixels_of(upright)))
     except PIL.UnidentifiedImageError:
         raise PictureError(f"{name}: Pillow knows no such picture") from None
     except OSError as error:
         raise PictureError(f"{name}: {error.strerror or error}") from None
     except (SyntaxError, ValueError, MemoryError, PIL.Image.DecompressionBombError) as error:
         raise PictureError(f"{name}: {error}") from None
-    picture = Picture(read.size, read.tobytes())
+    if 0 in picture.size:
+        raise PictureError(f"{name}: it has no pixels")
     return picture if ground is None else over(picture, ground)
 
 

@@ -124,6 +124,16 @@ class Encoder(Trial):
         path = self.picture("turned.jpg", turned, exif=exif.tobytes())
         self.assertEqual(self.png(path)[0].size, (10, 30))
 
+    def test_sixteen_bits(self):
+        """A gray of 16 bits is the picture of its upper ones."""
+        wide = Image.new("I", (12, 4))
+        for x in range(12):
+            wide.paste(x * 5000 + 99, (x, 0, x + 1, 4))
+        made, bits = self.png(self.picture("wide.png", wide))
+        self.assertEqual(bits, 4)
+        wanted = [(5000 * (i % 12) + 99) // 256 for i in range(48)]
+        self.assertEqual([pixel[:3] for pixel in made.convert("RGBA").getdata()], [(level,) * 3 for level in wanted])
+
     def test_the_bar(self):
         """On a terminal a bar shows each picture, and is taken away; elsewhere nothing is shown."""
         flags = [self.picture(f"{number}.png", self.flag((number, 2, 3, 255))) for number in range(3)]
