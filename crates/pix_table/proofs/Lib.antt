@@ -3,3 +3,6 @@ pub mod NearestEntries
 pub mod Writes
 pub mod Below
 pub mod Places
+pub mod Boxes
+pub mod Parts
+pub mod CutBoxes

@@ -4,6 +4,7 @@
 #![tactic(auto)]
 
 mod color;
+mod cut;
 mod look;
 mod matcher;
 mod row;
