@@ -5,6 +5,7 @@
  * another it stands in for the archive, which takes long to build: tools/bindings and tools/border-faults have the word
  * --stand-in for that. */
 #include "pix.h"
+#include "indexed.h"
 #include "plain.h"
 #include <stdlib.h>
 
@@ -105,7 +106,7 @@ uint32_t pix_convert_bytes(uint32_t from, uint32_t to, const uint8_t *src, size_
     return PIX_OK;
 }
 
-/* Tables of colors: what the calls refuse, and no more. */
+/* Tables of colors: what the calls refuse, and no more; but tables are made and errors diffused. */
 uint32_t pix_table_nearest(const pix_srgb8 *entries, size_t len, const pix_srgb8 *color, uint8_t *index) {
     (void)entries, (void)color, (void)index;
     return len && len <= 256 ? PIX_OK : PIX_BAD_TABLE;
@@ -141,5 +142,67 @@ uint32_t pix_table_pack(uint32_t bits, const uint8_t *indices, size_t index_coun
 
 uint32_t pix_table_unpack(uint32_t bits, const uint8_t *bytes, size_t byte_count, uint8_t *indices, size_t index_count) {
     (void)bits, (void)bytes, (void)byte_count, (void)indices, (void)index_count;
+    return PIX_OK;
+}
+
+static uint32_t made_table(const pix_srgb8 *colors, size_t count, pix_srgb8 *entries, size_t len, size_t *made) {
+    *made = plain_table(colors, count, entries, len);
+    return PIX_OK;
+}
+
+uint32_t pix_table_from(const pix_srgb8 *pixels, size_t pixel_count, pix_srgb8 *work, size_t work_len, pix_srgb8 *entries,
+                        size_t len, size_t *made) {
+    if (!len || len > 256)
+        return PIX_BAD_TABLE;
+    if (work_len < pixel_count)
+        return PIX_BAD_LENGTH;
+    (void)work;
+    return made_table(pixels, pixel_count, entries, len, made);
+}
+
+uint32_t pix_table_from_alpha(const pix_srgba8 *pixels, size_t pixel_count, uint8_t alpha, pix_srgb8 *work, size_t work_len,
+                              pix_srgb8 *entries, size_t len, size_t *made) {
+    size_t count = 0;
+    if (!len || len > 256)
+        return PIX_BAD_TABLE;
+    if (work_len < pixel_count)
+        return PIX_BAD_LENGTH;
+    for (size_t i = 0; i < pixel_count; i++)
+        if (pixels[i].a >= alpha) {
+            pix_srgb8 color = {pixels[i].r, pixels[i].g, pixels[i].b};
+            work[count++] = color;
+        }
+    return made_table(work, count, entries, len, made);
+}
+
+uint32_t pix_table_diffuse(const pix_srgb8 *entries, size_t len, const pix_srgb8 *pixels, size_t pixel_count, size_t width,
+                           pix_srgb8 *work, size_t work_len, uint8_t *indices, size_t index_count) {
+    pix_srgba8 *opaque;
+    if (!len || len > 256)
+        return PIX_BAD_TABLE;
+    if (!width || width > SIZE_MAX / 4 || work_len != 4 * width || index_count != pixel_count)
+        return PIX_BAD_LENGTH;
+    (void)work;
+    opaque = malloc((pixel_count + 1) * sizeof *opaque);
+    if (!opaque)
+        abort();
+    for (size_t i = 0; i < pixel_count; i++) {
+        pix_srgba8 pixel = {pixels[i].r, pixels[i].g, pixels[i].b, 255};
+        opaque[i] = pixel;
+    }
+    plain_diffuse(entries, len, opaque, pixel_count, width, 0, 0, indices);
+    free(opaque);
+    return PIX_OK;
+}
+
+uint32_t pix_table_diffuse_alpha(const pix_srgb8 *entries, size_t len, const pix_srgba8 *pixels, size_t pixel_count,
+                                 size_t width, uint8_t alpha, uint8_t kept, pix_srgb8 *work, size_t work_len, uint8_t *indices,
+                                 size_t index_count) {
+    if (!len || len > 256)
+        return PIX_BAD_TABLE;
+    if (!width || width > SIZE_MAX / 4 || work_len != 4 * width || index_count != pixel_count)
+        return PIX_BAD_LENGTH;
+    (void)work;
+    plain_diffuse(entries, len, pixels, pixel_count, width, alpha, kept, indices);
     return PIX_OK;
 }

@@ -6,3 +6,5 @@ pub mod Places
 pub mod Boxes
 pub mod Parts
 pub mod CutBoxes
+pub mod Distinct
+pub mod Diffused

@@ -4,3 +4,6 @@ pub mod LookUp
 pub mod Packing
 pub mod Cut
 pub mod Span
+pub mod From
+pub mod Diffusion
+pub mod Done
