@@ -145,14 +145,10 @@ uint32_t pix_convert_rows(uint32_t from, uint32_t to, const uint8_t *src, size_t
 }
 
 /* Tables of colors. */
-static const uint8_t *bytes_of(const void *pixels) {
-    return (const uint8_t *)pixels;
-}
-
 uint32_t pix_table_nearest(const pix_srgb8 *entries, size_t len, const pix_srgb8 *color, uint8_t *index) {
     if (!len || len > 256)
         return PIX_BAD_TABLE;
-    *index = plain_nearest(bytes_of(entries), len, bytes_of(color));
+    *index = plain_nearest(entries, len, *color);
     return PIX_OK;
 }
 
@@ -162,7 +158,7 @@ static uint32_t match(const pix_srgb8 *entries, size_t len, const void *pixels, 
         return PIX_BAD_TABLE;
     if (index_count != pixel_count)
         return PIX_BAD_LENGTH;
-    plain_match(bytes_of(entries), len, bytes_of(pixels), size, pixel_count, alpha, kept, indices);
+    plain_match(entries, len, pixels, size, pixel_count, alpha, kept, indices);
     return PIX_OK;
 }
 
@@ -180,7 +176,7 @@ uint32_t pix_table_look_up(const pix_srgb8 *entries, size_t len, const uint8_t *
                            pix_srgb8 *pixels, size_t pixel_count) {
     if (index_count != pixel_count)
         return PIX_BAD_LENGTH;
-    if (!plain_below(indices, index_count, len))
+    if (!plain_all_below(indices, index_count, len))
         return PIX_BAD_INDEX;
     for (size_t i = 0; i < index_count; i++)
         pixels[i] = entries[indices[i]];
@@ -188,7 +184,7 @@ uint32_t pix_table_look_up(const pix_srgb8 *entries, size_t len, const uint8_t *
 }
 
 uint32_t pix_table_count(const uint8_t *indices, size_t index_count, size_t *counts, size_t len) {
-    if (!plain_below(indices, index_count, len))
+    if (!plain_all_below(indices, index_count, len))
         return PIX_BAD_INDEX;
     for (size_t i = 0; i < len; i++)
         counts[i] = 0;
@@ -202,7 +198,7 @@ uint32_t pix_table_pack(uint32_t bits, const uint8_t *indices, size_t index_coun
         return PIX_BAD_DEPTH;
     if (byte_count != plain_row_size(bits, index_count))
         return PIX_BAD_LENGTH;
-    if (!plain_below(indices, index_count, (size_t)1 << bits))
+    if (!plain_all_below(indices, index_count, (size_t)1 << bits))
         return PIX_BAD_INDEX;
     plain_pack(bits, indices, index_count, bytes);
     return PIX_OK;
@@ -214,5 +210,67 @@ uint32_t pix_table_unpack(uint32_t bits, const uint8_t *bytes, size_t byte_count
     if (byte_count != plain_row_size(bits, index_count))
         return PIX_BAD_LENGTH;
     plain_unpack(bits, bytes, index_count, indices);
+    return PIX_OK;
+}
+
+static uint32_t made_table(const pix_srgb8 *colors, size_t count, pix_srgb8 *entries, size_t len, size_t *made) {
+    *made = plain_table(colors, count, entries, len);
+    return PIX_OK;
+}
+
+uint32_t pix_table_from(const pix_srgb8 *pixels, size_t pixel_count, pix_srgb8 *work, size_t work_len, pix_srgb8 *entries,
+                        size_t len, size_t *made) {
+    if (!len || len > 256)
+        return PIX_BAD_TABLE;
+    if (work_len < pixel_count)
+        return PIX_BAD_LENGTH;
+    (void)work;
+    return made_table(pixels, pixel_count, entries, len, made);
+}
+
+uint32_t pix_table_from_alpha(const pix_srgba8 *pixels, size_t pixel_count, uint8_t alpha, pix_srgb8 *work, size_t work_len,
+                              pix_srgb8 *entries, size_t len, size_t *made) {
+    size_t count = 0;
+    if (!len || len > 256)
+        return PIX_BAD_TABLE;
+    if (work_len < pixel_count)
+        return PIX_BAD_LENGTH;
+    for (size_t i = 0; i < pixel_count; i++)
+        if (pixels[i].a >= alpha) {
+            pix_srgb8 color = {pixels[i].r, pixels[i].g, pixels[i].b};
+            work[count++] = color;
+        }
+    return made_table(work, count, entries, len, made);
+}
+
+uint32_t pix_table_diffuse(const pix_srgb8 *entries, size_t len, const pix_srgb8 *pixels, size_t pixel_count, size_t width,
+                           pix_srgb8 *work, size_t work_len, uint8_t *indices, size_t index_count) {
+    pix_srgba8 *opaque;
+    if (!len || len > 256)
+        return PIX_BAD_TABLE;
+    if (!width || width > SIZE_MAX / 4 || work_len != 4 * width || index_count != pixel_count)
+        return PIX_BAD_LENGTH;
+    (void)work;
+    opaque = malloc((pixel_count + 1) * sizeof *opaque);
+    if (!opaque)
+        abort();
+    for (size_t i = 0; i < pixel_count; i++) {
+        pix_srgba8 pixel = {pixels[i].r, pixels[i].g, pixels[i].b, 255};
+        opaque[i] = pixel;
+    }
+    plain_diffuse(entries, len, opaque, pixel_count, width, 0, 0, indices);
+    free(opaque);
+    return PIX_OK;
+}
+
+uint32_t pix_table_diffuse_alpha(const pix_srgb8 *entries, size_t len, const pix_srgba8 *pixels, size_t pixel_count,
+                                 size_t width, uint8_t alpha, uint8_t kept, pix_srgb8 *work, size_t work_len, uint8_t *indices,
+                                 size_t index_count) {
+    if (!len || len > 256)
+        return PIX_BAD_TABLE;
+    if (!width || width > SIZE_MAX / 4 || work_len != 4 * width || index_count != pixel_count)
+        return PIX_BAD_LENGTH;
+    (void)work;
+    plain_diffuse(entries, len, pixels, pixel_count, width, alpha, kept, indices);
     return PIX_OK;
 }

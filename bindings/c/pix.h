@@ -408,6 +408,34 @@ static inline pix_status pix_map_indexed(pix_table table, const pix_srgb8 *pixel
 static inline pix_status pix_map_indexed_alpha(pix_table table, const pix_srgba8 *pixels, size_t count, uint8_t alpha,
                                                uint8_t kept, uint8_t *indices);
 
+/* How many colors of work memory pix_make_table takes for `count` pixels, and pix_diffuse_indexed for rows of `width` pixels; the
+ * latter is SIZE_MAX where that is more than memory holds. */
+static inline size_t pix_table_work(size_t count);
+static inline size_t pix_diffusion_work(size_t width);
+
+/* Writes a table of the colors of `count` pixels, of at most `len` entries, and into `made` how many it has. With no more distinct
+ * colors than `len` they are the table, in order of first place. Else it is made by median cut, and what the entries past `made`
+ * hold is not said. `work` has pix_table_work(count) colors; for a large picture pass a sample of its pixels. Answers PIX_OK,
+ * PIX_BAD_TABLE (`len` is 0 or above 256), PIX_BAD_LENGTH, PIX_NULL or PIX_OVERLAP. */
+static inline pix_status pix_make_table(const pix_srgb8 *pixels, size_t count, pix_srgb8 *work, pix_srgb8 *entries, size_t len,
+                                        size_t *made);
+
+/* The same of pixels with an alpha: those whose alpha is below `alpha` do not count. */
+static inline pix_status pix_make_table_alpha(const pix_srgba8 *pixels, size_t count, uint8_t alpha, pix_srgb8 *work,
+                                              pix_srgb8 *entries, size_t len, size_t *made);
+
+/* Writes the index of each of `count` pixels, in rows of `width`, by error diffusion: that of the entry nearest to the pixel and
+ * what it gets of the errors before it. A pixel's error is what was wanted there less the entry that was found; 7 sixteenths of it
+ * go to the pixel on the right, 3 to the one below on the left, 5 to the one below, and 1 to the one below on the right (Floyd and
+ * Steinberg). `work` has pix_diffusion_work(width) colors. Answers what pix_map_indexed does; PIX_BAD_LENGTH too where `width`
+ * is 0 or more than memory holds. */
+static inline pix_status pix_diffuse_indexed(pix_table table, const pix_srgb8 *pixels, size_t count, size_t width, pix_srgb8 *work,
+                                             uint8_t *indices);
+
+/* The same of pixels with an alpha: one whose alpha is below `alpha` has the index `kept`, and hands on no error. */
+static inline pix_status pix_diffuse_indexed_alpha(pix_table table, const pix_srgba8 *pixels, size_t count, size_t width,
+                                                   uint8_t alpha, uint8_t kept, pix_srgb8 *work, uint8_t *indices);
+
 /* Writes the entry of each of `count` indices. The table may have no entry, or more than 256. Answers PIX_OK, PIX_BAD_INDEX where an
  * index is past the end, PIX_BAD_LENGTH, PIX_NULL or PIX_OVERLAP. */
 static inline pix_status pix_look_up(pix_table table, const uint8_t *indices, size_t count, pix_srgb8 *pixels);
@@ -497,6 +525,15 @@ uint32_t pix_table_match(const pix_srgb8 *entries, size_t len, const pix_srgb8 *
                          uint8_t *indices, size_t index_count);
 uint32_t pix_table_match_alpha(const pix_srgb8 *entries, size_t len, const pix_srgba8 *pixels, size_t pixel_count,
                                uint8_t alpha, uint8_t kept, uint8_t *indices, size_t index_count);
+uint32_t pix_table_from(const pix_srgb8 *pixels, size_t pixel_count, pix_srgb8 *work, size_t work_len, pix_srgb8 *entries,
+                        size_t len, size_t *made);
+uint32_t pix_table_from_alpha(const pix_srgba8 *pixels, size_t pixel_count, uint8_t alpha, pix_srgb8 *work, size_t work_len,
+                              pix_srgb8 *entries, size_t len, size_t *made);
+uint32_t pix_table_diffuse(const pix_srgb8 *entries, size_t len, const pix_srgb8 *pixels, size_t pixel_count, size_t width,
+                           pix_srgb8 *work, size_t work_len, uint8_t *indices, size_t index_count);
+uint32_t pix_table_diffuse_alpha(const pix_srgb8 *entries, size_t len, const pix_srgba8 *pixels, size_t pixel_count,
+                                 size_t width, uint8_t alpha, uint8_t kept, pix_srgb8 *work, size_t work_len, uint8_t *indices,
+                                 size_t index_count);
 uint32_t pix_table_look_up(const pix_srgb8 *entries, size_t len, const uint8_t *indices, size_t index_count,
                            pix_srgb8 *pixels, size_t pixel_count);
 uint32_t pix_table_count(const uint8_t *indices, size_t index_count, size_t *counts, size_t len);
@@ -983,6 +1020,127 @@ static inline pix_status pix_map_indexed_alpha(pix_table table, const pix_srgba8
     if (status != PIX_OK)
         return status;
     return (pix_status)pix_table_match_alpha(table.entries, table.len, pixels, count, alpha, kept, indices, count);
+}
+
+static inline size_t pix_table_work(size_t count) {
+    return count;
+}
+
+static inline size_t pix_diffusion_work(size_t width) {
+    return width > (size_t)PTRDIFF_MAX / 16 ? SIZE_MAX : 4 * width;
+}
+
+/* Tests what a table is made in: `pixels` are so many bytes. */
+static inline pix_status pix_makes_table_(const void *pixels, size_t bytes, pix_srgb8 *work, size_t count, pix_srgb8 *entries,
+                                          size_t len, size_t *made) {
+    pix_status status = made ? PIX_OK : PIX_NULL;
+    if (status == PIX_OK)
+        status = pix_apart_(entries, len * sizeof *entries, pixels, bytes);
+    if (status == PIX_OK)
+        status = pix_apart_(work, count * sizeof *work, pixels, bytes);
+    if (status == PIX_OK)
+        status = pix_apart_(work, count * sizeof *work, entries, len * sizeof *entries);
+    if (status == PIX_OK)
+        status = pix_apart_(made, sizeof *made, pixels, bytes);
+    if (status == PIX_OK)
+        status = pix_apart_(made, sizeof *made, work, count * sizeof *work);
+    if (status == PIX_OK)
+        status = pix_apart_(made, sizeof *made, entries, len * sizeof *entries);
+    return status;
+}
+
+static inline pix_status pix_make_table(const pix_srgb8 *pixels, size_t count, pix_srgb8 *work, pix_srgb8 *entries, size_t len,
+                                        size_t *made) {
+    const pix_srgb8 none = {0, 0, 0};
+    pix_srgb8 nothing = {0, 0, 0};
+    pix_status status;
+    if (!len || len > 256)
+        return PIX_BAD_TABLE;
+    if (pix_too_many_(count))
+        return PIX_BAD_LENGTH;
+    if (!count) {
+        pixels = &none;
+        work = &nothing;
+    }
+    status = pix_makes_table_(pixels, count * sizeof *pixels, work, count, entries, len, made);
+    if (status != PIX_OK)
+        return status;
+    return (pix_status)pix_table_from(pixels, count, work, count, entries, len, made);
+}
+
+static inline pix_status pix_make_table_alpha(const pix_srgba8 *pixels, size_t count, uint8_t alpha, pix_srgb8 *work,
+                                              pix_srgb8 *entries, size_t len, size_t *made) {
+    const pix_srgba8 none = {0, 0, 0, 0};
+    pix_srgb8 nothing = {0, 0, 0};
+    pix_status status;
+    if (!len || len > 256)
+        return PIX_BAD_TABLE;
+    if (pix_too_many_(count))
+        return PIX_BAD_LENGTH;
+    if (!count) {
+        pixels = &none;
+        work = &nothing;
+    }
+    status = pix_makes_table_(pixels, count * sizeof *pixels, work, count, entries, len, made);
+    if (status != PIX_OK)
+        return status;
+    return (pix_status)pix_table_from_alpha(pixels, count, alpha, work, count, entries, len, made);
+}
+
+/* Tests what errors are diffused in: `pixels` are so many bytes. */
+static inline pix_status pix_diffuses_(pix_table table, const void *pixels, size_t bytes, pix_srgb8 *work, size_t work_len,
+                                       uint8_t *indices, size_t count) {
+    pix_status status = pix_apart_(indices, count, table.entries, table.len * sizeof *table.entries);
+    if (status == PIX_OK)
+        status = pix_apart_(indices, count, pixels, bytes);
+    if (status == PIX_OK)
+        status = pix_apart_(work, work_len * sizeof *work, indices, count);
+    if (status == PIX_OK)
+        status = pix_apart_(work, work_len * sizeof *work, table.entries, table.len * sizeof *table.entries);
+    if (status == PIX_OK)
+        status = pix_apart_(work, work_len * sizeof *work, pixels, bytes);
+    return status;
+}
+
+static inline pix_status pix_diffuse_indexed(pix_table table, const pix_srgb8 *pixels, size_t count, size_t width, pix_srgb8 *work,
+                                             uint8_t *indices) {
+    const pix_srgb8 none = {0, 0, 0};
+    uint8_t nothing = 0;
+    size_t work_len = pix_diffusion_work(width);
+    pix_status status;
+    if (!table.len || table.len > 256)
+        return PIX_BAD_TABLE;
+    if (pix_too_many_(count) || !work_len || work_len == SIZE_MAX)
+        return PIX_BAD_LENGTH;
+    if (!count) {
+        pixels = &none;
+        indices = &nothing;
+    }
+    status = pix_diffuses_(table, pixels, count * sizeof *pixels, work, work_len, indices, count);
+    if (status != PIX_OK)
+        return status;
+    return (pix_status)pix_table_diffuse(table.entries, table.len, pixels, count, width, work, work_len, indices, count);
+}
+
+static inline pix_status pix_diffuse_indexed_alpha(pix_table table, const pix_srgba8 *pixels, size_t count, size_t width,
+                                                   uint8_t alpha, uint8_t kept, pix_srgb8 *work, uint8_t *indices) {
+    const pix_srgba8 none = {0, 0, 0, 0};
+    uint8_t nothing = 0;
+    size_t work_len = pix_diffusion_work(width);
+    pix_status status;
+    if (!table.len || table.len > 256)
+        return PIX_BAD_TABLE;
+    if (pix_too_many_(count) || !work_len || work_len == SIZE_MAX)
+        return PIX_BAD_LENGTH;
+    if (!count) {
+        pixels = &none;
+        indices = &nothing;
+    }
+    status = pix_diffuses_(table, pixels, count * sizeof *pixels, work, work_len, indices, count);
+    if (status != PIX_OK)
+        return status;
+    return (pix_status)pix_table_diffuse_alpha(table.entries, table.len, pixels, count, width, alpha, kept, work, work_len,
+                                               indices, count);
 }
 
 static inline pix_status pix_look_up(pix_table table, const uint8_t *indices, size_t count, pix_srgb8 *pixels) {

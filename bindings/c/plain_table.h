@@ -1,35 +1,21 @@
-/* plain_table.h - what the calls on tables of colors do, as plain loops from the definitions: the caller has tested all
- * lengths. A pixel is `size` bytes, of which the first three are red, green and blue, and a fourth one is the alpha. */
+/* plain_table.h - what the calls on tables of colors do beside indexed.h, as plain loops from the definitions: the caller has
+ * tested all lengths. A pixel is `size` bytes, of which the first three are red, green and blue, and a fourth one is the alpha. */
 #ifndef PLAIN_TABLE_H
 #define PLAIN_TABLE_H
 
-#include <stddef.h>
-#include <stdint.h>
+#include "indexed.h"
 
-static inline uint32_t plain_distance(const uint8_t *p, const uint8_t *q) {
-    int32_t r = p[0] - q[0], g = p[1] - q[1], b = p[2] - q[2];
-    return (uint32_t)(r * r + g * g + b * b);
-}
-
-/* The first of the nearest entries. */
-static inline uint8_t plain_nearest(const uint8_t *entries, size_t len, const uint8_t *color) {
-    size_t at = 0;
-    for (size_t i = 1; i < len; i++)
-        if (plain_distance(entries + 3 * i, color) < plain_distance(entries + 3 * at, color))
-            at = i;
-    return (uint8_t)at;
-}
-
-static inline void plain_match(const uint8_t *entries, size_t len, const uint8_t *pixels, size_t size, size_t count,
+static inline void plain_match(const pix_srgb8 *entries, size_t len, const void *pixels, size_t size, size_t count,
                                uint8_t alpha, uint8_t kept, uint8_t *indices) {
     for (size_t i = 0; i < count; i++) {
-        const uint8_t *pixel = pixels + size * i;
-        indices[i] = size == 4 && pixel[3] < alpha ? kept : plain_nearest(entries, len, pixel);
+        const uint8_t *pixel = (const uint8_t *)pixels + size * i;
+        pix_srgb8 color = {pixel[0], pixel[1], pixel[2]};
+        indices[i] = size == 4 && pixel[3] < alpha ? kept : plain_nearest(entries, len, color);
     }
 }
 
 /* Whether each index is below a number. */
-static inline int plain_below(const uint8_t *indices, size_t count, size_t number) {
+static inline int plain_all_below(const uint8_t *indices, size_t count, size_t number) {
     for (size_t i = 0; i < count; i++)
         if (indices[i] >= number)
             return 0;

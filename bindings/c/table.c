@@ -1,7 +1,6 @@
 /* Tables of colors, beside plain loops: nearest entries, look-up, counts and packed rows, and what is refused. */
-#include "pix.h"
+#include "indexed.h"
 #include <stdio.h>
-#include <stdlib.h>
 
 static int failures;
 static uint32_t seed = 1;
@@ -16,23 +15,6 @@ static void check(int good, const char *what) {
         printf("table: %s\n", what);
         failures++;
     }
-}
-
-static int square(int x) {
-    return x * x;
-}
-
-static int distance(pix_srgb8 p, pix_srgb8 q) {
-    return square(p.r - q.r) + square(p.g - q.g) + square(p.b - q.b);
-}
-
-/* The nearest entry, by all of them. */
-static uint8_t plain_nearest(const pix_srgb8 *entries, size_t len, pix_srgb8 color) {
-    size_t at = 0, i;
-    for (i = 1; i < len; i++)
-        if (distance(entries[i], color) < distance(entries[at], color))
-            at = i;
-    return (uint8_t)at;
 }
 
 static pix_srgb8 random_color(unsigned levels) {
@@ -81,6 +63,56 @@ static void nearest(size_t len, unsigned levels) {
     check(kept, "a pixel with an alpha has another index");
 }
 
+enum { ROOM = 256 };
+static pix_srgb8 work[PIXELS];
+
+/* A table is that of the plain loops, entry by entry. Few levels have no more colors than entries. */
+static void made(size_t count, size_t room, unsigned levels) {
+    pix_srgb8 entries[ROOM], plain[ROOM], shown[PIXELS];
+    size_t got = 999, want, i, left = 0;
+    for (i = 0; i < count; i++) {
+        pixels[i] = random_color(levels);
+        if (i % 5 == 0)
+            pixels[i].g = 200;
+        with_alpha[i].r = pixels[i].r;
+        with_alpha[i].g = pixels[i].g;
+        with_alpha[i].b = pixels[i].b;
+        with_alpha[i].a = (uint8_t)(126 + i % 4);
+        if (with_alpha[i].a >= 128)
+            shown[left++] = pixels[i];
+    }
+    want = plain_table(pixels, count, plain, room);
+    check(pix_make_table(pixels, count, work, entries, room, &got) == PIX_OK, "a table is made");
+    check(got == want && !memcmp(entries, plain, want * sizeof *plain), "a table that is made is another one");
+    want = plain_table(shown, left, plain, room);
+    check(pix_make_table_alpha(with_alpha, count, 128, work, entries, room, &got) == PIX_OK, "a table of pixels with an alpha is made");
+    check(got == want && !memcmp(entries, plain, want * sizeof *plain), "a table of pixels with an alpha is another one");
+}
+
+static void diffused(size_t len, size_t width, size_t count) {
+    pix_srgb8 entries[ROOM];
+    size_t i;
+    pix_table table = pix_table_of(entries, len);
+    for (i = 0; i < len; i++)
+        entries[i] = random_color(256);
+    for (i = 0; i < count; i++) {
+        with_alpha[i].r = random_byte();
+        with_alpha[i].g = (uint8_t)(i * 7);
+        with_alpha[i].b = (uint8_t)(i % 9 ? 255 : 0);
+        with_alpha[i].a = (uint8_t)(i % 11 ? 200 : 100);
+        pixels[i].r = with_alpha[i].r;
+        pixels[i].g = with_alpha[i].g;
+        pixels[i].b = with_alpha[i].b;
+    }
+    check(pix_diffusion_work(width) <= PIXELS, "work memory of the test");
+    plain_diffuse(entries, len, with_alpha, count, width, 0, 0, unpacked);
+    check(pix_diffuse_indexed(table, pixels, count, width, work, indices) == PIX_OK, "errors are diffused");
+    check(!memcmp(indices, unpacked, count), "an index by error diffusion is another one");
+    plain_diffuse(entries, len, with_alpha, count, width, 150, 99, unpacked);
+    check(pix_diffuse_indexed_alpha(table, with_alpha, count, width, 150, 99, work, indices) == PIX_OK, "with an alpha");
+    check(!memcmp(indices, unpacked, count), "an index by error diffusion with an alpha is another one");
+}
+
 static void counted(void) {
     size_t counts[256], plain[256] = {0}, i;
     for (i = 0; i < 256; i++)
@@ -124,6 +156,37 @@ static void packed(uint32_t bits, size_t count) {
     }
 }
 
+static void made_refused(void) {
+    pix_srgb8 entries[2] = {{1, 2, 3}, {4, 5, 6}}, some[2] = {{7, 8, 9}, {1, 1, 1}}, room[8] = {{5, 5, 5}};
+    uint8_t index[2] = {9, 9};
+    size_t count = 77;
+    pix_table table = pix_table_of(entries, 2);
+    check(pix_make_table(some, 2, room, entries, 0, &count) == PIX_BAD_TABLE, "a table of no entry");
+    check(pix_make_table(some, 2, room, entries, 257, &count) == PIX_BAD_TABLE, "a table of 257 entries");
+    check(pix_make_table(some, SIZE_MAX / 2, room, entries, 2, &count) == PIX_BAD_LENGTH, "a table of too many pixels");
+    check(pix_make_table(some, 2, NULL, entries, 2, &count) == PIX_NULL, "no work memory");
+    check(pix_make_table(some, 2, room, NULL, 2, &count) == PIX_NULL, "no entries");
+    check(pix_make_table(some, 2, room, entries, 2, NULL) == PIX_NULL, "no count");
+    check(pix_make_table(some, 2, some, entries, 2, &count) == PIX_OVERLAP, "work memory in the pixels");
+    check(pix_make_table(some, 2, room, room, 2, &count) == PIX_OVERLAP, "entries in the work memory");
+    check(pix_make_table(some, 2, room, some, 2, &count) == PIX_OVERLAP, "entries in the pixels");
+    check(pix_table_from(some, 2, room, 1, entries, 2, &count) == PIX_BAD_LENGTH, "too little work memory");
+    check(count == 77, "what is refused makes no table");
+    check(pix_make_table(NULL, 0, NULL, entries, 2, &count) == PIX_OK && count == 0, "a table of no pixels");
+    check(pix_diffuse_indexed(pix_table_of(entries, 0), some, 2, 2, room, index) == PIX_BAD_TABLE, "no entry to diffuse to");
+    check(pix_diffuse_indexed(table, some, 2, 0, room, index) == PIX_BAD_LENGTH, "rows of no pixel");
+    check(pix_diffuse_indexed(table, some, 2, SIZE_MAX / 4 + 2, room, index) == PIX_BAD_LENGTH, "rows of too many pixels");
+    check(pix_diffuse_indexed(table, some, 2, 2, NULL, index) == PIX_NULL, "no work memory to diffuse in");
+    check(pix_diffuse_indexed(table, some, 2, 2, room, NULL) == PIX_NULL, "no indices to diffuse to");
+    check(pix_diffuse_indexed(table, some, 2, 1, some, index) == PIX_OVERLAP, "work memory in the pixels to diffuse");
+    check(pix_diffuse_indexed(table, some, 2, 1, entries, index) == PIX_OVERLAP, "work memory in the table");
+    check(pix_diffuse_indexed(table, some, 2, 1, room, &room[1].g) == PIX_OVERLAP, "indices in the work memory");
+    check(pix_table_diffuse(entries, 2, some, 2, 2, room, 7, index, 2) == PIX_BAD_LENGTH, "too little work memory for rows");
+    check(pix_table_diffuse(entries, 2, some, 2, 0, room, 0, index, 2) == PIX_BAD_LENGTH, "no row");
+    check(pix_table_diffuse(entries, 2, some, 2, 2, room, 8, index, 1) == PIX_BAD_LENGTH, "fewer indices than pixels to diffuse");
+    check(index[0] == 9 && index[1] == 9 && entries[0].r == 1 && some[1].g == 1 && room[0].r == 5, "what is refused stays");
+}
+
 static void refused(void) {
     pix_srgb8 entries[257] = {{1, 2, 3}}, pixel = {1, 2, 3};
     uint8_t index = 9, past = 1;
@@ -148,6 +211,7 @@ static void refused(void) {
         check(pix_unpack_row(bad[i], &past, 1, &index) == PIX_BAD_DEPTH, "a depth to unpack");
     }
     check(pix_pack_row(1, &past, 1, &past) == PIX_OVERLAP, "a row over itself");
+    made_refused();
     /* The calls themselves test lengths. */
     check(pix_table_match(entries, 1, &pixel, 1, &index, 0) == PIX_BAD_LENGTH, "fewer indices than pixels");
     check(pix_table_look_up(entries, 1, &past, 1, &pixel, 0) == PIX_BAD_LENGTH, "fewer pixels than indices");
@@ -168,6 +232,12 @@ int main(void) {
     for (i = 0; i < sizeof depths / sizeof *depths; i++)
         for (j = 0; j < 40; j++)
             packed(depths[i], j < 20 ? j : j * 37);
+    for (i = 0; i < 60; i++)
+        made(i < 30 ? i : i * 61, i % 3 ? 1 + i * 4 : 1 + i % 7, levels[i % 3]);
+    made(3, 3, 2);
+    for (i = 1; i < 40; i++)
+        for (j = 1; j < 4; j++)
+            diffused(j * j * 28, i, i * j * 3 + i % 3);
     refused();
     if (!failures)
         printf("tables of colors: the same as plain loops\n");

@@ -32,6 +32,37 @@ class Tables(unittest.TestCase):
             found = pix.map_indexed(joined(table), with_alpha, format=pix.Format.SRGBA8, alpha=128, kept=77)
             self.assertEqual(found, kept)
 
+    def test_made(self):
+        chance = random.Random(3)
+        few = joined(chance.choice([(1, 2, 3), (9, 9, 9), (0, 255, 0)]) for _ in range(50))
+        firsts = joined(dict.fromkeys(few[i : i + 3] for i in range(0, len(few), 3)))
+        self.assertEqual(pix.table_from(few), firsts)
+        self.assertEqual(pix.table_from(few, 3), firsts)
+        self.assertEqual(len(pix.table_from(few, 2)), 6)
+        halves = joined([(0, 0, 0)] * 3 + [(1, 1, 1)] + [(200, 0, 0), (201, 0, 0)] * 2)
+        self.assertEqual(pix.table_from(halves, 2), joined([(0, 0, 0), (201, 0, 0)]))
+        clear = joined([(1, 2, 3, 128), (4, 5, 6, 127), (1, 2, 3, 255)])
+        self.assertEqual(pix.table_from(clear, format=pix.Format.SRGBA8, alpha=128), b"\1\2\3")
+        self.assertEqual(pix.table_from(b""), b"")
+        many = bytes(chance.randrange(256) for _ in range(6000))
+        for length in (1, 2, 7, 256):
+            table = pix.table_from(many, length)
+            self.assertEqual(len(table), 3 * length)
+        self.assertEqual(pix.table_from(many, 1), bytes((2 * sum(many[c::3]) + 2000) // 4000 for c in range(3)))
+
+    def test_diffused(self):
+        grays = joined([(0, 0, 0), (255, 255, 255)])
+        half = bytes([128]) * 3 * 64
+        self.assertEqual(pix.diffuse_indexed(grays, bytes(3 * 64), 8), bytes(64))
+        self.assertEqual(sum(pix.diffuse_indexed(grays, half, 64)), 32)
+        self.assertIn(sum(pix.diffuse_indexed(grays, half, 8)), range(28, 37))
+        # By hand: 100 is black and hands on 700 sixteenths, so that 100 and 44 are 144, which is white, and so on.
+        self.assertEqual(pix.diffuse_indexed(grays, bytes([100]) * 12, 4), b"\0\1\0\0")
+        clear = joined([(100, 100, 100, 0), (100, 100, 100, 255)])
+        found = pix.diffuse_indexed(grays, clear, 2, format=pix.Format.SRGBA8, alpha=1, kept=9)
+        self.assertEqual(found, b"\x09\0")
+        self.assertEqual(pix.diffuse_indexed(grays, b"", 5), b"")
+
     def test_rows(self):
         chance = random.Random(2)
         for bits in (1, 2, 4, 8):
@@ -64,6 +95,14 @@ class Tables(unittest.TestCase):
         self.refused(status.BAD_LENGTH, pix.map_indexed, b"abc", b"abcd")
         self.refused(status.BAD_LENGTH, pix.map_indexed, b"abc", b"abc", kept)
         self.refused(status.BAD_FORMAT, pix.map_indexed, b"abc", b"abcd", format=pix.Format.RGBA8P)
+        self.refused(status.BAD_TABLE, pix.table_from, b"abc", 0)
+        self.refused(status.BAD_TABLE, pix.table_from, b"abc", 257)
+        self.refused(status.BAD_LENGTH, pix.table_from, b"abcd")
+        self.refused(status.BAD_FORMAT, pix.table_from, b"abcd", format=pix.Format.RGBA8P)
+        self.refused(status.BAD_TABLE, pix.diffuse_indexed, b"", b"abc", 1)
+        self.refused(status.BAD_LENGTH, pix.diffuse_indexed, b"abc", b"abc", 0)
+        self.refused(status.BAD_LENGTH, pix.diffuse_indexed, b"abc", b"abcabc", 3)
+        self.refused(status.BAD_LENGTH, pix.diffuse_indexed, b"abc", b"abc", 1, kept)
         self.refused(status.BAD_INDEX, pix.look_up, b"abc", b"\0\1")
         self.refused(status.BAD_LENGTH, pix.look_up, b"abc", b"\0", bytearray(6))
         self.refused(status.BAD_DEPTH, pix.pack_row, 3, b"\0")

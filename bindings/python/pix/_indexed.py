@@ -89,6 +89,82 @@ def map_indexed(
     return indices
 
 
+def table_from(
+    pixels: Buffer,
+    length: SupportsIndex = 256,
+    format: Format = Format.SRGB8,
+    alpha: SupportsIndex = 0,
+) -> bytearray:
+    """Makes a table of at most `length` colors of the pixels, three bytes each: red, green and blue in sRGB.
+
+    The pixels are of the format SRGB8, or of SRGBA8; one whose alpha is below `alpha` does not count. With no more than `length`
+    distinct colors the table is just those, in order of first place. Else it is made by median cut. It takes work memory of three
+    bytes a pixel; of a large picture pass a sample, as each tenth pixel.
+
+    Raises PixError where `length` is not from 1 to 256, or the pixels don't fit.
+    """
+    size = _PIXELS.get(Format(format))
+    if size is None:
+        raise PixError(Status.BAD_FORMAT)
+    alpha, most = _byte(alpha, "alpha"), index(length)
+    source = _read(pixels)
+    count = _count(source, size)
+    if not 0 < most <= 256:
+        raise PixError(Status.BAD_TABLE)
+    entries, work, made = bytearray(3 * most), bytearray(3 * count), ctypes.c_size_t()
+    target, room = _read(entries), _read(work)
+    with calls.turn(target, [source]):
+        library = libraries[count > LONG]
+        written = (room.address, count, target.address, most, ctypes.byref(made))
+        if size == 3:
+            _done(library.pix_table_from(source.address, count, *written))
+        else:
+            _done(library.pix_table_from_alpha(source.address, count, alpha, *written))
+    return entries[: 3 * made.value]
+
+
+def diffuse_indexed(
+    table: Buffer,
+    pixels: Buffer,
+    width: SupportsIndex,
+    indices: Any = None,
+    format: Format = Format.SRGB8,
+    alpha: SupportsIndex = 0,
+    kept: SupportsIndex = 0,
+) -> Any:
+    """Does what `map_indexed` does, for a picture of rows of `width` pixels, by error diffusion.
+
+    What a pixel's entry leaves of the color that was wanted there is handed on: 7 sixteenths to the pixel on the right, 3 to the
+    one below on the left, 5 to the one below, and 1 to the one below on the right (Floyd and Steinberg). A pixel whose alpha is
+    below `alpha` hands on none.
+
+    Raises PixError where the table, the width or the lengths don't fit, and leaves `indices` as they were.
+    """
+    size = _PIXELS.get(Format(format))
+    if size is None:
+        raise PixError(Status.BAD_FORMAT)
+    alpha, kept, across = _byte(alpha, "alpha"), _byte(kept, "index"), index(width)
+    entries, source = _read(table), _read(pixels)
+    entry_count, count = _count(entries, 3), _count(source, size)
+    if across < 1 or count % across:
+        raise PixError(Status.BAD_LENGTH)
+    if indices is None:
+        indices = bytearray(count)
+    target = _written(indices, entries, source)
+    work = bytearray(3 * 4 * across if count else 12 * min(across, 1))
+    across = across if count else 1
+    room = _read(work)
+    with calls.turn(target, [entries, source]):
+        library = libraries[count > LONG]
+        read = (entries.address, entry_count, source.address, count, across)
+        written = (room.address, 4 * across, target.address, target.length)
+        if size == 3:
+            _done(library.pix_table_diffuse(*read, *written))
+        else:
+            _done(library.pix_table_diffuse_alpha(*read, alpha, kept, *written))
+    return indices
+
+
 def look_up(table: Buffer, indices: Buffer, pixels: Any = None) -> Any:
     """Writes the entry of `table` of each index, three bytes each, and returns `pixels`, without which it makes a bytearray.
 

@@ -84,6 +84,11 @@ def load(kind: Any) -> Any:
     calls["pix_table_match_alpha"] = [*buffer * 2, ctypes.c_uint8, ctypes.c_uint8, *buffer]
     calls["pix_table_look_up"] = buffer * 3
     calls["pix_table_count"] = buffer * 2
+    byte = ctypes.c_uint8
+    calls["pix_table_from"] = [*buffer * 3, ctypes.POINTER(size)]
+    calls["pix_table_from_alpha"] = [*buffer, byte, *buffer * 2, ctypes.POINTER(size)]
+    calls["pix_table_diffuse"] = [*buffer * 2, size, *buffer * 2]
+    calls["pix_table_diffuse_alpha"] = [*buffer * 2, size, byte, byte, *buffer * 2]
     calls["pix_table_pack"] = calls["pix_table_unpack"] = [u32, *buffer * 2]
     try:
         library = kind(path)

@@ -3,3 +3,8 @@ pub mod NearestEntries
 pub mod Writes
 pub mod Below
 pub mod Places
+pub mod Boxes
+pub mod Parts
+pub mod CutBoxes
+pub mod Distinct
+pub mod Diffused

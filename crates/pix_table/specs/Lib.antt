@@ -2,3 +2,8 @@ pub mod Nearest
 pub mod Known
 pub mod LookUp
 pub mod Packing
+pub mod Cut
+pub mod Span
+pub mod From
+pub mod Diffusion
+pub mod Done

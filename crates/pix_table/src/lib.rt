@@ -4,12 +4,17 @@
 #![tactic(auto)]
 
 mod color;
+mod cut;
+mod diffuse;
+mod from;
 mod look;
 mod matcher;
 mod row;
 mod search;
 
 pub use crate::color::{Color, TableColor, TablePixel};
+pub use crate::diffuse::{Diffusion, diffuse_pixels, diffusion_work};
+pub use crate::from::{table_from, table_work};
 pub use crate::look::{are_below, count, look_up};
 pub use crate::matcher::{Matcher, match_pixels};
 pub use crate::row::{IndexDepth, RowFault, pack_row, unpack_row};

@@ -1,0 +1,114 @@
+//! A table made from the pixels of a picture.
+ghost use Rattle.std.specs.Prelude.{◌≡◌, ◌⊎◌, ◌<◌, ◌≤◌, length, map, take, MatchOption};
+ghost use Rattle.std.specs.List.{list_any};
+ghost use Rattle.pix_table.specs.Nearest.{numbers};
+ghost use Rattle.pix_table.specs.From.{shown, same_color, distinct, IsTableFrom};
+
+use crate::color::{Color, TablePixel};
+use crate::cut::cut_table;
+
+/// Returns how many colors of work memory [`table_from`] takes for so many pixels: as many.
+pub fn table_work(pixels: usize) -> usize
+    ensures { result ≡ pixels }
+{
+    pixels
+}
+
+/// Writes a table of the colors of `pixels` into the first of the entries, and returns how many they are; or `None`, and changes nothing, where
+/// there is no entry or more than 256, or where `work` has fewer colors than [`table_work`] says.
+///
+/// Pixels whose alpha is below `alpha` do not count. With no more distinct colors than entries, they are the table, in order of first place. Else
+/// it is made by median cut, which takes at most as many entries as there are; what the other entries hold is not said.
+pub fn table_from<P: TablePixel>(
+    pixels: &[P],
+    alpha: u8,
+    work: &mut [Color],
+    entries: &mut [Color],
+) -> Option<usize>
+    ensures table { MatchOption result
+        ((length entries.old ≡ 0) ⊎ (256 < length entries.old)
+            ⊎ (length work.old < length pixels.now))
+        (λ count. (count ≤ length entries.new)
+            × IsTableFrom (length entries.old) (shown alpha (map P.values pixels.now))
+                (map numbers (take count entries.new))) }
+    ensures unchanged { MatchOption result
+        ((work.new ≡ work.old) × (entries.new ≡ entries.old)) (λ _. 0 ≤ 0) }
+{
+    if entries.is_empty() || entries.len() > 256 || work.len() < table_work(pixels.len()) {
+        return None;
+    }
+    let count = gather(pixels, alpha, work);
+    Some(table_of(&mut work[..count], entries))
+}
+
+/// Writes the colors of the pixels whose alpha is not below `alpha` into the first places of `work`, and returns how many they are.
+fn gather<P: TablePixel>(pixels: &[P], alpha: u8, work: &mut [Color]) -> usize
+    requires { length pixels.now ≤ length work.old }
+    ensures within { result ≤ length work.new }
+    ensures shown { map numbers (take result work.new) ≡ shown alpha (map P.values pixels.now) }
+{
+    let mut count = 0;
+    for i in 0..pixels.len() {
+        if alpha <= pixels[i].alpha() {
+            work[count] = pixels[i].rgb();
+            count += 1;
+        }
+    }
+    count
+}
+
+/// Writes the table of some colors into the first of the entries, and returns how many they are. The colors come into another order.
+fn table_of(colors: &mut [Color], entries: &mut [Color]) -> usize
+    requires room { 0 < length entries.old }
+    requires few { length entries.old ≤ 256 }
+    ensures within { result ≤ length entries.new }
+    ensures table { IsTableFrom (length entries.old) (map numbers colors.old)
+        (map numbers (take result entries.new)) }
+{
+    match distinct(colors, entries) {
+        Some(count) => count,
+        None => cut_table(colors, entries),
+    }
+}
+
+/// Writes the distinct colors into the first of the entries, in order of first place, and returns how many they are; or `None` where they
+/// are more than the entries.
+fn distinct(colors: &[Color], entries: &mut [Color]) -> Option<usize>
+    ensures { MatchOption result
+        (length entries.old < length (distinct (map numbers colors.now)))
+        (λ count. (count ≤ length entries.new)
+            × (map numbers (take count entries.new) ≡ distinct (map numbers colors.now))) }
+{
+    let mut count = 0;
+    for i in 0..colors.len() {
+        let known = has(&entries[..count], colors[i]);
+        if !known {
+            if count == entries.len() {
+                return None;
+            }
+            entries[count] = colors[i];
+            count += 1;
+        }
+    }
+    Some(count)
+}
+
+/// Returns whether a color is among the entries.
+fn has(entries: &[Color], clr: Color) -> bool
+    ensures { result ≡ list_any (λ c. same_color c (numbers clr)) (map numbers entries.now) }
+{
+    for i in 0..entries.len() {
+        let found = same(entries[i], clr);
+        if found {
+            return true;
+        }
+    }
+    false
+}
+
+/// Returns whether two colors are the same.
+fn same(p: Color, q: Color) -> bool
+    ensures { result ≡ same_color (numbers p) (numbers q) }
+{
+    p.red == q.red && p.green == q.green && p.blue == q.blue
+}
