@@ -5,7 +5,7 @@ Writes pictures that Pillow reads as indexed ones: each as a PNG, or all as the 
   --into FOLDER    write each FILE as an indexed PNG of its name into this folder (the present one)
   --gif FILE       write one GIF in place of that, with one table of colors for all frames
   --colors N       at most so many colors, from 2 to 256 (256)
-  --dither         add a pattern to the pixels before they are matched
+  --dither         spread the error of each pixel over those that come after it
   --ground RRGGBB  composite transparent pictures over this color; else their clear parts stay clear
   --delay MS       how long the GIF shows each frame, in steps of 10 (100)
   --help           print this

@@ -1,6 +1,7 @@
 #!/usr/bin/env python3
 """Tries the encoder: what its files have when they are read back, the bar, and what it refuses."""
 
+import itertools
 import os
 import pathlib
 import pty
@@ -91,6 +92,25 @@ class Encoder(Trial):
             sums = [[sum(it.convert("L").crop((x, 0, x + 16, 32)).getdata()) for x in range(0, 128, 16)] for it in (made, ramp)]
             apart.append(sum(abs(a - b) for a, b in zip(*sums)))
         self.assertLess(apart[1], apart[0] / 2)
+
+    def test_errors_are_handed_on(self):
+        """Each pixel has the color nearest to its own and what it gets of the errors before it, by Floyd and Steinberg."""
+        photo = open_picture(LAKE).crop((200, 150, 223, 165))
+        photo.paste((0, 0, 0, 0), (5, 5, 9, 8))
+        made, _ = self.png(photo, "--colors", 6, "--dither")
+        table = made.getpalette()[:18]
+        colors, clear = [table[i : i + 3] for i in range(0, 15, 3)], 5
+        got = {}
+        for place, pixel, index in zip(itertools.product(range(15), range(23)), photo.getdata(), made.getdata(), strict=True):
+            if pixel[3] < 128:
+                self.assertEqual(index, clear)
+                continue
+            wanted = [min(255, max(0, (16 * n + 8 + e) // 16)) for n, e in zip(pixel, got.get(place, (0, 0, 0)))]
+            apart = [sum((a - b) ** 2 for a, b in zip(color, wanted)) for color in colors]
+            self.assertEqual(index, apart.index(min(apart)), place)
+            for down, across, part in ((0, 1, 7), (1, -1, 3), (1, 0, 5), (1, 1, 1)):
+                to = (place[0] + down, place[1] + across)
+                got[to] = [e + part * (a - b) for e, a, b in zip(got.get(to, (0, 0, 0)), wanted, colors[index])]
 
     def test_over_a_color(self):
         """What is half transparent is composited in light: half of white over black is 188."""
