@@ -101,7 +101,7 @@ class Progress:
     """A bar on standard error, where that is a terminal."""
 
     def __init__(self, count):
-        self.done, self.count, self.shows = 0, count, sys.stderr.isatty()
+        self.done, self.count, self.shows = 0, count, sys.stderr is not None and sys.stderr.isatty()
 
     def show(self, name):
         """Shows how many are done, and which one is next."""
