@@ -1,5 +1,5 @@
 -- The calls on tables of colors: what is refused, by which status.
-use Rattle.std.specs.Prelude.{◌≡◌, ℕ, ◌<◌, List, [], ◌∷◌, Bool, ◌&&◌, nat_eq, nat_lt, nat_le, length, slice_index, Option, Some, None, if◌then◌else◌}
+use Rattle.std.specs.Prelude.{◌≡◌, ℕ, ◌*◌, ◌<◌, List, [], ◌∷◌, Bool, ◌&&◌, nat_eq, nat_lt, nat_le, length, slice_index, Option, Some, None, if◌then◌else◌}
 use Rattle.pix_table.specs.LookUp.{all_below}
 use Rattle.pix_table.specs.Packing.{pack_fault, unpack_fault}
 use Rattle.pix_table.specs.declared.row.IndexDepth.{IndexDepth}
@@ -23,6 +23,16 @@ nearest_status len = if is_table len then 0 else 11
 -- the status of matching pixels: 11 without a table, 7 where there are not as many indices as pixels, and else 0
 abbrev pub match_status : (len pixels indices : ℕ) → ℕ
 match_status len pixels indices = if is_table len then (if nat_eq indices pixels then 0 else 7) else 11
+
+-- the status of making a table: 11 without room for one, 7 where work memory has not a color for each pixel, and else 0
+abbrev pub make_status : (len pixels work : ℕ) → ℕ
+make_status len pixels work = if is_table len then (if nat_le pixels work then 0 else 7) else 11
+
+-- the status of error diffusion: 11 without a table; 7 where a row has no pixel, work memory has not four rows of colors, or there are not as many
+-- indices as pixels; and else 0
+abbrev pub diffuse_status : (len pixels width work indices : ℕ) → ℕ
+diffuse_status len pixels width work indices =
+    if is_table len then (if nat_lt 0 width && nat_eq work (4 * width) && nat_eq indices pixels then 0 else 7) else 11
 
 -- the status of looking indices up: 7 where there are not as many pixels, 12 where an index is past the entries, and else 0
 abbrev pub look_up_status : ℕ → List ℕ → ℕ → ℕ

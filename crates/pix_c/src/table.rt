@@ -1,16 +1,19 @@
 //! Tables of colors, for images of indices.
-ghost use Rattle.std.specs.Prelude.{◌≡◌, ◌≢◌, ℕ, ◌<◌, length, map, Some, slice_index};
+ghost use Rattle.std.specs.Prelude.{◌≡◌, ◌≢◌, ℕ, ◌<◌, ◌≤◌, length, map, take, Some, slice_index};
 ghost use Rattle.pix_table.specs.Nearest.{numbers, IsNearest, AreMatched};
 ghost use Rattle.pix_table.specs.LookUp.{AreLookedUp, AreCounted};
+ghost use Rattle.pix_table.specs.From.{shown, IsTableFrom};
+ghost use Rattle.pix_table.specs.Diffusion.{AreDiffused};
 ghost use Rattle.pix_table.specs.Packing.{ArePacked, AreUnpacked};
 ghost use Rattle.pix_table.specs.declared.row.IndexDepth.{IndexDepth};
 ghost use Rattle.pix_c.specs.Table.{srgba8_numbers, nearest_status, match_status, look_up_status};
+ghost use Rattle.pix_c.specs.Table.{make_status, diffuse_status};
 ghost use Rattle.pix_c.specs.Table.{count_status, pack_status, unpack_status, depth_of, row_status};
 
 use crate::status::{BAD_LENGTH, DONE};
 use pix_table::{
-    Color, IndexDepth, Matcher, RowFault, TablePixel, count, look_up, match_pixels, pack_row,
-    unpack_row,
+    Color, Diffusion, IndexDepth, Matcher, RowFault, TablePixel, count, diffuse_pixels, look_up,
+    match_pixels, pack_row, table_from, unpack_row,
 };
 
 /// A table has no entry, or more than 256.
@@ -125,6 +128,152 @@ fn match_all<P: TablePixel>(
         return BAD_LENGTH;
     }
     match_pixels(&mut matcher, pixels, alpha, kept, indices);
+    DONE
+}
+
+/// Writes a table of the colors of the pixels into the first of the entries, and into `made` how many it has. With no more distinct colors than
+/// entries they are the table, in order of first place. Else it is made by median cut, and what the other entries hold is not said.
+///
+/// Returns 0 when it is made. Else nothing is written, and the status is 11 where there is no entry or more than 256, and otherwise 7 where
+/// `work` has fewer colors than there are pixels.
+#[unsafe(no_mangle)]
+pub extern "C" fn pix_table_from(
+    pixels: &[Color],
+    work: &mut [Color],
+    entries: &mut [Color],
+    made: &mut usize,
+) -> u32
+    ensures status { result ≡
+        make_status (length entries.old) (length pixels.now) (length work.old) }
+    ensures refused { result ≢ 0 → (work.new ≡ work.old) × (entries.new ≡ entries.old)
+        × (made.new ≡ made.old) }
+    ensures done { result ≡ 0 → (made.new ≤ length entries.new)
+        × IsTableFrom (length entries.old) (shown 0 (map numbers pixels.now))
+            (map numbers (take made.new entries.new)) }
+{
+    make_table(pixels, 0, work, entries, made)
+}
+
+/// Does what [`pix_table_from`] does, on pixels with an alpha. Those whose alpha is below `alpha` do not count.
+#[unsafe(no_mangle)]
+pub extern "C" fn pix_table_from_alpha(
+    pixels: &[PixSrgba8],
+    alpha: u8,
+    work: &mut [Color],
+    entries: &mut [Color],
+    made: &mut usize,
+) -> u32
+    ensures status { result ≡
+        make_status (length entries.old) (length pixels.now) (length work.old) }
+    ensures refused { result ≢ 0 → (work.new ≡ work.old) × (entries.new ≡ entries.old)
+        × (made.new ≡ made.old) }
+    ensures done { result ≡ 0 → (made.new ≤ length entries.new)
+        × IsTableFrom (length entries.old) (shown alpha (map srgba8_numbers pixels.now))
+            (map numbers (take made.new entries.new)) }
+{
+    make_table(pixels, alpha, work, entries, made)
+}
+
+/// Makes a table of pixels of any kind.
+fn make_table<P: TablePixel>(
+    pixels: &[P],
+    alpha: u8,
+    work: &mut [Color],
+    entries: &mut [Color],
+    made: &mut usize,
+) -> u32
+    ensures status { result ≡
+        make_status (length entries.old) (length pixels.now) (length work.old) }
+    ensures refused { result ≢ 0 → (work.new ≡ work.old) × (entries.new ≡ entries.old)
+        × (made.new ≡ made.old) }
+    ensures done { result ≡ 0 → (made.new ≤ length entries.new)
+        × IsTableFrom (length entries.old) (shown alpha (map P.values pixels.now))
+            (map numbers (take made.new entries.new)) }
+{
+    if entries.is_empty() || entries.len() > 256 {
+        return BAD_TABLE;
+    }
+    match table_from(pixels, alpha, work, entries) {
+        Some(count) => {
+            *made = count;
+            DONE
+        }
+        None => BAD_LENGTH,
+    }
+}
+
+/// Writes for each pixel, in rows of `width`, its index by error diffusion: that of the entry that is nearest to the pixel and what it gets of
+/// the errors before it. An error is what was wanted less the entry that was found: 7 sixteenths of it go to the pixel on the right, 3 to the
+/// one below on the left, 5 to the one below, and 1 to the one below on the right.
+///
+/// Returns 0 when they are written. Else nothing is, and the status is 11 where there is no entry or more than 256, and otherwise 7 where a
+/// row has no pixel, where `work` has not just four rows of colors, or where there are not as many indices as pixels.
+#[unsafe(no_mangle)]
+pub extern "C" fn pix_table_diffuse(
+    entries: &[Color],
+    pixels: &[Color],
+    width: usize,
+    work: &mut [Color],
+    indices: &mut [u8],
+) -> u32
+    ensures status { result ≡ diffuse_status (length entries.now) (length pixels.now) width
+        (length work.old) (length indices.old) }
+    ensures refused { result ≢ 0 → (work.new ≡ work.old) × (indices.new ≡ indices.old) }
+    ensures done { result ≡ 0 → AreDiffused (map numbers entries.now) 0 0 width
+        (map numbers pixels.now) indices.new }
+{
+    let how = Diffusion {
+        width,
+        alpha: 0,
+        kept: 0,
+    };
+    diffuse(entries, pixels, how, work, indices)
+}
+
+/// Does what [`pix_table_diffuse`] does, on pixels with an alpha. One whose alpha is below `alpha` has the index `kept`, and hands on no error.
+#[unsafe(no_mangle)]
+pub extern "C" fn pix_table_diffuse_alpha(
+    entries: &[Color],
+    pixels: &[PixSrgba8],
+    width: usize,
+    alpha: u8,
+    kept: u8,
+    work: &mut [Color],
+    indices: &mut [u8],
+) -> u32
+    ensures status { result ≡ diffuse_status (length entries.now) (length pixels.now) width
+        (length work.old) (length indices.old) }
+    ensures refused { result ≢ 0 → (work.new ≡ work.old) × (indices.new ≡ indices.old) }
+    ensures done { result ≡ 0 → AreDiffused (map numbers entries.now) alpha kept width
+        (map srgba8_numbers pixels.now) indices.new }
+{
+    let how = Diffusion { width, alpha, kept };
+    diffuse(entries, pixels, how, work, indices)
+}
+
+/// Diffuses errors of pixels of any kind.
+fn diffuse<P: TablePixel>(
+    entries: &[Color],
+    pixels: &[P],
+    how: Diffusion,
+    work: &mut [Color],
+    indices: &mut [u8],
+) -> u32
+    ensures status { result ≡ diffuse_status (length entries.now) (length pixels.now) how.width
+        (length work.old) (length indices.old) }
+    ensures refused { result ≢ 0 → (work.new ≡ work.old) × (indices.new ≡ indices.old) }
+    ensures done { result ≡ 0 → AreDiffused (map numbers entries.now) how.alpha how.kept how.width
+        (map P.values pixels.now) indices.new }
+{
+    let Some(mut matcher) = Matcher::new(entries) else {
+        return BAD_TABLE;
+    };
+    let rows = work.len() / 4;
+    if how.width == 0 || work.len() % 4 != 0 || rows != how.width || indices.len() != pixels.len()
+    {
+        return BAD_LENGTH;
+    }
+    diffuse_pixels(&mut matcher, entries, pixels, how, work, indices);
     DONE
 }
 

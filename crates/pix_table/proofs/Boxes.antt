@@ -1,5 +1,5 @@
 -- Boxes of colors, one color after the other.
-use Rattle.std.proofs.Common.{◌≡◌, ℕ, zero, suc, ◌+◌, ◌-◌, ◌*◌, ◌/◌, ◌<◌, ◌≤◌, min, max, true, false, cond, List, [], ◌∷◌, ◌++◌, length, map, take, get_or, fold, sum_by, count_by, nat_lt, nat_eq, refl, arith, sym, ap, ap₂, ◌∙◌, inl, inr, div-lt_iff_lt-mul, lt-ltb, le-ltb, eq-eqb, ne_eqb}
+use Rattle.std.proofs.Common.{◌≡◌, ℕ, zero, suc, ◌+◌, ◌-◌, ◌*◌, ◌/◌, ◌<◌, ◌≤◌, min, max, cond, List, [], ◌∷◌, ◌++◌, length, map, take, get_or, fold, count_by, nat_lt, nat_eq, refl, arith, sym, ap, ap₂, ◌∙◌, inl, inr, div-lt_iff_lt-mul, lt-ltb, le-ltb, eq-eqb, ne_eqb}
 use Rattle.std.proofs.lemmas.Bool.{cases_lt, cases_order}
 use Rattle.std.proofs.lemmas.List.{map-append, take_more}
 use Rattle.std.proofs.lemmas.List.Sums.{fold-append, sum_by-cons, count_by-le-length}

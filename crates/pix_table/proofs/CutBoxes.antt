@@ -1,12 +1,12 @@
 -- A box that is cut in two.
-use Rattle.std.proofs.Common.{◌≡◌, ◌≢◌, ◌⊎◌, ℕ, zero, suc, ◌+◌, ◌-◌, ◌*◌, ◌<◌, ◌≤◌, List, [], ◌∷◌, ◌++◌, length, map, take, drop, set, get_or, All, IsPermutation, refl, arith, sym, ap, ◌∙◌, subst, inl, inr, take-append-drop, length-drop, length-take, take_all, rules}
+use Rattle.std.proofs.Common.{◌≡◌, ◌≢◌, ◌⊎◌, ℕ, suc, ◌+◌, ◌-◌, ◌<◌, ◌≤◌, List, [], ◌∷◌, ◌++◌, length, map, take, drop, set, get_or, All, IsPermutation, arith, sym, ap, ◌∙◌, subst, inl, inr, take-append-drop, length-drop, length-take, take_all, rules}
 use Rattle.std.proofs.lemmas.Bool.{cases_lt}
 use Rattle.std.proofs.lemmas.List.{map-append, length-map, take_more_set, take-append-le}
 use Rattle.std.proofs.lemmas.List.Elements.{All-map}
 use Rattle.std.proofs.lemmas.List.Sorted.{IsPermutation-map, sum_by-IsPermutation, length_permutation}
 use Rattle.std.specs.Prelude.{cond, nat_lt}
 use Rattle.pix_table.specs.Nearest.{numbers}
-use Rattle.pix_table.specs.Cut.{least, greatest, width, spread, below, share, mean, IsWidest, IsMedian, IsCut, IsCutTable, whole, cut}
+use Rattle.pix_table.specs.Cut.{width, spread, below, share, mean, IsWidest, IsMedian, IsCut, IsCutTable, whole, cut}
 use Rattle.pix_table.proofs.Boxes.{below_zero, some_below, some_others, none_below, each_below_value}
 use Rattle.pix_table.specs.declared.color.Color.{Color}
 

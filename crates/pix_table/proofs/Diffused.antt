@@ -1,9 +1,9 @@
 -- Pixels by error diffusion, one after the other.
-use Rattle.std.proofs.Common.{◌≡◌, ◌≢◌, ℕ, zero, suc, ◌+◌, ◌-◌, ◌*◌, ◌/◌, ◌%◌, ◌<◌, ◌≤◌, List, [], ◌∷◌, ◌++◌, length, get_or, set, refl, arith, sym, ap, ◌∙◌, subst, inl, inr, length-append, mod-lt, get_or-set_same, get_or-set_other, div-add-mod', mul-le-mul_right, add-mul}
+use Rattle.std.proofs.Common.{◌≡◌, ◌≢◌, ℕ, ◌+◌, ◌*◌, ◌/◌, ◌%◌, ◌<◌, ◌≤◌, List, [], ◌∷◌, ◌++◌, length, get_or, set, refl, arith, sym, ap, ◌∙◌, subst, inl, inr, length-append, mod-lt, get_or-set_same, get_or-set_other, div-add-mod', mul-le-mul_right, add-mul}
 use Rattle.std.proofs.lemmas.Bool.{cases_lt}
 use Rattle.std.proofs.lemmas.List.{get_or_append_left, get_or_push}
 use Rattle.pix_table.specs.Nearest.{IsNearest, numbers, alpha_of}
-use Rattle.pix_table.specs.Diffusion.{IsDiffused, none, clear, shown, wanted_at, black}
+use Rattle.pix_table.specs.Diffusion.{none, clear, shown, wanted_at, black}
 use Rattle.pix_table.specs.Done.{AreLatest, AreDone}
 use Rattle.pix_table.specs.declared.color.Color.{Color}
 
@@ -82,3 +82,11 @@ module _ (entries : List (List ℕ)) (alpha kept width : ℕ) (pixels : List (Li
         last_wanted = latest_more h.all_wanted w width k wanted p some h.many_wanted long_wanted e h.last_wanted;
         last_found = latest_more h.all_found (get_or entries i []) width k found q some h.many_found long_found entry h.last_found;
       }
+
+-- the same lists are done alike
+pub alike : (entries : List (List ℕ)) (alpha kept width : ℕ) (pixels : List (List ℕ)) (k : ℕ) (ws vs gs fs : List Color) (is js : List ℕ)
+    → vs ≡ ws → fs ≡ gs → js ≡ is → AreDone entries alpha kept width pixels k ws gs is → AreDone entries alpha kept width pixels k vs fs js
+alike entries alpha kept width pixels k ws vs gs fs is js e f g h =
+    subst (λ v. AreDone entries alpha kept width pixels k v fs js) (sym e)
+    (subst (λ x. AreDone entries alpha kept width pixels k ws x js) (sym f)
+    (subst (λ j. AreDone entries alpha kept width pixels k ws gs j) (sym g) h))

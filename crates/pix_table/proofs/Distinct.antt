@@ -1,6 +1,6 @@
 -- Distinct colors, one color after the other.
 use Rattle.std.specs.List.{list_any}
-use Rattle.std.proofs.Common.{◌≡◌, ℕ, ◌+◌, ◌<◌, ◌≤◌, Bool, true, false, List, [], ◌∷◌, ◌++◌, length, map, take, drop, fold, refl, arith, sym, ap, ◌∙◌, if◌then◌else◌, length-append, take-append-drop}
+use Rattle.std.proofs.Common.{◌≡◌, ℕ, ◌≤◌, Bool, true, false, List, [], ◌∷◌, ◌++◌, length, map, take, drop, fold, arith, sym, ap, ◌∙◌, if◌then◌else◌, length-append, take-append-drop}
 use Rattle.std.proofs.lemmas.List.{map-append}
 use Rattle.std.proofs.lemmas.List.Sums.{fold-append}
 use Rattle.pix_table.specs.Nearest.{numbers}

@@ -41,8 +41,8 @@ pub data IsDiffused (entries : List (List ℕ)) (alpha kept width : ℕ) (pixels
       → alpha ≤ alpha_of (slice_index_or pixels (length indices) [])
       → IsNearest entries (wanted_at width wanted found (length indices) (slice_index_or pixels (length indices) [])) i
       → IsDiffused entries alpha kept width pixels
-        (wanted ++ wanted_at width wanted found (length indices) (slice_index_or pixels (length indices) []) ∷ [])
-        (found ++ slice_index_or entries i [] ∷ []) (indices ++ i ∷ [])
+      (wanted ++ wanted_at width wanted found (length indices) (slice_index_or pixels (length indices) []) ∷ [])
+      (found ++ slice_index_or entries i [] ∷ []) (indices ++ i ∷ [])
 
 -- the indices of all pixels of rows of a width by error diffusion
 pub record AreDiffused (entries : List (List ℕ)) (alpha kept width : ℕ) (pixels : List (List ℕ)) (indices : List ℕ) : Type 0 where

@@ -1,5 +1,5 @@
 //! Error diffusion by Floyd and Steinberg, in whole numbers.
-ghost use Rattle.std.specs.Prelude.{◌≡◌, ℕ, ◌+◌, ◌-◌, ◌*◌, ◌<◌, ◌≤◌, List, [], ◌∷◌, ◌++◌, length, map, true, slice_index_or};
+ghost use Rattle.std.specs.Prelude.{◌≡◌, ℕ, ◌+◌, ◌-◌, ◌*◌, ◌^◌, ◌<◌, ◌≤◌, List, [], length, map, true, slice_index_or, MatchOption};
 ghost use Rattle.pix_table.specs.Nearest.{numbers};
 ghost use Rattle.pix_table.specs.Diffusion.{AreDiffused, part, handed, corrected, wanted_at};
 ghost use Rattle.pix_table.specs.Done.{AreLatest, AreDone};
@@ -21,7 +21,9 @@ pub struct Diffusion {
 
 /// Returns how many colors of work memory [`diffuse_pixels`] takes for rows of so many pixels: those of four rows; or `None` where these are
 /// more than a `usize` can count.
-pub fn diffusion_work(width: usize) -> Option<usize> {
+pub fn diffusion_work(width: usize) -> Option<usize>
+    ensures { MatchOption result (2 ^ 64 ≤ 4 * width) (λ count. count ≡ 4 * width) }
+{
     width.checked_mul(4)
 }
 
@@ -72,13 +74,18 @@ fn diffuse_all<P: TablePixel>(
         (map P.values pixels.now) indices.new }
     ensures same { matcher.new ≡ matcher.old }
 {
+    let black = Color {
+        red: 0,
+        green: 0,
+        blue: 0,
+    };
     for k in 0..pixels.len() {
         let place = k % wanted.len();
         let clear = pixels[k].alpha() < how.alpha;
         if clear {
             indices[k] = how.kept;
-            wanted[place] = Color::default();
-            found[place] = Color::default();
+            wanted[place] = black;
+            found[place] = black;
         } else {
             let color = wanted_at(pixels[k], how.width, k, wanted, found);
             let index = matcher.nearest(color);
@@ -106,9 +113,21 @@ fn wanted_at<P: TablePixel>(
 {
     let own = pixel.rgb();
     Color {
-        red: corrected(own.red, handed(wanted, width, k, 0), handed(found, width, k, 0)),
-        green: corrected(own.green, handed(wanted, width, k, 1), handed(found, width, k, 1)),
-        blue: corrected(own.blue, handed(wanted, width, k, 2), handed(found, width, k, 2)),
+        red: corrected(
+            own.red,
+            handed(wanted, width, k, 0),
+            handed(found, width, k, 0),
+        ),
+        green: corrected(
+            own.green,
+            handed(wanted, width, k, 1),
+            handed(found, width, k, 1),
+        ),
+        blue: corrected(
+            own.blue,
+            handed(wanted, width, k, 2),
+            handed(found, width, k, 2),
+        ),
     }
 }
 

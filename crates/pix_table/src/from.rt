@@ -1,5 +1,5 @@
 //! A table made from the pixels of a picture.
-ghost use Rattle.std.specs.Prelude.{◌≡◌, ◌⊎◌, ◌<◌, ◌≤◌, length, map, take, MatchOption};
+ghost use Rattle.std.specs.Prelude.{◌≡◌, ◌⊎◌, ◌<◌, ◌≤◌, length, map, take, MatchOption, IfNone};
 ghost use Rattle.std.specs.List.{list_any};
 ghost use Rattle.pix_table.specs.Nearest.{numbers};
 ghost use Rattle.pix_table.specs.From.{shown, same_color, distinct, IsTableFrom};
@@ -27,12 +27,11 @@ pub fn table_from<P: TablePixel>(
 ) -> Option<usize>
     ensures table { MatchOption result
         ((length entries.old ≡ 0) ⊎ (256 < length entries.old)
-            ⊎ (length work.old < length pixels.now))
+        ⊎ (length work.old < length pixels.now))
         (λ count. (count ≤ length entries.new)
-            × IsTableFrom (length entries.old) (shown alpha (map P.values pixels.now))
-                (map numbers (take count entries.new))) }
-    ensures unchanged { MatchOption result
-        ((work.new ≡ work.old) × (entries.new ≡ entries.old)) (λ _. 0 ≤ 0) }
+        × IsTableFrom (length entries.old) (shown alpha (map P.values pixels.now))
+        (map numbers (take count entries.new))) }
+    ensures unchanged { IfNone result ((work.new ≡ work.old) × (entries.new ≡ entries.old)) }
 {
     if entries.is_empty() || entries.len() > 256 || work.len() < table_work(pixels.len()) {
         return None;
@@ -77,7 +76,7 @@ fn distinct(colors: &[Color], entries: &mut [Color]) -> Option<usize>
     ensures { MatchOption result
         (length entries.old < length (distinct (map numbers colors.now)))
         (λ count. (count ≤ length entries.new)
-            × (map numbers (take count entries.new) ≡ distinct (map numbers colors.now))) }
+        × (map numbers (take count entries.new) ≡ distinct (map numbers colors.now))) }
 {
     let mut count = 0;
     for i in 0..colors.len() {

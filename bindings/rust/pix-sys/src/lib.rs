@@ -333,6 +333,73 @@ unsafe extern "C" {
         index_count: usize,
     ) -> u32;
 
+    /// Writes a table of the colors of pixels, and how many entries it has.
+    ///
+    /// # Safety
+    ///
+    /// As `pix_table_nearest`.
+    pub fn pix_table_from(
+        pixels: *const Srgb8,
+        pixel_count: usize,
+        work: *mut Srgb8,
+        work_len: usize,
+        entries: *mut Srgb8,
+        len: usize,
+        made: *mut usize,
+    ) -> u32;
+
+    /// The same of pixels with an alpha: those below `alpha` do not count.
+    ///
+    /// # Safety
+    ///
+    /// As `pix_table_nearest`.
+    pub fn pix_table_from_alpha(
+        pixels: *const Srgba8,
+        pixel_count: usize,
+        alpha: u8,
+        work: *mut Srgb8,
+        work_len: usize,
+        entries: *mut Srgb8,
+        len: usize,
+        made: *mut usize,
+    ) -> u32;
+
+    /// Writes the index of each pixel of rows of `width` by error diffusion.
+    ///
+    /// # Safety
+    ///
+    /// As `pix_table_nearest`.
+    pub fn pix_table_diffuse(
+        entries: *const Srgb8,
+        len: usize,
+        pixels: *const Srgb8,
+        pixel_count: usize,
+        width: usize,
+        work: *mut Srgb8,
+        work_len: usize,
+        indices: *mut u8,
+        index_count: usize,
+    ) -> u32;
+
+    /// The same of pixels with an alpha: one below `alpha` has the index `kept`, and hands on no error.
+    ///
+    /// # Safety
+    ///
+    /// As `pix_table_nearest`.
+    pub fn pix_table_diffuse_alpha(
+        entries: *const Srgb8,
+        len: usize,
+        pixels: *const Srgba8,
+        pixel_count: usize,
+        width: usize,
+        alpha: u8,
+        kept: u8,
+        work: *mut Srgb8,
+        work_len: usize,
+        indices: *mut u8,
+        index_count: usize,
+    ) -> u32;
+
     /// Writes the entry of each index.
     ///
     /// # Safety

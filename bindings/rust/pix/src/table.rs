@@ -127,6 +127,69 @@ impl<'a> Table<'a> {
         })
     }
 
+    /// Sets the index of each pixel of rows of `width` by error diffusion: to that of the entry that is nearest to the pixel and
+    /// what it gets of the errors before it. An error is what was wanted less the entry that was found: 7 sixteenths of it go
+    /// to the pixel on the right, 3 to the one below on the left, 5 to the one below, and 1 to the one below on the right.
+    /// `work` has [`diffusion_work`] colors.
+    ///
+    /// # Errors
+    ///
+    /// `Length` where a row has no pixel, where `work` has another length, or where there are not as many indices as pixels.
+    /// The indices are unchanged.
+    pub fn diffuse_indexed(
+        &self,
+        pixels: &[Srgb8],
+        width: usize,
+        work: &mut [Srgb8],
+        indices: &mut [u8],
+    ) -> Result<(), Error> {
+        check_library()?;
+        // SAFETY: pointers and lengths are those of four slices, and the exclusive ones share no byte with another.
+        done(unsafe {
+            pix_sys::pix_table_diffuse(
+                self.entries.as_ptr(),
+                self.entries.len(),
+                pixels.as_ptr(),
+                pixels.len(),
+                width,
+                work.as_mut_ptr(),
+                work.len(),
+                indices.as_mut_ptr(),
+                indices.len(),
+            )
+        })
+    }
+
+    /// Does what [`diffuse_indexed`](Table::diffuse_indexed) does, on pixels with an alpha. One whose alpha is below `alpha` has
+    /// the index `kept`, and hands on no error.
+    pub fn diffuse_indexed_alpha(
+        &self,
+        pixels: &[Srgba8],
+        width: usize,
+        alpha: u8,
+        kept: u8,
+        work: &mut [Srgb8],
+        indices: &mut [u8],
+    ) -> Result<(), Error> {
+        check_library()?;
+        // SAFETY: pointers and lengths are those of four slices, and the exclusive ones share no byte with another.
+        done(unsafe {
+            pix_sys::pix_table_diffuse_alpha(
+                self.entries.as_ptr(),
+                self.entries.len(),
+                pixels.as_ptr(),
+                pixels.len(),
+                width,
+                alpha,
+                kept,
+                work.as_mut_ptr(),
+                work.len(),
+                indices.as_mut_ptr(),
+                indices.len(),
+            )
+        })
+    }
+
     /// Sets each pixel to the entry of the index of the same place.
     ///
     /// # Errors
@@ -147,6 +210,80 @@ impl<'a> Table<'a> {
             )
         })
     }
+}
+
+/// How many colors of work memory error diffusion takes for rows of so many pixels; or `None` where they are more than a `usize`
+/// counts.
+pub const fn diffusion_work(width: usize) -> Option<usize> {
+    width.checked_mul(4)
+}
+
+/// Makes a table of the colors of `pixels` in the first of `entries`, and returns those. With no more distinct colors than entries
+/// they are the table, in order of first place. Else it is made by median cut, and what the other entries hold is not said.
+/// `work` has as many colors as there are pixels; for a large picture pass a sample of its pixels.
+///
+/// ```
+/// use pix::{Srgb8, make_table};
+///
+/// let (red, blue) = (Srgb8::new(255, 0, 0), Srgb8::new(0, 0, 255));
+/// let mut work = [Srgb8::default(); 3];
+/// let mut entries = [Srgb8::default(); 256];
+/// assert_eq!(make_table(&[red, blue, red], &mut work, &mut entries)?, [red, blue]);
+/// # Ok::<(), pix::Error>(())
+/// ```
+///
+/// # Errors
+///
+/// `Table` where there is no entry or more than 256, and `Length` where `work` has fewer colors. Both are unchanged.
+pub fn make_table<'a>(
+    pixels: &[Srgb8],
+    work: &mut [Srgb8],
+    entries: &'a mut [Srgb8],
+) -> Result<&'a [Srgb8], Error> {
+    check_library()?;
+    let mut made = 0;
+    // SAFETY: pointers and lengths are those of three slices and a value, and the exclusive ones share no byte with another.
+    done(unsafe {
+        pix_sys::pix_table_from(
+            pixels.as_ptr(),
+            pixels.len(),
+            work.as_mut_ptr(),
+            work.len(),
+            entries.as_mut_ptr(),
+            entries.len(),
+            &mut made,
+        )
+    })?;
+    Ok(&entries[..made])
+}
+
+/// Does what [`make_table`] does, on pixels with an alpha. Those whose alpha is below `alpha` do not count.
+///
+/// # Errors
+///
+/// As [`make_table`].
+pub fn make_table_alpha<'a>(
+    pixels: &[Srgba8],
+    alpha: u8,
+    work: &mut [Srgb8],
+    entries: &'a mut [Srgb8],
+) -> Result<&'a [Srgb8], Error> {
+    check_library()?;
+    let mut made = 0;
+    // SAFETY: pointers and lengths are those of three slices and a value, and the exclusive ones share no byte with another.
+    done(unsafe {
+        pix_sys::pix_table_from_alpha(
+            pixels.as_ptr(),
+            pixels.len(),
+            alpha,
+            work.as_mut_ptr(),
+            work.len(),
+            entries.as_mut_ptr(),
+            entries.len(),
+            &mut made,
+        )
+    })?;
+    Ok(&entries[..made])
 }
 
 /// Sets the count of each number to how often it stands among the indices.

@@ -1,6 +1,9 @@
 //! Tables of colors beside plain loops, and what is refused.
 
-use pix::{Error, IndexDepth, Srgb8, Srgba8, Table, count_indices, pack_row, unpack_row};
+use pix::{
+    Error, IndexDepth, Srgb8, Srgba8, Table, count_indices, diffusion_work, make_table,
+    make_table_alpha, pack_row, unpack_row,
+};
 
 /// Bytes that look random.
 fn bytes(seed: u32) -> impl FnMut() -> u8 {
@@ -54,6 +57,64 @@ fn nearest_entries() {
             assert_eq!(*pixel, entries[usize::from(*index)]);
         }
     }
+}
+
+#[test]
+fn tables_of_pixels() {
+    let gray = |v| Srgb8::new(v, v, v);
+    let mut work = [Srgb8::default(); 8];
+    let mut entries = [gray(77); 4];
+    let few = [gray(9), gray(1), gray(9), gray(200)];
+    let made = make_table(&few, &mut work, &mut entries).unwrap();
+    assert_eq!(made, [gray(9), gray(1), gray(200)]);
+    assert!(make_table(&[], &mut [], &mut entries).unwrap().is_empty());
+    // Cut where half of the colors or more are below: 0, 0, 0 and 1 make 0, and 200, 201, 200, 201 make 201, since ties go up.
+    let many = [0, 0, 0, 1, 200, 201, 200, 201].map(gray);
+    let made = make_table(&many, &mut work, &mut entries[..2]).unwrap();
+    assert_eq!(made, [gray(0), gray(201)]);
+    let clear = [Srgba8::new(1, 2, 3, 128), Srgba8::new(4, 5, 6, 127)];
+    let made = make_table_alpha(&clear, 128, &mut work, &mut entries).unwrap();
+    assert_eq!(made, [Srgb8::new(1, 2, 3)]);
+    let before = (work, entries);
+    let mut none: [Srgb8; 0] = [];
+    let mut large = [gray(5); 257];
+    assert_eq!(make_table(&few, &mut work, &mut none), Err(Error::Table));
+    assert_eq!(make_table(&few, &mut work, &mut large), Err(Error::Table));
+    let short = make_table(&few, &mut work[..3], &mut entries);
+    assert_eq!(short, Err(Error::Length));
+    assert_eq!((work, entries), before);
+}
+
+#[test]
+fn diffused_errors() {
+    let gray = |v| Srgb8::new(v, v, v);
+    let entries = [gray(0), gray(255)];
+    let table = Table::new(&entries).unwrap();
+    let mut work = vec![gray(0); diffusion_work(4).unwrap()];
+    let mut indices = [9; 4];
+    // By hand: 100 is black and hands on 700 sixteenths, so that 100 and 44 are 144, which is white.
+    table
+        .diffuse_indexed(&[gray(100); 4], 4, &mut work, &mut indices)
+        .unwrap();
+    assert_eq!(indices, [0, 1, 0, 0]);
+    let clear = [0, 255].map(|alpha| Srgba8::new(100, 100, 100, alpha));
+    let mut two = [7; 2];
+    let (width, alpha, kept) = (2, 1, 9);
+    table
+        .diffuse_indexed_alpha(&clear, width, alpha, kept, &mut work[..8], &mut two)
+        .unwrap();
+    assert_eq!(two, [9, 0]);
+    for (width, room, count) in [(0, 0, 4), (4, 15, 4), (4, 16, 3)] {
+        let refused = table.diffuse_indexed(
+            &[gray(1); 4],
+            width,
+            &mut work[..room],
+            &mut indices[..count],
+        );
+        assert_eq!(refused, Err(Error::Length));
+    }
+    assert_eq!(indices, [0, 1, 0, 0]);
+    assert_eq!(diffusion_work(usize::MAX / 2), None);
 }
 
 #[test]

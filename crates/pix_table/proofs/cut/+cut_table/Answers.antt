@@ -1,8 +1,8 @@
 -- Of `cut_table`: that both parts of a cut have colors and room, and its clause `table`.
-use Rattle.std.proofs.Common.{◌≡◌, ◌≢◌, ◌⊎◌, ◌+◌, ◌-◌, ◌*◌, ◌/◌, ◌<◌, ◌≤◌, ℕ, List, [], ◌∷◌, ◌++◌, max, length, map, take, drop, get_or, refl, arith, sym, ap, ap₂, ◌∙◌, subst, inl, inr, length-take, length-drop, length-append}
+use Rattle.std.proofs.Common.{◌≡◌, ◌≢◌, ◌⊎◌, ◌+◌, ◌-◌, ◌*◌, ◌/◌, ◌<◌, ◌≤◌, ℕ, List, [], ◌∷◌, ◌++◌, max, length, map, take, drop, arith, sym, ap₂, ◌∙◌, subst, inl, inr, length-take, length-drop, length-append}
 use Rattle.std.proofs.lemmas.List.{length-map}
 use Rattle.pix_table.specs.Nearest.{numbers}
-use Rattle.pix_table.specs.Cut.{width, spread, below, share, mean, mean_of, IsWidest, IsCut, IsCutTable}
+use Rattle.pix_table.specs.Cut.{width, spread, below, share, mean_of, IsWidest, IsCut}
 use Rattle.pix_table.specs.declared.color.Color.{Color}
 use Rattle.pix_table.proofs.CutBoxes.{widest_wide, median_some, median_others, some_front, some_back, cut_stands, cut_made, whole_made}
 use Rattle.pix_table.proofs.cut.+cut_table.Goals as goal

@@ -1,5 +1,5 @@
 -- Of `partition`: that the invariant of its loop over `i` holds after each turn, and its clauses on the two parts.
-use Rattle.std.proofs.Common.{◌≡◌, ◌+◌, ◌<◌, ◌≤◌, ℕ, IsPermutation, get_or, length, take, drop, arith, sym, ap, ◌∙◌, subst, get_or-take, get_or-drop, length-take, length-drop}
+use Rattle.std.proofs.Common.{◌≡◌, ◌+◌, ◌<◌, ◌≤◌, IsPermutation, get_or, length, arith, sym, ap, ◌∙◌, subst}
 use Rattle.std.proofs.lemmas.List.{get_or_default}
 use Rattle.std.proofs.lemmas.List.Sorted.{IsPermutation-trans}
 use Rattle.pix_table.specs.Nearest.{numbers}

@@ -1,5 +1,5 @@
 -- What holds at each turn of the loop over `i` in `partition`.
-use Rattle.std.proofs.Common.{◌≡◌, ◌<◌, ◌≤◌, ℕ, get_or, IsPermutation}
+use Rattle.std.proofs.Common.{◌<◌, ◌≤◌, ℕ, get_or, IsPermutation}
 use Rattle.pix_table.specs.Nearest.{numbers}
 use Rattle.pix_table.specs.declared.color.Color.{Color}
 use Rattle.pix_table.proofs.cut.partition.Given as goal

@@ -1,4 +1,60 @@
 -- Of `diffuse_all`: its clause, and that the invariant of its loop over `k` holds at first and after each turn.
-use Rattle.std.proofs.Common.{◌≡◌, arith}
-use Rattle.pix_table.proofs.Diffused.{none_done, clear_done, shown_done}
+use Rattle.std.proofs.Common.{◌≡◌, ◌+◌, ◌*◌, ◌%◌, ◌<◌, ◌≤◌, ℕ, [], length, map, take, set, get_or, refl, arith, sym, ap, ◌∙◌, subst}
+use Rattle.std.proofs.lemmas.List.{length-map, get_or-map, take_more_set}
+use Rattle.pix_table.specs.Nearest.{numbers, alpha_of, IsNearest}
+use Rattle.pix_table.specs.Diffusion.{wanted_at}
+use Rattle.pix_table.specs.declared.color.Color.{Color}
+use Rattle.pix_table.proofs.Diffused.{none_done, clear_done, shown_done, alike}
 use Rattle.pix_table.proofs.diffuse.diffuse_all.Goals as goal
+use Rattle.pix_table.proofs.diffuse.diffuse_all.Goals.{then-clear, else-clear}
+
+pub loop-k-init : goal.loop-k-init
+loop-k-init g c = record { done = none_done _ _ _ _ _ _ _; same = refl }
+
+pub loop-k-preserved : goal.loop-k-preserved
+loop-k-preserved g c =
+    let k : ℕ = c.loop-k.k in
+    let black : Color = record { red = 0; green = 0; blue = 0 } in
+    let pixel : g.P.TablePixel.values c.index-pixels-k.result ≡ get_or (map g.P.TablePixel.values c.args.pixels.now) c.loop-k.k [] =
+    ap g.P.TablePixel.values c.index-pixels-k.is
+    ∙ sym (get_or-map g.P.TablePixel.values c.args.pixels.now c.loop-k.k c.index-pixels-k.result [] c.loop-k-test.true) in
+    let long_wanted : length c.loop-k.wanted ≡ 2 * c.args.how.width = c.loop-k.auto.wanted ∙ c.requires.wanted in
+    let long_found : length c.loop-k.found ≡ 2 * c.args.how.width = c.loop-k.auto.found ∙ c.requires.found in
+    elim c.if-clear.branch [
+      | then-clear w ↦
+          let below : alpha_of (g.P.TablePixel.values c.index-pixels-k.result) < c.args.how.alpha = omega (arith, c.alpha.ensures, w.if-clear.true) in
+          record {
+            done = alike _ _ _ _ _ _ _ _ _ _ _ _
+                (w.wanted-is ∙ ap (λ m. set c.loop-k.wanted (c.loop-k.k % m) black) long_wanted)
+                (w.found-is ∙ ap (λ m. set c.loop-k.found (c.loop-k.k % m) black) long_wanted)
+                (ap (take (c.loop-k.k + 1)) w.indices-is ∙ take_more_set c.loop-k.indices c.loop-k.k c.args.how.kept (omega arith))
+                (clear_done _ _ _ _ _ _ _ _ _ c.requires.row long_wanted long_found c.loop-k.invariant.done black refl
+                (subst (λ v. alpha_of v < c.args.how.alpha) pixel below));
+            same = w.matcher-is ∙ c.loop-k.invariant.same;
+          }
+      | else-clear w ↦
+          let p : Color = w.wanted_at-color.result in
+          let i : ℕ = w.nearest-index.result in
+          let q : Color = get_or c.args.entries.now w.nearest-index.result black in
+          let again : g.P.TablePixel.values w.index-pixels-k-else-clear.result ≡ get_or (map g.P.TablePixel.values c.args.pixels.now) c.loop-k.k [] =
+          ap g.P.TablePixel.values w.index-pixels-k-else-clear.is
+          ∙ sym (get_or-map g.P.TablePixel.values c.args.pixels.now c.loop-k.k w.index-pixels-k-else-clear.result [] c.loop-k-test.true) in
+          let above : c.args.how.alpha ≤ alpha_of (g.P.TablePixel.values c.index-pixels-k.result) = omega (arith, c.alpha.ensures, w.if-clear.false) in
+          let nearest : IsNearest c.args.matcher.now (numbers w.wanted_at-color.result) w.nearest-index.result =
+          subst (λ m. IsNearest m (numbers w.wanted_at-color.result) w.nearest-index.result) c.loop-k.invariant.same w.nearest-index.ensures.nearest in
+          let inside : w.nearest-index.result < length c.args.entries.now =
+          omega (arith, nearest.stands, ap length c.requires.entries, length-map c.args.entries.now numbers) in
+          let entry : numbers (get_or c.args.entries.now w.nearest-index.result black) ≡ get_or c.args.matcher.now w.nearest-index.result [] =
+          sym (ap (λ m. get_or m w.nearest-index.result []) c.requires.entries ∙ get_or-map numbers c.args.entries.now w.nearest-index.result black [] inside) in
+          record {
+            done = alike _ _ _ _ _ _ _ _ _ _ _ _
+                (w.wanted-is ∙ ap (λ m. set c.loop-k.wanted (c.loop-k.k % m) p) long_wanted)
+                (w.found-is ∙ ap (λ m. set c.loop-k.found (c.loop-k.k % m) (get_or c.args.entries.now w.from.result black)) long_wanted
+                ∙ ap (λ j. set c.loop-k.found (c.loop-k.k % (2 * c.args.how.width)) (get_or c.args.entries.now j black)) w.from.ensures)
+                (ap (take (c.loop-k.k + 1)) w.indices-is ∙ take_more_set c.loop-k.indices c.loop-k.k i (omega arith))
+                (shown_done _ _ _ _ _ _ _ _ _ c.requires.row long_wanted long_found c.loop-k.invariant.done p q i
+                (λ ws gs a b. w.wanted_at-color.ensures ws gs a b ∙ ap (wanted_at c.args.how.width ws gs c.loop-k.k) again)
+                (subst (λ v. c.args.how.alpha ≤ alpha_of v) pixel above) nearest entry);
+            same = w.matcher-is ∙ w.nearest-index.ensures.same ∙ c.loop-k.invariant.same;
+          }
+    ]

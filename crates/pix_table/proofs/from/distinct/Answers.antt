@@ -1,9 +1,8 @@
 -- Of `distinct`: what it answers where there is no room, and that the invariant of its loop over `i` holds after each turn.
-use Rattle.std.specs.List.{list_any}
-use Rattle.std.proofs.Common.{◌≡◌, ◌+◌, ◌≤◌, ℕ, false, true, List, [], ◌∷◌, ◌++◌, length, map, take, set, get_or, arith, sym, ap, ◌∙◌, subst, length-append, length-take, length-set}
+use Rattle.std.proofs.Common.{◌≡◌, ◌+◌, [], ◌∷◌, ◌++◌, length, map, take, set, get_or, arith, sym, ap, ◌∙◌, length-append, length-take, length-set}
 use Rattle.std.proofs.lemmas.List.{length-map, map-append, take_more_set, get_or_default}
 use Rattle.pix_table.specs.Nearest.{numbers}
-use Rattle.pix_table.specs.From.{same_color, distinct}
+use Rattle.pix_table.specs.From.{distinct}
 use Rattle.pix_table.specs.declared.color.Color.{Color}
 use Rattle.pix_table.proofs.Boxes.{map_more}
 use Rattle.pix_table.proofs.Distinct.{known_more, new_more, distinct_first}
@@ -17,9 +16,14 @@ returns-then-count-entries c =
     map_more numbers c.args.colors.now c.loop-i.i p (omega arith) (get_or_default c.args.colors.now c.loop-i.i _ p (omega arith)) in
     let table : map numbers (take c.loop-i.count c.loop-i.entries) ++ numbers p ∷ [] ≡ distinct (map numbers (take (c.loop-i.i + 1) c.args.colors.now)) =
     new_more _ _ _ (numbers p) more c.loop-i.invariant.written (sym c.has-known.ensures ∙ c.if-not-known.true) in
-    omega (arith, ap length table, distinct_first c.args.colors.now (c.loop-i.i + 1),
-    length-append (map numbers (take c.loop-i.count c.loop-i.entries)) (numbers p ∷ []), length-map (take c.loop-i.count c.loop-i.entries) numbers,
-    length-take c.loop-i.count c.loop-i.entries)
+    omega (
+      arith,
+      ap length table,
+      distinct_first c.args.colors.now (c.loop-i.i + 1),
+      length-append (map numbers (take c.loop-i.count c.loop-i.entries)) (numbers p ∷ []),
+      length-map (take c.loop-i.count c.loop-i.entries) numbers,
+      length-take c.loop-i.count c.loop-i.entries,
+    )
 
 pub loop-i-preserved : goal.loop-i-preserved
 loop-i-preserved c =

@@ -1,5 +1,5 @@
 -- What holds at each turn of the loop over `i` in `gather`.
-use Rattle.std.proofs.Common.{◌≡◌, ◌≤◌, length, map, take}
+use Rattle.std.proofs.Common.{◌≡◌, ◌≤◌, map, take}
 use Rattle.pix_table.specs.Nearest.{numbers}
 use Rattle.pix_table.specs.From.{shown}
 use Rattle.pix_table.proofs.from.gather.Given as goal

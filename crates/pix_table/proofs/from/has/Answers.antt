@@ -1,5 +1,5 @@
 -- Of `has`: what it answers where the color is found.
-use Rattle.std.proofs.Common.{◌≡◌, true, [], length, map, get_or, arith, sym, ap, ◌∙◌}
+use Rattle.std.proofs.Common.{◌≡◌, true, [], map, get_or, arith, sym, ap, ◌∙◌}
 use Rattle.std.proofs.lemmas.List.{length-map, get_or-map}
 use Rattle.std.proofs.lemmas.List.Folds.{list_any_at}
 use Rattle.pix_table.specs.Nearest.{numbers}
