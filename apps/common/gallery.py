@@ -21,6 +21,7 @@ PAGE = TOP / "docs/GALLERY.md"
 MADE = TOP / "out/gallery"
 PICTURE = re.compile(r"^!\[.*\]\((\S+)\)\n\n((?:    .*\n)+)", re.M)
 PROGRAM = TOP / "crates/pixpaint/out/pixpaint"
+LIBRARY = TOP / "bindings/out/lib/libpix_c.so"
 
 
 def is_near(picture, other):
@@ -32,9 +33,15 @@ def is_near(picture, other):
     return sum(levels[32:]) * 100 <= sum(levels) and sum(i * n for i, n in enumerate(levels)) < sum(levels)
 
 
+def surroundings():
+    """What a command finds in its environment: no screen, the library for Python that tools/bindings built, and the Python that runs this."""
+    path = os.pathsep.join([os.path.dirname(sys.executable), os.environ.get("PATH", "")])
+    return {"SDL_VIDEODRIVER": "dummy", "PIX_LIBRARY": str(LIBRARY), **os.environ, "PATH": path}
+
+
 def trouble(picture, command):
     """Runs a command, and returns what is wrong with the picture that it makes, or else nothing."""
-    ran = subprocess.run(command, shell=True, cwd=TOP, env={"SDL_VIDEODRIVER": "dummy", **os.environ}, capture_output=True, text=True)
+    ran = subprocess.run(command, shell=True, cwd=TOP, env=surroundings(), capture_output=True, text=True)
     made = MADE / picture.name
     if ran.returncode or not made.is_file():
         return f"status {ran.returncode}: {ran.stderr.strip()}"
@@ -57,6 +64,9 @@ def main():
         command = re.sub(r"^    ", "", lines, flags=re.M)
         if "./pixpaint" in command and not PROGRAM.is_file():
             print(f"gallery: {name} is not made: ./pixpaint is not built yet")
+            continue
+        if "bindings/python" in command and not LIBRARY.is_file():
+            print(f"gallery: {name} is not made: tools/bindings has built no library yet")
             continue
         count += 1
         said = trouble((PAGE.parent / name).resolve(), command)

@@ -106,42 +106,81 @@ uint32_t pix_convert_bytes(uint32_t from, uint32_t to, const uint8_t *src, size_
     return PIX_OK;
 }
 
-/* Tables of colors: what the calls refuse, and no more; but tables are made and errors diffused. */
+/* Tables of colors. */
 uint32_t pix_table_nearest(const pix_srgb8 *entries, size_t len, const pix_srgb8 *color, uint8_t *index) {
-    (void)entries, (void)color, (void)index;
-    return len && len <= 256 ? PIX_OK : PIX_BAD_TABLE;
+    if (!len || len > 256)
+        return PIX_BAD_TABLE;
+    *index = plain_nearest(entries, len, *color);
+    return PIX_OK;
 }
 
 uint32_t pix_table_match(const pix_srgb8 *entries, size_t len, const pix_srgb8 *pixels, size_t pixel_count,
                          uint8_t *indices, size_t index_count) {
-    (void)entries, (void)pixels, (void)indices;
-    return !len || len > 256 ? PIX_BAD_TABLE : index_count != pixel_count ? PIX_BAD_LENGTH : PIX_OK;
+    if (!len || len > 256)
+        return PIX_BAD_TABLE;
+    if (index_count != pixel_count)
+        return PIX_BAD_LENGTH;
+    for (size_t i = 0; i < pixel_count; i++)
+        indices[i] = plain_nearest(entries, len, pixels[i]);
+    return PIX_OK;
 }
 
 uint32_t pix_table_match_alpha(const pix_srgb8 *entries, size_t len, const pix_srgba8 *pixels, size_t pixel_count,
                                uint8_t alpha, uint8_t kept, uint8_t *indices, size_t index_count) {
-    (void)entries, (void)pixels, (void)alpha, (void)kept, (void)indices;
-    return !len || len > 256 ? PIX_BAD_TABLE : index_count != pixel_count ? PIX_BAD_LENGTH : PIX_OK;
+    if (!len || len > 256)
+        return PIX_BAD_TABLE;
+    if (index_count != pixel_count)
+        return PIX_BAD_LENGTH;
+    for (size_t i = 0; i < pixel_count; i++) {
+        pix_srgb8 color = {pixels[i].r, pixels[i].g, pixels[i].b};
+        indices[i] = pixels[i].a < alpha ? kept : plain_nearest(entries, len, color);
+    }
+    return PIX_OK;
 }
 
 uint32_t pix_table_look_up(const pix_srgb8 *entries, size_t len, const uint8_t *indices, size_t index_count,
                            pix_srgb8 *pixels, size_t pixel_count) {
-    (void)entries, (void)len, (void)indices, (void)pixels;
-    return index_count != pixel_count ? PIX_BAD_LENGTH : PIX_OK;
+    if (index_count != pixel_count)
+        return PIX_BAD_LENGTH;
+    for (size_t i = 0; i < index_count; i++)
+        if (indices[i] >= len)
+            return PIX_BAD_INDEX;
+    for (size_t i = 0; i < index_count; i++)
+        pixels[i] = entries[indices[i]];
+    return PIX_OK;
 }
 
 uint32_t pix_table_count(const uint8_t *indices, size_t index_count, size_t *counts, size_t len) {
-    (void)indices, (void)index_count, (void)counts, (void)len;
+    for (size_t i = 0; i < index_count; i++)
+        if (indices[i] >= len)
+            return PIX_BAD_INDEX;
+    memset(counts, 0, len * sizeof *counts);
+    for (size_t i = 0; i < index_count; i++)
+        counts[indices[i]]++;
     return PIX_OK;
 }
 
 uint32_t pix_table_pack(uint32_t bits, const uint8_t *indices, size_t index_count, uint8_t *bytes, size_t byte_count) {
-    (void)bits, (void)indices, (void)index_count, (void)bytes, (void)byte_count;
+    if (!bits || bits > 8 || 8 % bits)
+        return PIX_BAD_DEPTH;
+    if (byte_count != pix_row_size(bits, index_count))
+        return PIX_BAD_LENGTH;
+    for (size_t i = 0; i < index_count; i++)
+        if (indices[i] >> bits)
+            return PIX_BAD_INDEX;
+    memset(bytes, 0, byte_count);
+    for (size_t i = 0; i < index_count; i++)
+        bytes[i * bits / 8] |= (uint8_t)(indices[i] << (8 - bits - i * bits % 8));
     return PIX_OK;
 }
 
 uint32_t pix_table_unpack(uint32_t bits, const uint8_t *bytes, size_t byte_count, uint8_t *indices, size_t index_count) {
-    (void)bits, (void)bytes, (void)byte_count, (void)indices, (void)index_count;
+    if (!bits || bits > 8 || 8 % bits)
+        return PIX_BAD_DEPTH;
+    if (byte_count != pix_row_size(bits, index_count))
+        return PIX_BAD_LENGTH;
+    for (size_t i = 0; i < index_count; i++)
+        indices[i] = (uint8_t)(bytes[i * bits / 8] >> (8 - bits - i * bits % 8) & ((1 << bits) - 1));
     return PIX_OK;
 }
 
