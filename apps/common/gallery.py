@@ -22,6 +22,7 @@ PAGE = TOP / "docs/GALLERY.md"
 MADE = TOP / "out/gallery"
 PICTURE = re.compile(r"^!\[.*\]\((\S+)\)\n\n((?:    .*\n)+)", re.M)
 PROGRAM = TOP / "crates/pixpaint/out/pixpaint"
+LIBRARY = pathlib.Path(os.environ.get("PIX_LIBRARY", TOP / "bindings/out/lib/libpix_c.so"))
 
 
 def is_near(picture, other):
@@ -39,14 +40,18 @@ def frames_of(path):
         return [frame.convert("RGBA") for frame in ImageSequence.Iterator(file)]
 
 
+def surroundings():
+    """What a command finds in its environment: no screen, the library for Python that was built, and the Python that runs this."""
+    path = os.pathsep.join([os.path.dirname(sys.executable), os.environ.get("PATH", "")])
+    built = {"PIX_LIBRARY": str(LIBRARY)} if LIBRARY.is_file() else {}
+    return {"SDL_VIDEODRIVER": "dummy", **os.environ, **built, "PATH": path}
+
+
 def trouble(picture, command):
     """Runs a command, and returns what is wrong with the picture that it makes, or else nothing."""
     made = MADE / picture.name
     made.unlink(missing_ok=True)
-    # Programs in Python run by this one.
-    path = f"{pathlib.Path(sys.executable).parent}:{os.environ.get('PATH', '')}"
-    environment = {"SDL_VIDEODRIVER": "dummy", **os.environ, "PATH": path}
-    ran = subprocess.run(command, shell=True, cwd=TOP, env=environment, capture_output=True, text=True)
+    ran = subprocess.run(command, shell=True, cwd=TOP, env=surroundings(), capture_output=True, text=True)
     if ran.returncode or not made.is_file():
         return f"status {ran.returncode}: {ran.stderr.strip()}"
     if "--pictures" in sys.argv:
@@ -71,6 +76,9 @@ def main():
         command = re.sub(r"^    ", "", lines, flags=re.M)
         if "./pixpaint" in command and not PROGRAM.is_file():
             print(f"gallery: {name} is not made: ./pixpaint is not built yet")
+            continue
+        if "bindings/python" in command and not LIBRARY.is_file():
+            print(f"gallery: {name} is not made: no library for Python is built yet")
             continue
         count += 1
         said = trouble((PAGE.parent / name).resolve(), command)

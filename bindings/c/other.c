@@ -1,13 +1,13 @@
-/* other.c - another library of the same calls, made of plain.h, plain_table.h and of nothing that is proved.
+/* other.c - another library of the same calls, made of the plain models beside it and of nothing that is proved.
  *
  * tools/bindings sees by it that a program refuses a library of another version or layout: the fact whose number is
  * `other_fact`, which -DOTHER_FACT=n sets, or PIX_OTHER_FACT in the environment, is one too large. Where no fact is
  * another it stands in for the archive, which takes long to build: tools/bindings and tools/border-faults have the word
  * --stand-in for that. */
 #include "pix.h"
+#include "indexed.h"
 #include "plain.h"
 #include "plain_bitmap.h"
-#include "plain_table.h"
 #include <stdlib.h>
 
 static const uint32_t facts[] = {PIX_FACTS_};
@@ -152,64 +152,73 @@ uint32_t pix_table_nearest(const pix_srgb8 *entries, size_t len, const pix_srgb8
     return PIX_OK;
 }
 
-static uint32_t match(const pix_srgb8 *entries, size_t len, const void *pixels, size_t size, size_t pixel_count,
-                      uint8_t alpha, uint8_t kept, uint8_t *indices, size_t index_count) {
+uint32_t pix_table_match(const pix_srgb8 *entries, size_t len, const pix_srgb8 *pixels, size_t pixel_count,
+                         uint8_t *indices, size_t index_count) {
     if (!len || len > 256)
         return PIX_BAD_TABLE;
     if (index_count != pixel_count)
         return PIX_BAD_LENGTH;
-    plain_match(entries, len, pixels, size, pixel_count, alpha, kept, indices);
+    for (size_t i = 0; i < pixel_count; i++)
+        indices[i] = plain_nearest(entries, len, pixels[i]);
     return PIX_OK;
-}
-
-uint32_t pix_table_match(const pix_srgb8 *entries, size_t len, const pix_srgb8 *pixels, size_t pixel_count,
-                         uint8_t *indices, size_t index_count) {
-    return match(entries, len, pixels, 3, pixel_count, 0, 0, indices, index_count);
 }
 
 uint32_t pix_table_match_alpha(const pix_srgb8 *entries, size_t len, const pix_srgba8 *pixels, size_t pixel_count,
                                uint8_t alpha, uint8_t kept, uint8_t *indices, size_t index_count) {
-    return match(entries, len, pixels, 4, pixel_count, alpha, kept, indices, index_count);
+    if (!len || len > 256)
+        return PIX_BAD_TABLE;
+    if (index_count != pixel_count)
+        return PIX_BAD_LENGTH;
+    for (size_t i = 0; i < pixel_count; i++) {
+        pix_srgb8 color = {pixels[i].r, pixels[i].g, pixels[i].b};
+        indices[i] = pixels[i].a < alpha ? kept : plain_nearest(entries, len, color);
+    }
+    return PIX_OK;
 }
 
 uint32_t pix_table_look_up(const pix_srgb8 *entries, size_t len, const uint8_t *indices, size_t index_count,
                            pix_srgb8 *pixels, size_t pixel_count) {
     if (index_count != pixel_count)
         return PIX_BAD_LENGTH;
-    if (!plain_all_below(indices, index_count, len))
-        return PIX_BAD_INDEX;
+    for (size_t i = 0; i < index_count; i++)
+        if (indices[i] >= len)
+            return PIX_BAD_INDEX;
     for (size_t i = 0; i < index_count; i++)
         pixels[i] = entries[indices[i]];
     return PIX_OK;
 }
 
 uint32_t pix_table_count(const uint8_t *indices, size_t index_count, size_t *counts, size_t len) {
-    if (!plain_all_below(indices, index_count, len))
-        return PIX_BAD_INDEX;
-    for (size_t i = 0; i < len; i++)
-        counts[i] = 0;
+    for (size_t i = 0; i < index_count; i++)
+        if (indices[i] >= len)
+            return PIX_BAD_INDEX;
+    memset(counts, 0, len * sizeof *counts);
     for (size_t i = 0; i < index_count; i++)
         counts[indices[i]]++;
     return PIX_OK;
 }
 
 uint32_t pix_table_pack(uint32_t bits, const uint8_t *indices, size_t index_count, uint8_t *bytes, size_t byte_count) {
-    if (!plain_depth(bits))
+    if (!bits || bits > 8 || 8 % bits)
         return PIX_BAD_DEPTH;
-    if (byte_count != plain_row_size(bits, index_count))
+    if (byte_count != pix_row_size(bits, index_count))
         return PIX_BAD_LENGTH;
-    if (!plain_all_below(indices, index_count, (size_t)1 << bits))
-        return PIX_BAD_INDEX;
-    plain_pack(bits, indices, index_count, bytes);
+    for (size_t i = 0; i < index_count; i++)
+        if (indices[i] >> bits)
+            return PIX_BAD_INDEX;
+    memset(bytes, 0, byte_count);
+    for (size_t i = 0; i < index_count; i++)
+        bytes[i * bits / 8] |= (uint8_t)(indices[i] << (8 - bits - i * bits % 8));
     return PIX_OK;
 }
 
 uint32_t pix_table_unpack(uint32_t bits, const uint8_t *bytes, size_t byte_count, uint8_t *indices, size_t index_count) {
-    if (!plain_depth(bits))
+    if (!bits || bits > 8 || 8 % bits)
         return PIX_BAD_DEPTH;
-    if (byte_count != plain_row_size(bits, index_count))
+    if (byte_count != pix_row_size(bits, index_count))
         return PIX_BAD_LENGTH;
-    plain_unpack(bits, bytes, index_count, indices);
+    for (size_t i = 0; i < index_count; i++)
+        indices[i] = (uint8_t)(bytes[i * bits / 8] >> (8 - bits - i * bits % 8) & ((1 << bits) - 1));
     return PIX_OK;
 }
 

@@ -149,7 +149,7 @@ pub extern "C" fn pix_table_from(
         × (made.new ≡ made.old) }
     ensures done { result ≡ 0 → (made.new ≤ length entries.new)
         × IsTableFrom (length entries.old) (shown 0 (map numbers pixels.now))
-            (map numbers (take made.new entries.new)) }
+        (map numbers (take made.new entries.new)) }
 {
     make_table(pixels, 0, work, entries, made)
 }
@@ -169,7 +169,7 @@ pub extern "C" fn pix_table_from_alpha(
         × (made.new ≡ made.old) }
     ensures done { result ≡ 0 → (made.new ≤ length entries.new)
         × IsTableFrom (length entries.old) (shown alpha (map srgba8_numbers pixels.now))
-            (map numbers (take made.new entries.new)) }
+        (map numbers (take made.new entries.new)) }
 {
     make_table(pixels, alpha, work, entries, made)
 }
@@ -188,7 +188,7 @@ fn make_table<P: TablePixel>(
         × (made.new ≡ made.old) }
     ensures done { result ≡ 0 → (made.new ≤ length entries.new)
         × IsTableFrom (length entries.old) (shown alpha (map P.values pixels.now))
-            (map numbers (take made.new entries.new)) }
+        (map numbers (take made.new entries.new)) }
 {
     if entries.is_empty() || entries.len() > 256 {
         return BAD_TABLE;
@@ -269,8 +269,7 @@ fn diffuse<P: TablePixel>(
         return BAD_TABLE;
     };
     let rows = work.len() / 4;
-    if how.width == 0 || work.len() % 4 != 0 || rows != how.width || indices.len() != pixels.len()
-    {
+    if how.width == 0 || work.len() % 4 != 0 || rows != how.width || indices.len() != pixels.len() {
         return BAD_LENGTH;
     }
     diffuse_pixels(&mut matcher, entries, pixels, how, work, indices);
