@@ -108,8 +108,23 @@ fn mean(colors: &[Color], k: usize) -> u8
     for i in 0..colors.len() {
         sum += u128::from(channel(colors[i], k));
     }
-    let len = colors.len() as u128;
-    ((2 * sum + len) / (2 * len)) as u8
+    quotient(2 * sum + colors.len() as u128, 2 * colors.len() as u128)
+}
+
+/// Returns the whole part of a quotient that is below 256: by differences, since no processor divides numbers of 128 bits.
+fn quotient(n: u128, d: u128) -> u8
+    requires some { 0 < d }
+    requires few { n < 256 * d }
+    ensures { result ≡ n / d }
+{
+    let mut rest = n;
+    for q in 0..255 {
+        if rest < d {
+            return q;
+        }
+        rest -= d;
+    }
+    255
 }
 
 /// Returns the median of a box in a channel, where `most` is the greatest number.
