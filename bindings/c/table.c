@@ -157,7 +157,7 @@ static void packed(uint32_t bits, size_t count) {
 }
 
 static void made_refused(void) {
-    pix_srgb8 entries[2] = {{1, 2, 3}, {4, 5, 6}}, some[2] = {{7, 8, 9}, {1, 1, 1}}, room[8] = {{5, 5, 5}};
+    pix_srgb8 entries[8] = {{1, 2, 3}, {4, 5, 6}}, some[8] = {{7, 8, 9}, {1, 1, 1}}, room[8] = {{5, 5, 5}};
     uint8_t index[2] = {9, 9};
     size_t count = 77;
     pix_table table = pix_table_of(entries, 2);
@@ -176,6 +176,8 @@ static void made_refused(void) {
     check(pix_diffuse_indexed(pix_table_of(entries, 0), some, 2, 2, room, index) == PIX_BAD_TABLE, "no entry to diffuse to");
     check(pix_diffuse_indexed(table, some, 2, 0, room, index) == PIX_BAD_LENGTH, "rows of no pixel");
     check(pix_diffuse_indexed(table, some, 2, SIZE_MAX / 4 + 2, room, index) == PIX_BAD_LENGTH, "rows of too many pixels");
+    check(pix_diffusion_work(SIZE_MAX / 4 + 2) == SIZE_MAX, "work memory of rows of too many pixels");
+    check(pix_diffusion_work(5) == 20 && pix_table_work(5) == 5, "work memory");
     check(pix_diffuse_indexed(table, some, 2, 2, NULL, index) == PIX_NULL, "no work memory to diffuse in");
     check(pix_diffuse_indexed(table, some, 2, 2, room, NULL) == PIX_NULL, "no indices to diffuse to");
     check(pix_diffuse_indexed(table, some, 2, 1, some, index) == PIX_OVERLAP, "work memory in the pixels to diffuse");

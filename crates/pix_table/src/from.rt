@@ -28,7 +28,8 @@ pub fn table_from<P: TablePixel>(
     ensures table { MatchOption result
         ((length entries.old ≡ 0) ⊎ (256 < length entries.old)
         ⊎ (length work.old < length pixels.now))
-        (λ count. (count ≤ length entries.new)
+        (λ count. (0 < length entries.old) × (length entries.old ≤ 256)
+        × (length pixels.now ≤ length work.old) × (count ≤ length entries.new)
         × IsTableFrom (length entries.old) (shown alpha (map P.values pixels.now))
         (map numbers (take count entries.new))) }
     ensures unchanged { IfNone result ((work.new ≡ work.old) × (entries.new ≡ entries.old)) }
