@@ -15,13 +15,14 @@ import shutil
 import subprocess
 import sys
 
-from trial import TOP, ImageChops, open_picture
+from PIL import ImageSequence
+from trial import TOP, Image, ImageChops
 
 PAGE = TOP / "docs/GALLERY.md"
 MADE = TOP / "out/gallery"
 PICTURE = re.compile(r"^!\[.*\]\((\S+)\)\n\n((?:    .*\n)+)", re.M)
 PROGRAM = TOP / "crates/pixpaint/out/pixpaint"
-LIBRARY = TOP / "bindings/out/lib/libpix_c.so"
+LIBRARY = pathlib.Path(os.environ.get("PIX_LIBRARY", TOP / "bindings/out/lib/libpix_c.so"))
 
 
 def is_near(picture, other):
@@ -33,26 +34,37 @@ def is_near(picture, other):
     return sum(levels[32:]) * 100 <= sum(levels) and sum(i * n for i, n in enumerate(levels)) < sum(levels)
 
 
+def frames_of(path):
+    """Returns the frames of a file, as red, green, blue and alpha: one of a PNG."""
+    with Image.open(path) as file:
+        return [frame.convert("RGBA") for frame in ImageSequence.Iterator(file)]
+
+
 def surroundings():
-    """What a command finds in its environment: no screen, the library for Python that tools/bindings built, and the Python that runs this."""
+    """What a command finds in its environment: no screen, the library for Python that was built, and the Python that runs this."""
     path = os.pathsep.join([os.path.dirname(sys.executable), os.environ.get("PATH", "")])
-    return {"SDL_VIDEODRIVER": "dummy", "PIX_LIBRARY": str(LIBRARY), **os.environ, "PATH": path}
+    built = {"PIX_LIBRARY": str(LIBRARY)} if LIBRARY.is_file() else {}
+    return {"SDL_VIDEODRIVER": "dummy", **os.environ, **built, "PATH": path}
 
 
 def trouble(picture, command):
     """Runs a command, and returns what is wrong with the picture that it makes, or else nothing."""
-    ran = subprocess.run(command, shell=True, cwd=TOP, env=surroundings(), capture_output=True, text=True)
     made = MADE / picture.name
+    made.unlink(missing_ok=True)
+    ran = subprocess.run(command, shell=True, cwd=TOP, env=surroundings(), capture_output=True, text=True)
     if ran.returncode or not made.is_file():
         return f"status {ran.returncode}: {ran.stderr.strip()}"
     if "--pictures" in sys.argv:
         shutil.copyfile(made, picture)
-    mine, there = open_picture(made), open_picture(picture)
-    if mine.size == there.size and mine.tobytes() == there.tobytes():
+    mine, there = frames_of(made), frames_of(picture)
+    if len(mine) != len(there):
+        return f"it has {len(mine)} frames, and not {len(there)}"
+    pairs = list(zip(mine, there))
+    if all(one.size == other.size and one.tobytes() == other.tobytes() for one, other in pairs):
         return ""
     if not re.search(r"apps/out/text|apps/encoder|\.jpg", command):
         return "it is another picture"
-    return "" if is_near(mine, there) else "it is not even near"
+    return "" if all(is_near(*pair) for pair in pairs) else "it is not even near"
 
 
 def main():
@@ -66,7 +78,7 @@ def main():
             print(f"gallery: {name} is not made: ./pixpaint is not built yet")
             continue
         if "bindings/python" in command and not LIBRARY.is_file():
-            print(f"gallery: {name} is not made: tools/bindings has built no library yet")
+            print(f"gallery: {name} is not made: no library for Python is built yet")
             continue
         count += 1
         said = trouble((PAGE.parent / name).resolve(), command)

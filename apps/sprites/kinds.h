@@ -2,45 +2,54 @@
 #ifndef KINDS_H
 #define KINDS_H
 
-#include "../common/files.h"
 #include "pix.h"
 
 #include <stdexcept>
-#include <vector>
 
 inline void insist(pix_status status) {
     if (status != PIX_OK)
         throw std::runtime_error(pix_status_text(status));
 }
 
-// The bytes of the file, taken as if they were light: what browsers do.
+// Writes a picture in another format: both are of one size.
+inline pix_status convert(const pix_bitmap &from, const pix_bitmap &to) {
+    return pix_convert_bitmap(pix_bitmap_source_of_bitmap(from), to);
+}
+
+// The bytes of the file, taken as if they were light: what browsers do. `straight` is what they are called then.
 struct Bytes {
     using pixel = pix_rgba8;
     using command = pix_command;
     using source = pix_source;
 
-    static pixel night() { return pix_rgba8_of(24, 28, 60, 255); }
-    static pixel haze() { return pix_rgba8_of(10, 9, 8, 12); }
+    static constexpr pix_format straight = PIX_FORMAT_RGBA8, shown = PIX_FORMAT_BGRA8;
     static constexpr auto image_of = pix_image_of;
     static constexpr auto source_of = pix_source_of;
+    static constexpr auto bitmap_of = pix_bitmap_of_image;
+    static constexpr auto color_of = pix_color_of;
     static constexpr auto copy_color = pix_copy_color;
     static constexpr auto copy_image = pix_copy_image;
     static constexpr auto composite_color = pix_composite_color;
     static constexpr auto composite_image = pix_composite_image;
+    static constexpr auto run_in = pix_run_in;
+};
 
-    static pix_status run_in(pix_image band, int left, int top, const command *list, std::size_t count) {
-        return pix_run_in(band, left, top, list, count, nullptr);
-    }
+// Linear light of 16 bits a channel.
+struct Light {
+    using pixel = pix_rgba16;
+    using command = pix_command_rgba16;
+    using source = pix_source_rgba16;
 
-    static std::vector<pixel> decode(const file_picture &file) {
-        std::vector<pixel> pixels(std::size_t{file.width} * file.height);
-        insist(pix_convert(PIX_FORMAT_RGBA8, PIX_FORMAT_RGBA8P, file.bytes, pixels.data(), pixels.size()));
-        return pixels;
-    }
-
-    static pix_status encode(const pixel *row, std::uint8_t *bytes, std::size_t count) {
-        return pix_convert(PIX_FORMAT_RGBA8P, PIX_FORMAT_BGRA8, row, bytes, count);
-    }
+    static constexpr pix_format straight = PIX_FORMAT_SRGBA8, shown = PIX_FORMAT_SBGRA8;
+    static constexpr auto image_of = pix_image_of_rgba16;
+    static constexpr auto source_of = pix_source_of_rgba16;
+    static constexpr auto bitmap_of = pix_bitmap_of_image_rgba16;
+    static constexpr auto color_of = pix_color_of_rgba16;
+    static constexpr auto copy_color = pix_copy_color_rgba16;
+    static constexpr auto copy_image = pix_copy_image_rgba16;
+    static constexpr auto composite_color = pix_composite_color_rgba16;
+    static constexpr auto composite_image = pix_composite_image_rgba16;
+    static constexpr auto run_in = pix_run_in_rgba16;
 };
 
 #endif

@@ -6,16 +6,11 @@
 #include "kinds.h"
 
 #include <algorithm>
+#include <array>
 #include <functional>
 #include <random>
 #include <thread>
 #include <vector>
-
-// Rows of bytes to be shown: blue, green, red, alpha.
-struct Screen {
-    std::uint8_t *bytes;
-    std::size_t pitch;
-};
 
 // A kind of pixels is one of kinds.h.
 template <typename Kind> class Scene {
@@ -23,7 +18,9 @@ template <typename Kind> class Scene {
     // The atlas has square sprites, as high as it is.
     Scene(const file_picture &atlas, int width, int height, int count, int threads)
         : width(width), height(height), threads(threads), side(static_cast<int>(atlas.height)),
-          frame(std::size_t(width) * height), sky(frame), cells(Kind::decode(atlas)) {
+          frame(std::size_t(width) * height), sky(frame), cells(std::size_t(atlas.width) * atlas.height) {
+        insist(convert(pix_bitmap_of(atlas.bytes, atlas.width, atlas.height, Kind::straight),
+                       Kind::bitmap_of(Kind::image_of(cells.data(), atlas.width, atlas.height))));
         source = Kind::source_of(cells.data(), atlas.width, atlas.height);
         paint_sky();
         std::minstd_rand random(8);
@@ -58,17 +55,17 @@ template <typename Kind> class Scene {
                                                  PIX_OP_SRC_OVER));
         in_bands([&](int top, int bottom) {
             const auto band = Kind::image_of(&frame[std::size_t(top) * width], width, bottom - top);
-            return Kind::run_in(band, 0, top, list.data(), list.size());
+            return Kind::run_in(band, 0, top, list.data(), list.size(), nullptr);
         });
     }
 
     // Writes the frame as the bytes that are shown.
-    void encode(const Screen &screen) {
+    void encode(pix_bitmap screen) {
+        screen.format = Kind::shown;
         in_bands([&](int top, int bottom) {
-            pix_status status = PIX_OK;
-            for (int y = top; y < bottom && status == PIX_OK; y++)
-                status = Kind::encode(&frame[std::size_t(y) * width], screen.bytes + y * screen.pitch, width);
-            return status;
+            const pix_region rows = {0, top, screen.width, static_cast<std::uint32_t>(bottom - top)};
+            const auto band = Kind::image_of(&frame[std::size_t(top) * width], width, bottom - top);
+            return convert(Kind::bitmap_of(band), pix_part_of_bitmap(screen, rows));
         });
     }
 
@@ -82,13 +79,20 @@ template <typename Kind> class Scene {
     typename Kind::source source;
     std::vector<Sprite> sprites;
 
+    // A color of the file's kind, which is not premultiplied.
+    static typename Kind::pixel color_of(const std::array<std::uint8_t, 4> &color) {
+        return Kind::color_of(Kind::straight, color.data());
+    }
+
     // Paints a sky that grows lighter to the bottom, by layers of a faint color.
     void paint_sky() {
         const std::uint32_t columns = width, rows = height;
-        std::vector<typename Kind::command> list = {Kind::copy_color({0, 0, columns, rows}, Kind::night())};
+        std::vector<typename Kind::command> list = {
+            Kind::copy_color({0, 0, columns, rows}, color_of({40, 48, 96, 255}))};
+        const auto haze = color_of({232, 200, 176, 9});
         for (int y = 0; y < height; y += std::max(1, height / 40))
-            list.push_back(Kind::composite_color({0, y, columns, rows}, Kind::haze(), PIX_OP_SRC_OVER));
-        insist(Kind::run_in(Kind::image_of(sky.data(), columns, rows), 0, 0, list.data(), list.size()));
+            list.push_back(Kind::composite_color({0, y, columns, rows}, haze, PIX_OP_SRC_OVER));
+        insist(Kind::run_in(Kind::image_of(sky.data(), columns, rows), 0, 0, list.data(), list.size(), nullptr));
     }
 
     // Calls a function for each band of rows, from `top` to `bottom`, each but the first in a thread of its own.

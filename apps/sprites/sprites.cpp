@@ -20,6 +20,7 @@ const char usage[] =
     "\n"
     "  --count N     how many sprites (3000)\n"
     "  --size WxH    the size of the window (960x540)\n"
+    "  --light       composite in linear light of 16 bits a channel, and not in the bytes of the file\n"
     "  --threads N   paint N bands of rows at once (1)\n"
     "  --frames N    end after so many frames, and not when the window is closed\n"
     "  --save PNG    write the last frame\n"
@@ -36,6 +37,7 @@ struct UsageError : std::runtime_error {
 struct Options {
     std::string atlas, save;
     int count = 3000, width = 960, height = 540, threads = 1, frames = 0;
+    bool in_light = false;
 };
 
 int number_of(const std::string &option, const std::string &text, int most) {
@@ -77,7 +79,9 @@ Options read_options(int argc, char **argv) {
         if (word == "--help") {
             std::cout << usage << std::flush;
             std::exit(std::cout ? EXIT_SUCCESS : EXIT_FAILURE);
-        } else if (word.rfind("--", 0) == 0 && i + 1 == argc)
+        } else if (word == "--light")
+            options.in_light = true;
+        else if (word.rfind("--", 0) == 0 && i + 1 == argc)
             throw UsageError(word + ": there is no such option, or its value is missing");
         else if (word.rfind("--", 0) == 0)
             set_option(options, word, argv[++i]);
@@ -119,8 +123,11 @@ class Window {
     Window(const Window &) = delete;
     Window &operator=(const Window &) = delete;
 
-    Screen screen() const {
-        return {static_cast<std::uint8_t *>(bytes->pixels), static_cast<std::size_t>(bytes->pitch)};
+    // What is shown, as sRGB.
+    pix_bitmap screen() const {
+        pix_bitmap screen = pix_bitmap_of(bytes->pixels, bytes->w, bytes->h, PIX_FORMAT_SBGRA8);
+        screen.stride = bytes->pitch;
+        return screen;
     }
 
     void show() {
@@ -147,14 +154,11 @@ bool ended() {
     return is_end;
 }
 
-void save(const std::string &name, const Screen &screen, const Options &options) {
-    std::vector<std::uint8_t> bytes(std::size_t{4} * options.width * options.height);
-    file_picture file = {bytes.data(), static_cast<std::uint32_t>(options.width),
-                         static_cast<std::uint32_t>(options.height)};
+void save(const std::string &name, const pix_bitmap &screen) {
+    std::vector<std::uint8_t> bytes(std::size_t{4} * screen.width * screen.height);
+    const file_picture file = {bytes.data(), screen.width, screen.height};
     char sentence[FILE_SENTENCE];
-    for (std::size_t y = 0; y < file.height; y++)
-        insist(pix_convert(PIX_FORMAT_BGRA8, PIX_FORMAT_RGBA8, screen.bytes + y * screen.pitch,
-                           &bytes[4 * y * file.width], file.width));
+    insist(convert(screen, pix_bitmap_of(bytes.data(), screen.width, screen.height, PIX_FORMAT_SRGBA8)));
     if (!file_write_png(name.c_str(), &file, sentence))
         throw std::runtime_error(sentence);
 }
@@ -172,10 +176,12 @@ struct Times {
 
     void print(const Options &options) const {
         const double all = painted + encoded + shown, count = frames / 1000.0;
-        std::printf("%d sprites, %d x %d, %d thread%s: %d frames, %.1f a second; a frame took %.2f ms: painted %.2f, "
-                    "encoded %.2f, shown %.2f\n",
-                    options.count, options.width, options.height, options.threads, options.threads > 1 ? "s" : "",
-                    frames, frames / all, all / count, painted / count, encoded / count, shown / count);
+        std::printf(
+            "%d sprites, %d x %d, %s, %d thread%s: %d frames, %.1f a second; a frame took %.2f ms: painted %.2f, "
+            "encoded %.2f, shown %.2f\n",
+            options.count, options.width, options.height, options.in_light ? "16 bit light" : "bytes", options.threads,
+            options.threads > 1 ? "s" : "", frames, frames / all, all / count, painted / count, encoded / count,
+            shown / count);
     }
 };
 
@@ -214,9 +220,9 @@ void run(const Options &options) {
     const std::unique_ptr<std::uint8_t, decltype(&std::free)> owned(atlas.bytes, std::free);
     insist(pix_check_library());
     Window window(options.width, options.height);
-    const Times times = play<Bytes>(options, window, atlas);
+    const Times times = options.in_light ? play<Light>(options, window, atlas) : play<Bytes>(options, window, atlas);
     if (!options.save.empty())
-        save(options.save, window.screen(), options);
+        save(options.save, window.screen());
     times.print(options);
 }
 

@@ -9,7 +9,8 @@ sys.path.insert(0, str(pathlib.Path(__file__).resolve().parent.parent / "common"
 from trial import PICTURES, PROGRAMS, Image, Trial, main, open_picture  # noqa: E402
 
 ATLAS = PICTURES / "atlas.png"
-LINE = re.compile(r"(\d+) sprites, (\d+) x (\d+), (\d+) threads?: (\d+) frames, [\d.]+ a second; .*\n")
+WAYS = ([], ["--light"])
+LINE = re.compile(r"(\d+) sprites, (\d+) x (\d+), (bytes|16 bit light), (\d+) threads?: (\d+) frames, [\d.]+ a second; .*\n")
 
 
 class Sprites(Trial):
@@ -22,7 +23,7 @@ class Sprites(Trial):
         saved = self.folder / "frame.png"
         words = ["--count", count, "--frames", frames, "--size", "%dx%d" % size, "--save", saved, *more]
         line = LINE.fullmatch(self.run_program(*words, atlas).stdout)
-        self.assertEqual([int(n) for n in line.group(1, 2, 3, 5)], [count, *size, frames])
+        self.assertEqual([int(n) for n in line.group(1, 2, 3, 6)], [count, *size, frames])
         return open_picture(saved), line
 
     def cells(self, *colors, side=8):
@@ -35,13 +36,14 @@ class Sprites(Trial):
     def test_squares_over_the_sky(self):
         """Opaque sprites are seen in their own color, each whole where it lies inside, and the sky is as it was around them."""
         red = (250, 3, 7, 255)
-        sky, _ = self.frame(self.cells((0, 0, 0, 0)), 4, 1)
-        seen, _ = self.frame(self.cells(red), 4, 1)
-        count = 0
-        for painted, under in zip(seen.getdata(), sky.getdata()):
-            self.assertIn(painted, (red, under))
-            count += painted == red
-        self.assertTrue(64 <= count <= 4 * 64, count)
+        for way in WAYS:
+            sky, _ = self.frame(self.cells((0, 0, 0, 0)), 4, 1, *way)
+            seen, _ = self.frame(self.cells(red), 4, 1, *way)
+            count = 0
+            for painted, under in zip(seen.getdata(), sky.getdata()):
+                self.assertIn(painted, (red, under))
+                count += painted == red
+            self.assertTrue(64 <= count <= 4 * 64, count)
 
     def test_sprites_move(self):
         """After some frames a sprite is a square elsewhere."""
@@ -57,11 +59,25 @@ class Sprites(Trial):
         self.assertEqual(len({(right - left, bottom - top) for left, top, right, bottom in boxes}), 1)
 
     def test_bands_are_the_whole(self):
-        whole, _ = self.frame(ATLAS, 50, 2, size=(150, 101))
-        for threads in (2, 3, 7, 150):
-            bands, line = self.frame(ATLAS, 50, 2, "--threads", threads, size=(150, 101))
-            self.assertEqual(int(line[4]), threads)
-            self.assert_same(bands, whole)
+        for way in WAYS:
+            whole, line = self.frame(ATLAS, 50, 2, *way, size=(150, 101))
+            self.assertEqual(line[4], "16 bit light" if way else "bytes")
+            for threads in (2, 3, 7, 150):
+                bands, line = self.frame(ATLAS, 50, 2, "--threads", threads, *way, size=(150, 101))
+                self.assertEqual(int(line[5]), threads)
+                self.assert_same(bands, whole)
+
+    def test_light_is_another_way(self):
+        """The rim of a white sprite is lighter in light, and the sprite's middle is the same."""
+        soft = Image.new("RGBA", (16, 16), (255, 255, 255, 128))
+        soft.paste((255, 255, 255, 255), (4, 4, 12, 12))
+        path = self.picture("soft.png", soft)
+        in_bytes, _ = self.frame(path, 9, 1)
+        in_light, _ = self.frame(path, 9, 1, "--light")
+        lighter = sum(light[0] > byte[0] + 20 for light, byte in zip(in_light.getdata(), in_bytes.getdata()))
+        self.assertGreater(lighter, 100)
+        for light, byte in zip(in_light.getdata(), in_bytes.getdata()):
+            self.assertEqual(light == (255, 255, 255, 255), byte == (255, 255, 255, 255))
 
     def test_help(self):
         self.has_help()

@@ -124,37 +124,57 @@ static line *shape(font *letters, const options *chosen) {
     return lines;
 }
 
+/* Converts a picture: both are of one size. */
+static void convert(pix_bitmap from, pix_bitmap to) {
+    insist(pix_convert_bitmap(pix_bitmap_source_of_bitmap(from), to));
+}
+
 /* Composites all lines over an image, by one list: their colors are in the straight format `as`. */
-static void draw(pix_image image, pix_format as, const line *lines, int line_count, pix_matte atlas) {
+static void draw(pix_image_rgba16 image, pix_format as, const line *lines, int line_count, pix_matte16 atlas) {
     size_t count = 0, all = 1;
     for (int i = 0; i < line_count; i++)
         all += lines[i].count;
-    pix_command *list = insist_memory(malloc(all * sizeof *list));
+    pix_command_rgba16 *list = insist_memory(malloc(all * sizeof *list));
     for (int i = 0; i < line_count; i++) {
-        pix_rgba8 color;
-        insist(pix_convert(as, PIX_FORMAT_RGBA8P, lines[i].color, &color, 1));
+        const pix_rgba16 color = pix_color_of_rgba16(as, lines[i].color);
         for (size_t j = 0; j < lines[i].count; j++)
             list[count++] =
-                pix_composite_matte(lines[i].masks[j].to, atlas, lines[i].masks[j].from, color, PIX_OP_SRC_OVER);
+                pix_composite_matte_rgba16(lines[i].masks[j].to, atlas, lines[i].masks[j].from, color, PIX_OP_SRC_OVER);
     }
-    insist(pix_run(image, list, count, NULL));
+    insist(pix_run_rgba16(image, list, count, NULL));
     free(list);
 }
 
-/* Draws over the middle of a photograph, with its bytes in the straight format `as`, and writes half as many columns to
- * `half`, whose rows lie as far apart as those of the photograph. */
-static void draw_half(const file_picture *photo, pix_format as, const line *lines, int line_count, pix_matte atlas,
-                      uint8_t *half) {
-    uint32_t width = photo->width / 2, height = photo->height;
-    size_t pitch = (size_t)4 * photo->width, middle = (size_t)4 * ((photo->width - width) / 2);
-    pix_rgba8 *pixels = insist_memory(malloc((size_t)width * height * sizeof *pixels + 1));
-    for (uint32_t y = 0; y < height; y++)
-        insist(
-            pix_convert(as, PIX_FORMAT_RGBA8P, photo->bytes + y * pitch + middle, pixels + (size_t)y * width, width));
-    draw(pix_image_of(pixels, width, height), as, lines, line_count, atlas);
-    for (uint32_t y = 0; y < height; y++)
-        insist(pix_convert(PIX_FORMAT_RGBA8P, as, pixels + (size_t)y * width, half + y * pitch, width));
+/* Draws over a part of a photograph, with its bytes in the straight format `as`, and writes it to a part of a picture.
+ */
+static void draw_half(pix_bitmap photo, pix_bitmap half, pix_format as, const line *lines, int line_count,
+                      pix_matte16 atlas) {
+    pix_rgba16 *pixels = insist_memory(malloc((size_t)photo.width * photo.height * sizeof *pixels + 1));
+    pix_image_rgba16 image = pix_image_of_rgba16(pixels, photo.width, photo.height);
+    photo.format = half.format = as;
+    convert(photo, pix_bitmap_of_image_rgba16(image));
+    draw(image, as, lines, line_count, atlas);
+    convert(pix_bitmap_of_image_rgba16(image), half);
     free(pixels);
+}
+
+/* Draws both halves of a picture as wide as the photograph, each over the middle of it. */
+static file_picture draw_halves(const file_picture *photo, const line *lines, int line_count, pix_matte atlas) {
+    file_picture drawn = {calloc((size_t)4 * photo->width + 1, photo->height), photo->width, photo->height};
+    pix_bitmap to = pix_bitmap_of(insist_memory(drawn.bytes), drawn.width, drawn.height, PIX_FORMAT_SRGBA8);
+    pix_bitmap from = pix_bitmap_of(photo->bytes, photo->width, photo->height, PIX_FORMAT_SRGBA8);
+    const uint32_t half = photo->width / 2, rest = photo->width - half;
+    const pix_bitmap middle = pix_part_of_bitmap(from, pix_region_of((int32_t)rest / 2, 0, half, photo->height));
+    uint16_t *values = insist_memory(malloc(sizeof *values * ((size_t)atlas.width * atlas.height + 1)));
+    insist(pix_convert_bitmap(pix_bitmap_source_of(atlas.values, atlas.width, atlas.height, PIX_FORMAT_GRAY8),
+                              pix_bitmap_of(values, atlas.width, atlas.height, PIX_FORMAT_GRAY16)));
+    const pix_matte16 wide = pix_matte16_of(values, atlas.width, atlas.height);
+    draw_half(middle, pix_part_of_bitmap(to, pix_region_of(0, 0, half, photo->height)), PIX_FORMAT_RGBA8, lines,
+              line_count, wide);
+    draw_half(middle, pix_part_of_bitmap(to, pix_region_of((int32_t)rest, 0, half, photo->height)), PIX_FORMAT_SRGBA8,
+              lines, line_count, wide);
+    free(values);
+    return drawn;
 }
 
 static void save(const char *name, file_picture picture) {
@@ -173,7 +193,7 @@ static void save_atlas(const char *name, pix_matte atlas) {
 
 int main(int argc, char **argv) {
     options chosen = read_options(argc, argv);
-    file_picture photo, drawn;
+    file_picture photo;
     font letters;
     char read[FILE_SENTENCE];
     insist(pix_check_library());
@@ -184,11 +204,7 @@ int main(int argc, char **argv) {
         fail(1, chosen.font, sentence);
     line *lines = shape(&letters, &chosen);
     pix_matte atlas = font_atlas(&letters);
-    drawn = photo;
-    drawn.bytes = insist_memory(calloc((size_t)4 * photo.width + 1, photo.height));
-    draw_half(&photo, PIX_FORMAT_RGBA8, lines, chosen.count, atlas, drawn.bytes);
-    draw_half(&photo, PIX_FORMAT_SRGBA8, lines, chosen.count, atlas,
-              drawn.bytes + (size_t)4 * (photo.width - photo.width / 2));
+    file_picture drawn = draw_halves(&photo, lines, chosen.count, atlas);
     if (chosen.report)
         printf("%zu masks in an atlas of %u x %u\n", letters.count, atlas.width, atlas.height);
     if (chosen.atlas)

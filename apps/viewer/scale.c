@@ -16,12 +16,12 @@ void canvas_free(canvas *it) {
     it->pixels = NULL;
 }
 
-pix_image canvas_image(const canvas *it) {
-    return pix_image_of(it->pixels, it->width, it->height);
+pix_image_rgba16 canvas_image(const canvas *it) {
+    return pix_image_of_rgba16(it->pixels, it->width, it->height);
 }
 
-pix_source canvas_source(const canvas *it) {
-    return pix_source_of(it->pixels, it->width, it->height);
+pix_source_rgba16 canvas_source(const canvas *it) {
+    return pix_source_of_rgba16(it->pixels, it->width, it->height);
 }
 
 void insist(pix_status status) {
@@ -39,29 +39,27 @@ void *insist_memory(void *memory) {
     return memory;
 }
 
-void run_one(pix_image image, pix_command command) {
-    insist(pix_do(image, command));
-}
-
-static pix_region line_at(pix_image image, lines way, uint32_t at) {
+static pix_region line_at(pix_image_rgba16 image, lines way, uint32_t at) {
     return way == COLUMNS ? pix_region_of((int32_t)at, 0, 1, image.height)
                           : pix_region_of(0, (int32_t)at, image.width, 1);
 }
 
 /* Copies a line of the source to each line of the image: number first + i / times * step to number i. The last line
  * stands for those past the end, too. */
-static void copy_lines(pix_image image, pix_source source, lines way, uint32_t first, uint32_t times, uint32_t step) {
+static void copy_lines(pix_image_rgba16 image, pix_source_rgba16 source, lines way, uint32_t first, uint32_t times,
+                       uint32_t step) {
     uint32_t count = way == COLUMNS ? image.width : image.height, all = way == COLUMNS ? source.width : source.height;
-    pix_command *list = insist_memory(malloc((count + 1) * sizeof *list));
+    pix_command_rgba16 *list = insist_memory(malloc((count + 1) * sizeof *list));
     for (uint32_t i = 0; i < count; i++) {
         uint32_t from = first + i / times * step;
-        list[i] = pix_copy_image(line_at(image, way, i), source, line_at(image, way, from < all ? from : all - 1));
+        list[i] =
+            pix_copy_image_rgba16(line_at(image, way, i), source, line_at(image, way, from < all ? from : all - 1));
     }
-    insist(pix_run(image, list, count, NULL));
+    insist(pix_run_rgba16(image, list, count, NULL));
     free(list);
 }
 
-canvas scale_up(pix_source source, uint32_t times) {
+canvas scale_up(pix_source_rgba16 source, uint32_t times) {
     canvas wide = canvas_of(source.width * times, source.height);
     canvas both = canvas_of(source.width * times, source.height * times);
     copy_lines(canvas_image(&wide), source, COLUMNS, 0, times, 1);
@@ -72,19 +70,19 @@ canvas scale_up(pix_source source, uint32_t times) {
 
 /* Adds up lines of the source, each at its share of the whole: lines by * i to by * i + by - 1 make line i. The shares
  * are as even as they can be, and their sum is all of it. */
-static void mean_of_lines(pix_image mean, pix_source source, lines way, uint32_t by) {
+static void mean_of_lines(pix_image_rgba16 mean, pix_source_rgba16 source, lines way, uint32_t by) {
     pix_region all = pix_region_of(0, 0, mean.width, mean.height);
     canvas part = canvas_of(mean.width, mean.height);
     for (uint32_t i = 0; i < by; i++) {
-        uint32_t share = 255 * (i + 1) / by - 255 * i / by;
+        uint32_t share = 65535 * (i + 1) / by - 65535 * i / by;
         copy_lines(canvas_image(&part), source, way, i, 1, by);
-        run_one(canvas_image(&part), pix_composite_color(all, pix_rgba8_of(0, 0, 0, (uint8_t)share), PIX_OP_DEST_IN));
-        run_one(mean, pix_composite_image(all, canvas_source(&part), all, PIX_OP_PLUS));
+        insist(pix_do_rgba16(
+            mean, pix_composite_image_alpha_rgba16(all, canvas_source(&part), all, (uint16_t)share, PIX_OP_PLUS)));
     }
     canvas_free(&part);
 }
 
-canvas scale_down(pix_source source, uint32_t by) {
+canvas scale_down(pix_source_rgba16 source, uint32_t by) {
     uint32_t width = (source.width + by - 1) / by, height = (source.height + by - 1) / by;
     canvas flat = canvas_of(source.width, height), both = canvas_of(width, height);
     mean_of_lines(canvas_image(&flat), source, ROWS, by);

@@ -4,30 +4,27 @@
 
 #include "pix.h"
 
-/* A picture of its own, in memory of malloc and with rows without padding. */
+/* A picture of its own in linear light of 16 bits a channel, in memory of malloc and with rows without padding. */
 typedef struct {
-    pix_rgba8 *pixels;
+    pix_rgba16 *pixels;
     uint32_t width, height;
 } canvas;
 
 /* Makes a transparent picture, or ends the program where there is no memory. */
 canvas canvas_of(uint32_t width, uint32_t height);
 void canvas_free(canvas *it);
-pix_image canvas_image(const canvas *it);
-pix_source canvas_source(const canvas *it);
+pix_image_rgba16 canvas_image(const canvas *it);
+pix_source_rgba16 canvas_source(const canvas *it);
 
 /* Ends the program with a sentence where a call was refused, which no call of this program should be. */
 void insist(pix_status status);
 void *insist_memory(void *memory);
 
-/* Runs one command, which has to be right. */
-void run_one(pix_image image, pix_command command);
-
 /* Makes a picture of squares of `times` by `times` pixels, one for each pixel of the source. */
-canvas scale_up(pix_source source, uint32_t times);
+canvas scale_up(pix_source_rgba16 source, uint32_t times);
 
 /* Makes a picture whose pixels are the means of squares of `by` by `by` pixels. Where a side is no multiple of `by`,
  * its last pixels stand for those that are missing, too. */
-canvas scale_down(pix_source source, uint32_t by);
+canvas scale_down(pix_source_rgba16 source, uint32_t by);
 
 #endif

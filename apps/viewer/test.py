@@ -2,6 +2,7 @@
 """Tries the viewer: what it shows, how much of it is painted, and what it refuses."""
 
 import contextlib
+import itertools
 import os
 import pathlib
 import random
@@ -27,6 +28,16 @@ def board(width, height):
             if (x + y) // CELL % 2:
                 picture.paste(DARK, (x, y, min(x + CELL, width), min(y + CELL, height)))
     return picture
+
+
+def light_of(level):
+    """Returns the light of a level of sRGB, from 0 to 1."""
+    return level / 255 / 12.92 if level <= 10 else ((level / 255 + 0.055) / 1.055) ** 2.4
+
+
+def level_of(light):
+    """Returns the level of sRGB that is nearest to a light."""
+    return round(255 * (12.92 * light if light <= 0.0031308 else 1.055 * light ** (1 / 2.4) - 0.055))
 
 
 class Viewer(Trial):
@@ -87,8 +98,7 @@ class Viewer(Trial):
             self.assert_same(picture, noisy.resize(picture.size, Image.NEAREST))
 
     def test_made_smaller(self):
-        """Squares become their mean, which is a sum of as many shares as the zoom says, each of them rounded; the last line
-        stands for those that are missing."""
+        """Squares become the mean of their light, where the last line stands for those that are missing."""
         for width, height, zoom in ((24, 15, 3), (23, 16, 2), (50, 31, 7)):
             noisy = self.noisy(width, height)
             size = (-(-width // zoom), -(-height // zoom))
@@ -97,9 +107,21 @@ class Viewer(Trial):
             wanted = Image.new("RGBA", size)
             for x in range(size[0]):
                 for y in range(size[1]):
-                    square = [noisy.getpixel((min(x * zoom + i % zoom, width - 1), min(y * zoom + i // zoom, height - 1))) for i in range(zoom**2)]
-                    wanted.putpixel((x, y), tuple(round(sum(channel) / zoom**2) for channel in zip(*square)))
-            self.assert_same(picture, wanted, most=zoom)
+                    places = [(min(x * zoom + i % zoom, width - 1), min(y * zoom + i // zoom, height - 1)) for i in range(zoom**2)]
+                    colors = zip(*(noisy.getpixel(place)[:3] for place in places))
+                    means = [sum(map(light_of, channel)) / zoom**2 for channel in colors]
+                    wanted.putpixel((x, y), (*map(level_of, means), 255))
+            self.assert_same(picture, wanted, most=1)
+
+    def test_half_over_the_board(self):
+        """What is half transparent lets half of the board's light through."""
+        picture, _ = self.shown(self.picture("half.png", Image.new("RGBA", (40, 40), (250, 20, 90, 128))), (40, 40))
+        wanted = Image.new("RGBA", (40, 40))
+        for x, y in itertools.product(range(40), repeat=2):
+            under = DARK if (x // CELL + y // CELL) % 2 else LIGHT
+            mixed = [light_of(a) * 128 / 255 + light_of(b) * 127 / 255 for a, b in zip((250, 20, 90), under)]
+            wanted.putpixel((x, y), (*map(level_of, mixed), 255))
+        self.assert_same(picture, wanted, most=1)
 
     def test_only_what_changed_is_painted(self):
         """After any words the window shows what it would show if it were painted anew; and what moved is not painted."""

@@ -3,6 +3,9 @@
 
 enum { CELL = 16 };
 
+/* The window around the picture, and the cells of the checkerboard under it, in sRGB. */
+static const uint8_t GROUND[] = {40, 40, 44}, LIGHT[] = {204, 204, 204}, DARK[] = {153, 153, 153};
+
 static uint32_t scaled(uint32_t side, int zoom) {
     return zoom > 0 ? side * (uint32_t)zoom : (side + (uint32_t)-zoom - 1) / (uint32_t)-zoom;
 }
@@ -16,13 +19,19 @@ static int32_t settled(int32_t at, uint32_t side, uint32_t room) {
     return at < least ? least : at > 0 ? 0 : at;
 }
 
+pix_bitmap view_bitmap(SDL_Surface *screen) {
+    pix_bitmap bitmap = pix_bitmap_of(screen->pixels, (uint32_t)screen->w, (uint32_t)screen->h, PIX_FORMAT_SBGRA8);
+    bitmap.stride = screen->pitch;
+    return bitmap;
+}
+
 static void settle(view *it) {
     place *to = &it->wanted;
     to->x = settled(to->x, scaled(it->picture.width, to->zoom), to->width);
     to->y = settled(to->y, scaled(it->picture.height, to->zoom), to->height);
 }
 
-void view_open(view *it, pix_source picture, uint32_t width, uint32_t height) {
+void view_open(view *it, pix_source_rgba16 picture, uint32_t width, uint32_t height) {
     memset(it, 0, sizeof *it);
     it->picture = picture;
     it->wanted.zoom = 1;
@@ -78,7 +87,7 @@ static int32_t about(int32_t fixed, int32_t at, uint32_t before, uint32_t after)
 
 void view_zoom(view *it, int zoom, int32_t x, int32_t y) {
     place *to = &it->wanted;
-    pix_source picture = it->picture;
+    pix_source_rgba16 picture = it->picture;
     to->x = about(x, to->x, scaled(picture.width, to->zoom), scaled(picture.width, zoom));
     to->y = about(y, to->y, scaled(picture.height, to->zoom), scaled(picture.height, zoom));
     to->zoom = zoom;
@@ -97,9 +106,9 @@ static uint32_t seen(int32_t at, int zoom, uint32_t side, int32_t from, uint32_t
 }
 
 /* The picture as it is seen in a part of the window, with where it lies there; `made` is to be freed after its use. */
-static pix_source shown(view *it, pix_region part, pix_region *to, canvas *made) {
+static pix_source_rgba16 shown(view *it, pix_region part, pix_region *to, canvas *made) {
     const place *at = &it->wanted;
-    pix_source source = it->picture;
+    pix_source_rgba16 source = it->picture;
     if (at->zoom == 1) {
         *to = pix_region_of(at->x, at->y, source.width, source.height);
         return source;
@@ -124,8 +133,8 @@ static pix_source shown(view *it, pix_region part, pix_region *to, canvas *made)
 }
 
 /* Adds the dark cells of the checkerboard that reach a part of the window; the board moves with the picture. */
-static size_t add_cells(pix_command *list, const place *at, pix_region frame, pix_region part) {
-    const pix_rgba8 dark = pix_rgba8_of(153, 153, 153, 255);
+static size_t add_cells(pix_command_rgba16 *list, const place *at, pix_region frame, pix_region part) {
+    const pix_rgba16 dark = pix_color_of_rgba16(PIX_FORMAT_SRGB8, DARK);
     size_t count = 0;
     int32_t right = part.x + (int32_t)part.width, bottom = part.y + (int32_t)part.height;
     int32_t frame_right = frame.x + (int32_t)frame.width, frame_bottom = frame.y + (int32_t)frame.height;
@@ -136,21 +145,17 @@ static size_t add_cells(pix_command *list, const place *at, pix_region frame, pi
              column++) {
             int32_t x = at->x + column * CELL, y = at->y + row * CELL;
             if ((row + column) % 2)
-                list[count++] = pix_copy_color(pix_region_of(x, y, (uint32_t)SDL_min(CELL, frame_right - x),
-                                                             (uint32_t)SDL_min(CELL, frame_bottom - y)),
-                                               dark);
+                list[count++] = pix_copy_color_rgba16(pix_region_of(x, y, (uint32_t)SDL_min(CELL, frame_right - x),
+                                                                    (uint32_t)SDL_min(CELL, frame_bottom - y)),
+                                                      dark);
         }
     return count;
 }
 
 /* Writes pixels as the bytes of a part of the screen. */
-static void encode(const canvas *tile, SDL_Surface *screen, int32_t x, int32_t y) {
-    for (uint32_t row = 0; row < tile->height; row++) {
-        uint8_t *to =
-            (uint8_t *)screen->pixels + (size_t)(y + (int32_t)row) * (size_t)screen->pitch + (size_t)4 * (size_t)x;
-        insist(pix_convert(PIX_FORMAT_RGBA8P, PIX_FORMAT_BGRA8, tile->pixels + (size_t)row * tile->width, to,
-                           tile->width));
-    }
+static void encode(const canvas *tile, SDL_Surface *screen, pix_region part) {
+    pix_bitmap image = pix_bitmap_of_image_rgba16(canvas_image(tile));
+    insist(pix_convert_bitmap(pix_bitmap_source_of_bitmap(image), pix_part_of_bitmap(view_bitmap(screen), part)));
 }
 
 /* Paints a part of the window: as a tile, by the commands of the whole window. */
@@ -158,18 +163,18 @@ static void paint_part(view *it, pix_region part) {
     const place *at = &it->wanted;
     canvas tile = canvas_of(part.width, part.height), made = {NULL, 0, 0};
     pix_region frame;
-    pix_source source = shown(it, part, &frame, &made);
+    pix_source_rgba16 source = shown(it, part, &frame, &made);
     pix_region picture =
         pix_region_of(at->x, at->y, scaled(it->picture.width, at->zoom), scaled(it->picture.height, at->zoom));
     size_t most = (size_t)(part.width / CELL + 2) * (part.height / CELL + 2) + 3, count = 0;
-    pix_command *list = insist_memory(malloc(most * sizeof *list));
-    list[count++] = pix_copy_color(part, pix_rgba8_of(40, 40, 44, 255));
-    list[count++] = pix_copy_color(picture, pix_rgba8_of(204, 204, 204, 255));
+    pix_command_rgba16 *list = insist_memory(malloc(most * sizeof *list));
+    list[count++] = pix_copy_color_rgba16(part, pix_color_of_rgba16(PIX_FORMAT_SRGB8, GROUND));
+    list[count++] = pix_copy_color_rgba16(picture, pix_color_of_rgba16(PIX_FORMAT_SRGB8, LIGHT));
     count += add_cells(list + count, at, picture, part);
     list[count++] =
-        pix_composite_image(frame, source, pix_region_of(0, 0, source.width, source.height), PIX_OP_SRC_OVER);
-    insist(pix_run_in(canvas_image(&tile), (uint32_t)part.x, (uint32_t)part.y, list, count, NULL));
-    encode(&tile, it->screen, part.x, part.y);
+        pix_composite_image_rgba16(frame, source, pix_region_of(0, 0, source.width, source.height), PIX_OP_SRC_OVER);
+    insist(pix_run_in_rgba16(canvas_image(&tile), (uint32_t)part.x, (uint32_t)part.y, list, count, NULL));
+    encode(&tile, it->screen, part);
     free(list);
     canvas_free(&made);
     canvas_free(&tile);
@@ -189,9 +194,9 @@ static SDL_Rect move_screen(view *it, SDL_Surface *screen) {
         SDL_Rect old = {it->wanted.x - it->painted.x, it->wanted.y - it->painted.y, it->screen->w, it->screen->h};
         SDL_Rect all = {0, 0, screen->w, screen->h};
         SDL_IntersectRect(&old, &all, &covered);
-        run_one(rows_of(screen), pix_copy_image(pix_region_of(old.x, old.y, (uint32_t)old.w, (uint32_t)old.h),
-                                                pix_source_of_image(rows_of(it->screen)),
-                                                pix_region_of(0, 0, (uint32_t)old.w, (uint32_t)old.h)));
+        insist(pix_do(rows_of(screen), pix_copy_image(pix_region_of(old.x, old.y, (uint32_t)old.w, (uint32_t)old.h),
+                                                      pix_source_of_image(rows_of(it->screen)),
+                                                      pix_region_of(0, 0, (uint32_t)old.w, (uint32_t)old.h))));
     }
     return covered;
 }

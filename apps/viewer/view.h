@@ -14,8 +14,8 @@ typedef struct {
 } place;
 
 typedef struct {
-    pix_source picture; /* premultiplied, at its own size */
-    canvas shrunk;      /* the picture at a zoom below 1, made once for each zoom; null pixels where there is none */
+    pix_source_rgba16 picture; /* premultiplied, at its own size */
+    canvas shrunk; /* the picture at a zoom below 1, made once for each zoom; null pixels where there is none */
     int shrunk_at;
     int fits; /* whether the zoom follows the size of the window */
     place wanted, painted;
@@ -31,7 +31,7 @@ typedef struct {
 enum { LEAST_ZOOM = -64, MOST_ZOOM = 64 };
 
 /* The picture, which must outlive the view, in a window of this size, as large as fits and at most at its own size. */
-void view_open(view *it, pix_source picture, uint32_t width, uint32_t height);
+void view_open(view *it, pix_source_rgba16 picture, uint32_t width, uint32_t height);
 void view_close(view *it);
 
 /* What a user does. Nothing is painted: view_paint does that. */
@@ -40,6 +40,9 @@ void view_pan(view *it, int32_t dx, int32_t dy);
 void view_fit(view *it, int most);                        /* as large as fits, up to the zoom `most` */
 void view_zoom(view *it, int zoom, int32_t x, int32_t y); /* about a point of the window, which stays */
 int view_next_zoom(const view *it, int steps);            /* the zoom so many steps nearer */
+
+/* A screen, of SDL's BGRA32, as a bitmap. */
+pix_bitmap view_bitmap(SDL_Surface *screen);
 
 /* Paints what is not yet as it is wanted, and nothing else. */
 painting view_paint(view *it);

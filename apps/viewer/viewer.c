@@ -120,28 +120,26 @@ static options read_options(int argc, char **argv) {
     return it;
 }
 
-/* Pixels to composite of what a file has. */
+/* What a file has, in light. */
 static canvas decode(const char *name) {
     file_picture file;
     char sentence[FILE_SENTENCE];
     if (!file_read(name, &file, sentence))
         fail(1, "", sentence);
     canvas it = canvas_of(file.width, file.height);
-    insist(pix_convert(PIX_FORMAT_RGBA8, PIX_FORMAT_RGBA8P, file.bytes, it.pixels, (size_t)file.width * file.height));
+    insist(pix_convert_bitmap(pix_bitmap_source_of(file.bytes, file.width, file.height, PIX_FORMAT_SRGBA8),
+                              pix_bitmap_of_image_rgba16(canvas_image(&it))));
     free(file.bytes);
     return it;
 }
 
 /* Writes the screen to a file. */
-static void save(const char *name, const SDL_Surface *screen) {
+static void save(const char *name, SDL_Surface *screen) {
     file_picture file = {NULL, (uint32_t)screen->w, (uint32_t)screen->h};
     char sentence[FILE_SENTENCE];
-    size_t width = file.width;
-    file.bytes = insist_memory(malloc(4 * width * file.height));
-    for (uint32_t y = 0; y < file.height; y++)
-        insist(pix_convert(PIX_FORMAT_BGRA8, PIX_FORMAT_RGBA8,
-                           (const uint8_t *)screen->pixels + (size_t)y * (size_t)screen->pitch,
-                           file.bytes + 4 * width * y, width));
+    file.bytes = insist_memory(malloc((size_t)4 * file.width * file.height));
+    insist(pix_convert_bitmap(pix_bitmap_source_of_bitmap(view_bitmap(screen)),
+                              pix_bitmap_of(file.bytes, file.width, file.height, PIX_FORMAT_SRGBA8)));
     if (!file_write_png(name, &file, sentence))
         fail(1, "", sentence);
     free(file.bytes);

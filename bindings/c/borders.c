@@ -121,7 +121,8 @@ static void conversions(void) {
             CHECK(pix_convert((pix_format)from, (pix_format)to, NULL, NULL, SIZE_MAX) == PIX_BAD_LENGTH);
         }
     }
-    CHECK(pix_format_size((pix_format)12) == 0);
+    CHECK(pix_format_size((pix_format)81) == 0 && pix_format_size(PIX_FORMAT_RGBA16) == 8);
+    CHECK(pix_convert(PIX_FORMAT_RGBA8, PIX_FORMAT_RGBA16, bytes, bytes + 8, 1) == PIX_BAD_FORMAT);
     /* Adjacent, and with one byte in common. */
     CHECK(pix_convert(PIX_FORMAT_RGBA8, PIX_FORMAT_SGRAY8, bytes, bytes + 8, 2) == PIX_OK);
     CHECK(pix_convert(PIX_FORMAT_RGBA8, PIX_FORMAT_SGRAY8, bytes + 2, bytes, 2) == PIX_OK);

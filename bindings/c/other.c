@@ -1,4 +1,4 @@
-/* other.c - another library of the same calls, made of plain.h and of nothing that is proved.
+/* other.c - another library of the same calls, made of the plain models beside it and of nothing that is proved.
  *
  * tools/bindings sees by it that a program refuses a library of another version or layout: the fact whose number is
  * `other_fact`, which -DOTHER_FACT=n sets, or PIX_OTHER_FACT in the environment, is one too large. Where no fact is
@@ -7,6 +7,7 @@
 #include "pix.h"
 #include "indexed.h"
 #include "plain.h"
+#include "plain_bitmap.h"
 #include <stdlib.h>
 
 static const uint32_t facts[] = {PIX_FACTS_};
@@ -103,6 +104,43 @@ uint32_t pix_convert_bytes(uint32_t from, uint32_t to, const uint8_t *src, size_
         return PIX_BAD_LENGTH;
     for (size_t i = 0; i < count; i++)
         plain_convert(source, target, src + i * src_size, dst + i * dst_size);
+    return PIX_OK;
+}
+
+/* The bitmaps of this library are those of red, green, blue and gray; it refuses the other formats. */
+uint32_t pix_pixel_size(uint32_t format) {
+    static const uint8_t sizes[] = {
+        4, 4, 4, 4, 4, 4, 3, 1, 4, 4, 3, 1, 8, 8, 6, 8, 8, 6, 3, 3, 2, 2, 2, 2, 2, 4, 4,
+        1, 2, 3, 4, 4, 6, 8, 8, 3, 4, 4, 3, 4, 4, 6, 8, 8, 3, 4, 4, 3, 4, 4, 6, 8, 8, 3,
+        4, 4, 3, 4, 4, 6, 8, 8, 3, 4, 4, 3, 4, 4, 6, 8, 8, 3, 4, 4, 6, 8, 8, 4, 4, 4, 4,
+    };
+    return format < sizeof sizes ? sizes[format] : 0;
+}
+
+static int is_held(uint64_t width, uint64_t height, uint64_t wide, int64_t stride, uint64_t count) {
+    uint64_t apart = stride < 0 ? 0 - (uint64_t)stride : (uint64_t)stride;
+    return width <= INT32_MAX && height <= INT32_MAX && wide <= apart
+           && (height == 0 || (wide <= count && (height == 1 || apart <= (count - wide) / (height - 1))));
+}
+
+static const uint8_t *row_at(const uint8_t *bytes, int64_t stride, uint64_t height, uint64_t y) {
+    return stride < 0 ? bytes + (height - 1 - y) * (0 - (uint64_t)stride) : bytes + y * (uint64_t)stride;
+}
+
+uint32_t pix_convert_rows(uint32_t from, uint32_t to, const uint8_t *src, size_t src_len, uint8_t *dst, size_t dst_len,
+                          int64_t src_stride, int64_t dst_stride, uint32_t width, uint32_t height) {
+    plain_stored source = plain_stored_of(from), target = plain_stored_of(to);
+    size_t size = plain_stored_size(&source), to_size = plain_stored_size(&target);
+    if (!source.model || !target.model)
+        return PIX_BAD_FORMAT;
+    if (!is_held(width, height, (uint64_t)width * to_size, dst_stride, dst_len))
+        return PIX_BAD_SIZE;
+    if (!is_held(width, height, (uint64_t)width * size, src_stride, src_len))
+        return PIX_BAD_SOURCE;
+    for (uint32_t y = 0; y < height; y++)
+        for (uint32_t x = 0; x < width; x++)
+            plain_cross(&source, &target, row_at(src, src_stride, height, y) + x * size,
+                        (uint8_t *)(uintptr_t)row_at(dst, dst_stride, height, y) + x * to_size);
     return PIX_OK;
 }
 

@@ -12,8 +12,9 @@
  *     if (pix_run(image, list, 2, NULL) != PIX_OK) ..
  *
  * Pixels. Compositing works on premultiplied, linear pixels: the color channels are multiplied by the alpha, and they
- * are proportional to light. Images as files hold them are mostly sRGB and not premultiplied; pix_convert turns one
- * into the other. There are three kinds of images, and each function on them stands three times:
+ * are proportional to light. Images as files hold them are mostly sRGB and not premultiplied; pix_convert_bitmap turns
+ * one into the other, and loses nothing to images of 16 bits a channel. There are three kinds of images, and each
+ * function on them stands three times:
  *
  *     pix_image          pix_rgba8    8 bits a channel: red, green, blue, alpha
  *     pix_image_rgba16   pix_rgba16   16 bits a channel; its functions and types end in _rgba16
@@ -74,6 +75,55 @@ typedef struct { uint8_t value, a; } pix_graya8;
  * A side of at most 2147483647 is accepted. */
 typedef struct { int32_t x, y; uint32_t width, height; } pix_region;
 
+/* ---- Formats ---- */
+
+/* Formats, by the channels of a pixel in the order of the name. 8 and 16 are the bits of a channel; one of 16 bits is a word
+ * in the byte order of the machine. S: the colors are encoded by the sRGB curve, as in most files; without S they are linear.
+ * P at the end: the colors are multiplied by the alpha. pix_convert takes those up to PIX_FORMAT_SGRAY8, and pix_convert_bitmap
+ * all of them. */
+typedef enum {
+    PIX_FORMAT_SRGBA8 = 0,
+    PIX_FORMAT_SRGBA8P = 1,
+    PIX_FORMAT_RGBA8 = 2,
+    PIX_FORMAT_RGBA8P = 3, /* the format of pix_rgba8 */
+    PIX_FORMAT_BGRA8 = 4,
+    PIX_FORMAT_BGRA8P = 5,
+    PIX_FORMAT_RGB8 = 6,
+    PIX_FORMAT_GRAY8 = 7,
+    PIX_FORMAT_SBGRA8 = 8,
+    PIX_FORMAT_SBGRA8P = 9,
+    PIX_FORMAT_SRGB8 = 10,
+    PIX_FORMAT_SGRAY8 = 11,
+    PIX_FORMAT_RGBA16 = 12,
+    PIX_FORMAT_RGBA16P = 13, /* the format of pix_rgba16 */
+    PIX_FORMAT_RGB16 = 14,
+    PIX_FORMAT_BGRA16 = 15, PIX_FORMAT_BGRA16P = 16, PIX_FORMAT_BGR16 = 17, PIX_FORMAT_BGR8 = 18,
+    PIX_FORMAT_SBGR8 = 19,
+    PIX_FORMAT_GRAYA8 = 20,
+    PIX_FORMAT_GRAYA8P = 21, /* the format of pix_graya8 */
+    PIX_FORMAT_SGRAYA8 = 22, PIX_FORMAT_SGRAYA8P = 23, PIX_FORMAT_GRAY16 = 24, PIX_FORMAT_GRAYA16 = 25,
+    PIX_FORMAT_GRAYA16P = 26,
+    PIX_FORMAT_MATTE8 = 27, PIX_FORMAT_MATTE16 = 28,
+    PIX_FORMAT_CMY8 = 29, PIX_FORMAT_CMYA8 = 30, PIX_FORMAT_CMYA8P = 31, PIX_FORMAT_CMY16 = 32,
+    PIX_FORMAT_CMYA16 = 33, PIX_FORMAT_CMYA16P = 34, PIX_FORMAT_SCMY8 = 35, PIX_FORMAT_SCMYA8 = 36,
+    PIX_FORMAT_SCMYA8P = 37,
+    PIX_FORMAT_HSV8 = 38, PIX_FORMAT_HSVA8 = 39, PIX_FORMAT_HSVA8P = 40, PIX_FORMAT_HSV16 = 41,
+    PIX_FORMAT_HSVA16 = 42, PIX_FORMAT_HSVA16P = 43, PIX_FORMAT_SHSV8 = 44, PIX_FORMAT_SHSVA8 = 45,
+    PIX_FORMAT_SHSVA8P = 46,
+    PIX_FORMAT_HSL8 = 47, PIX_FORMAT_HSLA8 = 48, PIX_FORMAT_HSLA8P = 49, PIX_FORMAT_HSL16 = 50,
+    PIX_FORMAT_HSLA16 = 51, PIX_FORMAT_HSLA16P = 52, PIX_FORMAT_SHSL8 = 53, PIX_FORMAT_SHSLA8 = 54,
+    PIX_FORMAT_SHSLA8P = 55,
+    PIX_FORMAT_HWB8 = 56, PIX_FORMAT_HWBA8 = 57, PIX_FORMAT_HWBA8P = 58, PIX_FORMAT_HWB16 = 59,
+    PIX_FORMAT_HWBA16 = 60, PIX_FORMAT_HWBA16P = 61, PIX_FORMAT_SHWB8 = 62, PIX_FORMAT_SHWBA8 = 63,
+    PIX_FORMAT_SHWBA8P = 64,
+    PIX_FORMAT_YCBCR8 = 65, PIX_FORMAT_YCBCRA8 = 66, PIX_FORMAT_YCBCRA8P = 67, PIX_FORMAT_YCBCR16 = 68,
+    PIX_FORMAT_YCBCRA16 = 69, PIX_FORMAT_YCBCRA16P = 70,
+    PIX_FORMAT_XYZ8 = 71, PIX_FORMAT_XYZA8 = 72, PIX_FORMAT_XYZA8P = 73, PIX_FORMAT_XYZ16 = 74,
+    PIX_FORMAT_XYZA16 = 75, PIX_FORMAT_XYZA16P = 76,
+    /* Three colors in four bytes: the last one is not read, and is written as 255. */
+    PIX_FORMAT_SRGBX8 = 77, PIX_FORMAT_SBGRX8 = 78, PIX_FORMAT_RGBX8 = 79, PIX_FORMAT_BGRX8 = 80
+} pix_format;
+
 /* ---- Images: views of the caller's memory, passed by value ---- */
 
 /* Rows of pixels from top to bottom. `stride` is the distance from a row to the next, in pixels and not in bytes. It is
@@ -87,13 +137,19 @@ typedef struct { const pix_rgba8 *pixels; uint32_t width, height, stride; } pix_
 typedef struct { const pix_rgba16 *pixels; uint32_t width, height, stride; } pix_source_rgba16;
 typedef struct { const pix_graya8 *pixels; uint32_t width, height, stride; } pix_source_graya8;
 
+/* An image in any format, as files, windows and other libraries hold them. `stride` is the distance from a row to the next
+ * in bytes. A negative one is for rows that lie from bottom to top: `pixels` points to the top row all the same, which is
+ * the last one in memory. 0 stands for rows without gaps. What lies between the rows is not changed. */
+typedef struct { void *pixels; uint32_t width, height; ptrdiff_t stride; pix_format format; } pix_bitmap;
+typedef struct { const void *pixels; uint32_t width, height; ptrdiff_t stride; pix_format format; } pix_bitmap_source;
+
 /* A mask: the fraction of a color or of a source that is composited at each point, from 0 (none) to 255 (all), or to
  * 65535 in pix_matte16. pix_matte goes with images of 8 bits a channel, pix_matte16 with those of 16. The stride is counted in
  * values. */
 typedef struct { const uint8_t *values; uint32_t width, height, stride; } pix_matte;
 typedef struct { const uint16_t *values; uint32_t width, height, stride; } pix_matte16;
 
-/* ---- Operators, formats, statuses ---- */
+/* ---- Operators, statuses ---- */
 
 /* The operators of Porter and Duff, and the sum. Each channel of the outcome, the alpha too, is that of the term beside
  * it, where s and d are the channels of source and destination and sa and da the alphas as fractions. Products are
@@ -113,23 +169,6 @@ typedef enum {
     PIX_OP_CLEAR = 11,     /* 0 */
     PIX_OP_PLUS = 12       /* s + d */
 } pix_op;
-
-/* Formats of pix_convert: one byte a channel, in the order of the name. S: the colors are encoded by the sRGB curve, as
- * in most files; without S they are linear. P at the end: the colors are multiplied by the alpha. */
-typedef enum {
-    PIX_FORMAT_SRGBA8 = 0,
-    PIX_FORMAT_SRGBA8P = 1,
-    PIX_FORMAT_RGBA8 = 2,
-    PIX_FORMAT_RGBA8P = 3, /* the format of pix_rgba8 */
-    PIX_FORMAT_BGRA8 = 4,
-    PIX_FORMAT_BGRA8P = 5,
-    PIX_FORMAT_RGB8 = 6,
-    PIX_FORMAT_GRAY8 = 7,
-    PIX_FORMAT_SBGRA8 = 8,
-    PIX_FORMAT_SBGRA8P = 9,
-    PIX_FORMAT_SRGB8 = 10,
-    PIX_FORMAT_SGRAY8 = 11
-} pix_format;
 
 /* What a call answers. */
 typedef enum {
@@ -290,7 +329,7 @@ static inline pix_status pix_run_in(pix_image window, uint32_t left, uint32_t to
 /* Runs one command. */
 static inline pix_status pix_do(pix_image image, pix_command command);
 
-/* How many bytes a pixel of a format has, from 1 to 4, and 0 where there is no such format. */
+/* How many bytes a pixel of a format has, from 1 to 8, and 0 where there is no such format. */
 static inline size_t pix_format_size(pix_format format);
 
 /* Converts `count` pixels of the format `from` at `src` to the format `to` at `dst`. Both are bytes without padding:
@@ -300,6 +339,46 @@ static inline size_t pix_format_size(pix_format format);
  *
  * Answers PIX_OK, PIX_BAD_FORMAT, PIX_BAD_LENGTH, PIX_NULL or PIX_OVERLAP. */
 static inline pix_status pix_convert(pix_format from, pix_format to, const void *src, void *dst, size_t count);
+
+/* Writes each pixel of `dst` from that of `src` at its point, in the format of `dst`; both have one size. Between sRGB of 8
+ * bits and linear channels of 16 bits a pixel goes through light: each color is decoded by the sRGB curve to 16 bits and
+ * then multiplied by the alpha, or divided and then encoded. So a picture in SRGBA8 that is taken to RGBA16P, painted on
+ * and taken back is, where nothing was painted, the picture it was, but for pixels whose alpha is from 1 to 12. All other
+ * pairs are converted as pix_convert does: to premultiply and no more, pass the formats without S, also for bytes that are
+ * sRGB. The two must not share memory.
+ *
+ * Answers PIX_OK, PIX_BAD_FORMAT, PIX_BAD_SIZE (dst), PIX_BAD_SOURCE (src, also where its size is another), PIX_NULL or
+ * PIX_OVERLAP. */
+static inline pix_status pix_convert_bitmap(pix_bitmap_source src, pix_bitmap dst);
+
+/* Does the same in the image's own memory: its pixels are read in the image's format, and written as those of `to` at the
+ * starts of the same rows. A pixel of `to` has no more bytes than one of the image's format.
+ *
+ * Answers PIX_OK, PIX_BAD_FORMAT (also where a pixel of `to` is larger), PIX_BAD_SIZE or PIX_NULL. */
+static inline pix_status pix_convert_in_place(pix_bitmap image, pix_format to);
+
+/* Views of rows without gaps; set `stride` afterwards where there are some. */
+static inline pix_bitmap pix_bitmap_of(void *pixels, uint32_t width, uint32_t height, pix_format format);
+static inline pix_bitmap_source pix_bitmap_source_of(const void *pixels, uint32_t width, uint32_t height, pix_format format);
+
+/* The same image, to be read; and an image that commands paint, as a bitmap. */
+static inline pix_bitmap_source pix_bitmap_source_of_bitmap(pix_bitmap image);
+static inline pix_bitmap pix_bitmap_of_image(pix_image image);
+static inline pix_bitmap pix_bitmap_of_image_rgba16(pix_image_rgba16 image);
+static inline pix_bitmap pix_bitmap_of_image_graya8(pix_image_graya8 image);
+
+/* A pixel of a format, as one to paint with: pix_color_of_rgba16(PIX_FORMAT_SRGBA8, bytes) is the light of a color of sRGB.
+ * It is clear where there is no such format, or no pixel. */
+static inline pix_rgba8 pix_color_of(pix_format format, const void *pixel);
+static inline pix_rgba16 pix_color_of_rgba16(pix_format format, const void *pixel);
+static inline pix_graya8 pix_color_of_graya8(pix_format format, const void *pixel);
+
+/* The part of an image that lies in a region, clipped to the image; without points where it lies outside. Its first pixel is
+ * the point (0, 0) of the part: paint in coordinates of the whole image by pix_run_in. */
+static inline pix_image pix_part_of(pix_image image, pix_region region);
+static inline pix_image_rgba16 pix_part_of_rgba16(pix_image_rgba16 image, pix_region region);
+static inline pix_image_graya8 pix_part_of_graya8(pix_image_graya8 image, pix_region region);
+static inline pix_bitmap pix_part_of_bitmap(pix_bitmap image, pix_region region);
 
 /* ---- Tables of colors, for images of indices ----
  *
@@ -435,6 +514,12 @@ uint32_t pix_run_window_graya8(pix_graya8 *pixels, size_t pixel_count, uint32_t 
 uint32_t pix_convert_bytes(uint32_t from, uint32_t to, const uint8_t *src, size_t src_len, uint8_t *dst, size_t dst_len,
                            size_t count);
 
+/* Bitmaps: `src` and `dst` begin with the row that lies lowest in memory, and have the bytes up to the end of the one that lies
+ * highest. Strides are counted in bytes; 0 doesn't stand for the width, and a negative one says that the first row in memory is
+ * the bottom one. */
+uint32_t pix_convert_rows(uint32_t from, uint32_t to, const uint8_t *src, size_t src_len, uint8_t *dst, size_t dst_len,
+                          int64_t src_stride, int64_t dst_stride, uint32_t width, uint32_t height);
+uint32_t pix_pixel_size(uint32_t format);
 uint32_t pix_table_nearest(const pix_srgb8 *entries, size_t len, const pix_srgb8 *color, uint8_t *index);
 uint32_t pix_table_match(const pix_srgb8 *entries, size_t len, const pix_srgb8 *pixels, size_t pixel_count,
                          uint8_t *indices, size_t index_count);
@@ -719,15 +804,14 @@ PIX_CALLS_(_rgba16, pix_rgba16, uint16_t)
 PIX_CALLS_(_graya8, pix_graya8, uint8_t)
 
 static inline size_t pix_format_size(pix_format format) {
-    static const uint8_t sizes[] = {4, 4, 4, 4, 4, 4, 3, 1, 4, 4, 3, 1};
-    return (size_t)format < sizeof sizes ? sizes[format] : 0;
+    return pix_pixel_size((uint32_t)format);
 }
 
 static inline pix_status pix_convert(pix_format from, pix_format to, const void *src, void *dst, size_t count) {
     size_t src_size = pix_format_size(from), dst_size = pix_format_size(to);
     uint64_t nothing = 0;
     pix_status status;
-    if (!src_size || !dst_size)
+    if ((uint32_t)from > PIX_FORMAT_SGRAY8 || (uint32_t)to > PIX_FORMAT_SGRAY8)
         return PIX_BAD_FORMAT;
     if (count > (size_t)PTRDIFF_MAX / 4)
         return PIX_BAD_LENGTH;
@@ -740,6 +824,139 @@ static inline pix_status pix_convert(pix_format from, pix_format to, const void 
         return status;
     return (pix_status)pix_convert_bytes((uint32_t)from, (uint32_t)to, (const uint8_t *)src, count * src_size,
                                          (uint8_t *)dst, count * dst_size, count);
+}
+
+static inline pix_bitmap pix_bitmap_of(void *pixels, uint32_t width, uint32_t height, pix_format format) {
+    pix_bitmap image = {pixels, width, height, 0, format};
+    return image;
+}
+
+static inline pix_bitmap_source pix_bitmap_source_of(const void *pixels, uint32_t width, uint32_t height,
+                                                     pix_format format) {
+    pix_bitmap_source image = {pixels, width, height, 0, format};
+    return image;
+}
+
+static inline pix_bitmap_source pix_bitmap_source_of_bitmap(pix_bitmap image) {
+    pix_bitmap_source source = {image.pixels, image.width, image.height, image.stride, image.format};
+    return source;
+}
+
+/* The bytes of a bitmap: from the row that lies lowest in memory to the end of the one that lies highest. `length` is 0 where no
+ * memory could hold them, and then the library refuses the size. */
+typedef struct { const uint8_t *lowest; size_t length; int64_t stride; } pix_bytes_;
+
+static inline pix_bytes_ pix_bytes_of_(pix_bitmap_source image) {
+    pix_bytes_ bytes = {(const uint8_t *)image.pixels, 0, (int64_t)image.stride};
+    uint64_t wide = (uint64_t)image.width * pix_format_size(image.format), apart, before;
+    if (!image.stride)
+        bytes.stride = (int64_t)wide;
+    apart = bytes.stride < 0 ? 0 - (uint64_t)bytes.stride : (uint64_t)bytes.stride;
+    if (!image.height || wide > (uint64_t)PTRDIFF_MAX)
+        return bytes;
+    if (image.height > 1 && apart > ((uint64_t)PTRDIFF_MAX - wide) / (image.height - 1))
+        return bytes;
+    before = (image.height - 1) * apart;
+    bytes.length = (size_t)(before + wide);
+    if (bytes.stride < 0 && bytes.lowest)
+        bytes.lowest -= before;
+    return bytes;
+}
+
+static inline pix_status pix_convert_bitmap(pix_bitmap_source src, pix_bitmap dst) {
+    pix_bytes_ read = pix_bytes_of_(src), written = pix_bytes_of_(pix_bitmap_source_of_bitmap(dst));
+    uint64_t nothing = 0;
+    pix_status status;
+    if (!read.lowest && !read.length)
+        read.lowest = (const uint8_t *)&pix_nothing_;
+    if (!written.lowest && !written.length)
+        written.lowest = (const uint8_t *)&nothing;
+    if (!pix_format_size(src.format) || !pix_format_size(dst.format))
+        return PIX_BAD_FORMAT;
+    if (src.width != dst.width || src.height != dst.height)
+        return PIX_BAD_SOURCE;
+    status = pix_apart_(written.lowest, written.length, read.lowest, read.length);
+    if (status != PIX_OK)
+        return status;
+    return (pix_status)pix_convert_rows((uint32_t)src.format, (uint32_t)dst.format, read.lowest, read.length,
+                                        (uint8_t *)(uintptr_t)written.lowest, written.length, read.stride, written.stride,
+                                        dst.width, dst.height);
+}
+
+static inline pix_status pix_convert_in_place(pix_bitmap image, pix_format to) {
+    const uint32_t most = 64;
+    pix_bytes_ bytes = pix_bytes_of_(pix_bitmap_source_of_bitmap(image));
+    uint64_t size = pix_format_size(image.format), to_size = pix_format_size(to), wide = image.width * size;
+    uint64_t apart = bytes.stride < 0 ? 0 - (uint64_t)bytes.stride : (uint64_t)bytes.stride;
+    uint8_t block[64 * 8];
+    uint32_t x, y;
+    if (!size || !to_size || to_size > size)
+        return PIX_BAD_FORMAT;
+    if (image.width > INT32_MAX || image.height > INT32_MAX || wide > apart || (wide && image.height && !bytes.length))
+        return PIX_BAD_SIZE;
+    if (!bytes.lowest && bytes.length)
+        return PIX_NULL;
+    if (!wide)
+        return PIX_OK;
+    /* a block of pixels is copied, and written from the copy */
+    for (y = 0; y < image.height; y++) {
+        uint8_t *row = (uint8_t *)image.pixels + (ptrdiff_t)y * (ptrdiff_t)bytes.stride;
+        for (x = 0; x < image.width; x += most) {
+            uint32_t count = image.width - x < most ? image.width - x : most;
+            size_t read = (size_t)(count * size), written = (size_t)(count * to_size);
+            memcpy(block, row + x * size, read);
+            pix_convert_rows((uint32_t)image.format, (uint32_t)to, block, read, row + x * to_size, written, (int64_t)read,
+                             (int64_t)written, count, 1);
+        }
+    }
+    return PIX_OK;
+}
+
+/* Cuts the interval of `length` from `start` on at those from 0 to `limit`. */
+static inline void pix_cut_(int32_t start, uint32_t length, uint32_t limit, uint32_t *first, uint32_t *count) {
+    int64_t end = (int64_t)start + length, begin = start < 0 ? 0 : start;
+    end = end < (int64_t)limit ? end : (int64_t)limit;
+    *count = begin < end ? (uint32_t)(end - begin) : 0;
+    *first = *count ? (uint32_t)begin : 0;
+}
+
+#define PIX_PARTS_(S, PIXEL, FORMAT)                                                                                   \
+    static inline pix_bitmap pix_bitmap_of_image##S(pix_image##S image) {                                              \
+        pix_bitmap same = {image.pixels, image.width, image.height, 0, FORMAT};                                        \
+        same.stride = (ptrdiff_t)((image.stride ? image.stride : image.width) * sizeof *image.pixels);                 \
+        return same;                                                                                                   \
+    }                                                                                                                  \
+    static inline pix_image##S pix_part_of##S(pix_image##S image, pix_region region) {                                 \
+        pix_image##S part = image;                                                                                     \
+        uint32_t left, top;                                                                                            \
+        part.stride = image.stride ? image.stride : image.width;                                                       \
+        pix_cut_(region.x, region.width, image.width, &left, &part.width);                                             \
+        pix_cut_(region.y, region.height, image.height, &top, &part.height);                                           \
+        if (part.width && part.height)                                                                                 \
+            part.pixels += (size_t)top * part.stride + left;                                                           \
+        return part;                                                                                                   \
+    }                                                                                                                  \
+    static inline PIXEL pix_color_of##S(pix_format format, const void *pixel) {                                        \
+        PIXEL color;                                                                                                   \
+        memset(&color, 0, sizeof color);                                                                               \
+        pix_convert_bitmap(pix_bitmap_source_of(pixel, 1, 1, format), pix_bitmap_of(&color, 1, 1, FORMAT));            \
+        return color;                                                                                                  \
+    }
+PIX_PARTS_(, pix_rgba8, PIX_FORMAT_RGBA8P)
+PIX_PARTS_(_rgba16, pix_rgba16, PIX_FORMAT_RGBA16P)
+PIX_PARTS_(_graya8, pix_graya8, PIX_FORMAT_GRAYA8P)
+
+static inline pix_bitmap pix_part_of_bitmap(pix_bitmap image, pix_region region) {
+    pix_bitmap part = image;
+    uint32_t left, top;
+    if (!image.stride)
+        part.stride = (ptrdiff_t)(image.width * pix_format_size(image.format));
+    pix_cut_(region.x, region.width, image.width, &left, &part.width);
+    pix_cut_(region.y, region.height, image.height, &top, &part.height);
+    if (part.width && part.height)
+        part.pixels = (uint8_t *)image.pixels + (ptrdiff_t)top * part.stride
+                      + (ptrdiff_t)(left * pix_format_size(image.format));
+    return part;
 }
 
 static inline pix_table pix_table_of(const pix_srgb8 *entries, size_t len) {
@@ -1013,6 +1230,7 @@ static inline pix_status pix_unpack_row(uint32_t bits, const uint8_t *bytes, siz
 #undef PIX_NOTE_MASK_
 #undef PIX_COMMANDS_
 #undef PIX_CALLS_
+#undef PIX_PARTS_
 
 #ifdef __cplusplus
 }

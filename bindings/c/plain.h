@@ -40,7 +40,7 @@ typedef struct {
 static const char plain_source_by[] = "10" "1m" "m0" "a0" "am" "m0" "1";
 static const char plain_dest_by[] = "01" "m1" "0m" "0a" "ma" "m0" "1";
 
-static uint64_t plain_channel(const plain_kind *kind, const unsigned char *at, size_t channel) {
+static inline uint64_t plain_channel(const plain_kind *kind, const unsigned char *at, size_t channel) {
     if (kind->bytes == 1)
         return at[channel];
     uint16_t wide;
@@ -50,7 +50,7 @@ static uint64_t plain_channel(const plain_kind *kind, const unsigned char *at, s
     return wide;
 }
 
-static void plain_set_channel(const plain_kind *kind, unsigned char *at, size_t channel, uint64_t number) {
+static inline void plain_set_channel(const plain_kind *kind, unsigned char *at, size_t channel, uint64_t number) {
     if (kind->bytes == 1) {
         at[channel] = (unsigned char)number;
         return;
@@ -62,17 +62,17 @@ static void plain_set_channel(const plain_kind *kind, unsigned char *at, size_t 
 }
 
 /* x * y / max, rounded to the nearest. */
-static uint64_t plain_product(uint64_t max, uint64_t x, uint64_t y) {
+static inline uint64_t plain_product(uint64_t max, uint64_t x, uint64_t y) {
     return (2 * x * y + max) / (2 * max);
 }
 
 /* (max + 1) * x / y, rounded down, at most max, and 0 where y is 0. */
-static uint64_t plain_quotient(uint64_t max, uint64_t x, uint64_t y) {
+static inline uint64_t plain_quotient(uint64_t max, uint64_t x, uint64_t y) {
     uint64_t quotient = y ? (max + 1) * x / y : 0;
     return quotient < max ? quotient : max;
 }
 
-static uint64_t plain_term(uint64_t max, char by, uint64_t channel, uint64_t alpha) {
+static inline uint64_t plain_term(uint64_t max, char by, uint64_t channel, uint64_t alpha) {
     switch (by) {
     case '0': return 0;
     case '1': return channel;
@@ -82,7 +82,7 @@ static uint64_t plain_term(uint64_t max, char by, uint64_t channel, uint64_t alp
 }
 
 /* Composites a source with the destination: each channel by both alphas from before, and sums saturate. */
-static void plain_composite(const plain_kind *kind, uint32_t op, const uint64_t *src, uint64_t *dst) {
+static inline void plain_composite(const plain_kind *kind, uint32_t op, const uint64_t *src, uint64_t *dst) {
     uint64_t sa = src[kind->channels - 1], da = dst[kind->channels - 1];
     for (size_t i = 0; i < kind->channels; i++) {
         uint64_t sum = plain_term(kind->max, plain_source_by[op], src[i], da)
@@ -92,15 +92,15 @@ static void plain_composite(const plain_kind *kind, uint32_t op, const uint64_t 
 }
 
 /* Whether a point lies at an offset in a region: the offset is set then. */
-static int plain_covers(const plain_region *reg, int64_t x, int64_t y, int64_t *column, int64_t *row) {
+static inline int plain_covers(const plain_region *reg, int64_t x, int64_t y, int64_t *column, int64_t *row) {
     *column = x - reg->x;
     *row = y - reg->y;
     return *column >= 0 && *column < reg->width && *row >= 0 && *row < reg->height;
 }
 
 /* The bytes of the point of a source that is paired with a point, or null where there is none. */
-static const unsigned char *plain_paired(const plain_region *to, const plain_rows *source, const plain_region *from,
-                                         size_t size, int64_t x, int64_t y) {
+static inline const unsigned char *plain_paired(const plain_region *to, const plain_rows *source, const plain_region *from,
+                                                size_t size, int64_t x, int64_t y) {
     int64_t column, row;
     if (!plain_covers(to, x, y, &column, &row) || column >= from->width || row >= from->height)
         return NULL;
@@ -112,7 +112,7 @@ static const unsigned char *plain_paired(const plain_region *to, const plain_row
 }
 
 /* What a command makes of the pixel at a point: it stays where the command does not reach it. */
-static void plain_step(const plain_kind *kind, const plain_command *command, int64_t x, int64_t y, uint64_t *pixel) {
+static inline void plain_step(const plain_kind *kind, const plain_command *command, int64_t x, int64_t y, uint64_t *pixel) {
     uint64_t src[4] = {0, 0, 0, 0};
     int64_t column, row;
     const unsigned char *paired, *covered = NULL;
@@ -153,7 +153,7 @@ static void plain_step(const plain_kind *kind, const plain_command *command, int
 
 /* Runs commands on a window of a picture, whose first pixel is the point (left, top) of the picture: at each point of
  * the window the fold of those that reach the picture's point there. */
-static void plain_run_in(const plain_kind *kind, const plain_rows *image, int64_t left, int64_t top,
+static inline void plain_run_in(const plain_kind *kind, const plain_rows *image, int64_t left, int64_t top,
                          const plain_command *commands, size_t count) {
     for (uint64_t y = 0; image->width && y < image->height; y++)
         for (uint64_t x = 0; x < image->width; x++) {
@@ -186,23 +186,23 @@ static const plain_format plain_formats[] = {
     {'r', 0, 0, 0}, {'g', 0, 0, 0}, {'b', 1, 0, 1}, {'b', 1, 1, 1}, {'r', 0, 0, 1}, {'g', 0, 0, 1},
 };
 
-static size_t plain_size(const plain_format *format) {
+static inline size_t plain_size(const plain_format *format) {
     return (format->model == 'g' ? 1 : 3) + (size_t)format->has_alpha;
 }
 
 /* The sRGB curve of IEC 61966-2-1 on bytes, to the nearest. */
-static uint64_t plain_to_linear(uint64_t byte) {
+static inline uint64_t plain_to_linear(uint64_t byte) {
     double s = (double)byte / 255;
     return (uint64_t)floor(255 * (s <= 0.04045 ? s / 12.92 : pow((s + 0.055) / 1.055, 2.4)) + 0.5);
 }
 
-static uint64_t plain_from_linear(uint64_t byte) {
+static inline uint64_t plain_from_linear(uint64_t byte) {
     double l = (double)byte / 255;
     return (uint64_t)floor(255 * (l <= 0.0031308 ? l * 12.92 : 1.055 * pow(l, 1 / 2.4) - 0.055) + 0.5);
 }
 
 /* A color in another alpha mode and gamma mode, at an alpha. */
-static uint64_t plain_recoded(const plain_format *from, const plain_format *to, uint64_t color, uint64_t alpha) {
+static inline uint64_t plain_recoded(const plain_format *from, const plain_format *to, uint64_t color, uint64_t alpha) {
     if (from->is_premultiplied == to->is_premultiplied && from->is_srgb == to->is_srgb)
         return color;
     if (from->is_srgb)
@@ -215,7 +215,7 @@ static uint64_t plain_recoded(const plain_format *from, const plain_format *to, 
 }
 
 /* Converts one pixel. Within a model its alpha counts only where the target has one. */
-static void plain_convert(const plain_format *from, const plain_format *to, const unsigned char *src, unsigned char *dst) {
+static inline void plain_convert(const plain_format *from, const plain_format *to, const unsigned char *src, unsigned char *dst) {
     size_t colors = from->model == 'g' ? 1 : 3;
     uint64_t alpha = from->has_alpha ? src[colors] : 255, rgb[3];
     for (size_t i = 0; i < 3; i++) {

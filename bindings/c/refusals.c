@@ -260,8 +260,8 @@ static void operators(void) {
 /* White, red and no color at all keep their meaning between all formats. */
 static void formats(void) {
     const uint8_t red_of_three[3] = {255, 0, 0}, white[4] = {255, 255, 255, 255};
-    for (int from = 0; pix_format_size((pix_format)from); from++)
-        for (int to = 0; pix_format_size((pix_format)to); to++) {
+    for (int from = 0; from <= PIX_FORMAT_SGRAY8; from++)
+        for (int to = 0; to <= PIX_FORMAT_SGRAY8; to++) {
             uint8_t there[4] = {7, 7, 7, 7}, back[4] = {7, 7, 7, 7};
             size_t size = pix_format_size((pix_format)to);
             CHECK(pix_convert((pix_format)from, (pix_format)to, white, there, 1) == PIX_OK);

@@ -24,6 +24,8 @@ except ImportError:
 LONG = 2**31
 WHOLE = (0, 0, 4, 4)
 COLOR = (9, 9, 9, 9)
+# the formats of convert()
+TWELVE = list(pix.Format)[:12]
 
 
 def times(a, b):
@@ -331,6 +333,9 @@ class Borders(unittest.TestCase):
     def test_each_public_name_has_hints_and_a_docstring(self):
         for name in set(pix.__all__) - {"Region", "RGBA8", "RGBA16", "GRAYA8"}:
             item = getattr(pix, name)
+            if isinstance(item, pix.Format):
+                self.assertEqual(item.name, name)
+                continue
             self.assertTrue(item.__doc__, name)
             for member in self.public_members(item):
                 self.assertTrue(member.__doc__, member)
@@ -541,13 +546,13 @@ class Paintings(unittest.TestCase):
         self.assertEqual(list(image.pixels), [111, 255, 50, 255])
 
     def test_sizes(self):
-        self.assertEqual([format.size for format in pix.Format], [4, 4, 4, 4, 4, 4, 3, 1, 4, 4, 3, 1])
-        for format, size in zip(pix.Format, (4, 4, 4, 4, 4, 4, 3, 1, 4, 4, 3, 1)):
+        self.assertEqual([format.size for format in TWELVE], [4, 4, 4, 4, 4, 4, 3, 1, 4, 4, 3, 1])
+        for format, size in zip(TWELVE, (4, 4, 4, 4, 4, 4, 3, 1, 4, 4, 3, 1)):
             self.assertEqual(len(pix.convert(pix.Format.RGB8, bytes(6), format)), 2 * size)
 
     def test_formats(self):
-        for a in pix.Format:
-            for b in pix.Format:
+        for a in TWELVE:
+            for b in TWELVE:
                 self.assertEqual(pix.convert(a, b"\xff" * a.size, b), b"\xff" * b.size)
         self.assertEqual(pix.convert(pix.Format.RGB8, b"\xff\0\0", pix.Format.BGRA8P), b"\0\0\xff\xff")
         half = bytes((64, 64, 64, 128))

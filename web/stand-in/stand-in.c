@@ -36,6 +36,25 @@ unsigned long strtoul(const char *text, char **end, int base) {
     return 0;
 }
 
+/* No call of the page takes memory: the tables of colors do. */
+void *malloc(size_t size) {
+    (void)size;
+    return NULL;
+}
+
+void *calloc(size_t count, size_t size) {
+    (void)count, (void)size;
+    return NULL;
+}
+
+void free(void *memory) {
+    (void)memory;
+}
+
+void abort(void) {
+    __builtin_trap();
+}
+
 double floor(double x) {
     return __builtin_floor(x);
 }

@@ -12,8 +12,9 @@ writable memoryview or a numpy array. The pixels are changed in place; nothing i
         pix.composite_color((50, -8, 20, 20), (90, 40, 0, 128), pix.Op.SRC_OVER),
     )
 
-Pixels are premultiplied and linear: the color channels are multiplied by the alpha and proportional to light. convert()
-makes them of what image files hold, and back. A region is a tuple (x, y, width, height) in pixels and lies anywhere;
+Pixels are premultiplied and linear: the color channels are multiplied by the alpha and proportional to light.
+Image.from_array() and Image.from_pillow() make them of what image files hold, and to_array() and to_pillow() turn them
+back: in 16 bits a channel nothing is lost. convert() does it in 8 bits, and convert_bitmap() between any two formats. A region is a tuple (x, y, width, height) in pixels and lies anywhere;
 what is outside an image is neither read nor written. A list is tested as a whole before its first command runs: where
 an exception is raised, no pixel was changed.
 
@@ -38,9 +39,10 @@ has. Needs CPython 3.8 on Linux, on a processor of x86-64 with SSE4.1 or of aarc
 a library of another version or layout, raises ImportError.
 """
 
+from pix._bitmap import convert_bitmap
 from pix._command import Command
 from pix._convert import convert
-from pix._image import Image
+from pix._image import Image, color_of
 from pix._indexed import count_indices, diffuse_indexed, look_up, map_indexed, pack_row, row_size, table_from, unpack_row
 from pix._list import CommandList
 from pix._makers import (
@@ -55,12 +57,18 @@ __version__ = "0.2.0"
 __all__ = [
     "Op", "Format", "Status", "PixError", "PixelType", "RGBA8", "RGBA16", "GRAYA8", "Region", "Image", "Matte",
     "Command", "CommandList", "clear", "copy_color", "copy_image", "composite_color", "composite_image", "composite_matte",
-    "composite_image_matte", "composite_image_alpha", "convert",
+    "composite_image_matte", "composite_image_alpha", "convert", "convert_bitmap", "color_of",
     "table_from", "map_indexed", "diffuse_indexed", "look_up", "count_indices", "row_size", "pack_row", "unpack_row",
+    "SRGBA8", "SRGBA8P", "SBGRA8", "SBGRA8P", "SRGB8", "SBGR8", "SGRAY8", "SGRAYA8", "SRGBX8", "SBGRX8",
 ]  # fmt: skip
 
+# The formats that pictures mostly come in.
+SRGBA8, SRGBA8P, SBGRA8, SBGRA8P = Format.SRGBA8, Format.SRGBA8P, Format.SBGRA8, Format.SBGRA8P
+SRGB8, SBGR8, SGRAY8, SGRAYA8 = Format.SRGB8, Format.SBGR8, Format.SGRAY8, Format.SGRAYA8
+SRGBX8, SBGRX8 = Format.SRGBX8, Format.SBGRX8
+
 # Users and pickles name them by this package, wherever they are defined.
-for _public in (Op, Format, Status, PixError, PixelType, Image, Matte, Command, CommandList, convert):
+for _public in (Op, Format, Status, PixError, PixelType, Image, Matte, Command, CommandList, convert, convert_bitmap, color_of):
     _public.__module__ = __name__
 for _public in (table_from, map_indexed, diffuse_indexed, look_up, count_indices, row_size, pack_row, unpack_row):
     _public.__module__ = __name__

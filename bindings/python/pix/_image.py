@@ -3,14 +3,17 @@
 from __future__ import annotations
 
 import ctypes
-from typing import Iterable, Optional, SupportsIndex, Union
+from array import array
+from operator import index
+from typing import Any, Iterable, Optional, SupportsIndex, Tuple, Union
 
+from pix._bitmap import MODES, Bitmap, new_array, write
 from pix._command import Command
 from pix._library import LONG
 from pix._list import CommandList, Listed
 from pix._memory import Buffer, calls
-from pix._pixels import RGBA8, PixelType, kind_of
-from pix._values import PixError, Status, origin_of, u32
+from pix._pixels import RGBA8, RGBA16, PixelType, kind_of
+from pix._values import Format, PixError, Status, origin_of, u32
 from pix._views import View, rows_of
 
 
@@ -37,6 +40,55 @@ class Image(View):
         """Makes a transparent image of so many pixels; its buffer is its `pixels`, of bytes."""
         columns, rows = u32(width, "width"), u32(height, "height")
         return cls(bytearray(columns * rows * ctypes.sizeof(kind_of(type)._color)), columns, rows, type=type)
+
+    @classmethod
+    def from_array(
+        cls, array: Buffer, format: Format, type: PixelType = RGBA16, size: Optional[Tuple[SupportsIndex, SupportsIndex]] = None
+    ) -> Image:
+        """Makes an image of the picture in an array, or another buffer, of (height, width, samples) or (height, width * samples)
+        elements in a format; rows may lie apart, and from bottom to top. Of a buffer of one dimension, such as bytes, `size` is
+        the width and the height.
+
+        An sRGB picture in an image of RGBA16 is in light: to_array() in the same format gives it back as it was where
+        nothing was painted, but for pixels whose alpha is from 1 to 12.
+        """
+        width, height = (None, None) if size is None else size
+        source = Bitmap(array, format, width, height)
+        image = cls.new(source.width, source.height, type)
+        write(image._bitmap(), source)
+        return image
+
+    def to_array(self, format: Format) -> Any:
+        """The picture in a format: a new numpy array of (height, width, samples), or (height, width) where a pixel has one
+        sample; a bytearray where numpy is missing."""
+        array = new_array(self.width, self.height, Format(format))
+        write(Bitmap(array, format, self.width, self.height), self._bitmap())
+        return array
+
+    @classmethod
+    def from_pillow(cls, picture: Any, type: PixelType = RGBA16) -> Image:
+        """Makes an image of a picture of Pillow: one of the modes RGBA, RGB, L and LA as it is, and others by way of RGBA."""
+        if picture.mode not in MODES:
+            picture = picture.convert("RGBA")
+        width, height = picture.size
+        source = Bitmap(picture.tobytes(), MODES[picture.mode], width, height)
+        image = cls.new(width, height, type)
+        write(image._bitmap(), source)
+        return image
+
+    def to_pillow(self, mode: str = "RGBA") -> Any:
+        """The picture as one of Pillow, of the mode RGBA, RGB, L or LA."""
+        from PIL import Image as pillow
+
+        if mode not in MODES:
+            raise ValueError(f"mode {mode!r} is none of {', '.join(MODES)}")
+        data = bytearray(self.width * self.height * MODES[mode].size)
+        write(Bitmap(data, MODES[mode], self.width, self.height), self._bitmap())
+        return pillow.frombytes(mode, (self.width, self.height), bytes(data))
+
+    def _bitmap(self) -> Bitmap:
+        """The rows as a bitmap."""
+        return Bitmap.of_rows(self._rows, Format[f"{self.type}P"])
 
     @property
     def type(self) -> PixelType:
@@ -92,3 +144,13 @@ class Image(View):
             raise PixError(Status.BAD_SIZE)
         if status:
             raise PixError(Status(status), done.value)
+
+
+def color_of(format: Format, pixel: Iterable[SupportsIndex], type: PixelType = RGBA16) -> Tuple[int, ...]:
+    """A pixel in a format, given by its numbers, as a color to paint with: color_of(pix.SRGBA8, (200, 120, 40, 255)) is the light
+    of a color of sRGB."""
+    format, given = Format(format), tuple(map(index, pixel))
+    if len(given) != format.samples or not all(0 <= number < 1 << format.bits for number in given):
+        raise ValueError(f"{given} are not {format.samples} numbers of {format.bits} bits")
+    image = Image.from_array(array("H" if format.bits == 16 else "B", given), format, type, (1, 1))
+    return tuple(image.pixels.cast("H" if type.max > 255 else "B"))

@@ -75,6 +75,9 @@ def load(kind: Any) -> Any:
     pointer, size, u32 = ctypes.c_void_p, ctypes.c_size_t, ctypes.c_uint32
     run = [pointer, size, u32, u32, u32, u32, u32, pointer, size, ctypes.POINTER(size)]
     calls = {"pix_layout": [size], "pix_convert_bytes": [u32, u32, pointer, size, pointer, size, size]}
+    i64 = ctypes.c_int64
+    calls["pix_convert_rows"] = [u32, u32, pointer, size, pointer, size, i64, i64, u32, u32]
+    calls["pix_pixel_size"] = [u32]
     calls.update((f"pix_run_window{kind}", run) for kind in ("", "_rgba16", "_graya8"))
     buffer = [pointer, size]
     calls["pix_table_match"] = buffer * 3

@@ -53,12 +53,12 @@ def _strides(held: _PyBuffer, shape: Sequence[int]) -> List[int]:
 class Memory:
     """The memory of a buffer: `rows` stretches of `row` bytes, `step` bytes apart.
 
-    It is pinned as long as this object lives: who owns it neither moves nor frees it.
+    Where `turned` allows it, the first row may be the last one in memory, and then `step` is negative. It is pinned as long as this object lives: who owns it neither moves nor frees it.
     """
 
     _held = None
 
-    def __init__(self, buffer: Any, words: bool = False) -> None:
+    def __init__(self, buffer: Any, words: bool = False, turned: bool = False) -> None:
         held = _PyBuffer()
         _get_buffer(buffer, held, _RECORDS)
         self._held = held
@@ -80,10 +80,13 @@ class Memory:
         self.step = strides[0] if self.rows > 1 and held.len else self.row
         if self.step != self.row and held.ndim == 1:
             raise ValueError("the buffer has gaps: pass all of it, with a stride")
-        if self.step < self.row:
+        apart = abs(self.step) if turned else self.step
+        if apart < self.row:
             raise ValueError("the rows of the buffer run backwards, or share memory")
-        self.length = (self.rows - 1) * self.step + self.row if held.len else 0
-        self.address = held.buf if self.length else NOWHERE
+        before = (self.rows - 1) * apart
+        self.length = before + self.row if held.len else 0
+        first = held.buf - before if self.step < 0 and self.length else held.buf
+        self.address = first if self.length else NOWHERE
 
     def __del__(self) -> None:
         if self._held is not None and _release_buffer is not None:

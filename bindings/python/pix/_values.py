@@ -33,10 +33,12 @@ class Op(IntEnum):
 
 
 class Format(IntEnum):
-    """A format of bytes, one a channel, in the order of the name.
+    """A format of bytes: the channels of a pixel in the order of the name, of 8 or 16 bits.
 
     S: the colors are encoded by the sRGB curve, as in most files; without it they are linear. P at the end: the colors
-    are multiplied by the alpha. RGBA8P is the format of the pixels RGBA8.
+    are multiplied by the alpha. X: a byte that is not read, and is written as 255. A channel of 16 bits is a word in the
+    machine's order. RGBA8P, RGBA16P and GRAYA8P are the formats of the pixels RGBA8, RGBA16 and GRAYA8. Those up to
+    SGRAY8 are for convert() too.
     """
 
     SRGBA8 = 0
@@ -51,11 +53,92 @@ class Format(IntEnum):
     SBGRA8P = 9
     SRGB8 = 10
     SGRAY8 = 11
+    RGBA16 = 12
+    RGBA16P = 13
+    RGB16 = 14
+    BGRA16 = 15
+    BGRA16P = 16
+    BGR16 = 17
+    BGR8 = 18
+    SBGR8 = 19
+    GRAYA8 = 20
+    GRAYA8P = 21
+    SGRAYA8 = 22
+    SGRAYA8P = 23
+    GRAY16 = 24
+    GRAYA16 = 25
+    GRAYA16P = 26
+    MATTE8 = 27
+    MATTE16 = 28
+    CMY8 = 29
+    CMYA8 = 30
+    CMYA8P = 31
+    CMY16 = 32
+    CMYA16 = 33
+    CMYA16P = 34
+    SCMY8 = 35
+    SCMYA8 = 36
+    SCMYA8P = 37
+    HSV8 = 38
+    HSVA8 = 39
+    HSVA8P = 40
+    HSV16 = 41
+    HSVA16 = 42
+    HSVA16P = 43
+    SHSV8 = 44
+    SHSVA8 = 45
+    SHSVA8P = 46
+    HSL8 = 47
+    HSLA8 = 48
+    HSLA8P = 49
+    HSL16 = 50
+    HSLA16 = 51
+    HSLA16P = 52
+    SHSL8 = 53
+    SHSLA8 = 54
+    SHSLA8P = 55
+    HWB8 = 56
+    HWBA8 = 57
+    HWBA8P = 58
+    HWB16 = 59
+    HWBA16 = 60
+    HWBA16P = 61
+    SHWB8 = 62
+    SHWBA8 = 63
+    SHWBA8P = 64
+    YCBCR8 = 65
+    YCBCRA8 = 66
+    YCBCRA8P = 67
+    YCBCR16 = 68
+    YCBCRA16 = 69
+    YCBCRA16P = 70
+    XYZ8 = 71
+    XYZA8 = 72
+    XYZA8P = 73
+    XYZ16 = 74
+    XYZA16 = 75
+    XYZA16P = 76
+    SRGBX8 = 77
+    SBGRX8 = 78
+    RGBX8 = 79
+    BGRX8 = 80
+
+    @property
+    def bits(self) -> int:
+        """How many bits a channel has: 8 or 16."""
+        return 16 if "16" in self.name else 8
+
+    @property
+    def samples(self) -> int:
+        """How many numbers of so many bits a pixel has in memory, from 1 to 4."""
+        model = self.name.rstrip("P").rstrip("0123456789")
+        alone = {"GRAY": 1, "SGRAY": 1, "GRAYA": 2, "SGRAYA": 2, "MATTE": 1}
+        return alone.get(model, 4 if model[-1] in "AX" else 3)
 
     @property
     def size(self) -> int:
         """How many bytes a pixel has."""
-        return {"RGB8": 3, "SRGB8": 3, "GRAY8": 1, "SGRAY8": 1}.get(self.name, 4)
+        return self.samples * self.bits // 8
 
 
 class Status(IntEnum):

@@ -12,6 +12,7 @@ ghost use Rattle.pix_c.specs.Command.{rgba8_command, rgba16_command, graya8_comm
 ghost use Rattle.pix_c.specs.Status.{status_of, done_of};
 ghost use Rattle.pix_c.specs.Run.{IsRun};
 
+mod bitmap;
 mod command;
 mod convert;
 mod copy;
@@ -27,6 +28,7 @@ mod status;
 mod table;
 mod window;
 
+pub use crate::bitmap::{pix_convert_rows, pix_pixel_size};
 pub use crate::command::{PixCommand, PixCommandGraya8, PixCommandRgba16, PixRegion};
 pub use crate::convert::pix_convert_bytes;
 pub use crate::format::{PixGraya8, PixRgba8, PixRgba16};

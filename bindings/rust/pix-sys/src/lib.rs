@@ -468,6 +468,28 @@ unsafe extern "C" {
         count: usize,
     ) -> u32;
 
+    /// Writes a bitmap from another of the same size, pixel by pixel. Strides are counted in bytes; both buffers begin with the
+    /// row that lies lowest in memory, which is the bottom one where the stride is negative.
+    ///
+    /// # Safety
+    ///
+    /// As `pix_convert_bytes`.
+    pub fn pix_convert_rows(
+        from: u32,
+        to: u32,
+        src: *const u8,
+        src_len: usize,
+        dst: *mut u8,
+        dst_len: usize,
+        src_stride: i64,
+        dst_stride: i64,
+        width: u32,
+        height: u32,
+    ) -> u32;
+
+    /// How many bytes a pixel of a format has, and 0 where there is no such format.
+    pub safe fn pix_pixel_size(format: u32) -> u32;
+
     /// Fact number `index` of the library: its version, and then the sizes and offsets of [`FACTS`]. `u32::MAX` where
     /// there are no more.
     pub safe fn pix_layout(index: usize) -> u32;

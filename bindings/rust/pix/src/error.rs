@@ -15,6 +15,8 @@ pub enum Error {
     Region { index: usize },
     /// The source or the mask has a side above 2147483647, a stride below its width, or too few pixels.
     Source { index: usize },
+    /// There is no such conversion: in place, a pixel would be larger.
+    Format,
     /// The bytes to convert, or those to write, are not those of so many whole pixels.
     Length,
     /// A table of colors has no entry, or more than 256.
@@ -36,6 +38,7 @@ impl Error {
             status::BAD_SIZE => Error::Size,
             status::BAD_REGION => Error::Region { index },
             status::BAD_SOURCE => Error::Source { index },
+            status::BAD_FORMAT => Error::Format,
             status::BAD_LENGTH => Error::Length,
             status::BAD_TABLE => Error::Table,
             status::BAD_INDEX => Error::Index,
@@ -66,6 +69,7 @@ impl fmt::Display for Error {
                     "command {index}: its source has a bad size or stride, or too few pixels"
                 )
             }
+            Error::Format => f.write_str("in place, a pixel would be larger"),
             Error::Length => f.write_str("the bytes are not those of so many pixels"),
             Error::Table => f.write_str("a table has no entry, or more than 256"),
             Error::Index => {

@@ -1,8 +1,9 @@
 //! Images: views of borrowed pixels.
 
+use crate::bitmap::{Bitmap, BitmapMut};
 use crate::command::Command;
 use crate::error::Error;
-use crate::pixel::Pixel;
+use crate::pixel::{Pixel, bytes, bytes_mut};
 use crate::pixel::private::Calls;
 use core::mem;
 use pix_sys::status;
@@ -74,6 +75,18 @@ impl<'a, P: Pixel> ImageMut<'a, P> {
     /// The image as a source for another one.
     pub const fn as_image(&self) -> Image<'_, P> {
         Image::with_stride(self.pixels, self.width, self.height, self.stride)
+    }
+
+    /// The image as a bitmap, to be written from another one; see [`BitmapMut`].
+    pub fn as_bitmap_mut(&mut self) -> BitmapMut<'_> {
+        let stride = self.stride as usize * size_of::<P>();
+        BitmapMut::with_stride(bytes_mut(self.pixels), self.width, self.height, stride as isize, P::FORMAT)
+    }
+
+    /// The image as a bitmap, to be read.
+    pub fn as_bitmap(&self) -> Bitmap<'_> {
+        let stride = self.stride as usize * size_of::<P>();
+        Bitmap::with_stride(bytes(self.pixels), self.width, self.height, stride as isize, P::FORMAT)
     }
 
     /// Runs the commands in order, or none of them where one is refused.

@@ -18,7 +18,7 @@
 //! ```
 //!
 //! Pixels are premultiplied and linear: the color channels are multiplied by the alpha and proportional to light.
-//! [`convert`] makes them of what image files hold, and back. Regions lie anywhere; what is outside an image is
+//! A [`BitmapMut`] is made of what image files hold, and back: in 16 bits a channel nothing is lost. [`convert`] does it in 8 bits. Regions lie anywhere; what is outside an image is
 //! neither read nor written. A list is tested as a whole before its first command runs, so that an [`Error`] means that
 //! no pixel was changed. The archive runs on processors of x86-64 with SSE4.1 and of aarch64, under Linux: another one,
 //! and an archive of another version or layout, is refused at the first call.
@@ -27,6 +27,7 @@
 //! [`bands`](ImageMut::bands) of rows: the outcome is the picture painted whole.
 #![no_std]
 
+mod bitmap;
 mod command;
 mod error;
 mod format;
@@ -34,6 +35,7 @@ mod image;
 mod pixel;
 mod table;
 
+pub use crate::bitmap::{Bitmap, BitmapMut};
 pub use crate::command::{Command, Op};
 pub use crate::error::Error;
 pub use crate::format::{Format, convert};

@@ -1,5 +1,8 @@
 //! Pixels and regions.
 
+use crate::bitmap::{Bitmap, BitmapMut};
+use crate::error::Error;
+use crate::format::Format;
 use core::slice;
 
 pub use pix_sys::{Graya8, Region, Rgba8, Rgba16};
@@ -8,6 +11,25 @@ pub use pix_sys::{Graya8, Region, Rgba8, Rgba16};
 pub trait Pixel: Copy + Default + private::Calls<Self::Matte> {
     /// A value of a mask, from 0 (none of the color is composited) to the maximum (all of it).
     type Matte: Copy + Default;
+
+    /// The format of such pixels in a bitmap.
+    const FORMAT: Format;
+
+    /// The first pixel of these bytes, which are of a format, as one to paint with.
+    ///
+    /// ```
+    /// use pix::{Format, Pixel, Rgba16};
+    ///
+    /// let half_white = Rgba16::of(Format::SRgba8, &[255, 255, 255, 128])?; // in light
+    /// assert_eq!(half_white, Rgba16::new(32896, 32896, 32896, 32896));
+    /// # Ok::<(), pix::Error>(())
+    /// ```
+    fn of(format: Format, pixel: &[u8]) -> Result<Self, Error> {
+        let mut color = [Self::default()];
+        let source = Bitmap::new(pixel, 1, 1, format);
+        BitmapMut::new(bytes_mut(&mut color), 1, 1, Self::FORMAT).convert_from(source)?;
+        Ok(color[0])
+    }
 }
 
 pub(crate) mod private {
@@ -21,6 +43,8 @@ pub(crate) mod private {
 
 impl Pixel for Rgba8 {
     type Matte = u8;
+
+    const FORMAT: Format = Format::Rgba8p;
 }
 
 impl private::Calls<u8> for Rgba8 {
@@ -29,6 +53,8 @@ impl private::Calls<u8> for Rgba8 {
 
 impl Pixel for Rgba16 {
     type Matte = u16;
+
+    const FORMAT: Format = Format::Rgba16p;
 }
 
 impl private::Calls<u16> for Rgba16 {
@@ -37,6 +63,8 @@ impl private::Calls<u16> for Rgba16 {
 
 impl Pixel for Graya8 {
     type Matte = u8;
+
+    const FORMAT: Format = Format::Graya8p;
 }
 
 impl private::Calls<u8> for Graya8 {

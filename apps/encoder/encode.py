@@ -1,0 +1,175 @@
+#!/usr/bin/env python3
+"""usage: encode.py [OPTION].. FILE..
+Writes pictures that Pillow reads as indexed ones: each as a PNG, or all as the frames of one GIF.
+
+  --into FOLDER    write each FILE as an indexed PNG of its name into this folder (the present one)
+  --gif FILE       write one GIF in place of that, with one table of colors for all frames
+  --colors N       at most so many colors, from 2 to 256 (256)
+  --dither         spread the error of each pixel over those that come after it
+  --ground RRGGBB  composite transparent pictures over this color; else their clear parts stay clear
+  --delay MS       how long the GIF shows each frame, in steps of 10 (100)
+  --help           print this
+
+On a terminal a bar shows how many pictures are done. No picture is written over one that is read. The
+status is 0, 1 after a file that can't be read or written, or 2 after another use.
+"""
+
+import os
+import pathlib
+import sys
+
+try:
+    import files
+    import table
+except ImportError as error:
+    sys.exit(f"encode.py: {error}: it stands on pix and Pillow")
+
+NUMBERS = {"--colors": (2, 256), "--delay": (10, 655350)}
+
+
+class UsageError(Exception):
+    """What was asked for can't be meant."""
+
+
+class Options:
+    """What was asked for."""
+
+    def __init__(self, words):
+        self.values = {"--into": ".", "--gif": None, "--colors": "256", "--ground": None, "--delay": "100"}
+        self.dithers, self.files = False, []
+        words = list(words)
+        while words:
+            word = words.pop(0)
+            if word == "--dither":
+                self.dithers = True
+            elif word == "--":
+                self.files, words = self.files + words, []
+            elif word in self.values:
+                if not words:
+                    raise UsageError(f"{word}: a value is missing")
+                self.values[word] = words.pop(0)
+            elif word.startswith("--"):
+                raise UsageError(f"{word}: there is no such option")
+            else:
+                self.files.append(word)
+        if not self.files:
+            raise UsageError("name a picture")
+        self.colors, self.delay = self.number("--colors"), self.number("--delay")
+        self.gif, self.ground = self.values["--gif"], self.color()
+        self.targets = self.paths()
+
+    def number(self, option):
+        """Returns the number of an option."""
+        text, (least, most) = self.values[option], NUMBERS[option]
+        if not (text.isascii() and text.isdigit() and least <= int(text[:9]) <= most):
+            raise UsageError(f"{option} takes a number from {least} to {most}, and not {text}")
+        return int(text)
+
+    def color(self):
+        """Returns red, green and blue of the ground, or None."""
+        text = self.values["--ground"]
+        if text is None:
+            return None
+        if len(text) != 6 or any(letter not in "0123456789abcdefABCDEF" for letter in text):
+            raise UsageError(f"--ground takes six hexadecimal digits, and not {text}")
+        return tuple(bytes.fromhex(text))
+
+    def paths(self):
+        """Returns the files that are written: no two are one, and none is read."""
+        into = pathlib.Path(self.values["--into"])
+        paths = [self.gif] if self.gif else [into / (pathlib.Path(name).stem + ".png") for name in self.files]
+        read, written = {identity(name) for name in self.files}, set()
+        for path in paths:
+            if identity(path) in read:
+                raise UsageError(f"{path} would be written over: name another place, by --into or --gif")
+            if identity(path) in written:
+                raise UsageError(f"{path} would be written twice: pictures of one name go into other folders")
+            written.add(identity(path))
+        return paths
+
+
+def identity(path):
+    """Returns what tells a file from others, by whatever path it is named."""
+    try:
+        found = os.stat(path)
+    except OSError:
+        return os.path.realpath(path)
+    return found.st_dev, found.st_ino
+
+
+class Progress:
+    """A bar on standard error, where that is a terminal."""
+
+    def __init__(self, count):
+        self.done, self.count, self.shows = 0, count, sys.stderr is not None and sys.stderr.isatty()
+
+    def show(self, name):
+        """Shows how many are done, and which one is next."""
+        if self.shows:
+            bar = "#" * (30 * self.done // self.count)
+            shown = "".join(letter if letter.isprintable() else "?" for letter in pathlib.Path(name).name[:30])
+            print(f"\r\x1b[K[{bar:<30}] {self.done} of {self.count} {shown}", end="", file=sys.stderr, flush=True)
+
+    def step(self):
+        """Counts one more."""
+        self.done += 1
+
+    def end(self):
+        """Takes the bar away."""
+        if self.shows:
+            print("\r\x1b[K", end="", file=sys.stderr, flush=True)
+
+
+def encode_each(options, progress):
+    """Writes each picture as a PNG with a table of its own."""
+    for name, target in zip(options.files, options.targets):
+        progress.show(name)
+        picture = files.read(name, options.ground)
+        colors = table.of_pictures([picture], options.colors)
+        files.write_png(target, table.indexed(picture, colors, options.dithers), colors)
+        progress.step()
+
+
+def encode_all(options, progress):
+    """Writes all pictures as frames of one GIF: they are read for its table, and then become indices."""
+    pictures = []
+    for name in options.files:
+        progress.show(name)
+        pictures.append(files.read(name, options.ground))
+        progress.step()
+    pictures = files.of_one_size(pictures)
+    colors = table.of_pictures(pictures, options.colors)
+    frames = []
+    for name, picture in zip(options.files, pictures):
+        progress.show(name)
+        frames.append(table.indexed(picture, colors, options.dithers))
+        progress.step()
+    files.write_gif(options.gif, frames, colors, options.delay)
+
+
+def main(words):
+    """Does what the words say, and returns the status."""
+    progress = Progress(1)
+    try:
+        if "--help" in words:
+            print(__doc__, end="", flush=True)
+            return 0
+        options = Options(words)
+        progress = Progress(len(options.files) * (2 if options.gif else 1))
+        (encode_all if options.gif else encode_each)(options, progress)
+        progress.end()
+    except UsageError as error:
+        print(f"encode.py: {error}\nencode.py: try encode.py --help", file=sys.stderr)
+        return 2
+    except (OSError, files.PictureError) as error:
+        progress.end()
+        print(f"encode.py: {error}", file=sys.stderr)
+        return 1
+    except KeyboardInterrupt:
+        progress.end()
+        return 130
+    return 0
+
+
+if __name__ == "__main__":
+    sys.exit(main(sys.argv[1:]))

@@ -1,0 +1,115 @@
+"""Pictures in files: read by Pillow, composited in linear light by pix, and written as PNG or, by Pillow, as GIF."""
+
+import io
+import struct
+import zlib
+
+import PIL.Image
+import PIL.ImageOps
+import pix
+
+# The longest side of a GIF.
+GIF_SIDE = 65535
+
+
+class PictureError(Exception):
+    """A file has no picture that can be read, or can't be written."""
+
+
+class Picture:
+    """Pixels of red, green, blue and alpha in sRGB, a byte each, in rows without gaps; `size` is the width and the height."""
+
+    def __init__(self, size, pixels):
+        self.size, self.pixels = size, pixels
+
+    @property
+    def region(self):
+        """All of the picture."""
+        return (0, 0, *self.size)
+
+
+def pixels_of(picture):
+    """Returns the bytes of a picture of Pillow. Of a gray of 16 bits, which Pillow would cut off at 255, the upper eight count."""
+    if picture.mode == "I" or picture.mode.startswith("I;16"):
+        return pix.convert_bitmap(pix.Format.GRAY16, picture.convert("I;16").tobytes(), pix.Format.RGBA8, size=picture.size)
+    return picture.convert("RGBA").tobytes()
+
+
+def read(name, ground=None):
+    """Returns the picture of a file, the first one of several, the right way up; over a color of sRGB where one is given."""
+    try:
+        with PIL.Image.open(name) as file:
+            upright = PIL.ImageOps.exif_transpose(file)
+            picture = Picture(upright.size, bytes(pixels_of(upright)))
+    except PIL.UnidentifiedImageError:
+        raise PictureError(f"{name}: Pillow knows no such picture") from None
+    except OSError as error:
+        raise PictureError(f"{name}: {error.strerror or error}") from None
+    except (SyntaxError, ValueError, MemoryError, PIL.Image.DecompressionBombError) as error:
+        raise PictureError(f"{name}: {error}") from None
+    if 0 in picture.size:
+        raise PictureError(f"{name}: it has no pixels")
+    return picture if ground is None else over(picture, ground)
+
+
+def over(picture, color):
+    """Returns a picture composited over a color, in light of 16 bits."""
+    light = pix.Image.from_array(picture.pixels, pix.SRGBA8, size=picture.size)
+    ground = pix.Image.new(*picture.size, pix.RGBA16)
+    ground.run(pix.copy_color(picture.region, pix.color_of(pix.SRGB8, color)), pix.composite_image(picture.region, light))
+    return Picture(picture.size, bytes(ground.to_array(pix.SRGBA8)))
+
+
+def of_one_size(pictures):
+    """Returns the pictures in the middle of clear ones, all as wide as the widest and as high as the highest."""
+    width, height = (max(sides) for sides in zip(*(it.size for it in pictures)))
+
+    def middle(picture):
+        left, top = (width - picture.size[0]) // 2, (height - picture.size[1]) // 2
+        sheet = pix.Image.new(width, height)
+        sheet.run(pix.copy_image((left, top, *picture.size), pix.Image(picture.pixels, *picture.size)))
+        return Picture((width, height), bytes(sheet.pixels))
+
+    return [it if it.size == (width, height) else middle(it) for it in pictures]
+
+
+def write(name, data):
+    """Writes a file, once all of it is there."""
+    try:
+        with open(name, "wb") as file:
+            file.write(data)
+    except OSError as error:
+        raise PictureError(f"{name}: {error.strerror}") from None
+
+
+def chunk(kind, data):
+    """Returns a part of a PNG file."""
+    return struct.pack(">I", len(data)) + kind + data + struct.pack(">I", zlib.crc32(kind + data))
+
+
+def write_png(name, frame, table):
+    """Writes an indexed PNG, of as few of 1, 2, 4 or 8 bits a pixel as the table needs."""
+    (width, height), count = frame.size, len(table.entries) // 3
+    bits = next(bits for bits in (1, 2, 4, 8) if count <= 2**bits)
+    # Each row of indices is packed, and has no filter.
+    rows = [b"\0" + pix.pack_row(bits, frame.indices[width * y : width * (y + 1)]) for y in range(height)]
+    alphas = b"" if table.clear is None else b"\xff" * table.clear + b"\0"
+    parts = [(b"IHDR", struct.pack(">IIBBBBB", width, height, bits, 3, 0, 0, 0)), (b"sRGB", b"\0"), (b"PLTE", table.entries)]
+    parts += [(b"tRNS", alphas)] if alphas else []
+    parts += [(b"IDAT", zlib.compress(b"".join(rows), 9)), (b"IEND", b"")]
+    write(name, b"\x89PNG\r\n\x1a\n" + b"".join(chunk(*part) for part in parts))
+
+
+def write_gif(name, frames, table, delay):
+    """Writes a GIF with one table of colors: without `palette`, Pillow gives each frame one of its own."""
+    if max(frames[0].size) > GIF_SIDE:
+        raise PictureError(f"{name}: a GIF has sides of at most {GIF_SIDE} pixels")
+    data, pictures = io.BytesIO(), []
+    for frame in frames:
+        pictures.append(PIL.Image.frombytes("P", frame.size, bytes(frame.indices)))
+        pictures[-1].putpalette(table.entries)
+    options = {"save_all": True, "append_images": pictures[1:], "duration": delay, "loop": 0, "optimize": False, "interlace": False}
+    if table.clear is not None:
+        options["transparency"] = table.clear
+    pictures[0].save(data, "GIF", palette=bytes(table.entries), disposal=2, **options)
+    write(name, data.getbuffer())

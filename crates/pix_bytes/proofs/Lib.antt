@@ -1,0 +1,8 @@
+-- The files of lemmas. Answers, invariants and proofs of a function are found by its path.
+pub mod Fours
+pub mod Steps
+pub mod ModelsByName
+pub mod Parts
+pub mod Table
+pub mod Bitmaps
+pub mod Crossings

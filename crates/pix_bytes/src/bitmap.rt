@@ -1,0 +1,107 @@
+//! Bitmaps: images of bytes in any format, whose rows lie a stride apart.
+ghost use Rattle.std.specs.Prelude.{◌≡◌, ◌≢◌, ◌*◌, length, Some, slice_get, true};
+ghost use Rattle.pix_bytes.specs.Bitmap.{IsBitmapOf, bitmap_status, is_held};
+ghost use Rattle.pix_bytes.specs.Rows.{stored_of, is_sound};
+ghost use Rattle.pix_bytes.specs.Stored.{StoredFormat, pixel_size, pixel_size_of, stored_formats};
+
+use crate::bitmap::cross::cross_row;
+use crate::bitmap::format::Stored;
+use crate::bitmap::rows::Lines;
+
+mod cross;
+mod format;
+mod four;
+mod model;
+mod rows;
+mod sample;
+mod way;
+
+/// All pixels are written.
+const DONE: u32 = 0;
+
+/// The bitmap isn't held in its bytes.
+const BAD_SIZE: u32 = 1;
+
+/// The source isn't held in its bytes.
+const BAD_SOURCE: u32 = 5;
+
+/// There is no format of such a number.
+const BAD_FORMAT: u32 = 6;
+
+/// Returns how many bytes a pixel of the format of a number has, and 0 where there is no such format.
+pub fn pixel_size(number: u32) -> u32
+    ensures { result ≡ pixel_size_of number }
+{
+    match Stored::from_number(number) {
+        Some(stored) => stored.size() as u32,
+        None => 0,
+    }
+}
+
+/// Writes a bitmap from another, `src`, of the same size: each pixel in the format of number `to` in place of `from`.
+///
+/// Rows lie a stride of bytes apart, from top to bottom, and where it is negative from bottom to top: then the bytes begin with the last row.
+/// Returns 0 when all pixels are written. Else nothing is, and the status is 6 where a format is missing, 1 where `dst` doesn't hold the
+/// rows, or they would share bytes, and 5 where `src` doesn't.
+pub fn convert_bitmap(
+    from: u32,
+    to: u32,
+    src: &[u8],
+    dst: &mut [u8],
+    src_stride: i64,
+    dst_stride: i64,
+    width: u32,
+    height: u32,
+) -> u32
+    ensures status { result ≡ bitmap_status from to width height src_stride dst_stride
+        (length src.now) (length dst.old) }
+    ensures refused { result ≢ 0 → dst.new ≡ dst.old }
+    ensures done { (format target : StoredFormat) → slice_get stored_formats from ≡ Some format
+        → slice_get stored_formats to ≡ Some target → result ≡ 0
+        → IsBitmapOf format target width height src_stride dst_stride src.now dst.old dst.new }
+{
+    let (Some(from), Some(to)) = (Stored::from_number(from), Stored::from_number(to)) else {
+        return BAD_FORMAT;
+    };
+    let src_lines = Lines { stride: src_stride };
+    let dst_lines = Lines { stride: dst_stride };
+    let (wide, to_wide) = (width as usize * from.size(), width as usize * to.size());
+    if !dst_lines.is_held(width, height, to_wide, dst.len()) {
+        return BAD_SIZE;
+    }
+    if !src_lines.is_held(width, height, wide, src.len()) {
+        return BAD_SOURCE;
+    }
+    let (width, height) = (width as usize, height as usize);
+    cross_rows(from, to, src, dst, src_lines, dst_lines, width, height);
+    DONE
+}
+
+/// Writes each row. Condition: both bitmaps are held in their bytes.
+fn cross_rows(
+    from: Stored,
+    to: Stored,
+    src: &[u8],
+    dst: &mut [u8],
+    src_lines: Lines,
+    dst_lines: Lines,
+    width: usize,
+    height: usize,
+)
+    requires sound { is_sound from ≡ true }
+    requires to_sound { is_sound to ≡ true }
+    requires src { is_held width height (width * pixel_size (stored_of from)) src_lines.stride
+        (length src.now) ≡ true }
+    requires dst { is_held width height (width * pixel_size (stored_of to)) dst_lines.stride
+        (length dst.old) ≡ true }
+    ensures { IsBitmapOf (stored_of from) (stored_of to) width height src_lines.stride dst_lines.stride
+        src.now dst.old dst.new }
+{
+    let (wide, to_wide) = (width * from.size(), width * to.size());
+    for y in 0..height {
+        let start = src_lines.row_start(height, y);
+        let row = &src[start..start + wide];
+        let start = dst_lines.row_start(height, y);
+        cross_row(from, to, row, &mut dst[start..start + to_wide], width);
+    }
+}

@@ -1,0 +1,161 @@
+//! Rows of pixels that go from one format to another, where both are known when a program runs.
+ghost use Rattle.std.specs.Prelude.{◌≡◌, ◌+◌, ◌*◌, length, true};
+ghost use Rattle.pix_bytes.specs.Bitmap.{IsCrossed};
+ghost use Rattle.pix_bytes.specs.Rows.{IsEach, format_at, stored_of, is_sound};
+ghost use Rattle.pix_bytes.specs.declared.bitmap.format.Depth.{Depth};
+ghost use Rattle.pix_bytes.specs.Stored.{sample_size, pixel_size};
+
+use crate::bitmap::format::Depth::{Linear8, Linear16, Srgb8};
+use crate::bitmap::format::Stored;
+use crate::bitmap::four::{read_four, write_four};
+use crate::bitmap::sample::Sample;
+use crate::bitmap::way::{Converted, IntoLight, OutOfLight, Way};
+use pix_chan::chan::{Ch8, Ch16, Linear, Srgb};
+
+/// Writes each pixel of `src` to the place of its index in `dst`, in the other format.
+///
+/// Condition: there are `count` in both.
+#[inline(always)]
+fn cross_pixels<C: Sample, D: Sample, W: Way<C, D>>(
+    way: &W,
+    from: Stored,
+    to: Stored,
+    src: &[u8],
+    dst: &mut [u8],
+    count: usize,
+)
+    requires sound { is_sound from ≡ true }
+    requires to_sound { is_sound to ≡ true }
+    requires src { length src.now ≡ count * ((from.count + from.spare) * sample_size C.max) }
+    requires dst { length dst.old ≡ count * ((to.count + to.spare) * sample_size D.max) }
+    ensures { IsEach C.max D.max from.count (to.count + to.spare)
+        ((from.count + from.spare) * sample_size C.max) ((to.count + to.spare) * sample_size D.max)
+        (W.makes (format_at C.max from) (format_at D.max to)) src.now dst.new count }
+{
+    let size = (from.count + from.spare) * C::size();
+    let to_size = (to.count + to.spare) * D::size();
+    cross_each(way, from, to, size, to_size, src, dst, count);
+}
+
+/// Does what [`cross_pixels`] does, where a pixel has `size` bytes, and `to_size` of them in the other format.
+#[inline(always)]
+fn cross_each<C: Sample, D: Sample, W: Way<C, D>>(
+    way: &W,
+    from: Stored,
+    to: Stored,
+    size: usize,
+    to_size: usize,
+    src: &[u8],
+    dst: &mut [u8],
+    count: usize,
+)
+    requires sound { is_sound from ≡ true }
+    requires to_sound { is_sound to ≡ true }
+    requires size { size ≡ (from.count + from.spare) * sample_size C.max }
+    requires to_size { to_size ≡ (to.count + to.spare) * sample_size D.max }
+    requires src { length src.now ≡ count * size }
+    requires dst { length dst.old ≡ count * to_size }
+    ensures { IsEach C.max D.max from.count (to.count + to.spare) size to_size
+        (W.makes (format_at C.max from) (format_at D.max to)) src.now dst.new count }
+{
+    for index in 0..count {
+        let start = index * size;
+        let pixel = read_four::<C>(&src[start..start + size], from.count);
+        let made = way.go(from, to, pixel);
+        let start = index * to_size;
+        write_four(made, &mut dst[start..start + to_size], to.count, to.spare);
+    }
+}
+
+/// Writes each pixel of `src` to the place of its index in `dst`, in the other format: between sRGB of 8 bits and channels of 16 bits through
+/// light, and else as [`Pixel::convert`](pix_el::el::Pixel::convert) does.
+///
+/// Condition: there are `count` in both.
+pub(crate) fn cross_row(from: Stored, to: Stored, src: &[u8], dst: &mut [u8], count: usize)
+    requires sound { is_sound from ≡ true }
+    requires to_sound { is_sound to ≡ true }
+    requires src { length src.now ≡ count * pixel_size (stored_of from) }
+    requires dst { length dst.old ≡ count * pixel_size (stored_of to) }
+    ensures { IsCrossed (stored_of from) (stored_of to) count src.now dst.new }
+{
+    match from.depth {
+        Srgb8 => cross_srgb8(from, to, src, dst, count),
+        Linear8 => cross_linear8(from, to, src, dst, count),
+        Linear16 => cross_linear16(from, to, src, dst, count),
+    }
+}
+
+/// Does what [`cross_row`] does from sRGB of 8 bits.
+///
+/// Condition: `from` has such channels, and there are `count` pixels in both.
+fn cross_srgb8(from: Stored, to: Stored, src: &[u8], dst: &mut [u8], count: usize)
+    requires depth { from.depth ≡ Depth.Srgb8 }
+    requires sound { is_sound from ≡ true }
+    requires to_sound { is_sound to ≡ true }
+    requires src { length src.now ≡ count * pixel_size (stored_of from) }
+    requires dst { length dst.old ≡ count * pixel_size (stored_of to) }
+    ensures { IsCrossed (stored_of from) (stored_of to) count src.now dst.new }
+{
+    match to.depth {
+        Srgb8 => {
+            let way = Converted::<Srgb, Srgb>::new();
+            cross_pixels::<Ch8, Ch8, _>(&way, from, to, src, dst, count);
+        }
+        Linear8 => {
+            let way = Converted::<Srgb, Linear>::new();
+            cross_pixels::<Ch8, Ch8, _>(&way, from, to, src, dst, count);
+        }
+        Linear16 => cross_pixels::<Ch8, Ch16, _>(&IntoLight, from, to, src, dst, count),
+    }
+}
+
+/// Does what [`cross_row`] does from linear channels of 8 bits.
+///
+/// Condition: `from` has such channels, and there are `count` pixels in both.
+fn cross_linear8(from: Stored, to: Stored, src: &[u8], dst: &mut [u8], count: usize)
+    requires depth { from.depth ≡ Depth.Linear8 }
+    requires sound { is_sound from ≡ true }
+    requires to_sound { is_sound to ≡ true }
+    requires src { length src.now ≡ count * pixel_size (stored_of from) }
+    requires dst { length dst.old ≡ count * pixel_size (stored_of to) }
+    ensures { IsCrossed (stored_of from) (stored_of to) count src.now dst.new }
+{
+    match to.depth {
+        Srgb8 => {
+            let way = Converted::<Linear, Srgb>::new();
+            cross_pixels::<Ch8, Ch8, _>(&way, from, to, src, dst, count);
+        }
+        Linear8 => {
+            let way = Converted::<Linear, Linear>::new();
+            cross_pixels::<Ch8, Ch8, _>(&way, from, to, src, dst, count);
+        }
+        Linear16 => {
+            let way = Converted::<Linear, Linear>::new();
+            cross_pixels::<Ch8, Ch16, _>(&way, from, to, src, dst, count);
+        }
+    }
+}
+
+/// Does what [`cross_row`] does from channels of 16 bits.
+///
+/// Condition: `from` has such channels, and there are `count` pixels in both.
+fn cross_linear16(from: Stored, to: Stored, src: &[u8], dst: &mut [u8], count: usize)
+    requires depth { from.depth ≡ Depth.Linear16 }
+    requires sound { is_sound from ≡ true }
+    requires to_sound { is_sound to ≡ true }
+    requires src { length src.now ≡ count * pixel_size (stored_of from) }
+    requires dst { length dst.old ≡ count * pixel_size (stored_of to) }
+    ensures { IsCrossed (stored_of from) (stored_of to) count src.now dst.new }
+{
+    match to.depth {
+        Srgb8 => cross_pixels::<Ch16, Ch8, _>(&OutOfLight, from, to, src, dst, count),
+        Linear8 => {
+            let way = Converted::<Linear, Linear>::new();
+            cross_pixels::<Ch16, Ch8, _>(&way, from, to, src, dst, count);
+        }
+        Linear16 => {
+            let way = Converted::<Linear, Linear>::new();
+            cross_pixels::<Ch16, Ch16, _>(&way, from, to, src, dst, count);
+        }
+    }
+}

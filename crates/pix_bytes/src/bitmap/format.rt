@@ -1,0 +1,172 @@
+//! The formats of bitmaps, by number.
+ghost use Rattle.std.specs.Prelude.{◌≡◌, slice_get, unwrap_or, Some, true};
+ghost use Rattle.std.specs.Option.{option_map};
+ghost use Rattle.pix_bytes.specs.Stored.{stored_formats, sample_size, pixel_size};
+ghost use Rattle.pix_bytes.specs.Rows.{max_of, stored_of, is_sound};
+ghost use Rattle.pix_bytes.specs.Table.{first_line};
+
+use crate::bitmap::model::ModelName::{
+    self, Bgr, Cmy, Gray, Hsl, Hsv, Hwb, Matte, Rgb, Xyz, YCbCr,
+};
+use Depth::{Linear8, Linear16, Srgb8};
+
+/// How a channel is stored: of 8 bits, encoded by the sRGB curve or linear, or linear of 16 bits.
+#[derive(Clone, Copy)]
+pub(crate) enum Depth {
+    Srgb8,
+    Linear8,
+    Linear16,
+}
+
+/// A format of pixels in bytes.
+#[derive(Clone, Copy)]
+pub(crate) struct Stored {
+    /// The color model.
+    pub model: ModelName,
+    /// How many channels a pixel has.
+    pub count: usize,
+    /// Whether the colors are multiplied by the alpha.
+    pub is_premultiplied: bool,
+    /// How a channel is stored.
+    pub depth: Depth,
+    /// How many samples stand behind the channels.
+    pub spare: usize,
+}
+
+/// A line of the table of formats: the fields of [`Stored`] in their order.
+#[derive(Clone, Copy)]
+struct Line(ModelName, usize, bool, Depth, usize);
+
+/// The formats in the order of their numbers.
+const FORMATS: [Line; 81] = [
+    Line(Rgb, 4, false, Srgb8, 0),
+    Line(Rgb, 4, true, Srgb8, 0),
+    Line(Rgb, 4, false, Linear8, 0),
+    Line(Rgb, 4, true, Linear8, 0),
+    Line(Bgr, 4, false, Linear8, 0),
+    Line(Bgr, 4, true, Linear8, 0),
+    Line(Rgb, 3, false, Linear8, 0),
+    Line(Gray, 1, false, Linear8, 0),
+    Line(Bgr, 4, false, Srgb8, 0),
+    Line(Bgr, 4, true, Srgb8, 0),
+    Line(Rgb, 3, false, Srgb8, 0),
+    Line(Gray, 1, false, Srgb8, 0),
+    Line(Rgb, 4, false, Linear16, 0),
+    Line(Rgb, 4, true, Linear16, 0),
+    Line(Rgb, 3, false, Linear16, 0),
+    Line(Bgr, 4, false, Linear16, 0),
+    Line(Bgr, 4, true, Linear16, 0),
+    Line(Bgr, 3, false, Linear16, 0),
+    Line(Bgr, 3, false, Linear8, 0),
+    Line(Bgr, 3, false, Srgb8, 0),
+    Line(Gray, 2, false, Linear8, 0),
+    Line(Gray, 2, true, Linear8, 0),
+    Line(Gray, 2, false, Srgb8, 0),
+    Line(Gray, 2, true, Srgb8, 0),
+    Line(Gray, 1, false, Linear16, 0),
+    Line(Gray, 2, false, Linear16, 0),
+    Line(Gray, 2, true, Linear16, 0),
+    Line(Matte, 1, true, Linear8, 0),
+    Line(Matte, 1, true, Linear16, 0),
+    Line(Cmy, 3, false, Linear8, 0),
+    Line(Cmy, 4, false, Linear8, 0),
+    Line(Cmy, 4, true, Linear8, 0),
+    Line(Cmy, 3, false, Linear16, 0),
+    Line(Cmy, 4, false, Linear16, 0),
+    Line(Cmy, 4, true, Linear16, 0),
+    Line(Cmy, 3, false, Srgb8, 0),
+    Line(Cmy, 4, false, Srgb8, 0),
+    Line(Cmy, 4, true, Srgb8, 0),
+    Line(Hsv, 3, false, Linear8, 0),
+    Line(Hsv, 4, false, Linear8, 0),
+    Line(Hsv, 4, true, Linear8, 0),
+    Line(Hsv, 3, false, Linear16, 0),
+    Line(Hsv, 4, false, Linear16, 0),
+    Line(Hsv, 4, true, Linear16, 0),
+    Line(Hsv, 3, false, Srgb8, 0),
+    Line(Hsv, 4, false, Srgb8, 0),
+    Line(Hsv, 4, true, Srgb8, 0),
+    Line(Hsl, 3, false, Linear8, 0),
+    Line(Hsl, 4, false, Linear8, 0),
+    Line(Hsl, 4, true, Linear8, 0),
+    Line(Hsl, 3, false, Linear16, 0),
+    Line(Hsl, 4, false, Linear16, 0),
+    Line(Hsl, 4, true, Linear16, 0),
+    Line(Hsl, 3, false, Srgb8, 0),
+    Line(Hsl, 4, false, Srgb8, 0),
+    Line(Hsl, 4, true, Srgb8, 0),
+    Line(Hwb, 3, false, Linear8, 0),
+    Line(Hwb, 4, false, Linear8, 0),
+    Line(Hwb, 4, true, Linear8, 0),
+    Line(Hwb, 3, false, Linear16, 0),
+    Line(Hwb, 4, false, Linear16, 0),
+    Line(Hwb, 4, true, Linear16, 0),
+    Line(Hwb, 3, false, Srgb8, 0),
+    Line(Hwb, 4, false, Srgb8, 0),
+    Line(Hwb, 4, true, Srgb8, 0),
+    Line(YCbCr, 3, false, Linear8, 0),
+    Line(YCbCr, 4, false, Linear8, 0),
+    Line(YCbCr, 4, true, Linear8, 0),
+    Line(YCbCr, 3, false, Linear16, 0),
+    Line(YCbCr, 4, false, Linear16, 0),
+    Line(YCbCr, 4, true, Linear16, 0),
+    Line(Xyz, 3, false, Linear8, 0),
+    Line(Xyz, 4, false, Linear8, 0),
+    Line(Xyz, 4, true, Linear8, 0),
+    Line(Xyz, 3, false, Linear16, 0),
+    Line(Xyz, 4, false, Linear16, 0),
+    Line(Xyz, 4, true, Linear16, 0),
+    Line(Rgb, 3, false, Srgb8, 1),
+    Line(Bgr, 3, false, Srgb8, 1),
+    Line(Rgb, 3, false, Linear8, 1),
+    Line(Bgr, 3, false, Linear8, 1),
+];
+
+/// Returns the line of the table for a number, and the first one where there is none.
+fn line_or_first(number: u32) -> Line
+    ensures { result ≡ unwrap_or (slice_get FORMATS number) first_line }
+{
+    let first = Line(Rgb, 4, false, Srgb8, 0);
+    FORMATS.get(number as usize).copied().unwrap_or(first)
+}
+
+impl Depth {
+    /// Returns how many bytes a sample has.
+    fn size(self) -> usize
+        ensures { result ≡ sample_size (max_of self) }
+    {
+        match self {
+            Srgb8 | Linear8 => 1,
+            Linear16 => 2,
+        }
+    }
+}
+
+impl Stored {
+    /// Returns the format of a number, if there is one.
+    pub(crate) fn from_number(number: u32) -> Option<Stored>
+        ensures value { option_map stored_of result ≡ slice_get stored_formats number }
+        ensures sound { (stored : Stored) → result ≡ Some stored → is_sound stored ≡ true }
+    {
+        if number < 81 {
+            let row = line_or_first(number);
+            Some(Stored {
+                model: row.0,
+                count: row.1,
+                is_premultiplied: row.2,
+                depth: row.3,
+                spare: row.4,
+            })
+        } else {
+            None
+        }
+    }
+
+    /// Returns how many bytes a pixel has. Condition: it has at most four samples.
+    pub(crate) fn size(self) -> usize
+        requires { is_sound self ≡ true }
+        ensures { result ≡ pixel_size (stored_of self) }
+    {
+        (self.count + self.spare) * self.depth.size()
+    }
+}
