@@ -111,8 +111,8 @@ def table_from(
     count = _count(source, size)
     if not 0 < most <= 256:
         raise PixError(Status.BAD_TABLE)
-    entries, work, made = bytearray(3 * most), bytearray(3 * count), ctypes.c_size_t()
-    target, room = _read(entries), _read(work)
+    entries, made = bytearray(3 * most), ctypes.c_size_t()
+    target, room = _read(entries), _read(bytearray(3 * count))
     with calls.turn(target, [source]):
         library = libraries[count > LONG]
         written = (room.address, count, target.address, most, ctypes.byref(made))
@@ -151,9 +151,8 @@ def diffuse_indexed(
     if indices is None:
         indices = bytearray(count)
     target = _written(indices, entries, source)
-    work = bytearray(3 * 4 * across if count else 12 * min(across, 1))
-    across = across if count else 1
-    room = _read(work)
+    across = min(across, count) or 1  # a picture of no pixels may have rows of any width
+    room = _read(bytearray(3 * 4 * across))
     with calls.turn(target, [entries, source]):
         library = libraries[count > LONG]
         read = (entries.address, entry_count, source.address, count, across)
