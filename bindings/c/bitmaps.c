@@ -198,12 +198,50 @@ static void colors(void) {
     insist(!pix_color_of_rgba16(PIX_FORMAT_SRGBA8, NULL).a, "no color");
 }
 
+/* A pattern, beside the pixel that stands at each point's place in it. */
+static void patterns(void) {
+    enum { WIDE = 23, HIGH = 17 };
+    static pix_rgba8 pixels[WIDE * HIGH], tile[6 * 5];
+    static pix_command list[WIDE * HIGH];
+    for (int i = 0; i < 30; i++)
+        tile[i] = pix_rgba8_of((uint8_t)(8 * i), 0, 0, 255);
+    for (int i = 0; i < 2000; i++) {
+        const pix_region to = pix_region_of((int32_t)below(40) - 20, (int32_t)below(40) - 20, below(30), below(30));
+        const pix_region from = pix_region_of((int32_t)below(4), (int32_t)below(3), below(3), below(3));
+        const pix_source source = pix_source_of(tile, 6, 5);
+        const uint64_t count = pix_repeat_image(NULL, 0, to, source, from, PIX_OP_SRC_OVER);
+        insist(count <= 900 && count == (from.width && from.height
+                                             ? (uint64_t)((to.width + from.width - 1) / from.width)
+                                                   * ((to.height + from.height - 1) / from.height)
+                                             : 0),
+               "the count of a pattern");
+        memset(pixels, 0, sizeof pixels);
+        list[0] = pix_clear();
+        insist(count > WIDE * HIGH || pix_repeat_image(list, count, to, source, from, PIX_OP_SRC_OVER) == count, "a pattern");
+        if (count > WIDE * HIGH)
+            continue;
+        insist(pix_run(pix_image_of(pixels, WIDE, HIGH), list, (size_t)count, NULL) == PIX_OK, "a pattern is refused");
+        for (int32_t y = 0; y < HIGH; y++)
+            for (int32_t x = 0; x < WIDE; x++) {
+                const int64_t column = (int64_t)x - to.x, row = (int64_t)y - to.y;
+                const int is_painted = count && column >= 0 && column < to.width && row >= 0 && row < to.height;
+                const pix_rgba8 wanted = is_painted ? tile[(from.y + row % from.height) * 6 + from.x + column % from.width]
+                                                    : pix_rgba8_of(0, 0, 0, 0);
+                insist(!memcmp(&pixels[y * WIDE + x], &wanted, sizeof wanted), "a pixel of a pattern");
+            }
+    }
+    const pix_region far = pix_region_of(INT32_MAX - 1, INT32_MIN, INT32_MAX, 7), one = pix_region_of(0, 0, 1, 3);
+    insist(pix_repeat_image(list, 1, far, pix_source_of(tile, 6, 5), one, PIX_OP_PLUS) == 6, "a pattern at the greatest place");
+    insist(list[0].to.x == INT32_MAX - 1 && list[0].to.y == INT32_MIN && list[0].to.width == 1, "its first copy");
+}
+
 int main(int argc, char **argv) {
     unsigned long count = argc > 1 ? strtoul(argv[1], NULL, 10) : 20000;
     seed = argc > 2 ? strtoull(argv[2], NULL, 10) : 1;
     refusals();
     parts();
     colors();
+    patterns();
     comes_back(PIX_FORMAT_SRGBA8, 4);
     comes_back(PIX_FORMAT_SBGRA8, 4);
     comes_back(PIX_FORMAT_SRGB8, 3);

@@ -380,6 +380,12 @@ static inline pix_image_rgba16 pix_part_of_rgba16(pix_image_rgba16 image, pix_re
 static inline pix_image_graya8 pix_part_of_graya8(pix_image_graya8 image, pix_region region);
 static inline pix_bitmap pix_part_of_bitmap(pix_bitmap image, pix_region region);
 
+/* A pattern: writes the commands that composite the region `from` of a source over all of `to`, side by side from its upper
+ * left corner on and cut at its other sides, row by row. It writes the first `room` of them, and answers how many there are:
+ * `commands` may be null where `room` is 0. A copy that begins past 2147483647 is in no image, and left out. */
+static inline uint64_t pix_repeat_image(pix_command *commands, uint64_t room, pix_region to, pix_source source,
+                                        pix_region from, pix_op op);
+
 /* ---- Tables of colors, for images of indices ----
  *
  * Colors here are as files of indexed images hold them: sRGB, and not multiplied by an alpha. The bytes of pix_srgb8 are those of
@@ -484,8 +490,8 @@ typedef struct {
 /* pix_image_of_rgba16, pix_source_of_rgba16, pix_source_of_image_rgba16, pix_clear_rgba16, pix_copy_color_rgba16,
  * pix_copy_image_rgba16, pix_composite_color_rgba16, pix_composite_image_rgba16, pix_composite_matte_rgba16 and
  * pix_composite_image_matte_rgba16 (through a pix_matte16), pix_composite_image_alpha_rgba16 (at a uint16_t),
- * pix_run_rgba16, pix_run_in_rgba16, pix_do_rgba16; and the same with _graya8 (through a pix_matte, at a uint8_t). They
- * are defined below together with those above. */
+ * pix_run_rgba16, pix_run_in_rgba16, pix_do_rgba16, pix_repeat_image_rgba16; and the same with _graya8 (through a
+ * pix_matte, at a uint8_t). They are defined below together with those above. */
 
 /* ---- What libpix_c.a has ----
  *
@@ -920,6 +926,19 @@ static inline void pix_cut_(int32_t start, uint32_t length, uint32_t limit, uint
     *first = *count ? (uint32_t)begin : 0;
 }
 
+/* How many copies of a length begin in an interval, and no further than the greatest coordinate. */
+static inline uint64_t pix_copies_(int32_t start, uint32_t length, uint32_t each) {
+    const uint64_t left = (uint64_t)((int64_t)INT32_MAX - start + 1), held = length < left ? length : left;
+    return each ? (held + each - 1) / each : 0;
+}
+
+/* The region of a copy of a pattern. */
+static inline pix_region pix_copy_of_(pix_region to, uint32_t width, uint32_t height, uint64_t column, uint64_t row) {
+    const uint64_t x = column * width, y = row * height, wide = to.width - x, high = to.height - y;
+    return pix_region_of((int32_t)(to.x + (int64_t)x), (int32_t)(to.y + (int64_t)y), wide < width ? (uint32_t)wide : width,
+                         high < height ? (uint32_t)high : height);
+}
+
 #define PIX_PARTS_(S, PIXEL, FORMAT)                                                                                   \
     static inline pix_bitmap pix_bitmap_of_image##S(pix_image##S image) {                                              \
         pix_bitmap same = {image.pixels, image.width, image.height, 0, FORMAT};                                        \
@@ -941,6 +960,16 @@ static inline void pix_cut_(int32_t start, uint32_t length, uint32_t limit, uint
         memset(&color, 0, sizeof color);                                                                               \
         pix_convert_bitmap(pix_bitmap_source_of(pixel, 1, 1, format), pix_bitmap_of(&color, 1, 1, FORMAT));            \
         return color;                                                                                                  \
+    }                                                                                                                  \
+    static inline uint64_t pix_repeat_image##S(pix_command##S *commands, uint64_t room, pix_region to,                 \
+                                               pix_source##S source, pix_region from, pix_op op) {                     \
+        const uint64_t columns = pix_copies_(to.x, to.width, from.width);                                              \
+        const uint64_t count = columns * pix_copies_(to.y, to.height, from.height);                                    \
+        uint64_t i;                                                                                                    \
+        for (i = 0; i < count && i < room; i++)                                                                        \
+            commands[i] = pix_composite_image##S(                                                                      \
+                pix_copy_of_(to, from.width, from.height, i % columns, i / columns), source, from, op);                \
+        return count;                                                                                                  \
     }
 PIX_PARTS_(, pix_rgba8, PIX_FORMAT_RGBA8P)
 PIX_PARTS_(_rgba16, pix_rgba16, PIX_FORMAT_RGBA16P)

@@ -115,7 +115,43 @@ class Bitmaps(unittest.TestCase):
             pix.Image.from_array(memoryview(image).cast("B", (2, 2, 4)), Format.RGBA16P)
         with self.assertRaises(TypeError):
             pix.Image.from_array(memoryview(image).cast("B", (2, 2, 4)), pix.SRGB8)
+        with self.assertRaises(ValueError):
+            pix.Image.from_array(memoryview(image).cast("B", (2, 2, 4)), 81)
+        for size in ((2**31, 1), (1, 2**31)):
+            with self.assertRaises(PixError) as refused:
+                pix.convert_bitmap(pix.SRGBA8, picture, pix.SRGBA8, image, size)
+            self.assertEqual(refused.exception.status, Status.BAD_SIZE)
+        for size in ((-1, 2), (2**32, 0)):
+            with self.assertRaises(ValueError):
+                pix.convert_bitmap(pix.SRGBA8, picture, pix.SRGBA8, image, size)
         self.assertEqual(image, bytes(16))
+
+
+class Patterns(unittest.TestCase):
+    def test_each_pixel_stands_at_its_place(self):
+        tile = bytes(channel for i in range(30) for channel in (8 * i, 0, 0, 255))
+        source = pix.Image(tile, 6, 5)
+        regions = [(-3, -5, 20, 18, 2, 3), (4, 2, 7, 8, 3, 3), (30, 0, 5, 5, 1, 1), (0, 0, 9, 9, 0, 2), (0, 0, 0, 9, 2, 2)]
+        for x, y, width, height, wide, high in regions:
+            image = pix.Image.new(15, 11)
+            image.run(*pix.repeat_image((x, y, width, height), source, (1, 2, wide, high)))
+            for row in range(11):
+                for column in range(15):
+                    wanted = bytes(4)
+                    if wide * high and 0 <= column - x < width and 0 <= row - y < height:
+                        place = (2 + (row - y) % high) * 6 + 1 + (column - x) % wide
+                        wanted = tile[4 * place : 4 * place + 4]
+                    place = 4 * (row * 15 + column)
+                    self.assertEqual(bytes(image.pixels[place : place + 4]), wanted, (x, y, column, row))
+
+    def test_ends(self):
+        source = pix.Image(bytes(4 * 30), 6, 5)
+        self.assertEqual(len(pix.repeat_image((0, 0, 13, 11), source)), 9)
+        self.assertEqual(len(pix.repeat_image((2**31 - 2, -(2**31), 2**31 - 1, 7), source, (0, 0, 1, 3))), 6)
+        with self.assertRaises(TypeError):
+            pix.repeat_image((0, 0, 1, 1), pix.Matte(b"1", 1, 1))
+        with self.assertRaises(ValueError):
+            pix.repeat_image((2**31, 0, 1, 1), source)
 
 
 @unittest.skipIf(numpy is None, "numpy is not there")
@@ -126,6 +162,18 @@ class Arrays(unittest.TestCase):
             back = pix.Image.from_array(part, pix.SRGBA8).to_array(pix.SRGBA8)
             self.assertEqual(back.shape, part.shape)
             self.assertTrue((back == part).all())
+
+    def test_windows_that_share_memory(self):
+        both = numpy.zeros((4, 4, 4), "u1")
+        for one, two in ((both[:2], both[1:3]), (both[::2], both[1::2]), (both[:, :2], both[:, 2:]), (both, both[::-1])):
+            with self.assertRaises(ValueError):
+                pix.convert_bitmap(pix.SRGBA8, one, pix.SRGBA8, two)
+        for rows in (numpy.broadcast_to(both[:1], (4, 4, 4)), both[:, ::-1], both[:, ::2], numpy.asfortranarray(both[:3])):
+            with self.assertRaises(ValueError):
+                pix.Image.from_array(rows, pix.SRGBA8)
+        for other in (both.astype("i1"), both.astype("f4"), both.astype(">u2"), both.astype("u2")):
+            with self.assertRaises(TypeError):
+                pix.Image.from_array(other, pix.SRGBA8)
 
     def test_words(self):
         wide = numpy.arange(24, dtype="u2").reshape(2, 3, 4) * 1000
@@ -150,6 +198,7 @@ class Pictures(unittest.TestCase):
         self.assertEqual(pix.Image.from_pillow(gray).to_pillow("L").tobytes(), gray.tobytes())
         palette = pillow.new("P", (2, 2))
         self.assertEqual(pix.Image.from_pillow(palette).type, pix.RGBA16)
+        self.assertEqual(pix.Image.from_pillow(pillow.new("RGBA", (0, 3))).to_pillow().size, (0, 3))
         with self.assertRaises(ValueError):
             pix.Image.new(1, 1).to_pillow("CMYK")
 

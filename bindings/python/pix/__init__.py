@@ -47,7 +47,7 @@ from pix._indexed import count_indices, diffuse_indexed, look_up, map_indexed, p
 from pix._list import CommandList
 from pix._makers import (
     clear, composite_color, composite_image, composite_image_alpha, composite_image_matte, composite_matte, copy_color,
-    copy_image,
+    copy_image, repeat_image,
 )  # fmt: skip
 from pix._pixels import GRAYA8, RGBA8, RGBA16, PixelType
 from pix._values import Format, Op, PixError, Region, Status
@@ -57,7 +57,7 @@ __version__ = "0.2.0"
 __all__ = [
     "Op", "Format", "Status", "PixError", "PixelType", "RGBA8", "RGBA16", "GRAYA8", "Region", "Image", "Matte",
     "Command", "CommandList", "clear", "copy_color", "copy_image", "composite_color", "composite_image", "composite_matte",
-    "composite_image_matte", "composite_image_alpha", "convert", "convert_bitmap", "color_of",
+    "composite_image_matte", "composite_image_alpha", "repeat_image", "convert", "convert_bitmap", "color_of",
     "table_from", "map_indexed", "diffuse_indexed", "look_up", "count_indices", "row_size", "pack_row", "unpack_row",
     "SRGBA8", "SRGBA8P", "SBGRA8", "SBGRA8P", "SRGB8", "SBGR8", "SGRAY8", "SGRAYA8", "SRGBX8", "SBGRX8",
 ]  # fmt: skip
@@ -74,6 +74,6 @@ for _public in (table_from, map_indexed, diffuse_indexed, look_up, count_indices
     _public.__module__ = __name__
 for _public in (clear, copy_color, copy_image, composite_color, composite_image, composite_matte):
     _public.__module__ = __name__
-for _public in (composite_image_matte, composite_image_alpha):
+for _public in (composite_image_matte, composite_image_alpha, repeat_image):
     _public.__module__ = __name__
 del _public

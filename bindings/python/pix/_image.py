@@ -84,7 +84,8 @@ class Image(View):
             raise ValueError(f"mode {mode!r} is none of {', '.join(MODES)}")
         data = bytearray(self.width * self.height * MODES[mode].size)
         write(Bitmap(data, MODES[mode], self.width, self.height), self._bitmap())
-        return pillow.frombytes(mode, (self.width, self.height), bytes(data))
+        size = self.width, self.height
+        return pillow.frombytes(mode, size, bytes(data)) if data else pillow.new(mode, size)
 
     def _bitmap(self) -> Bitmap:
         """The rows as a bitmap."""

@@ -2,11 +2,11 @@
 
 from __future__ import annotations
 
-from typing import Any, Iterable, Optional, SupportsIndex
+from typing import Any, Iterable, List, Optional, SupportsIndex
 
 from pix._command import Command
 from pix._image import Image
-from pix._values import Op
+from pix._values import Op, region_of
 from pix._views import Matte
 
 _Region = Iterable[SupportsIndex]
@@ -77,3 +77,23 @@ def composite_image_alpha(
     The opacity is from 0 to 255, or to 65535 in RGBA16, at which it is composite_image.
     """
     return Command(7, to, op=op, source=_source(source, Image), from_=from_, alpha=alpha)
+
+
+def repeat_image(to: _Region, source: Image, from_: Optional[_Region] = None, op: Op = Op.SRC_OVER) -> List[Command]:
+    """The commands that composite `from_` in another image over all of `to`, side by side from its upper left corner on and cut at
+    its other sides, row by row: a pattern. image.run(*repeat_image(..)) paints it.
+
+    A copy that begins past 2147483647 is in no image, and left out.
+    """
+    x, y, width, height = region_of(to)
+    _source(source, Image)
+    left, top, wide, high = (0, 0, source.width, source.height) if from_ is None else region_of(from_)
+    if not wide or not high:
+        return []
+    return [
+        composite_image(
+            (x + column, y + row, min(wide, width - column), min(high, height - row)), source, (left, top, wide, high), op
+        )
+        for row in range(0, min(height, 2**31 - y), high)
+        for column in range(0, min(width, 2**31 - x), wide)
+    ]

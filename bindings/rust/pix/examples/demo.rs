@@ -1,7 +1,7 @@
 //! Paints the picture of demo.c, and writes it as a PPM file: demo FILE
 #![forbid(unsafe_code)]
 
-use pix::{Command, Error, Format, Image, ImageMut, Op, Region, Rgba8, bytes, bytes_mut, convert};
+use pix::{Bitmap, BitmapMut, Command, Error, Format, Image, ImageMut, Op, Region, Rgba16};
 
 const WIDTH: u32 = 192;
 const HEIGHT: u32 = 128;
@@ -12,20 +12,25 @@ const STEP: u32 = 14;
 const SWATCHES: Region = Region::new(0, 0, STEP * 13, 12);
 
 /// As many transparent pixels as an image of this size has.
-fn blank(width: u32, height: u32) -> Vec<Rgba8> {
-    vec![Rgba8::default(); (width * height) as usize]
+fn blank(width: u32, height: u32) -> Vec<Rgba16> {
+    vec![Rgba16::default(); (width * height) as usize]
 }
 
-/// A disk that fades to its rim, decoded from sRGB with a straight alpha.
-fn sun() -> Result<Vec<Rgba8>, Error> {
+/// The linear color of these channels of 8 bits, in 16.
+fn color(r: u16, g: u16, b: u16, a: u16) -> Rgba16 {
+    Rgba16::new(257 * r, 257 * g, 257 * b, 257 * a)
+}
+
+/// A disk that fades to its rim, decoded into light from sRGB with a straight alpha.
+fn sun() -> Result<Vec<Rgba16>, Error> {
     let last = SUN as i32 - 1;
     let rim = last * last;
-    let mut decoded = Vec::new();
+    let mut sprite = Vec::new();
     for y in 0..SUN as i32 {
         for x in 0..SUN as i32 {
             let (dx, dy) = (2 * x - last, 2 * y - last);
             let from_center = dx * dx + dy * dy;
-            decoded.extend(if from_center < rim {
+            sprite.extend(if from_center < rim {
                 [
                     255,
                     (220 - 120 * from_center / rim) as u8,
@@ -38,17 +43,14 @@ fn sun() -> Result<Vec<Rgba8>, Error> {
         }
     }
     let mut pixels = blank(SUN, SUN);
-    convert(
-        Format::SRgba8,
-        &decoded,
-        Format::Rgba8p,
-        bytes_mut(&mut pixels),
-    )?;
+    ImageMut::new(&mut pixels, SUN, SUN)
+        .as_bitmap_mut()
+        .convert_from(Bitmap::new(&sprite, SUN, SUN, Format::SRgba8))?;
     Ok(pixels)
 }
 
 /// A mask of the letters P, I and X side by side, paler to the bottom.
-fn letters() -> Vec<u8> {
+fn letters() -> Vec<u16> {
     const ROWS: [[u8; 8]; LETTERS as usize] = [
         [0xFC, 0x66, 0x66, 0x7C, 0x60, 0x60, 0xF0, 0x00],
         [0x3C, 0x18, 0x18, 0x18, 0x18, 0x18, 0x3C, 0x00],
@@ -58,7 +60,7 @@ fn letters() -> Vec<u8> {
         let row = ROWS[(x / LETTER) as usize][(8 * y / LETTER) as usize];
         let bit = 7 - 8 * (x % LETTER) / LETTER;
         if row >> bit & 1 == 1 {
-            255 - 4 * y as u8
+            257 * (255 - 4 * y as u16)
         } else {
             0
         }
@@ -69,17 +71,17 @@ fn letters() -> Vec<u8> {
 }
 
 /// Two squares for each operator: an orange one, and a blue one that is composited with its corner.
-fn swatches() -> Result<Vec<Rgba8>, Error> {
+fn swatches() -> Result<Vec<Rgba16>, Error> {
     let mut pixels = blank(SWATCHES.width, SWATCHES.height);
     let mut list = Vec::new();
     for (op, x) in Op::ALL.into_iter().zip((0..).step_by(STEP as usize)) {
         list.push(Command::copy_color(
             Region::new(x, 0, 8, 8),
-            Rgba8::new(160, 60, 0, 200),
+            color(160, 60, 0, 200),
         ));
         list.push(Command::composite_color(
             Region::new(x + 4, 4, 8, 8),
-            Rgba8::new(0, 40, 140, 160),
+            color(0, 40, 140, 160),
             op,
         ));
     }
@@ -88,7 +90,7 @@ fn swatches() -> Result<Vec<Rgba8>, Error> {
 }
 
 /// Paints the picture by one list.
-fn picture() -> Result<Vec<Rgba8>, Error> {
+fn picture() -> Result<Vec<Rgba16>, Error> {
     let (sun, letters, swatches) = (sun()?, letters(), swatches()?);
     let sun = Image::new(&sun, SUN, SUN);
     let letters = Image::new(&letters, LETTERS * LETTER, LETTER);
@@ -96,13 +98,13 @@ fn picture() -> Result<Vec<Rgba8>, Error> {
     let whole_sun = Region::new(0, 0, SUN, SUN);
     let mut list = vec![Command::copy_color(
         Region::new(0, 0, WIDTH, HEIGHT),
-        Rgba8::new(8, 12, 48, 255),
+        color(8, 12, 48, 255),
     )];
     for band in 0..10 {
         let reg = Region::new(-10, 40 + 7 * band, 400, 400);
         list.push(Command::composite_color(
             reg,
-            Rgba8::new(20, 4, 0, 24),
+            color(20, 4, 0, 24),
             Op::SrcOver,
         ));
     }
@@ -120,14 +122,14 @@ fn picture() -> Result<Vec<Rgba8>, Error> {
     ));
     for i in 0..LETTERS as i32 {
         let letter = Region::new(LETTER as i32 * i, 0, LETTER, LETTER);
-        let (shade, light) = (Rgba8::new(0, 0, 0, 160), Rgba8::new(255, 240, 200, 255));
-        for (x, y, color) in [(41 + 42 * i, 44, shade), (38 + 42 * i, 41, light)] {
+        let (shade, light) = (color(0, 0, 0, 160), color(255, 240, 200, 255));
+        for (x, y, ink) in [(41 + 42 * i, 44, shade), (38 + 42 * i, 41, light)] {
             let to = Region::new(x, y, LETTER, LETTER);
             list.push(Command::composite_matte(
                 to,
                 letters,
                 letter,
-                color,
+                ink,
                 Op::SrcOver,
             ));
         }
@@ -146,10 +148,11 @@ fn picture() -> Result<Vec<Rgba8>, Error> {
 
 fn main() -> Result<(), Box<dyn std::error::Error>> {
     let pixels = picture()?;
-    let mut encoded = vec![0; 4 * pixels.len()];
-    convert(Format::Rgba8p, bytes(&pixels), Format::SRgba8, &mut encoded)?;
+    let mut encoded = vec![0; 3 * pixels.len()]; // it is opaque everywhere
+    BitmapMut::new(&mut encoded, WIDTH, HEIGHT, Format::SRgb8)
+        .convert_from(Image::new(&pixels, WIDTH, HEIGHT).as_bitmap())?;
     let mut file = format!("P6\n{WIDTH} {HEIGHT}\n255\n").into_bytes();
-    file.extend(encoded.chunks_exact(4).flat_map(|pixel| &pixel[..3]));
+    file.extend(encoded);
     std::fs::write(std::env::args().nth(1).unwrap_or("demo.ppm".into()), file)?;
     Ok(())
 }

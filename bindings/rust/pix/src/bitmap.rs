@@ -145,7 +145,9 @@ impl<'a> BitmapMut<'a> {
         }
         let (width, height) = (self.width as usize, self.height as usize);
         let (wide, apart) = (width * size, self.stride.unsigned_abs());
-        let end = (height.saturating_sub(1)).saturating_mul(apart).saturating_add(wide);
+        let end = (height.saturating_sub(1))
+            .saturating_mul(apart)
+            .saturating_add(wide);
         let is_high = height > 0;
         let is_too_large = self.width > i32::MAX as u32 || self.height > i32::MAX as u32;
         if is_too_large || wide > apart || is_high && end > self.bytes.len() {

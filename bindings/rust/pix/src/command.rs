@@ -157,6 +157,46 @@ impl<'a, P: Pixel> Command<'a, P> {
         command.with_pixels(source, from)
     }
 
+    /// A pattern: the commands that composite `from` in a source over all of `to`, side by side from its upper left corner
+    /// on and cut at its other sides, row by row. A copy that begins past 2147483647 is in no image, and left out.
+    ///
+    /// ```
+    /// use pix::{Command, Image, ImageMut, Op, Region, Rgba8};
+    ///
+    /// let (dark, pale) = (Rgba8::new(40, 40, 40, 255), Rgba8::new(90, 90, 90, 255));
+    /// let tile = [dark, pale, pale, dark];
+    /// let (tile, all) = (Image::new(&tile, 2, 2), Region::new(0, 0, 2, 2));
+    /// let list: Vec<_> = Command::repeat_image(Region::new(0, 0, 3, 3), tile, all, Op::SrcOver).collect();
+    /// let mut pixels = [Rgba8::default(); 9];
+    /// ImageMut::new(&mut pixels, 3, 3).run(&list)?;
+    /// assert_eq!(pixels, [dark, pale, dark, pale, dark, pale, dark, pale, dark]);
+    /// # Ok::<(), pix::Error>(())
+    /// ```
+    pub fn repeat_image(
+        to: Region,
+        source: Image<'a, P>,
+        from: Region,
+        op: Op,
+    ) -> impl Iterator<Item = Command<'a, P>> {
+        let right = to.width.min(to.x.abs_diff(i32::MAX).saturating_add(1));
+        let bottom = to.height.min(to.y.abs_diff(i32::MAX).saturating_add(1));
+        let columns = right.div_ceil(from.width.max(1));
+        let rows = bottom.div_ceil(from.height.max(1));
+        let is_empty = from.width == 0 || from.height == 0;
+        (0..if is_empty { 0 } else { rows }).flat_map(move |row| {
+            (0..columns).map(move |column| {
+                let (x, y) = (column * from.width, row * from.height);
+                let copy = Region {
+                    x: to.x.wrapping_add_unsigned(x),
+                    y: to.y.wrapping_add_unsigned(y),
+                    width: from.width.min(to.width - x),
+                    height: from.height.min(to.height - y),
+                };
+                Command::composite_image(copy, source, from, op)
+            })
+        })
+    }
+
     /// A command without a source.
     fn plain(kind: u32, op: Op, to: Region, color: P) -> Command<'a, P> {
         let raw = pix_sys::Command {

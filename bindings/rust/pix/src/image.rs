@@ -3,8 +3,8 @@
 use crate::bitmap::{Bitmap, BitmapMut};
 use crate::command::Command;
 use crate::error::Error;
-use crate::pixel::{Pixel, bytes, bytes_mut};
 use crate::pixel::private::Calls;
+use crate::pixel::{Pixel, bytes, bytes_mut};
 use core::mem;
 use pix_sys::status;
 
@@ -39,6 +39,20 @@ impl<'a, T> Image<'a, T> {
             height,
             stride,
         }
+    }
+}
+
+impl<'a, P: Pixel> Image<'a, P> {
+    /// The image as a bitmap, to be read.
+    pub fn as_bitmap(&self) -> Bitmap<'a> {
+        let stride = self.stride as usize * size_of::<P>();
+        Bitmap::with_stride(
+            bytes(self.pixels),
+            self.width,
+            self.height,
+            stride as isize,
+            P::FORMAT,
+        )
     }
 }
 
@@ -80,13 +94,25 @@ impl<'a, P: Pixel> ImageMut<'a, P> {
     /// The image as a bitmap, to be written from another one; see [`BitmapMut`].
     pub fn as_bitmap_mut(&mut self) -> BitmapMut<'_> {
         let stride = self.stride as usize * size_of::<P>();
-        BitmapMut::with_stride(bytes_mut(self.pixels), self.width, self.height, stride as isize, P::FORMAT)
+        BitmapMut::with_stride(
+            bytes_mut(self.pixels),
+            self.width,
+            self.height,
+            stride as isize,
+            P::FORMAT,
+        )
     }
 
     /// The image as a bitmap, to be read.
     pub fn as_bitmap(&self) -> Bitmap<'_> {
         let stride = self.stride as usize * size_of::<P>();
-        Bitmap::with_stride(bytes(self.pixels), self.width, self.height, stride as isize, P::FORMAT)
+        Bitmap::with_stride(
+            bytes(self.pixels),
+            self.width,
+            self.height,
+            stride as isize,
+            P::FORMAT,
+        )
     }
 
     /// Runs the commands in order, or none of them where one is refused.

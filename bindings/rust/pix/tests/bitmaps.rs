@@ -1,7 +1,9 @@
 //! Pictures as files hold them: they come back from light as they were, whatever their stride; and what is refused.
 #![forbid(unsafe_code)]
 
-use pix::{Bitmap, BitmapMut, Command, Error, Format, ImageMut, Op, Pixel, Region, Rgba8, Rgba16};
+use pix::{
+    Bitmap, BitmapMut, Command, Error, Format, Image, ImageMut, Op, Pixel, Region, Rgba8, Rgba16,
+};
 
 const WIDTH: u32 = 320;
 const HEIGHT: u32 = 200;
@@ -47,7 +49,10 @@ fn comes_back(format: Format) {
     for (index, (old, new)) in photo.chunks(size).zip(back.chunks(size)).enumerate() {
         let (x, y) = (index as u32 % WIDTH, index as u32 / WIDTH);
         if old != new {
-            assert!((100..164).contains(&x) && (50..114).contains(&y), "({x}, {y}) changed");
+            assert!(
+                (100..164).contains(&x) && (50..114).contains(&y),
+                "({x}, {y}) changed"
+            );
             changed += 1;
         }
     }
@@ -78,9 +83,15 @@ fn opaque_pixels_and_words() {
     let mut words = [0; 8];
     let mut wide = BitmapMut::new(&mut words, 1, 1, Format::Rgba16);
     let source = Bitmap::new(&photo, 1, 1, Format::Rgbx8);
-    wide.convert_from(source).expect("the last byte is not read");
-    let numbers = words.chunks(2).map(|pair| u16::from_ne_bytes([pair[0], pair[1]]));
-    assert_eq!(numbers.collect::<Vec<_>>(), [10 * 257, 20 * 257, 30 * 257, 65535]);
+    wide.convert_from(source)
+        .expect("the last byte is not read");
+    let numbers = words
+        .chunks(2)
+        .map(|pair| u16::from_ne_bytes([pair[0], pair[1]]));
+    assert_eq!(
+        numbers.collect::<Vec<_>>(),
+        [10 * 257, 20 * 257, 30 * 257, 65535]
+    );
     let mut bytes = [0; 4];
     let mut opaque = BitmapMut::new(&mut bytes, 1, 1, Format::Bgrx8);
     opaque
@@ -134,8 +145,61 @@ fn refusals() {
 
 #[test]
 fn sizes_are_those_of_the_library() {
-    for format in [Format::SRgba8, Format::Rgb16, Format::Matte8, Format::Xyza16p, Format::Bgrx8] {
+    for format in [
+        Format::SRgba8,
+        Format::Rgb16,
+        Format::Matte8,
+        Format::Xyza16p,
+        Format::Bgrx8,
+    ] {
         assert!((1..=8).contains(&format.size()));
     }
-    assert_eq!((Format::Rgb16.size(), Format::Graya8.size(), Format::SRgbx8.size()), (6, 2, 4));
+    assert_eq!(
+        (
+            Format::Rgb16.size(),
+            Format::Graya8.size(),
+            Format::SRgbx8.size()
+        ),
+        (6, 2, 4)
+    );
+}
+
+/// Each pixel of a pattern stands at its point's place in it.
+#[test]
+fn patterns() {
+    let tile: Vec<_> = (0..30).map(|i| Rgba8::new(8 * i, 0, 0, 255)).collect();
+    let source = Image::new(&tile, 6, 5);
+    for (x, y, width, height, wide, high) in [
+        (-3, -5, 20, 18, 2, 3),
+        (4, 2, 7, 8, 3, 3),
+        (30, 0, 5, 5, 1, 1),
+        (0, 0, 9, 9, 0, 2),
+        (0, 0, 0, 9, 2, 2),
+    ] {
+        let (to, from) = (
+            Region::new(x, y, width, height),
+            Region::new(1, 2, wide, high),
+        );
+        let list: Vec<_> = Command::repeat_image(to, source, from, Op::SrcOver).collect();
+        let mut pixels = [Rgba8::default(); 15 * 11];
+        ImageMut::new(&mut pixels, 15, 11)
+            .run(&list)
+            .expect("a pattern");
+        for (place, pixel) in pixels.iter().enumerate() {
+            let (column, row) = ((place % 15) as i32 - x, (place / 15) as i32 - y);
+            let covers = |at: i32, length: u32| at >= 0 && (at as u32) < length;
+            let is_painted = covers(column, width) && covers(row, height) && wide * high > 0;
+            let wanted = if is_painted {
+                tile[(2 + row as usize % high as usize) * 6 + 1 + column as usize % wide as usize]
+            } else {
+                Rgba8::default()
+            };
+            assert_eq!(*pixel, wanted, "{to:?}, {from:?}: {place}");
+        }
+    }
+    let far = Region::new(i32::MAX - 1, i32::MIN, i32::MAX as u32, 7);
+    assert_eq!(
+        Command::repeat_image(far, source, Region::new(0, 0, 1, 3), Op::Src).count(),
+        6
+    );
 }

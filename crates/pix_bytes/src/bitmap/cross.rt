@@ -8,6 +8,7 @@ ghost use Rattle.pix_bytes.specs.Stored.{sample_size, pixel_size};
 use crate::bitmap::format::Depth::{Linear8, Linear16, Srgb8};
 use crate::bitmap::format::Stored;
 use crate::bitmap::four::{read_four, write_four};
+use crate::bitmap::model::ModelName::{Bgr, Rgb};
 use crate::bitmap::sample::Sample;
 use crate::bitmap::way::{Converted, IntoLight, OutOfLight, Way};
 use pix_chan::chan::{Ch8, Ch16, Linear, Srgb};
@@ -67,6 +68,107 @@ fn cross_each<C: Sample, D: Sample, W: Way<C, D>>(
     }
 }
 
+/// Does what [`cross_pixels`] does, with a loop of its own for each format that pictures mostly come in.
+#[inline(always)]
+fn cross_from_usual<C: Sample, D: Sample, W: Way<C, D>>(
+    way: &W,
+    from: Stored,
+    to: Stored,
+    src: &[u8],
+    dst: &mut [u8],
+    count: usize,
+)
+    requires sound { is_sound from ≡ true }
+    requires to_sound { is_sound to ≡ true }
+    requires src { length src.now ≡ count * ((from.count + from.spare) * sample_size C.max) }
+    requires dst { length dst.old ≡ count * ((to.count + to.spare) * sample_size D.max) }
+    ensures { IsEach C.max D.max from.count (to.count + to.spare)
+        ((from.count + from.spare) * sample_size C.max) ((to.count + to.spare) * sample_size D.max)
+        (W.makes (format_at C.max from) (format_at D.max to)) src.now dst.new count }
+{
+    if let Some(from) = from.known(Rgb, 4, false, 0) {
+        cross_pixels(way, from, to, src, dst, count);
+    } else if let Some(from) = from.known(Bgr, 4, false, 0) {
+        cross_pixels(way, from, to, src, dst, count);
+    } else if let Some(from) = from.known(Bgr, 4, true, 0) {
+        cross_pixels(way, from, to, src, dst, count);
+    } else if let Some(from) = from.known(Rgb, 3, false, 0) {
+        cross_pixels(way, from, to, src, dst, count);
+    } else if let Some(from) = from.known(Bgr, 3, false, 0) {
+        cross_pixels(way, from, to, src, dst, count);
+    } else if let Some(from) = from.known(Rgb, 3, false, 1) {
+        cross_pixels(way, from, to, src, dst, count);
+    } else if let Some(from) = from.known(Bgr, 3, false, 1) {
+        cross_pixels(way, from, to, src, dst, count);
+    } else {
+        cross_pixels(way, from, to, src, dst, count);
+    }
+}
+
+/// Does what [`cross_pixels`] does, with a loop of its own for each format that pictures mostly go to.
+#[inline(always)]
+fn cross_to_usual<C: Sample, D: Sample, W: Way<C, D>>(
+    way: &W,
+    from: Stored,
+    to: Stored,
+    src: &[u8],
+    dst: &mut [u8],
+    count: usize,
+)
+    requires sound { is_sound from ≡ true }
+    requires to_sound { is_sound to ≡ true }
+    requires src { length src.now ≡ count * ((from.count + from.spare) * sample_size C.max) }
+    requires dst { length dst.old ≡ count * ((to.count + to.spare) * sample_size D.max) }
+    ensures { IsEach C.max D.max from.count (to.count + to.spare)
+        ((from.count + from.spare) * sample_size C.max) ((to.count + to.spare) * sample_size D.max)
+        (W.makes (format_at C.max from) (format_at D.max to)) src.now dst.new count }
+{
+    if let Some(to) = to.known(Rgb, 4, false, 0) {
+        cross_pixels(way, from, to, src, dst, count);
+    } else if let Some(to) = to.known(Bgr, 4, false, 0) {
+        cross_pixels(way, from, to, src, dst, count);
+    } else if let Some(to) = to.known(Bgr, 4, true, 0) {
+        cross_pixels(way, from, to, src, dst, count);
+    } else if let Some(to) = to.known(Rgb, 3, false, 0) {
+        cross_pixels(way, from, to, src, dst, count);
+    } else if let Some(to) = to.known(Bgr, 3, false, 0) {
+        cross_pixels(way, from, to, src, dst, count);
+    } else if let Some(to) = to.known(Rgb, 3, false, 1) {
+        cross_pixels(way, from, to, src, dst, count);
+    } else if let Some(to) = to.known(Bgr, 3, false, 1) {
+        cross_pixels(way, from, to, src, dst, count);
+    } else {
+        cross_pixels(way, from, to, src, dst, count);
+    }
+}
+
+/// Does what [`cross_pixels`] does. Between the format of images that are painted and those that pictures mostly have, the loops know both.
+#[inline(always)]
+fn cross_painted<C: Sample, D: Sample, W: Way<C, D>>(
+    way: &W,
+    from: Stored,
+    to: Stored,
+    src: &[u8],
+    dst: &mut [u8],
+    count: usize,
+)
+    requires sound { is_sound from ≡ true }
+    requires to_sound { is_sound to ≡ true }
+    requires src { length src.now ≡ count * ((from.count + from.spare) * sample_size C.max) }
+    requires dst { length dst.old ≡ count * ((to.count + to.spare) * sample_size D.max) }
+    ensures { IsEach C.max D.max from.count (to.count + to.spare)
+        ((from.count + from.spare) * sample_size C.max) ((to.count + to.spare) * sample_size D.max)
+        (W.makes (format_at C.max from) (format_at D.max to)) src.now dst.new count }
+{
+    if let Some(to) = to.known(Rgb, 4, true, 0) {
+        cross_from_usual(way, from, to, src, dst, count);
+    } else if let Some(from) = from.known(Rgb, 4, true, 0) {
+        cross_to_usual(way, from, to, src, dst, count);
+    } else {
+        cross_pixels(way, from, to, src, dst, count);
+    }
+}
+
 /// Writes each pixel of `src` to the place of its index in `dst`, in the other format: between sRGB of 8 bits and channels of 16 bits through
 /// light, and else as [`Pixel::convert`](pix_el::el::Pixel::convert) does.
 ///
@@ -105,7 +207,7 @@ fn cross_srgb8(from: Stored, to: Stored, src: &[u8], dst: &mut [u8], count: usiz
             let way = Converted::<Srgb, Linear>::new();
             cross_pixels::<Ch8, Ch8, _>(&way, from, to, src, dst, count);
         }
-        Linear16 => cross_pixels::<Ch8, Ch16, _>(&IntoLight, from, to, src, dst, count),
+        Linear16 => cross_painted::<Ch8, Ch16, _>(&IntoLight, from, to, src, dst, count),
     }
 }
 
@@ -127,7 +229,7 @@ fn cross_linear8(from: Stored, to: Stored, src: &[u8], dst: &mut [u8], count: us
         }
         Linear8 => {
             let way = Converted::<Linear, Linear>::new();
-            cross_pixels::<Ch8, Ch8, _>(&way, from, to, src, dst, count);
+            cross_painted::<Ch8, Ch8, _>(&way, from, to, src, dst, count);
         }
         Linear16 => {
             let way = Converted::<Linear, Linear>::new();
@@ -148,7 +250,7 @@ fn cross_linear16(from: Stored, to: Stored, src: &[u8], dst: &mut [u8], count: u
     ensures { IsCrossed (stored_of from) (stored_of to) count src.now dst.new }
 {
     match to.depth {
-        Srgb8 => cross_pixels::<Ch16, Ch8, _>(&OutOfLight, from, to, src, dst, count),
+        Srgb8 => cross_painted::<Ch16, Ch8, _>(&OutOfLight, from, to, src, dst, count),
         Linear8 => {
             let way = Converted::<Linear, Linear>::new();
             cross_pixels::<Ch16, Ch8, _>(&way, from, to, src, dst, count);

@@ -162,6 +162,34 @@ impl Stored {
         }
     }
 
+    /// Returns this format, if it has this model, so many channels, this alpha mode and so many spare samples: then the compiler knows them.
+    #[inline(always)]
+    pub(crate) fn known(
+        self,
+        model: ModelName,
+        count: usize,
+        is_premultiplied: bool,
+        spare: usize,
+    ) -> Option<Stored>
+        ensures { (known : Stored) → result ≡ Some known → known ≡ self }
+    {
+        if self.model.is(model)
+            && self.count == count
+            && self.is_premultiplied == is_premultiplied
+            && self.spare == spare
+        {
+            Some(Stored {
+                model,
+                count,
+                is_premultiplied,
+                depth: self.depth,
+                spare,
+            })
+        } else {
+            None
+        }
+    }
+
     /// Returns how many bytes a pixel has. Condition: it has at most four samples.
     pub(crate) fn size(self) -> usize
         requires { is_sound self ≡ true }

@@ -1,5 +1,5 @@
 //! The color models by name, for formats that are known when a program runs.
-ghost use Rattle.std.specs.Prelude.{◌≡◌, ◌≤◌, ◌+◌, take};
+ghost use Rattle.std.specs.Prelude.{◌≡◌, ◌≤◌, ◌+◌, take, true};
 ghost use Rattle.pix_el.specs.Color.{rgba_of, of_rgba};
 ghost use Rattle.pix_el.specs.Model.{row};
 ghost use Rattle.pix_bytes.specs.Four.{listed};
@@ -52,6 +52,14 @@ impl ModelName {
             ModelName::YCbCr => 8,
             ModelName::Xyz => 9,
         }
+    }
+
+    /// Returns whether two names are the same.
+    #[inline(always)]
+    pub(crate) fn is(self, other: ModelName) -> bool
+        ensures { result ≡ true → self ≡ other }
+    {
+        self.kind() == other.kind()
     }
 
     /// Returns the channel number of the first color that is no hue, and that of the alpha, which comes after the last color.

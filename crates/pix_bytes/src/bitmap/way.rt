@@ -73,6 +73,8 @@ fn mode_changed<C: Channel>(from: bool, to: bool, c: C, alpha: C) -> C
 {
     if from == to {
         c
+    } else if alpha.to_u32() == C::MAX.to_u32() {
+        c
     } else if to {
         Premultiplied::encode(c, alpha)
     } else {
