@@ -3,3 +3,5 @@ pub mod NearestEntries
 pub mod Writes
 pub mod Below
 pub mod Places
+pub mod Corners
+pub mod Listed

@@ -1,4 +1,4 @@
 pub mod Nearest
-pub mod Known
+pub mod Boxes
 pub mod LookUp
 pub mod Packing
