@@ -8,3 +8,5 @@ pub mod Parts
 pub mod CutBoxes
 pub mod Distinct
 pub mod Diffused
+pub mod Corners
+pub mod Listed
