@@ -1,6 +1,6 @@
 //! Each caller of `pix_uses` on a small picture.
-use crate::pictures::{matte, parts, picture, rgba};
-use crate::rgbas;
+use crate::pictures::{matte, parts, rgba};
+use crate::{pictures, rgbas};
 use pix::chan::{Ch8, Ch16, Channel};
 use pix::gray::Gray8;
 use pix::lent::Shape;
@@ -32,6 +32,20 @@ fn glass() -> Rgba8p {
     Rgba8p::new(0, 0, 64, 64)
 }
 
+/// A picture of these pixels, row by row.
+fn picture(
+    alloc: Global,
+    width: u32,
+    height: u32,
+    pixels: &[Rgba8p],
+) -> Result<Raster<Rgba8p>, RasterFault> {
+    let mut picture = Raster::with_clear(alloc, width, height)?;
+    for (dst, src) in picture.pixels_mut().iter_mut().zip(pixels) {
+        *dst = *src;
+    }
+    Ok(picture)
+}
+
 /// The picture of these mattes.
 fn mattes(
     alloc: Global,
@@ -39,7 +53,7 @@ fn mattes(
     height: u32,
     pixels: &[Matte8],
 ) -> Result<Raster<Matte8>, RasterFault> {
-    picture(alloc, width, height, pixels)
+    pictures::picture(alloc, width, height, pixels)
 }
 
 /// The picture of these sRGB colors.
@@ -49,7 +63,7 @@ fn photo(
     height: u32,
     pixels: &[SRgb8],
 ) -> Result<Raster<SRgb8>, RasterFault> {
-    picture(alloc, width, height, pixels)
+    pictures::picture(alloc, width, height, pixels)
 }
 
 /// The size and the pixels of a photograph.
@@ -61,7 +75,7 @@ fn shades(photo: &Raster<SRgb8>) -> ((u32, u32), &[SRgb8]) {
 fn a_sun_in_the_sky(rt: HostRuntime) -> Result<(), Fail> {
     let sky = Rgba8p::new(16, 32, 48, 255);
     let picture = sunrise(rt.alloc(), sky, Rgba8p::new(200, 160, 0, 255))?;
-    assert_eq!(rt; rgbas::pixels(&picture).first(), Some(&sky));
+    assert_eq!(rt; picture.pixels().first(), Some(&sky));
     Ok(())
 }
 
@@ -104,17 +118,14 @@ fn a_tint_of_the_top(rt: HostRuntime) -> Result<(), Fail> {
 #[test]
 fn a_sprite_over_the_edges(rt: HostRuntime) -> Result<(), Fail> {
     let [a, b, c, d] = [1, 2, 3, 4].map(|shade| opaque(shade, shade, shade));
-    let sprite = rgbas::picture(rt.alloc(), 2, 2, &[a, b, c, d])?;
+    let sprite = picture(rt.alloc(), 2, 2, &[a, b, c, d])?;
     let sand = opaque(200, 100, 50);
-    let mut ground = rgbas::filled(rt.alloc(), 3, 2, sand)?;
+    let mut ground = Raster::with_color(rt.alloc(), 3, 2, sand)?;
     paste(&mut ground, &sprite, -1, -1);
     paste(&mut ground, &sprite, 2, 0);
     paste(&mut ground, &sprite, 3, 0);
     paste(&mut ground, &sprite, -2147483648, 2147483647);
-    assert_eq!(rt;
-        rgbas::pixels(&ground),
-        [d, sand, a, sand, sand, c].as_slice()
-    );
+    assert_eq!(rt; ground.pixels(), [d, sand, a, sand, sand, c].as_slice());
     Ok(())
 }
 
@@ -217,7 +228,7 @@ fn a_filled_picture(rt: HostRuntime) -> Result<(), Fail> {
 #[test]
 fn a_region_cut_out(rt: HostRuntime) -> Result<(), Fail> {
     let [a, b, c, d] = [1, 2, 3, 4].map(|shade| opaque(shade, shade, shade));
-    let page = rgbas::picture(rt.alloc(), 2, 2, &[a, b, c, d])?;
+    let page = picture(rt.alloc(), 2, 2, &[a, b, c, d])?;
     for (reg, want) in [
         (Region::from(()), [a, b, c, d].as_slice()),
         (Region::new(1, -5, 9, 9), [b, d].as_slice()),
