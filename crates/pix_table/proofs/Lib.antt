@@ -3,7 +3,7 @@ pub mod NearestEntries
 pub mod Writes
 pub mod Below
 pub mod Places
-pub mod Boxes
+pub mod BoxSpans
 pub mod Parts
 pub mod CutBoxes
 pub mod Distinct
