@@ -4,14 +4,15 @@ use crate::{pictures, rgbas};
 use pix::chan::{Ch8, Ch16, Channel};
 use pix::gray::Gray8;
 use pix::lent::Shape;
-use pix::matte::Matte8;
+use pix::matte::{Matte8, Matte16};
 use pix::ops::Op;
-use pix::rgb::{Rgb8, Rgba8p, Rgba16p, SRgb8};
+use pix::rgb::{Rgb8, Rgba8p, Rgba16p, SRgb8, SRgba8};
 use pix::{Command, Raster, RasterFault, Region};
 use pix_uses::bytes::tint_bytes;
 use pix_uses::channels::{fade, mean, raised, restored, there_and_back};
 use pix_uses::colors::{glazed, sunrise, tint_top};
 use pix_uses::frames::flood;
+use pix_uses::light::drawn_in_light;
 use pix_uses::lists::{draw, draw_with_tile, glaze_twice};
 use pix_uses::models::{luminance, red_of};
 use pix_uses::photos;
@@ -304,6 +305,23 @@ fn a_glaze_over_a_photograph(rt: HostRuntime) -> Result<(), Fail> {
     assert_eq!(rt; (size, pixels.len()), ((3, 2), 6));
     for pixel in pixels {
         assert_eq!(rt; *pixel, SRgb8::new::<u8>(0xAF, 0x65, 0x91));
+    }
+    Ok(())
+}
+
+/// What is right of the third column is painted, and the rest comes back.
+#[test]
+fn a_drawing_on_a_photograph(rt: HostRuntime) -> Result<(), Fail> {
+    let mut photo = Raster::with_color(rt.alloc(), 4, 2, SRgba8::new::<u8>(0xEF, 0x8C, 0x07, 13))?;
+    photo.copy_color(Region::new(1, 0, 1, 1), SRgba8::default());
+    let red: Command<'_, Rgba16p, Matte16> = Command::Color {
+        reg: Region::new(2, 0, 9, 9),
+        clr: Rgba16p::new(30000, 0, 0, 30000),
+        op: Op::SrcOver,
+    };
+    let shown = drawn_in_light(rt.alloc(), &photo, &[red])?;
+    for (place, pixel) in shown.pixels().iter().enumerate() {
+        assert_eq!(rt; photo.pixels()[place] == *pixel, place % 4 < 2);
     }
     Ok(())
 }

@@ -1,10 +1,9 @@
 -- Of `light_and_back`: the pixel stays.
-use Rattle.std.proofs.Common.{◌≡◌, ℕ, List, length, map, refl, sym, ap, ◌∙◌}
+use Rattle.std.proofs.Common.{◌≡◌, ℕ, length, map, refl, ap, ◌∙◌}
 use Rattle.std.proofs.lemmas.List.{length-map}
 use Rattle.pix_chan.specs.Bits8.{ch8_numbered}
 use Rattle.pix_chan.specs.declared.chan.bits8.Ch8.{Ch8}
 use Rattle.pix_chan.specs.Modes.{AlphaMode}
-use Rattle.pix_chan.specs.Modes as modes
 use Rattle.pix_el.specs.Conversion.{Format}
 use Rattle.pix_el.specs.Light.{as_srgb}
 use Rattle.pix_el.specs.PixelLaws.{equal_by_numbers}
