@@ -52,3 +52,4 @@ pub use Rattle.pix_palette.specs.PaletteMatch
 pub use Rattle.pix_palette.specs.Palette
 pub use Rattle.pix_palette.specs.Histogram
 pub use Rattle.pix_palette.specs.Indexing
+pub use Rattle.pix_palette.specs.ColorTable

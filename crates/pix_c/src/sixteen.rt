@@ -75,6 +75,26 @@ fn merge_sixteen<P: Pixel, D: FlatPixel<P>, Q: Pixel, S: Flat<Q>, B: Merge<P, Q>
     write_pixels(part, &pixels);
 }
 
+/// Changes four pixels in memory.
+#[inline(always)]
+fn merge_four<P: Pixel, D: FlatPixel<P>, Q: Pixel, S: Flat<Q>, B: Merge<P, Q>>(
+    part: &mut [D],
+    src: &[S],
+    change: &B,
+)
+    requires size { length part.old ≡ 4 }
+    requires src_size { length src.now ≡ 4 }
+    ensures { map D.numbers part.new ≡ over (B.makes change.now) (map S.numbers src.now)
+        (map D.numbers part.old) }
+{
+    let mut pixels = [P::default(); 4];
+    let mut sources = [Q::default(); 4];
+    read_pixels::<P, D>(part, &mut pixels);
+    read_pixels::<Q, S>(src, &mut sources);
+    change.merge(&mut pixels, &sources);
+    write_pixels(part, &pixels);
+}
+
 /// Changes as many whole sixteens of a row as it shares with the source, each pixel by the one at the same place, and returns the
 /// number of those pixels.
 #[inline(always)]
@@ -98,6 +118,25 @@ fn merge_sixteens<P: Pixel, D: FlatPixel<P>, Q: Pixel, S: Flat<Q>, B: Merge<P, Q
     16 * sixteens
 }
 
+/// Changes as many whole fours of a row as it shares with the source, each pixel by the one at the same place, and returns the number of
+/// those pixels.
+#[inline(always)]
+fn merge_fours<P: Pixel, D: FlatPixel<P>, Q: Pixel, S: Flat<Q>, B: Merge<P, Q>>(
+    row: &mut [D],
+    src: &[S],
+    change: &B,
+) -> usize
+    ensures within { result ≤ min (length row.old) (length src.now) }
+    ensures merged { map D.numbers row.new ≡ over (B.makes change.now)
+        (take result (map S.numbers src.now)) (map D.numbers row.old) }
+{
+    let fours = row.len().min(src.len()) / 4;
+    for k in 0..fours {
+        merge_four(&mut row[4 * k..4 * k + 4], &src[4 * k..4 * k + 4], change);
+    }
+    4 * fours
+}
+
 /// Changes each pixel of a row by the pixel of the source at the same place.
 #[inline(always)]
 fn merge_row<P: Pixel, D: FlatPixel<P>, Q: Pixel, S: Flat<Q>, B: Merge<P, Q>>(
@@ -108,8 +147,9 @@ fn merge_row<P: Pixel, D: FlatPixel<P>, Q: Pixel, S: Flat<Q>, B: Merge<P, Q>>(
     ensures { map D.numbers row.new ≡ over (B.makes change.now) (map S.numbers src.now)
         (map D.numbers row.old) }
 {
-    let start = merge_sixteens(row, src, change);
     let count = row.len().min(src.len());
+    let sixteens = merge_sixteens(row, src, change);
+    let start = sixteens + merge_fours(&mut row[sixteens..], &src[sixteens..], change);
     for i in start..count {
         let mut pixel = row[i].read();
         change.merge_one(&mut pixel, &src[i].read());

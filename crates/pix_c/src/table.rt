@@ -13,7 +13,7 @@ ghost use Rattle.pix_c.specs.Table.{count_status, pack_status, unpack_status, de
 use crate::status::{BAD_LENGTH, DONE};
 use pix_table::{
     Color, Diffusion, IndexDepth, Matcher, RowFault, TablePixel, count, diffuse_pixels, look_up,
-    match_pixels, pack_row, table_from, unpack_row,
+    match_pixels, nearest, pack_row, table_from, unpack_row,
 };
 
 /// A table has no entry, or more than 256.
@@ -66,11 +66,16 @@ pub extern "C" fn pix_table_nearest(entries: &[Color], clr: &Color, index: &mut 
     ensures done { result ≡ 0
         → IsNearest (map numbers entries.now) (numbers clr.now) index.new }
 {
-    let Some(mut matcher) = Matcher::new(entries) else {
+    if entries.len() > 256 {
         return BAD_TABLE;
-    };
-    *index = matcher.nearest(*clr);
-    DONE
+    }
+    match nearest(entries, *clr) {
+        Some(at) => {
+            *index = at as u8;
+            DONE
+        }
+        None => BAD_TABLE,
+    }
 }
 
 /// Writes for each pixel the index of the entry that is nearest to it, as [`pix_table_nearest`].

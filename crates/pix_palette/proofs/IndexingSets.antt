@@ -1,7 +1,7 @@
 -- Setting the colors of pixels, one after the other.
 use Rattle.std.specs.Prelude.{take}
 use Rattle.std.proofs.Common.{◌≡◌, ℕ, suc, ◌+◌, ◌<◌, ◌≤◌, List, [], ◌∷◌, ◌++◌, length, map, get_or, set, refl, arith, sym, ap, ◌∙◌, subst, Some, None}
-use Rattle.std.proofs.lemmas.List.{length-map, map-set, get_or-map, take_more, take_more_set, take_all, take-append-drop, take-append-le}
+use Rattle.std.proofs.lemmas.List.{length-map, map-set, get_or-map, take_more, take_more_set, take_all, take-append-drop, take-append-le, take-take}
 use Rattle.pix_chan.specs.Modes.{GammaMode, Srgb}
 use Rattle.pix_el.specs.Conversion.{Format, converted}
 use Rattle.std.proofs.Math.Seq.{drop-cons, take-length}
@@ -109,3 +109,7 @@ all_gray {P = P} read pixels i above h =
       alone = sym (take_all i (map read pixels) (omega (arith, length-map pixels read))) ∙ h
           ∙ take_all i (map alone (map f pixels)) (omega (arith, length-map pixels f, length-map (map f pixels) alone));
     }
+
+-- what stays below a number stays below a smaller one
+pub before_less : {X : Type 0} (xs ys : List X) (n used : ℕ) → n ≤ used → take used ys ≡ take used xs → take n ys ≡ take n xs
+before_less xs ys n used less e = sym (take-take n used ys less) ∙ ap (take n) e ∙ take-take n used xs less

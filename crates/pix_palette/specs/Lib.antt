@@ -3,3 +3,4 @@ pub mod Palette
 pub mod Histogram
 pub mod Indexing
 pub mod Known
+pub mod ColorTable

@@ -3,4 +3,4 @@
 
 mod palette;
 
-pub use palette::Palette;
+pub use palette::{ColorTable, Palette};

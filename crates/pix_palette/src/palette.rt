@@ -7,9 +7,12 @@ ghost use Rattle.pix_palette.specs.Histogram.{IsHistogram};
 ghost use Rattle.pix_raster.specs.declared.fault.RasterFault.{RasterFault};
 
 mod closest;
+mod color_table;
 mod index;
 mod indexing;
 mod known;
+mod lent;
+mod slots;
 mod table;
 
 use self::closest::closest;
@@ -17,6 +20,7 @@ use self::index::{PaletteIndex, count_indices};
 use self::table::{Threshold, ThresholdFn};
 use pix_el::rgb::{Rgb, SRgb8};
 use pix_raster::RasterFault;
+pub use slots::ColorTable;
 use std::alloc::Global;
 pub use table::Palette;
 

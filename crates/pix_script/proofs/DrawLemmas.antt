@@ -1,13 +1,15 @@
 -- What drawings make of an image.
-use Rattle.std.proofs.Common.{◌≡◌, ℕ, ◌+◌, ◌*◌, ◌<◌, length, get_or, take, replicate, pos, ℤ, ◌+ℤ◌, ◌-ℤ◌, ◌<ℤ◌, ◌≤ℤ◌, List, [], ◌∷◌, ◌++◌, Bool, true, false, refl, sym, ap, ◌∙◌, arith, fold, map, inl, inr}
+use Rattle.std.proofs.Common.{◌≡◌, ℕ, ◌+◌, ◌*◌, ◌<◌, length, get_or, take, drop, replicate, pos, ℤ, ◌+ℤ◌, ◌-ℤ◌, ◌<ℤ◌, ◌≤ℤ◌, List, [], ◌∷◌, ◌++◌, Bool, true, false, refl, sym, ap, ◌∙◌, arith, fold, map, inl, inr}
 use Rattle.std.specs.Prelude.{◌&&◌, not, int_lt}
 use Rattle.std.specs.Int.{int_min}
+use Rattle.std.specs.List.{refill}
 use Rattle.std.proofs.lemmas.Bool.{cases_Bool}
 use Rattle.std.proofs.lemmas.Int.{ints, clamps}
 use Rattle.std.proofs.lemmas.List.Sums.{fold-append}
-use Rattle.std.proofs.lemmas.List.{take_more, append-nil, get_or-replicate}
+use Rattle.std.proofs.lemmas.List.{take_more, take_all, take-append-le, append-nil, get_or-replicate}
 use Rattle.pix_raster.specs.Region.{Rectangle, covers, has_column, has_row}
 use Rattle.pix_raster.specs.Image.{Image, point, region_of, Changed}
+use Rattle.pix_raster.specs.Views.{with_pixels}
 use Rattle.pix_raster.specs.Reach.{natural, has_offset, leads_into, is_paired, from_pair}
 use Rattle.pix_raster.specs.Run.{Copied, Composited, effect_at, effects_at, run_at}
 use Rattle.pix_raster.specs.declared.command.Command.{Command}
@@ -194,3 +196,15 @@ pub shown_text : (image : Image Rgba8p) (width height : ℕ) (commands : List Li
     → picture_text (picture_of image) ≡ text_of (forms.Image width height ∷ commands)
 shown_text image width height commands shows =
     picture_same (picture_of image) (run_of width height commands) shows.same_width shows.same_height shows.points
+
+-- an image of the same sides whose pixels were all copied is the image
+pub copied_whole : (kept image : Image Rgba8p) (ps : List Rgba8p) → kept.width ≡ image.width → kept.height ≡ image.height
+    → length ps ≡ length kept.pixels → ps ≡ image.pixels → with_pixels kept ps ≡ image
+copied_whole kept image ps wide high long same =
+    let whole : refill (length kept.pixels) kept.pixels ps ≡ ps =
+    take-append-le (length kept.pixels) ps (drop (length ps) kept.pixels) (omega (arith, long)) ∙ take_all (length kept.pixels) ps (omega (arith, long)) in
+    parts kept.width image.width kept.height image.height _ image.pixels wide high (whole ∙ same)
+  where
+    parts : (w v h k : ℕ) (p q : List Rgba8p) → w ≡ v → h ≡ k → p ≡ q
+        → ◌≡◌ {A = Image Rgba8p} (record { width = w; height = h; pixels = p }) (record { width = v; height = k; pixels = q })
+    parts w v h k p q e f g = rw (e, f, g) refl

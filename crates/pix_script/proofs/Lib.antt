@@ -1,6 +1,8 @@
 -- The files of lemmas. Answers, invariants and proofs of a function are found by its path.
 pub mod NumberLemmas
+pub mod LineLemmas
 pub mod CheckLemmas
+pub mod WordLemmas
 pub mod TextLemmas
 pub mod PictureLemmas
 pub mod DrawLemmas

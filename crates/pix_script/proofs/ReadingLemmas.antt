@@ -1,8 +1,9 @@
 -- What a script's lines mean, one line on.
-use Rattle.std.proofs.Common.{◌≡◌, ℕ, ◌+◌, ◌<◌, ◌≤◌, List, [], ◌∷◌, ◌++◌, length, get_or, take, drop, Bool, true, false, eqb, zero-add, Option, Some, None, Err, refl, sym, ap, ◌∙◌, arith}
-use Rattle.std.specs.Prelude.{codes, ◌||◌}
+use Rattle.std.proofs.Common.{◌≡◌, ℕ, ◌+◌, ◌<◌, ◌≤◌, List, [], ◌∷◌, ◌++◌, length, get_or, take, drop, Bool, true, false, eqb, ltb, filter, zero-add, Option, Some, None, Err, refl, sym, ap, ◌∙◌, arith}
+use Rattle.std.specs.Prelude.{codes, ◌||◌, if◌then◌else◌}
 use Rattle.std.specs.List.{slice_split, enumerate_from}
 use Rattle.std.specs.Str.Lines.{strip_carriage_return}
+use Rattle.std.proofs.lemmas.Bool.{eqb-true, lt-ltb}
 use Rattle.std.proofs.lemmas.List.{take_more, drop_more, take_all, drop_all, length-take-le, length-map, get_or-map, append-nil}
 use Rattle.std.proofs.lemmas.List.Elements.{filter_map-append}
 use Rattle.std.proofs.lemmas.List.FromFn.{length-enumerate_from, get_or-enumerate_from}
@@ -13,7 +14,7 @@ use Rattle.pix_script.specs.declared.fault.Problem.{Problem}
 use Rattle.pix_script.specs.declared.fault.PaintFault.{PaintFault}
 use Rattle.pix_script.specs.declared.fault.PaintFault.TheVariants as faults
 use Rattle.pix_script.specs.declared.script.Script.{Script}
-use Rattle.pix_script.specs.Commands.{problem_of, meaning_of}
+use Rattle.pix_script.specs.Commands.{problem_of, meaning_of, is_comment}
 use Rattle.pix_script.specs.Lines.{words_of, lines_of}
 use Rattle.pix_script.specs.Script.{begins_with, earlier_of, or_later, first_fault, meanings}
 use Rattle.pix_script.specs.Reading.{Held, with_line, with_words, ReadsLine, ReadsLines}
@@ -34,6 +35,30 @@ meanings_more : (lines : List (List (List ℕ))) (words : List (List ℕ)) (mean
     → with_line (meanings lines) meaning ≡ meanings (lines ++ words ∷ [])
 meanings_more lines words None is = sym (none_more lines words is)
 meanings_more lines words (Some m) is = sym (one_more lines words m is)
+
+-- the words of a comment: the first one begins by '#'
+comment_words : (line : List ℕ) → is_comment line ≡ true
+    → (word : List ℕ) × (more : List (List ℕ)) × (words_of line ≡ (35 ∷ word) ∷ more)
+unfolding words_of
+comment_words [] is = absurd cc
+comment_words (byte ∷ bytes) is = split (slice_split (λ b. eqb b 32) bytes) refl (eqb-true byte 35 is)
+  where
+    split : (parts : List (List ℕ)) → slice_split (λ b. eqb b 32) bytes ≡ parts → byte ≡ 35
+        → (word : List ℕ) × (more : List (List ℕ)) × (words_of (byte ∷ bytes) ≡ (35 ∷ word) ∷ more)
+    split [] e first = ([], [], rw (first, e) refl)
+    split (part ∷ parts) e first =
+        let rest : List (List ℕ) = filter (λ p. ltb 0 (length p)) parts in
+        let word : List ℕ = 35 ∷ part in
+        let some : ltb 0 (length word) ≡ true = lt-ltb _ _ (omega arith) in
+        (part, rest, rw (first, e) (ap (λ (b : Bool). if b then word ∷ rest else rest) some))
+
+-- a comment has no problem, and nothing is held for it
+pub comment_read : (old : Held) (line : List ℕ) → is_comment line ≡ true
+    → (problem_of old.earlier (words_of line) ≡ None) × (old ≡ with_words old (words_of line))
+unfolding problem_of meaning_of
+comment_read old line is =
+    let c = comment_words line is in
+    rw (c.2, or_false, or_false) (refl, refl)
 
 -- what the first k lines have given
 pub record SoFar (lines : List (List (List ℕ))) (k : ℕ) (read : Held) : Type 0 where

@@ -1,56 +1,42 @@
--- The text of a row, one pixel on.
-use Rattle.std.proofs.Common.{◌≡◌, ℕ, ◌+◌, ◌<◌, List, [], ◌∷◌, ◌++◌, length, get_or, take, map, refl, sym, ap, ◌∙◌, append_assoc, arith}
-use Rattle.std.specs.List.{join_with_byte}
-use Rattle.std.proofs.lemmas.Simd.{map-map}
-use Rattle.std.proofs.lemmas.List.{map_more, length-take-le, length-map, append-nil}
+-- The text of a row of pixels.
+use Rattle.std.proofs.Common.{◌≡◌, ℕ, ◌+◌, ◌-◌, ◌<◌, ◌≤◌, List, [], ◌∷◌, ◌++◌, length, get_or, take, map, refl, sym, ap, ◌∙◌, append_assoc, arith}
+use Rattle.std.specs.List.{join_with_byte, flat_map}
+use Rattle.std.proofs.lemmas.List.{take_all, take_more, append-nil, map-append}
 
--- a text that is joined from some parts, one part on
-join_more : (c : ℕ) (first : List ℕ) (parts : List (List ℕ)) (last : List ℕ)
-    → join_with_byte c ((first ∷ parts) ++ last ∷ []) ≡ join_with_byte c (first ∷ parts) ++ (c ∷ last)
-join_more c first [] last = refl
-join_more c first (next ∷ parts) last =
-    ap (λ (t : List ℕ). first ++ (c ∷ t)) (join_more c next parts last)
-    ∙ sym (append_assoc first (c ∷ join_with_byte c (next ∷ parts)) (c ∷ last))
+-- parts that are joined: each but the last one has the byte after it
+joined : {X : Type 0} (c : ℕ) (f : X → List ℕ) (front : List X) (last : X)
+    → join_with_byte c (map f (front ++ last ∷ [])) ≡ flat_map (λ x. f x ++ c ∷ []) front ++ f last
+joined c f [] last = refl
+joined c f (x ∷ []) last =
+    sym (append_assoc (f x) (c ∷ []) (f last)) ∙ ap (λ (t : List ℕ). t ++ f last) (sym (append-nil (f x ++ c ∷ [])))
+joined c f (x ∷ next ∷ front) last =
+    ap (λ (t : List ℕ). f x ++ (c ∷ t)) (joined c f (next ∷ front) last)
+    ∙ sym (append_assoc (f x) (c ∷ []) (flat_map (λ y. f y ++ c ∷ []) (next ∷ front) ++ f last))
+    ∙ sym (append_assoc (f x ++ c ∷ []) (flat_map (λ y. f y ++ c ∷ []) (next ∷ front)) (f last))
 
--- the same, where the parts are given whole
-join_push : (c : ℕ) (parts : List (List ℕ)) (last : List ℕ) → 0 < length parts
-    → join_with_byte c (parts ++ last ∷ []) ≡ join_with_byte c parts ++ (c ∷ last)
-join_push c [] last some = absurd (omega arith)
-join_push c (first ∷ parts) last some = join_more c first parts last
+-- the text of a row after its last pixel
+pub row_done : {X : Type 0} (f : List ℕ → List ℕ) (n : X → List ℕ) (old out : List ℕ) (front : List X) (last : X) (row : List X)
+    → row ≡ front ++ last ∷ [] → out ≡ old ++ flat_map (λ m. f m ++ 32 ∷ []) (map n front)
+    → out ++ (f (n last) ++ 10 ∷ []) ≡ old ++ (join_with_byte 32 (map f (map n row)) ++ 10 ∷ [])
+row_done {X} f n old out front last row is so_far =
+    let before : List ℕ = flat_map (λ m. f m ++ 32 ∷ []) (map n front) in
+    let whole : join_with_byte 32 (map f (map n row)) ≡ before ++ f (n last) =
+    ap (λ (r : List X). join_with_byte 32 (map f (map n r))) is
+    ∙ ap (λ (l : List (List ℕ)). join_with_byte 32 (map f l)) (map-append n front (last ∷ []))
+    ∙ joined 32 f (map n front) (n last) in
+    ap (λ (t : List ℕ). t ++ (f (n last) ++ 10 ∷ [])) so_far
+    ∙ append_assoc old before (f (n last) ++ 10 ∷ [])
+    ∙ ap (λ (t : List ℕ). old ++ t) (sym (append_assoc before (f (n last)) (10 ∷ [])) ∙ ap (λ (t : List ℕ). t ++ 10 ∷ []) (sym whole))
 
--- the text after the first pixel of a row
-pub row_first : {X : Type 0} (f : X → List ℕ) (old out : List ℕ) (row : List X) (i : ℕ) (d : X)
-    → i < length row → i ≡ 0 → out ≡ old ++ join_with_byte 32 (map f (take i row))
-    → out ++ f (get_or row i d) ≡ old ++ join_with_byte 32 (map f (take (i + 1) row))
-row_first f old out row i d lt first so_far =
-    let m = map_more f row i d lt in
-    rw (so_far, m, first, append-nil) refl
-
--- the text after a later pixel of a row, which a space parts from those before
-pub row_next : {X : Type 0} (f : X → List ℕ) (old out : List ℕ) (row : List X) (i : ℕ) (d : X)
-    → i < length row → 0 < i → out ≡ old ++ join_with_byte 32 (map f (take i row))
-    → (out ++ 32 ∷ []) ++ f (get_or row i d) ≡ old ++ join_with_byte 32 (map f (take (i + 1) row))
-row_next f old out row i d lt more so_far =
-    let m = map_more f row i d lt in
-    let before = map f (take i row) in
-    let len = length-take-le i row (omega arith) in
-    let some : 0 < length before = omega (arith, length-map (take i row) f, len) in
-    let j = join_push 32 before (f (get_or row i d)) some in
-    rw (so_far, m, j) (simp append_assoc)
-
--- the same two where f is of what n reads of the element x, which stands at that place
-pub read_first : {X : Type 0} (f : List ℕ → List ℕ) (n : X → List ℕ) (old out : List ℕ) (row : List X) (i : ℕ) (x : X)
-    → i < length row → x ≡ get_or row i x → i ≡ 0 → out ≡ old ++ join_with_byte 32 (map f (map n (take i row)))
-    → out ++ f (n x) ≡ old ++ join_with_byte 32 (map f (map n (take (i + 1) row)))
-read_first f n old out row i x lt is first so_far =
-    let e = map-map f n (take i row) in
-    let e' = map-map f n (take (i + 1) row) in
-    ap (λ y. out ++ f (n y)) is ∙ rw e' (row_first (λ y. f (n y)) old out row i x lt first (rw e at so_far))
-
-pub read_next : {X : Type 0} (f : List ℕ → List ℕ) (n : X → List ℕ) (old out : List ℕ) (row : List X) (i : ℕ) (x : X)
-    → i < length row → x ≡ get_or row i x → 0 < i → out ≡ old ++ join_with_byte 32 (map f (map n (take i row)))
-    → (out ++ 32 ∷ []) ++ f (n x) ≡ old ++ join_with_byte 32 (map f (map n (take (i + 1) row)))
-read_next f n old out row i x lt is more so_far =
-    let e = map-map f n (take i row) in
-    let e' = map-map f n (take (i + 1) row) in
-    ap (λ y. (out ++ 32 ∷ []) ++ f (n y)) is ∙ rw e' (row_next (λ y. f (n y)) old out row i x lt more (rw e at so_far))
+-- the same of a row whose pixels but the last one are done
+pub row_end : {X : Type 0} (f : List ℕ → List ℕ) (n : X → List ℕ) (old out : List ℕ) (front : List X) (i : ℕ) (row : List X) (last : X)
+    → front ≡ take (length row - 1) row → last ≡ get_or row (length row - 1) last → 0 < length row → length front ≤ i
+    → out ≡ old ++ flat_map (λ m. f m ++ 32 ∷ []) (map n (take i front))
+    → out ++ (f (n last) ++ 10 ∷ []) ≡ old ++ (join_with_byte 32 (map f (map n row)) ++ 10 ∷ [])
+row_end {X} f n old out front i row last first at some le so_far =
+    let k : ℕ = length row - 1 in
+    let whole : row ≡ front ++ last ∷ [] =
+    sym (take_all (k + 1) row (omega arith)) ∙ take_more row k last (omega arith) ∙ ap (λ (x : X). take k row ++ x ∷ []) (sym at)
+    ∙ ap (λ (l : List X). l ++ last ∷ []) (sym first) in
+    row_done f n old out front last row whole
+    (so_far ∙ ap (λ (l : List X). old ++ flat_map (λ m. f m ++ 32 ∷ []) (map n l)) (take_all i front le))

@@ -1,13 +1,15 @@
 -- What the code has read of a script so far. No clause of a public call cites this file.
-use Rattle.std.specs.Prelude.{◌≡◌, ℕ, List, [], ◌∷◌, ◌++◌, ◌||◌, Option, Some, None, Result, Ok, Err, codes}
+use Rattle.std.specs.Prelude.{◌≡◌, ℕ, List, [], ◌∷◌, ◌++◌, Bool, false, ◌||◌, Option, Some, None, IfSome, Result, Ok, Err, codes}
 use Rattle.pix_script.specs.declared.command.Earlier.{Earlier}
 use Rattle.pix_script.specs.declared.command.Line.{Line}
 use Rattle.pix_script.specs.declared.fault.Problem.{Problem}
+use Rattle.pix_script.specs.declared.command.Kind.{Kind}
+use Rattle.pix_script.specs.declared.parse.Bad.{Bad}
 use Rattle.pix_script.specs.declared.parse.Row.{Row}
 use Rattle.pix_script.specs.declared.script.Script.{Script}
 use Rattle.pix_script.specs.declared.fault.PaintFault.{PaintFault}
 use Rattle.pix_script.specs.declared.fault.PaintFault.TheVariants as faults
-use Rattle.pix_script.specs.Commands.{Shape, problem_of, meaning_of}
+use Rattle.pix_script.specs.Commands.{Shape, problem_of, meaning_of, any_fails, is_bad_operator, is_bad_number, is_bad_color}
 use Rattle.pix_script.specs.Script.{begins_with, meanings, first_fault}
 
 -- which of `image` and `keep` there are with one more line
@@ -35,6 +37,20 @@ shape_of row = record { words = row.words.now; makes_image = row.makes_image; re
 abbrev pub Checks : Option Problem → Result (Unit {0}) Problem → Type 0
 Checks problem (Ok done) = problem ≡ None
 Checks problem (Err found) = problem ≡ Some found
+
+-- which of a command's words are bad in their places
+pub record AreBad (kinds : List Kind) (words : List (List ℕ)) (bad : Bad) : Type 0 where
+  pub operator : bad.operator ≡ any_fails is_bad_operator kinds words
+  pub number : bad.number ≡ any_fails is_bad_number kinds words
+  pub color : bad.color ≡ any_fails is_bad_color kinds words
+
+-- no word is bad in its place
+abbrev pub NoneBad : List Kind → List (List ℕ) → Type 0
+NoneBad kinds words = AreBad kinds words (record { operator = false; number = false; color = false })
+
+-- a row that may be one of these words: where they were read as a line, none is bad in its place
+abbrev pub IsRowOf : Row → List (List ℕ) → Type 0
+IsRowOf row words = IfSome row.line (λ line. NoneBad row.words.now words)
 
 -- what the code holds: the commands that were read, and which of `image` and `keep` are among the lines
 pub record Held : Type 0 where

@@ -4,7 +4,7 @@ ghost use Rattle.std.specs.Option.{option_map};
 ghost use Rattle.pix_script.specs.Commands.{new_image, on_image, from_kept, named, commands, problem_of, meaning_of, problem_of_shape, any_fails, is_bad_operator, is_bad_number, is_bad_color, is_above, any_side_above};
 ghost use Rattle.pix_script.specs.Meaning.{rectangle_of, image_of, fill_of, paint_of, copy_of, comp_of};
 ghost use Rattle.pix_script.specs.Numbers.{side_of};
-ghost use Rattle.pix_script.specs.Reading.{Reads, Checks, shape_of};
+ghost use Rattle.pix_script.specs.Reading.{Reads, Checks, IsRowOf, AreBad, shape_of};
 
 use crate::command::Kind::{Color, Coordinate, Operator, Side};
 use crate::command::{Earlier, Kind, Line};
@@ -204,12 +204,12 @@ fn comp(arguments: &[&[u8]]) -> Option<Line>
     Some(Line::Comp { op, to, from })
 }
 
-/// Checks the words after a command's name.
+/// Checks the words after a command's name, from which its row was made.
 fn check(row: &Row, arguments: &[&[u8]], earlier: Earlier) -> Result<(), Problem>
     ensures { let all = map (λ word. word.now) arguments.now in
-        Checks (problem_of_shape earlier all (Some (shape_of row.now))) result }
+        IsRowOf row.now all → Checks (problem_of_shape earlier all (Some (shape_of row.now))) result }
 {
-    let bad = bad_words(row.words, arguments);
+    let bad = bad_words_of(row, arguments);
     if bad.operator {
         return Err(Problem::UnknownWord);
     }
@@ -235,6 +235,21 @@ fn check(row: &Row, arguments: &[&[u8]], earlier: Earlier) -> Result<(), Problem
         return Err(Problem::NothingKept);
     }
     Ok(())
+}
+
+/// Returns which of the words are bad in their places: none of those that the row's line was read from, which aren't read again.
+fn bad_words_of(row: &Row, arguments: &[&[u8]]) -> Bad
+    ensures { let all = map (λ word. word.now) arguments.now in
+        IsRowOf row.now all → AreBad row.now.words.now all result }
+{
+    match row.line {
+        Some(_) => Bad {
+            operator: false,
+            number: false,
+            color: false,
+        },
+        None => bad_words(row.words, arguments),
+    }
 }
 
 /// Which words do not spell what they have to.

@@ -1,5 +1,5 @@
 //! Pixels from bytes and as text.
-ghost use Rattle.std.specs.Prelude.{◌≡◌, ◌++◌, OnOk, map};
+ghost use Rattle.std.specs.Prelude.{◌≡◌, [], ◌∷◌, ◌++◌, OnOk, map};
 ghost use Rattle.pix_script.specs.Pixels.{color_numbers};
 ghost use Rattle.pix_script.specs.Text.{pixel_text, row_text};
 
@@ -23,12 +23,13 @@ pub(crate) fn pixel_of(bytes: [u8; 4]) -> Rgba8p
     ])
 }
 
-/// Adds the text of a pixel, eight digits at once.
+/// Adds the text of a pixel and the byte after it, nine bytes at once.
 #[tactic(auto, unfolding(crate::specs::Text::pixel_text, crate::specs::Pixels::color_numbers))]
-fn push_pixel(out: &mut Vec<u8>, pixel: &Rgba8p) -> Result<(), AllocError>
-    ensures { OnOk result (out.new.items ≡ out.old.items ++ pixel_text (color_numbers pixel.now)) }
+fn push_pixel(out: &mut Vec<u8>, pixel: &Rgba8p, after: u8) -> Result<(), AllocError>
+    ensures { OnOk result (out.new.items ≡ out.old.items ++ (pixel_text (color_numbers pixel.now) ++ after ∷ [])) }
 {
-    out.extend_from_slice(&pixel_digits(pixel))
+    let [a, b, c, d, e, f, g, h] = pixel_digits(pixel);
+    out.extend_from_slice(&[a, b, c, d, e, f, g, h, after])
 }
 
 /// The digits of a pixel's bytes: red, green, blue and alpha.
@@ -49,12 +50,12 @@ fn pixel_digits(pixel: &Rgba8p) -> [u8; 8]
 pub(crate) fn push_row(out: &mut Vec<u8>, row: &[Rgba8p]) -> Result<(), AllocError>
     ensures { OnOk result (out.new.items ≡ out.old.items ++ row_text (map color_numbers row.now)) }
 {
-    for (place, pixel) in row.iter().enumerate() {
-        if place > 0 {
-            out.push(b' ')?;
-        }
-        push_pixel(out, pixel)?;
+    let [front @ .., last] = row else {
+        out.push(b'\n')?;
+        return Ok(());
+    };
+    for pixel in front {
+        push_pixel(out, pixel, b' ')?;
     }
-    out.push(b'\n')?;
-    Ok(())
+    push_pixel(out, last, b'\n')
 }

@@ -9,7 +9,7 @@ ghost use Rattle.pix_script.specs.Script.{Gives, IsFirstFault, outcome_of, text_
 
 use crate::command::{Earlier, Line};
 use crate::fault::{PaintFault, Problem};
-use crate::lines::{without_return, words};
+use crate::lines::{read_words, without_return};
 use crate::parse::parse;
 use crate::picture::raster_text;
 use pix_el::rgb::Rgba8p;
@@ -59,20 +59,31 @@ fn read_lines(alloc: Global, script: &[u8]) -> Result<Script, PaintFault>
             keep: false,
         },
     };
+    // The room for a line's words is used again by the next one.
+    let mut words = Vec::new(alloc);
     for (index, line) in script.split(|byte| *byte == b'\n').enumerate() {
-        read.read_line(alloc, index + 1, line)?;
+        read.read_line(&mut words, index + 1, line)?;
     }
     Ok(read)
 }
 
 impl Script {
-    /// Reads the line of this number.
-    fn read_line(&mut self, alloc: Global, number: usize, line: &[u8]) -> Result<(), PaintFault>
+    /// Reads the line of this number, into `words` first; a comment has none to be read.
+    fn read_line<'a>(
+        &mut self,
+        words: &mut Vec<&'a [u8]>,
+        number: usize,
+        line: &'a [u8],
+    ) -> Result<(), PaintFault>
         ensures { ReadsLine (held self.old) (held self.new) number
             (words_of (strip_carriage_return line.now)) result }
     {
-        let words = words(alloc, without_return(line))?;
-        match parse(&words, self.earlier) {
+        let line = without_return(line);
+        if line.first() == Some(&b'#') {
+            return Ok(());
+        }
+        read_words(words, line)?;
+        match parse(words, self.earlier) {
             Err(problem) => return Err(PaintFault::Line(number, problem)),
             Ok(None) => {}
             Ok(Some(command)) => {
@@ -81,7 +92,7 @@ impl Script {
                     .map_err(|_| PaintFault::OutOfMemory)?;
             }
         }
-        self.earlier = self.earlier.with(&words);
+        self.earlier = self.earlier.with(words);
         Ok(())
     }
 }
@@ -130,13 +141,26 @@ fn draw(alloc: Global, image: &mut Raster<Rgba8p>, commands: &[Line]) -> Result<
             draw_line(image, &kept, line);
             is_kept = false;
         } else if !is_kept {
-            let Ok(copy) = image.try_clone(alloc) else {
-                return Err(PaintFault::OutOfMemory);
-            };
-            kept = copy;
+            keep(alloc, image, &mut kept)?;
             is_kept = true;
         }
     }
+    Ok(())
+}
+
+/// Makes `kept` a copy of an image, in the memory that it has where it is as wide and as high.
+fn keep(alloc: Global, image: &Raster<Rgba8p>, kept: &mut Raster<Rgba8p>) -> Result<(), PaintFault>
+    ensures kept { OnOk result (kept.new ≡ image.now) }
+    ensures memory { IfErr result (λ fault. fault ≡ PaintFault.OutOfMemory) }
+{
+    if kept.width() == image.width() && kept.height() == image.height() {
+        kept.pixels_mut().copy_from_slice(image.pixels());
+        return Ok(());
+    }
+    let Ok(copy) = image.try_clone(alloc) else {
+        return Err(PaintFault::OutOfMemory);
+    };
+    *kept = copy;
     Ok(())
 }
 

@@ -7,7 +7,7 @@ use Rattle.std.proofs.lemmas.List.Sorted.{IsPermutation-map, sum_by-IsPermutatio
 use Rattle.std.specs.Prelude.{cond, nat_lt}
 use Rattle.pix_table.specs.Nearest.{numbers}
 use Rattle.pix_table.specs.Cut.{width, spread, below, share, mean, IsWidest, IsMedian, IsCut, IsCutTable, whole, cut}
-use Rattle.pix_table.proofs.Boxes.{below_zero, some_below, some_others, none_below, each_below_value}
+use Rattle.pix_table.proofs.BoxSpans.{below_zero, some_below, some_others, none_below, each_below_value}
 use Rattle.pix_table.specs.declared.color.Color.{Color}
 
 -- a box of several colors is wider than 1 where it is widest

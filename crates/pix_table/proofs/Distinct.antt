@@ -6,7 +6,7 @@ use Rattle.std.proofs.lemmas.List.Sums.{fold-append}
 use Rattle.pix_table.specs.Nearest.{numbers}
 use Rattle.pix_table.specs.From.{same_color, with_color, distinct}
 use Rattle.pix_table.specs.declared.color.Color.{Color}
-use Rattle.pix_table.proofs.Boxes.{fold_one_more}
+use Rattle.pix_table.proofs.BoxSpans.{fold_one_more}
 
 -- one color more that is among them
 pub known_more : (box more table : List (List ℕ)) (x : List ℕ) → more ≡ box ++ x ∷ [] → table ≡ distinct box → list_any (λ c. same_color c x) table ≡ true

@@ -3,8 +3,10 @@ pub mod NearestEntries
 pub mod Writes
 pub mod Below
 pub mod Places
-pub mod Boxes
+pub mod BoxSpans
 pub mod Parts
 pub mod CutBoxes
 pub mod Distinct
 pub mod Diffused
+pub mod Corners
+pub mod Listed

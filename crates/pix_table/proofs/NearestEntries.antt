@@ -1,9 +1,7 @@
 -- The nearest entry, one entry after the other.
-use Rattle.std.proofs.Common.{◌≡◌, ℕ, ◌+◌, ◌<◌, ◌≤◌, List, length, get_or, replicate, refl, arith, subst, inl, inr}
+use Rattle.std.proofs.Common.{◌≡◌, ℕ, ◌+◌, ◌<◌, ◌≤◌, List, length, get_or, refl, arith, subst, inl, inr}
 use Rattle.std.proofs.lemmas.Bool.{cases_lt, cases_order}
-use Rattle.std.proofs.lemmas.List.Elements.{All-replicate}
 use Rattle.pix_table.specs.Nearest.{distance_to, IsNearest, IsFirst, numbers}
-use Rattle.pix_table.specs.Known.{AreKnown}
 use Rattle.pix_table.specs.declared.color.Color.{Color}
 
 -- among the first i entries none is nearer than `at`, none before it is as near, and `least` is how far it is
@@ -68,11 +66,6 @@ nearest_of_first entries color at i h f =
         | inr b ↦ absurd (omega (arith, h.first i b, f.same))
       ]
     ]
-
--- a color with its nearest entry at each place
-pub all_known : (entries : List (List ℕ)) (n : ℕ) (clr : Color) (at : ℕ) → IsNearest entries (numbers clr) at
-    → AreKnown entries (replicate n (record { clr = clr; at = at }))
-all_known entries n clr at h = All-replicate (λ known. IsNearest entries (numbers known.clr) known.at) n (record { clr = clr; at = at }) h
 
 -- a pixel of the same channels has the same nearest entry
 pub same_channels : (entries : List (List ℕ)) (clr : Color) (pixel : List ℕ) (at : ℕ) → clr.red ≡ get_or pixel 0 0 → clr.green ≡ get_or pixel 1 0

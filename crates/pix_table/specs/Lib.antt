@@ -1,5 +1,5 @@
 pub mod Nearest
-pub mod Known
+pub mod Boxes
 pub mod LookUp
 pub mod Packing
 pub mod Cut

@@ -7,6 +7,9 @@ ghost use Rattle.pix_table.specs.Span.{IsSpan};
 
 use crate::color::Color;
 
+/// The spread of a box whose colors are all the same: there is one number in each channel.
+const PLAIN: usize = 3;
+
 /// How far the colors of a box reach in each channel.
 #[derive(Clone, Copy)]
 struct Span {
@@ -200,7 +203,7 @@ pub(crate) fn cut_table(colors: &mut [Color], entries: &mut [Color]) -> usize
 {
     let span = Span::new(colors);
     let k = span.widest();
-    if entries.len() == 1 || span.spread() == 3 {
+    if entries.len() == 1 || span.spread() == PLAIN {
         entries[0] = Color {
             red: mean(colors, 0),
             green: mean(colors, 1),

@@ -3,6 +3,7 @@
 //! The tables and the indices are slices that the caller owns, and nothing is allocated.
 #![tactic(auto)]
 
+mod boxes;
 mod color;
 mod cut;
 mod diffuse;

@@ -1,6 +1,6 @@
 //! The nearest entry of a color.
-ghost use Rattle.std.specs.Prelude.{◌≡◌, ℕ, length, map, Some, None, IfSome};
-ghost use Rattle.pix_table.specs.Nearest.{IsNearestOf, IsFirst, numbers, distance, squared_difference};
+ghost use Rattle.std.specs.Prelude.{◌≡◌, ℕ, ◌<◌, ◌≤◌, length, map, Some, None, IfSome};
+ghost use Rattle.pix_table.specs.Nearest.{IsNearest, IsNearestOf, IsFirst, numbers, distance, squared_difference};
 
 use crate::color::{Color, TableColor};
 
@@ -27,8 +27,20 @@ pub fn nearest<C: TableColor>(colors: &[C], clr: Color) -> Option<usize>
     Some(at)
 }
 
+/// Returns the index of the nearest of at least 1 and at most 256 entries.
+pub fn search(entries: &[Color], clr: Color) -> u8
+    requires some { 0 < length entries.now }
+    requires few { length entries.now ≤ 256 }
+    ensures { IsNearest (map numbers entries.now) (numbers clr) result }
+{
+    match nearest(entries, clr) {
+        Some(at) => at as u8,
+        None => 0,
+    }
+}
+
 /// Returns how far two colors are apart.
-fn distance(p: Color, q: Color) -> u32
+pub fn distance(p: Color, q: Color) -> u32
     ensures { result ≡ distance (numbers p) (numbers q) }
 {
     squared_difference(p.red, q.red)

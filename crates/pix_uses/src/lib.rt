@@ -6,6 +6,7 @@ pub mod bytes;
 pub mod channels;
 pub mod colors;
 pub mod conversions;
+pub mod encoder;
 pub mod examples;
 pub mod frames;
 pub mod light;

@@ -1,9 +1,18 @@
 -- Of `merge_row`: that it meets its contract, and that the invariant of its loop over `i` holds after each turn.
-use Rattle.std.proofs.Common.{◌≡◌, ◌≤◌, ◌+◌, ◌∙◌, sym, ap, arith, map, refl, List, ℕ}
-use Rattle.std.proofs.lemmas.List.{length-map, get_or-map}
+use Rattle.std.proofs.Common.{◌≡◌, ◌≤◌, ◌+◌, ◌-◌, ◌∙◌, length, drop, sym, ap, arith, map, refl, List, ℕ}
+use Rattle.std.proofs.lemmas.List.{length-map, length-take, length-drop, get_or-map}
 use Rattle.pix_chan.proofs.Slices.{mapped_one_step, over_both}
 use Rattle.pix_el.proofs.Written.{same_over}
+use Rattle.pix_el.proofs.MattePlanes.{next_run}
 use Rattle.pix_c.proofs.sixteen.merge_row.Goals as goal
+
+pub loop-i-init : goal.loop-i-init
+loop-i-init g c =
+    let n = g.D.Numbered.numbers in
+    let first = c.merge_sixteens-sixteens in
+    let second = c.merge_fours in
+    next_run n g.S.Numbered.numbers (g.B.Merge.makes c.args.change.now) first.result second.result c.args.row.now first.new.row second.new.row c.args.src.now
+    first.ensures.merged (omega (arith, first.ensures.within)) second.ensures.merged
 
 pub loop-i-preserved : goal.loop-i-preserved
 loop-i-preserved g c =
@@ -25,8 +34,23 @@ returns g c =
     let m = g.S.Numbered.numbers in
     let makes = g.B.Merge.makes c.args.change.now in
     let f = λ (d s : List ℕ). makes s d in
-    let within : c.merge_sixteens-start.result ≤ c.min-count.result = omega (arith, c.merge_sixteens-start.auto.row, c.merge_sixteens-start.ensures.within, c.min-count.ensures) in
+    let first = c.merge_sixteens-sixteens in
+    let second = c.merge_fours in
+    let at = first.result in
+    let row = first.new.row in
+    let src = c.args.src.now in
+    let within : at + second.result ≤ c.min-count.result = omega (
+      arith,
+      c.min-count.ensures,
+      first.auto.row,
+      first.ensures.within,
+      second.ensures.within,
+      length-take (length row - at) (drop at row),
+      length-drop at row,
+      length-take (length src - at) (drop at src),
+      length-drop at src,
+    ) in
     let end : c.loop-i.i ≡ c.min-count.result = omega (arith, within) in
     c.loop-i.invariant
-    ∙ over_both f c.loop-i.i (map n c.args.row.now) (map m c.args.src.now) (omega (arith, end, c.min-count.ensures, c.merge_sixteens-start.auto.row, length-map c.args.row.now n, length-map c.args.src.now m))
-    ∙ same_over makes (map m c.args.src.now) (map n c.args.row.now)
+    ∙ over_both f c.loop-i.i (map n c.args.row.now) (map m src) (omega (arith, end, c.min-count.ensures, length-map c.args.row.now n, length-map src m))
+    ∙ same_over makes (map m src) (map n c.args.row.now)

@@ -3,7 +3,7 @@ use Rattle.std.proofs.Common.{◌≤◌, length, sym, ◌∙◌, arith}
 use Rattle.std.proofs.lemmas.List.{take_all}
 use Rattle.pix_script.proofs.DrawLemmas.{keep_more, other_more}
 use Rattle.pix_script.proofs.script.draw.Goals as goal
-use Rattle.pix_script.proofs.script.draw.Goals.{then-not-keeps, else-not-keeps+then-not-is_kept+in-Ok-try_clone, else-not-keeps+else-not-is_kept}
+use Rattle.pix_script.proofs.script.draw.Goals.{then-not-keeps, else-not-keeps+then-not-is_kept+in_ok-keep, else-not-keeps+else-not-is_kept}
 
 pub loop-line-preserved : goal.loop-line-preserved
 loop-line-preserved c =
@@ -14,11 +14,11 @@ loop-line-preserved c =
             c.loop-line-test.true c.line-item.is (sym c.keeps.ensures ∙ w.if-not-keeps.true) (c.loop-line.invariant.0 images none shows) w.draw_line.ensures),
         λ is. absurd cc (w.is_kept-is, is),
       )
-      | else-not-keeps+then-not-is_kept+in-Ok-try_clone w ↦ (
+      | else-not-keeps+then-not-is_kept+in_ok-keep w ↦ (
         λ images none shows. rw (w.image-is, w.kept-is)
-            (keep_more c.args.commands.now c.loop-line.line-index c.line-item.result images c.loop-line.image c.loop-line.kept w.in-Ok-try_clone.copy
-            c.loop-line-test.true c.line-item.is (sym c.keeps.ensures ∙ w.if-not-keeps.false) w.in-Ok-try_clone.ensures.ok (c.loop-line.invariant.0 images none shows)),
-        λ is. rw (w.image-is, w.kept-is) w.in-Ok-try_clone.ensures.ok,
+            (keep_more c.args.commands.now c.loop-line.line-index c.line-item.result images c.loop-line.image c.loop-line.kept w.keep.new.kept
+            c.loop-line-test.true c.line-item.is (sym c.keeps.ensures ∙ w.if-not-keeps.false) w.in_ok-keep.ensures.kept (c.loop-line.invariant.0 images none shows)),
+        λ is. rw (w.image-is, w.kept-is) w.in_ok-keep.ensures.kept,
       )
       | else-not-keeps+else-not-is_kept w ↦
           let same = c.loop-line.invariant.1 w.if-not-is_kept.false in (

@@ -6,14 +6,14 @@ use Rattle.pix_table.specs.Cut.{width, spread, below, share, mean_of, IsWidest, 
 use Rattle.pix_table.specs.declared.color.Color.{Color}
 use Rattle.pix_table.proofs.CutBoxes.{widest_wide, median_some, median_others, some_front, some_back, cut_stands, cut_made, whole_made}
 use Rattle.pix_table.proofs.cut.+cut_table.Goals as goal
-use Rattle.pix_table.proofs.cut.+cut_table.Goals.{then-entries-eq1-via-then-entries-eq1, then-entries-eq1-via-else-entries-eq1+then-spread-eq3}
+use Rattle.pix_table.proofs.cut.+cut_table.Goals.{then-entries-eq1-via-then-entries-eq1, then-entries-eq1-via-else-entries-eq1+then-spread-eq-PLAIN}
 
 pub returns-then-entries-eq1-clause-table : goal.returns-then-entries-eq1-clause-table
 returns-then-entries-eq1-clause-table t c =
     let box : List (List ℕ) = map numbers c.args.colors.now in
     let one : (length c.args.entries.now ≡ 1) ⊎ (spread (map numbers c.args.colors.now) ≡ 3) = elim c.then-entries-eq1.branch [
       | then-entries-eq1-via-then-entries-eq1 w ↦ inl w.if-entries-eq1.true
-      | then-entries-eq1-via-else-entries-eq1+then-spread-eq3 w ↦ inr (sym (w.spread.ensures (map numbers c.args.colors.now) c.new-span.ensures) ∙ w.if-spread-eq3.true)
+      | then-entries-eq1-via-else-entries-eq1+then-spread-eq-PLAIN w ↦ inr (sym (w.spread.ensures (map numbers c.args.colors.now) c.new-span.ensures) ∙ w.if-spread-eq-PLAIN.true)
     ] in
     let green : c.mean-then-entries-eq1.result ∷ c.mean-then-entries-eq1-2.result ∷ [] ≡ mean_of 1 box ∷ mean_of 2 box ∷ [] =
     ap₂ (λ x y. x ∷ y ∷ []) c.mean-then-entries-eq1.ensures c.mean-then-entries-eq1-2.ensures in
@@ -26,7 +26,7 @@ cut_table-used-requires t c =
     let box : List (List ℕ) = map numbers c.args.colors.now in
     let many : length (map numbers c.args.colors.now) ≡ length c.args.colors.now = length-map c.args.colors.now numbers in
     let widest : IsWidest (map numbers c.args.colors.now) c.widest-k.result = c.widest-k.ensures (map numbers c.args.colors.now) c.new-span.ensures in
-    let apart : spread (map numbers c.args.colors.now) ≢ 3 = (λ e. c.if-spread-eq3.false (c.spread.ensures (map numbers c.args.colors.now) c.new-span.ensures ∙ e)) in
+    let apart : spread (map numbers c.args.colors.now) ≢ 3 = (λ e. c.if-spread-eq-PLAIN.false (c.spread.ensures (map numbers c.args.colors.now) c.new-span.ensures ∙ e)) in
     let wide : 1 < width c.widest-k.result (map numbers c.args.colors.now) = widest_wide _ _ widest apart in
     let some : 0 < below c.widest-k.result c.median-value.result (map numbers c.args.colors.now) =
     median_some _ _ _ (omega (arith, many, c.requires.some)) wide c.median-value.ensures (omega arith) in
@@ -48,7 +48,7 @@ cut_table-more-requires t c =
     let box : List (List ℕ) = map numbers c.args.colors.now in
     let many : length (map numbers c.args.colors.now) ≡ length c.args.colors.now = length-map c.args.colors.now numbers in
     let widest : IsWidest (map numbers c.args.colors.now) c.widest-k.result = c.widest-k.ensures (map numbers c.args.colors.now) c.new-span.ensures in
-    let apart : spread (map numbers c.args.colors.now) ≢ 3 = (λ e. c.if-spread-eq3.false (c.spread.ensures (map numbers c.args.colors.now) c.new-span.ensures ∙ e)) in
+    let apart : spread (map numbers c.args.colors.now) ≢ 3 = (λ e. c.if-spread-eq-PLAIN.false (c.spread.ensures (map numbers c.args.colors.now) c.new-span.ensures ∙ e)) in
     let wide : 1 < width c.widest-k.result (map numbers c.args.colors.now) = widest_wide _ _ widest apart in
     let some : 0 < below c.widest-k.result c.median-value.result (map numbers c.args.colors.now) =
     median_some _ _ _ (omega (arith, many, c.requires.some)) wide c.median-value.ensures (omega arith) in
@@ -95,7 +95,7 @@ returns-clause-table t c =
     let box : List (List ℕ) = map numbers c.args.colors.now in
     let many : length (map numbers c.args.colors.now) ≡ length c.args.colors.now = length-map c.args.colors.now numbers in
     let widest : IsWidest (map numbers c.args.colors.now) c.widest-k.result = c.widest-k.ensures (map numbers c.args.colors.now) c.new-span.ensures in
-    let apart : spread (map numbers c.args.colors.now) ≢ 3 = (λ e. c.if-spread-eq3.false (c.spread.ensures (map numbers c.args.colors.now) c.new-span.ensures ∙ e)) in
+    let apart : spread (map numbers c.args.colors.now) ≢ 3 = (λ e. c.if-spread-eq-PLAIN.false (c.spread.ensures (map numbers c.args.colors.now) c.new-span.ensures ∙ e)) in
     let wide : 1 < width c.widest-k.result (map numbers c.args.colors.now) = widest_wide _ _ widest apart in
     let some : 0 < below c.widest-k.result c.median-value.result (map numbers c.args.colors.now) =
     median_some _ _ _ (omega (arith, many, c.requires.some)) wide c.median-value.ensures (omega arith) in

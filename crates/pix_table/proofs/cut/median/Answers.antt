@@ -5,7 +5,7 @@ use Rattle.std.proofs.lemmas.List.Sums.{count_by-le-length}
 use Rattle.std.proofs.lemmas.Bool.{cases_lt}
 use Rattle.pix_table.specs.Nearest.{numbers}
 use Rattle.pix_table.specs.Cut.{below}
-use Rattle.pix_table.proofs.Boxes.{below_zero, below_next}
+use Rattle.pix_table.proofs.BoxSpans.{below_zero, below_next}
 use Rattle.pix_table.proofs.cut.median.Goals as goal
 
 pub loop-value-init : goal.loop-value-init

@@ -4,7 +4,7 @@ use Rattle.std.proofs.lemmas.List.{length-map, map-append, take_more_set, get_or
 use Rattle.pix_table.specs.Nearest.{numbers}
 use Rattle.pix_table.specs.From.{distinct}
 use Rattle.pix_table.specs.declared.color.Color.{Color}
-use Rattle.pix_table.proofs.Boxes.{map_more}
+use Rattle.pix_table.proofs.BoxSpans.{map_more}
 use Rattle.pix_table.proofs.Distinct.{known_more, new_more, distinct_first}
 use Rattle.pix_table.proofs.from.distinct.Goals as goal
 use Rattle.pix_table.proofs.from.distinct.Goals.{then-not-known+else-count-entries, else-not-known}

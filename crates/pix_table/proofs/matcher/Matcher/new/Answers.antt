@@ -1,6 +1,6 @@
 -- Of `Matcher::new`: that the invariant of its loop over `i` holds after each turn, and that of the struct at its end.
 use Rattle.std.proofs.Common.{refl, ◌∙◌, length-set, arith}
-use Rattle.pix_table.proofs.NearestEntries.{all_known}
+use Rattle.pix_table.proofs.Listed.{empty_known}
 use Rattle.pix_table.proofs.Writes.{copy_more}
 use Rattle.pix_table.proofs.matcher.Matcher.new.Goals as goal
 
@@ -16,6 +16,6 @@ invariant_of-result g c = (
   omega arith,
   omega arith,
   c.loop-i.invariant.long,
-  refl,
-  all_known _ 8192 c.color-clr.result c.search-at.result c.search-at.ensures,
+  c.new.ensures.room,
+  empty_known _ _ _ _ c.new.ensures.empty,
 )

@@ -1,0 +1,107 @@
+//! What a table of colors does.
+ghost use Rattle.std.specs.Prelude.{◌≡◌, [], IfOk, IfErr, IfSome};
+ghost use Rattle.std.specs.Option.{option_map};
+ghost use Rattle.pix_palette.specs.Palette.{IsSet};
+ghost use Rattle.pix_palette.specs.Indexing.{AreGray, colors_of, values};
+ghost use Rattle.pix_palette.specs.ColorTable.{entries_of, limit_of, Always, IsIndexedIn};
+ghost use Rattle.pix_raster.specs.declared.fault.RasterFault.{RasterFault};
+
+use super::lent::{index_in, set_entry_in};
+use super::slots::ColorTable;
+use pix_chan::chan::{Ch8, Gamma};
+use pix_color::gray::Gray8;
+use pix_el::el::Pixel;
+use pix_el::rgb::SRgb8;
+use pix_raster::{Raster, RasterFault};
+use std::alloc::Global;
+
+impl ColorTable {
+    /// Makes an empty table of at most `limit` colors, with room for all of them. A color may be as far from its match as `threshold` says, channel by channel.
+    ///
+    /// # Errors
+    ///
+    /// `Memory` on allocation failure, and where the limit is too large to be reserved.
+    pub fn new(alloc: Global, limit: usize, threshold: SRgb8) -> Result<ColorTable, RasterFault>
+        ensures entries { IfOk result (λ table. entries_of table ≡ []) }
+        ensures limit { IfOk result (λ table. limit_of table ≡ limit) }
+        ensures threshold { IfOk result (λ table. table.threshold ≡ threshold) }
+        ensures refused { IfErr result (λ fault. fault ≡ RasterFault.Memory) }
+    {
+        let slots = Vec::from_elem(alloc, SRgb8::default(), limit).map_err(
+            |_| RasterFault::Memory,
+        )?;
+        Ok(ColorTable {
+            slots,
+            len: 0,
+            threshold,
+        })
+    }
+
+    /// Returns the colors in order.
+    pub fn colors(&self) -> &[SRgb8]
+        ensures { result.now ≡ entries_of self.now }
+    {
+        &self.slots[..self.len]
+    }
+
+    /// Sets a color: answers the index of its match if that is within the threshold, else appends the color and answers its index, or answers `None`
+    /// where the limit is reached. It takes no memory. The match is that of [`Palette::set_entry`](crate::Palette::set_entry).
+    pub fn set_entry(&mut self, clr: SRgb8) -> Option<usize>
+        ensures set { IsSet (Always self.old.threshold) (limit_of self.old) (entries_of self.old) clr
+            result (entries_of self.new) }
+        ensures limit { limit_of self.new ≡ limit_of self.old }
+        ensures threshold { self.new.threshold ≡ self.old.threshold }
+    {
+        let (answer, len) = set_entry_in(&mut self.slots, self.len, clr, self.threshold);
+        self.len = len;
+        answer
+    }
+
+    /// Makes a raster of indices: from left to right and row by row, the color of each pixel is set, and the value of the pixel at its place is its
+    /// index. Answers `None` where a color can't be set or its index is above 255: then the table is as it was.
+    ///
+    /// # Errors
+    ///
+    /// `Memory` on allocation failure; the table is unchanged.
+    pub fn index<S>(
+        &mut self,
+        alloc: Global,
+        raster: &Raster<S>,
+    ) -> Result<Option<Raster<Gray8>>, RasterFault>
+    where
+        S: Pixel,
+        Ch8: From<S::Chan>,
+        S::Gamma: Gamma<Ch8>,
+        ensures indexed { IfOk result (λ answer. IsIndexedIn
+            (IsSet (Always self.old.threshold) (limit_of self.old)) (entries_of self.old)
+            (colors_of S.format ⟦<S::Gamma as Gamma<Ch8>>⟧.mode S.numbers raster.now.pixels)
+            (option_map (λ image. values ⟦<Gray8 as Pixel>⟧.numbers image.pixels) answer)
+            (entries_of self.new)) }
+        ensures gray { IfOk result (λ answer. IfSome answer (λ image.
+            AreGray ⟦<Gray8 as Pixel>⟧.numbers image.pixels)) }
+        ensures size { IfOk result (λ answer. IfSome answer (λ image.
+            (image.width ≡ raster.now.width) × (image.height ≡ raster.now.height))) }
+        ensures memory { IfErr result (λ fault. fault ≡ RasterFault.Memory) }
+        ensures unchanged { IfErr result (λ _. entries_of self.new ≡ entries_of self.old) }
+        ensures limit { limit_of self.new ≡ limit_of self.old }
+        ensures threshold { self.new.threshold ≡ self.old.threshold }
+    {
+        match Raster::with_clear(alloc, raster.width(), raster.height()) {
+            Err(_) => Err(RasterFault::Memory),
+            Ok(mut image) => {
+                let (all, len) = index_in(
+                    &mut self.slots,
+                    self.len,
+                    self.threshold,
+                    raster.pixels(),
+                    image.pixels_mut(),
+                );
+                if !all {
+                    return Ok(None);
+                }
+                self.len = len;
+                Ok(Some(image))
+            }
+        }
+    }
+}

@@ -1,0 +1,14 @@
+//! Tables of colors without a function, which any crate may hold, return and pass on.
+ghost use Rattle.std.specs.Prelude.{◌≤◌, vec_len};
+
+use pix_el::rgb::SRgb8;
+
+/// A list of colors, no more than its limit, with a constant threshold. A color that is set is answered by one of them within the threshold, or added,
+/// as [`Palette::set_entry`](crate::Palette::set_entry) does.
+#[derive(Drop)]
+pub struct ColorTable {
+    pub(super) slots: Vec<SRgb8>,
+    pub(super) len: usize,
+    pub(super) threshold: SRgb8,
+    ghost bounded: { len ≤ vec_len slots },
+}
