@@ -37,6 +37,7 @@ pub(crate) enum ModelName {
 
 impl ModelName {
     /// Returns the number of the model, which no other has.
+    #[inline(always)]
     pub(crate) fn kind(self) -> u8
         ensures { result ≡ (row (model_of self)).kind }
     {
@@ -63,6 +64,7 @@ impl ModelName {
     }
 
     /// Returns the channel number of the first color that is no hue, and that of the alpha, which comes after the last color.
+    #[inline(always)]
     pub(crate) fn places(self) -> (usize, usize)
         ensures first { result.0 ≡ (row (model_of self)).colors.start }
         ensures end { result.1 ≡ (row (model_of self)).colors.end }
@@ -91,6 +93,7 @@ pub(crate) trait Colored: Channel {
 }
 
 impl Colored for Ch8 {
+    #[inline(always)]
     fn into_rgb(model: ModelName, pixel: Four<Ch8>) -> Four<Ch8>
         ensures { listed ⟦<Ch8 as Channel>⟧.number result ≡ rgba_of (into_rgb (model_of model))
             (row (model_of model)).alpha 255 (listed ⟦<Ch8 as Channel>⟧.number pixel) }
@@ -109,6 +112,7 @@ impl Colored for Ch8 {
         }
     }
 
+    #[inline(always)]
     fn out_of_rgb(model: ModelName, rgba: Four<Ch8>) -> Four<Ch8>
         ensures { listed ⟦<Ch8 as Channel>⟧.number result ≡ four_of 255
             (of_rgba (out_of_rgb (model_of model)) 255 (listed ⟦<Ch8 as Channel>⟧.number rgba)) }
@@ -129,6 +133,7 @@ impl Colored for Ch8 {
 }
 
 impl Colored for Ch16 {
+    #[inline(always)]
     fn into_rgb(model: ModelName, pixel: Four<Ch16>) -> Four<Ch16>
         ensures { listed ⟦<Ch16 as Channel>⟧.number result ≡ rgba_of (into_rgb (model_of model))
             (row (model_of model)).alpha 65535 (listed ⟦<Ch16 as Channel>⟧.number pixel) }
@@ -147,6 +152,7 @@ impl Colored for Ch16 {
         }
     }
 
+    #[inline(always)]
     fn out_of_rgb(model: ModelName, rgba: Four<Ch16>) -> Four<Ch16>
         ensures { listed ⟦<Ch16 as Channel>⟧.number result ≡ four_of 65535
             (of_rgba (out_of_rgb (model_of model)) 65535 (listed ⟦<Ch16 as Channel>⟧.number rgba)) }

@@ -33,6 +33,7 @@ struct Step {
 
 impl Step {
     /// Returns the step from one format to another of the same model.
+    #[inline(always)]
     fn between(from: Stored, to: Stored) -> Step
         ensures count { result.count ≡ to.count }
         ensures first { result.first ≡ (row (model_of to.model)).colors.start }
@@ -52,6 +53,7 @@ impl Step {
     }
 
     /// Returns the step from red, green, blue and alpha to the same, in the alpha modes of two formats.
+    #[inline(always)]
     fn of_rgba(from: Stored, to: Stored) -> Step
         ensures { result ≡ record { count = 4; first = 0; end = 3; is_premultiplied = from.is_premultiplied; to_premultiplied = to.is_premultiplied } }
     {
@@ -209,6 +211,7 @@ impl<G, H> Converted<G, H> {
 impl<C: Colored, D: Colored, G: Gamma<D>, H: Gamma<D>> Way<C, D> for Converted<G, H> {
     ghost makes = { λ format to pixel. converted format G.mode to H.mode pixel };
 
+    #[inline(always)]
     fn go(&self, from: Stored, to: Stored, pixel: Four<C>) -> Four<D>
         requires few { to.count ≤ (row (model_of to.model)).alpha + 1 }
         ensures { (p : List ℕ) → IsSame C.max (listed C.number pixel) p
@@ -268,6 +271,7 @@ fn channel_in_light(step: Step, ch: usize, c: Ch8, alpha: Ch16) -> Ch16
 impl Way<Ch8, Ch16> for IntoLight {
     ghost makes = { into_light };
 
+    #[inline(always)]
     fn go(&self, from: Stored, to: Stored, pixel: Four<Ch8>) -> Four<Ch16>
         requires few { to.count ≤ (row (model_of to.model)).alpha + 1 }
         ensures { (p : List ℕ) → IsSame 255 (listed ⟦<Ch8 as Channel>⟧.number pixel) p
@@ -324,6 +328,7 @@ fn channel_as_srgb(step: Step, ch: usize, c: Ch16, alpha: Ch16) -> Ch8
 impl Way<Ch16, Ch8> for OutOfLight {
     ghost makes = { out_of_light };
 
+    #[inline(always)]
     fn go(&self, from: Stored, to: Stored, pixel: Four<Ch16>) -> Four<Ch8>
         requires few { to.count ≤ (row (model_of to.model)).alpha + 1 }
         ensures { (p : List ℕ) → IsSame 65535 (listed ⟦<Ch16 as Channel>⟧.number pixel) p
