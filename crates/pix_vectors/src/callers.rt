@@ -1,6 +1,4 @@
 //! Each caller of `pix_uses` on a small picture.
-use crate::pictures::{matte, parts, rgba};
-use crate::{pictures, rgbas};
 use pix::chan::{Ch8, Ch16, Channel};
 use pix::gray::Gray8;
 use pix::lent::Shape;
@@ -47,31 +45,6 @@ fn picture(
     Ok(picture)
 }
 
-/// The picture of these mattes.
-fn mattes(
-    alloc: Global,
-    width: u32,
-    height: u32,
-    pixels: &[Matte8],
-) -> Result<Raster<Matte8>, RasterFault> {
-    pictures::picture(alloc, width, height, pixels)
-}
-
-/// The picture of these sRGB colors.
-fn photo(
-    alloc: Global,
-    width: u32,
-    height: u32,
-    pixels: &[SRgb8],
-) -> Result<Raster<SRgb8>, RasterFault> {
-    pictures::picture(alloc, width, height, pixels)
-}
-
-/// The size and the pixels of a photograph.
-fn shades(photo: &Raster<SRgb8>) -> ((u32, u32), &[SRgb8]) {
-    parts(photo)
-}
-
 #[test]
 fn a_sun_in_the_sky(rt: HostRuntime) -> Result<(), Fail> {
     let sky = Rgba8p::new(16, 32, 48, 255);
@@ -84,8 +57,8 @@ fn a_sun_in_the_sky(rt: HostRuntime) -> Result<(), Fail> {
 fn a_sun_at_each_point(rt: HostRuntime) -> Result<(), Fail> {
     let sky = opaque(200, 100, 50);
     let picture = sunrise(rt.alloc(), sky, glass())?;
-    assert_eq!(rt; rgbas::size(&picture), (32, 16));
-    for (y, row) in rgbas::pixels(&picture).chunks(32).enumerate() {
+    assert_eq!(rt; (picture.width(), picture.height()), (32, 16));
+    for (y, row) in picture.pixels().chunks(32).enumerate() {
         for (x, pixel) in row.iter().enumerate() {
             let inside = (20..26).contains(&x) && (2..8).contains(&y);
             let want = if inside { opaque(150, 75, 101) } else { sky };
@@ -106,13 +79,10 @@ fn a_glaze_over_a_ground(rt: HostRuntime) -> Result<(), Fail> {
 #[test]
 fn a_tint_of_the_top(rt: HostRuntime) -> Result<(), Fail> {
     let sand = opaque(200, 100, 50);
-    let mut sky = rgbas::filled(rt.alloc(), 2, 2, sand)?;
+    let mut sky = Raster::with_color(rt.alloc(), 2, 2, sand)?;
     tint_top(&mut sky, 1, glass());
     let tinted = opaque(150, 75, 101);
-    assert_eq!(rt;
-        rgbas::pixels(&sky),
-        [tinted, tinted, sand, sand].as_slice()
-    );
+    assert_eq!(rt; sky.pixels(), [tinted, tinted, sand, sand].as_slice());
     Ok(())
 }
 
@@ -132,17 +102,17 @@ fn a_sprite_over_the_edges(rt: HostRuntime) -> Result<(), Fail> {
 
 #[test]
 fn a_glyph_at_a_corner(rt: HostRuntime) -> Result<(), Fail> {
-    let glyph = mattes(rt.alloc(), 2, 2, &[0xFF, 0x80, 0x40, 0].map(matte))?;
+    let mut glyph = Raster::with_clear(rt.alloc(), 2, 2)?;
+    *glyph.pixel_mut(0, 0) = Matte8::new(0xFF);
+    *glyph.pixel_mut(1, 0) = Matte8::new(0x80);
+    *glyph.pixel_mut(0, 1) = Matte8::new(0x40);
     let ink = Rgba8p::new(0x40, 0x80, 0x60, 0x80);
-    let mut page = rgbas::cleared(rt.alloc(), 2, 2)?;
+    let mut page = Raster::with_clear(rt.alloc(), 2, 2)?;
     draw_glyph(&mut page, &glyph, 0, 0, ink);
     let half = Rgba8p::new(0x20, 0x40, 0x30, 0x40);
     let quarter = Rgba8p::new(0x10, 0x20, 0x18, 0x20);
-    let clear = rgba([0; 4]);
-    assert_eq!(rt;
-        rgbas::pixels(&page),
-        [ink, half, quarter, clear].as_slice()
-    );
+    let clear = Rgba8p::default();
+    assert_eq!(rt; page.pixels(), [ink, half, quarter, clear].as_slice());
     draw_glyph(&mut page, &glyph, 1, 1, ink);
     Ok(())
 }
@@ -150,7 +120,7 @@ fn a_glyph_at_a_corner(rt: HostRuntime) -> Result<(), Fail> {
 #[test]
 fn a_list_of_commands(rt: HostRuntime) -> Result<(), Fail> {
     let ink = opaque(10, 20, 30);
-    let mut page = rgbas::filled(rt.alloc(), 2, 1, opaque(200, 100, 50))?;
+    let mut page = Raster::with_color(rt.alloc(), 2, 1, opaque(200, 100, 50))?;
     let commands: [Command<'_, Rgba8p, Matte8>; 3] = [
         Command::Clear,
         Command::Color {
@@ -164,7 +134,7 @@ fn a_list_of_commands(rt: HostRuntime) -> Result<(), Fail> {
         },
     ];
     draw(&mut page, &commands);
-    assert_eq!(rt; rgbas::pixels(&page), [glass(), ink].as_slice());
+    assert_eq!(rt; page.pixels(), [glass(), ink].as_slice());
     Ok(())
 }
 
@@ -172,7 +142,7 @@ fn a_list_of_commands(rt: HostRuntime) -> Result<(), Fail> {
 #[test]
 fn a_tile_of_a_page(rt: HostRuntime) -> Result<(), Fail> {
     let (ink, sand) = (opaque(10, 20, 30), opaque(200, 100, 50));
-    let mut page = rgbas::filled(rt.alloc(), 3, 2, sand)?;
+    let mut page = Raster::with_color(rt.alloc(), 3, 2, sand)?;
     let mut tile = Raster::with_color(rt.alloc(), 2, 1, sand)?;
     let commands: [Command<'_, Rgba8p, Matte8>; 2] = [
         Command::CopyColor {
@@ -187,9 +157,9 @@ fn a_tile_of_a_page(rt: HostRuntime) -> Result<(), Fail> {
     ];
     draw_with_tile(&mut page, &mut tile, 1, 1, &commands);
     let none = Rgba8p::new(0, 0, 0, 0);
-    assert_eq!(rt; rgbas::pixels(&tile), [none, ink].as_slice());
+    assert_eq!(rt; tile.pixels(), [none, ink].as_slice());
     assert_eq!(rt;
-        rgbas::pixels(&page),
+        page.pixels(),
         [none, none, sand, none, none, ink].as_slice()
     );
     Ok(())
@@ -199,18 +169,15 @@ fn a_tile_of_a_page(rt: HostRuntime) -> Result<(), Fail> {
 #[test]
 fn two_glazes(rt: HostRuntime) -> Result<(), Fail> {
     let sand = opaque(200, 100, 50);
-    let mut page = rgbas::filled(rt.alloc(), 2, 1, sand)?;
+    let mut page = Raster::with_color(rt.alloc(), 2, 1, sand)?;
     glaze_twice(&mut page, Region::new(0, 0, 1, 1), glass(), glass());
-    assert_eq!(rt;
-        rgbas::pixels(&page),
-        [opaque(112, 56, 140), sand].as_slice()
-    );
+    assert_eq!(rt; page.pixels(), [opaque(112, 56, 140), sand].as_slice());
     Ok(())
 }
 
 #[test]
 fn the_opacity_of_points(rt: HostRuntime) -> Result<(), Fail> {
-    let page = rgbas::filled(rt.alloc(), 2, 1, glass())?;
+    let page = Raster::with_color(rt.alloc(), 2, 1, glass())?;
     assert_eq!(rt; opacity(&page, 1, 0), 64);
     for (x, y) in [(-1, 0), (0, -1), (2, 0), (0, 1)] {
         assert_eq!(rt; opacity(&page, x, y), 0, "({x}, {y})");
@@ -220,9 +187,9 @@ fn the_opacity_of_points(rt: HostRuntime) -> Result<(), Fail> {
 
 #[test]
 fn a_filled_picture(rt: HostRuntime) -> Result<(), Fail> {
-    let mut page = rgbas::cleared(rt.alloc(), 3, 2)?;
+    let mut page = Raster::with_clear(rt.alloc(), 3, 2)?;
     fill(&mut page, glass());
-    assert_eq!(rt; rgbas::pixels(&page), [glass(); 6].as_slice());
+    assert_eq!(rt; page.pixels(), [glass(); 6].as_slice());
     Ok(())
 }
 
@@ -246,12 +213,12 @@ fn a_region_cut_out(rt: HostRuntime) -> Result<(), Fail> {
 fn a_row_written_over(rt: HostRuntime) -> Result<(), Fail> {
     let sand = opaque(200, 100, 50);
     let ink = opaque(10, 20, 30);
-    let mut page = rgbas::filled(rt.alloc(), 3, 2, sand)?;
+    let mut page = Raster::with_color(rt.alloc(), 3, 2, sand)?;
     assert!(rt; underline(&mut page, Region::new(1, 0, 5, 5), 1, ink));
     assert!(rt; !underline(&mut page, Region::new(1, 0, 5, 1), 1, ink));
     assert!(rt; !underline(&mut page, Region::from(()), -1, ink));
     assert_eq!(rt;
-        rgbas::pixels(&page),
+        page.pixels(),
         [sand, sand, sand, sand, ink, ink].as_slice()
     );
     Ok(())
@@ -277,9 +244,10 @@ fn bytes_in_and_bytes_out(rt: HostRuntime) -> Result<(), Fail> {
 #[test]
 fn a_table_of_three_colors(rt: HostRuntime) -> Result<(), Fail> {
     let red = SRgb8::new::<u8>(200, 0, 0);
-    let (green, blue) = (SRgb8::new::<u8>(0, 9, 0), SRgb8::new::<u8>(0, 0, 7));
-    let photograph = photo(rt.alloc(), 2, 2, &[red, green, blue, red])?;
-    let made = table_and_bytes(rt.alloc(), photograph)?;
+    let mut picture = Raster::with_color(rt.alloc(), 2, 2, red)?;
+    *picture.pixel_mut(1, 0) = SRgb8::new::<u8>(0, 9, 0);
+    *picture.pixel_mut(0, 1) = SRgb8::new::<u8>(0, 0, 7);
+    let made = table_and_bytes(rt.alloc(), picture)?;
     assert!(rt;
         made.is_some_and(|(table, bytes)| {
             table.len() == 3 && bytes.as_slice() == [0u8, 1u8, 2u8, 0u8].as_slice()
@@ -299,11 +267,10 @@ fn luminance_of_red(rt: HostRuntime) {
 /// 0xEF, 0x8C, 0xC7 are 56567, 17187, 37429 in light. Half a black over them leaves 32639/65535 of each: 28173, 8560 and 18641, which are 0xAF, 0x65 and 0x91.
 #[test]
 fn a_glaze_over_a_photograph(rt: HostRuntime) -> Result<(), Fail> {
-    let photograph = photo(rt.alloc(), 3, 2, &[SRgb8::new::<u8>(0xEF, 0x8C, 0xC7); 6])?;
-    let shown = photos::glaze(rt.alloc(), &photograph, Rgba16p::new(0, 0, 0, 32896))?;
-    let (size, pixels) = shades(&shown);
-    assert_eq!(rt; (size, pixels.len()), ((3, 2), 6));
-    for pixel in pixels {
+    let photo = Raster::with_color(rt.alloc(), 3, 2, SRgb8::new::<u8>(0xEF, 0x8C, 0xC7))?;
+    let shown = photos::glaze(rt.alloc(), &photo, Rgba16p::new(0, 0, 0, 32896))?;
+    assert_eq!(rt; (shown.width(), shown.height()), (3, 2));
+    for pixel in shown.pixels() {
         assert_eq!(rt; *pixel, SRgb8::new::<u8>(0xAF, 0x65, 0x91));
     }
     Ok(())

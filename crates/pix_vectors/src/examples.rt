@@ -1,10 +1,9 @@
 //! The values that the examples of the docs say.
-use crate::rgbas;
-use pix::Region;
 use pix::chan::{Ch8, Ch16};
 use pix::gray::{Gray8, Graya8p};
 use pix::ops::Op;
 use pix::rgb::{Rgb8, Rgba8, Rgba8p, Rgba16p, SRgb8, SRgba8};
+use pix::{Raster, Region};
 use pix_uses::examples::{channels, models, palettes, pixels, rasters, regions};
 use std::test::Fail;
 
@@ -70,12 +69,12 @@ fn examples_of_rasters(rt: HostRuntime) -> Result<(), Fail> {
     assert_eq!(rt; (size, all), ((64, 48), Region::new(0, 0, 64, 48)));
     assert_eq!(rt; part, Region::new(60, 40, 4, 8));
     assert_eq!(rt; rasters::points(rt.alloc())?, (Gray8::new(9), 12));
-    let mut page = rgbas::cleared(rt.alloc(), 64, 48)?;
+    let mut page = Raster::<Rgba8p>::with_clear(rt.alloc(), 64, 48)?;
     rasters::composited(rt.alloc(), &mut page)?;
-    let glazed = rgbas::pixels(&page).get(60).copied();
+    let glazed = page.pixels().get(60).copied();
     assert_eq!(rt; glazed, Some(Rgba8p::new(0, 0, 64, 64)));
     rasters::listed(&mut page);
-    let twice = rgbas::pixels(&page).get(8 * 64 + 8).copied();
+    let twice = page.pixels().get(8 * 64 + 8).copied();
     assert_eq!(rt; twice, Some(Rgba8p::new(0, 0, 112, 112)));
     Ok(())
 }

@@ -1,10 +1,10 @@
 //! Hues, which are composited along the shorter arc.
-ghost use Rattle.std.specs.Prelude.{ℤ, pos, ◌<ℤ◌, ◌≡◌, ◌+◌};
+ghost use Rattle.std.specs.Prelude.{ℤ, pos, ◌<ℤ◌};
 
 use crate::channels::plain_step;
 use crate::pictures::picture;
 use pix::Command;
-use pix::chan::{Channel, Linear, Premultiplied};
+use pix::chan::Channel;
 use pix::el::Pixel;
 use pix::hsv::{Hsva8p, Hsva16p};
 use pix::matte::Matte8;
@@ -51,25 +51,19 @@ fn plain_hue(start: i64, end: i64, t: i64, max: i64) -> i64
         .rem_euclid(circle)
 }
 
-/// The hue that the operator `Src` makes of the hue of a pixel and that of a source.
-fn hue_over<P>(pixel: P, source: P) -> i64
-where
-    P: Pixel<Alpha = Premultiplied, Gamma = Linear>,
-    requires { P.layout.count ≡ P.layout.alpha + 1 }
-{
-    let mut pixel = pixel;
-    pixel.composite_channels(&source, Src);
-    i64::from(pixel.get(0).to_u32())
-}
-
 #[test]
 fn all_pairs_of_hues(rt: HostRuntime) {
     for before in 0..=255_u8 {
         for source in 0..=255_u8 {
             for t in [0_u8, 1, 127, 128, 254, 255] {
-                let made = hue_over(hsva([before, 0, 0, 0]), hsva([source, 0, 0, t]));
+                let mut pixel = hsva([before, 0, 0, 0]);
+                pixel.composite_channels(&hsva([source, 0, 0, t]), Src);
                 let want = plain_hue(i64::from(before), i64::from(source), i64::from(t), 255);
-                assert_eq!(rt; made, want, "{before} to {source} at {t}");
+                assert_eq!(rt;
+                    i64::from(pixel.get(0).to_u32()),
+                    want,
+                    "{before} to {source} at {t}"
+                );
             }
         }
     }
@@ -88,9 +82,14 @@ fn hues_of_sixteen_bits(rt: HostRuntime) {
         (300, 300),
     ] {
         for t in [0_u16, 1, 255, 32767, 32768, 65534, 65535] {
-            let made = hue_over(Hsva16p::new(before, 0, 0, 0), Hsva16p::new(source, 0, 0, t));
+            let mut pixel = Hsva16p::new(before, 0, 0, 0);
+            pixel.composite_channels(&Hsva16p::new(source, 0, 0, t), Src);
             let want = plain_hue(i64::from(before), i64::from(source), i64::from(t), 65535);
-            assert_eq!(rt; made, want, "{before} to {source} at {t}");
+            assert_eq!(rt;
+                i64::from(pixel.get(0).to_u32()),
+                want,
+                "{before} to {source} at {t}"
+            );
         }
     }
 }

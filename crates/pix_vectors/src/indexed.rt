@@ -1,29 +1,19 @@
 //! Images of many indices into a palette.
 use crate::palettes::{Random, four_five_six};
-use crate::pictures::{parts, picture};
+use pix::el::Pixel;
 use pix::gray::{Gray, Gray8, Gray16};
 use pix::rgb::SRgb8;
 use pix::{Palette, Raster, RasterFault};
-use std::alloc::{AllocError, Global};
+use std::alloc::Global;
 use std::test::Fail;
 
-/// The raster of these colors.
-fn colored(
-    alloc: Global,
-    width: u32,
-    height: u32,
-    colors: &[SRgb8],
-) -> Result<Raster<SRgb8>, RasterFault> {
-    picture(alloc, width, height, colors)
-}
-
 /// A raster of 257 colors, each once.
-fn many_colors(alloc: Global) -> Result<Raster<SRgb8>, Fail> {
-    let mut colors = Vec::new(alloc);
-    for i in 0..257_u16 {
-        colors.push(SRgb8::new((i % 256) as u8, (i / 256) as u8, 0u8))?;
+fn many_colors(alloc: Global) -> Result<Raster<SRgb8>, RasterFault> {
+    let mut raster = Raster::with_clear(alloc, 257, 1)?;
+    for (i, pixel) in raster.pixels_mut().iter_mut().enumerate() {
+        *pixel = SRgb8::new((i % 256) as u8, (i / 256) as u8, 0u8);
     }
-    Ok(colored(alloc, 257, 1, &colors)?)
+    Ok(raster)
 }
 
 /// The answer of `make_indexed`.
@@ -48,22 +38,16 @@ fn indexed_wide(
         .map_err(|(fault, _)| fault)
 }
 
-/// The size and the pixels of an image of values.
-fn values(image: &Raster<Gray16>) -> ((u32, u32), &[Gray16]) {
-    parts(image)
-}
-
 /// Whether there is a raster of 257 columns and one row, of just the indices from 0 on.
 fn counts_up_wide(answer: Option<Raster<Gray16>>) -> bool {
     let Some(raster) = answer else {
         return false;
     };
-    let (size, pixels) = values(&raster);
-    if size != (257, 1) || pixels.len() != 257 {
+    if (raster.width(), raster.height()) != (257, 1) || raster.pixels().len() != 257 {
         return false;
     }
     let mut want = 0_u16;
-    for pixel in pixels {
+    for pixel in raster.pixels() {
         if *pixel != Gray16::new(want) {
             return false;
         }
@@ -97,27 +81,32 @@ fn colliding(i: u8) -> SRgb8 {
     SRgb8::new(i.wrapping_mul(191), i, 0u8)
 }
 
-/// 600 colors of which many share their places, each more than once.
-fn colliding_colors(alloc: Global) -> Result<Vec<SRgb8>, AllocError> {
+/// A raster of colors of which many share their places, each more than once.
+fn colliding_colors(alloc: Global) -> Result<Raster<SRgb8>, RasterFault> {
     let mut random = Random { state: 11 };
-    let mut colors = Vec::new(alloc);
-    for _ in 0..600 {
+    let mut raster = Raster::with_clear(alloc, 50, 12)?;
+    for pixel in raster.pixels_mut().iter_mut() {
         let i = random
             .next()
             .wrapping_mul(64)
             .wrapping_add(random.next().wrapping_mul(17));
-        colors.push(colliding(i.wrapping_add(random.next())))?;
+        *pixel = colliding(i.wrapping_add(random.next()));
     }
-    Ok(colors)
+    Ok(raster)
 }
 
-/// Whether the image has 50 columns and 12 rows, and its values are the indices that setting the colors one by one answers.
-fn are_set_one_by_one(palette: &mut Palette, colors: &[SRgb8], image: &Raster<Gray16>) -> bool {
-    let (size, pixels) = values(image);
-    if size != (50, 12) || pixels.len() != colors.len() {
+/// Whether the image is as large as the raster, and its values are the indices that setting the colors one by one answers.
+fn are_set_one_by_one(
+    palette: &mut Palette,
+    raster: &Raster<SRgb8>,
+    image: &Raster<Gray16>,
+) -> bool {
+    if (image.width(), image.height()) != (raster.width(), raster.height())
+        || image.pixels().len() != raster.pixels().len()
+    {
         return false;
     }
-    for (color, value) in colors.iter().zip(pixels) {
+    for (color, value) in raster.pixels().iter().zip(image.pixels()) {
         let Some(index) = palette.set_entry(*color) else {
             return false;
         };
@@ -132,13 +121,13 @@ fn are_set_one_by_one(palette: &mut Palette, colors: &[SRgb8], image: &Raster<Gr
 fn colliding_colors_are_indexed_as_set(rt: HostRuntime) -> Result<(), Fail> {
     let mut palette = Palette::new(rt.alloc(), 256)?;
     let mut other = Palette::new(rt.alloc(), 256)?;
-    let colors = colliding_colors(rt.alloc())?;
-    let raster = colored(rt.alloc(), 50, 12, &colors)?;
+    let raster = colliding_colors(rt.alloc())?;
     let image = indexed_wide(rt.alloc(), &mut palette, raster)?;
+    let raster = colliding_colors(rt.alloc())?;
     let Some(image) = image else {
         return Err("no image".into());
     };
-    assert!(rt; are_set_one_by_one(&mut other, &colors, &image));
+    assert!(rt; are_set_one_by_one(&mut other, &raster, &image));
     assert!(rt; palette.colors() == other.colors());
     Ok(())
 }
@@ -149,13 +138,13 @@ fn colliding_colors_within_a_threshold_are_indexed_as_set(rt: HostRuntime) -> Re
     let mut other = Palette::new(rt.alloc(), 256)?;
     palette.set_threshold_fn(four_five_six);
     other.set_threshold_fn(four_five_six);
-    let colors = colliding_colors(rt.alloc())?;
-    let raster = colored(rt.alloc(), 50, 12, &colors)?;
+    let raster = colliding_colors(rt.alloc())?;
     let image = indexed_wide(rt.alloc(), &mut palette, raster)?;
+    let raster = colliding_colors(rt.alloc())?;
     let Some(image) = image else {
         return Err("no image".into());
     };
-    assert!(rt; are_set_one_by_one(&mut other, &colors, &image));
+    assert!(rt; are_set_one_by_one(&mut other, &raster, &image));
     assert!(rt; palette.colors() == other.colors());
     Ok(())
 }

@@ -32,6 +32,8 @@ mod lanes;
 #[cfg(test)]
 mod lossless;
 #[cfg(test)]
+mod models;
+#[cfg(test)]
 mod operators;
 #[cfg(test)]
 mod palettes;

@@ -23,11 +23,6 @@ pub(crate) fn picture<P: Pixel>(
     Ok(raster)
 }
 
-/// The width, the height and all pixels.
-pub(crate) fn parts<P: Pixel>(raster: &Raster<P>) -> ((u32, u32), &[P]) {
-    ((raster.width(), raster.height()), raster.pixels())
-}
-
 /// A pixel of one gray value.
 pub(crate) fn gray(value: u8) -> Gray8 {
     Gray8::new(value)

@@ -1,19 +1,8 @@
 //! Rasters of red, green, blue and alpha. Each function makes one call of the library at this format: the tests see a function of no type parameters of pixels.
-use crate::pictures;
 use pix::ops::Blend;
 use pix::rgb::Rgba8p;
 use pix::{Raster, RasterFault, Region};
 use std::alloc::Global;
-
-/// The raster of these pixels.
-pub(crate) fn picture(
-    alloc: Global,
-    width: u32,
-    height: u32,
-    pixels: &[Rgba8p],
-) -> Result<Raster<Rgba8p>, RasterFault> {
-    pictures::picture(alloc, width, height, pixels)
-}
 
 /// A raster of clear pixels.
 pub(crate) fn cleared(
@@ -53,14 +42,4 @@ pub(crate) fn composite_raster<O: Blend>(
     op: O,
 ) {
     raster.composite_raster(to, src, from, op);
-}
-
-/// Composites a color.
-pub(crate) fn composite_color<O: Blend>(
-    raster: &mut Raster<Rgba8p>,
-    reg: Region,
-    clr: Rgba8p,
-    op: O,
-) {
-    raster.composite_color(reg, clr, op);
 }

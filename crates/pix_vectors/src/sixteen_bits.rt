@@ -1,34 +1,14 @@
 //! A raster of sixteen bit channels: copies, composites and mattes.
-ghost use Rattle.std.specs.Prelude.{◌≡◌, ◌+◌};
-
 use crate::pictures::picture;
-use pix::chan::{Linear, Premultiplied};
-use pix::el::{Pix, Pixel};
 use pix::gray::Graya16p;
-use pix::matte::{Matte, Matte16};
+use pix::matte::Matte16;
 use pix::ops::{Op, SrcAtop, SrcOver, Xor};
 use pix::{Command, Raster, Region};
-use std::alloc::Global;
-use std::process::Abort;
 use std::test::Fail;
 
 /// A pixel of a gray value and an alpha.
 fn graya((value, alpha): (u16, u16)) -> Graya16p {
     Graya16p::new(value, alpha)
-}
-
-/// The raster of these pixels.
-fn grayas(
-    alloc: Global,
-    width: u32,
-    height: u32,
-    pixels: &[(u16, u16)],
-) -> Result<Raster<Graya16p>, Fail> {
-    let mut all = Vec::new(alloc);
-    for pixel in pixels {
-        all.push(graya(*pixel))?;
-    }
-    Ok(picture(alloc, width, height, &all)?)
 }
 
 /// A pixel of one matte value.
@@ -62,66 +42,42 @@ const AFTER: [(u16, u16); 6] = [
     (35098, 65535),
 ];
 
-/// The colors that are copied, composited, and composited through mattes.
-const COLORS: [(u16, u16); 3] = [(0x1234, 0xFFFF), (0x2000, 0x4000), (40000, 50000)];
-
-/// The pixels after the copies.
-const COPIED: [(u16, u16); 6] = [
-    (1, 2),
-    (0x6000, 0xA000),
-    (0x8000, 0x8000),
-    (50000, 50000),
-    (65535, 65535),
-    (0x1234, 0xFFFF),
-];
-
-/// The pixels after the composites without a matte.
-const COMPOSITED: [(u16, u16); 6] = [
-    (8193, 16385),
-    (0x6000, 0xA000),
-    (0x8000, 0x8000),
-    (45692, 53884),
-    (49151, 65535),
-    (35098, 65535),
-];
-
-/// The mattes of the channels of `P`.
-type Mattes<P> = Pix<1, <P as Pixel>::Chan, Matte, Premultiplied, Linear>;
-
-/// Makes the calls one by one, and asserts what the pixels are after the copies, after the composites without a matte, and in the end.
-fn assert_calls<P>(
-    rt: &impl Abort,
-    raster: &mut Raster<P>,
-    source: &Raster<P>,
-    mattes: &Raster<Mattes<P>>,
-    colors: [P; 3],
-    wants: [[P; 6]; 3],
-)
-where
-    P: Pixel<Alpha = Premultiplied, Gamma = Linear>,
-    requires has_alpha { P.layout.count ≡ P.layout.alpha + 1 }
-{
-    let all = Region::from(());
-    let [copied, over, through] = colors;
-    raster.copy_color(Region::new(2, 1, 9, 9), copied);
-    raster.copy_raster(Region::new(1, 0, 2, 1), source, all);
-    assert_eq!(rt; raster.pixels(), wants[0].as_slice());
-    raster.composite_color(Region::new(0, 0, 1, 2), over, SrcOver);
-    raster.composite_raster(Region::new(1, 1, 2, 1), source, all, SrcAtop);
-    assert_eq!(rt; raster.pixels(), wants[1].as_slice());
-    raster.composite_matte(all, mattes, all, through, Xor);
-    assert_eq!(rt; raster.pixels(), wants[2].as_slice());
-    raster.clear();
-    assert_eq!(rt; raster.pixels(), [P::default(); 6].as_slice());
-}
-
 #[test]
 fn calls_one_by_one(rt: HostRuntime) -> Result<(), Fail> {
-    let source = grayas(rt.alloc(), 2, 1, &SOURCE)?;
+    let all = Region::from(());
+    let source = picture(rt.alloc(), 2, 1, &SOURCE.map(graya))?;
     let mattes = picture(rt.alloc(), 3, 1, &MATTES.map(matte))?;
-    let mut raster = grayas(rt.alloc(), 3, 2, &BEFORE)?;
-    let wants = [COPIED, COMPOSITED, AFTER].map(|pixels| pixels.map(graya));
-    assert_calls(&rt, &mut raster, &source, &mattes, COLORS.map(graya), wants);
+    let mut raster = picture(rt.alloc(), 3, 2, &BEFORE.map(graya))?;
+
+    raster.copy_color(Region::new(2, 1, 9, 9), graya((0x1234, 0xFFFF)));
+    raster.copy_raster(Region::new(1, 0, 2, 1), &source, all);
+    let copied = [
+        (1, 2),
+        (0x6000, 0xA000),
+        (0x8000, 0x8000),
+        (50000, 50000),
+        (65535, 65535),
+        (0x1234, 0xFFFF),
+    ];
+    assert_eq!(rt; raster.pixels(), copied.map(graya).as_slice());
+
+    raster.composite_color(Region::new(0, 0, 1, 2), graya((0x2000, 0x4000)), SrcOver);
+    raster.composite_raster(Region::new(1, 1, 2, 1), &source, all, SrcAtop);
+    let composited = [
+        (8193, 16385),
+        (0x6000, 0xA000),
+        (0x8000, 0x8000),
+        (45692, 53884),
+        (49151, 65535),
+        (35098, 65535),
+    ];
+    assert_eq!(rt; raster.pixels(), composited.map(graya).as_slice());
+
+    raster.composite_matte(all, &mattes, all, graya((40000, 50000)), Xor);
+    assert_eq!(rt; raster.pixels(), AFTER.map(graya).as_slice());
+
+    raster.clear();
+    assert_eq!(rt; raster.pixels(), [graya((0, 0)); 6].as_slice());
     Ok(())
 }
 
@@ -169,9 +125,9 @@ fn list<'a>(
 /// itself, (58, 73), since the pixel lacks 24575 of the maximum, and the pixel 65340 / 65535, (24503, 40838). The sum is (24561, 40911).
 #[test]
 fn all_calls_as_a_list(rt: HostRuntime) -> Result<(), Fail> {
-    let source = grayas(rt.alloc(), 2, 1, &SOURCE)?;
+    let source = picture(rt.alloc(), 2, 1, &SOURCE.map(graya))?;
     let mattes = picture(rt.alloc(), 3, 1, &MATTES.map(matte))?;
-    let mut raster = grayas(rt.alloc(), 3, 2, &BEFORE)?;
+    let mut raster = picture(rt.alloc(), 3, 2, &BEFORE.map(graya))?;
     raster.run(&list(&source, &mattes));
     assert_eq!(rt; raster.pixels(), AFTER.map(graya).as_slice());
     Ok(())
