@@ -2,11 +2,10 @@
 use crate::flaw::Flaw;
 use crate::images::{all, picture, put, size, text};
 use crate::words::{bytes, hexadecimal};
-use pix::chan::{Ch8, Ch16, Gamma, Linear, Srgb, Straight};
-use pix::el::{Pix, Pixel};
-use pix::gray::{Gray, Gray8};
-use pix::rgb::Rgb;
-use pix::{ColorModel, Raster, RasterFault};
+use pix::el::Pixel;
+use pix::gray::{Gray8, Graya16};
+use pix::rgb::{Rgba8, SRgb8};
+use pix::{Raster, RasterFault};
 use std::alloc::Global;
 
 /// `rgba8 1x1 01020304`: the format and the size of a raster, and the bytes that it is made of;
@@ -19,25 +18,55 @@ pub(crate) fn of_bytes(words: &[&str], alloc: Global) -> Result<String, Flaw> {
     };
     let (size, buffer) = (size(word)?, bytes(buffer, alloc)?);
     match *format {
-        "gray8" => by_format::<1, Gray, Linear>(size, buffer, written, alloc),
-        "rgba8" => by_format::<4, Rgb, Linear>(size, buffer, written, alloc),
-        "srgb8" => by_format::<3, Rgb, Srgb>(size, buffer, written, alloc),
+        "gray8" => gray8(size, buffer, written, alloc),
+        "rgba8" => rgba8(size, buffer, written, alloc),
+        "srgb8" => srgb8(size, buffer, written, alloc),
         _ => Err(Flaw::Name),
     }
 }
 
-/// The answer of [`of_bytes`] for the straight format of these parts.
-fn by_format<const N: usize, M, G>(
+/// The answer of [`of_bytes`] for grays.
+fn gray8(
     (width, height): (u32, u32),
     buffer: Vec<u8>,
     written: &[&str],
     alloc: Global,
-) -> Result<String, Flaw>
-where
-    M: ColorModel,
-    G: Gamma<Ch8>,
-{
-    match Raster::<Pix<N, Ch8, M, Straight, G>>::with_u8_buffer(alloc, width, height, buffer) {
+) -> Result<String, Flaw> {
+    match Raster::<Gray8>::with_u8_buffer(alloc, width, height, buffer) {
+        Ok(mut raster) => {
+            let made = written_picture(&mut raster, written, alloc)?;
+            let back = raster.into_u8_vec(alloc).map_err(|_| Flaw::Memory)?;
+            with_bytes(made.as_str(), &back, alloc)
+        }
+        Err((fault, back)) => refused(fault, &back, written, alloc),
+    }
+}
+
+/// The answer of [`of_bytes`] for colors with an alpha.
+fn rgba8(
+    (width, height): (u32, u32),
+    buffer: Vec<u8>,
+    written: &[&str],
+    alloc: Global,
+) -> Result<String, Flaw> {
+    match Raster::<Rgba8>::with_u8_buffer(alloc, width, height, buffer) {
+        Ok(mut raster) => {
+            let made = written_picture(&mut raster, written, alloc)?;
+            let back = raster.into_u8_vec(alloc).map_err(|_| Flaw::Memory)?;
+            with_bytes(made.as_str(), &back, alloc)
+        }
+        Err((fault, back)) => refused(fault, &back, written, alloc),
+    }
+}
+
+/// The answer of [`of_bytes`] for colors in sRGB.
+fn srgb8(
+    (width, height): (u32, u32),
+    buffer: Vec<u8>,
+    written: &[&str],
+    alloc: Global,
+) -> Result<String, Flaw> {
+    match Raster::<SRgb8>::with_u8_buffer(alloc, width, height, buffer) {
         Ok(mut raster) => {
             let made = written_picture(&mut raster, written, alloc)?;
             let back = raster.into_u8_vec(alloc).map_err(|_| Flaw::Memory)?;
@@ -85,21 +114,11 @@ fn with_bytes(text: &str, back: &[u8], alloc: Global) -> Result<String, Flaw> {
 /// words that it is made of. The answer is the size and the channels of each pixel, or why there
 /// is no raster, and the words that come back.
 pub(crate) fn of_words(words: &[&str], alloc: Global) -> Result<String, Flaw> {
-    by_wide_format::<2, Gray>(words, alloc)
-}
-
-/// The answer of [`of_words`] for the straight linear format of these parts.
-fn by_wide_format<const N: usize, M: ColorModel>(
-    words: &[&str],
-    alloc: Global,
-) -> Result<String, Flaw> {
     let [word, buffer] = words else {
         return Err(Flaw::Count);
     };
     let ((width, height), buffer) = (size(word)?, sixteens(buffer, alloc)?);
-    match Raster::<Pix<N, Ch16, M, Straight, Linear>>::with_u16_buffer(
-        alloc, width, height, buffer,
-    ) {
+    match Raster::<Graya16>::with_u16_buffer(alloc, width, height, buffer) {
         Err((fault, back)) => {
             let back = sixteens_text(&back, alloc)?;
             Ok(format!(in alloc; "{fault} / {back}")?)
@@ -108,10 +127,8 @@ fn by_wide_format<const N: usize, M: ColorModel>(
             let (width, height) = (raster.width(), raster.height());
             let mut made = format!(in alloc; "{width}x{height}")?;
             for pixel in raster.pixels() {
-                made.push(' ')?;
-                for channel in pixel.channels() {
-                    write!(made, "{:04x}", u16::from(*channel))?;
-                }
+                let (value, alpha) = (u16::from(pixel.get(0)), u16::from(pixel.alpha()));
+                write!(made, " {value:04x}{alpha:04x}")?;
             }
             let back = raster.into_u16_vec(alloc).map_err(|_| Flaw::Memory)?;
             let back = sixteens_text(&back, alloc)?;
@@ -147,15 +164,10 @@ fn sixteens_text(all: &[u16], alloc: Global) -> Result<String, Flaw> {
 /// `3x1 01,02,03`: the size of a raster of grays and the pixels that it is made of. The answer is
 /// the size and the pixels of the raster, or why there is none, and the pixels that come back.
 pub(crate) fn of_pixels(words: &[&str], alloc: Global) -> Result<String, Flaw> {
-    as_pixels::<Gray8>(words, alloc)
-}
-
-/// The answer of [`of_pixels`] for a format.
-fn as_pixels<P: Pixel>(words: &[&str], alloc: Global) -> Result<String, Flaw> {
     let [word, pixels] = words else {
         return Err(Flaw::Count);
     };
-    let ((width, height), pixels) = (size(word)?, all::<P>(pixels, alloc)?);
+    let ((width, height), pixels) = (size(word)?, all::<Gray8>(pixels, alloc)?);
     match Raster::with_pixels(width, height, pixels) {
         Err((fault, back)) => {
             let back = text(&back, alloc)?;

@@ -1,12 +1,11 @@
-//! Rows, single pixels and copies of rasters of grays. The bodies are generic: a call at a format costs the prover seconds.
+//! Rows, single pixels and copies of rasters of grays.
 use crate::flaw::Flaw;
 use crate::images::{all, image, picture, pixel, pixel_at, put, text};
 use crate::regions::{coordinate, region};
 use crate::words::{hexadecimal, number};
-use pix::chan::{Alpha, Ch8, Channel, Gamma, Linear, Straight};
-use pix::el::{Pix, Pixel};
-use pix::gray::Gray;
-use pix::{ColorModel, Raster, Region};
+use pix::el::Pixel;
+use pix::gray::Gray8;
+use pix::{Raster, Region};
 use std::alloc::Global;
 use std::mem;
 
@@ -32,21 +31,11 @@ use std::mem;
 ///   many rows it has
 /// - `clone`: copies the raster to the source, and says which pixels and bytes come out of that
 pub(crate) fn gray(words: &[&str], alloc: Global) -> Result<String, Flaw> {
-    answered::<1, Gray, Straight, Linear>(words, alloc)
-}
-
-/// The answer of [`gray`] for the format of these parts.
-fn answered<const N: usize, M, A, G>(words: &[&str], alloc: Global) -> Result<String, Flaw>
-where
-    M: ColorModel,
-    A: Alpha,
-    G: Gamma<Ch8>,
-{
     let [size, pixels, words @ ..] = words else {
         return Err(Flaw::Count);
     };
-    let mut raster = image::<Pix<N, Ch8, M, A, G>>(size, pixels, alloc)?;
-    let mut source = image::<Pix<N, Ch8, M, A, G>>("0x0", "-", alloc)?;
+    let mut raster = image(size, pixels, alloc)?;
+    let mut source = image("0x0", "-", alloc)?;
     let mut answer = String::new(alloc);
     for part in words.split(|word| *word == ";") {
         if change(&mut raster, &mut source, part, alloc)? {
@@ -62,9 +51,9 @@ where
 }
 
 /// Does what the words say, and returns whether they say a change.
-fn change<P: Pixel>(
-    raster: &mut Raster<P>,
-    source: &mut Raster<P>,
+fn change(
+    raster: &mut Raster<Gray8>,
+    source: &mut Raster<Gray8>,
     words: &[&str],
     alloc: Global,
 ) -> Result<bool, Flaw> {
@@ -80,7 +69,7 @@ fn change<P: Pixel>(
         ["write", y, reg, pixels] => {
             let (y, reg) = (coordinate(number(y)?)?, region(reg, alloc)?);
             let row = raster.row_mut(y, reg).ok_or(Flaw::Refused)?;
-            P::copy_slice(row, &all::<P>(pixels, alloc)?);
+            Gray8::copy_slice(row, &all::<Gray8>(pixels, alloc)?);
         }
         ["swap"] => mem::swap(raster, source),
         _ => return Ok(false),
@@ -89,17 +78,12 @@ fn change<P: Pixel>(
 }
 
 /// The answer to a question.
-fn told<const N: usize, M, A, G>(
-    raster: &mut Raster<Pix<N, Ch8, M, A, G>>,
-    source: &mut Raster<Pix<N, Ch8, M, A, G>>,
+fn told(
+    raster: &mut Raster<Gray8>,
+    source: &mut Raster<Gray8>,
     words: &[&str],
     alloc: Global,
-) -> Result<String, Flaw>
-where
-    M: ColorModel,
-    A: Alpha,
-    G: Gamma<Ch8>,
-{
+) -> Result<String, Flaw> {
     match words {
         ["pixels"] => picture(raster, alloc),
         ["at", x, y] => {
@@ -127,15 +111,7 @@ where
 }
 
 /// The pixels and the bytes that come out of copies of a raster.
-fn copies<const N: usize, M, A, G>(
-    raster: &Raster<Pix<N, Ch8, M, A, G>>,
-    alloc: Global,
-) -> Result<String, Flaw>
-where
-    M: ColorModel,
-    A: Alpha,
-    G: Gamma<Ch8>,
-{
+fn copies(raster: &Raster<Gray8>, alloc: Global) -> Result<String, Flaw> {
     let lent = hexadecimal(&raster.to_u8_vec(alloc).map_err(|_| Flaw::Memory)?, alloc)?;
     let copy = raster.try_clone(alloc).map_err(|_| Flaw::Memory)?;
     let bytes = hexadecimal(&copy.into_u8_vec(alloc).map_err(|_| Flaw::Memory)?, alloc)?;
@@ -146,7 +122,7 @@ where
 
 /// How many rows a region has, and the pixels of each; after the last row there is none, however
 /// often it is asked for.
-fn rows<P: Pixel>(raster: &Raster<P>, reg: Region, alloc: Global) -> Result<String, Flaw> {
+fn rows(raster: &Raster<Gray8>, reg: Region, alloc: Global) -> Result<String, Flaw> {
     let count = raster.rows(reg).count();
     let mut answer = format!(in alloc; "{count}")?;
     let mut rows = raster.rows(reg);
@@ -161,11 +137,7 @@ fn rows<P: Pixel>(raster: &Raster<P>, reg: Region, alloc: Global) -> Result<Stri
 }
 
 /// How many rows of a region can be written, and the pixels of each.
-fn rows_taken<P: Pixel>(
-    raster: &mut Raster<P>,
-    reg: Region,
-    alloc: Global,
-) -> Result<String, Flaw> {
+fn rows_taken(raster: &mut Raster<Gray8>, reg: Region, alloc: Global) -> Result<String, Flaw> {
     let mut count = 0_usize;
     let mut answer = String::new(alloc);
     for row in raster.rows_mut(reg) {
@@ -178,16 +150,14 @@ fn rows_taken<P: Pixel>(
 
 /// Writes 101, 102 and so on to the points of a region, row by row, and returns the number of
 /// rows.
-fn number_points<P: Pixel>(raster: &mut Raster<P>, reg: Region) -> usize {
+fn number_points(raster: &mut Raster<Gray8>, reg: Region) -> usize {
     let mut count = 0_usize;
     let mut number = 100_u8;
     for row in raster.rows_mut(reg) {
         count = count.wrapping_add(1);
         for pixel in row.iter_mut() {
             number = number.wrapping_add(1);
-            for channel in pixel.channels_mut().iter_mut() {
-                *channel = P::Chan::from_ratio(i64::from(number), 1);
-            }
+            *pixel = Gray8::new(number);
         }
     }
     count

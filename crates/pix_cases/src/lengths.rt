@@ -1,14 +1,11 @@
 //! Rasters, buffers, palettes, indices and scripts of any length, made with ample memory: a call
 //! that refuses a length has no answer.
-ghost use Rattle.std.specs.Prelude.{◌≤◌, ◌+◌};
-
 use crate::flaw::Flaw;
 use crate::words::small;
-use pix::chan::{Alpha, Ch8, Ch16, Linear, Straight};
-use pix::el::{Pix, Pixel};
-use pix::gray::Gray;
+use pix::el::Pixel;
+use pix::gray::{Gray8, Gray16};
 use pix::rgb::SRgb8;
-use pix::{ColorModel, Palette, Raster};
+use pix::{Palette, Raster};
 use pix_script::paint_io;
 use std::alloc::Global;
 
@@ -19,27 +16,12 @@ pub(crate) fn row(words: &[&str], alloc: Global) -> Result<String, Flaw> {
     let [word] = words else {
         return Err(Flaw::Count);
     };
-    through::<1, Gray, Straight>(small(word)?, alloc)
-}
-
-/// The answer of [`row`] for a length, in the linear formats of these parts.
-fn through<const N: usize, M, A>(len: u32, alloc: Global) -> Result<String, Flaw>
-where
-    M: ColorModel,
-    A: Alpha,
-    requires few { N ≤ M.ALPHA + 1 }
-{
-    let mut raster = Raster::<Pix<N, Ch8, M, A, Linear>>::with_clear(alloc, len, 1).map_err(
-        |_| Flaw::Memory,
-    )?;
+    let len = small(word)?;
+    let mut raster = Raster::<Gray8>::with_clear(alloc, len, 1).map_err(|_| Flaw::Memory)?;
     for (i, pixel) in raster.pixels_mut().iter_mut().enumerate() {
-        for channel in pixel.channels_mut().iter_mut() {
-            *channel = Ch8::new((i % 256) as u8);
-        }
+        *pixel = Gray8::new((i % 256) as u8);
     }
-    let wide = Raster::<Pix<N, Ch16, M, A, Linear>>::with_raster(alloc, &raster).map_err(
-        |_| Flaw::Memory,
-    )?;
+    let wide = Raster::<Gray16>::with_raster(alloc, &raster).map_err(|_| Flaw::Memory)?;
     let copy = raster.try_clone(alloc).map_err(|_| Flaw::Memory)?;
     let bytes = raster.to_u8_vec(alloc).map_err(|_| Flaw::Memory)?;
     let copied = copy.into_u8_vec(alloc).map_err(|_| Flaw::Memory)?;
@@ -52,13 +34,9 @@ where
     if len == 0 {
         return Ok(format!(in alloc; "{one} {two} {three}")?);
     }
-    let made: Raster<Pix<N, Ch8, M, A, Linear>> = Raster::with_u8_buffer(
-        alloc, len, 1, bytes,
-    ).map_err(|_| Flaw::Memory)?;
+    let made = Raster::<Gray8>::with_u8_buffer(alloc, len, 1, bytes).map_err(|_| Flaw::Memory)?;
     let bytes = made.into_u8_vec(alloc).map_err(|_| Flaw::Memory)?;
-    let made: Raster<Pix<N, Ch16, M, A, Linear>> = Raster::with_u16_buffer(
-        alloc, len, 1, words,
-    ).map_err(|_| Flaw::Memory)?;
+    let made = Raster::<Gray16>::with_u16_buffer(alloc, len, 1, words).map_err(|_| Flaw::Memory)?;
     let words = made.into_u16_vec(alloc).map_err(|_| Flaw::Memory)?;
     let (four, five) = (right_bytes(&bytes), right_words(&words));
     Ok(format!(in alloc; "{one} {two} {four} {three} {five}")?)
