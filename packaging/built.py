@@ -5,6 +5,7 @@ what it proved, for each of them; and SOURCES, what tools/sources printed of the
 the kit has no C library for that processor.
 """
 
+import pathlib
 import shutil
 import subprocess
 
@@ -28,6 +29,14 @@ NEEDED = [
 def sources():
     """Returns what the crates are made of."""
     return call(TOP / "tools/sources", "pix_c", "pixpaint")
+
+
+def kept():
+    """Returns what rt had built and kept before the run: of the same text it proves nothing a second time."""
+    built = sorted(path.parents[2].name for path in TOP.glob("crates/*/out/rlib/stamp"))
+    work = list(pathlib.Path(shutil.which("rt")).resolve().parents[2].glob("rattle-kept/work/*.*"))
+    here = f"libraries of {', '.join(built)} stood in crates/" if built else "no library stood in crates/"
+    return f"{here}, and rt had {len(work)} notes of work kept by checks in other folders" if work else f"{here}, and rt had kept nothing on this machine"
 
 
 def prove(name, crate, command, folder):
@@ -81,6 +90,7 @@ def make(folder):
     shutil.rmtree(folder, ignore_errors=True)
     folder.mkdir(parents=True)
     before = sources()
+    print(f"tools/release: before the first proof: {kept()}", flush=True)
     verdicts = [f"{name}: {build_archive(name, flags, folder)}" for name, flags in ARCHIVES]
     verdicts.append(f"pixpaint for aarch64: {build_program_aarch64(folder)}")
     verdicts.append(f"pixpaint for x86_64: {build_program(folder)}")

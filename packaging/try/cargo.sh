@@ -72,6 +72,6 @@ elif step 'README.md: cargo' cargo_lines README.md; then
     if rustc --print target-libdir --target aarch64-unknown-linux-gnu 2>/dev/null | { read -r at && [ -d "$at" ]; }; then
         have 'Rust on aarch64' aarch64-linux-gnu-gcc qemu-aarch64 && step 'aarch64: Rust: demo, and its picture' crate_aarch64
     else
-        lacks "Rust's library for aarch64 (rustup target add aarch64-unknown-linux-gnu)" 'the demo of Rust on aarch64'
+        lacks "Rust's library for aarch64 (rustup target add aarch64-unknown-linux-gnu, or Debian's libstd-rust-web-dev:arm64 beside rustc-web and cargo-web)" 'the demo of Rust on aarch64'
     fi
 fi
