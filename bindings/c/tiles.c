@@ -9,7 +9,7 @@
 #include <stdio.h>
 #include <stdlib.h>
 
-enum { SIDE = 40, COMMANDS = 8, WIDE = 1000, HIGH = 2 * SIDE, STRIDE = WIDE + 3 };
+enum { SIDE = 40, COMMANDS = 8, WIDE = 4000, HIGH = 2 * SIDE, STRIDE = WIDE + 3 };
 
 static pix_rgba8 whole[SIDE * SIDE], parts[SIDE * SIDE], source[SIDE * SIDE], tile[SIDE * SIDE];
 static pix_rgba8 large[2][STRIDE * HIGH];

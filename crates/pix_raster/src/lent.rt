@@ -116,6 +116,9 @@ pub trait Painting<D> {
 /// How many pixels a band of [`paint_by_bands`] has, or less: in any format of 8 or 16 bits at most 256 KB.
 const BAND: u32 = 32768;
 
+/// How many pixels a window has at most that is one band, since a cache holds it with a source.
+const SMALL: u64 = 131072;
+
 /// How many points of a band a command has to reach, on the average of a list, that bands take no longer than the list done command by
 /// command: where it reaches none of a band, it takes as long to find that out.
 const POINTS: usize = 128;
@@ -258,9 +261,9 @@ fn band_rows<D, W: Painting<D>>(window: Window, work: &W) -> u32
     ensures { 0 < result }
 {
     let shape = window.shape;
-    let rows = (BAND / shape.width.max(1)).max(1);
     let commands = work.commands();
-    if rows < shape.height && commands > 1 {
+    if commands > 1 && u64::from(shape.width) * u64::from(shape.height) > SMALL {
+        let rows = (BAND / shape.width).max(1);
         let bands = (shape.height / rows) as usize;
         if work.reached(window) / POINTS >= commands.saturating_mul(bands) {
             return rows;
