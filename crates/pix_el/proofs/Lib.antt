@@ -6,6 +6,7 @@ pub mod Conversions
 pub mod InLight
 pub mod FourPlanes
 pub mod TwoPlanes
+pub mod Halves
 pub mod OnePlane
 pub mod MattePlanes
 pub mod FourPixels

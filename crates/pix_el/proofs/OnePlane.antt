@@ -1,5 +1,5 @@
 -- Pixels of one channel, which is their alpha.
-use Rattle.std.proofs.Common.{◌≡◌, ℕ, ◌-◌, ◌≤◌, List, [], ◌∷◌, ◌++◌, length, map, refl, ap, sym, ◌∙◌, arith, set, replicate}
+use Rattle.std.proofs.Common.{◌≡◌, ℕ, ◌-◌, ◌≤◌, List, [], ◌∷◌, ◌++◌, length, map, refl, ap, sym, ◌∙◌, arith, set, get_or, replicate}
 use lib.Lanes.{Each1}
 use Rattle.std.specs.declared.ops.Range.{Range}
 use Rattle.std.proofs.lemmas.List.{map-append}
@@ -17,6 +17,12 @@ pub one_set : {A : Type 0} (p : List A) (a : A) → length p ≡ 1 → set p 0 a
 one_set [] a h = absurd (omega arith)
 one_set (w ∷ []) a h = refl
 one_set (w ∷ x ∷ p) a h = absurd (omega arith)
+
+-- what is made of the one element of a list, whatever is named for a place past its end
+pub mapped1 : {A B : Type 0} (f : A → B) (xs : List A) (d : A) {r : B} → length xs ≡ 1 → r ≡ f (get_or xs 0 d) → r ∷ [] ≡ map f xs
+mapped1 f [] d h e = absurd (omega arith)
+mapped1 f (w ∷ []) d h e = ap (λ l. l ∷ []) e
+mapped1 f (w ∷ x ∷ p) d h e = absurd (omega arith)
 
 -- a layout of one channel, the alpha
 abbrev pub one_of : ℕ → Layout
@@ -47,5 +53,5 @@ ones_matted max a color e [] = refl
 ones_matted max a color e (m ∷ ms) = cons (ap (matted_color (one_of max) m) e) (ones_matted max a color e ms)
 
 -- the pixels of two lists of channels
-pub ones_joined : {C : Type 0} (number : C → ℕ) (p q : List C) → by_ones (map number p) ++ by_ones (map number q) ≡ by_ones (map number (p ++ q))
-ones_joined number p q = sym (ap by_ones (map-append number p q) ∙ map-append (λ (c : ℕ). c ∷ []) (map number p) (map number q))
+pub by_ones-joined : (a b : List ℕ) → by_ones (a ++ b) ≡ by_ones a ++ by_ones b
+by_ones-joined a b = map-append (λ (c : ℕ). c ∷ []) a b

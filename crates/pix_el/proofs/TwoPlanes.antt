@@ -1,7 +1,6 @@
 -- Pixels of two channels by planes.
-use Rattle.std.proofs.Common.{◌≡◌, ℕ, zero, suc, ◌+◌, ◌≤◌, List, [], ◌∷◌, ◌++◌, length, map, drop, refl, ap, sym, subst, ◌∙◌, arith, set, replicate}
+use Rattle.std.proofs.Common.{◌≡◌, ℕ, zero, suc, ◌+◌, ◌≤◌, List, [], ◌∷◌, ◌++◌, length, map, refl, ap, sym, subst, ◌∙◌, arith, set, get_or, replicate}
 use lib.Lanes.{Each1}
-use borrow.Rule.Slice.PartMut.{put_mid}
 use Rattle.std.specs.declared.ops.Range.{Range}
 use Rattle.std.proofs.lemmas.List.{length-map}
 use Rattle.pix_ops.specs.declared.ops.Op.{Op}
@@ -11,7 +10,6 @@ use Rattle.pix_chan.specs.Planes.{both_in_turn}
 use Rattle.pix_el.specs.Planes.{by_twos, AreTwoPlanes}
 use Rattle.pix_el.specs.Pixel.{Layout, channel}
 use Rattle.pix_el.specs.PixelComposite.{pixel_composite}
-use Rattle.pix_chan.proofs.Sixteen.{is_eight, is_sixteen}
 use Rattle.pix_chan.proofs.Planes.{cons}
 use Rattle.pix_el.proofs.FourPlanes.{is_layout, plane, rests, one_channel}
 
@@ -21,19 +19,24 @@ two_set (w ∷ []) a b h = absurd (omega arith)
 two_set (w ∷ x ∷ []) a b h = refl
 two_set (w ∷ x ∷ y ∷ p) a b h = absurd (omega arith)
 
+-- a list of two is its elements, whatever is named for places past its end
+whole2 : {A : Type 0} (xs : List A) (d0 d1 : A) → length xs ≡ 2 → get_or xs 0 d0 ∷ get_or xs 1 d1 ∷ [] ≡ xs
+whole2 [] d0 d1 h = absurd (omega arith)
+whole2 (w ∷ []) d0 d1 h = absurd (omega arith)
+whole2 (w ∷ x ∷ []) d0 d1 h = refl
+whole2 (w ∷ x ∷ y ∷ p) d0 d1 h = absurd (omega arith)
+
+-- what is made of each of two
+pub mapped2 : {A B : Type 0} (f : A → B) (xs : List A) (d0 d1 : A) {r0 r1 : B} → length xs ≡ 2
+    → r0 ≡ f (get_or xs 0 d0) → r1 ≡ f (get_or xs 1 d1) → r0 ∷ r1 ∷ [] ≡ map f xs
+mapped2 f xs d0 d1 h e0 e1 = rw (e0, e1) (ap (map f) (whole2 xs d0 d1 h))
+
 pub by_twos-joined : {A : Type 0} (n : ℕ) (u v : List A) → length u ≡ n + n → by_twos (u ++ v) ≡ by_twos u ++ by_twos v
 by_twos-joined zero [] v h = refl
 by_twos-joined zero (x ∷ u) v h = absurd (omega arith)
 by_twos-joined (suc n) [] v h = absurd (omega arith)
 by_twos-joined (suc n) (x ∷ []) v h = absurd (omega arith)
 by_twos-joined {A = A} (suc n) (x ∷ y ∷ u) v h = ap (λ (l : List (List A)). (x ∷ y ∷ []) ∷ l) (by_twos-joined n u v (omega arith))
-
-pub halves_put : {A : Type 0} (p a b : List A) → length p ≡ 16 → length a ≡ 8 → length b ≡ 8 → put_mid 8 8 (a ++ drop 8 p) b ≡ a ++ b
-halves_put p a b h i j =
-    let e = is_eight a i in
-    let f = is_eight b j in
-    let q = is_sixteen p h in
-    rw (← e.1, ← f.1, ← q.1) refl
 
 module _ (max : ℕ) where
   planes_in_turn : (w x : List ℕ) → length x ≡ length w → AreTwoPlanes max (by_twos (both_in_turn w x)) w x

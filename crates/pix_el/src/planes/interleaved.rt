@@ -60,7 +60,20 @@ fn put_pixel<P: Pixel>(p: &mut P, one: P::Chan, two: P::Chan, three: P::Chan, fo
     to[3] = four;
 }
 
-/// Writes four pixels from their channels, pixel by pixel.
+/// Writes two pixels from their channels, pixel by pixel.
+#[inline(always)]
+fn put_two_pixels<P: Pixel>(p: &mut [P], c: &[P::Chan])
+    requires count { P.layout.count ≡ 4 }
+    requires size { length p.old ≡ 2 }
+    requires whole { length c.now ≡ 8 }
+    ensures size { length p.new ≡ 2 }
+    ensures pixels { map P.numbers p.new ≡ by_fours (map P.Chan.number c.now) }
+{
+    put_pixel(&mut p[0], c[0], c[1], c[2], c[3]);
+    put_pixel(&mut p[1], c[4], c[5], c[6], c[7]);
+}
+
+/// Writes four pixels from their channels.
 #[inline(always)]
 pub(super) fn put_four_pixels<P: Pixel>(p: &mut [P], c: [P::Chan; 16])
     requires count { P.layout.count ≡ 4 }
@@ -69,10 +82,8 @@ pub(super) fn put_four_pixels<P: Pixel>(p: &mut [P], c: [P::Chan; 16])
     ensures pixels { map P.numbers p.new ≡ by_fours (map P.Chan.number c) }
 {
     let c = &c[..];
-    put_pixel(&mut p[0], c[0], c[1], c[2], c[3]);
-    put_pixel(&mut p[1], c[4], c[5], c[6], c[7]);
-    put_pixel(&mut p[2], c[8], c[9], c[10], c[11]);
-    put_pixel(&mut p[3], c[12], c[13], c[14], c[15]);
+    put_two_pixels(&mut p[..2], &c[..8]);
+    put_two_pixels(&mut p[2..4], &c[8..16]);
 }
 
 /// Returns what four pixels become by the composite of those of `src`: at each index, the alphas are those of its own pixel.

@@ -56,6 +56,21 @@ fn put_channel<P: Pixel>(p: &mut P, channel: P::Chan)
     to[0] = channel;
 }
 
+/// Writes four pixels from their channels.
+#[inline(always)]
+fn put_four_pixels<P: Pixel>(p: &mut [P], c: &[P::Chan])
+    requires count { P.layout.count ≡ 1 }
+    requires size { length p.old ≡ 4 }
+    requires whole { length c.now ≡ 4 }
+    ensures size { length p.new ≡ 4 }
+    ensures pixels { map P.numbers p.new ≡ by_ones (map P.Chan.number c.now) }
+{
+    put_channel(&mut p[0], c[0]);
+    put_channel(&mut p[1], c[1]);
+    put_channel(&mut p[2], c[2]);
+    put_channel(&mut p[3], c[3]);
+}
+
 /// Writes eight pixels from their channels.
 #[inline(always)]
 fn put_eight_pixels<P: Pixel>(p: &mut [P], c: &[P::Chan])
@@ -65,14 +80,8 @@ fn put_eight_pixels<P: Pixel>(p: &mut [P], c: &[P::Chan])
     ensures size { length p.new ≡ 8 }
     ensures pixels { map P.numbers p.new ≡ by_ones (map P.Chan.number c.now) }
 {
-    put_channel(&mut p[0], c[0]);
-    put_channel(&mut p[1], c[1]);
-    put_channel(&mut p[2], c[2]);
-    put_channel(&mut p[3], c[3]);
-    put_channel(&mut p[4], c[4]);
-    put_channel(&mut p[5], c[5]);
-    put_channel(&mut p[6], c[6]);
-    put_channel(&mut p[7], c[7]);
+    put_four_pixels(&mut p[..4], &c[..4]);
+    put_four_pixels(&mut p[4..8], &c[4..8]);
 }
 
 /// Writes sixteen pixels from their channels.

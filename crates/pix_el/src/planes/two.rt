@@ -61,7 +61,33 @@ fn put_pixel<P: Pixel>(p: &mut P, one: P::Chan, two: P::Chan)
     to[1] = two;
 }
 
-/// Writes eight pixels from their channels, pixel by pixel.
+/// Writes two pixels from their channels, pixel by pixel.
+#[inline(always)]
+fn put_two_pixels<P: Pixel>(p: &mut [P], c: &[P::Chan])
+    requires count { P.layout.count ≡ 2 }
+    requires size { length p.old ≡ 2 }
+    requires whole { length c.now ≡ 4 }
+    ensures size { length p.new ≡ 2 }
+    ensures pixels { map P.numbers p.new ≡ by_twos (map P.Chan.number c.now) }
+{
+    put_pixel(&mut p[0], c[0], c[1]);
+    put_pixel(&mut p[1], c[2], c[3]);
+}
+
+/// Writes four pixels from their channels.
+#[inline(always)]
+fn put_four_pixels<P: Pixel>(p: &mut [P], c: &[P::Chan])
+    requires count { P.layout.count ≡ 2 }
+    requires size { length p.old ≡ 4 }
+    requires whole { length c.now ≡ 8 }
+    ensures size { length p.new ≡ 4 }
+    ensures pixels { map P.numbers p.new ≡ by_twos (map P.Chan.number c.now) }
+{
+    put_two_pixels(&mut p[..2], &c[..4]);
+    put_two_pixels(&mut p[2..4], &c[4..8]);
+}
+
+/// Writes eight pixels from their channels.
 #[inline(always)]
 fn put_eight_pixels<P: Pixel>(p: &mut [P], c: [P::Chan; 16])
     requires count { P.layout.count ≡ 2 }
@@ -70,14 +96,8 @@ fn put_eight_pixels<P: Pixel>(p: &mut [P], c: [P::Chan; 16])
     ensures pixels { map P.numbers p.new ≡ by_twos (map P.Chan.number c) }
 {
     let c = &c[..];
-    put_pixel(&mut p[0], c[0], c[1]);
-    put_pixel(&mut p[1], c[2], c[3]);
-    put_pixel(&mut p[2], c[4], c[5]);
-    put_pixel(&mut p[3], c[6], c[7]);
-    put_pixel(&mut p[4], c[8], c[9]);
-    put_pixel(&mut p[5], c[10], c[11]);
-    put_pixel(&mut p[6], c[12], c[13]);
-    put_pixel(&mut p[7], c[14], c[15]);
+    put_four_pixels(&mut p[..4], &c[..8]);
+    put_four_pixels(&mut p[4..8], &c[8..16]);
 }
 
 /// Writes sixteen pixels from their planes.

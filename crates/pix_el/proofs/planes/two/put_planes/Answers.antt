@@ -3,7 +3,8 @@ use Rattle.std.proofs.Common.{◌∙◌, ap, sym, arith, map}
 use Rattle.std.proofs.lemmas.List.{length-map, map-append}
 use Rattle.pix_el.specs.Planes.{by_twos}
 use Rattle.pix_chan.proofs.Planes.{same_pair}
-use Rattle.pix_el.proofs.TwoPlanes.{by_twos-joined, halves_put}
+use Rattle.pix_el.proofs.TwoPlanes.{by_twos-joined}
+use Rattle.pix_el.proofs.Halves.{halves_put}
 use Rattle.pix_el.proofs.planes.two.put_planes.Goals as goal
 
 pub returns : goal.returns
@@ -12,7 +13,7 @@ returns g c =
     let n = g.P.Pixel.numbers in
     let w = c.put_eight_pixels.new.p in
     let x = c.put_eight_pixels-2.new.p in
-    ap (map n) (halves_put c.args.p.now w x (omega arith) c.put_eight_pixels.ensures.size c.put_eight_pixels-2.ensures.size)
+    ap (map n) (halves_put 8 c.args.p.now w x (omega arith) c.put_eight_pixels.ensures.size c.put_eight_pixels-2.ensures.size)
     ∙ map-append n w x
     ∙ same_pair c.put_eight_pixels.ensures.pixels c.put_eight_pixels-2.ensures.pixels
     ∙ sym (by_twos-joined 8 (map v c.join2-a.result.0) (map v c.join2-a.result.1) (omega (arith, length-map c.join2-a.result.0 v)))
