@@ -2,8 +2,10 @@
 ghost use Rattle.std.specs.Prelude.{◌≡◌, ℕ, ◌*◌, ◌≤◌, ◌↔◌, IfOk, IfErr, IsOk, Some, None};
 ghost use Rattle.pix_raster.specs.Region.{limit};
 ghost use Rattle.pix_raster.specs.Sizes.{size_fault};
+ghost use Rattle.pix_raster.specs.declared.fault.RasterFault.TheVariants as fault;
 
 use crate::region::LIMIT;
+use std::alloc::AllocError;
 use thiserror::Error;
 
 /// The reason why a raster, a buffer or a palette was not made: the first that applies, in this order.
@@ -27,6 +29,14 @@ pub enum RasterFault {
     /// An allocation failed.
     #[error("out of memory")]
     Memory,
+}
+
+impl From<AllocError> for RasterFault {
+    ghost from_gives = { λ _ answer. answer ≡ fault.Memory };
+
+    fn from(_error: AllocError) -> RasterFault {
+        RasterFault::Memory
+    }
 }
 
 /// Returns the number of points of a size, at most 2147483647, or the size's first fault.

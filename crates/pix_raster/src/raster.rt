@@ -112,9 +112,11 @@ impl<P: Pixel> Raster<P> {
         ensures no_room { size_fault width height ≡ None → height * width ≡ 0 → IsOk result }
     {
         let count = point_count(width, height)?;
-        let mut pixels = Vec::with_capacity(alloc, count).map_err(|_| RasterFault::Memory)?;
+        let mut pixels = Vec::with_capacity(alloc, count)?;
         for _ in 0..count {
-            pixels.push(clr).map_err(|_| RasterFault::Memory)?;
+            if pixels.push(clr).is_err() {
+                return Err(RasterFault::Memory);
+            }
         }
         Ok(Raster {
             width,

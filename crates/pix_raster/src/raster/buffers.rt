@@ -89,7 +89,7 @@ impl<P: Pixel> Raster<P> {
         ensures ok { IfOk result (λ copy. copy ≡ self.now) }
         ensures refused { IfErr result (λ fault. fault ≡ RasterFault.Memory) }
     {
-        let pixels = Vec::from_slice(alloc, &self.pixels).map_err(|_| RasterFault::Memory)?;
+        let pixels = Vec::from_slice(alloc, &self.pixels)?;
         Ok(Raster {
             width: self.width,
             height: self.height,

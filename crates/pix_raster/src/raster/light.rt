@@ -97,7 +97,7 @@ where
     ensures count { IfOk result (λ made. vec_len made ≡ length src.now) }
     ensures memory { IfErr result (λ fault. fault ≡ RasterFault.Memory) }
 {
-    let mut pixels = vec![in alloc; P::default(); src.len()].map_err(|_| RasterFault::Memory)?;
+    let mut pixels = vec![in alloc; P::default(); src.len()]?;
     decode_each::<S, P>(&mut pixels, src);
     Ok(pixels)
 }
@@ -134,7 +134,7 @@ where
     ensures count { IfOk result (λ made. vec_len made ≡ length src.now) }
     ensures memory { IfErr result (λ fault. fault ≡ RasterFault.Memory) }
 {
-    let mut pixels = vec![in alloc; P::default(); src.len()].map_err(|_| RasterFault::Memory)?;
+    let mut pixels = vec![in alloc; P::default(); src.len()]?;
     encode_each::<S, P>(&mut pixels, src);
     Ok(pixels)
 }

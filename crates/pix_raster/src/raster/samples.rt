@@ -119,7 +119,7 @@ pub(crate) fn pixels_from<P: Pixel, S: Sample<P::Chan>>(
         × (flat_map P.numbers pixels.items ≡ map S.number samples.now)) }
     ensures refused { IfErr result (λ fault. fault ≡ RasterFault.Memory) }
 {
-    let mut pixels = Vec::from_elem(alloc, P::default(), count).map_err(|_| RasterFault::Memory)?;
+    let mut pixels = Vec::from_elem(alloc, P::default(), count)?;
     unpack(&mut pixels, samples);
     Ok(pixels)
 }
@@ -137,9 +137,7 @@ pub(crate) fn samples_from<P: Pixel, S: Sample<P::Chan>>(
         .len()
         .checked_mul(channel_count::<P>())
         .ok_or(RasterFault::Memory)?;
-    let mut samples = Vec::from_elem(alloc, S::of(P::Chan::MIN), len).map_err(
-        |_| RasterFault::Memory,
-    )?;
+    let mut samples = Vec::from_elem(alloc, S::of(P::Chan::MIN), len)?;
     pack(&mut samples, pixels);
     Ok(samples)
 }
