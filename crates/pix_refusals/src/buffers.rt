@@ -1,6 +1,7 @@
 //! Rasters from buffers, and back: where a request is refused, what was handed in comes back as it was.
 //!
 //! A buffer or a raster that could not be made for a call ends its function: nothing was handed in then.
+use pix::el::Pixel;
 use pix::rgb::{Rgba8p, Rgba16p};
 use pix::{Raster, RasterFault};
 use std::alloc::Global;
@@ -34,21 +35,36 @@ fn pixels_of_words() -> [Rgba16p; 2] {
     ]
 }
 
+/// Whether the raster has this size and these pixels.
+fn is_of<P: Pixel>(raster: &Raster<P>, width: u32, height: u32, pixels: &[P]) -> bool {
+    raster.width() == width && raster.height() == height && raster.pixels() == pixels
+}
+
 /// Whether the raster is that of [`BYTES`].
 fn is_of_bytes(raster: &Raster<Rgba8p>) -> bool {
-    raster.width() == 3 && raster.height() == 2 && raster.pixels() == pixels_of_bytes().as_slice()
+    is_of(raster, 3, 2, &pixels_of_bytes())
 }
 
 /// Whether the raster is that of [`WORDS`].
 fn is_of_words(raster: &Raster<Rgba16p>) -> bool {
-    raster.width() == 1 && raster.height() == 2 && raster.pixels() == pixels_of_words().as_slice()
+    is_of(raster, 1, 2, &pixels_of_words())
+}
+
+/// The raster of the bytes, or the bytes.
+fn of_bytes(alloc: Global, bytes: Vec<u8>) -> Result<Raster<Rgba8p>, (RasterFault, Vec<u8>)> {
+    Raster::with_u8_buffer(alloc, 3, 2, bytes)
+}
+
+/// The raster of the words, or the words.
+fn of_words(alloc: Global, words: Vec<u16>) -> Result<Raster<Rgba16p>, (RasterFault, Vec<u16>)> {
+    Raster::with_u16_buffer(alloc, 1, 2, words)
 }
 
 pub(crate) fn with_u8_buffer(alloc: Global) -> bool {
     let Ok(bytes) = Vec::from_slice(alloc, BYTES) else {
         return true;
     };
-    match Raster::<Rgba8p>::with_u8_buffer(alloc, 3, 2, bytes) {
+    match of_bytes(alloc, bytes) {
         Ok(raster) => is_of_bytes(&raster),
         Err((fault, back)) => fault == RasterFault::Memory && back.as_slice() == BYTES,
     }
@@ -58,7 +74,7 @@ pub(crate) fn into_u8_vec(alloc: Global) -> bool {
     let Ok(bytes) = Vec::from_slice(alloc, BYTES) else {
         return true;
     };
-    let Ok(raster) = Raster::<Rgba8p>::with_u8_buffer(alloc, 3, 2, bytes) else {
+    let Ok(raster) = of_bytes(alloc, bytes) else {
         return true;
     };
     match raster.into_u8_vec(alloc) {
@@ -71,7 +87,7 @@ pub(crate) fn to_u8_vec(alloc: Global) -> bool {
     let Ok(bytes) = Vec::from_slice(alloc, BYTES) else {
         return true;
     };
-    let Ok(raster) = Raster::<Rgba8p>::with_u8_buffer(alloc, 3, 2, bytes) else {
+    let Ok(raster) = of_bytes(alloc, bytes) else {
         return true;
     };
     let right = match raster.to_u8_vec(alloc) {
@@ -85,7 +101,7 @@ pub(crate) fn with_u16_buffer(alloc: Global) -> bool {
     let Ok(words) = Vec::from_slice(alloc, WORDS) else {
         return true;
     };
-    match Raster::<Rgba16p>::with_u16_buffer(alloc, 1, 2, words) {
+    match of_words(alloc, words) {
         Ok(raster) => is_of_words(&raster),
         Err((fault, back)) => fault == RasterFault::Memory && back.as_slice() == WORDS,
     }
@@ -95,7 +111,7 @@ pub(crate) fn into_u16_vec(alloc: Global) -> bool {
     let Ok(words) = Vec::from_slice(alloc, WORDS) else {
         return true;
     };
-    let Ok(raster) = Raster::<Rgba16p>::with_u16_buffer(alloc, 1, 2, words) else {
+    let Ok(raster) = of_words(alloc, words) else {
         return true;
     };
     match raster.into_u16_vec(alloc) {

@@ -8,19 +8,26 @@ mod palettes;
 mod rasters;
 mod scripts;
 
+use pix::bgr::Bgra8;
+use pix::rgb::{Rgba8, Rgba8p};
 use std::process::ExitCode;
 
 fn main(rt: HostRuntime) -> ExitCode {
     let alloc = rt.alloc();
+    let clr = Rgba8p::new(64u8, 128u8, 96u8, 128u8);
+    let (rgba, bgra) = (
+        Rgba8::new(64u8, 128u8, 96u8, 128u8),
+        Bgra8::new(96u8, 128u8, 64u8, 128u8),
+    );
     let mut status = ExitCode::SUCCESS;
     // A call that comes new has its line here, and its function beside those of its kind.
     for (name, right) in [
-        ("with_clear", rasters::with_clear(alloc)),
-        ("with_color", rasters::with_color(alloc)),
+        ("with_clear", rasters::with_clear(alloc, Rgba8p::default())),
+        ("with_color", rasters::with_color(alloc, clr)),
         ("paint_text", scripts::paint_text(alloc)),
         ("paint_io", scripts::paint_io(alloc)),
-        ("try_clone", rasters::try_clone(alloc)),
-        ("with_raster", rasters::with_raster(alloc)),
+        ("try_clone", rasters::try_clone(alloc, clr)),
+        ("with_raster", rasters::with_raster(alloc, rgba, bgra)),
         ("with_u8_buffer", buffers::with_u8_buffer(alloc)),
         ("into_u8_vec", buffers::into_u8_vec(alloc)),
         ("to_u8_vec", buffers::to_u8_vec(alloc)),

@@ -59,24 +59,26 @@ pub(crate) fn histogram(alloc: Global) -> bool {
     right && is_whole(&palette)
 }
 
-/// A raster of the second color, the first and a new one.
-fn raster(alloc: Global) -> Result<Raster<SRgb8>, RasterFault> {
+/// The second color, the first and a new one.
+fn pixels() -> [SRgb8; 3] {
     let [first, second] = colors();
-    let mut raster = Raster::with_color(alloc, 3, 1, first)?;
-    *raster.pixel_mut(0, 0) = second;
-    *raster.pixel_mut(2, 0) = SRgb8::new(9u8, 9u8, 9u8);
-    Ok(raster)
+    [second, first, SRgb8::new(9u8, 9u8, 9u8)]
+}
+
+/// A raster of these pixels.
+fn raster(alloc: Global) -> Option<Raster<SRgb8>> {
+    let pixels = Vec::from_slice(alloc, &pixels()).ok()?;
+    Raster::with_pixels(3, 1, pixels).ok()
 }
 
 /// Whether the raster is as it was made.
 fn is_as_made(raster: &Raster<SRgb8>) -> bool {
-    let [first, second] = colors();
-    raster.pixels() == [second, first, SRgb8::new(9u8, 9u8, 9u8)].as_slice()
+    raster.pixels() == pixels().as_slice()
 }
 
 /// A refusal leaves the palette, and hands the raster back.
 pub(crate) fn make_indexed(alloc: Global) -> bool {
-    let (Ok(mut palette), Ok(raster)) = (Palette::new(alloc, 3), raster(alloc)) else {
+    let (Ok(mut palette), Some(raster)) = (Palette::new(alloc, 3), raster(alloc)) else {
         return true;
     };
     for clr in colors() {
@@ -96,7 +98,7 @@ pub(crate) fn make_indexed(alloc: Global) -> bool {
 
 /// A refusal leaves the palette, and hands the raster back.
 pub(crate) fn make_indexed_wide(alloc: Global) -> bool {
-    let (Ok(mut palette), Ok(raster)) = (Palette::new(alloc, 3), raster(alloc)) else {
+    let (Ok(mut palette), Some(raster)) = (Palette::new(alloc, 3), raster(alloc)) else {
         return true;
     };
     for clr in colors() {
