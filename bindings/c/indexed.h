@@ -21,6 +21,46 @@ static inline uint8_t plain_nearest(const pix_srgb8 *entries, size_t len, pix_sr
     return (uint8_t)at;
 }
 
+static inline int plain_apart(int x, int y) {
+    return x < y ? y - x : x - y;
+}
+
+/* Whether two colors differ by no more than this in each channel. */
+static inline int plain_within(pix_srgb8 p, pix_srgb8 q, int red, int green, int blue) {
+    return plain_apart(p.r, q.r) <= red && plain_apart(p.g, q.g) <= green && plain_apart(p.b, q.b) <= blue;
+}
+
+/* Sets a color in a table: writes its index, and answers whether it has one. */
+static inline int plain_set(pix_srgb8 *entries, size_t len, size_t *used, pix_srgb8 threshold, pix_srgb8 color, uint8_t *index) {
+    size_t at = 0, i;
+    for (i = 1; i < *used; i++) {
+        int red = plain_apart(entries[at].r, color.r), green = plain_apart(entries[at].g, color.g);
+        int blue = plain_apart(entries[at].b, color.b);
+        int equal = plain_apart(entries[i].r, color.r) == red && plain_apart(entries[i].g, color.g) == green
+                    && plain_apart(entries[i].b, color.b) == blue;
+        if (plain_within(entries[i], color, red, green, blue) && !equal)
+            at = i;
+    }
+    if (!*used || !plain_within(entries[at], color, threshold.r, threshold.g, threshold.b)) {
+        if (*used == len)
+            return 0;
+        at = (*used)++;
+        entries[at] = color;
+    }
+    *index = (uint8_t)at;
+    return 1;
+}
+
+/* Sets the colors of pixels; answers how many were set before the first that has no index. */
+static inline size_t plain_index(pix_srgb8 *entries, size_t len, size_t *used, pix_srgb8 threshold, const pix_srgb8 *pixels,
+                                 size_t count, uint8_t *indices) {
+    size_t i;
+    for (i = 0; i < count; i++)
+        if (!plain_set(entries, len, used, threshold, pixels[i], &indices[i]))
+            break;
+    return i;
+}
+
 static inline unsigned plain_number(pix_srgb8 color, int channel) {
     return channel == 0 ? color.r : channel == 1 ? color.g : color.b;
 }

@@ -176,6 +176,30 @@ uint32_t pix_table_match_alpha(const pix_srgb8 *entries, size_t len, const pix_s
     return PIX_OK;
 }
 
+uint32_t pix_table_index(pix_srgb8 *entries, size_t len, size_t *used, const pix_srgb8 *threshold, const pix_srgb8 *pixels,
+                         size_t pixel_count, uint8_t *indices, size_t index_count) {
+    pix_srgb8 copy[256];
+    uint8_t *found;
+    size_t now = *used;
+    int all;
+    if (!len || len > 256)
+        return PIX_BAD_TABLE;
+    if (*used > len || index_count != pixel_count)
+        return PIX_BAD_LENGTH;
+    found = malloc(pixel_count + 1);
+    if (!found)
+        abort();
+    memcpy(copy, entries, len * sizeof *copy);
+    all = plain_index(copy, len, &now, *threshold, pixels, pixel_count, found) == pixel_count;
+    if (all) {
+        memcpy(entries, copy, len * sizeof *copy);
+        memcpy(indices, found, pixel_count);
+        *used = now;
+    }
+    free(found);
+    return all ? PIX_OK : PIX_FULL_TABLE;
+}
+
 uint32_t pix_table_look_up(const pix_srgb8 *entries, size_t len, const uint8_t *indices, size_t index_count,
                            pix_srgb8 *pixels, size_t pixel_count) {
     if (index_count != pixel_count)

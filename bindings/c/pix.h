@@ -185,7 +185,8 @@ typedef enum {
     PIX_BAD_LIBRARY = 10, /* the archive that is linked has another version or another layout than this header */
     PIX_BAD_TABLE = 11, /* a table has no entry, or more than 256 */
     PIX_BAD_INDEX = 12, /* an index is past the end, or takes more bits than it is to have */
-    PIX_BAD_DEPTH = 13  /* indices take 1, 2, 4 or 8 bits */
+    PIX_BAD_DEPTH = 13, /* indices take 1, 2, 4 or 8 bits */
+    PIX_FULL_TABLE = 14 /* a table has no room for a color */
 } pix_status;
 
 /* A line of English that says what a status means. */
@@ -442,6 +443,16 @@ static inline pix_status pix_diffuse_indexed(pix_table table, const pix_srgb8 *p
 static inline pix_status pix_diffuse_indexed_alpha(pix_table table, const pix_srgba8 *pixels, size_t count, size_t width,
                                                    uint8_t alpha, uint8_t kept, pix_srgb8 *work, uint8_t *indices);
 
+/* Sets the color of each of `count` pixels in a table, one after the other, and writes its index: that of the entry that stands for
+ * it, or of the next one, which is set to the color. `entries` has room for `len` of them, and `used` is how many are used, before and
+ * afterwards; so one table may serve several pictures. What stands for a color is its match, if that differs from it by no more than
+ * `threshold` in each of red, green and blue: of 0 that is the color itself. The match is the last of the candidates: entry 0, and
+ * each later entry that differs by no more than the candidate before it in each channel, and by less in one. Answers PIX_OK,
+ * PIX_BAD_TABLE (`len` is 0 or above 256), PIX_BAD_LENGTH (too many pixels, or `used` is above `len`), PIX_FULL_TABLE where there is
+ * no room for a color, PIX_NULL or PIX_OVERLAP. */
+static inline pix_status pix_index_pixels(pix_srgb8 *entries, size_t len, size_t *used, pix_srgb8 threshold,
+                                          const pix_srgb8 *pixels, size_t count, uint8_t *indices);
+
 /* Writes the entry of each of `count` indices. The table may have no entry, or more than 256. Answers PIX_OK, PIX_BAD_INDEX where an
  * index is past the end, PIX_BAD_LENGTH, PIX_NULL or PIX_OVERLAP. */
 static inline pix_status pix_look_up(pix_table table, const uint8_t *indices, size_t count, pix_srgb8 *pixels);
@@ -540,6 +551,8 @@ uint32_t pix_table_diffuse(const pix_srgb8 *entries, size_t len, const pix_srgb8
 uint32_t pix_table_diffuse_alpha(const pix_srgb8 *entries, size_t len, const pix_srgba8 *pixels, size_t pixel_count,
                                  size_t width, uint8_t alpha, uint8_t kept, pix_srgb8 *work, size_t work_len, uint8_t *indices,
                                  size_t index_count);
+uint32_t pix_table_index(pix_srgb8 *entries, size_t len, size_t *used, const pix_srgb8 *threshold, const pix_srgb8 *pixels,
+                         size_t pixel_count, uint8_t *indices, size_t index_count);
 uint32_t pix_table_look_up(const pix_srgb8 *entries, size_t len, const uint8_t *indices, size_t index_count,
                            pix_srgb8 *pixels, size_t pixel_count);
 uint32_t pix_table_count(const uint8_t *indices, size_t index_count, size_t *counts, size_t len);
@@ -656,6 +669,7 @@ static inline const char *pix_status_text(pix_status status) {
     case PIX_BAD_TABLE: return "a table has no entry, or more than 256";
     case PIX_BAD_INDEX: return "an index is past the end, or takes more bits than it is to have";
     case PIX_BAD_DEPTH: return "indices take 1, 2, 4 or 8 bits";
+    case PIX_FULL_TABLE: return "a table has no room for a color";
     }
     return "no such status";
 }
@@ -1170,6 +1184,35 @@ static inline pix_status pix_diffuse_indexed_alpha(pix_table table, const pix_sr
         return status;
     return (pix_status)pix_table_diffuse_alpha(table.entries, table.len, pixels, count, width, alpha, kept, work, work_len,
                                                indices, count);
+}
+
+static inline pix_status pix_index_pixels(pix_srgb8 *entries, size_t len, size_t *used, pix_srgb8 threshold,
+                                          const pix_srgb8 *pixels, size_t count, uint8_t *indices) {
+    const pix_srgb8 none = {0, 0, 0};
+    uint8_t nothing = 0;
+    pix_status status;
+    if (!len || len > 256)
+        return PIX_BAD_TABLE;
+    if (pix_too_many_(count))
+        return PIX_BAD_LENGTH;
+    if (!count) {
+        pixels = &none;
+        indices = &nothing;
+    }
+    status = used ? pix_apart_(entries, len * sizeof *entries, pixels, count * sizeof *pixels) : PIX_NULL;
+    if (status == PIX_OK)
+        status = pix_apart_(indices, count, pixels, count * sizeof *pixels);
+    if (status == PIX_OK)
+        status = pix_apart_(indices, count, entries, len * sizeof *entries);
+    if (status == PIX_OK)
+        status = pix_apart_(used, sizeof *used, pixels, count * sizeof *pixels);
+    if (status == PIX_OK)
+        status = pix_apart_(used, sizeof *used, entries, len * sizeof *entries);
+    if (status == PIX_OK)
+        status = pix_apart_(used, sizeof *used, indices, count);
+    if (status != PIX_OK)
+        return status;
+    return (pix_status)pix_table_index(entries, len, used, &threshold, pixels, count, indices, count);
 }
 
 static inline pix_status pix_look_up(pix_table table, const uint8_t *indices, size_t count, pix_srgb8 *pixels) {

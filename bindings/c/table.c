@@ -189,6 +189,66 @@ static void made_refused(void) {
     check(index[0] == 9 && index[1] == 9 && entries[0].r == 1 && some[1].g == 1 && room[0].r == 5, "what is refused stays");
 }
 
+/* Two pictures, one after the other in one table: one of all colors, and one of colors near to each other. */
+static void indexed(size_t len, unsigned levels, unsigned near) {
+    static pix_srgb8 entries[256], plain[256], before[256];
+    pix_srgb8 threshold = {(uint8_t)near, (uint8_t)(near / 2), (uint8_t)(near + 1)};
+    size_t used = 0, plain_used = 0, was, i;
+    int round;
+    memset(entries, 7, sizeof entries);
+    memcpy(plain, entries, sizeof plain);
+    for (round = 0; round < 2; round++) {
+        size_t count = round ? PIXELS : PIXELS / 2 + len;
+        int all;
+        for (i = 0; i < count; i++) {
+            pixels[i] = random_color(levels);
+            if (round)
+                pixels[i].r = (uint8_t)(pixels[i].r / 4 + i % 3);
+        }
+        memcpy(before, entries, sizeof before);
+        was = used;
+        memset(unpacked, 99, sizeof unpacked);
+        memset(indices, 99, sizeof indices);
+        all = plain_index(plain, len, &plain_used, threshold, pixels, count, unpacked) == count;
+        check(pix_index_pixels(entries, len, &used, threshold, pixels, count, indices) == (all ? PIX_OK : PIX_FULL_TABLE),
+              "colors are set, or there is no room");
+        if (all) {
+            check(used == plain_used && !memcmp(indices, unpacked, count), "a pixel has another index");
+            check(!memcmp(entries, plain, sizeof entries), "another color was added");
+        } else {
+            check(used == was && !memcmp(entries, before, sizeof entries), "a table that is refused has changed");
+            for (i = 0; i < count; i++)
+                if (indices[i] != 99)
+                    break;
+            check(i == count, "an index was written where a color has no room");
+            memcpy(plain, before, sizeof plain);
+            plain_used = used;
+        }
+    }
+}
+
+static void indexed_refused(void) {
+    pix_srgb8 entries[257] = {{1, 2, 3}}, pixel = {9, 2, 3}, none = {0, 0, 0};
+    size_t used = 1;
+    uint8_t index = 9;
+    check(pix_index_pixels(entries, 0, &used, none, &pixel, 1, &index) == PIX_BAD_TABLE, "no room for a table");
+    check(pix_index_pixels(entries, 257, &used, none, &pixel, 1, &index) == PIX_BAD_TABLE, "room for 257 entries");
+    check(pix_index_pixels(entries, 1, &used, none, &pixel, 1, &index) == PIX_FULL_TABLE, "no room for a second color");
+    check(pix_index_pixels(entries, 1, &used, none, &pixel, SIZE_MAX / 2, &index) == PIX_BAD_LENGTH, "too many pixels to set");
+    check(pix_index_pixels(entries, 2, NULL, none, &pixel, 1, &index) == PIX_NULL, "no number of entries");
+    check(pix_index_pixels(NULL, 2, &used, none, &pixel, 1, &index) == PIX_NULL, "no entries");
+    check(pix_index_pixels(entries, 2, &used, none, NULL, 1, &index) == PIX_NULL, "no pixels to set");
+    check(pix_index_pixels(entries, 2, &used, none, &pixel, 1, NULL) == PIX_NULL, "no indices of colors");
+    check(pix_index_pixels(entries, 2, &used, none, &entries[1], 1, &index) == PIX_OVERLAP, "pixels in the table that is set");
+    check(pix_index_pixels(entries, 2, &used, none, &pixel, 1, &entries[1].g) == PIX_OVERLAP, "indices in the table that is set");
+    check(pix_index_pixels(entries, 2, &used, none, &pixel, 1, (uint8_t *)&used) == PIX_OVERLAP, "an index in the number");
+    check(pix_table_index(entries, 2, &used, &none, &pixel, 1, &index, 0) == PIX_BAD_LENGTH, "fewer indices than colors");
+    check(used == 1 && index == 9 && entries[1].r == 0, "what is refused adds no color");
+    check(pix_index_pixels(entries, 2, &used, none, NULL, 0, NULL) == PIX_OK && used == 1, "no pixels are set");
+    used = 3;
+    check(pix_index_pixels(entries, 2, &used, none, &pixel, 1, &index) == PIX_BAD_LENGTH && used == 3, "more entries than room");
+}
+
 static void refused(void) {
     pix_srgb8 entries[257] = {{1, 2, 3}}, pixel = {1, 2, 3};
     uint8_t index = 9, past = 1;
@@ -214,6 +274,7 @@ static void refused(void) {
     }
     check(pix_pack_row(1, &past, 1, &past) == PIX_OVERLAP, "a row over itself");
     made_refused();
+    indexed_refused();
     /* The calls themselves test lengths. */
     check(pix_table_match(entries, 1, &pixel, 1, &index, 0) == PIX_BAD_LENGTH, "fewer indices than pixels");
     check(pix_table_look_up(entries, 1, &past, 1, &pixel, 0) == PIX_BAD_LENGTH, "fewer pixels than indices");
@@ -237,6 +298,9 @@ int main(void) {
     for (i = 0; i < 60; i++)
         made(i < 30 ? i : i * 61, i % 3 ? 1 + i * 4 : 1 + i % 7, levels[i % 3]);
     made(3, 3, 2);
+    for (i = 0; i < sizeof lengths / sizeof *lengths; i++)
+        for (j = 0; j < 9; j++)
+            indexed(lengths[i], levels[j % 3], j < 3 ? 0 : (unsigned)(j * j * 3));
     for (i = 1; i < 40; i++)
         for (j = 1; j < 4; j++)
             diffused(j * j * 28, i, i * j * 3 + i % 3);

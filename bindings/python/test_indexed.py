@@ -63,6 +63,30 @@ class Tables(unittest.TestCase):
         self.assertEqual(found, b"\x09\0")
         self.assertEqual(pix.diffuse_indexed(grays, b"", 5), b"")
 
+    def test_indexed(self):
+        gray = lambda *values: joined((v, v, v) for v in values)
+        table, indices = pix.index_pixels(b"", gray(10, 200, 13, 14), threshold=(3, 3, 3))
+        self.assertEqual((table, indices), (gray(10, 200, 14), b"\0\1\0\2"))
+        # 13 differs by 3 from entry 0 and by 1 from entry 2, which is the last candidate.
+        self.assertEqual(pix.index_pixels(table, gray(13), 3, (3, 3, 3)), (table, b"\2"))
+        self.assertEqual(pix.index_pixels(memoryview(table), gray(14, 15), 4), (gray(10, 200, 14, 15), b"\2\3"))
+        self.assertEqual(pix.index_pixels(table, b""), (table, b""))
+        status = pix.Status
+        self.refused(status.FULL_TABLE, pix.index_pixels, table, gray(15), 3)
+        self.refused(status.BAD_LENGTH, pix.index_pixels, table, gray(15), 2)
+        self.refused(status.BAD_LENGTH, pix.index_pixels, b"ab", b"abc")
+        self.refused(status.BAD_LENGTH, pix.index_pixels, b"abc", b"ab")
+        self.refused(status.BAD_TABLE, pix.index_pixels, b"", b"abc", 0)
+        self.refused(status.BAD_TABLE, pix.index_pixels, b"", b"abc", 257)
+        for threshold in ((0, 0), (0, 0, 256), (-1, 0, 0)):
+            self.assertRaises(ValueError, pix.index_pixels, b"", b"abc", 1, threshold)
+        chance = random.Random(5)
+        pixels = [tuple(51 * chance.randrange(6) for _ in range(3)) for _ in range(3000)]
+        table, indices = pix.index_pixels(b"", joined(pixels))
+        firsts = list(dict.fromkeys(pixels))
+        self.assertEqual(table, joined(firsts))
+        self.assertEqual(indices, bytes(firsts.index(pixel) for pixel in pixels))
+
     def test_rows(self):
         chance = random.Random(2)
         for bits in (1, 2, 4, 8):

@@ -43,7 +43,9 @@ from pix._bitmap import convert_bitmap
 from pix._command import Command
 from pix._convert import convert
 from pix._image import Image, color_of
-from pix._indexed import count_indices, diffuse_indexed, look_up, map_indexed, pack_row, row_size, table_from, unpack_row
+from pix._indexed import (
+    count_indices, diffuse_indexed, index_pixels, look_up, map_indexed, pack_row, row_size, table_from, unpack_row,
+)  # fmt: skip
 from pix._list import CommandList
 from pix._makers import (
     clear, composite_color, composite_image, composite_image_alpha, composite_image_matte, composite_matte, copy_color,
@@ -58,7 +60,8 @@ __all__ = [
     "Op", "Format", "Status", "PixError", "PixelType", "RGBA8", "RGBA16", "GRAYA8", "Region", "Image", "Matte",
     "Command", "CommandList", "clear", "copy_color", "copy_image", "composite_color", "composite_image", "composite_matte",
     "composite_image_matte", "composite_image_alpha", "repeat_image", "convert", "convert_bitmap", "color_of",
-    "table_from", "map_indexed", "diffuse_indexed", "look_up", "count_indices", "row_size", "pack_row", "unpack_row",
+    "table_from", "map_indexed", "diffuse_indexed", "index_pixels", "look_up", "count_indices", "row_size", "pack_row",
+    "unpack_row",
     "SRGBA8", "SRGBA8P", "SBGRA8", "SBGRA8P", "SRGB8", "SBGR8", "SGRAY8", "SGRAYA8", "SRGBX8", "SBGRX8",
 ]  # fmt: skip
 
@@ -70,7 +73,7 @@ SRGBX8, SBGRX8 = Format.SRGBX8, Format.SBGRX8
 # Users and pickles name them by this package, wherever they are defined.
 for _public in (Op, Format, Status, PixError, PixelType, Image, Matte, Command, CommandList, convert, convert_bitmap, color_of):
     _public.__module__ = __name__
-for _public in (table_from, map_indexed, diffuse_indexed, look_up, count_indices, row_size, pack_row, unpack_row):
+for _public in (table_from, map_indexed, diffuse_indexed, index_pixels, look_up, count_indices, row_size, pack_row, unpack_row):
     _public.__module__ = __name__
 for _public in (clear, copy_color, copy_image, composite_color, composite_image, composite_matte):
     _public.__module__ = __name__

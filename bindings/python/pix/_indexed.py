@@ -4,7 +4,7 @@ from __future__ import annotations
 
 import ctypes
 from operator import index
-from typing import Any, List, Optional, SupportsIndex
+from typing import Any, List, Optional, SupportsIndex, Tuple
 
 from pix._library import LONG, libraries
 from pix._memory import Buffer, Memory, calls
@@ -162,6 +162,41 @@ def diffuse_indexed(
         else:
             _done(library.pix_table_diffuse_alpha(*read, alpha, kept, *written))
     return indices
+
+
+def index_pixels(
+    table: Buffer,
+    pixels: Buffer,
+    length: SupportsIndex = 256,
+    threshold: Tuple[SupportsIndex, SupportsIndex, SupportsIndex] = (0, 0, 0),
+) -> Tuple[bytearray, bytearray]:
+    """Sets the color of each pixel in a table, one after the other, and returns the table afterwards and the indices.
+
+    The index is that of the entry that stands for the color, or of the next one, which is added; `table` may be empty, and one that
+    was returned may serve the next picture. What stands for a color is its match, if that differs from it by no more than
+    `threshold` in each of red, green and blue: of 0 that is the color itself. The match is the last of the candidates: entry 0, and
+    each later entry that differs by no more than the candidate before it in each channel, and by less in one.
+
+    Raises PixError with FULL_TABLE where a color has no room among `length` entries, and also where `length` is not from 1 to 256 or
+    the lengths don't fit.
+    """
+    near = bytes(_byte(channel, "threshold") for channel in threshold)
+    if len(near) != 3:
+        raise ValueError("a threshold has three numbers")
+    entries, source, most = _read(table), _read(pixels), index(length)
+    used, count = ctypes.c_size_t(_count(entries, 3)), _count(source, 3)
+    if not 0 < most <= 256:
+        raise PixError(Status.BAD_TABLE)
+    if used.value > most:
+        raise PixError(Status.BAD_LENGTH)
+    made, indices = bytearray(3 * most), bytearray(count)
+    made[: entries.length] = bytes(table) if isinstance(table, (bytes, bytearray)) else memoryview(table).cast("B")
+    target, written, limit = _read(made), _read(indices), _read(near)
+    with calls.turn(target, [source]):
+        library = libraries[count > LONG]
+        room = (target.address, most, ctypes.byref(used), limit.address)
+        _done(library.pix_table_index(*room, source.address, count, written.address, count))
+    return made[: 3 * used.value], indices
 
 
 def look_up(table: Buffer, indices: Buffer, pixels: Any = None) -> Any:

@@ -89,6 +89,7 @@ def load(kind: Any) -> Any:
     calls["pix_table_from_alpha"] = [*buffer, byte, *buffer * 2, ctypes.POINTER(size)]
     calls["pix_table_diffuse"] = [*buffer * 2, size, *buffer * 2]
     calls["pix_table_diffuse_alpha"] = [*buffer * 2, size, byte, byte, *buffer * 2]
+    calls["pix_table_index"] = [*buffer, ctypes.POINTER(size), pointer, *buffer * 2]
     calls["pix_table_pack"] = calls["pix_table_unpack"] = [u32, *buffer * 2]
     try:
         library = kind(path)

@@ -155,6 +155,7 @@ class Status(IntEnum):
     BAD_TABLE = 11
     BAD_INDEX = 12
     BAD_DEPTH = 13
+    FULL_TABLE = 14
 
 
 _TEXTS = {
@@ -168,6 +169,7 @@ _TEXTS = {
     Status.BAD_TABLE: "a table has no entry, or more than 256",
     Status.BAD_INDEX: "an index is past the end, or takes more bits than it is to have",
     Status.BAD_DEPTH: "indices take 1, 2, 4 or 8 bits",
+    Status.FULL_TABLE: "a table has no room for a color",
 }
 
 

@@ -34,6 +34,11 @@ abbrev pub diffuse_status : (len pixels width work indices : ℕ) → ℕ
 diffuse_status len pixels width work indices =
     if is_table len then (if nat_lt 0 width && nat_eq work (4 * width) && nat_eq indices pixels then 0 else 7) else 11
 
+-- the status of an indexing before its colors are set: 11 without room for a table; 7 where more entries are used than there is room for, or there are
+-- not as many indices as pixels; and else 0
+abbrev pub index_status : (len used pixels indices : ℕ) → ℕ
+index_status len used pixels indices = if is_table len then (if nat_le used len && nat_eq indices pixels then 0 else 7) else 11
+
 -- the status of looking indices up: 7 where there are not as many pixels, 12 where an index is past the entries, and else 0
 abbrev pub look_up_status : ℕ → List ℕ → ℕ → ℕ
 look_up_status len indices pixels = if nat_eq pixels (length indices) then (if all_below len indices then 0 else 12) else 7

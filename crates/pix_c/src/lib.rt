@@ -37,8 +37,9 @@ pub use crate::status::{
     BAD_FORMAT, BAD_KIND, BAD_LENGTH, BAD_OP, BAD_REGION, BAD_SIZE, BAD_SOURCE, DONE,
 };
 pub use crate::table::{
-    BAD_DEPTH, BAD_INDEX, BAD_TABLE, PixSrgba8, pix_table_count, pix_table_look_up,
-    pix_table_match, pix_table_match_alpha, pix_table_nearest, pix_table_pack, pix_table_unpack,
+    BAD_DEPTH, BAD_INDEX, BAD_TABLE, FULL_TABLE, PixSrgba8, pix_table_count, pix_table_index,
+    pix_table_look_up, pix_table_match, pix_table_match_alpha, pix_table_nearest, pix_table_pack,
+    pix_table_unpack,
 };
 pub use crate::window::{pix_run_window, pix_run_window_graya8, pix_run_window_rgba16};
 use pix::gray::Graya8p;

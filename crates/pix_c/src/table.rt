@@ -1,19 +1,22 @@
 //! Tables of colors, for images of indices.
-ghost use Rattle.std.specs.Prelude.{◌≡◌, ◌≢◌, ℕ, ◌<◌, ◌≤◌, length, map, take, Some, slice_index};
+ghost use Rattle.std.specs.Prelude.{◌≡◌, ◌≢◌, ℕ, ◌<◌, ◌≤◌, List, length, map, take, Some, slice_index};
 ghost use Rattle.pix_table.specs.Nearest.{numbers, IsNearest, AreMatched};
 ghost use Rattle.pix_table.specs.LookUp.{AreLookedUp, AreCounted};
 ghost use Rattle.pix_table.specs.From.{shown, IsTableFrom};
 ghost use Rattle.pix_table.specs.Diffusion.{AreDiffused};
 ghost use Rattle.pix_table.specs.Packing.{ArePacked, AreUnpacked};
+ghost use Rattle.pix_table.specs.Setting.{Always, IsSet};
+ghost use Rattle.pix_table.specs.Indexing.{AreSet, IsStopped};
+ghost use Rattle.pix_table.specs.declared.color.Color.{Color};
 ghost use Rattle.pix_table.specs.declared.row.IndexDepth.{IndexDepth};
 ghost use Rattle.pix_c.specs.Table.{srgba8_numbers, nearest_status, match_status, look_up_status};
-ghost use Rattle.pix_c.specs.Table.{make_status, diffuse_status};
+ghost use Rattle.pix_c.specs.Table.{make_status, diffuse_status, index_status};
 ghost use Rattle.pix_c.specs.Table.{count_status, pack_status, unpack_status, depth_of, row_status};
 
 use crate::status::{BAD_LENGTH, DONE};
 use pix_table::{
-    Color, Diffusion, IndexDepth, Matcher, RowFault, TablePixel, count, diffuse_pixels, look_up,
-    match_pixels, nearest, pack_row, table_from, unpack_row,
+    Color, Diffusion, IndexDepth, Matcher, RowFault, TablePixel, count, diffuse_pixels,
+    index_pixels, look_up, match_pixels, nearest, pack_row, table_from, unpack_row,
 };
 
 /// A table has no entry, or more than 256.
@@ -24,6 +27,9 @@ pub const BAD_INDEX: u32 = 12;
 
 /// Indices take 1, 2, 4 or 8 bits.
 pub const BAD_DEPTH: u32 = 13;
+
+/// A table has no room for a color.
+pub const FULL_TABLE: u32 = 14;
 
 /// A pixel of red, green, blue and alpha of eight bits each, in sRGB, not multiplied by the alpha.
 #[repr(C)]
@@ -279,6 +285,49 @@ fn diffuse<P: TablePixel>(
     }
     diffuse_pixels(&mut matcher, entries, pixels, how, work, indices);
     DONE
+}
+
+/// Sets the color of each pixel in a table, one after the other, and writes its index: that of its match among the entries that are used, if it differs
+/// from it by no more than the threshold in red, green and blue, and else that of the next entry, which is set to the color. The match is the last
+/// of the candidates: entry 0, and each later entry that differs from the color by no more than the candidate before it in each of red, green and
+/// blue, and by less in one. `used` is how many entries are used, before and afterwards.
+///
+/// Returns 0 when all are written. Else nothing is, and the status is 11 where there is room for no entry or for more than 256, otherwise 7 where
+/// more entries are used than there are or where there are not as many indices as pixels, and otherwise 14 where there is no room for a color.
+#[unsafe(no_mangle)]
+pub extern "C" fn pix_table_index(
+    entries: &mut [Color],
+    used: &mut usize,
+    threshold: &Color,
+    pixels: &[Color],
+    indices: &mut [u8],
+) -> u32
+    ensures status { (status : ℕ) → status ≡ index_status (length entries.old) used.old
+        (length pixels.now) (length indices.old) → status ≢ 0 → result ≡ status }
+    ensures full { index_status (length entries.old) used.old (length pixels.now)
+        (length indices.old) ≡ 0 → result ≢ 0 → (result ≡ 14) × (rest : List Color) × IsStopped
+        numbers (IsSet numbers (Always (numbers threshold.now)) (length entries.old)) 255
+        (take used.old entries.old) (map numbers pixels.now) rest }
+    ensures refused { result ≢ 0 → (entries.new ≡ entries.old) × (used.new ≡ used.old)
+        × (indices.new ≡ indices.old) }
+    ensures done { result ≡ 0 → (used.new ≤ length entries.new) × AreSet numbers
+        (IsSet numbers (Always (numbers threshold.now)) (length entries.old)) 255
+        (take used.old entries.old) (map numbers pixels.now) indices.new
+        (take used.new entries.new) }
+{
+    if entries.is_empty() || entries.len() > 256 {
+        return BAD_TABLE;
+    }
+    if *used > entries.len() || indices.len() != pixels.len() {
+        return BAD_LENGTH;
+    }
+    match index_pixels(entries, *used, *threshold, pixels, indices) {
+        Some(now) => {
+            *used = now;
+            DONE
+        }
+        None => FULL_TABLE,
+    }
 }
 
 /// Writes for each index its entry.

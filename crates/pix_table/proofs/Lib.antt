@@ -10,3 +10,8 @@ pub mod Distinct
 pub mod Diffused
 pub mod Corners
 pub mod Listed
+pub mod PaletteMatches
+pub mod Settings
+pub mod KeptColors
+pub mod IndexingSets
+pub mod OneAnswer

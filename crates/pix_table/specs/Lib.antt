@@ -7,3 +7,8 @@ pub mod Span
 pub mod From
 pub mod Diffusion
 pub mod Done
+pub mod PaletteMatch
+pub mod Setting
+pub mod Indexing
+pub mod Kept
+pub mod SrgbColor

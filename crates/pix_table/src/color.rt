@@ -1,6 +1,10 @@
 //! What is needed of a color.
 ghost use Rattle.std.specs.Prelude.{◌≡◌, ℕ, List, slice_index};
 ghost use Rattle.pix_table.specs.Nearest.{numbers, alpha_of};
+ghost use Rattle.pix_table.specs.SrgbColor.{srgb_numbers};
+
+use pix_el::el::Pixel;
+use pix_el::rgb::SRgb8;
 
 /// Red, green and blue, of eight bits each.
 #[repr(C)]
@@ -29,6 +33,19 @@ impl TableColor for Color {
 
     fn color(self) -> Color {
         self
+    }
+}
+
+impl TableColor for SRgb8 {
+    ghost channels = { srgb_numbers };
+
+    fn color(self) -> Color {
+        let channels = self.channels();
+        Color {
+            red: u8::from(channels[0]),
+            green: u8::from(channels[1]),
+            blue: u8::from(channels[2]),
+        }
     }
 }
 

@@ -107,7 +107,7 @@ fn has(entries: &[Color], clr: Color) -> bool
 }
 
 /// Returns whether two colors are the same.
-fn same(p: Color, q: Color) -> bool
+pub(crate) fn same(p: Color, q: Color) -> bool
     ensures { result ≡ same_color (numbers p) (numbers q) }
 {
     p.red == q.red && p.green == q.green && p.blue == q.blue

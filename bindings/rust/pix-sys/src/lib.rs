@@ -156,6 +156,7 @@ pub mod status {
     pub const BAD_TABLE: u32 = 11;
     pub const BAD_INDEX: u32 = 12;
     pub const BAD_DEPTH: u32 = 13;
+    pub const FULL_TABLE: u32 = 14;
 }
 
 /// A function that runs commands on pixels `P` with mattes `M`.
@@ -396,6 +397,22 @@ unsafe extern "C" {
         kept: u8,
         work: *mut Srgb8,
         work_len: usize,
+        indices: *mut u8,
+        index_count: usize,
+    ) -> u32;
+
+    /// Sets the color of each pixel in a table, and writes its index and how many entries are used.
+    ///
+    /// # Safety
+    ///
+    /// As `pix_table_nearest`.
+    pub fn pix_table_index(
+        entries: *mut Srgb8,
+        len: usize,
+        used: *mut usize,
+        threshold: *const Srgb8,
+        pixels: *const Srgb8,
+        pixel_count: usize,
         indices: *mut u8,
         index_count: usize,
     ) -> u32;

@@ -23,6 +23,8 @@ pub enum Error {
     Table,
     /// An index is past the end of a table or of the counts, or takes more bits than it is to have.
     Index,
+    /// A table has no room for a color.
+    Full,
     /// The processor is none of x86-64 with SSE4.1, and none of aarch64.
     Processor,
     /// The archive has another version or layout than the crate `pix-sys`.
@@ -42,6 +44,7 @@ impl Error {
             status::BAD_LENGTH => Error::Length,
             status::BAD_TABLE => Error::Table,
             status::BAD_INDEX => Error::Index,
+            status::FULL_TABLE => Error::Full,
             _ => Error::Unknown { status, index },
         }
     }
@@ -75,6 +78,7 @@ impl fmt::Display for Error {
             Error::Index => {
                 f.write_str("an index is past the end, or takes more bits than it is to have")
             }
+            Error::Full => f.write_str("a table has no room for a color"),
             Error::Processor => LibraryFault::Processor.fmt(f),
             Error::Library => LibraryFault::Archive.fmt(f),
             Error::Unknown { status, index } => write!(f, "command {index}: status {status}"),

@@ -42,6 +42,6 @@ pub use crate::format::{Format, convert};
 pub use crate::image::{Bands, Image, ImageMut};
 pub use crate::pixel::{Graya8, Pixel, Region, Rgba8, Rgba16, bytes, bytes_mut};
 pub use crate::table::{
-    IndexDepth, Srgb8, Srgba8, Table, count_indices, diffusion_work, make_table, make_table_alpha,
-    pack_row, unpack_row,
+    IndexDepth, Srgb8, Srgba8, Table, count_indices, diffusion_work, index_pixels, make_table,
+    make_table_alpha, pack_row, unpack_row,
 };

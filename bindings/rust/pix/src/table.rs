@@ -286,6 +286,49 @@ pub fn make_table_alpha<'a>(
     Ok(&entries[..made])
 }
 
+/// Sets the color of each pixel in a table, one after the other, and its index: to that of the entry that stands for it, or of the next
+/// one, which is set to the color. `used` is how many of the entries are used, before and afterwards, so one table may serve several
+/// pictures. What stands for a color is its match, if that differs from it by no more than `threshold` in each of red, green and
+/// blue: of 0 that is the color itself. The match is the last of the candidates: entry 0, and each later entry that differs by no
+/// more than the candidate before it in each channel, and by less in one.
+///
+/// ```
+/// use pix::{Srgb8, index_pixels};
+///
+/// let gray = |v| Srgb8::new(v, v, v);
+/// let (mut entries, mut used, mut indices) = ([gray(0); 256], 0, [0; 3]);
+/// index_pixels(&mut entries, &mut used, gray(2), &[gray(9), gray(200), gray(11)], &mut indices)?;
+/// assert_eq!((&entries[..used], indices), (&[gray(9), gray(200)][..], [0, 1, 0]));
+/// # Ok::<(), pix::Error>(())
+/// ```
+///
+/// # Errors
+///
+/// `Table` where there is room for no entry or for more than 256, `Length` where more are used than there are or where there are not
+/// as many indices as pixels, and `Full` where there is no room for a color. Nothing is changed then.
+pub fn index_pixels(
+    entries: &mut [Srgb8],
+    used: &mut usize,
+    threshold: Srgb8,
+    pixels: &[Srgb8],
+    indices: &mut [u8],
+) -> Result<(), Error> {
+    check_library()?;
+    // SAFETY: pointers and lengths are those of three slices and two values, and the exclusive ones share no byte with another.
+    done(unsafe {
+        pix_sys::pix_table_index(
+            entries.as_mut_ptr(),
+            entries.len(),
+            used,
+            &threshold,
+            pixels.as_ptr(),
+            pixels.len(),
+            indices.as_mut_ptr(),
+            indices.len(),
+        )
+    })
+}
+
 /// Sets the count of each number to how often it stands among the indices.
 ///
 /// # Errors

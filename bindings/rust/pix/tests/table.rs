@@ -1,8 +1,8 @@
 //! Tables of colors beside plain loops, and what is refused.
 
 use pix::{
-    Error, IndexDepth, Srgb8, Srgba8, Table, count_indices, diffusion_work, make_table,
-    make_table_alpha, pack_row, unpack_row,
+    Error, IndexDepth, Srgb8, Srgba8, Table, count_indices, diffusion_work, index_pixels,
+    make_table, make_table_alpha, pack_row, unpack_row,
 };
 
 /// Bytes that look random.
@@ -57,6 +57,33 @@ fn nearest_entries() {
             assert_eq!(*pixel, entries[usize::from(*index)]);
         }
     }
+}
+
+#[test]
+fn indexed_pixels() {
+    let gray = |v| Srgb8::new(v, v, v);
+    let (mut entries, mut used, mut indices) = ([gray(77); 3], 0, [9; 4]);
+    let pixels = [gray(10), gray(200), gray(13), gray(14)];
+    // 13 is within 3 of 10, and 14 is not, so it is added.
+    index_pixels(&mut entries, &mut used, gray(3), &pixels, &mut indices).unwrap();
+    assert_eq!((entries, used), ([gray(10), gray(200), gray(14)], 3));
+    assert_eq!(indices, [0, 1, 0, 2]);
+    // 13 differs by 3 from entry 0 and by 1 from entry 2, which is the last candidate.
+    index_pixels(&mut entries, &mut used, gray(3), &[gray(13)], &mut indices[..1]).unwrap();
+    assert_eq!(indices[0], 2);
+    let before = (entries, used, indices);
+    let mut all = [gray(5); 257];
+    let more = [gray(10), gray(100)];
+    for refused in [
+        index_pixels(&mut entries, &mut used, gray(0), &more, &mut indices[..2]) == Err(Error::Full),
+        index_pixels(&mut entries, &mut used, gray(3), &pixels, &mut []) == Err(Error::Length),
+        index_pixels(&mut entries[..2], &mut used, gray(3), &[], &mut []) == Err(Error::Length),
+        index_pixels(&mut [], &mut used, gray(3), &[], &mut []) == Err(Error::Table),
+        index_pixels(&mut all, &mut used, gray(3), &[], &mut []) == Err(Error::Table),
+    ] {
+        assert!(refused);
+    }
+    assert_eq!((entries, used, indices), before);
 }
 
 #[test]

@@ -1,0 +1,21 @@
+-- Of `set_kept`: the clauses `set` and `right`, and the condition of its call of `keep`.
+use Rattle.std.proofs.Common.{◌≡◌, ◌<◌}
+use Rattle.pix_table.proofs.KeptColors.{kept_is_set, set_below, set_right, set_kept_right}
+use Rattle.pix_table.proofs.set.set_kept.Goals as goal
+
+pub returns-in-Some-clause-set : goal.returns-in-Some-clause-set
+returns-in-Some-clause-set g c =
+    kept_is_set g.C.TableColor.channels _ _ _ c.args.len _ c.args.clr _ c.in-Some.index c.requires.within c.requires.right c.in-Some.ensures c.color-color.ensures
+
+pub keep-requires : goal.keep-requires
+keep-requires g c =
+    set_below g.C.TableColor.channels _ _ _ _ c.in-Some-answer.index _ (rw c.in-Some-answer.is at c.set_entry-answer.ensures.set)
+
+pub returns-in-Some-answer-clause-right : goal.returns-in-Some-answer-clause-right
+returns-in-Some-answer-clause-right g c =
+    set_kept_right g.C.TableColor.channels _ _ _ c.args.clr _ c.in-Some-answer.index _ _ _ (rw c.in-Some-answer.is at c.set_entry-answer.ensures.set) c.requires.right
+    c.color-color.ensures c.keep.ensures
+
+pub returns-in_default-answer-clause-right : goal.returns-in_default-answer-clause-right
+returns-in_default-answer-clause-right g c =
+    set_right g.C.TableColor.channels _ _ _ c.args.clr _ _ _ c.set_entry-answer.ensures.set c.requires.right

@@ -1,0 +1,9 @@
+-- What holds at each turn of the loop over `i` in `closest`.
+use Rattle.std.proofs.Common.{map}
+use Rattle.pix_table.specs.Nearest.{numbers}
+use Rattle.pix_table.proofs.PaletteMatches.{IsBest}
+use Rattle.pix_table.proofs.threshold.closest.Given as goal
+
+-- `at` is the match among the first i colors, and `least` its difference
+abbrev pub invariant-loop-i : goal.invariant-loop-i
+invariant-loop-i g l = IsBest (map g.C.TableColor.channels l.colors) (numbers l.clr) l.i l.at (numbers l.least)

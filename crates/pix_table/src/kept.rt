@@ -1,0 +1,120 @@
+//! Colors that are kept beside a table, each with the index that stands for it: a color is kept near the place that its channels give.
+//!
+//! Which place a color is given and how many are tried decide only how often the table is searched: no answer depends on them.
+ghost use Rattle.std.specs.Prelude.{◌≡◌, ◌<◌, length, map, IfSome, All};
+ghost use Rattle.pix_table.specs.Nearest.{numbers};
+ghost use Rattle.pix_table.specs.Kept.{IsKept, IsPut, IsKeeping, serves};
+
+use crate::color::{Color, TableColor};
+use crate::from::same;
+
+/// The number of places.
+const PLACES: usize = 2056;
+
+/// How many places in a row a color may be kept at.
+const TRIES: usize = 8;
+
+/// Stands for any number of entries.
+const ALWAYS: u16 = 65535;
+
+/// A color, the index that stands for it, and the number of entries for which it does; a place with none has 0 entries.
+#[derive(Clone, Copy)]
+pub struct Kept {
+    clr: Color,
+    index: u16,
+    count: u16,
+}
+
+/// Places for colors that are kept.
+#[derive(Drop)]
+pub struct Cache {
+    kept: [Kept; PLACES],
+    ghost long: { length kept ≡ 2056 },
+}
+
+/// Returns the first place that a color may be kept at.
+fn first_place(clr: Color) -> usize
+    ensures { result < 2048 }
+{
+    let red = usize::from(clr.red);
+    let green = usize::from(clr.green);
+    let blue = usize::from(clr.blue);
+    (red * 37 + green * 101 + blue * 167) % 2048
+}
+
+impl Cache {
+    /// Makes a cache without a color.
+    pub fn new() -> Cache
+        ensures { All (λ kept. kept.count ≡ 0) result.kept }
+    {
+        let kept = Kept {
+            clr: Color::default(),
+            index: 0,
+            count: 0,
+        };
+        Cache {
+            kept: [kept; PLACES],
+        }
+    }
+
+    /// Returns the index of a color that is kept for a table of so many entries.
+    pub fn find(&self, clr: Color, count: usize) -> Option<usize>
+        ensures { IfSome result (IsKept self.now.kept (numbers clr) count) }
+    {
+        let start = first_place(clr);
+        for at in start..start + TRIES {
+            let kept = self.kept[at];
+            if same(kept.clr, clr) && kept.serves(count) {
+                return Some(usize::from(kept.index));
+            }
+        }
+        None
+    }
+
+    /// Keeps a color with the index of the entry that stands for it: for any number of entries, if the entry is the color, and else for just so
+    /// many as there are. It keeps none whose index or number of entries is too great for that.
+    pub fn keep<C: TableColor>(&mut self, entries: &[C], clr: Color, index: usize)
+        requires { index < length entries.now }
+        ensures { IsKeeping (map C.channels entries.now) (numbers clr) index
+            self.old.kept self.new.kept }
+    {
+        let Ok(index16) = u16::try_from(index) else {
+            return;
+        };
+        if same(entries[index].color(), clr) {
+            self.put(clr, index16, ALWAYS);
+        } else if entries.len() < usize::from(ALWAYS) {
+            self.put(clr, index16, entries.len() as u16);
+        }
+    }
+
+    /// Puts a color at the first of its places that serves no longer, or at the first of all where each does.
+    fn put(&mut self, clr: Color, index: u16, count: u16)
+        ensures { IsPut self.old.kept (numbers clr) index count self.new.kept }
+    {
+        let at = self.free_place(first_place(clr), usize::from(count));
+        self.kept[at] = Kept { clr, index, count };
+    }
+
+    /// Returns the first of the places from one on that has no color for so many entries, or that place where each has one.
+    fn free_place(&self, start: usize, count: usize) -> usize
+        requires { start < 2048 }
+        ensures { result < 2056 }
+    {
+        for at in start..start + TRIES {
+            if !self.kept[at].serves(count) {
+                return at;
+            }
+        }
+        start
+    }
+}
+
+impl Kept {
+    /// Returns whether it is kept for so many entries.
+    fn serves(self, count: usize) -> bool
+        ensures { result ≡ serves self.count count }
+    {
+        self.count == ALWAYS || self.count > 0 && usize::from(self.count) == count
+    }
+}
