@@ -1,11 +1,17 @@
 -- Rows of pixels by the depths of both formats.
-use Rattle.std.proofs.Common.{◌≡◌, ℕ, ◌+◌, ◌*◌, List, subst}
-use Rattle.pix_el.specs.Conversion.{Format}
-use Rattle.pix_bytes.specs.Bitmap.{IsCrossed, crossed}
+use Rattle.std.proofs.Common.{◌≡◌, ℕ, ◌+◌, ◌*◌, ◌∙◌, List, slice_range, subst, sym, ap, refl, arith, true, false}
+use Rattle.pix_chan.specs.Product.{channel_product}
+use Rattle.pix_chan.specs.Srgb16.{srgb_decoded16}
+use Rattle.pix_chan.proofs.Planes.{cons}
+use Rattle.pix_el.specs.Pixel.{channel}
+use Rattle.pix_el.specs.Conversion.{Format, at_depth}
+use Rattle.pix_bytes.specs.Bitmap.{IsCrossed, crossed, into_light}
+use Rattle.pix_bytes.specs.Lit.{multiplied_light}
 use Rattle.pix_bytes.specs.Rows.{IsEach, max_of, gamma_of, format_at, stored_of}
-use Rattle.pix_bytes.specs.Stored.{sample_size}
+use Rattle.pix_bytes.specs.Stored.{sample_size, samples, padded}
 use Rattle.pix_bytes.specs.declared.bitmap.format.Depth.{Depth}
 use Rattle.pix_bytes.specs.declared.bitmap.format.Stored.{Stored}
+use Rattle.pix_bytes.specs.declared.bitmap.model.ModelName.TheVariants.{Rgb}
 
 -- each pixel is crossed, where both depths are known
 pub crossed_as : (from to : Stored) (depth to_depth : Depth) (count : ℕ) (src dst : List ℕ) → from.depth ≡ depth → to.depth ≡ to_depth
@@ -30,3 +36,31 @@ crossed_from max to_max known from to makes count src dst e h = subst (λ (s : S
 pub crossed_to : (max to_max : ℕ) (from known to : Stored) (makes : Format → Format → List ℕ → List ℕ) (count : ℕ) (src dst : List ℕ) → known ≡ to
     → AreCrossed max to_max from known makes count src dst → AreCrossed max to_max from to makes count src dst
 crossed_to max to_max from known to makes count src dst e h = subst (λ (s : Stored). AreCrossed max to_max from s makes count src dst) e h
+
+-- .. of which the one function makes what the other does
+pub each_same : (max to_max from_count all size to_size : ℕ) (f g : List ℕ → List ℕ) (src dst : List ℕ) (count : ℕ) → ((p : List ℕ) → f p ≡ g p)
+    → IsEach max to_max from_count all size to_size f src dst count → IsEach max to_max from_count all size to_size g src dst count
+each_same max to_max from_count all size to_size f g src dst count same each = λ index lt.
+    each index lt ∙ ap (padded to_max all) (same (samples max from_count (slice_range src (index * size) (index * size + size))))
+
+-- straight pixels of red, green, blue and alpha, and premultiplied ones
+abbrev pub rgba : Depth → Stored
+rgba depth = record { model = Rgb; count = 4; is_premultiplied = false; depth = depth; spare = 0 }
+
+abbrev pub rgbap : Depth → Stored
+rgbap depth = record { model = Rgb; count = 4; is_premultiplied = true; depth = depth; spare = 0 }
+
+depth_same : (x : ℕ) → at_depth 65535 65535 x ≡ x
+depth_same x = omega arith
+
+depth_up : (x : ℕ) → at_depth 255 65535 x ≡ 257 * x
+depth_up x = omega arith
+
+color_lit : (x a : ℕ) → at_depth 65535 65535 (channel_product 65535 x (at_depth 255 65535 a)) ≡ channel_product 65535 x (257 * a)
+color_lit x a = depth_same (channel_product 65535 x (at_depth 255 65535 a)) ∙ ap (channel_product 65535 x) (depth_up a)
+
+pub rgba_in_light : (depth to_depth : Depth) (p : List ℕ) → multiplied_light p ≡ into_light (format_at 255 (rgba depth)) (format_at 65535 (rgbap to_depth)) p
+rgba_in_light depth to_depth p =
+    let a : ℕ = channel 255 p 3 in
+    sym (cons (color_lit (srgb_decoded16 (channel 255 p 0)) a) (cons (color_lit (srgb_decoded16 (channel 255 p 1)) a) (cons (color_lit (srgb_decoded16 (channel 255 p 2)) a)
+    (cons (depth_same (at_depth 255 65535 a) ∙ depth_up a) refl))))

@@ -6,3 +6,5 @@ pub mod Parts
 pub mod Table
 pub mod Bitmaps
 pub mod Crossings
+pub mod LaneProducts
+pub mod LitFours

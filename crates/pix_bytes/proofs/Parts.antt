@@ -1,7 +1,7 @@
 -- A part of a list that was written, and what stands beside it.
-use Rattle.std.proofs.Common.{◌≡◌, ℕ, ◌≤◌, ◌+◌, ◌-◌, ◌*◌, List, length, take, drop, get_or, slice_range, sym, ap, ◌∙◌, arith, inl, inr}
+use Rattle.std.proofs.Common.{◌≡◌, ℕ, ◌≤◌, ◌<◌, ◌+◌, ◌-◌, ◌*◌, List, length, take, drop, get_or, slice_range, sym, ap, ◌∙◌, refl, arith, inl, inr}
 use Rattle.std.proofs.lemmas.Bool.{cases_lt}
-use Rattle.std.proofs.lemmas.List.{drop-take, get_or-take, get_or-drop}
+use Rattle.std.proofs.lemmas.List.{drop-take, take-take, drop-drop, get_or-take, get_or-drop}
 use Rattle.std.proofs.lemmas.Slice.{between_is, take-put_mid_below, between-put_mid, drop-put_mid}
 use Rattle.std.proofs.Math.Nat.{mul-le-mul_right}
 use borrow.Rule.Slice.PartMut.{put_mid}
@@ -69,4 +69,55 @@ each_more max to_max from_count all size to_size f src dst part index start k so
       ∙ ap (samples to_max all) (range_written dst part start to_size k span within long)
       ∙ new
       ∙ ap (λ (n : ℕ). padded to_max all (f (samples max from_count (slice_range src (n * size) (n * size + size))))) (sym here)
+]
+
+-- a range of a range
+pub range_in : (xs : List ℕ) (at k start wide : ℕ) → start + wide ≤ k → slice_range (slice_range xs at (at + k)) start (start + wide) ≡ slice_range xs (at + start) (at + start + wide)
+range_in xs at k start wide within =
+    ap (λ (l : List ℕ). slice_range l start (start + wide)) (range_is xs at k)
+    ∙ between_is (take k (drop at xs)) start (start + wide)
+    ∙ ap (drop start) (take-take (start + wide) k (drop at xs) within)
+    ∙ sym (between_is (drop at xs) start (start + wide))
+    ∙ range_is (drop at xs) start wide
+    ∙ ap (take wide) (drop-drop start at xs)
+    ∙ sym (range_is xs (at + start) wide)
+
+-- an element of a range
+pub range_at : (xs : List ℕ) (start wide k : ℕ) → k < wide → get_or (slice_range xs start (start + wide)) k 0 ≡ get_or xs (start + k) 0
+range_at xs start wide k lt =
+    ap (λ (l : List ℕ). get_or l k 0) (range_is xs start wide)
+    ∙ get_or-take wide (drop start xs) k 0 lt
+    ∙ get_or-drop start xs k 0
+
+-- the next pixels were made, so many at once
+pub each_part : (max to_max from_count all size to_size : ℕ) (f : List ℕ → List ℕ) (src dst part : List ℕ) (first count from start k : ℕ)
+    → IsEach max to_max from_count all size to_size f src dst first
+    → from ≡ first * size → start ≡ first * to_size → k ≡ count * to_size → start ≤ length dst → length part ≡ k
+    → IsEach max to_max from_count all size to_size f (slice_range src from (from + count * size)) part count
+    → IsEach max to_max from_count all size to_size f src (put_mid start k dst part) (first + count)
+each_part max to_max from_count all size to_size f src dst part first count from start k so_far origin at span within long new = λ i below. elim (cases_lt i first) [
+  | inl before ↦
+      let up : (i + 1) * to_size ≤ first * to_size = mul-le-mul_right to_size (let p : i + 1 ≤ first = omega (arith, before) in p) in
+      let next : i * to_size + to_size ≡ (i + 1) * to_size = omega arith in
+      ap (samples to_max all) (range_below dst part (i * to_size) to_size start k (omega (arith, up, next, at)) within) ∙ so_far i before
+  | inr past ↦
+      let j : ℕ = i - first in
+      let here : i ≡ first + j = omega (arith, past) in
+      let lt : j < count = omega (arith, below, here) in
+      let room : j * to_size + to_size ≤ k =
+      let p : (j + 1) * to_size ≤ count * to_size = mul-le-mul_right to_size (let p : j + 1 ≤ count = omega (arith, lt) in p) in
+      let next : j * to_size + to_size ≡ (j + 1) * to_size = omega arith in
+      omega (arith, p, next, span) in
+      let held : j * size + size ≤ count * size =
+      let p : (j + 1) * size ≤ count * size = mul-le-mul_right size (let p : j + 1 ≤ count = omega (arith, lt) in p) in
+      let next : j * size + size ≡ (j + 1) * size = omega arith in
+      omega (arith, p, next) in
+      let place : i * to_size ≡ start + j * to_size = ap (λ (n : ℕ). n * to_size) here ∙ (let e : (first + j) * to_size ≡ first * to_size + j * to_size = omega arith in e) ∙ ap (λ (n : ℕ). n + j * to_size) (sym at) in
+      let origin_of : i * size ≡ from + j * size = ap (λ (n : ℕ). n * size) here ∙ (let e : (first + j) * size ≡ first * size + j * size = omega arith in e) ∙ ap (λ (n : ℕ). n + j * size) (sym origin) in
+      ap (λ (n : ℕ). samples to_max all (slice_range (put_mid start k dst part) n (n + to_size))) place
+      ∙ ap (samples to_max all) (sym (range_in (put_mid start k dst part) start k (j * to_size) to_size room))
+      ∙ ap (λ (l : List ℕ). samples to_max all (slice_range l (j * to_size) (j * to_size + to_size))) (range_written dst part start k k refl within long)
+      ∙ new j lt
+      ∙ ap (λ (l : List ℕ). padded to_max all (f (samples max from_count l))) (range_in src from (count * size) (j * size) size held)
+      ∙ ap (λ (n : ℕ). padded to_max all (f (samples max from_count (slice_range src n (n + size))))) (sym origin_of)
 ]

@@ -5,3 +5,4 @@ pub mod Stored
 pub mod Rows
 pub mod Bitmap
 pub mod Table
+pub mod Lit

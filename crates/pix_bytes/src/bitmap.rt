@@ -11,6 +11,7 @@ use crate::bitmap::rows::Lines;
 mod cross;
 mod format;
 mod four;
+mod fours;
 mod model;
 mod rows;
 mod sample;

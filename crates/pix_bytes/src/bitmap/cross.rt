@@ -1,5 +1,5 @@
 //! Rows of pixels that go from one format to another, where both are known when a program runs.
-ghost use Rattle.std.specs.Prelude.{◌≡◌, ◌+◌, ◌*◌, length, true};
+ghost use Rattle.std.specs.Prelude.{◌≡◌, ◌≤◌, ◌+◌, ◌*◌, length, true};
 ghost use Rattle.pix_bytes.specs.Bitmap.{IsCrossed};
 ghost use Rattle.pix_bytes.specs.Rows.{IsEach, format_at, stored_of, is_sound};
 ghost use Rattle.pix_bytes.specs.declared.bitmap.format.Depth.{Depth};
@@ -35,10 +35,13 @@ fn cross_pixels<C: Sample, D: Sample, W: Way<C, D>>(
 {
     let size = (from.count + from.spare) * C::size();
     let to_size = (to.count + to.spare) * D::size();
-    cross_each(way, from, to, size, to_size, src, dst, count);
+    let first = way.go_ahead(from, to, src, dst, count);
+    cross_each(way, from, to, size, to_size, src, dst, first, count);
 }
 
-/// Does what [`cross_pixels`] does, where a pixel has `size` bytes, and `to_size` of them in the other format.
+/// Does what [`cross_pixels`] does from the pixel `first` on, where a pixel has `size` bytes, and `to_size` of them in the other format.
+///
+/// Condition: those before it are written.
 #[inline(always)]
 fn cross_each<C: Sample, D: Sample, W: Way<C, D>>(
     way: &W,
@@ -48,6 +51,7 @@ fn cross_each<C: Sample, D: Sample, W: Way<C, D>>(
     to_size: usize,
     src: &[u8],
     dst: &mut [u8],
+    first: usize,
     count: usize,
 )
     requires sound { is_sound from ≡ true }
@@ -56,10 +60,13 @@ fn cross_each<C: Sample, D: Sample, W: Way<C, D>>(
     requires to_size { to_size ≡ (to.count + to.spare) * sample_size D.max }
     requires src { length src.now ≡ count * size }
     requires dst { length dst.old ≡ count * to_size }
+    requires some { first ≤ count }
+    requires ahead { IsEach C.max D.max from.count (to.count + to.spare) size to_size
+        (W.makes (format_at C.max from) (format_at D.max to)) src.now dst.old first }
     ensures { IsEach C.max D.max from.count (to.count + to.spare) size to_size
         (W.makes (format_at C.max from) (format_at D.max to)) src.now dst.new count }
 {
-    for index in 0..count {
+    for index in first..count {
         let start = index * size;
         let pixel = read_four::<C>(&src[start..start + size], from.count);
         let made = way.go(from, to, pixel);

@@ -190,6 +190,23 @@ impl Stored {
         }
     }
 
+    /// Returns whether this format has this model, so many channels, this alpha mode and so many spare samples.
+    #[inline(always)]
+    pub(crate) fn has(
+        self,
+        model: ModelName,
+        count: usize,
+        is_premultiplied: bool,
+        spare: usize,
+    ) -> bool
+        ensures { result ≡ true → self ≡ record { model = model; count = count; is_premultiplied = is_premultiplied; depth = self.depth; spare = spare } }
+    {
+        self.model.is(model)
+            && self.count == count
+            && self.is_premultiplied == is_premultiplied
+            && self.spare == spare
+    }
+
     /// Returns how many bytes a pixel has. Condition: it has at most four samples.
     pub(crate) fn size(self) -> usize
         requires { is_sound self ≡ true }

@@ -1,5 +1,5 @@
 //! How a pixel goes from one format to another, where both are known when a program runs.
-ghost use Rattle.std.specs.Prelude.{◌≡◌, ◌≤◌, ◌<◌, ◌+◌, ℕ, List, nat_lt, take, if◌then◌else◌};
+ghost use Rattle.std.specs.Prelude.{◌≡◌, ◌≤◌, ◌<◌, ◌+◌, ◌*◌, ℕ, List, length, nat_lt, take, if◌then◌else◌};
 ghost use Rattle.pix_chan.specs.Srgb16.{srgb_decoded16, srgb_encoded8};
 ghost use Rattle.pix_el.specs.Pixel.{Layout, channel, lies_in};
 ghost use Rattle.pix_el.specs.Conversion.{Format, at_depth, of_depth, reencoded, within_model, converted};
@@ -8,11 +8,14 @@ ghost use Rattle.pix_el.specs.Model.{row};
 ghost use Rattle.pix_bytes.specs.Bitmap.{into_light, out_of_light};
 ghost use Rattle.pix_bytes.specs.Four.{listed};
 ghost use Rattle.pix_bytes.specs.Models.{model_of};
-ghost use Rattle.pix_bytes.specs.Rows.{IsSame, IsStep, alpha_mode_of, format_at};
+ghost use Rattle.pix_bytes.specs.Rows.{IsEach, IsSame, IsStep, alpha_mode_of, format_at};
+ghost use Rattle.pix_bytes.specs.Stored.{sample_size};
 
 use crate::bitmap::format::Stored;
 use crate::bitmap::four::Four;
+use crate::bitmap::fours::decode_fours;
 use crate::bitmap::model::Colored;
+use crate::bitmap::model::ModelName::Rgb;
 use pix_chan::chan::{Alpha, Ch8, Ch16, Channel, Gamma, Linear, Premultiplied};
 use std::marker::PhantomData;
 
@@ -189,6 +192,17 @@ pub(crate) trait Way<C: Channel, D: Channel> {
         ensures { (p : List ℕ) → IsSame C.max (listed C.number pixel) p
             → take to.count (listed D.number result)
             ≡ makes (format_at C.max from) (format_at D.max to) p };
+
+    /// Writes as many of the first `count` pixels as this way has several at once for, and returns how many these are.
+    ///
+    /// Condition: there are `count` in both.
+    fn go_ahead(&self, from: Stored, to: Stored, src: &[u8], dst: &mut [u8], count: usize) -> usize
+        requires src { length src.now ≡ count * ((from.count + from.spare) * sample_size C.max) }
+        requires dst { length dst.old ≡ count * ((to.count + to.spare) * sample_size D.max) }
+        ensures some { result ≤ count }
+        ensures each { IsEach C.max D.max from.count (to.count + to.spare)
+            ((from.count + from.spare) * sample_size C.max) ((to.count + to.spare) * sample_size D.max)
+            (makes (format_at C.max from) (format_at D.max to)) src.now dst.new result };
 }
 
 /// The conversion from the gamma mode `G` to the gamma mode `H`.
@@ -225,6 +239,18 @@ impl<C: Colored, D: Colored, G: Gamma<D>, H: Gamma<D>> Way<C, D> for Converted<G
             let rgba = within::<C, D, G, H>(Step::of_rgba(from, to), rgba);
             D::out_of_rgb(to.model, rgba)
         }
+    }
+
+    #[inline(always)]
+    fn go_ahead(
+        &self,
+        _from: Stored,
+        _to: Stored,
+        _src: &[u8],
+        _dst: &mut [u8],
+        _count: usize,
+    ) -> usize {
+        0
     }
 }
 
@@ -287,6 +313,24 @@ impl Way<Ch8, Ch16> for IntoLight {
         let pixel = decoded(Step::between(from, light), pixel);
         Converted::<Linear, Linear>::new().go(light, to, pixel)
     }
+
+    #[inline(always)]
+    fn go_ahead(
+        &self,
+        from: Stored,
+        to: Stored,
+        src: &[u8],
+        dst: &mut [u8],
+        count: usize,
+    ) -> usize {
+        if !from.has(Rgb, 4, false, 0) {
+            return 0;
+        }
+        if !to.has(Rgb, 4, true, 0) {
+            return 0;
+        }
+        decode_fours(src, dst, count)
+    }
 }
 
 /// The way of a linear pixel of 16 bits to sRGB.
@@ -343,5 +387,17 @@ impl Way<Ch16, Ch8> for OutOfLight {
         };
         let pixel = Converted::<Linear, Linear>::new().go(from, light, pixel);
         encoded(Step::between(light, to), pixel)
+    }
+
+    #[inline(always)]
+    fn go_ahead(
+        &self,
+        _from: Stored,
+        _to: Stored,
+        _src: &[u8],
+        _dst: &mut [u8],
+        _count: usize,
+    ) -> usize {
+        0
     }
 }

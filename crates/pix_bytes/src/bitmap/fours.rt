@@ -1,0 +1,153 @@
+//! sRGB pixels of red, green, blue and alpha in light, four at a time.
+//!
+//! The colors of each are looked up as those of an opaque pixel, in one word. Where not all four are opaque, their sixteen channels are then
+//! multiplied by the alphas.
+ghost use Rattle.std.specs.Prelude.{◌≡◌, ◌≤◌, ◌<◌, ◌*◌, length, slice_index_or, true};
+ghost use Rattle.std.specs.Simd.Lanes.{zip2};
+ghost use Rattle.pix_chan.specs.Product.{channel_product};
+ghost use Rattle.pix_chan.specs.Srgb16.{srgb_decoded16};
+ghost use Rattle.pix_bytes.specs.Lit.{multiplied_light, word_of, light_at, opaque_light};
+ghost use Rattle.pix_bytes.specs.Lit.{four_alphas, bytes_of};
+ghost use Rattle.pix_bytes.specs.Rows.{IsEach};
+
+use pix_chan::chan::Ch8;
+use std::simd::prelude::*;
+
+/// Returns the channel products of the lanes.
+///
+/// With t = x y + 32768, the product is the upper half of t and, where the sum of both halves carries, one more.
+#[inline(always)]
+fn products(x: u16x16, y: u16x16) -> u16x16
+    ensures { result ≡ zip2 (channel_product 65535) x y }
+{
+    let low = x * y;
+    let whole = x.cast::<u32>() * y.cast::<u32>();
+    let upper = (whole >> u32x16::splat(16)).cast::<u16>() + (low >> u16x16::splat(15));
+    let lower = low + u16x16::splat(32768);
+    let sum = lower + upper;
+    upper
+        + sum
+            .simd_lt(lower)
+            .select(u16x16::splat(1), u16x16::splat(0))
+}
+
+/// Returns the alphas of four pixels in 16 bits, each once for each channel of its pixel.
+#[inline(always)]
+fn alphas(pixels: u8x16) -> u16x16
+    ensures { result ≡ four_alphas pixels }
+{
+    let a = pixels.swizzle([3, 3, 3, 3, 7, 7, 7, 7, 11, 11, 11, 11, 15, 15, 15, 15]);
+    a.cast::<u16>() * u16x16::splat(257)
+}
+
+/// Returns the linear channel of an sRGB level.
+#[inline(always)]
+fn light(level: u8) -> u64
+    ensures value { result ≡ srgb_decoded16 level }
+    ensures fits { result < 65536 }
+{
+    u64::from(u16::from(Ch8::new(level).decode_srgb16()))
+}
+
+/// Returns the four bytes of a pixel. Condition: there are four.
+#[inline(always)]
+fn pixel(bytes: &[u8]) -> [u8; 4]
+    requires { length bytes.now ≡ 4 }
+    ensures { result ≡ bytes.now }
+{
+    if let Some(whole) = bytes.as_array::<4>() {
+        *whole
+    } else {
+        [0, 0, 0, 0]
+    }
+}
+
+/// Returns the light of an sRGB pixel as if it was opaque. Condition: it has four bytes.
+#[inline(always)]
+fn word(bytes: &[u8]) -> u64
+    requires { length bytes.now ≡ 4 }
+    ensures { result ≡ word_of (light_at bytes.now 0) (light_at bytes.now 1)
+        (light_at bytes.now 2) 65535 }
+{
+    let p = pixel(bytes);
+    light(p[0]) + 65536 * (light(p[1]) + 65536 * (light(p[2]) + 65536 * 65535))
+}
+
+/// Returns the light of four sRGB pixels as if they were opaque. Condition: they have sixteen bytes.
+#[inline(always)]
+fn words(bytes: &[u8]) -> u16x16
+    requires { length bytes.now ≡ 16 }
+    ensures { result ≡ opaque_light bytes.now }
+{
+    let four = u64x4::from_array([
+        word(&bytes[0..4]),
+        word(&bytes[4..8]),
+        word(&bytes[8..12]),
+        word(&bytes[12..16]),
+    ]);
+    u16x16::from_le_bytes(four.to_le_bytes())
+}
+
+/// Writes the lanes, the lower byte of each first. Condition: there is room for sixteen.
+#[inline(always)]
+fn put(bytes: &mut [u8], lanes: u16x16)
+    requires { length bytes.old ≡ 32 }
+    ensures { bytes.new ≡ bytes_of lanes }
+{
+    if let Some(whole) = bytes.as_mut_array::<32>() {
+        *whole = lanes.to_le_bytes().to_array();
+    }
+}
+
+/// Returns whether four pixels are opaque. Condition: they have sixteen bytes.
+#[inline(always)]
+fn are_opaque(bytes: &[u8]) -> bool
+    requires { length bytes.now ≡ 16 }
+    ensures three { result ≡ true → slice_index_or bytes.now 3 0 ≡ 255 }
+    ensures seven { result ≡ true → slice_index_or bytes.now 7 0 ≡ 255 }
+    ensures eleven { result ≡ true → slice_index_or bytes.now 11 0 ≡ 255 }
+    ensures fifteen { result ≡ true → slice_index_or bytes.now 15 0 ≡ 255 }
+{
+    bytes[3] == 255 && bytes[7] == 255 && bytes[11] == 255 && bytes[15] == 255
+}
+
+/// Returns the light of four sRGB pixels, multiplied by their alphas. Condition: they have sixteen bytes.
+#[inline(always)]
+fn lit(bytes: &[u8]) -> u16x16
+    requires { length bytes.now ≡ 16 }
+    ensures { result ≡
+        zip2 (channel_product 65535) (opaque_light bytes.now) (four_alphas bytes.now) }
+{
+    let opaque = words(bytes);
+    if are_opaque(bytes) {
+        opaque
+    } else {
+        products(opaque, alphas(u8x16::from_slice(bytes)))
+    }
+}
+
+/// Writes four sRGB pixels in light, multiplied by their alphas. Condition: there are as many of both.
+#[inline(always)]
+fn decode_four(src: &[u8], dst: &mut [u8])
+    requires src { length src.now ≡ 16 }
+    requires dst { length dst.old ≡ 32 }
+    ensures { IsEach 255 65535 4 4 4 8 multiplied_light src.now dst.new 4 }
+{
+    put(dst, lit(src));
+}
+
+/// Writes the first of `count` sRGB pixels in light, multiplied by their alphas, as many as go by fours, and returns how many these are.
+///
+/// Condition: there are `count` of both.
+#[inline(always)]
+pub(crate) fn decode_fours(src: &[u8], dst: &mut [u8], count: usize) -> usize
+    requires src { length src.now ≡ count * 4 }
+    requires dst { length dst.old ≡ count * 8 }
+    ensures some { result ≤ count }
+    ensures each { IsEach 255 65535 4 4 4 8 multiplied_light src.now dst.new result }
+{
+    for k in 0..count / 4 {
+        decode_four(&src[16 * k..16 * k + 16], &mut dst[32 * k..32 * k + 32]);
+    }
+    count / 4 * 4
+}
