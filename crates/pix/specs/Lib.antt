@@ -48,7 +48,11 @@ pub use Rattle.pix_raster.specs.Bounds
 pub use Rattle.pix_raster.specs.Stays
 pub use Rattle.pix_raster.specs.Claims
 pub use Rattle.pix_raster.specs.Window
-pub use Rattle.pix_palette.specs.PaletteMatch
+pub use Rattle.pix_table.specs.PaletteMatch
+pub use Rattle.pix_table.specs.Setting
+pub use Rattle.pix_table.specs.Indexing as SetInTurn
+pub use Rattle.pix_table.specs.Nearest as NearestEntry
+pub use Rattle.pix_table.specs.LookUp
 pub use Rattle.pix_palette.specs.Palette
 pub use Rattle.pix_palette.specs.Histogram
 pub use Rattle.pix_palette.specs.Indexing

@@ -1,61 +1,13 @@
--- Setting the colors of pixels, one after the other.
+-- The colors of pixels, and the values of indices.
 use Rattle.std.specs.Prelude.{take}
-use Rattle.std.proofs.Common.{◌≡◌, ℕ, suc, ◌+◌, ◌<◌, ◌≤◌, List, [], ◌∷◌, ◌++◌, length, map, get_or, set, refl, arith, sym, ap, ◌∙◌, subst, Some, None}
-use Rattle.std.proofs.lemmas.List.{length-map, map-set, get_or-map, take_more, take_more_set, take_all, take-append-drop, take-append-le, take-take}
+use Rattle.std.proofs.Common.{◌≡◌, ℕ, ◌+◌, ◌<◌, ◌≤◌, List, [], ◌∷◌, ◌++◌, length, map, get_or, set, arith, sym, ap, ◌∙◌, subst}
+use Rattle.std.proofs.lemmas.List.{length-map, map-set, get_or-map, take_more_set, take_all, take-append-le}
+use Rattle.pix_table.proofs.Writes.{set_more}
 use Rattle.pix_chan.specs.Modes.{GammaMode, Srgb}
 use Rattle.pix_el.specs.Conversion.{Format, converted}
-use Rattle.std.proofs.Math.Seq.{drop-cons, take-length}
+use Rattle.std.proofs.Math.Seq.{take-length}
 use Rattle.std.proofs.Math.ListN.{drop}
-use Rattle.pix_palette.specs.Palette.{Color}
-use Rattle.pix_palette.specs.Indexing.{Setting, IsSetUpTo, AreSet, IsStopped, AreGray, color_format, colors_of, values}
-
--- one color more that has an index
-pub set_more : (setting : Setting) (greatest : ℕ) (old : List Color) (pixels : List (List ℕ)) (indices : List ℕ) (between : List Color) (pixel : List ℕ) (i : ℕ)
-    (new : List Color) → AreSet setting greatest old pixels indices between → IsSetUpTo setting greatest between pixel (Some i) new
-    → AreSet setting greatest old (pixels ++ pixel ∷ []) (indices ++ i ∷ []) new
-set_more setting greatest old [] [] between pixel i new h s = (new, subst (λ l. IsSetUpTo setting greatest l pixel (Some i) new) h s, refl)
-set_more setting greatest old (p ∷ pixels) (k ∷ indices) between pixel i new h s = (h.0, h.1, set_more setting greatest h.0 pixels indices between pixel i new h.2 s)
-set_more setting greatest old [] (k ∷ indices) between pixel i new h s = absurd h
-set_more setting greatest old (p ∷ pixels) [] between pixel i new h s = absurd h
-
--- the first i pixels have been set, and `indices` are the first of the values
-pub record AreSetBelow (setting : Setting) (greatest : ℕ) (old : List Color) (pixels : List (List ℕ)) (i : ℕ) (indices : List ℕ) (new : List Color) : Type 0 where
-  pub so_far : AreSet setting greatest old (take i pixels) (take i indices) new
-
-pub none_set : (setting : Setting) (greatest : ℕ) (old : List Color) (pixels : List (List ℕ)) (indices : List ℕ) → AreSetBelow setting greatest old pixels 0 indices old
-none_set setting greatest old pixels indices = record { so_far = refl }
-
-pub one_set : (setting : Setting) (greatest : ℕ) (old : List Color) (pixels : List (List ℕ)) (i : ℕ) (indices : List ℕ) (between : List Color) (pixel : List ℕ)
-    (k : ℕ) (new : List Color) → AreSetBelow setting greatest old pixels i indices between → i < length pixels → i < length indices
-    → pixel ≡ get_or pixels i [] → IsSetUpTo setting greatest between pixel (Some k) new
-    → (more : List ℕ) → take (i + 1) more ≡ take i indices ++ k ∷ []
-    → AreSetBelow setting greatest old pixels (i + 1) more new
-one_set setting greatest old pixels i indices between pixel k new h below long is s more e = record {
-  so_far = subst (λ ks. AreSet setting greatest old (take (i + 1) pixels) ks new) (sym e)
-      (subst (λ ps. AreSet setting greatest old ps (take i indices ++ k ∷ []) new) (sym (take_more pixels i [] below ∙ ap (λ p. take i pixels ++ p ∷ []) (sym is)))
-      (set_more setting greatest old (take i pixels) (take i indices) between pixel k new h.so_far s));
-}
-
-pub all_set : (setting : Setting) (greatest : ℕ) (old : List Color) (pixels : List (List ℕ)) (i : ℕ) (indices : List ℕ) (new : List Color)
-    → AreSetBelow setting greatest old pixels i indices new → length pixels ≤ i → length indices ≤ i → AreSet setting greatest old pixels indices new
-all_set setting greatest old pixels i indices new h a b =
-    subst (λ ks. AreSet setting greatest old pixels ks new) (take_all i indices b)
-    (subst (λ ps. AreSet setting greatest old ps (take i indices) new) (take_all i pixels a) h.so_far)
-
-pub stopped : (setting : Setting) (greatest : ℕ) (old : List Color) (pixels : List (List ℕ)) (i : ℕ) (indices : List ℕ) (between : List Color) (pixel : List ℕ)
-    (new : List Color) → AreSetBelow setting greatest old pixels i indices between → i < length pixels → pixel ≡ get_or pixels i []
-    → IsSetUpTo setting greatest between pixel None new → IsStopped setting greatest old pixels new
-stopped setting greatest old pixels i indices between pixel new h below is s = record {
-  before = take i pixels;
-  pixel = pixel;
-  after = drop (suc i) pixels;
-  parts = sym (take-append-drop i pixels) ∙ ap (λ l. take i pixels ++ l)
-      (drop-cons pixels i [] below ∙ ap (λ p. p ∷ drop (suc i) pixels) (sym is));
-  indices = take i indices;
-  between = between;
-  set_before = h.so_far;
-  last = s;
-}
+use Rattle.pix_palette.specs.Indexing.{AreGray, color_format, colors_of, values}
 
 -- the color of a pixel
 pub color_at : {P : Type 0} (format : Format) (gamma : GammaMode) (read : P → List ℕ) (pixels : List P) (i : ℕ) (p : P) (color : List ℕ) → i < length pixels
@@ -110,6 +62,17 @@ all_gray {P = P} read pixels i above h =
           ∙ take_all i (map alone (map f pixels)) (omega (arith, length-map pixels f, length-map (map f pixels) alone));
     }
 
--- what stays below a number stays below a smaller one
-pub before_less : {X : Type 0} (xs ys : List X) (n used : ℕ) → n ≤ used → take used ys ≡ take used xs → take n ys ≡ take n xs
-before_less xs ys n used less e = sym (take-take n used ys less) ∙ ap (take n) e ∙ take-take n used xs less
+-- what holds of the values of the pixels below i, and of the one that is written there, holds of those below i + 1
+pub each_value_more : {P : Type 0} (read : P → List ℕ) (Q : ℕ → ℕ → Type 0) (pixels : List P) (i : ℕ) (p : P) (k : ℕ) → i < length pixels → read p ≡ k ∷ []
+    → ((j : ℕ) → j < i → Q j (get_or (values read pixels) j 0)) → Q i k → (j : ℕ) → j < i + 1 → Q j (get_or (values read (set pixels i p)) j 0)
+each_value_more {P = P} read Q pixels i p k below e before here j inside =
+    let f : P → ℕ = λ q. get_or (read q) 0 0 in
+    subst (λ l. Q j (get_or l j 0)) (sym (map-set f pixels i p))
+    (set_more Q (map f pixels) i (f p) (omega (arith, length-map pixels f)) before (subst (Q i) (sym (ap (λ l. get_or l 0 0) e)) here) j inside)
+
+-- the value of a pixel
+pub value_at : {P : Type 0} (read : P → List ℕ) (pixels : List P) (i : ℕ) (p : P) → i < length pixels → p ≡ get_or pixels i p
+    → get_or (read p) 0 0 ≡ get_or (values read pixels) i 0
+value_at {P = P} read pixels i p below is =
+    let f : P → ℕ = λ q. get_or (read q) 0 0 in
+    ap f is ∙ sym (get_or-map f pixels i p 0 below)

@@ -1,13 +1,15 @@
 -- Indexing an image: each pixel's color is set in a palette, and the answer is its index.
-use Rattle.std.specs.Prelude.{◌≡◌, ℕ, ◌<◌, ◌≤◌, true, List, [], ◌∷◌, ◌++◌, map, length, slice_index_or, Option, Some, None, IfSome}
+use Rattle.std.specs.Prelude.{◌≡◌, ℕ, ◌<◌, ◌≤◌, true, List, [], ◌∷◌, map, length, slice_index_or, Option, None, IfSome}
 use Rattle.std.specs.Option.{option_map}
 use Rattle.pix_chan.specs.Modes.{GammaMode, Srgb, Straight}
 use Rattle.pix_el.specs.Model.{row, Rgb}
 use Rattle.pix_el.specs.Color.{rgb_itself}
 use Rattle.pix_el.specs.Conversion.{Format, converted}
-use Rattle.pix_palette.specs.PaletteMatch.{difference_to}
+use Rattle.pix_table.specs.PaletteMatch.{difference_to}
+use Rattle.pix_table.specs.Setting.{Fits, IsSet}
+use Rattle.pix_table.specs.Indexing.{AreIndexed}
 use Rattle.pix_raster.specs.Image.{Image}
-use Rattle.pix_palette.specs.Palette.{Color, numbers, Answers, Fits, IsSet}
+use Rattle.pix_palette.specs.Palette.{Color, numbers, Answers}
 
 -- the format of a palette's colors but for its gamma mode, which is sRGB
 abbrev pub color_format : Format
@@ -23,40 +25,6 @@ color_format = record {
 -- the numbers of each pixel, converted to a color; `read` reads a pixel of a format
 abbrev pub colors_of : {P : Type 0} → Format → GammaMode → (P → List ℕ) → List P → List (List ℕ)
 colors_of format gamma read pixels = map (λ p. converted format gamma color_format Srgb (read p)) pixels
-
--- how a color is set: a relation of the colors before, the color, the answer and the colors afterwards
-abbrev pub Setting : Type 1
-Setting = List Color → Color → Option ℕ → List Color → Type 0
-
--- setting a color of these numbers where no index may be above the greatest: its index, or None where the answer is None or an index above the greatest
-abbrev pub IsSetUpTo : Setting → ℕ → List Color → List ℕ → Option ℕ → List Color → Type 0
-IsSetUpTo set greatest old pixel (Some i) new = (color : Color) × (numbers color ≡ pixel) × set old color (Some i) new × (i ≤ greatest)
-IsSetUpTo set greatest old pixel None new =
-    (color : Color) × (answer : Option ℕ) × (numbers color ≡ pixel) × set old color answer new × IfSome answer (λ i. greatest < i)
-
--- setting the colors of these numbers, one after the other, answers these indices
-abbrev pub AreSet : Setting → ℕ → List Color → List (List ℕ) → List ℕ → List Color → Type 0
-AreSet set greatest old [] [] new = new ≡ old
-AreSet set greatest old (pixel ∷ pixels) (i ∷ indices) new =
-    (next : List Color) × IsSetUpTo set greatest old pixel (Some i) next × AreSet set greatest next pixels indices new
-AreSet set greatest old [] (i ∷ indices) new = ⊥
-AreSet set greatest old (pixel ∷ pixels) [] new = ⊥
-
--- setting them stops at one that has no index, which is the last that is set
-pub record IsStopped (set : Setting) (greatest : ℕ) (old : List Color) (pixels : List (List ℕ)) (new : List Color) : Type 0 where
-  pub before : List (List ℕ)
-  pub pixel : List ℕ
-  pub after : List (List ℕ)
-  pub parts : pixels ≡ before ++ pixel ∷ after
-  pub indices : List ℕ
-  pub between : List Color
-  pub set_before : AreSet set greatest old before indices between
-  pub last : IsSetUpTo set greatest between pixel None new
-
--- indexing pixels: the index of each, or None where it stops at one
-abbrev pub AreIndexed : Setting → ℕ → List Color → List (List ℕ) → Option (List ℕ) → List Color → Type 0
-AreIndexed set greatest old pixels (Some indices) new = AreSet set greatest old pixels indices new
-AreIndexed set greatest old pixels None new = IsStopped set greatest old pixels new
 
 -- the gray value of each pixel, its first number; `read` reads a pixel
 abbrev pub values : {P : Type 0} → (P → List ℕ) → List P → List ℕ
@@ -86,7 +54,7 @@ pub record AllEqual (entries pixels : List (List ℕ)) (indices : List ℕ) : Ty
 pub record IsIndexed {F P : Type 0} (post : F → ℕ → Color → Type 0) (function : Option F) (limit greatest : ℕ) (read : P → List ℕ)
     (width height : ℕ) (pixels : List (List ℕ)) (old : List Color) (answer : Option (Image P)) (new : List Color) : Type 0 where
   -- the colors are set, one after the other, and the gray values are their indices; there are none where one has no index up to the greatest
-  pub indices : AreIndexed (IsSet (Answers post function) limit) greatest old pixels (option_map (λ image. values read image.pixels) answer) new
+  pub indices : AreIndexed numbers (IsSet numbers (Answers post function) limit) greatest old pixels (option_map (λ image. values read image.pixels) answer) new
   pub gray : IfSome answer (λ image. AreGray read image.pixels)
   pub size : IfSome answer (λ image. (image.width ≡ width) × (image.height ≡ height))
   -- the entry at each index is the color, or within a threshold

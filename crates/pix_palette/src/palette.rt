@@ -1,25 +1,26 @@
 //! Palettes: tables of colors, to which images are indexed.
 ghost use Rattle.std.specs.Prelude.{◌≡◌, ℕ, ◌+◌, ◌<◌, ◌≤◌, Some, None, IfSome, vec_len, IsOk, IfOk, IfErr, length, map, slice_get, true, MatchOption, slice_set, Any, nat_eq};
 ghost use Rattle.std.specs.Option.{option_map};
-ghost use Rattle.pix_palette.specs.Palette.{Answers, IsSet, StandsFor, numbers};
-ghost use Rattle.pix_palette.specs.PaletteMatch.{IsMatch, IsMinimal, IsFirstOf};
+ghost use Rattle.pix_table.specs.PaletteMatch.{IsMatch, IsMinimal, IsFirstOf};
+ghost use Rattle.pix_table.specs.Setting.{IsSet, StandsFor};
+ghost use Rattle.pix_palette.specs.Palette.{Answers, numbers};
 ghost use Rattle.pix_palette.specs.Histogram.{IsHistogram};
 ghost use Rattle.pix_raster.specs.declared.fault.RasterFault.{RasterFault};
 
-mod closest;
 mod color_table;
 mod index;
 mod indexing;
 mod known;
 mod lent;
+mod mapped;
 mod slots;
 mod table;
 
-use self::closest::closest;
 use self::index::{PaletteIndex, count_indices};
 use self::table::{Threshold, ThresholdFn};
-use pix_el::rgb::{Rgb, SRgb8};
+use pix_el::rgb::SRgb8;
 use pix_raster::RasterFault;
+use pix_table::{TableColor, standing};
 pub use slots::ColorTable;
 use std::alloc::Global;
 pub use table::Palette;
@@ -158,15 +159,7 @@ impl Palette {
             (Answers Threshold.post (option_map (λ chosen. chosen.f) self.now.threshold))
             (map numbers self.now.colors.items) (numbers clr) result }
     {
-        if self.colors.is_empty() {
-            return None;
-        }
-        let (at, difference) = closest(&self.colors, clr);
-        if Rgb::within_threshold(difference, self.threshold()) {
-            Some(at)
-        } else {
-            None
-        }
+        standing(&self.colors, clr.color(), self.threshold().color())
     }
 
     /// Sets a color: answers the index of its match if that is within the threshold of the present number of entries, else appends the color and
@@ -186,7 +179,7 @@ impl Palette {
     /// palette.set_entry(red); // Some(0): it stands there
     /// ```
     pub fn set_entry(&mut self, clr: SRgb8) -> Option<usize>
-        ensures set { IsSet
+        ensures set { IsSet numbers
             (Answers Threshold.post (option_map (λ chosen. chosen.f) self.old.threshold))
             self.old.limit self.old.colors.items clr result self.new.colors.items }
         ensures limit { self.new.limit ≡ self.old.limit }

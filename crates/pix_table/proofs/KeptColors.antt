@@ -134,3 +134,12 @@ pub set_kept_right : {C : Type 0} (read : C → List ℕ) (answers : ℕ → Lis
 set_kept_right read answers limit old clr color i new before after h right e kept =
     keeping_right answers (map read new) before after (read clr) i (set_right read answers limit old clr (Some i) new before h right)
     (set_stands read answers limit old clr i new h) (subst (λ p. IsKeeping (map read new) p i before after) e kept)
+
+-- the same where the whole list is the table
+pub all_kept_is_set : {C : Type 0} (read : C → List ℕ) (answers : ℕ → List ℕ → Type 0) (limit : ℕ) (old : List C) (len : ℕ) (places : List Kept) (clr : C)
+    (color : List ℕ) (i : ℕ) → len ≡ length old → AreRight answers (map read old) places → IsKept places color len i → color ≡ read clr
+    → IsSet read answers limit old clr (Some i) old
+all_kept_is_set read answers limit old len places clr color i long right kept e =
+    let here : IsKept places (read clr) (length (map read old)) i =
+    subst (λ n. IsKept places (read clr) n i) (long ∙ sym (length-map old read)) (subst (λ p. IsKept places p len i) e kept) in
+    standing_is_set read answers limit old clr i (kept_stands answers (map read old) places (read clr) i right here)

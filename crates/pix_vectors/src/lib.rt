@@ -8,6 +8,8 @@ mod callers;
 #[cfg(test)]
 mod channels;
 #[cfg(test)]
+mod color_tables;
+#[cfg(test)]
 mod conversions;
 #[cfg(test)]
 mod devices;

@@ -1,18 +1,21 @@
 //! What a table of colors does.
-ghost use Rattle.std.specs.Prelude.{◌≡◌, [], IfOk, IfErr, IfSome};
+ghost use Rattle.std.specs.Prelude.{◌≡◌, ℕ, [], length, map, IfOk, IfErr, IfSome, Some, nat_eq, slice_get};
 ghost use Rattle.std.specs.Option.{option_map};
-ghost use Rattle.pix_palette.specs.Palette.{IsSet};
+ghost use Rattle.pix_table.specs.Nearest.{IsNearestOf, IsFirst};
+ghost use Rattle.pix_table.specs.Setting.{Always, IsSet};
+ghost use Rattle.pix_palette.specs.Palette.{numbers};
 ghost use Rattle.pix_palette.specs.Indexing.{AreGray, colors_of, values};
-ghost use Rattle.pix_palette.specs.ColorTable.{entries_of, limit_of, Always, IsIndexedIn};
+ghost use Rattle.pix_palette.specs.ColorTable.{entries_of, limit_of, IsIndexedIn};
 ghost use Rattle.pix_raster.specs.declared.fault.RasterFault.{RasterFault};
 
-use super::lent::{index_in, set_entry_in};
+use super::lent::index_in;
 use super::slots::ColorTable;
 use pix_chan::chan::{Ch8, Gamma};
 use pix_color::gray::Gray8;
 use pix_el::el::Pixel;
 use pix_el::rgb::SRgb8;
 use pix_raster::{Raster, RasterFault};
+use pix_table::{TableColor, nearest, set_entry};
 use std::alloc::Global;
 
 impl ColorTable {
@@ -44,15 +47,56 @@ impl ColorTable {
         &self.slots[..self.len]
     }
 
+    /// Returns the number of entries.
+    pub fn len(&self) -> usize
+        ensures { result ≡ length (entries_of self.now) }
+    {
+        self.len
+    }
+
+    /// Returns whether there is no entry.
+    pub fn is_empty(&self) -> bool
+        ensures { result ≡ nat_eq (length (entries_of self.now)) 0 }
+    {
+        self.len == 0
+    }
+
+    /// Returns how many entries there may be.
+    pub fn limit(&self) -> usize
+        ensures { result ≡ limit_of self.now }
+    {
+        self.slots.len()
+    }
+
+    /// Returns the color of entry `i`, or `None` past the end.
+    pub fn entry(&self, i: usize) -> Option<SRgb8>
+        ensures { result ≡ slice_get (entries_of self.now) i }
+    {
+        self.colors().get(i).copied()
+    }
+
+    /// Returns the index of the entry that is nearest to a color, the first of equals; or `None` where there is no entry.
+    ///
+    /// How near an entry is, is the sum of the squares of its differences from the color in red, green and blue.
+    pub fn nearest(&self, clr: SRgb8) -> Option<usize>
+        ensures nearest { IsNearestOf (map numbers (entries_of self.now)) (numbers clr) result }
+
+        // A color that stands is answered at its first entry.
+        ensures standing { (i : ℕ) → IsFirst (map numbers (entries_of self.now)) (numbers clr) i
+            → result ≡ Some i }
+    {
+        nearest(self.colors(), clr.color())
+    }
+
     /// Sets a color: answers the index of its match if that is within the threshold, else appends the color and answers its index, or answers `None`
     /// where the limit is reached. It takes no memory. The match is that of [`Palette::set_entry`](crate::Palette::set_entry).
     pub fn set_entry(&mut self, clr: SRgb8) -> Option<usize>
-        ensures set { IsSet (Always self.old.threshold) (limit_of self.old) (entries_of self.old) clr
-            result (entries_of self.new) }
+        ensures set { IsSet numbers (Always (numbers self.old.threshold)) (limit_of self.old)
+            (entries_of self.old) clr result (entries_of self.new) }
         ensures limit { limit_of self.new ≡ limit_of self.old }
         ensures threshold { self.new.threshold ≡ self.old.threshold }
     {
-        let (answer, len) = set_entry_in(&mut self.slots, self.len, clr, self.threshold);
+        let (answer, len) = set_entry(&mut self.slots, self.len, clr, self.threshold.color());
         self.len = len;
         answer
     }
@@ -72,8 +116,8 @@ impl ColorTable {
         S: Pixel,
         Ch8: From<S::Chan>,
         S::Gamma: Gamma<Ch8>,
-        ensures indexed { IfOk result (λ answer. IsIndexedIn
-            (IsSet (Always self.old.threshold) (limit_of self.old)) (entries_of self.old)
+        ensures indexed { IfOk result (λ answer. IsIndexedIn (numbers self.old.threshold)
+            (limit_of self.old) (entries_of self.old)
             (colors_of S.format ⟦<S::Gamma as Gamma<Ch8>>⟧.mode S.numbers raster.now.pixels)
             (option_map (λ image. values ⟦<Gray8 as Pixel>⟧.numbers image.pixels) answer)
             (entries_of self.new)) }

@@ -1,5 +1,5 @@
 //! Indices into a palette, and how often each stands in a list.
-ghost use Rattle.std.specs.Prelude.{◌≡◌, ◌≤◌, ◌<◌, ◌^◌, ℕ, length, replicate, true, false, All, Any, [], ◌∷◌};
+ghost use Rattle.std.specs.Prelude.{◌≡◌, ◌≤◌, ◌<◌, ◌^◌, ℕ, length, replicate, slice_index_or, true, false, All, Any, [], ◌∷◌};
 ghost use Rattle.pix_palette.specs.Histogram.{IsHistogram};
 
 use pix_chan::chan::{Ch8, Ch16};
@@ -61,6 +61,10 @@ pub(super) trait IndexPixel: Pixel {
     fn of_index(index: usize) -> Self
         requires { index ≤ GREATEST }
         ensures { Self.numbers result ≡ index ∷ [] };
+
+    /// Returns the index of the pixel.
+    fn to_index(self) -> usize
+        ensures { result ≡ slice_index_or (Self.numbers self) 0 0 };
 }
 
 impl IndexPixel for Gray8 {
@@ -71,6 +75,11 @@ impl IndexPixel for Gray8 {
     fn of_index(index: usize) -> Gray8 {
         Pix::with_channels([Ch8::new(index as u8)])
     }
+
+    fn to_index(self) -> usize {
+        let channels = self.channels();
+        usize::from(u8::from(channels[0]))
+    }
 }
 
 impl IndexPixel for Gray16 {
@@ -80,6 +89,11 @@ impl IndexPixel for Gray16 {
 
     fn of_index(index: usize) -> Gray16 {
         Pix::with_channels([Ch16::new(index as u16)])
+    }
+
+    fn to_index(self) -> usize {
+        let channels = self.channels();
+        usize::from(u16::from(channels[0]))
     }
 }
 

@@ -1,19 +1,21 @@
 //! Images of indices into a palette.
-ghost use Rattle.std.specs.Prelude.{◌≡◌, Option, Some, None, length, map, true, false, if◌then◌else◌, IfOk, IfErr};
+ghost use Rattle.std.specs.Prelude.{◌≡◌, Some, None, length, map, true, if◌then◌else◌, IfOk, IfErr};
 ghost use Rattle.std.specs.Option.{option_map};
-ghost use Rattle.pix_palette.specs.Palette.{Answers, IsSet, numbers};
-ghost use Rattle.pix_palette.specs.Indexing.{IsIndexed, IsSetUpTo, AreIndexed, AreGray, colors_of, values};
-ghost use Rattle.pix_palette.specs.Known.{AreKnown};
+ghost use Rattle.pix_table.specs.Kept.{AreRight};
+ghost use Rattle.pix_table.specs.Setting.{IsSet};
+ghost use Rattle.pix_table.specs.Indexing.{IsSetUpTo, AreIndexed};
+ghost use Rattle.pix_palette.specs.Palette.{Answers, numbers};
+ghost use Rattle.pix_palette.specs.Indexing.{IsIndexed, AreGray, colors_of, values};
 ghost use Rattle.pix_raster.specs.declared.fault.RasterFault.{RasterFault};
 
 use super::index::IndexPixel;
-use super::known::{Known, PLACES};
 use super::table::{Palette, Threshold};
 use pix_chan::chan::{Ch8, Gamma};
 use pix_color::gray::{Gray8, Gray16};
 use pix_el::el::Pixel;
 use pix_el::rgb::SRgb8;
 use pix_raster::{Raster, RasterFault};
+use pix_table::Cache;
 use std::alloc::Global;
 
 impl Palette {
@@ -100,23 +102,21 @@ impl Palette {
     }
 
     /// Sets a color: answers its index, or `None` where there is none up to `greatest`.
-    fn set_index(
-        &mut self,
-        places: &mut [Option<Known>],
-        clr: SRgb8,
-        greatest: usize,
-    ) -> Option<usize>
-        requires long { length places.old ≡ 2056 }
-        requires known { AreKnown (map numbers self.old.colors.items) places.old }
-        ensures set { IsSetUpTo
-            (IsSet (Answers Threshold.post (option_map (λ chosen. chosen.f) self.old.threshold))
+    fn set_index(&mut self, cache: &mut Cache, clr: SRgb8, greatest: usize) -> Option<usize>
+        requires { AreRight
+            (Answers Threshold.post (option_map (λ chosen. chosen.f) self.old.threshold))
+            (map numbers self.old.colors.items) cache.old.kept }
+        ensures set { IsSetUpTo numbers (IsSet numbers
+            (Answers Threshold.post (option_map (λ chosen. chosen.f) self.old.threshold))
             self.old.limit)
             greatest self.old.colors.items (numbers clr) result self.new.colors.items }
-        ensures known { AreKnown (map numbers self.new.colors.items) places.new }
+        ensures right { AreRight
+            (Answers Threshold.post (option_map (λ chosen. chosen.f) self.old.threshold))
+            (map numbers self.new.colors.items) cache.new.kept }
         ensures limit { self.new.limit ≡ self.old.limit }
         ensures threshold { self.new.threshold ≡ self.old.threshold }
     {
-        match self.set_known(places, clr) {
+        match self.set_known(cache, clr) {
             Some(index) if index <= greatest => Some(index),
             _ => None,
         }
@@ -131,8 +131,8 @@ impl Palette {
         Ch8: From<S::Chan>,
         S::Gamma: Gamma<Ch8>,
         requires { length indices.old ≡ length pixels.now }
-        ensures indexed { AreIndexed
-            (IsSet (Answers Threshold.post (option_map (λ chosen. chosen.f) self.old.threshold))
+        ensures indexed { AreIndexed numbers (IsSet numbers
+            (Answers Threshold.post (option_map (λ chosen. chosen.f) self.old.threshold))
             self.old.limit)
             P.GREATEST self.old.colors.items
             (colors_of S.format ⟦<S::Gamma as Gamma<Ch8>>⟧.mode S.numbers pixels.now)
@@ -142,9 +142,9 @@ impl Palette {
         ensures limit { self.new.limit ≡ self.old.limit }
         ensures threshold { self.new.threshold ≡ self.old.threshold }
     {
-        let mut places = [None; PLACES];
+        let mut cache = Cache::new();
         for i in 0..pixels.len() {
-            match self.set_index(&mut places, pixels[i].convert::<SRgb8>(), P::GREATEST) {
+            match self.set_index(&mut cache, pixels[i].convert::<SRgb8>(), P::GREATEST) {
                 Some(index) => indices[i] = P::of_index(index),
                 None => return false,
             }

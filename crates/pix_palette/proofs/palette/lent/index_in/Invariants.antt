@@ -1,16 +1,21 @@
 -- What holds at each turn of the loop over `i` in `index_in`.
 use Rattle.std.proofs.Common.{◌≡◌, ◌≤◌, ◌∷◌, [], length, map, take}
-use Rattle.pix_palette.specs.Palette.{IsSet, numbers}
+use Rattle.pix_table.specs.Kept.{AreRight}
+use Rattle.pix_table.specs.Setting.{Always, IsSet}
+use Rattle.pix_table.proofs.IndexingSets.{AreSetBelow}
+use Rattle.pix_palette.specs.Palette.{numbers}
 use Rattle.pix_palette.specs.Indexing.{colors_of, values}
-use Rattle.pix_palette.proofs.IndexingSets.{AreSetBelow}
+use Rattle.pix_table.specs.Nearest as nearest
 use Rattle.pix_palette.proofs.palette.lent.index_in.Given as goal
 
 -- the first i pixels have been set
 abbrev pub invariant-loop-i : goal.invariant-loop-i
 invariant-loop-i g l = record {
-  set : AreSetBelow (IsSet (λ _ t. t ≡ numbers l.threshold) (length l.fn.slots)) g.P.IndexPixel.GREATEST (take l.fn.len l.fn.slots)
+  set : AreSetBelow numbers (IsSet numbers (Always (numbers l.fn.threshold)) (length l.fn.slots)) g.P.IndexPixel.GREATEST (take l.fn.len l.fn.slots)
       (colors_of g.S.Pixel.format g.S.Gamma.Gamma-2.mode g.S.Pixel.numbers l.fn.pixels) l.i (values g.P.Pixel.numbers l.indices) (take l.used l.slots);
   gray : take l.i (map g.P.Pixel.numbers l.indices) ≡ take l.i (map (λ n. n ∷ []) (values g.P.Pixel.numbers l.indices));
+  right : AreRight (Always (numbers l.fn.threshold)) (map numbers (take l.used l.slots)) l.cache.kept;
+  near : nearest.numbers l.near ≡ numbers l.fn.threshold;
   within : l.used ≤ length l.slots;
   more : l.fn.len ≤ l.used;
   room : length l.slots ≡ length l.fn.slots;

@@ -2,6 +2,7 @@
 use Rattle.std.proofs.Common.{◌≡◌, length, take, sym, ap, ◌∙◌}
 use Rattle.std.proofs.lemmas.List.{with_items_is}
 use Rattle.pix_palette.proofs.IndexingSets.{refilled}
+use Rattle.pix_palette.proofs.IndexingLaws.{all_in}
 use Rattle.pix_palette.proofs.palette.slots.ColorTable.index.Goals as goal
 
 pub returns-then-not-all-clause-indexed : goal.returns-then-not-all-clause-indexed
@@ -14,6 +15,8 @@ returns-then-not-all-clause-indexed g c =
       set = take c.index_in-all.result.1 c.index_in-all.new.slots;
       indices = s;
       entries = ap (take c.args.self.now.len) (with_items_is slots c.index_in-all.new.slots long) ∙ b;
+      represented = tt;
+      equal = λ _. tt;
     }
 
 pub returns-else-not-all-clause-indexed : goal.returns-else-not-all-clause-indexed
@@ -24,8 +27,4 @@ returns-else-not-all-clause-indexed g c =
     let long : length indices ≡ length made.pixels = cc in
     let as_long : length c.index_in-all.new.slots ≡ slots.len = c.index_in-all.ensures.room ∙ ap length c.deref_mut.ensures.value ∙ sym slots.ok.0 in
     let s = rw (c.deref_mut.ensures.value, c.pixels.ensures.pixels, c.if-not-all.false) at c.index_in-all.ensures.indexed in
-    rw (refilled made.pixels indices long) (record {
-      set = take c.index_in-all.result.1 c.index_in-all.new.slots;
-      indices = s;
-      entries = ap (take c.index_in-all.result.1) (with_items_is slots c.index_in-all.new.slots as_long);
-    })
+    rw (refilled made.pixels indices long) (all_in _ _ _ _ _ _ _ s (ap (take c.index_in-all.result.1) (with_items_is slots c.index_in-all.new.slots as_long)))

@@ -1,0 +1,16 @@
+-- Of `ColorTable::map_indexed`: the clause `mapped`.
+use Rattle.std.proofs.Common.{◌≡◌, ◌∙◌, length, map, ap}
+use Rattle.pix_palette.specs.Palette.{numbers}
+use Rattle.pix_palette.proofs.IndexingSets.{refilled}
+use Rattle.pix_palette.proofs.Mapped.{mapped}
+use Rattle.pix_palette.proofs.palette.slots.ColorTable.map_indexed.Goals as goal
+
+pub returns-in-Ok-clause-mapped : goal.returns-in-Ok-clause-mapped
+returns-in-Ok-clause-mapped g c =
+    let made = c.in-Ok.image in
+    let indices = c.map_pixels.new.indices in
+    let long : length indices ≡ length made.pixels = cc in
+    let wide : made.width ≡ c.args.raster.now.width = c.in-Ok.ensures.ok.0 ∙ c.width.ensures.value in
+    let high : made.height ≡ c.args.raster.now.height = c.in-Ok.ensures.ok.1 ∙ c.height.ensures.value in
+    rw (refilled made.pixels indices long) (mapped _ _ _ _ _ _ _ _ (record { width = made.width; height = made.height; pixels = indices }) wide high
+    c.pixels.ensures.pixels (c.in-Some.ensures ∙ ap (map numbers) c.colors.ensures) c.map_pixels.ensures.gray c.map_pixels.ensures.nearest)

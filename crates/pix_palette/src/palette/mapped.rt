@@ -1,0 +1,121 @@
+//! Images of indices of the nearest entries of a table, and back to colors.
+ghost use Rattle.std.specs.Prelude.{◌≡◌, ◌<◌, ◌≤◌, ◌⊎◌, ℕ, [], length, map, true, false, IfOk, IfErr, MatchOption, slice_index, slice_index_or};
+ghost use Rattle.pix_table.specs.Nearest.{IsNearest};
+ghost use Rattle.pix_table.specs.LookUp.{AreLookedUp, all_below};
+ghost use Rattle.pix_palette.specs.Palette.{numbers};
+ghost use Rattle.pix_palette.specs.Indexing.{AreGray, colors_of, values};
+ghost use Rattle.pix_palette.specs.ColorTable.{entries_of, IsMapped, IsLookedUp};
+ghost use Rattle.pix_raster.specs.declared.fault.RasterFault.{RasterFault};
+
+use super::index::IndexPixel;
+use super::slots::ColorTable;
+use pix_chan::chan::{Ch8, Gamma};
+use pix_color::gray::Gray8;
+use pix_el::el::Pixel;
+use pix_el::rgb::SRgb8;
+use pix_raster::{Raster, RasterFault};
+use pix_table::{Matcher, TableColor};
+use std::alloc::Global;
+
+impl ColorTable {
+    /// Makes a raster of indices: the value of each pixel is the index of the entry that is nearest to the color of the pixel at its place, the first of
+    /// equals. Answers `None` where there is no entry, or more than 256.
+    ///
+    /// # Errors
+    ///
+    /// `Memory` on allocation failure.
+    pub fn map_indexed<S>(
+        &self,
+        alloc: Global,
+        raster: &Raster<S>,
+    ) -> Result<Option<Raster<Gray8>>, RasterFault>
+    where
+        S: Pixel,
+        Ch8: From<S::Chan>,
+        S::Gamma: Gamma<Ch8>,
+        ensures mapped { IfOk result (λ answer. MatchOption answer
+            ((length (entries_of self.now) ≡ 0) ⊎ (256 < length (entries_of self.now)))
+            (IsMapped ⟦<Gray8 as Pixel>⟧.numbers (map numbers (entries_of self.now))
+            raster.now.width raster.now.height
+            (colors_of S.format ⟦<S::Gamma as Gamma<Ch8>>⟧.mode S.numbers raster.now.pixels))) }
+        ensures memory { IfErr result (λ fault. fault ≡ RasterFault.Memory) }
+    {
+        let Some(mut matcher) = Matcher::new(self.colors()) else {
+            return Ok(None);
+        };
+        match Raster::with_clear(alloc, raster.width(), raster.height()) {
+            Err(_) => Err(RasterFault::Memory),
+            Ok(mut image) => {
+                map_pixels(&mut matcher, raster.pixels(), image.pixels_mut());
+                Ok(Some(image))
+            }
+        }
+    }
+
+    /// Makes a raster of the colors of indices: each pixel is the entry of the index at its place. Answers `None` where an index is past the end.
+    ///
+    /// # Errors
+    ///
+    /// `Memory` on allocation failure, which comes first.
+    pub fn look_up(
+        &self,
+        alloc: Global,
+        indices: &Raster<Gray8>,
+    ) -> Result<Option<Raster<SRgb8>>, RasterFault>
+        ensures colors { IfOk result (λ answer. MatchOption answer
+            (all_below (length (entries_of self.now))
+            (values ⟦<Gray8 as Pixel>⟧.numbers indices.now.pixels) ≡ false)
+            (IsLookedUp (entries_of self.now) indices.now.width indices.now.height
+            (values ⟦<Gray8 as Pixel>⟧.numbers indices.now.pixels))) }
+        ensures memory { IfErr result (λ fault. fault ≡ RasterFault.Memory) }
+    {
+        match Raster::with_clear(alloc, indices.width(), indices.height()) {
+            Err(_) => Err(RasterFault::Memory),
+            Ok(mut image) => {
+                if look_up_pixels(self.colors(), indices.pixels(), image.pixels_mut()) {
+                    Ok(Some(image))
+                } else {
+                    Ok(None)
+                }
+            }
+        }
+    }
+}
+
+/// Sets the pixel of `indices` at the place of each pixel to the index of the entry that is nearest to its color.
+fn map_pixels<S, P>(matcher: &mut Matcher, pixels: &[S], indices: &mut [P])
+where
+    S: Pixel,
+    P: IndexPixel,
+    Ch8: From<S::Chan>,
+    S::Gamma: Gamma<Ch8>,
+    requires many { length indices.old ≡ length pixels.now }
+    requires greatest { 255 ≤ P.GREATEST }
+    ensures nearest { (k : ℕ) → k < length pixels.now → IsNearest matcher.old
+        (slice_index_or (colors_of S.format ⟦<S::Gamma as Gamma<Ch8>>⟧.mode S.numbers pixels.now)
+        k []) (slice_index (values P.numbers indices.new) k) }
+    ensures gray { AreGray P.numbers indices.new }
+{
+    for i in 0..pixels.len() {
+        let clr = pixels[i].convert::<SRgb8>();
+        let index = matcher.nearest(clr.color());
+        indices[i] = P::of_index(usize::from(index));
+    }
+}
+
+/// Sets each pixel to the entry of the index at its place, up to the first index that is past the end; returns whether there is none.
+fn look_up_pixels<P: IndexPixel>(entries: &[SRgb8], indices: &[P], pixels: &mut [SRgb8]) -> bool
+    requires { length pixels.old ≡ length indices.now }
+    ensures inside { result ≡ all_below (length entries.now) (values P.numbers indices.now) }
+    ensures found { result ≡ true
+        → AreLookedUp entries.now (values P.numbers indices.now) pixels.new }
+{
+    for i in 0..indices.len() {
+        let index = indices[i].to_index();
+        if index >= entries.len() {
+            return false;
+        }
+        pixels[i] = entries[index];
+    }
+    true
+}

@@ -1,0 +1,70 @@
+//! Color tables: nearest entries, near colors while a table grows, and back to colors.
+use pix::gray::Gray8;
+use pix::rgb::SRgb8;
+use pix::{ColorTable, Raster, RasterFault};
+use std::alloc::Global;
+use std::test::Fail;
+
+/// A gray color.
+fn gray(value: u8) -> SRgb8 {
+    SRgb8::new(value, value, value)
+}
+
+/// A raster of one row of gray colors.
+fn grays(alloc: Global, values: &[u8]) -> Result<Raster<SRgb8>, RasterFault> {
+    let mut raster = Raster::with_clear(alloc, values.len() as u32, 1)?;
+    let mut at = 0;
+    for pixel in raster.pixels_mut().iter_mut() {
+        if let Some(value) = values.get(at) {
+            *pixel = gray(*value);
+        }
+        at += 1;
+    }
+    Ok(raster)
+}
+
+#[test]
+fn near_colors_while_a_table_grows(rt: HostRuntime) -> Result<(), Fail> {
+    let mut table = ColorTable::new(rt.alloc(), 3, gray(3))?;
+    let picture = grays(rt.alloc(), &[10, 13, 200, 13, 14, 13, 14, 201])?;
+    // 13 is within 3 of 10 until 14 is added, which is closer.
+    let Some(indices) = table.index(rt.alloc(), &picture)? else {
+        return Err(Fail::from(RasterFault::Memory));
+    };
+    for (pixel, index) in indices.pixels().iter().zip([0_u8, 0, 1, 0, 2, 2, 2, 1]) {
+        assert_eq!(rt; *pixel, Gray8::new(index));
+    }
+    assert_eq!(rt; table.len(), 3);
+    let more = grays(rt.alloc(), &[10, 100])?;
+    assert!(rt; table.index(rt.alloc(), &more)?.is_none());
+    assert_eq!(rt; table.len(), 3);
+    Ok(())
+}
+
+#[test]
+fn nearest_entries_and_back(rt: HostRuntime) -> Result<(), Fail> {
+    let mut table = ColorTable::new(rt.alloc(), 300, gray(0))?;
+    let picture = grays(rt.alloc(), &[10, 20, 30, 15, 26])?;
+    assert!(rt; table.nearest(gray(1)).is_none());
+    assert!(rt; table.map_indexed(rt.alloc(), &picture)?.is_none());
+    for value in [10_u8, 20, 30] {
+        table.set_entry(gray(value));
+    }
+    // 15 is as far from 10 as from 20.
+    assert_eq!(rt; table.nearest(gray(15)), Some(0));
+    let Some(indices) = table.map_indexed(rt.alloc(), &picture)? else {
+        return Err(Fail::from(RasterFault::Memory));
+    };
+    for (pixel, index) in indices.pixels().iter().zip([0_u8, 1, 2, 0, 2]) {
+        assert_eq!(rt; *pixel, Gray8::new(index));
+    }
+    let Some(again) = table.look_up(rt.alloc(), &indices)? else {
+        return Err(Fail::from(RasterFault::Memory));
+    };
+    for (pixel, value) in again.pixels().iter().zip([10_u8, 20, 30, 10, 30]) {
+        assert_eq!(rt; *pixel, gray(value));
+    }
+    let past = Raster::with_color(rt.alloc(), 1, 1, Gray8::new(3u8))?;
+    assert!(rt; table.look_up(rt.alloc(), &past)?.is_none());
+    Ok(())
+}
