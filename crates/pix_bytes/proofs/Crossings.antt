@@ -11,7 +11,7 @@ use Rattle.pix_bytes.specs.Rows.{IsEach, max_of, gamma_of, format_at, stored_of}
 use Rattle.pix_bytes.specs.Stored.{sample_size, samples, padded}
 use Rattle.pix_bytes.specs.declared.bitmap.format.Depth.{Depth}
 use Rattle.pix_bytes.specs.declared.bitmap.format.Stored.{Stored}
-use Rattle.pix_bytes.specs.declared.bitmap.model.ModelName.TheVariants.{Rgb}
+use Rattle.pix_bytes.specs.declared.bitmap.model.ModelName.TheVariants.{Rgb, Bgr}
 
 -- each pixel is crossed, where both depths are known
 pub crossed_as : (from to : Stored) (depth to_depth : Depth) (count : ℕ) (src dst : List ℕ) → from.depth ≡ depth → to.depth ≡ to_depth
@@ -43,9 +43,12 @@ pub each_same : (max to_max from_count all size to_size : ℕ) (f g : List ℕ �
 each_same max to_max from_count all size to_size f g src dst count same each = λ index lt.
     each index lt ∙ ap (padded to_max all) (same (samples max from_count (slice_range src (index * size) (index * size + size))))
 
--- straight pixels of red, green, blue and alpha, and premultiplied ones
+-- straight pixels of red, green, blue and alpha, those of blue, green, red and alpha, and premultiplied ones
 abbrev pub rgba : Depth → Stored
 rgba depth = record { model = Rgb; count = 4; is_premultiplied = false; depth = depth; spare = 0 }
+
+abbrev pub bgra : Depth → Stored
+bgra depth = record { model = Bgr; count = 4; is_premultiplied = false; depth = depth; spare = 0 }
 
 abbrev pub rgbap : Depth → Stored
 rgbap depth = record { model = Rgb; count = 4; is_premultiplied = true; depth = depth; spare = 0 }
@@ -59,8 +62,14 @@ depth_up x = omega arith
 color_lit : (x a : ℕ) → at_depth 65535 65535 (channel_product 65535 x (at_depth 255 65535 a)) ≡ channel_product 65535 x (257 * a)
 color_lit x a = depth_same (channel_product 65535 x (at_depth 255 65535 a)) ∙ ap (channel_product 65535 x) (depth_up a)
 
-pub rgba_in_light : (depth to_depth : Depth) (p : List ℕ) → multiplied_light p ≡ into_light (format_at 255 (rgba depth)) (format_at 65535 (rgbap to_depth)) p
+pub rgba_in_light : (depth to_depth : Depth) (p : List ℕ) → multiplied_light false p ≡ into_light (format_at 255 (rgba depth)) (format_at 65535 (rgbap to_depth)) p
 rgba_in_light depth to_depth p =
     let a : ℕ = channel 255 p 3 in
     sym (cons (color_lit (srgb_decoded16 (channel 255 p 0)) a) (cons (color_lit (srgb_decoded16 (channel 255 p 1)) a) (cons (color_lit (srgb_decoded16 (channel 255 p 2)) a)
+    (cons (depth_same (at_depth 255 65535 a) ∙ depth_up a) refl))))
+
+pub bgra_in_light : (depth to_depth : Depth) (p : List ℕ) → multiplied_light true p ≡ into_light (format_at 255 (bgra depth)) (format_at 65535 (rgbap to_depth)) p
+bgra_in_light depth to_depth p =
+    let a : ℕ = channel 255 p 3 in
+    sym (cons (color_lit (srgb_decoded16 (channel 255 p 2)) a) (cons (color_lit (srgb_decoded16 (channel 255 p 1)) a) (cons (color_lit (srgb_decoded16 (channel 255 p 0)) a)
     (cons (depth_same (at_depth 255 65535 a) ∙ depth_up a) refl))))

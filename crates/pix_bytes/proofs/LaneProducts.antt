@@ -1,6 +1,6 @@
 -- Products of lanes of sixteen bits, by the halves of what the lanes multiply to.
-use Rattle.std.proofs.Common.{◌≡◌, ℕ, zero, suc, ◌+◌, ◌*◌, ◌/◌, ◌%◌, ◌^◌, ◌<◌, ◌≤◌, List, [], ◌∷◌, length, map, refl, ap, ◌-◌, sym, ◌∙◌, arith, inl, inr, replicate, Fits, Bool, true, false, cond, ltb}
-use mir.Syntax.{Width, w16}
+use Rattle.std.proofs.Common.{◌≡◌, ℕ, zero, suc, ◌+◌, ◌*◌, ◌/◌, ◌%◌, ◌^◌, ◌<◌, ◌≤◌, List, [], ◌∷◌, length, map, refl, ap, ◌-◌, sym, ◌∙◌, arith, inl, inr, replicate, Fits, Bool, cond, ltb}
+use mir.Syntax.{w16}
 use mir.Val.{hbits, bits}
 use lib.Lanes.{zip2, Each1, sel_l, top}
 use Rattle.std.proofs.Math.Nat.{mul-le-mul}

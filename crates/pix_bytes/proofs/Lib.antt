@@ -8,3 +8,4 @@ pub mod Bitmaps
 pub mod Crossings
 pub mod LaneProducts
 pub mod LitFours
+pub mod Reciprocals16

@@ -1,12 +1,12 @@
 -- Four pixels in light, in one vector and in bytes.
-use Rattle.std.proofs.Common.{◌≡◌, ℕ, zero, suc, ◌<◌, ◌≤◌, ◌+◌, ◌*◌, ◌/◌, ◌%◌, List, [], ◌∷◌, length, refl, sym, ap, ◌∙◌, arith, Fits}
+use Rattle.std.proofs.Common.{◌≡◌, ℕ, zero, suc, ◌<◌, ◌+◌, ◌*◌, ◌/◌, ◌%◌, List, [], ◌∷◌, length, refl, sym, ap, ◌∙◌, arith, Fits, Bool, true, false}
 use mir.Syntax.{w16}
 use lib.Lanes.{zip2, Each1, number_l, digits_l}
 use Rattle.std.specs.Prelude.{slice_index_or}
 use Rattle.pix_chan.specs.Product.{channel_product}
 use Rattle.pix_chan.specs.Srgb16.{srgb_decoded16}
 use Rattle.pix_chan.proofs.Planes.{cons}
-use Rattle.pix_bytes.specs.Lit.{multiplied_light, word_of, light_at, alpha_at, opaque_light, four_alphas, bytes_of}
+use Rattle.pix_bytes.specs.Lit.{first_place, last_place, multiplied_light, word_of, opaque_light, four_alphas, bytes_of}
 use Rattle.pix_bytes.specs.Rows.{IsEach}
 use Rattle.pix_bytes.proofs.Parts.{range_at}
 
@@ -65,9 +65,9 @@ full : (x b : ℕ) → b ≡ 255 → x ≡ channel_product 65535 x (257 * b)
 unfolding channel_product
 full x b e = rw e (omega arith)
 
-pub opaque_lit : (bytes : List ℕ) → slice_index_or bytes 3 0 ≡ 255 → slice_index_or bytes 7 0 ≡ 255 → slice_index_or bytes 11 0 ≡ 255 → slice_index_or bytes 15 0 ≡ 255
-    → opaque_light bytes ≡ zip2 (channel_product 65535) (opaque_light bytes) (four_alphas bytes)
-opaque_lit bytes a b c d =
+pub opaque_lit : (r : Bool) (bytes : List ℕ) → slice_index_or bytes 3 0 ≡ 255 → slice_index_or bytes 7 0 ≡ 255 → slice_index_or bytes 11 0 ≡ 255 → slice_index_or bytes 15 0 ≡ 255
+    → opaque_light r bytes ≡ zip2 (channel_product 65535) (opaque_light r bytes) (four_alphas bytes)
+opaque_lit r bytes a b c d =
     cons (full _ _ a) (cons (full _ _ a) (cons (full _ _ a) (cons (full _ _ a)
     (cons (full _ _ b) (cons (full _ _ b) (cons (full _ _ b) (cons (full _ _ b)
     (cons (full _ _ c) (cons (full _ _ c) (cons (full _ _ c) (cons (full _ _ c)
@@ -109,21 +109,46 @@ whole_alpha x = omega arith
 alpha_made : (alpha last : ℕ) → last ≡ alpha → let x = channel_product 65535 65535 (257 * alpha) in x % 256 + 256 * (x / 256) ≡ 257 * last
 alpha_made alpha last e = joined (channel_product 65535 65535 (257 * alpha)) ∙ whole_alpha (257 * alpha) ∙ ap (λ (a : ℕ). 257 * a) (sym e)
 
-pub four_lit : (src : List ℕ) → IsEach 255 65535 4 4 4 8 multiplied_light src (bytes_of (zip2 (channel_product 65535) (opaque_light src) (four_alphas src))) 4
-four_lit src zero lt =
+pub first_within : (r : Bool) → first_place r < 4
+first_within true = omega arith
+first_within false = omega arith
+
+pub last_within : (r : Bool) → last_place r < 4
+last_within true = omega arith
+last_within false = omega arith
+
+pub four_lit : (r : Bool) (src : List ℕ) → IsEach 255 65535 4 4 4 8 (multiplied_light r) src (bytes_of (zip2 (channel_product 65535) (opaque_light r src) (four_alphas src))) 4
+four_lit true src zero lt =
+    let a = range_at src 0 4 3 (omega arith) in
+    cons (color_made _ _ _ _ (range_at src 0 4 2 (omega arith)) a) (cons (color_made _ _ _ _ (range_at src 0 4 1 (omega arith)) a)
+    (cons (color_made _ _ _ _ (range_at src 0 4 0 (omega arith)) a) (cons (alpha_made _ _ a) refl)))
+four_lit true src (suc zero) lt =
+    let a = range_at src 4 4 3 (omega arith) in
+    cons (color_made _ _ _ _ (range_at src 4 4 2 (omega arith)) a) (cons (color_made _ _ _ _ (range_at src 4 4 1 (omega arith)) a)
+    (cons (color_made _ _ _ _ (range_at src 4 4 0 (omega arith)) a) (cons (alpha_made _ _ a) refl)))
+four_lit true src (suc (suc zero)) lt =
+    let a = range_at src 8 4 3 (omega arith) in
+    cons (color_made _ _ _ _ (range_at src 8 4 2 (omega arith)) a) (cons (color_made _ _ _ _ (range_at src 8 4 1 (omega arith)) a)
+    (cons (color_made _ _ _ _ (range_at src 8 4 0 (omega arith)) a) (cons (alpha_made _ _ a) refl)))
+four_lit true src (suc (suc (suc zero))) lt =
+    let a = range_at src 12 4 3 (omega arith) in
+    cons (color_made _ _ _ _ (range_at src 12 4 2 (omega arith)) a) (cons (color_made _ _ _ _ (range_at src 12 4 1 (omega arith)) a)
+    (cons (color_made _ _ _ _ (range_at src 12 4 0 (omega arith)) a) (cons (alpha_made _ _ a) refl)))
+four_lit true src (suc (suc (suc (suc k)))) lt = absurd (omega (arith, lt))
+four_lit false src zero lt =
     let a = range_at src 0 4 3 (omega arith) in
     cons (color_made _ _ _ _ (range_at src 0 4 0 (omega arith)) a) (cons (color_made _ _ _ _ (range_at src 0 4 1 (omega arith)) a)
     (cons (color_made _ _ _ _ (range_at src 0 4 2 (omega arith)) a) (cons (alpha_made _ _ a) refl)))
-four_lit src (suc zero) lt =
+four_lit false src (suc zero) lt =
     let a = range_at src 4 4 3 (omega arith) in
     cons (color_made _ _ _ _ (range_at src 4 4 0 (omega arith)) a) (cons (color_made _ _ _ _ (range_at src 4 4 1 (omega arith)) a)
     (cons (color_made _ _ _ _ (range_at src 4 4 2 (omega arith)) a) (cons (alpha_made _ _ a) refl)))
-four_lit src (suc (suc zero)) lt =
+four_lit false src (suc (suc zero)) lt =
     let a = range_at src 8 4 3 (omega arith) in
     cons (color_made _ _ _ _ (range_at src 8 4 0 (omega arith)) a) (cons (color_made _ _ _ _ (range_at src 8 4 1 (omega arith)) a)
     (cons (color_made _ _ _ _ (range_at src 8 4 2 (omega arith)) a) (cons (alpha_made _ _ a) refl)))
-four_lit src (suc (suc (suc zero))) lt =
+four_lit false src (suc (suc (suc zero))) lt =
     let a = range_at src 12 4 3 (omega arith) in
     cons (color_made _ _ _ _ (range_at src 12 4 0 (omega arith)) a) (cons (color_made _ _ _ _ (range_at src 12 4 1 (omega arith)) a)
     (cons (color_made _ _ _ _ (range_at src 12 4 2 (omega arith)) a) (cons (alpha_made _ _ a) refl)))
-four_lit src (suc (suc (suc (suc k)))) lt = absurd (omega (arith, lt))
+four_lit false src (suc (suc (suc (suc k)))) lt = absurd (omega (arith, lt))

@@ -1,15 +1,22 @@
--- Four sRGB pixels of red, green, blue and alpha in light, by their bytes.
-use Rattle.std.specs.Prelude.{ℕ, ◌+◌, ◌*◌, ◌/◌, ◌%◌, List, [], ◌∷◌, slice_index_or}
+-- Four sRGB pixels of three colors and an alpha in light, by their bytes.
+use Rattle.std.specs.Prelude.{ℕ, ◌+◌, ◌*◌, ◌/◌, ◌%◌, List, [], ◌∷◌, slice_index_or, Bool, if◌then◌else◌}
 use Rattle.pix_chan.specs.Product.{channel_product}
 use Rattle.pix_chan.specs.Srgb16.{srgb_decoded16}
 use Rattle.pix_el.specs.Pixel.{channel}
 
--- a pixel in light, its colors multiplied by the alpha
-abbrev pub multiplied_light : List ℕ → List ℕ
-multiplied_light pixel =
-    channel_product 65535 (srgb_decoded16 (channel 255 pixel 0)) (257 * channel 255 pixel 3)
+-- the places of the first and the last color in a pixel: red and blue, or blue and red
+abbrev pub first_place : Bool → ℕ
+first_place is_reversed = if is_reversed then 2 else 0
+
+abbrev pub last_place : Bool → ℕ
+last_place is_reversed = if is_reversed then 0 else 2
+
+-- a pixel in light as red, green and blue, multiplied by the alpha
+abbrev pub multiplied_light : Bool → List ℕ → List ℕ
+multiplied_light is_reversed pixel =
+    channel_product 65535 (srgb_decoded16 (channel 255 pixel (first_place is_reversed))) (257 * channel 255 pixel 3)
     ∷ channel_product 65535 (srgb_decoded16 (channel 255 pixel 1)) (257 * channel 255 pixel 3)
-    ∷ channel_product 65535 (srgb_decoded16 (channel 255 pixel 2)) (257 * channel 255 pixel 3)
+    ∷ channel_product 65535 (srgb_decoded16 (channel 255 pixel (last_place is_reversed))) (257 * channel 255 pixel 3)
     ∷ (257 * channel 255 pixel 3)
     ∷ []
 
@@ -25,12 +32,12 @@ abbrev pub alpha_at : List ℕ → ℕ → ℕ
 alpha_at bytes place = 257 * slice_index_or bytes place 0
 
 -- the light of four pixels as if they were opaque
-abbrev pub opaque_light : List ℕ → List ℕ
-opaque_light bytes =
-    light_at bytes 0 ∷ light_at bytes 1 ∷ light_at bytes 2 ∷ 65535
-    ∷ light_at bytes 4 ∷ light_at bytes 5 ∷ light_at bytes 6 ∷ 65535
-    ∷ light_at bytes 8 ∷ light_at bytes 9 ∷ light_at bytes 10 ∷ 65535
-    ∷ light_at bytes 12 ∷ light_at bytes 13 ∷ light_at bytes 14 ∷ 65535
+abbrev pub opaque_light : Bool → List ℕ → List ℕ
+opaque_light is_reversed bytes =
+    light_at bytes (0 + first_place is_reversed) ∷ light_at bytes 1 ∷ light_at bytes (0 + last_place is_reversed) ∷ 65535
+    ∷ light_at bytes (4 + first_place is_reversed) ∷ light_at bytes 5 ∷ light_at bytes (4 + last_place is_reversed) ∷ 65535
+    ∷ light_at bytes (8 + first_place is_reversed) ∷ light_at bytes 9 ∷ light_at bytes (8 + last_place is_reversed) ∷ 65535
+    ∷ light_at bytes (12 + first_place is_reversed) ∷ light_at bytes 13 ∷ light_at bytes (12 + last_place is_reversed) ∷ 65535
     ∷ []
 
 -- the alphas of four pixels, each once for each channel of its pixel

@@ -13,6 +13,7 @@ mod format;
 mod four;
 mod fours;
 mod model;
+mod quotient;
 mod rows;
 mod sample;
 mod way;

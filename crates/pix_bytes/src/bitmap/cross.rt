@@ -212,7 +212,7 @@ fn cross_srgb8(from: Stored, to: Stored, src: &[u8], dst: &mut [u8], count: usiz
         }
         Linear8 => {
             let way = Converted::<Srgb, Linear>::new();
-            cross_pixels::<Ch8, Ch8, _>(&way, from, to, src, dst, count);
+            cross_painted::<Ch8, Ch8, _>(&way, from, to, src, dst, count);
         }
         Linear16 => cross_painted::<Ch8, Ch16, _>(&IntoLight, from, to, src, dst, count),
     }
@@ -232,7 +232,7 @@ fn cross_linear8(from: Stored, to: Stored, src: &[u8], dst: &mut [u8], count: us
     match to.depth {
         Srgb8 => {
             let way = Converted::<Linear, Srgb>::new();
-            cross_pixels::<Ch8, Ch8, _>(&way, from, to, src, dst, count);
+            cross_painted::<Ch8, Ch8, _>(&way, from, to, src, dst, count);
         }
         Linear8 => {
             let way = Converted::<Linear, Linear>::new();

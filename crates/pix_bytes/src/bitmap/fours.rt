@@ -1,4 +1,4 @@
-//! sRGB pixels of red, green, blue and alpha in light, four at a time.
+//! sRGB pixels of red, green, blue and alpha, or blue, green, red and alpha, in light, four at a time.
 //!
 //! The colors of each are looked up as those of an opaque pixel, in one word. Where not all four are opaque, their sixteen channels are then
 //! multiplied by the alphas.
@@ -6,7 +6,7 @@ ghost use Rattle.std.specs.Prelude.{◌≡◌, ◌≤◌, ◌<◌, ◌*◌, leng
 ghost use Rattle.std.specs.Simd.Lanes.{zip2};
 ghost use Rattle.pix_chan.specs.Product.{channel_product};
 ghost use Rattle.pix_chan.specs.Srgb16.{srgb_decoded16};
-ghost use Rattle.pix_bytes.specs.Lit.{multiplied_light, word_of, light_at, opaque_light};
+ghost use Rattle.pix_bytes.specs.Lit.{multiplied_light, word_of, first_place, last_place, light_at, opaque_light};
 ghost use Rattle.pix_bytes.specs.Lit.{four_alphas, bytes_of};
 ghost use Rattle.pix_bytes.specs.Rows.{IsEach};
 
@@ -64,26 +64,31 @@ fn pixel(bytes: &[u8]) -> [u8; 4]
 
 /// Returns the light of an sRGB pixel as if it was opaque. Condition: it has four bytes.
 #[inline(always)]
-fn word(bytes: &[u8]) -> u64
+fn word(is_reversed: bool, bytes: &[u8]) -> u64
     requires { length bytes.now ≡ 4 }
-    ensures { result ≡ word_of (light_at bytes.now 0) (light_at bytes.now 1)
-        (light_at bytes.now 2) 65535 }
+    ensures { result ≡ word_of (light_at bytes.now (first_place is_reversed))
+        (light_at bytes.now 1) (light_at bytes.now (last_place is_reversed)) 65535 }
 {
     let p = pixel(bytes);
-    light(p[0]) + 65536 * (light(p[1]) + 65536 * (light(p[2]) + 65536 * 65535))
+    let (one, three) = if is_reversed {
+        (p[2], p[0])
+    } else {
+        (p[0], p[2])
+    };
+    light(one) + 65536 * (light(p[1]) + 65536 * (light(three) + 65536 * 65535))
 }
 
 /// Returns the light of four sRGB pixels as if they were opaque. Condition: they have sixteen bytes.
 #[inline(always)]
-fn words(bytes: &[u8]) -> u16x16
+fn words(is_reversed: bool, bytes: &[u8]) -> u16x16
     requires { length bytes.now ≡ 16 }
-    ensures { result ≡ opaque_light bytes.now }
+    ensures { result ≡ opaque_light is_reversed bytes.now }
 {
     let four = u64x4::from_array([
-        word(&bytes[0..4]),
-        word(&bytes[4..8]),
-        word(&bytes[8..12]),
-        word(&bytes[12..16]),
+        word(is_reversed, &bytes[0..4]),
+        word(is_reversed, &bytes[4..8]),
+        word(is_reversed, &bytes[8..12]),
+        word(is_reversed, &bytes[12..16]),
     ]);
     u16x16::from_le_bytes(four.to_le_bytes())
 }
@@ -113,12 +118,12 @@ fn are_opaque(bytes: &[u8]) -> bool
 
 /// Returns the light of four sRGB pixels, multiplied by their alphas. Condition: they have sixteen bytes.
 #[inline(always)]
-fn lit(bytes: &[u8]) -> u16x16
+fn lit(is_reversed: bool, bytes: &[u8]) -> u16x16
     requires { length bytes.now ≡ 16 }
     ensures { result ≡
-        zip2 (channel_product 65535) (opaque_light bytes.now) (four_alphas bytes.now) }
+        zip2 (channel_product 65535) (opaque_light is_reversed bytes.now) (four_alphas bytes.now) }
 {
-    let opaque = words(bytes);
+    let opaque = words(is_reversed, bytes);
     if are_opaque(bytes) {
         opaque
     } else {
@@ -128,26 +133,30 @@ fn lit(bytes: &[u8]) -> u16x16
 
 /// Writes four sRGB pixels in light, multiplied by their alphas. Condition: there are as many of both.
 #[inline(always)]
-fn decode_four(src: &[u8], dst: &mut [u8])
+fn decode_four(is_reversed: bool, src: &[u8], dst: &mut [u8])
     requires src { length src.now ≡ 16 }
     requires dst { length dst.old ≡ 32 }
-    ensures { IsEach 255 65535 4 4 4 8 multiplied_light src.now dst.new 4 }
+    ensures { IsEach 255 65535 4 4 4 8 (multiplied_light is_reversed) src.now dst.new 4 }
 {
-    put(dst, lit(src));
+    put(dst, lit(is_reversed, src));
 }
 
 /// Writes the first of `count` sRGB pixels in light, multiplied by their alphas, as many as go by fours, and returns how many these are.
 ///
 /// Condition: there are `count` of both.
 #[inline(always)]
-pub(crate) fn decode_fours(src: &[u8], dst: &mut [u8], count: usize) -> usize
+pub(crate) fn decode_fours(is_reversed: bool, src: &[u8], dst: &mut [u8], count: usize) -> usize
     requires src { length src.now ≡ count * 4 }
     requires dst { length dst.old ≡ count * 8 }
     ensures some { result ≤ count }
-    ensures each { IsEach 255 65535 4 4 4 8 multiplied_light src.now dst.new result }
+    ensures each { IsEach 255 65535 4 4 4 8 (multiplied_light is_reversed) src.now dst.new result }
 {
     for k in 0..count / 4 {
-        decode_four(&src[16 * k..16 * k + 16], &mut dst[32 * k..32 * k + 32]);
+        decode_four(
+            is_reversed,
+            &src[16 * k..16 * k + 16],
+            &mut dst[32 * k..32 * k + 32],
+        );
     }
     count / 4 * 4
 }

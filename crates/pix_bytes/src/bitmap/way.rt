@@ -15,7 +15,8 @@ use crate::bitmap::format::Stored;
 use crate::bitmap::four::Four;
 use crate::bitmap::fours::decode_fours;
 use crate::bitmap::model::Colored;
-use crate::bitmap::model::ModelName::Rgb;
+use crate::bitmap::model::ModelName::{Bgr, Rgb};
+use crate::bitmap::quotient::quotient;
 use pix_chan::chan::{Alpha, Ch8, Ch16, Channel, Gamma, Linear, Premultiplied};
 use std::marker::PhantomData;
 
@@ -323,18 +324,34 @@ impl Way<Ch8, Ch16> for IntoLight {
         dst: &mut [u8],
         count: usize,
     ) -> usize {
-        if !from.has(Rgb, 4, false, 0) {
-            return 0;
-        }
         if !to.has(Rgb, 4, true, 0) {
             return 0;
         }
-        decode_fours(src, dst, count)
+        if from.has(Rgb, 4, false, 0) {
+            return decode_fours(false, src, dst, count);
+        }
+        if from.has(Bgr, 4, false, 0) {
+            return decode_fours(true, src, dst, count);
+        }
+        0
     }
 }
 
 /// The way of a linear pixel of 16 bits to sRGB.
 pub(crate) struct OutOfLight;
+
+/// Does what [`mode_changed`] does, by the quotient of channels of 16 bits.
+#[inline(always)]
+fn straightened(from: bool, to: bool, c: Ch16, alpha: Ch16) -> Ch16
+    ensures { result.value ≡ mode_changed 65535 (alpha_mode_of from) (alpha_mode_of to)
+        alpha.value c.value }
+{
+    if from && !to && u16::from(alpha) != 65535 {
+        quotient(c, alpha)
+    } else {
+        mode_changed(from, to, c, alpha)
+    }
+}
 
 /// Encodes a pixel of light as sRGB within its model.
 #[inline(always)]
@@ -363,7 +380,7 @@ fn channel_as_srgb(step: Step, ch: usize, c: Ch16, alpha: Ch16) -> Ch8
         else at_depth 65535 255 c.value) }
 {
     if step.first <= ch && ch < step.end {
-        mode_changed(step.is_premultiplied, step.to_premultiplied, c, alpha).encode_srgb8()
+        straightened(step.is_premultiplied, step.to_premultiplied, c, alpha).encode_srgb8()
     } else {
         at_depth(c)
     }

@@ -4,10 +4,10 @@ use Rattle.pix_bytes.proofs.Crossings.{crossed_as}
 use Rattle.pix_bytes.proofs.bitmap.cross.cross_linear8.Goals as goal
 
 pub returns-in-Srgb8 : goal.returns-in-Srgb8
-returns-in-Srgb8 c = crossed_as c.args.from c.args.to Linear8 Srgb8 c.args.count c.args.src.now _ c.requires.depth c.in-Srgb8.is c.cross_pixels.ensures
+returns-in-Srgb8 c = crossed_as c.args.from c.args.to Linear8 Srgb8 c.args.count c.args.src.now _ c.requires.depth c.in-Srgb8.is c.cross_painted.ensures
 
 pub returns-in-Linear8 : goal.returns-in-Linear8
-returns-in-Linear8 c = crossed_as c.args.from c.args.to Linear8 Linear8 c.args.count c.args.src.now _ c.requires.depth c.in-Linear8.is c.cross_painted.ensures
+returns-in-Linear8 c = crossed_as c.args.from c.args.to Linear8 Linear8 c.args.count c.args.src.now _ c.requires.depth c.in-Linear8.is c.cross_painted-in-Linear8.ensures
 
 pub returns-in-Linear16 : goal.returns-in-Linear16
-returns-in-Linear16 c = crossed_as c.args.from c.args.to Linear8 Linear16 c.args.count c.args.src.now _ c.requires.depth c.in-Linear16.is c.cross_pixels-in-Linear16.ensures
+returns-in-Linear16 c = crossed_as c.args.from c.args.to Linear8 Linear16 c.args.count c.args.src.now _ c.requires.depth c.in-Linear16.is c.cross_pixels.ensures

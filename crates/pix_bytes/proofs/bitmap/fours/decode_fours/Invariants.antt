@@ -6,4 +6,4 @@ use Rattle.pix_bytes.proofs.bitmap.fours.decode_fours.Given as goal
 
 -- the pixels before the next four are written
 abbrev pub invariant-loop-k : goal.invariant-loop-k
-invariant-loop-k l = IsEach 255 65535 4 4 4 8 multiplied_light l.src l.dst (l.k * 4)
+invariant-loop-k l = IsEach 255 65535 4 4 4 8 (multiplied_light l.is_reversed) l.src l.dst (l.k * 4)

@@ -1,5 +1,4 @@
 -- Of `put`: that it meets its contract.
-use Rattle.std.proofs.Common.{◌≡◌, ◌∙◌}
 use Rattle.pix_bytes.proofs.LitFours.{bytes_are}
 use Rattle.pix_bytes.proofs.bitmap.fours.put.Goals as goal
 
