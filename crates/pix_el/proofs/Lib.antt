@@ -9,6 +9,7 @@ pub mod TwoPlanes
 pub mod OnePlane
 pub mod MattePlanes
 pub mod FourPixels
+pub mod EightPixels
 pub mod Blocks
 pub mod Kept
 pub mod Masked
