@@ -157,37 +157,6 @@ fn merge_row<P: Pixel, D: FlatPixel<P>, Q: Pixel, S: Flat<Q>, B: Merge<P, Q>>(
     }
 }
 
-/// Returns how many of `count` pixels are composited by the first of two calls: at most twelve of four channels.
-///
-/// So LLVM forms lanes of the channels of a pixel, and not of channels of one number of four pixels that lie apart.
-#[inline(always)]
-fn first_part<P: Pixel>(count: usize) -> usize
-    ensures { result ≤ count }
-{
-    if P::default().channels().len() == 4 {
-        count.min(12)
-    } else {
-        count
-    }
-}
-
-/// Composites the pixels of a row with those of another.
-#[inline(always)]
-fn composite_parts<P: Pixel<Alpha = Premultiplied, Gamma = Linear>, O: Blend>(
-    row: &mut [P],
-    src: &[P],
-    op: O,
-)
-    requires { P.layout.count ≡ P.layout.alpha + 1 }
-    ensures { map P.numbers row.new ≡ over (pixel_composite P.layout O.op)
-        (map P.numbers src.now) (map P.numbers row.old) }
-{
-    let count = row.len().min(src.len());
-    let part = first_part::<P>(count);
-    P::composite_slice(&mut row[0..part], &src[0..part], op);
-    P::composite_slice(&mut row[part..count], &src[part..count], op);
-}
-
 /// Composites pixels.
 #[derive(Clone, Copy)]
 pub(crate) struct CompositedPixels<P, O> {
@@ -201,7 +170,7 @@ impl<P: Pixel<Alpha = Premultiplied, Gamma = Linear>, O: Blend> Merge<P, P>
 
     #[inline(always)]
     fn merge(&self, row: &mut [P], src: &[P]) {
-        composite_parts(row, src, self.op);
+        P::composite_slice(row, src, self.op);
     }
 
     #[inline(always)]

@@ -7,6 +7,7 @@ pub mod Lanes
 pub mod Slices
 pub mod Planes
 pub mod Sixteen
+pub mod Pairs
 pub mod ByTable
 pub mod Quotient
 pub mod Entries

@@ -18,13 +18,13 @@ is_four (x0 ∷ x1 ∷ x2 ∷ x3 ∷ y ∷ ys) h = absurd (omega arith)
 
 -- a list by its two halves
 module _ {A : Type 0} (n : ℕ) (p : List A) where
-  first_half : length p ≡ n + n → length (take n p) ≡ n
+  pub first_half : length p ≡ n + n → length (take n p) ≡ n
   first_half h = omega (arith, length-take n p)
 
-  second_half : length p ≡ n + n → length (drop n p) ≡ n
+  pub second_half : length p ≡ n + n → length (drop n p) ≡ n
   second_half h = omega (arith, length-drop n p)
 
-  both_halves : {u v : List A} → u ≡ take n p → v ≡ drop n p → u ++ v ≡ p
+  pub both_halves : {u v : List A} → u ≡ take n p → v ≡ drop n p → u ++ v ≡ p
   both_halves e f = rw (e, f) (take-append-drop n p)
 
 -- a list of 8 as the tuple of its elements
@@ -78,14 +78,14 @@ word_rest : (w x y z r : ℕ) → w < 256 → x < 256 → y < 256 → z < 256
     → (w + 256 * (x + 256 * (y + 256 * (z + 256 * r)))) / 4294967296 ≡ r
 word_rest w x y z r a b c d = omega arith
 
-abbrev fourths : List ℕ → List ℕ
+abbrev pub fourths : List ℕ → List ℕ
 fourths [] = []
 fourths (w ∷ []) = []
 fourths (w ∷ x ∷ []) = []
 fourths (w ∷ x ∷ y ∷ []) = []
 fourths (w ∷ x ∷ y ∷ z ∷ u) = z ∷ fourths u
 
-fourths_are : (n : ℕ) (u : List ℕ) → length u ≡ four_times n → Each1 (Fits w8) u
+pub fourths_are : (n : ℕ) (u : List ℕ) → length u ≡ four_times n → Each1 (Fits w8) u
     → zip2 shr (digits_l 4294967296 n (number_l 256 u)) (replicate n 24) ≡ fourths u
 fourths_are zero [] h f = refl
 fourths_are zero (w ∷ u) h f = absurd (omega arith)
@@ -118,11 +118,11 @@ last_of_word v r a = omega arith
 after_word : (v r : ℕ) → v < 256 → (v + 4294967296 * r) / 256 / 256 / 256 / 256 ≡ r
 after_word v r a = omega arith
 
-abbrev spaced : List ℕ → List ℕ
+abbrev pub spaced : List ℕ → List ℕ
 spaced [] = []
 spaced (v ∷ u) = v ∷ 0 ∷ 0 ∷ 0 ∷ spaced u
 
-spaced_are : (n : ℕ) (u : List ℕ) → length u ≡ n → Each1 (Fits w8) u → digits_l 256 (four_times n) (number_l 4294967296 u) ≡ spaced u
+pub spaced_are : (n : ℕ) (u : List ℕ) → length u ≡ n → Each1 (Fits w8) u → digits_l 256 (four_times n) (number_l 4294967296 u) ≡ spaced u
 spaced_are zero [] h f = refl
 spaced_are zero (v ∷ u) h f = absurd (omega arith)
 spaced_are (suc n) [] h f = absurd (omega arith)
@@ -138,7 +138,7 @@ spread_fourths : (u : List ℕ) → length u ≡ 16
     × (pick_l 0 (spaced (fourths u) ++ spaced (fourths u)) (0 ∷ 0 ∷ 0 ∷ 0 ∷ 4 ∷ 4 ∷ 4 ∷ 4 ∷ 8 ∷ 8 ∷ 8 ∷ 8 ∷ 12 ∷ 12 ∷ 12 ∷ 12 ∷ []) ≡ last_of_four u)
 spread_fourths u h = rw (← (is_sixteen u h).1) (refl, refl)
 
-Each1-fourths : (u : List ℕ) → Each1 (Fits w8) u → Each1 (Fits w8) (fourths u)
+pub Each1-fourths : (u : List ℕ) → Each1 (Fits w8) u → Each1 (Fits w8) (fourths u)
 Each1-fourths [] f = tt
 Each1-fourths (w ∷ []) f = tt
 Each1-fourths (w ∷ x ∷ []) f = tt

@@ -1,5 +1,5 @@
 -- Lanes by their indexes. No public clause cites this file.
-use Rattle.std.specs.Prelude.{ℕ, zero, suc, ◌+◌, List, [], ◌∷◌}
+use Rattle.std.specs.Prelude.{ℕ, zero, suc, ◌+◌, ◌*◌, ◌/◌, ◌%◌, ◌^◌, List, [], ◌∷◌}
 
 -- m indexes from `first` on, each n after the one before
 abbrev pub indexes_from : ℕ → ℕ → ℕ → List ℕ
@@ -30,3 +30,7 @@ low_pairs = pairs_from 0 4
 -- the pairs of the upper halves of two vectors of sixteen lanes in turn
 abbrev pub high_pairs : List ℕ
 high_pairs = pairs_from 8 4
+
+-- the high half of 257 t, where t is x y + 128, as lanes of 16 and 32 bits compute it
+abbrev pub high_half : ℕ → ℕ → ℕ
+high_half x y = (x * y % 2 ^ 16 + 128) % 2 ^ 16 * 257 % 2 ^ 32 / 2 ^ 16

@@ -185,9 +185,19 @@ pub trait Channel: Sealed
     fn less16(plane: [Self; 16]) -> [Self; 16]
         ensures { map number result ≡ map (λ x. max - x) (map number plane) };
 
+    /// Returns one minus each of thirty-two channels.
+    #[doc(hidden)]
+    fn less32(plane: [Self; 32]) -> [Self; 32]
+        ensures { map number result ≡ map (λ x. max - x) (map number plane) };
+
     /// Returns, for four pixels of four channels, at each index the last channel of its pixel.
     #[doc(hidden)]
     fn alphas4(pixels: [Self; 16]) -> [Self; 16]
+        ensures { map number result ≡ last_of_four (map number pixels) };
+
+    /// Returns, for eight pixels of four channels, at each index the last channel of its pixel.
+    #[doc(hidden)]
+    fn alphas8(pixels: [Self; 32]) -> [Self; 32]
         ensures { map number result ≡ last_of_four (map number pixels) };
 
     /// Returns the planes of sixteen pixels of four channels: `a` to `d` are four pixels each.
@@ -283,8 +293,8 @@ pub trait Channel: Sealed
     /// The product is at most half a unit from the exact one, and keeps the laws of a product.
     ghost product_law: { IsProduct fineness max (channel_product max) };
 
-    /// Sixteen channels fit in memory.
-    ghost small: { 16 * size (lone Self.row.mir) < 2 ^ 63 };
+    /// Thirty-two channels fit in memory.
+    ghost small: { 32 * size (lone Self.row.mir) < 2 ^ 63 };
 
     /// The laws of the quotient, of steps, of `lerp`, of the nearest ratio and of depth.
     ///

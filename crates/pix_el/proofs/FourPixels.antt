@@ -1,6 +1,5 @@
 -- Four pixels of four channels in pixel order.
-use Rattle.std.proofs.Common.{◌≡◌, ℕ, zero, suc, ◌-◌, ◌≤◌, ◌∙◌, List, [], ◌∷◌, ◌++◌, length, map, refl, ap, sym, arith, replicate}
-use Rattle.std.proofs.lemmas.List.{length-append}
+use Rattle.std.proofs.Common.{◌≡◌, ℕ, zero, suc, ◌-◌, ◌≤◌, ◌∙◌, List, [], ◌∷◌, length, map, refl, ap, arith, replicate}
 use lib.Lanes.{Each1}
 use Rattle.pix_ops.specs.declared.ops.Op.{Op}
 use Rattle.pix_chan.specs.Runs.{over, triples}
@@ -10,56 +9,14 @@ use Rattle.pix_el.specs.Planes.{by_fours, premultiplied_four}
 use Rattle.pix_el.specs.PixelComposite.{pixel_composite, matted_color}
 use Rattle.pix_chan.specs.Number.{saturating_sum}
 use Rattle.pix_chan.specs.Product.{channel_product}
-use Rattle.pix_chan.proofs.Planes.{cons, four_times, same_pair}
+use Rattle.pix_chan.proofs.Planes.{cons, four_times}
 use Rattle.pix_chan.proofs.Sixteen.{is_sixteen}
-use Rattle.pix_el.proofs.FourPlanes.{four_of, one_channel, by_fours-joined}
+use Rattle.pix_el.proofs.FourPlanes.{four_of, one_channel}
 
 -- one color four times
 pub color_four_times : {C : Type 0} (number : C → ℕ) (a b c d : C) (color : List ℕ) → number a ∷ number b ∷ number c ∷ number d ∷ [] ≡ color
     → by_fours (map number (a ∷ b ∷ c ∷ d ∷ a ∷ b ∷ c ∷ d ∷ a ∷ b ∷ c ∷ d ∷ a ∷ b ∷ c ∷ d ∷ [])) ≡ replicate 4 color
 color_four_times number a b c d color e = rw (← e) refl
-
--- the pixels of sixteen, by their fours
-by_each : (a b c d : List ℕ) → length a ≡ 16 → length b ≡ 16 → length c ≡ 16
-    → by_fours ((a ++ b) ++ (c ++ d)) ≡ (by_fours a ++ by_fours b) ++ (by_fours c ++ by_fours d)
-by_each a b c d h i j =
-    by_fours-joined 8 (a ++ b) (c ++ d) (omega (arith, length-append a b))
-    ∙ same_pair (by_fours-joined 4 a b h) (by_fours-joined 4 c d j)
-
-fours_of_sixteen : (l : List ℕ) → length l ≡ 16 → length (by_fours l) ≡ 4
-fours_of_sixteen l h = rw (← (is_sixteen l h).1) refl
-
--- two lists one after the other, each with as long a part of the other
-over-append : {A B : Type 0} (f : B → A → A) (us vs : List B) (xs ys : List A) → length us ≡ length xs → over f (us ++ vs) (xs ++ ys) ≡ over f us xs ++ over f vs ys
-over-append f [] vs [] ys h = refl
-over-append f [] vs (x ∷ xs) ys h = absurd (omega arith)
-over-append f (u ∷ us) vs [] ys h = absurd (omega arith)
-over-append {A} f (u ∷ us) vs (x ∷ xs) ys h = ap (λ (l : List A). f u x ∷ l) (over-append f us vs xs ys (omega arith))
-
--- four fours, each composited with its own
-pub parts_composited : (f : List ℕ → List ℕ → List ℕ) (s0 s1 s2 s3 d0 d1 d2 d3 r0 r1 r2 r3 : List ℕ)
-    → length s0 ≡ 16 → length s1 ≡ 16 → length s2 ≡ 16 → length s3 ≡ 16 → length d0 ≡ 16 → length d1 ≡ 16 → length d2 ≡ 16 → length d3 ≡ 16
-    → length r0 ≡ 16 → length r1 ≡ 16 → length r2 ≡ 16
-    → by_fours r0 ≡ over f (by_fours s0) (by_fours d0) → by_fours r1 ≡ over f (by_fours s1) (by_fours d1)
-    → by_fours r2 ≡ over f (by_fours s2) (by_fours d2) → by_fours r3 ≡ over f (by_fours s3) (by_fours d3)
-    → by_fours ((r0 ++ r1) ++ (r2 ++ r3)) ≡ over f (by_fours ((s0 ++ s1) ++ (s2 ++ s3))) (by_fours ((d0 ++ d1) ++ (d2 ++ d3)))
-parts_composited f s0 s1 s2 s3 d0 d1 d2 d3 r0 r1 r2 r3 a0 a1 a2 a3 b0 b1 b2 b3 k0 k1 k2 e0 e1 e2 e3 =
-    let long0 : length (by_fours s0) ≡ length (by_fours d0) = fours_of_sixteen s0 a0 ∙ sym (fours_of_sixteen d0 b0) in
-    let long1 : length (by_fours s1) ≡ length (by_fours d1) = fours_of_sixteen s1 a1 ∙ sym (fours_of_sixteen d1 b1) in
-    let long2 : length (by_fours s2) ≡ length (by_fours d2) = fours_of_sixteen s2 a2 ∙ sym (fours_of_sixteen d2 b2) in
-    let both : length (by_fours s0 ++ by_fours s1) ≡ length (by_fours d0 ++ by_fours d1)
-    = omega (arith, length-append (by_fours s0) (by_fours s1), length-append (by_fours d0) (by_fours d1), long0, long1) in
-    by_each r0 r1 r2 r3 k0 k1 k2
-    ∙ same_pair (same_pair e0 e1 ∙ sym (over-append f (by_fours s0) (by_fours s1) (by_fours d0) (by_fours d1) long0))
-    (same_pair e2 e3 ∙ sym (over-append f (by_fours s2) (by_fours s3) (by_fours d2) (by_fours d3) long2))
-    ∙ sym (over-append f (by_fours s0 ++ by_fours s1) (by_fours s2 ++ by_fours s3) (by_fours d0 ++ by_fours d1) (by_fours d2 ++ by_fours d3) both)
-    ∙ sym (ap (λ (l : List (List ℕ)). over f l (by_fours ((d0 ++ d1) ++ (d2 ++ d3)))) (by_each s0 s1 s2 s3 a0 a1 a2)
-    ∙ ap (over f ((by_fours s0 ++ by_fours s1) ++ (by_fours s2 ++ by_fours s3))) (by_each d0 d1 d2 d3 b0 b1 b2))
-
--- one color sixteen times
-pub four_color_fours : (color l : List ℕ) → length l ≡ 16 → by_fours l ≡ replicate 4 color → by_fours ((l ++ l) ++ (l ++ l)) ≡ replicate 16 color
-four_color_fours color l h e =
-    by_each l l l l h h h ∙ ap (λ (p : List (List ℕ)). (p ++ p) ++ (p ++ p)) e
 
 module _ (max : ℕ) (op : Op) where
   -- one minus the alpha of its pixel, at each place

@@ -10,6 +10,7 @@ pub mod Halves
 pub mod OnePlane
 pub mod MattePlanes
 pub mod FourPixels
+pub mod EightPixels
 pub mod Blocks
 pub mod Kept
 pub mod Masked

@@ -1,9 +1,9 @@
-//! Composites of pixels by runs of sixteen channels.
+//! Composites of pixels by runs of sixteen or thirty-two channels.
 //!
-//! Each way to go is a `Block`. Pixels of four channels without a hue go sixteen at a time and then four, interleaved, as they lie. Pixels
-//! of four channels with a hue at the first go by planes, arrays of sixteen channels of one number, and so do pixels of two channels without
-//! a hue. A pixel of one channel is its own alpha, so that mattes go as they lie. A color through sixteen mattes goes by planes. Pixels through mattes go
-//! four at a time (`masked.rt`).
+//! Each way to go is a `Block`. Pixels of four channels without a hue go eight at a time and then four, interleaved, as they lie, and so do
+//! a color through mattes and pixels through mattes (`masked.rt`). Pixels of four channels with a hue at the first go by planes, arrays of
+//! sixteen channels of one number, and so do pixels of two channels without a hue. A pixel of one channel is its own alpha, so that mattes
+//! go as they lie.
 //!
 //! Nothing of this is in a contract above, so another way to cut a slice into blocks changes this file and its folder alone.
 ghost use Rattle.std.specs.Prelude.{◌≡◌, ◌≤◌, ◌+◌, ◌-◌, length, map, take, true, replicate};
@@ -17,16 +17,17 @@ use crate::matte::Matte;
 use crate::model::{ColorModel, is_hue};
 use crate::planes::block::{color_blocks, composite_blocks, matte_blocks};
 use crate::planes::coverage::Coverage;
+use crate::planes::eight::Eight;
 use crate::planes::four::Four;
 use crate::planes::interleaved::Interleaved;
 use crate::planes::one::One;
-use crate::planes::sixteen::Sixteen;
 use crate::planes::two::Two;
 use pix_chan::chan::{Alpha, Channel, Linear};
 use pix_ops::ops::Blend;
 
 mod block;
 mod coverage;
+mod eight;
 mod four;
 pub(crate) mod interleaved;
 mod kept;
@@ -121,7 +122,7 @@ pub(crate) fn composite_runs<O: Blend, P: Pixel>(dst: &mut [P], src: &[P], count
         (take result (map P.numbers src.now)) (map P.numbers dst.old) }
 {
     if is_interleaved::<P>() {
-        let start = composite_blocks::<O, P, Sixteen>(dst, src, count);
+        let start = composite_blocks::<O, P, Eight>(dst, src, count);
         let (rest, sources) = (&mut dst[start..], &src[start..]);
         start + composite_blocks::<O, P, Interleaved>(rest, sources, count - start)
     } else if has_four::<P>() {
@@ -146,7 +147,7 @@ pub(crate) fn color_runs<O: Blend, P: Pixel>(dst: &mut [P], clr: &P) -> usize
         (take result (replicate (length dst.old) (P.numbers clr.now))) (map P.numbers dst.old) }
 {
     if is_interleaved::<P>() {
-        let start = color_blocks::<O, P, Sixteen>(dst, clr);
+        let start = color_blocks::<O, P, Eight>(dst, clr);
         start + color_blocks::<O, P, Interleaved>(&mut dst[start..], clr)
     } else if has_four::<P>() {
         color_blocks::<O, P, Four>(dst, clr)
@@ -189,7 +190,7 @@ fn coverage_runs<O: Blend, P: Pixel, S: Coverage<P::Chan>>(
         (take result (map S.value src.now)) (map P.numbers dst.old) }
 {
     if is_interleaved::<P>() {
-        let start = matte_blocks::<O, P, S, Sixteen>(dst, src, clr, count);
+        let start = matte_blocks::<O, P, S, Eight>(dst, src, clr, count);
         let (rest, mattes) = (&mut dst[start..], &src[start..]);
         start + matte_blocks::<O, P, S, Interleaved>(rest, mattes, clr, count - start)
     } else if has_four::<P>() {

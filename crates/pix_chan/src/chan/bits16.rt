@@ -253,12 +253,38 @@ impl Channel for Ch16 {
     }
 
     #[inline(always)]
+    fn less32(plane: [Ch16; 32]) -> [Ch16; 32]
+        ensures { map (λ x. x.value) result ≡ map (λ x. 65535 - x) (map (λ x. x.value) plane) }
+    {
+        let mut own = plane;
+        for i in 0..32 {
+            own[i] = Ch16 {
+                value: !plane[i].value,
+            };
+        }
+        own
+    }
+
+    #[inline(always)]
     fn alphas4(pixels: [Ch16; 16]) -> [Ch16; 16]
         ensures { map (λ x. x.value) result ≡ last_of_four (map (λ x. x.value) pixels) }
     {
         let p = &pixels[..];
         let (a, b, c, d) = (p[3], p[7], p[11], p[15]);
         [a, a, a, a, b, b, b, b, c, c, c, c, d, d, d, d]
+    }
+
+    #[inline(always)]
+    fn alphas8(pixels: [Ch16; 32]) -> [Ch16; 32]
+        ensures { map (λ x. x.value) result ≡ last_of_four (map (λ x. x.value) pixels) }
+    {
+        let p = &pixels[..];
+        let (a, b, c, d) = (p[3], p[7], p[11], p[15]);
+        let (e, f, g, h) = (p[19], p[23], p[27], p[31]);
+        [
+            a, a, a, a, b, b, b, b, c, c, c, c, d, d, d, d, e, e, e, e, f, f, f, f, g, g, g, g, h,
+            h, h, h,
+        ]
     }
 
     #[inline(always)]

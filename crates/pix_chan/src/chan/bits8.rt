@@ -15,6 +15,7 @@ use crate::reciprocals::quotient_by_byte;
 use std::ops::{Add, Div, Mul, Sub};
 
 mod lanes;
+mod pairs;
 mod planes;
 
 /// A channel of 8 bits: a whole number of units from 0 to 255.
@@ -218,8 +219,11 @@ impl Channel for Ch8 {
     #[inline(always)]
     fn mul_run(dst: &mut [Ch8], by: &[Ch8]) {
         let count = dst.len().min(by.len());
-        for k in 0..count / 16 {
-            lanes::mul_block(&mut dst[16 * k..16 * k + 16], &by[16 * k..16 * k + 16]);
+        for k in 0..count / 32 {
+            pairs::mul_block(&mut dst[32 * k..32 * k + 32], &by[32 * k..32 * k + 32]);
+        }
+        for j in count / 32 * 2..count / 16 {
+            lanes::mul_block(&mut dst[16 * j..16 * j + 16], &by[16 * j..16 * j + 16]);
         }
         for i in count / 16 * 16..count {
             dst[i] = dst[i] * by[i];
@@ -229,8 +233,11 @@ impl Channel for Ch8 {
     #[inline(always)]
     fn add_run(dst: &mut [Ch8], by: &[Ch8]) {
         let count = dst.len().min(by.len());
-        for k in 0..count / 16 {
-            lanes::add_block(&mut dst[16 * k..16 * k + 16], &by[16 * k..16 * k + 16]);
+        for k in 0..count / 32 {
+            pairs::add_block(&mut dst[32 * k..32 * k + 32], &by[32 * k..32 * k + 32]);
+        }
+        for j in count / 32 * 2..count / 16 {
+            lanes::add_block(&mut dst[16 * j..16 * j + 16], &by[16 * j..16 * j + 16]);
         }
         for i in count / 16 * 16..count {
             dst[i] = dst[i] + by[i];
@@ -245,10 +252,24 @@ impl Channel for Ch8 {
     }
 
     #[inline(always)]
+    fn less32(plane: [Ch8; 32]) -> [Ch8; 32]
+        ensures { map (λ x. x.value) result ≡ map (λ x. 255 - x) (map (λ x. x.value) plane) }
+    {
+        pairs::channels(!pairs::units(&plane))
+    }
+
+    #[inline(always)]
     fn alphas4(pixels: [Ch8; 16]) -> [Ch8; 16]
         ensures { map (λ x. x.value) result ≡ last_of_four (map (λ x. x.value) pixels) }
     {
         channels(planes::spread(units(&pixels)))
+    }
+
+    #[inline(always)]
+    fn alphas8(pixels: [Ch8; 32]) -> [Ch8; 32]
+        ensures { map (λ x. x.value) result ≡ last_of_four (map (λ x. x.value) pixels) }
+    {
+        pairs::channels(pairs::spread(pairs::units(&pixels)))
     }
 
     #[inline(always)]

@@ -50,3 +50,21 @@ pub(super) fn matte_values<C: Channel, S: Coverage<C>>(src: &[S]) -> [C; 16]
         src[15].coverage(),
     ]
 }
+
+/// Returns the values of eight mattes.
+#[inline(always)]
+pub(super) fn eight_values<C: Channel, S: Coverage<C>>(src: &[S]) -> [C; 8]
+    requires { length src.now ≡ 8 }
+    ensures { map C.number result ≡ map S.value src.now }
+{
+    [
+        src[0].coverage(),
+        src[1].coverage(),
+        src[2].coverage(),
+        src[3].coverage(),
+        src[4].coverage(),
+        src[5].coverage(),
+        src[6].coverage(),
+        src[7].coverage(),
+    ]
+}

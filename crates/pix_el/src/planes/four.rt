@@ -83,7 +83,7 @@ fn composite_sixteen<O: Blend, P: Pixel, const CALLER: usize>(
 ///
 /// Condition: the alpha is the last channel, and only the first may be a hue.
 #[inline(always)]
-pub(super) fn composite_matted<O: Blend, P: Pixel, const CALLER: usize>(
+fn composite_matted<O: Blend, P: Pixel, const CALLER: usize>(
     dst: &mut [P],
     mattes: &[P::Chan],
     a: P::Chan,

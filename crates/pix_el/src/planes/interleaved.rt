@@ -38,7 +38,7 @@ pub(super) fn four_pixels<P: Pixel>(p: &[P]) -> [P::Chan; 16]
 
 /// Returns the channels of four pixels of one color, pixel by pixel.
 #[inline(always)]
-pub(super) fn four_times<P: Pixel>(clr: &P) -> [P::Chan; 16]
+fn four_times<P: Pixel>(clr: &P) -> [P::Chan; 16]
     requires { P.layout.count ≡ 4 }
     ensures { by_fours (map P.Chan.number result) ≡ replicate 4 (P.numbers clr.now) }
 {
@@ -73,6 +73,19 @@ fn put_two_pixels<P: Pixel>(p: &mut [P], c: &[P::Chan])
     put_pixel(&mut p[1], c[4], c[5], c[6], c[7]);
 }
 
+/// Writes four pixels from a slice of their channels.
+#[inline(always)]
+pub(super) fn put_channels<P: Pixel>(p: &mut [P], c: &[P::Chan])
+    requires count { P.layout.count ≡ 4 }
+    requires size { length p.old ≡ 4 }
+    requires whole { length c.now ≡ 16 }
+    ensures size { length p.new ≡ 4 }
+    ensures pixels { map P.numbers p.new ≡ by_fours (map P.Chan.number c.now) }
+{
+    put_two_pixels(&mut p[..2], &c[..8]);
+    put_two_pixels(&mut p[2..4], &c[8..16]);
+}
+
 /// Writes four pixels from their channels.
 #[inline(always)]
 pub(super) fn put_four_pixels<P: Pixel>(p: &mut [P], c: [P::Chan; 16])
@@ -81,19 +94,14 @@ pub(super) fn put_four_pixels<P: Pixel>(p: &mut [P], c: [P::Chan; 16])
     ensures size { length p.new ≡ 4 }
     ensures pixels { map P.numbers p.new ≡ by_fours (map P.Chan.number c) }
 {
-    let c = &c[..];
-    put_two_pixels(&mut p[..2], &c[..8]);
-    put_two_pixels(&mut p[2..4], &c[8..16]);
+    put_channels(p, &c);
 }
 
 /// Returns what four pixels become by the composite of those of `src`: at each index, the alphas are those of its own pixel.
 ///
 /// Condition: the alpha is the last channel, and none is a hue.
 #[inline(always)]
-pub(super) fn composited<O: Blend, P: Pixel>(
-    mut to: [P::Chan; 16],
-    src: [P::Chan; 16],
-) -> [P::Chan; 16]
+fn composited<O: Blend, P: Pixel>(mut to: [P::Chan; 16], src: [P::Chan; 16]) -> [P::Chan; 16]
     requires count { P.layout.count ≡ 4 }
     requires alpha { P.layout.alpha ≡ 3 }
     requires no_hue { P.layout.hues.end ≡ 0 }

@@ -18,7 +18,7 @@ pub trait Factor {
 
     /// Multiplies each channel by the coefficient, where `alpha1` is one minus the other side's alpha.
     fn scale<C: Channel>(channels: &mut [C], alpha1: &[C])
-        requires few { length channels.old ≤ 16 }
+        requires few { length channels.old ≤ 32 }
         requires same { length alpha1.now ≡ length channels.old }
         ensures { map C.number channels.new ≡
             over (λ a x. term C.max coefficient x (C.max - a))
@@ -75,9 +75,9 @@ impl Factor for Alpha {
     #[inline(always)]
     fn scale<C: Channel>(channels: &mut [C], alpha1: &[C]) {
         let count = channels.len();
-        let mut array = [C::MIN; 16];
+        let mut array = [C::MIN; 32];
         array[..count].copy_from_slice(alpha1);
-        let alpha = &C::less16(array)[..];
+        let alpha = &C::less32(array)[..];
         C::mul_run(channels, &alpha[..count]);
     }
 }
@@ -95,10 +95,10 @@ impl Factor for OneMinusAlpha {
     }
 }
 
-/// Composites at most sixteen channels: the source's products go into an array.
+/// Composites at most thirty-two channels: the source's products go into an array.
 #[inline(always)]
 fn composite_block<A: Factor, B: Factor, C: Channel>(dst: &mut [C], da1: &[C], src: &[C], sa1: &[C])
-    requires few { length dst.old ≤ 16 }
+    requires few { length dst.old ≤ 32 }
     requires da1_same { length da1.now ≡ length dst.old }
     requires src_same { length src.now ≡ length dst.old }
     requires sa1_same { length sa1.now ≡ length dst.old }
@@ -107,7 +107,7 @@ fn composite_block<A: Factor, B: Factor, C: Channel>(dst: &mut [C], da1: &[C], s
         (map C.number dst.old) }
 {
     let count = dst.len();
-    let mut array = [C::MIN; 16];
+    let mut array = [C::MIN; 32];
     let whole = &mut array[..];
     let terms = &mut whole[..count];
     terms.copy_from_slice(src);
@@ -130,12 +130,12 @@ pub(super) fn composite<A: Factor, B: Factor, C: Channel>(
         (map C.number dst.old) }
 {
     let count = dst.len().min(da1.len()).min(src.len()).min(sa1.len());
-    for k in 0..count.div_ceil(16) {
-        let start = 16 * k;
-        let end = if count - start < 16 {
+    for k in 0..count.div_ceil(32) {
+        let start = 32 * k;
+        let end = if count - start < 32 {
             count
         } else {
-            start + 16
+            start + 32
         };
         composite_block::<A, B, C>(
             &mut dst[start..end],

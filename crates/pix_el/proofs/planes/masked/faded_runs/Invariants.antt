@@ -1,8 +1,14 @@
--- What holds at each turn of the loop over `i` in `faded_runs`.
+-- What holds at each turn of the loop over `k` and `i` in `faded_runs`.
 use Rattle.std.proofs.Common.{◌≡◌, ◌*◌, take, map}
 use Rattle.pix_chan.specs.Runs.{over}
 use Rattle.pix_el.specs.PixelComposite.{matted_composite}
 use Rattle.pix_el.proofs.planes.masked.faded_runs.Given as goal
+
+-- the pixels of the blocks below the index are composited
+abbrev pub invariant-loop-k : goal.invariant-loop-k
+invariant-loop-k g l =
+    let n = g.P.Pixel.numbers in
+    map n l.dst ≡ over (matted_composite g.P.Pixel.layout g.O.Blend.op (g.P.Chan.Channel.number l.alpha)) (take (8 * l.k) (map n l.src)) (map n l.fn.dst)
 
 -- the pixels of the blocks below the index are composited
 abbrev pub invariant-loop-i : goal.invariant-loop-i

@@ -8,4 +8,4 @@ abbrev pub invariant-loop-k : goal.invariant-loop-k
 invariant-loop-k g l =
     let v = g.C.Channel.number in
     map v l.dst ≡ over (run_terms g.C.Channel.max g.A.Factor.coefficient g.B.Factor.coefficient)
-    (take (min (16 * l.k) l.count) (triples (map v l.da1) (map v l.src) (map v l.sa1))) (map v l.fn.dst)
+    (take (min (32 * l.k) l.count) (triples (map v l.da1) (map v l.src) (map v l.sa1))) (map v l.fn.dst)

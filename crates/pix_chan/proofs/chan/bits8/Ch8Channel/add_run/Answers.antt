@@ -1,4 +1,4 @@
--- Of `Ch8Channel::add_run`: that it meets its contract, and that the invariant of its loop over `k` and `i` holds at first and stays.
+-- Of `Ch8Channel::add_run`: that it meets its contract, and that the invariant of its loop over `k`, `j` and `i` holds at first and stays.
 use Rattle.std.proofs.Common.{◌≡◌, ◌∙◌, ◌*◌, ◌/◌, ℕ, sym, ap, arith, map, take}
 use Rattle.pix_chan.specs.declared.chan.bits8.Ch8.{Ch8}
 use Rattle.pix_chan.specs.Number.{saturating_sum}
@@ -14,13 +14,23 @@ loop-k-init c = sym (over-nil (saturating_sum 255) (map units c.args.dst.now))
 
 pub loop-k-preserved : goal.loop-k-preserved
 loop-k-preserved c =
-    next_paired_block units (saturating_sum 255) c.args.dst.now c.loop-k.dst c.args.by.now 16 c.loop-k.k c.add_block.new.to
+    next_paired_block units (saturating_sum 255) c.args.dst.now c.loop-k.dst c.args.by.now 32 c.loop-k.k c.add_block.new.to
     c.loop-k.invariant (omega arith) (omega arith) c.add_block.ensures
+
+pub loop-j-init : goal.loop-j-init
+loop-j-init c =
+    let m : 32 * c.loop-k.k ≡ 16 * (c.min-count.result / 32 * 2) = omega arith in
+    c.loop-k.invariant ∙ ap (λ n. run (saturating_sum 255) (map units c.args.dst.now) (take n (map units c.args.by.now))) m
+
+pub loop-j-preserved : goal.loop-j-preserved
+loop-j-preserved c =
+    next_paired_block units (saturating_sum 255) c.args.dst.now c.loop-j.dst c.args.by.now 16 c.loop-j.j c.add_block-in-loop-j.new.to
+    c.loop-j.invariant (omega arith) (omega arith) c.add_block-in-loop-j.ensures
 
 pub loop-i-init : goal.loop-i-init
 loop-i-init c =
-    let m : 16 * c.loop-k.k ≡ c.min-count.result / 16 * 16 = omega arith in
-    c.loop-k.invariant ∙ ap (λ n. run (saturating_sum 255) (map units c.args.dst.now) (take n (map units c.args.by.now))) m
+    let m : 16 * c.loop-j.j ≡ c.min-count.result / 16 * 16 = omega arith in
+    c.loop-j.invariant ∙ ap (λ n. run (saturating_sum 255) (map units c.args.dst.now) (take n (map units c.args.by.now))) m
 
 pub loop-i-preserved : goal.loop-i-preserved
 loop-i-preserved c =

@@ -8,5 +8,5 @@ returns g c =
     let v = g.C.Channel.number in
     let m = g.C.Channel.max in
     let copied = c.copy_from_slice in
-    let alphas = front_of v (λ x. m - x) (length c.args.channels.now) copied.new.self _ c.less16.result (ap length copied.ensures.after ∙ c.requires.same) c.less16.ensures in
+    let alphas = front_of v (λ x. m - x) (length c.args.channels.now) copied.new.self _ c.less32.result (ap length copied.ensures.after ∙ c.requires.same) c.less32.ensures in
     rw (c.mul_run.ensures, alphas, copied.ensures.after) (by_complements m (map v c.args.alpha1.now) (map v c.args.channels.now))

@@ -2,9 +2,9 @@
 use Rattle.std.proofs.Common.{◌∙◌, ap, map, List, ℕ}
 use Rattle.pix_chan.specs.Runs.{over}
 use Rattle.pix_el.specs.PixelComposite.{pixel_composite}
-use Rattle.pix_el.proofs.planes.sixteen.SixteenBlock.composite.Goals as goal
+use Rattle.pix_el.proofs.planes.eight.EightBlock.composite.Goals as goal
 
 pub returns : goal.returns
 returns g c =
     let ds = map g.P.Pixel.numbers c.args.dst.now in
-    c.composite_fours.ensures ∙ ap (λ (l : List (List ℕ)). over (pixel_composite g.P.Pixel.layout g.O.Blend.op) l ds) c.fours-a.ensures
+    c.composite_eight.ensures ∙ ap (λ (l : List (List ℕ)). over (pixel_composite g.P.Pixel.layout g.O.Blend.op) l ds) c.eight_pixels.ensures

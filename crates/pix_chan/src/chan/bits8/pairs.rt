@@ -1,0 +1,121 @@
+//! Products and sums of thirty-two channels of 8 bits at a time, on lanes.
+//!
+//! Products go by lanes of 16 bits: the bytes of even index and those of odd index apart, which takes masks and shifts alone. Wider lanes
+//! of sixteen bytes take shuffles, of which x86-64 has one port.
+ghost use Rattle.std.specs.Prelude.{◌≡◌, map, length};
+ghost use Rattle.std.specs.Simd.Lanes.{zip2};
+ghost use Rattle.pix_chan.specs.Number.{saturating_sum};
+ghost use Rattle.pix_chan.specs.Product.{channel_product};
+ghost use Rattle.pix_chan.specs.Planes.{last_of_four};
+ghost use Rattle.pix_chan.specs.Lanes.{high_half};
+
+use crate::chan::bits8::Ch8;
+use std::simd::prelude::*;
+
+/// Returns the channel products of bytes, each in a lane of 16 bits.
+///
+/// With t = x y + 128, the product is 257 t / 2^16 rounded down: the high half of a product of 16 bits.
+#[inline(always)]
+fn near(a: u16x16, b: u16x16) -> u16x16
+    ensures { result ≡ zip2 high_half a b }
+{
+    let t = a * b + u16x16::splat(128);
+    let high = (t.cast::<u32>() * u32x16::splat(257)) >> u32x16::splat(16);
+    high.cast::<u16>()
+}
+
+/// Returns the channel product of the bytes of each lane.
+#[inline(always)]
+fn product_lanes(a: u8x32, b: u8x32) -> u8x32
+    ensures { result ≡ zip2 (channel_product 255) a b }
+{
+    let x = u16x16::from_le_bytes(a);
+    let y = u16x16::from_le_bytes(b);
+    let even = near(x & u16x16::splat(255), y & u16x16::splat(255));
+    let odd = near(x >> u16x16::splat(8), y >> u16x16::splat(8));
+    (even | (odd << u16x16::splat(8))).to_le_bytes()
+}
+
+/// Returns the saturating sum of the bytes of each lane.
+#[inline(always)]
+fn sum_lanes(x: u8x32, y: u8x32) -> u8x32
+    ensures { result ≡ zip2 (saturating_sum 255) x y }
+{
+    x.saturating_add(y)
+}
+
+/// Returns, for eight pixels of four channels, at each lane the last channel of its pixel: by a shift of words, as four pixels' go.
+#[inline(always)]
+pub(super) fn spread(pixels: u8x32) -> u8x32
+    ensures { result ≡ last_of_four pixels }
+{
+    let last = (u32x8::from_le_bytes(pixels) >> u32x8::splat(24)).to_le_bytes();
+    last.shuffle(
+        last,
+        [
+            0, 0, 0, 0, 4, 4, 4, 4, 8, 8, 8, 8, 12, 12, 12, 12, 16, 16, 16, 16, 20, 20, 20, 20, 24,
+            24, 24, 24, 28, 28, 28, 28,
+        ],
+    )
+}
+
+/// Returns the numbers of thirty-two channels.
+///
+/// LLVM makes one copy of the loop. Of an array that names all elements it makes as many steps, and inlines no caller of that length.
+#[inline(always)]
+pub(super) fn units(c: &[Ch8]) -> u8x32
+    requires { length c.now ≡ 32 }
+    ensures { result ≡ map (λ x. x.value) c.now }
+{
+    let mut own = [0; 32];
+    for i in 0..32 {
+        own[i] = c[i].value;
+    }
+    u8x32::from_array(own)
+}
+
+/// Returns the channels of thirty-two numbers, by a loop as well.
+#[inline(always)]
+pub(super) fn channels(v: u8x32) -> [Ch8; 32]
+    ensures { map (λ x. x.value) result ≡ v }
+{
+    let from = v.to_array();
+    let mut own = [Ch8 { value: 0 }; 32];
+    for i in 0..32 {
+        own[i] = Ch8 { value: from[i] };
+    }
+    own
+}
+
+/// Writes thirty-two channels to a slice of thirty-two.
+#[inline(always)]
+fn store(to: &mut [Ch8], c: [Ch8; 32])
+    requires { length to.old ≡ 32 }
+    ensures { to.new ≡ c }
+{
+    if let Some(whole) = to.as_mut_array::<32>() {
+        *whole = c;
+    }
+}
+
+/// Multiplies each of thirty-two channels by that of `by` of the same index.
+#[inline(always)]
+pub(super) fn mul_block(to: &mut [Ch8], by: &[Ch8])
+    requires to_whole { length to.old ≡ 32 }
+    requires by_whole { length by.now ≡ 32 }
+    ensures { map (λ x. x.value) to.new ≡
+        zip2 (channel_product 255) (map (λ x. x.value) to.old) (map (λ x. x.value) by.now) }
+{
+    store(to, channels(product_lanes(units(to), units(by))));
+}
+
+/// Adds to each of thirty-two channels that of `by` of the same index.
+#[inline(always)]
+pub(super) fn add_block(to: &mut [Ch8], by: &[Ch8])
+    requires to_whole { length to.old ≡ 32 }
+    requires by_whole { length by.now ≡ 32 }
+    ensures { map (λ x. x.value) to.new ≡
+        zip2 (saturating_sum 255) (map (λ x. x.value) to.old) (map (λ x. x.value) by.now) }
+{
+    store(to, channels(sum_lanes(units(to), units(by))));
+}

@@ -1,0 +1,138 @@
+//! Eight pixels of four channels without a hue as they lie: thirty-two channels, pixel by pixel.
+ghost use Rattle.std.specs.Prelude.{◌≡◌, length, map, refl, replicate};
+ghost use Rattle.pix_chan.specs.Runs.{over};
+ghost use Rattle.pix_el.specs.Planes.{by_fours};
+ghost use Rattle.pix_el.specs.PixelComposite.{pixel_composite, matted_color, matted_composite};
+
+use crate::el::Pixel;
+use crate::planes::block::Block;
+use crate::planes::coverage::{Coverage, eight_values};
+use crate::planes::interleaved::{four_channels, put_channels};
+use pix_chan::chan::Channel;
+use pix_ops::ops::Blend;
+
+/// Returns the channels of eight pixels, pixel by pixel.
+#[inline(always)]
+pub(super) fn eight_pixels<P: Pixel>(p: &[P]) -> [P::Chan; 32]
+    requires count { P.layout.count ≡ 4 }
+    requires size { length p.now ≡ 8 }
+    ensures { by_fours (map P.Chan.number result) ≡ map P.numbers p.now }
+{
+    let (a0, b0, c0, d0) = four_channels(&p[0]);
+    let (a1, b1, c1, d1) = four_channels(&p[1]);
+    let (a2, b2, c2, d2) = four_channels(&p[2]);
+    let (a3, b3, c3, d3) = four_channels(&p[3]);
+    let (a4, b4, c4, d4) = four_channels(&p[4]);
+    let (a5, b5, c5, d5) = four_channels(&p[5]);
+    let (a6, b6, c6, d6) = four_channels(&p[6]);
+    let (a7, b7, c7, d7) = four_channels(&p[7]);
+    [
+        a0, b0, c0, d0, a1, b1, c1, d1, a2, b2, c2, d2, a3, b3, c3, d3, a4, b4, c4, d4, a5, b5, c5,
+        d5, a6, b6, c6, d6, a7, b7, c7, d7,
+    ]
+}
+
+/// Returns the channels of eight pixels of one color, pixel by pixel.
+#[inline(always)]
+fn eight_times<P: Pixel>(clr: &P) -> [P::Chan; 32]
+    requires { P.layout.count ≡ 4 }
+    ensures { by_fours (map P.Chan.number result) ≡ replicate 8 (P.numbers clr.now) }
+{
+    let (a, b, c, d) = four_channels(clr);
+    [
+        a, b, c, d, a, b, c, d, a, b, c, d, a, b, c, d, a, b, c, d, a, b, c, d, a, b, c, d, a, b,
+        c, d,
+    ]
+}
+
+/// Writes eight pixels from their channels, pixel by pixel.
+#[inline(always)]
+fn put_eight_pixels<P: Pixel>(p: &mut [P], c: [P::Chan; 32])
+    requires count { P.layout.count ≡ 4 }
+    requires size { length p.old ≡ 8 }
+    ensures { map P.numbers p.new ≡ by_fours (map P.Chan.number c) }
+{
+    let c = &c[..];
+    put_channels(&mut p[..4], &c[..16]);
+    put_channels(&mut p[4..8], &c[16..32]);
+}
+
+/// Returns the channels of eight pixels, each pixel multiplied by the matte value of the same index. Each `CALLER` has a copy of its own,
+/// since LLVM inlines what is called once.
+///
+/// Condition: the alpha is the last channel, and none is a hue.
+#[inline(always)]
+pub(super) fn covered<P: Pixel, const CALLER: usize>(
+    mut to: [P::Chan; 32],
+    values: &[P::Chan],
+) -> [P::Chan; 32]
+    requires count { P.layout.count ≡ 4 }
+    requires alpha { P.layout.alpha ≡ 3 }
+    requires no_hue { P.layout.hues.end ≡ 0 }
+    requires whole { length values.now ≡ 8 }
+    ensures { by_fours (map P.Chan.number result) ≡ over (matted_color P.layout)
+        (map P.Chan.number values.now) (by_fours (map P.Chan.number to)) }
+{
+    let (a, b, c, d) = (values[0], values[1], values[2], values[3]);
+    let (e, f, g, h) = (values[4], values[5], values[6], values[7]);
+    let by = [
+        a, a, a, a, b, b, b, b, c, c, c, c, d, d, d, d, e, e, e, e, f, f, f, f, g, g, g, g, h, h,
+        h, h,
+    ];
+    P::Chan::mul_run(&mut to, &by);
+    to
+}
+
+/// Composites the eight pixels of these channels with those of `dst`: at each index, the alphas are those of its own pixel. Each `CALLER` has
+/// a copy of its own.
+///
+/// Condition: the alpha is the last channel, and none is a hue.
+#[inline(always)]
+pub(super) fn composite_eight<O: Blend, P: Pixel, const CALLER: usize>(
+    dst: &mut [P],
+    src: [P::Chan; 32],
+)
+    requires count { P.layout.count ≡ 4 }
+    requires alpha { P.layout.alpha ≡ 3 }
+    requires no_hue { P.layout.hues.end ≡ 0 }
+    requires size { length dst.old ≡ 8 }
+    ensures { map P.numbers dst.new ≡ over (pixel_composite P.layout O.op)
+        (by_fours (map P.Chan.number src)) (map P.numbers dst.old) }
+{
+    let mut to = eight_pixels(dst);
+    let da1 = P::Chan::less32(P::Chan::alphas8(to));
+    let sa1 = P::Chan::less32(P::Chan::alphas8(src));
+    O::composite_run(&mut to, &da1, &src, &sa1);
+    put_eight_pixels(dst, to);
+}
+
+/// Pixels of four channels without a hue, eight at a time.
+pub(super) struct Eight {}
+
+impl<P: Pixel> Block<P> for Eight {
+    ghost suits = { (P.layout.count ≡ 4) × (P.layout.alpha ≡ 3) × (P.layout.hues.end ≡ 0) };
+
+    ghost SIZE = { 8 };
+
+    const SIZE: usize = 8;
+
+    ghost more = { 7 };
+
+    ghost some = { refl };
+
+    #[inline(always)]
+    fn composite<O: Blend>(dst: &mut [P], src: &[P]) {
+        composite_eight::<O, P, 0>(dst, eight_pixels(src));
+    }
+
+    #[inline(always)]
+    fn color<O: Blend>(dst: &mut [P], clr: &P) {
+        composite_eight::<O, P, 1>(dst, eight_times(clr));
+    }
+
+    #[inline(always)]
+    fn matted<O: Blend, S: Coverage<P::Chan>>(dst: &mut [P], src: &[S], clr: &P) {
+        let colors = covered::<P, 2>(eight_times(clr), &eight_values(src));
+        composite_eight::<O, P, 2>(dst, colors);
+    }
+}
