@@ -1,5 +1,5 @@
 -- Each index has an entry that represents its color.
-use Rattle.std.proofs.Common.{◌≡◌, ℕ, zero, suc, ◌<◌, ◌≤◌, true, List, [], ◌∷◌, length, map, get_or, refl, arith, sym, ap, ◌∙◌, subst, inl, inr, Some, None, Option}
+use Rattle.std.proofs.Common.{◌≡◌, ℕ, zero, suc, ◌<◌, ◌≤◌, true, List, [], ◌∷◌, length, map, get_or, refl, arith, sym, ◌∙◌, subst, inl, inr, Some, None, Option}
 use Rattle.std.proofs.lemmas.Bool.Decides.{nat_tests}
 use Rattle.pix_table.specs.PaletteMatch.{color_difference, is_within}
 use Rattle.pix_table.specs.Setting.{Fits, StandsFor, IsSet, Always}

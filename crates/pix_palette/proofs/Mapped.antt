@@ -1,9 +1,8 @@
 -- Images of the nearest entries, and of the entries of indices.
 use Rattle.std.specs.Prelude.{slice_get, unwrap_or}
 use Rattle.std.specs.Option.{option_map}
-use Rattle.std.proofs.Common.{◌≡◌, ℕ, zero, suc, ◌<◌, List, [], ◌∷◌, length, map, get_or, refl, arith, sym, ap, ◌∙◌, subst, Some, None}
+use Rattle.std.proofs.Common.{◌≡◌, ℕ, zero, suc, ◌<◌, List, [], ◌∷◌, length, map, get_or, refl, arith, sym, ap, ◌∙◌, subst}
 use Rattle.std.proofs.lemmas.List.{length-map}
-use Rattle.std.proofs.lemmas.Option.{unwrap_or-slice_get}
 use Rattle.pix_table.specs.Nearest.{IsNearest}
 use Rattle.pix_table.specs.LookUp.{AreLookedUp}
 use Rattle.pix_table.specs.PaletteMatch.{color_difference}

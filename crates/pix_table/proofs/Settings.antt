@@ -6,7 +6,7 @@ use Rattle.std.proofs.lemmas.Bool.Decides.{nat_tests}
 use Rattle.std.proofs.lemmas.List.{length-map, map-append, append-nil, get_or_append_left}
 use Rattle.std.proofs.Math.Seq.{get_or-append_seam}
 use Rattle.pix_table.specs.PaletteMatch.{color_difference, difference_to, is_within, is_closer, AreCandidates, IsMatch, IsMinimal, IsFirstOf}
-use Rattle.pix_table.specs.Setting.{Fits, StandsFor, IsSet, set_answer, set_colors, Always}
+use Rattle.pix_table.specs.Setting.{Fits, StandsFor, IsSet, set_answer, set_colors}
 use Rattle.pix_table.proofs.PaletteMatches.{match_minimal, match_of_standing, zero_least, IsBest, best_first, best_closer, best_stays, best_match}
 
 -- every threshold that is answered has a difference of 0 within it

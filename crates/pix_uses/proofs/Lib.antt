@@ -6,3 +6,4 @@ pub mod Steps
 pub mod Grays
 pub mod Lossless
 pub mod LightAndBack
+pub mod PicturesBack

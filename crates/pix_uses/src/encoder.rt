@@ -1,8 +1,11 @@
 //! An encoder of indexed images that has one table of colors for all of them.
-ghost use Rattle.std.specs.Prelude.{◌≡◌, [], IfOk, IfErr};
+ghost use Rattle.std.specs.Prelude.{◌≡◌, ◌<◌, ℕ, [], ◌∷◌, length, map, slice_index_or, IfOk, IfErr, IfSome};
 ghost use Rattle.pix.specs.ColorTable.{entries_of};
+ghost use Rattle.pix.specs.Indexing.{colors_of};
+ghost use Rattle.pix.specs.Palette.{numbers};
+ghost use Rattle.pix.specs.PaletteMatch.{color_difference};
 
-use pix::chan::{Ch8, Gamma};
+use pix::chan::{Ch8, Gamma, Srgb};
 use pix::el::Pixel;
 use pix::gray::Gray8;
 use pix::rgb::SRgb8;
@@ -37,5 +40,26 @@ impl Encoder {
         ensures unchanged { IfErr result (λ _. entries_of self.new.table ≡ entries_of self.old.table) }
     {
         self.table.index(alloc, picture)
+    }
+}
+
+/// Indexes a picture in a table of exact colors, and makes a picture of its indices again; or `None` where the table has no room for the colors.
+pub fn there_and_back(
+    alloc: Global,
+    table: &mut ColorTable,
+    picture: &Raster<SRgb8>,
+) -> Result<Option<Raster<SRgb8>>, RasterFault>
+    requires { numbers table.old.threshold ≡ 0 ∷ 0 ∷ 0 ∷ [] }
+
+    // It is the picture: it differs at no pixel, in no channel.
+    ensures back { IfOk result (λ answer. IfSome answer (λ again. (k : ℕ)
+        → k < length picture.now.pixels → color_difference
+        (slice_index_or (map numbers again.pixels) k [])
+        (slice_index_or (colors_of ⟦<SRgb8 as Pixel>⟧.format ⟦<Srgb as Gamma<Ch8>>⟧.mode
+        ⟦<SRgb8 as Pixel>⟧.numbers picture.now.pixels) k []) ≡ 0 ∷ 0 ∷ 0 ∷ [])) }
+{
+    match table.index(alloc, picture)? {
+        None => Ok(None),
+        Some(indices) => table.look_up(alloc, &indices),
     }
 }

@@ -24,6 +24,15 @@ impl ColorTable {
     /// # Errors
     ///
     /// `Memory` on allocation failure, and where the limit is too large to be reserved.
+    ///
+    /// # Examples
+    ///
+    /// ```rust
+    /// let red = SRgb8::new::<u8>(200, 0, 0);
+    /// let mut table = ColorTable::new(alloc, 256, SRgb8::new::<u8>(8, 8, 8))?;
+    /// table.set_entry(red); // Some(0)
+    /// table.set_entry(SRgb8::new::<u8>(204, 0, 0)); // Some(0): it is near enough
+    /// ```
     pub fn new(alloc: Global, limit: usize, threshold: SRgb8) -> Result<ColorTable, RasterFault>
         ensures entries { IfOk result (λ table. entries_of table ≡ []) }
         ensures limit { IfOk result (λ table. limit_of table ≡ limit) }
@@ -41,6 +50,14 @@ impl ColorTable {
     }
 
     /// Returns the colors in order.
+    ///
+    /// # Examples
+    ///
+    /// ```rust
+    /// let size = table.len(); // 1, of at most table.limit()
+    /// let first = table.entry(0); // Some(red), the first of table.colors()
+    /// let nearest = table.nearest(SRgb8::new::<u8>(0, 0, 9)); // Some(0): there is no other
+    /// ```
     pub fn colors(&self) -> &[SRgb8]
         ensures { result.now ≡ entries_of self.now }
     {
@@ -48,6 +65,14 @@ impl ColorTable {
     }
 
     /// Returns the number of entries.
+    ///
+    /// # Examples
+    ///
+    /// ```rust
+    /// let size = table.len(); // 1, of at most table.limit()
+    /// let first = table.entry(0); // Some(red), the first of table.colors()
+    /// let nearest = table.nearest(SRgb8::new::<u8>(0, 0, 9)); // Some(0): there is no other
+    /// ```
     pub fn len(&self) -> usize
         ensures { result ≡ length (entries_of self.now) }
     {
@@ -62,6 +87,14 @@ impl ColorTable {
     }
 
     /// Returns how many entries there may be.
+    ///
+    /// # Examples
+    ///
+    /// ```rust
+    /// let size = table.len(); // 1, of at most table.limit()
+    /// let first = table.entry(0); // Some(red), the first of table.colors()
+    /// let nearest = table.nearest(SRgb8::new::<u8>(0, 0, 9)); // Some(0): there is no other
+    /// ```
     pub fn limit(&self) -> usize
         ensures { result ≡ limit_of self.now }
     {
@@ -69,6 +102,14 @@ impl ColorTable {
     }
 
     /// Returns the color of entry `i`, or `None` past the end.
+    ///
+    /// # Examples
+    ///
+    /// ```rust
+    /// let size = table.len(); // 1, of at most table.limit()
+    /// let first = table.entry(0); // Some(red), the first of table.colors()
+    /// let nearest = table.nearest(SRgb8::new::<u8>(0, 0, 9)); // Some(0): there is no other
+    /// ```
     pub fn entry(&self, i: usize) -> Option<SRgb8>
         ensures { result ≡ slice_get (entries_of self.now) i }
     {
@@ -78,6 +119,14 @@ impl ColorTable {
     /// Returns the index of the entry that is nearest to a color, the first of equals; or `None` where there is no entry.
     ///
     /// How near an entry is, is the sum of the squares of its differences from the color in red, green and blue.
+    ///
+    /// # Examples
+    ///
+    /// ```rust
+    /// let size = table.len(); // 1, of at most table.limit()
+    /// let first = table.entry(0); // Some(red), the first of table.colors()
+    /// let nearest = table.nearest(SRgb8::new::<u8>(0, 0, 9)); // Some(0): there is no other
+    /// ```
     pub fn nearest(&self, clr: SRgb8) -> Option<usize>
         ensures nearest { IsNearestOf (map numbers (entries_of self.now)) (numbers clr) result }
 
@@ -90,6 +139,15 @@ impl ColorTable {
 
     /// Sets a color: answers the index of its match if that is within the threshold, else appends the color and answers its index, or answers `None`
     /// where the limit is reached. It takes no memory. The match is that of [`Palette::set_entry`](crate::Palette::set_entry).
+    ///
+    /// # Examples
+    ///
+    /// ```rust
+    /// let red = SRgb8::new::<u8>(200, 0, 0);
+    /// let mut table = ColorTable::new(alloc, 256, SRgb8::new::<u8>(8, 8, 8))?;
+    /// table.set_entry(red); // Some(0)
+    /// table.set_entry(SRgb8::new::<u8>(204, 0, 0)); // Some(0): it is near enough
+    /// ```
     pub fn set_entry(&mut self, clr: SRgb8) -> Option<usize>
         ensures set { IsSet numbers (Always (numbers self.old.threshold)) (limit_of self.old)
             (entries_of self.old) clr result (entries_of self.new) }
@@ -107,6 +165,15 @@ impl ColorTable {
     /// # Errors
     ///
     /// `Memory` on allocation failure; the table is unchanged.
+    ///
+    /// # Examples
+    ///
+    /// ```rust
+    /// let Some(indices) = table.index(alloc, picture)? else {
+    ///     return Ok(None); // the table has no room for all colors
+    /// };
+    /// table.look_up(alloc, &indices)
+    /// ```
     pub fn index<S>(
         &mut self,
         alloc: Global,

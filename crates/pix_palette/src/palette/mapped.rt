@@ -24,6 +24,15 @@ impl ColorTable {
     /// # Errors
     ///
     /// `Memory` on allocation failure.
+    ///
+    /// # Examples
+    ///
+    /// ```rust
+    /// let Some(indices) = table.map_indexed(alloc, picture)? else {
+    ///     return Ok(None); // the table has no entry, or more than 256
+    /// };
+    /// Ok(Some(indices))
+    /// ```
     pub fn map_indexed<S>(
         &self,
         alloc: Global,
@@ -57,6 +66,15 @@ impl ColorTable {
     /// # Errors
     ///
     /// `Memory` on allocation failure, which comes first.
+    ///
+    /// # Examples
+    ///
+    /// ```rust
+    /// let Some(indices) = table.index(alloc, picture)? else {
+    ///     return Ok(None); // the table has no room for all colors
+    /// };
+    /// table.look_up(alloc, &indices)
+    /// ```
     pub fn look_up(
         &self,
         alloc: Global,

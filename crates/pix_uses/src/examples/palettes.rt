@@ -1,7 +1,7 @@
 //! Palettes. A palette is made and used up in one function.
 use pix::gray::Gray8;
 use pix::rgb::SRgb8;
-use pix::{Palette, Raster, RasterFault};
+use pix::{ColorTable, Palette, Raster, RasterFault};
 use std::alloc::Global;
 
 /// Sets colors, and asks for them.
@@ -54,4 +54,41 @@ pub fn few(alloc: Global, picture: Raster<SRgb8>) -> Result<Option<usize>, Raste
         Ok(None) => Ok(Some(spare.len())),
         Err((fault, _)) => Err(fault),
     }
+}
+
+/// Sets a color in a table, and asks for it.
+pub fn table(alloc: Global) -> Result<(usize, Option<SRgb8>, Option<usize>), RasterFault> {
+    let red = SRgb8::new::<u8>(200, 0, 0);
+    let mut table = ColorTable::new(alloc, 256, SRgb8::new::<u8>(8, 8, 8))?;
+    table.set_entry(red); // Some(0)
+    table.set_entry(SRgb8::new::<u8>(204, 0, 0)); // Some(0): it is near enough
+
+    let size = table.len(); // 1, of at most table.limit()
+    let first = table.entry(0); // Some(red), the first of table.colors()
+    let nearest = table.nearest(SRgb8::new::<u8>(0, 0, 9)); // Some(0): there is no other
+    Ok((size, first, nearest))
+}
+
+/// Indexes a picture in a table, and makes colors of the indices again.
+pub fn looked_up(
+    alloc: Global,
+    table: &mut ColorTable,
+    picture: &Raster<SRgb8>,
+) -> Result<Option<Raster<SRgb8>>, RasterFault> {
+    let Some(indices) = table.index(alloc, picture)? else {
+        return Ok(None); // the table has no room for all colors
+    };
+    table.look_up(alloc, &indices)
+}
+
+/// Indexes a picture by the nearest entries of a table.
+pub fn mapped(
+    alloc: Global,
+    table: &ColorTable,
+    picture: &Raster<SRgb8>,
+) -> Result<Option<Raster<Gray8>>, RasterFault> {
+    let Some(indices) = table.map_indexed(alloc, picture)? else {
+        return Ok(None); // the table has no entry, or more than 256
+    };
+    Ok(Some(indices))
 }

@@ -1,6 +1,6 @@
 -- Of `index_pixels`: the clause `indexed`.
 use Rattle.std.specs.Prelude.{take}
-use Rattle.std.proofs.Common.{◌≡◌, ℕ, List, map, length, true, false, Bool, refl, sym, subst, inl, inr}
+use Rattle.std.proofs.Common.{◌≡◌, ℕ, List, map, length, refl, sym, subst, inl, inr}
 use Rattle.std.proofs.lemmas.Bool.{cases_Bool}
 use Rattle.pix_table.specs.Nearest.{numbers}
 use Rattle.pix_table.specs.Setting.{Always, IsSet}

@@ -1,5 +1,4 @@
 -- Of `set_kept`: the clauses `set` and `right`, and the condition of its call of `keep`.
-use Rattle.std.proofs.Common.{◌≡◌, ◌<◌}
 use Rattle.pix_table.proofs.KeptColors.{kept_is_set, set_below, set_right, set_kept_right}
 use Rattle.pix_table.proofs.set.set_kept.Goals as goal
 

@@ -1,5 +1,5 @@
 -- Of `closest`: the clause `found`, and that the invariant of its loop over `i` holds after each turn.
-use Rattle.std.proofs.Common.{◌≡◌, ◌+◌, ℕ, List, [], map, get_or, true, false, sym, ap, ◌∙◌, arith}
+use Rattle.std.proofs.Common.{◌≡◌, ◌+◌, [], map, get_or, true, false, sym, ap, ◌∙◌, arith}
 use Rattle.std.proofs.lemmas.List.{length-map, get_or-map}
 use Rattle.pix_table.specs.Nearest.{numbers}
 use Rattle.pix_table.specs.PaletteMatch.{color_difference, difference_to, is_closer}

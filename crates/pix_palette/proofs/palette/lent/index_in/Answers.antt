@@ -1,6 +1,6 @@
 -- Of `index_in`: the clauses `indexed` and `before`, and that the invariant of its loop over `i` holds at first and stays.
 use Rattle.std.specs.Prelude.{IfSome}
-use Rattle.std.proofs.Common.{◌≡◌, ◌<◌, Some, map, refl, ◌∙◌, arith, rules}
+use Rattle.std.proofs.Common.{◌≡◌, ◌<◌, Some, refl, ◌∙◌, arith, rules}
 use Rattle.pix_palette.specs.Indexing.{values}
 use Rattle.pix_table.proofs.KeptColors.{none_right}
 use Rattle.pix_table.proofs.IndexingSets.{none_set, one_set, stopped, before_less}

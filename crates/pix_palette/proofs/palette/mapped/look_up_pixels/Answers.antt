@@ -1,5 +1,5 @@
 -- Of `look_up_pixels`: its clauses, and that the invariant of its loop over `i` stays.
-use Rattle.std.proofs.Common.{◌≡◌, ◌<◌, ◌≤◌, ℕ, length, get_or, ap, ◌∙◌, sym, arith}
+use Rattle.std.proofs.Common.{◌≡◌, get_or, ap, ◌∙◌, arith}
 use Rattle.pix_palette.specs.Indexing.{values}
 use Rattle.pix_palette.proofs.IndexingSets.{value_at, many_values}
 use Rattle.pix_table.proofs.Below.{below_more, below_past, below_all}

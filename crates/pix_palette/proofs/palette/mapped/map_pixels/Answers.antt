@@ -1,5 +1,5 @@
 -- Of `map_pixels`: its clauses, and that the invariant of its loop over `i` holds at first and stays.
-use Rattle.std.proofs.Common.{◌≡◌, ◌<◌, ℕ, List, [], length, get_or, refl, ◌∙◌, sym, subst, arith}
+use Rattle.std.proofs.Common.{◌≡◌, ℕ, List, [], get_or, refl, ◌∙◌, sym, subst, arith}
 use Rattle.pix_table.specs.Nearest.{IsNearest}
 use Rattle.pix_palette.specs.Indexing.{colors_of}
 use Rattle.pix_palette.proofs.IndexingSets.{color_at, each_value_more, gray_more, all_gray}

@@ -1,5 +1,5 @@
 -- Of `Palette::set_known`: its clauses, and the condition of its call of `keep`.
-use Rattle.std.proofs.Common.{◌≡◌, ◌<◌, map, length, sym, subst, arith}
+use Rattle.std.proofs.Common.{◌<◌, length, sym, subst, arith}
 use Rattle.pix_palette.specs.Palette.{numbers}
 use Rattle.pix_table.proofs.KeptColors.{all_kept_is_set, set_below, set_kept_right}
 use Rattle.pix_palette.proofs.palette.table.Palette.set_known.Goals as goal
