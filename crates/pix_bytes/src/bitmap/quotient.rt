@@ -283,9 +283,10 @@ pub(crate) fn quotient(c: Ch16, alpha: Ch16) -> Ch16
     ensures { result.value ≡ channel_quotient 65535 c.value alpha.value }
 {
     let divisor = u16::from(alpha);
-    if divisor % 257 != 0 {
+    let byte = divisor % 256;
+    if byte == 0 || divisor / 256 != byte {
         return Premultiplied::decode(c, alpha);
     }
-    let ratio = (u64::from(u16::from(c)) * reciprocal(usize::from(divisor / 257))) >> 32;
+    let ratio = (u64::from(u16::from(c)) * reciprocal(usize::from(byte))) >> 32;
     Ch16::new(ratio.min(65535) as u16)
 }
