@@ -1,21 +1,24 @@
 //! Pixels converted from format to format.
-ghost use Rattle.std.specs.Prelude.{◌≤◌};
+//!
+//! A call at a concrete format costs the prover seconds, so a format is handed on by its parts: the count of its channels, its color
+//! model, its alpha mode and its gamma mode.
+ghost use Rattle.std.specs.Prelude.{◌≤◌, ◌+◌};
 
 use crate::flaw::Flaw;
 use crate::pixels::{pixel, word_of};
 use pix::ColorModel;
-use pix::bgr::{Bgr8, Bgra8};
-use pix::chan::{Ch8, Ch16, Gamma, Srgb};
-use pix::cmy::{Cmy8, Cmy16};
-use pix::el::Pixel;
-use pix::gray::{Gray8, Graya8p, SGray8, SGraya8};
-use pix::hsl::{Hsl8, Hsl16};
-use pix::hsv::{Hsv8, Hsv16};
-use pix::hwb::{Hwb8, Hwb16};
-use pix::matte::{Matte8, Matte16};
-use pix::rgb::{Rgb8, Rgb16, Rgba8, Rgba8p, Rgba16, Rgba16p, SRgb8, SRgba8, SRgba8p};
-use pix::xyz::Xyz8;
-use pix::ycc::YCbCr8;
+use pix::bgr::Bgr;
+use pix::chan::{Alpha, Ch8, Ch16, Gamma, Linear, Premultiplied, Srgb, Straight};
+use pix::cmy::Cmy;
+use pix::el::{Pix, Pixel};
+use pix::gray::Gray;
+use pix::hsl::Hsl;
+use pix::hsv::Hsv;
+use pix::hwb::Hwb;
+use pix::matte::Matte;
+use pix::rgb::{Rgb, Rgb8, Rgba16p};
+use pix::xyz::Xyz;
+use pix::ycc::YCbCr;
 use std::alloc::Global;
 
 /// `Cmy8 0,254,253 Rgb8`: a format, a pixel of it, and the format that it is converted to.
@@ -23,28 +26,62 @@ pub(crate) fn converted(words: &[&str], alloc: Global) -> Result<String, Flaw> {
     let &[from, word, to] = words else {
         return Err(Flaw::Count);
     };
-    match (from, to) {
-        ("Rgb8", "Cmy16") => one::<Rgb8, Cmy16>(word, alloc),
-        ("Rgb8", "Hsv16") => one::<Rgb8, Hsv16>(word, alloc),
-        ("Rgb8", "Hsl16") => one::<Rgb8, Hsl16>(word, alloc),
-        ("Rgb8", "Hwb16") => one::<Rgb8, Hwb16>(word, alloc),
-        (_, "Rgb8") => converted_to::<Rgb8>(from, word, alloc),
-        (_, "Cmy8") => converted_to::<Cmy8>(from, word, alloc),
-        (_, "Gray8") => converted_to::<Gray8>(from, word, alloc),
-        (_, "Bgr8") => converted_to::<Bgr8>(from, word, alloc),
-        (_, "YCbCr8") => converted_to::<YCbCr8>(from, word, alloc),
-        (_, "Xyz8") => converted_to::<Xyz8>(from, word, alloc),
-        (_, "Hsv8") => converted_to::<Hsv8>(from, word, alloc),
-        (_, "Hsl8") => converted_to::<Hsl8>(from, word, alloc),
-        (_, "Hwb8") => converted_to::<Hwb8>(from, word, alloc),
-        (_, "SRgb8") => converted_to::<SRgb8>(from, word, alloc),
-        (_, "SRgba8p") => converted_to::<SRgba8p>(from, word, alloc),
-        (_, "Rgba8p") => converted_to::<Rgba8p>(from, word, alloc),
-        (_, "Rgba8") => converted_to::<Rgba8>(from, word, alloc),
-        (_, "SGraya8") => converted_to::<SGraya8>(from, word, alloc),
-        (_, "Bgra8") => converted_to::<Bgra8>(from, word, alloc),
+    match to {
+        "Cmy16" | "Hsv16" | "Hsl16" | "Hwb16" => to_wide(from, word, to, alloc),
+        "SRgb8" => to_eight::<3, Rgb, Straight, Srgb>(from, word, alloc),
+        "SRgba8p" => to_eight::<4, Rgb, Premultiplied, Srgb>(from, word, alloc),
+        "Rgba8p" => to_eight::<4, Rgb, Premultiplied, Linear>(from, word, alloc),
+        "Rgba8" => to_eight::<4, Rgb, Straight, Linear>(from, word, alloc),
+        "SGraya8" => to_eight::<2, Gray, Straight, Srgb>(from, word, alloc),
+        "Bgra8" => to_eight::<4, Bgr, Straight, Linear>(from, word, alloc),
+        _ => to_model(from, word, to, alloc),
+    }
+}
+
+/// Converts the pixel of a word, of the format of a name, to straight linear channels of eight bits without an alpha.
+fn to_model(from: &str, word: &str, to: &str, alloc: Global) -> Result<String, Flaw> {
+    match to {
+        "Rgb8" => to_eight::<3, Rgb, Straight, Linear>(from, word, alloc),
+        "Cmy8" => to_eight::<3, Cmy, Straight, Linear>(from, word, alloc),
+        "Gray8" => to_eight::<1, Gray, Straight, Linear>(from, word, alloc),
+        "Bgr8" => to_eight::<3, Bgr, Straight, Linear>(from, word, alloc),
+        "YCbCr8" => to_eight::<3, YCbCr, Straight, Linear>(from, word, alloc),
+        "Xyz8" => to_eight::<3, Xyz, Straight, Linear>(from, word, alloc),
+        "Hsv8" => to_eight::<3, Hsv, Straight, Linear>(from, word, alloc),
+        "Hsl8" => to_eight::<3, Hsl, Straight, Linear>(from, word, alloc),
+        "Hwb8" => to_eight::<3, Hwb, Straight, Linear>(from, word, alloc),
         _ => Err(Flaw::Name),
     }
+}
+
+/// Converts red, green and blue of eight bits to the format of a name, of sixteen bits.
+fn to_wide(from: &str, word: &str, to: &str, alloc: Global) -> Result<String, Flaw> {
+    if from != "Rgb8" {
+        return Err(Flaw::Name);
+    }
+    match to {
+        "Cmy16" => to_sixteen::<Cmy>(word, alloc),
+        "Hsv16" => to_sixteen::<Hsv>(word, alloc),
+        "Hsl16" => to_sixteen::<Hsl>(word, alloc),
+        "Hwb16" => to_sixteen::<Hwb>(word, alloc),
+        _ => Err(Flaw::Name),
+    }
+}
+
+/// Converts red, green and blue of eight bits to sixteen bits of another model.
+fn to_sixteen<M: ColorModel>(word: &str, alloc: Global) -> Result<String, Flaw> {
+    of_eight::<3, Rgb, Straight, Linear, Pix<3, Ch16, M, Straight, Linear>>(word, alloc)
+}
+
+/// Converts the pixel of a word, of the format of a name, to the format of eight bits of these parts.
+fn to_eight<const N: usize, M, A, G>(from: &str, word: &str, alloc: Global) -> Result<String, Flaw>
+where
+    M: ColorModel,
+    A: Alpha,
+    G: Gamma<Ch8>,
+    requires { N ≤ 4 }
+{
+    converted_to::<Pix<N, Ch8, M, A, G>>(from, word, alloc)
 }
 
 /// Converts the pixel of a word, of the format of a name.
@@ -55,32 +92,57 @@ where
     Srgb: Gamma<D::Chan>,
 {
     match from {
-        "Rgb8" => one::<Rgb8, D>(word, alloc),
-        "Cmy8" => one::<Cmy8, D>(word, alloc),
-        "Cmy16" => one::<Cmy16, D>(word, alloc),
-        "YCbCr8" => one::<YCbCr8, D>(word, alloc),
-        "Xyz8" => one::<Xyz8, D>(word, alloc),
-        "Hsv8" => one::<Hsv8, D>(word, alloc),
-        "Hsv16" => one::<Hsv16, D>(word, alloc),
-        "Hsl8" => one::<Hsl8, D>(word, alloc),
-        "Hsl16" => one::<Hsl16, D>(word, alloc),
-        "Hwb8" => one::<Hwb8, D>(word, alloc),
-        "Hwb16" => one::<Hwb16, D>(word, alloc),
-        "SRgb8" => one::<SRgb8, D>(word, alloc),
-        "Rgb16" => one::<Rgb16, D>(word, alloc),
-        "Gray8" => one::<Gray8, D>(word, alloc),
-        "SGraya8" => one::<SGraya8, D>(word, alloc),
-        "SGray8" => one::<SGray8, D>(word, alloc),
-        "SRgba8" => one::<SRgba8, D>(word, alloc),
-        "Rgba8" => one::<Rgba8, D>(word, alloc),
-        "Rgba8p" => one::<Rgba8p, D>(word, alloc),
-        "Rgba16" => one::<Rgba16, D>(word, alloc),
-        "Rgba16p" => one::<Rgba16p, D>(word, alloc),
-        "Graya8p" => one::<Graya8p, D>(word, alloc),
-        "Matte8" => one::<Matte8, D>(word, alloc),
-        "Matte16" => one::<Matte16, D>(word, alloc),
+        "Rgb8" => of_eight::<3, Rgb, Straight, Linear, D>(word, alloc),
+        "Cmy8" => of_eight::<3, Cmy, Straight, Linear, D>(word, alloc),
+        "Cmy16" => of_sixteen::<3, Cmy, Straight, D>(word, alloc),
+        "YCbCr8" => of_eight::<3, YCbCr, Straight, Linear, D>(word, alloc),
+        "Xyz8" => of_eight::<3, Xyz, Straight, Linear, D>(word, alloc),
+        "Hsv8" => of_eight::<3, Hsv, Straight, Linear, D>(word, alloc),
+        "Hsv16" => of_sixteen::<3, Hsv, Straight, D>(word, alloc),
+        "Hsl8" => of_eight::<3, Hsl, Straight, Linear, D>(word, alloc),
+        "Hsl16" => of_sixteen::<3, Hsl, Straight, D>(word, alloc),
+        "Hwb8" => of_eight::<3, Hwb, Straight, Linear, D>(word, alloc),
+        "Hwb16" => of_sixteen::<3, Hwb, Straight, D>(word, alloc),
+        "SRgb8" => of_eight::<3, Rgb, Straight, Srgb, D>(word, alloc),
+        "Rgb16" => of_sixteen::<3, Rgb, Straight, D>(word, alloc),
+        "Gray8" => of_eight::<1, Gray, Straight, Linear, D>(word, alloc),
+        "SGraya8" => of_eight::<2, Gray, Straight, Srgb, D>(word, alloc),
+        "SGray8" => of_eight::<1, Gray, Straight, Srgb, D>(word, alloc),
+        "SRgba8" => of_eight::<4, Rgb, Straight, Srgb, D>(word, alloc),
+        "Rgba8" => of_eight::<4, Rgb, Straight, Linear, D>(word, alloc),
+        "Rgba8p" => of_eight::<4, Rgb, Premultiplied, Linear, D>(word, alloc),
+        "Rgba16" => of_sixteen::<4, Rgb, Straight, D>(word, alloc),
+        "Rgba16p" => of_sixteen::<4, Rgb, Premultiplied, D>(word, alloc),
+        "Graya8p" => of_eight::<2, Gray, Premultiplied, Linear, D>(word, alloc),
+        "Matte8" => of_eight::<1, Matte, Premultiplied, Linear, D>(word, alloc),
+        "Matte16" => of_sixteen::<1, Matte, Premultiplied, D>(word, alloc),
         _ => Err(Flaw::Name),
     }
+}
+
+/// Converts the pixel of a word, of the format of eight bits of these parts.
+fn of_eight<const N: usize, M, A, G, D>(word: &str, alloc: Global) -> Result<String, Flaw>
+where
+    M: ColorModel,
+    A: Alpha,
+    G: Gamma<Ch8> + Gamma<D::Chan>,
+    D: Pixel,
+    D::Chan: From<Ch8>,
+    requires { N ≤ 4 }
+{
+    one::<Pix<N, Ch8, M, A, G>, D>(word, alloc)
+}
+
+/// Converts the pixel of a word, of the linear format of sixteen bits of these parts.
+fn of_sixteen<const N: usize, M, A, D>(word: &str, alloc: Global) -> Result<String, Flaw>
+where
+    M: ColorModel,
+    A: Alpha,
+    D: Pixel,
+    D::Chan: From<Ch16>,
+    requires { N ≤ 4 }
+{
+    one::<Pix<N, Ch16, M, A, Linear>, D>(word, alloc)
 }
 
 /// Converts the pixel of a word.
@@ -103,14 +165,22 @@ where
 /// to.
 pub(crate) fn deepened(words: &[&str], alloc: Global) -> Result<String, Flaw> {
     match words {
-        ["Rgb8", word, "Rgba16p"] => {
-            let made = Rgba16p::from_bit_depth(pixel::<Rgb8>(word, alloc)?);
-            word_of(made.channels(), alloc)
-        }
-        ["Rgba16p", word, "Rgb8"] => {
-            let made = Rgb8::from_bit_depth(pixel::<Rgba16p>(word, alloc)?);
-            word_of(made.channels(), alloc)
-        }
+        ["Rgb8", word, "Rgba16p"] => depth_of::<Rgb8, Rgba16p>(word, alloc),
+        ["Rgba16p", word, "Rgb8"] => depth_of::<Rgba16p, Rgb8>(word, alloc),
         _ => Err(Flaw::Name),
     }
+}
+
+/// The pixel of a word at the depth of another format.
+fn depth_of<S, D>(word: &str, alloc: Global) -> Result<String, Flaw>
+where
+    S: Pixel,
+    D: Pixel,
+    D::Chan: From<S::Chan>,
+    requires few { D.layout.count ≤ D.layout.alpha + 1 }
+{
+    word_of(
+        D::from_bit_depth(pixel::<S>(word, alloc)?).channels(),
+        alloc,
+    )
 }

@@ -27,6 +27,10 @@ enum Order {
     Comp(Op, Region, Region),
     /// Composites a color through the mattes.
     Matte(Op, Region, Region, Rgba8p),
+    /// Composites the source through the mattes.
+    Mask(Op, Region, Region, Region),
+    /// Composites the source at an opacity.
+    Fade(Op, Region, Region, Matte8),
 }
 
 /// The images that commands read.
@@ -48,6 +52,8 @@ struct Images {
 /// - `paint OPERATOR REGION COLOR`
 /// - `comp OPERATOR REGION REGION`
 /// - `matte OPERATOR REGION REGION COLOR`
+/// - `mask OPERATOR REGION REGION REGION`, the last one that of the mattes
+/// - `fade OPERATOR REGION REGION MATTE`
 ///
 /// The answer is the size and the pixels of the raster after them.
 pub(crate) fn draw(words: &[&str], alloc: Global) -> Result<String, Flaw> {
@@ -116,6 +122,14 @@ fn order_of(words: &[&str], alloc: Global) -> Result<Order, Flaw> {
             let (to, from) = (region(to, alloc)?, region(from, alloc)?);
             Ok(Order::Matte(operator(op)?, to, from, pixel(clr, alloc)?))
         }
+        ["mask", op, to, from, mask_from] => {
+            let (to, from) = (region(to, alloc)?, region(from, alloc)?);
+            Ok(Order::Mask(operator(op)?, to, from, region(mask_from, alloc)?))
+        }
+        ["fade", op, to, from, alpha] => {
+            let (to, from) = (region(to, alloc)?, region(from, alloc)?);
+            Ok(Order::Fade(operator(op)?, to, from, pixel(alpha, alloc)?))
+        }
         _ => Err(Flaw::Name),
     }
 }
@@ -168,6 +182,45 @@ fn command<'a>(images: &'a Images, order: &Order) -> Command<'a, Rgba8p, Matte8>
                 op,
             }
         }
+        Order::Mask(op, to, from, mask_from) => masked(images, op, to, from, mask_from),
+        Order::Fade(op, to, from, alpha) => faded(images, op, to, from, alpha),
+    }
+}
+
+/// A composite of the source through the mattes.
+fn masked<'a>(
+    images: &'a Images,
+    op: Op,
+    to: Region,
+    from: Region,
+    mask_from: Region,
+) -> Command<'a, Rgba8p, Matte8> {
+    let (src, mask) = (&images.source, &images.mattes);
+    Command::RasterMatte {
+        to,
+        src,
+        from,
+        mask,
+        mask_from,
+        op,
+    }
+}
+
+/// A composite of the source at an opacity.
+fn faded<'a>(
+    images: &'a Images,
+    op: Op,
+    to: Region,
+    from: Region,
+    alpha: Matte8,
+) -> Command<'a, Rgba8p, Matte8> {
+    let src = &images.source;
+    Command::RasterAlpha {
+        to,
+        src,
+        from,
+        alpha,
+        op,
     }
 }
 
@@ -177,10 +230,11 @@ fn call(raster: &mut Raster<Rgba8p>, images: &Images, order: &Order) {
         Order::Clear => raster.clear(),
         Order::Fill(reg, clr) => raster.copy_color(reg, clr),
         Order::Copy(to, from) => raster.copy_raster(to, &images.source, from),
-        Order::Paint(op, ..) | Order::Comp(op, ..) | Order::Matte(op, ..) => op.visit(
-            &Composite { images, order },
-            raster,
-        ),
+        Order::Paint(op, ..)
+        | Order::Comp(op, ..)
+        | Order::Matte(op, ..)
+        | Order::Mask(op, ..)
+        | Order::Fade(op, ..) => op.visit(&Composite { images, order }, raster),
     }
 }
 
@@ -202,6 +256,13 @@ impl OpVisitor<Raster<Rgba8p>> for Composite<'_> {
             Order::Comp(_, to, from) => raster.composite_raster(to, &self.images.source, from, op),
             Order::Matte(_, to, from, clr) => {
                 raster.composite_matte(to, &self.images.mattes, from, clr, op);
+            }
+            Order::Mask(_, to, from, mask_from) => {
+                let (source, mattes) = (&self.images.source, &self.images.mattes);
+                raster.composite_raster_matte(to, source, from, mattes, mask_from, op);
+            }
+            Order::Fade(_, to, from, alpha) => {
+                raster.composite_raster_alpha(to, &self.images.source, from, alpha, op);
             }
             _ => {}
         }

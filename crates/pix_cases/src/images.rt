@@ -11,7 +11,12 @@ use std::alloc::Global;
 /// `4x3`, or `4x3 01020304`: a size, and the color of all pixels. The answer is the size and the
 /// pixels of the raster, or why no raster has that size.
 pub(crate) fn make(words: &[&str], alloc: Global) -> Result<String, Flaw> {
-    let made: Result<Raster<Rgba8p>, RasterFault> = match words {
+    made::<Rgba8p>(words, alloc)
+}
+
+/// The answer of [`make`] for a format.
+fn made<P: Pixel>(words: &[&str], alloc: Global) -> Result<String, Flaw> {
+    let made: Result<Raster<P>, RasterFault> = match words {
         [word] => {
             let (width, height) = size(word)?;
             Raster::with_clear(alloc, width, height)

@@ -1,10 +1,10 @@
 //! Palettes: entries, matches, thresholds, counts and copies, and images of indices.
 use crate::flaw::Flaw;
 use crate::images::{image, pixel, text};
-use pix::Palette;
+use pix::chan::Channel;
 use pix::el::Pixel;
-use pix::gray::Gray;
 use pix::rgb::SRgb8;
+use pix::{Palette, Raster};
 use std::alloc::Global;
 use std::mem;
 
@@ -43,11 +43,11 @@ pub(crate) fn palette(words: &[&str], alloc: Global) -> Result<String, Flaw> {
             ["clone"] => copy = palette.try_clone(alloc).map_err(|_| Flaw::Memory)?,
             ["swap"] => mem::swap(&mut palette, &mut copy),
             ["set", color] => {
-                let found = palette.set_entry(pixel(color, alloc)?);
+                let found = palette.set_entry(color_of(color, alloc)?);
                 add(&mut answer, index_or_none(found, alloc)?)?;
             }
             ["replace", i, color] => {
-                let old = palette.replace_entry(index(i)?, pixel(color, alloc)?);
+                let old = palette.replace_entry(index(i)?, color_of(color, alloc)?);
                 add(&mut answer, color_or_none(old, alloc)?)?;
             }
             _ => add(&mut answer, told(&palette, part, alloc)?)?,
@@ -63,6 +63,16 @@ fn add(answer: &mut String, word: String) -> Result<(), Flaw> {
     }
     answer.push_str(word.as_str())?;
     Ok(())
+}
+
+/// The color of a word.
+fn color_of(word: &str, alloc: Global) -> Result<SRgb8, Flaw> {
+    pixel(word, alloc)
+}
+
+/// Colors as a word.
+fn colors_text(colors: &[SRgb8], alloc: Global) -> Result<String, Flaw> {
+    text(colors, alloc)
 }
 
 /// The index of a word.
@@ -101,7 +111,7 @@ fn falling(size: usize) -> SRgb8 {
 fn told(palette: &Palette, words: &[&str], alloc: Global) -> Result<String, Flaw> {
     match words {
         ["entry", i] => color_or_none(palette.entry(index(i)?), alloc),
-        ["colors"] => text(palette.colors(), alloc),
+        ["colors"] => colors_text(palette.colors(), alloc),
         ["len"] => {
             let (len, is_empty) = (palette.len(), palette.is_empty());
             Ok(format!(in alloc; "{len}:{is_empty}")?)
@@ -123,7 +133,7 @@ fn index_or_none(index: Option<usize>, alloc: Global) -> Result<String, Flaw> {
 /// A color, or `none`.
 fn color_or_none(color: Option<SRgb8>, alloc: Global) -> Result<String, Flaw> {
     match color {
-        Some(color) => text(&[color], alloc),
+        Some(color) => colors_text(&[color], alloc),
         None => Ok(String::from_str(alloc, "none")?),
     }
 }
@@ -182,28 +192,27 @@ pub(crate) fn indexed(words: &[&str], alloc: Global) -> Result<String, Flaw> {
             .map_err(|_| Flaw::Memory)?
         {
             None => answer.push_str("none")?,
-            Some(image) => {
-                write!(answer, "{}x{}", image.width(), image.height())?;
-                for pixel in image.pixels() {
-                    write!(answer, " {}", u8::from(Gray::value(*pixel)))?;
-                }
-            }
+            Some(image) => write_values(&mut answer, &image)?,
         },
         "16" => match palette
             .make_indexed_wide(alloc, raster)
             .map_err(|_| Flaw::Memory)?
         {
             None => answer.push_str("none")?,
-            Some(image) => {
-                write!(answer, "{}x{}", image.width(), image.height())?;
-                for pixel in image.pixels() {
-                    write!(answer, " {}", u16::from(Gray::value(*pixel)))?;
-                }
-            }
+            Some(image) => write_values(&mut answer, &image)?,
         },
         _ => return Err(Flaw::Name),
     }
-    let colors = text(palette.colors(), alloc)?;
+    let colors = colors_text(palette.colors(), alloc)?;
     write!(answer, " / {colors}")?;
     Ok(answer)
+}
+
+/// Adds the size of an image, and the value of each of its pixels.
+fn write_values<P: Pixel>(answer: &mut String, image: &Raster<P>) -> Result<(), Flaw> {
+    write!(answer, "{}x{}", image.width(), image.height())?;
+    for pixel in image.pixels() {
+        write!(answer, " {}", pixel.get(0).to_u32())?;
+    }
+    Ok(())
 }

@@ -61,8 +61,11 @@ pub(crate) fn histogram(alloc: Global) -> bool {
 
 /// The second color, the first and a new one.
 fn pixels() -> [SRgb8; 3] {
-    let [first, second] = colors();
-    [second, first, SRgb8::new(9u8, 9u8, 9u8)]
+    [
+        SRgb8::new(200u8, 100u8, 50u8),
+        SRgb8::new(1u8, 2u8, 3u8),
+        SRgb8::new(9u8, 9u8, 9u8),
+    ]
 }
 
 /// A raster of these pixels.

@@ -4,7 +4,7 @@ use pix::cmy::Cmy16;
 use pix::gray::{Gray16, SGray8};
 use pix::hsv::Hsv16;
 use pix::hwb::SHwb8;
-use pix::ops::{Src, SrcOver};
+use pix::ops::Src;
 use pix::rgb::{Rgb8, Rgba8p, SRgb8};
 use pix::{Raster, Region};
 use std::test::Fail;
@@ -47,21 +47,6 @@ fn colors_copied_to_srgb_rasters(rt: HostRuntime) -> Result<(), Fail> {
     }
     let want = [0x23, 0, 0, 0, 0xBB, 0xBB, 0, 0xBB, 0xBB].map(|v: u8| SGray8::new(v));
     assert_eq!(rt; raster.pixels(), want.as_slice());
-    Ok(())
-}
-
-#[test]
-fn a_sprite_in_a_field(rt: HostRuntime) -> Result<(), Fail> {
-    let sprite = Rgba8p::new::<u8>(0x50, 0, 0x50, 0xC8);
-    let src = Raster::with_color(rt.alloc(), 5, 5, sprite)?;
-    let mut raster = Raster::<Rgba8p>::with_clear(rt.alloc(), 100, 100)?;
-    raster.composite_raster(Region::from((40, 40)), &src, Region::from(()), SrcOver);
-    let inside = |at: usize| -> bool { 40 <= at && at <= 44 };
-    for (place, pixel) in raster.pixels().iter().enumerate() {
-        let is_inside = inside(place % 100) && inside(place / 100);
-        let want = if is_inside { sprite } else { Rgba8p::default() };
-        assert_eq!(rt; *pixel, want, "{place}");
-    }
     Ok(())
 }
 

@@ -34,8 +34,6 @@ mod lanes;
 #[cfg(test)]
 mod lossless;
 #[cfg(test)]
-mod models;
-#[cfg(test)]
 mod operators;
 #[cfg(test)]
 mod palettes;
