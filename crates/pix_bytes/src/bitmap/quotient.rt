@@ -3,7 +3,7 @@ ghost use Rattle.std.specs.Prelude.{◌≡◌, ◌+◌, ◌*◌, ◌/◌, ◌<�
 ghost use Rattle.pix_chan.specs.Product.{channel_quotient};
 ghost use Rattle.pix_bytes.specs.declared.bitmap.quotient.TheConstants.{RECIPROCALS};
 
-use pix_chan::chan::{Alpha, Ch16, Premultiplied};
+use pix_chan::chan::{Alpha, Ch16, Channel, Premultiplied};
 
 /// 2^48 / 257 `b` rounded down, and one more, for each number `b` of eight bits but 0: then 0.
 ///
@@ -283,8 +283,11 @@ pub(crate) fn quotient(c: Ch16, alpha: Ch16) -> Ch16
     ensures { result.value ≡ channel_quotient 65535 c.value alpha.value }
 {
     let divisor = u16::from(alpha);
+    if divisor == 0 {
+        return Ch16::MIN;
+    }
     let byte = divisor % 256;
-    if byte == 0 || divisor / 256 != byte {
+    if divisor / 256 != byte {
         return Premultiplied::decode(c, alpha);
     }
     let ratio = (u64::from(u16::from(c)) * reciprocal(usize::from(byte))) >> 32;
