@@ -1,6 +1,6 @@
 -- The corner of a box at which one color is as near as it can be, beside another.
-use Rattle.std.specs.Prelude.{nat_lt, true, false, slice_index}
-use Rattle.std.proofs.Common.{◌≡◌, ℕ, ◌+◌, ◌-◌, ◌*◌, ◌<◌, ◌≤◌, List, arith, refl, sym, ap, subst, inl, inr}
+use Rattle.std.specs.Prelude.{slice_index}
+use Rattle.std.proofs.Common.{◌≡◌, ℕ, ◌+◌, ◌-◌, ◌*◌, ◌<◌, ◌≤◌, List, arith, sym, ap, subst, inl, inr}
 use Rattle.std.proofs.Math.Nat.{add-mul, mul-add, mul_comm}
 use Rattle.std.proofs.lemmas.Bool.{cases_lt, lt-ltb, le-ltb}
 use Rattle.pix_table.specs.Nearest.{squared_difference, distance}

@@ -1,12 +1,13 @@
 -- The entries of a box, one after the other, and the nearest of those that are listed.
-use Rattle.std.specs.Prelude.{slice_index, All}
-use Rattle.std.proofs.Common.{◌≡◌, ◌≢◌, ◌⊎◌, ℕ, ◌+◌, ◌<◌, ◌≤◌, Bool, true, false, ◌&&◌, eqb, List, [], length, map, get_or, set, refl, sym, ap, ◌∙◌, subst, arith, inl, inr}
+use Rattle.std.specs.Prelude.{All, min}
+use Rattle.std.proofs.Common.{◌≡◌, ◌≢◌, ◌⊎◌, ℕ, ◌+◌, ◌*◌, ◌%◌, ◌<◌, ◌≤◌, Bool, true, false, ◌&&◌, eqb, List, [], length, map, get_or, set, refl, sym, ap, ◌∙◌, subst, arith, inl, inr}
 use Rattle.std.proofs.lemmas.Bool.{cases_lt, eqb-true, true≢false}
 use Rattle.std.proofs.lemmas.List.{get_or-set_other, get_or-map, length-map}
 use Rattle.std.proofs.lemmas.List.Elements.{All-set, All-weaker}
 use Rattle.std.proofs.lemmas.Grind.{get_or-set_at}
+use Rattle.std.proofs.Math.Nat.{min-eq_left, min-eq_right}
 use Rattle.pix_table.specs.Nearest.{distance, distance_to, IsNearest, numbers}
-use Rattle.pix_table.specs.Boxes.{IsInside, IsListed, IsBeaten, AreListed, IsKnown}
+use Rattle.pix_table.specs.Boxes.{IsInside, IsListed, AreListed, IsKnown}
 use Rattle.pix_table.specs.declared.boxes.Known.{Known}
 use Rattle.pix_table.specs.declared.color.Color.{Color}
 
@@ -175,14 +176,6 @@ pub entry_distance : (entries : List Color) (color : List ℕ) (i : ℕ) (d : Co
     → distance (numbers (get_or entries i d)) color ≡ distance_to (map numbers entries) color i
 entry_distance entries color i d below = ap (λ p. distance p color) (sym (get_or-map numbers entries i d [] below))
 
--- how far an entry is that is listed
-pub listed_distance : (entries : List Color) (low color lists : List ℕ) (start count p at from apart : ℕ) (d : Color)
-    → AreListed (map numbers entries) low (λ p. get_or lists (start + p) 0) count → p < count → at ≡ get_or lists (start + p) 0 → from ≡ at
-    → apart ≡ distance (numbers (get_or entries from d)) color → apart ≡ distance_to (map numbers entries) color at
-listed_distance entries low color lists start count p at from apart d h b read same e =
-    let below : from < length entries = omega (arith, h.inside p b, length-map entries numbers) in
-    e ∙ entry_distance entries color from d below ∙ ap (distance_to (map numbers entries) color) same
-
 -- the least color of a box is in it
 pub inside_itself : (low : List ℕ) → IsInside low low
 inside_itself low = record { red = (omega arith, omega arith); green = (omega arith, omega arith); blue = (omega arith, omega arith) }
@@ -236,3 +229,63 @@ pub known_more : (entries : List (List ℕ)) (old new : List ℕ) (used more at 
 known_more entries old new used more at places known grows same h here =
     All-set (IsKnown entries new more) places at known here
     (All-weaker (IsKnown entries old used) (IsKnown entries new more) (λ k h. known_stays entries old new used more k grows same h) places h)
+
+-- the least key of the first i that are listed: how far the nearest of them is, 256 times, and its index
+pub record IsLeastKey (entries : List (List ℕ)) (color : List ℕ) (listed : ℕ → ℕ) (count i key : ℕ) : Type 0 where
+  pub at : ℕ
+  pub far : ℕ
+  pub small : at < 256
+  pub is : key ≡ far * 256 + at
+  pub nearest : IsNearestListed entries color listed count i at far
+
+pub key_at_first : (entries : List (List ℕ)) (color : List ℕ) (listed : ℕ → ℕ) (count at key : ℕ) → 0 < count → at ≡ listed 0 → at < 256
+    → key ≡ distance_to entries color at * 256 + at → IsLeastKey entries color listed count 0 key
+key_at_first entries color listed count at key some is small e = record {
+  at = at;
+  far = distance_to entries color at;
+  small = small;
+  is = e;
+  nearest = listed_at_first entries color listed count at (distance_to entries color at) some is refl;
+}
+
+-- the lesser of two keys is nearer
+nearer_key : (far at apart next : ℕ) → at ≤ next → apart * 256 + next < far * 256 + at → apart < far
+nearer_key far at apart next less h = omega (arith, less, h)
+
+farther_key : (far at apart next : ℕ) → next < 256 → far * 256 + at ≤ apart * 256 + next → far ≤ apart
+farther_key far at apart next small h = omega (arith, small, h)
+
+pub key_next : (entries : List (List ℕ)) (low color : List ℕ) (listed : ℕ → ℕ) (count i key next new : ℕ) → AreListed entries low listed count
+    → IsLeastKey entries color listed count i key → i < count → next ≡ listed i → next < 256
+    → new ≡ min key (distance_to entries color next * 256 + next) → IsLeastKey entries color listed count (i + 1) new
+key_next entries low color listed count i key next new all h inside is small e =
+    let apart : ℕ = distance_to entries color next in
+    let at_is : h.at ≡ listed h.nearest.place = h.nearest.is in
+    let rising : h.at ≤ next = elim (cases_lt h.nearest.place i) [
+      | inl b ↦ omega (arith, at_is, is, all.rising h.nearest.place i b inside)
+      | inr b ↦ let z : h.nearest.place ≡ i = (let s : h.nearest.place ≤ i = h.nearest.soon in omega arith) in omega (arith, at_is, is, ap listed z)
+    ] in
+    elim (cases_lt (apart * 256 + next) key) [
+      | inl b ↦
+          let closer : apart < h.far = nearer_key h.far h.at apart next rising (omega (arith, b, h.is)) in
+          record {
+            at = next;
+            far = apart;
+            small = small;
+            is = e ∙ min-eq_right {n = apart * 256 + next} {m = key} (omega (arith, b));
+            nearest = listed_changes entries color listed count i h.at h.far next apart h.nearest inside is refl closer;
+          }
+      | inr b ↦
+          let not_closer : h.far ≤ apart = farther_key h.far h.at apart next small (omega (arith, b, h.is)) in
+          record {
+            at = h.at;
+            far = h.far;
+            small = h.small;
+            is = e ∙ min-eq_left {n = key} {m = apart * 256 + next} (omega (arith, b)) ∙ h.is;
+            nearest = listed_stays entries color listed count i h.at h.far next apart h.nearest is refl not_closer;
+          }
+    ]
+
+-- the index of a key
+pub index_of_key : (far at : ℕ) → at < 256 → (far * 256 + at) % 256 ≡ at
+index_of_key far at small = omega (arith, small)

@@ -54,6 +54,6 @@ AreKnown entries boxes = All (IsKnown entries boxes.lists boxes.used) boxes.know
 
 -- how long the lists are
 pub record HasRoom (boxes : Boxes) : Type 0 where
-  pub places : length boxes.known ≡ 4096
-  pub lists : length boxes.lists ≡ 32768
-  pub used : boxes.used ≤ 32768
+  pub places : length boxes.known ≡ 8192
+  pub lists : length boxes.lists ≡ 65536
+  pub used : boxes.used ≤ 65536

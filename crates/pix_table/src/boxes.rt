@@ -3,18 +3,18 @@
 //! The colors are cut into boxes of eight reds, eight greens and eight blues. The entries of a box are listed when a color of it is asked for,
 //! and the list is stored near the place that the box gives. Where that is, and how many lists there is room for, decides only how often they are made:
 //! no answer depends on it.
-ghost use Rattle.std.specs.Prelude.{◌≡◌, ◌<◌, ◌≤◌, ◌+◌, ℕ, List, All, length, map, slice_index, true};
-ghost use Rattle.pix_table.specs.Nearest.{IsNearest, distance, numbers};
+ghost use Rattle.std.specs.Prelude.{◌≡◌, ◌<◌, ◌≤◌, ◌+◌, ◌*◌, ℕ, List, All, length, map, slice_index, true};
+ghost use Rattle.pix_table.specs.Nearest.{IsNearest, distance, distance_to, numbers};
 ghost use Rattle.pix_table.specs.Boxes.{IsInside, IsLow, AreListed, AreKnown, HasRoom, end};
 
 use crate::color::Color;
 use crate::search::{distance, search};
 
 /// The number of places for boxes.
-const PLACES: usize = 4096;
+const PLACES: usize = 8192;
 
 /// The room for lists, one byte for an index.
-const ROOM: usize = 32768;
+const ROOM: usize = 65536;
 
 /// How many boxes are listed as soon as a color of them is asked for.
 const EARLY: u16 = 8192;
@@ -76,7 +76,7 @@ fn low_of(clr: Color) -> Color
 
 /// Returns the place of a box. Boxes that are near to each other have places of their own.
 fn place_of(low: Color) -> usize
-    ensures { result < 4096 }
+    ensures { result < 8192 }
 {
     (usize::from(low.red) / 8 + usize::from(low.green) / 8 * 20 + usize::from(low.blue) / 8 * 400)
         % PLACES
@@ -142,17 +142,19 @@ fn nearest_listed(
     requires inside { IsInside (numbers low) (numbers clr) }
     ensures { IsNearest (map numbers entries.now) (numbers clr) result }
 {
-    let mut at = lists[start];
-    let mut least = distance(entries[usize::from(at)], clr);
+    let mut least = key(entries, lists[start], clr);
     for p in 0..count {
-        let next = lists[start + p];
-        let apart = distance(entries[usize::from(next)], clr);
-        if apart < least {
-            at = next;
-            least = apart;
-        }
+        least = least.min(key(entries, lists[start + p], clr));
     }
-    at
+    (least % 256) as u8
+}
+
+/// Returns how far an entry is from a color, 256 times, and its index: of keys the least is that of the nearest entry.
+fn key(entries: &[Color], index: u8, clr: Color) -> u64
+    requires { index < length entries.now }
+    ensures { result ≡ distance_to (map numbers entries.now) (numbers clr) index * 256 + index }
+{
+    u64::from(distance(entries[usize::from(index)], clr)) * 256 + u64::from(index)
 }
 
 /// Makes room for one list more: where there is none, all are given up.
@@ -162,7 +164,7 @@ fn make_room(boxes: &mut Boxes, entries: &[Color])
     requires known { AreKnown (map numbers entries.now) boxes.old }
     ensures room { HasRoom boxes.new }
     ensures known { AreKnown (map numbers entries.now) boxes.new }
-    ensures free { boxes.new.used + length entries.now ≤ 32768 }
+    ensures free { boxes.new.used + length entries.now ≤ 65536 }
 {
     if ROOM - boxes.used < entries.len() {
         *boxes = Boxes::new();

@@ -1,7 +1,7 @@
 -- Of `is_nearer`: that what is nearer to the corner is nearer to each color of the box.
-use Rattle.std.proofs.Common.{◌≡◌, ◌<◌, ◌∙◌, sym}
+use Rattle.std.proofs.Common.{◌<◌}
 use Rattle.std.proofs.lemmas.Bool.{ltb-true}
-use Rattle.pix_table.specs.Nearest.{distance, numbers}
+use Rattle.pix_table.specs.Nearest.{numbers}
 use Rattle.pix_table.specs.declared.color.Color.{Color}
 use Rattle.pix_table.proofs.Corners.{nearer_inside}
 use Rattle.pix_table.proofs.boxes.is_nearer.Goals as goal

@@ -4,4 +4,4 @@ use Rattle.std.proofs.lemmas.List.Elements.{All-replicate}
 use Rattle.pix_table.proofs.boxes.Boxes.new.Goals as goal
 
 pub returns-clause-empty : goal.returns-clause-empty
-returns-clause-empty c = All-replicate (λ known. known.count ≡ 0) 4096 _ refl
+returns-clause-empty c = All-replicate (λ known. known.count ≡ 0) 8192 _ refl

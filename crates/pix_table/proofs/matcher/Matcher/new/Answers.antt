@@ -1,5 +1,5 @@
 -- Of `Matcher::new`: that the invariant of its loop over `i` holds after each turn, and that of the struct at its end.
-use Rattle.std.proofs.Common.{refl, ◌∙◌, length-set, arith}
+use Rattle.std.proofs.Common.{◌∙◌, length-set, arith}
 use Rattle.pix_table.proofs.Listed.{empty_known}
 use Rattle.pix_table.proofs.Writes.{copy_more}
 use Rattle.pix_table.proofs.matcher.Matcher.new.Goals as goal
