@@ -1,9 +1,9 @@
 //! Composites of pixels by runs of sixteen or thirty-two channels.
 //!
-//! Each way to go is a `Block`. Pixels of four channels without a hue go eight at a time and then four, interleaved, as they lie, and so do
-//! a color through mattes and pixels through mattes (`masked.rt`). Pixels of four channels with a hue at the first go by planes, arrays of
-//! sixteen channels of one number, and so do pixels of two channels without a hue. A pixel of one channel is its own alpha, so that mattes
-//! go as they lie.
+//! Each way to go is a `Block`. Pixels of four channels without a hue go eight at a time and then four, interleaved, as they lie. Pixels of
+//! four channels with a hue at the first go by planes, arrays of sixteen channels of one number, and so do pixels of two channels without a
+//! hue and a color through sixteen mattes. A pixel of one channel is its own alpha, so that mattes go as they lie. Pixels through mattes go
+//! four at a time (`masked.rt`).
 //!
 //! Nothing of this is in a contract above, so another way to cut a slice into blocks changes this file and its folder alone.
 ghost use Rattle.std.specs.Prelude.{◌≡◌, ◌≤◌, ◌+◌, ◌-◌, length, map, take, true, replicate};
@@ -190,7 +190,7 @@ fn coverage_runs<O: Blend, P: Pixel, S: Coverage<P::Chan>>(
         (take result (map S.value src.now)) (map P.numbers dst.old) }
 {
     if is_interleaved::<P>() {
-        let start = matte_blocks::<O, P, S, Eight>(dst, src, clr, count);
+        let start = matte_blocks::<O, P, S, Four>(dst, src, clr, count);
         let (rest, mattes) = (&mut dst[start..], &src[start..]);
         start + matte_blocks::<O, P, S, Interleaved>(rest, mattes, clr, count - start)
     } else if has_four::<P>() {
