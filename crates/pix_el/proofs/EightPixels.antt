@@ -14,7 +14,7 @@ pub color_eight_times : {C : Type 0} (number : C → ℕ) (a b c d : C) (color :
 color_eight_times number a b c d color e = rw (← e) refl
 
 -- eight pixels, each multiplied by a matte
-eight_matted : (max a b c d e f g h : ℕ) (cs : List ℕ) → length cs ≡ 32
+pub eight_matted : (max a b c d e f g h : ℕ) (cs : List ℕ) → length cs ≡ 32
     → by_fours (over (λ y x. channel_product max x y) (a ∷ a ∷ a ∷ a ∷ b ∷ b ∷ b ∷ b ∷ c ∷ c ∷ c ∷ c ∷ d ∷ d ∷ d ∷ d ∷ e ∷ e ∷ e ∷ e ∷ f ∷ f ∷ f ∷ f ∷ g ∷ g ∷ g ∷ g ∷ h ∷ h ∷ h ∷ h ∷ []) cs)
     ≡ over (matted_color (four_of max 0)) (a ∷ b ∷ c ∷ d ∷ e ∷ f ∷ g ∷ h ∷ []) (by_fours cs)
 eight_matted max a b c d e f g h cs l = rw (← (is_thirty_two cs l).1) refl

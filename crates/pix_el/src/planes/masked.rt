@@ -7,7 +7,7 @@ ghost use Rattle.pix_el.specs.PixelComposite.{matted_composite, matte_numbers, m
 use crate::el::{Pix, Pixel};
 use crate::matte::Matte;
 use crate::planes::coverage::Coverage;
-use crate::planes::eight::{composite_eight, covered, eight_pixels};
+use crate::planes::eight::{composite_eight, eight_pixels};
 use crate::planes::interleaved::{composite_four, four_pixels};
 use crate::planes::is_interleaved;
 use pix_chan::chan::{Alpha, Channel, Linear};
@@ -76,7 +76,8 @@ fn composite_eight_faded<O: Blend, P: Pixel>(dst: &mut [P], src: &[P], alpha: P:
     ensures { map P.numbers dst.new ≡ over (matted_composite P.layout O.op (P.Chan.number alpha))
         (map P.numbers src.now) (map P.numbers dst.old) }
 {
-    let colors = covered::<P, 3>(eight_pixels(src), &[alpha; 8]);
+    let mut colors = eight_pixels(src);
+    P::Chan::mul_run(&mut colors, &[alpha; 32]);
     composite_eight::<O, P, 3>(dst, colors);
 }
 
