@@ -11,14 +11,10 @@ fn gray(value: u8) -> SRgb8 {
 }
 
 /// A raster of one row of gray colors.
-fn grays(alloc: Global, values: &[u8]) -> Result<Raster<SRgb8>, RasterFault> {
-    let mut raster = Raster::with_clear(alloc, values.len() as u32, 1)?;
-    let mut at = 0;
-    for pixel in raster.pixels_mut().iter_mut() {
-        if let Some(value) = values.get(at) {
-            *pixel = gray(*value);
-        }
-        at += 1;
+fn grays(alloc: Global, width: u32, values: &[u8]) -> Result<Raster<SRgb8>, RasterFault> {
+    let mut raster = Raster::with_clear(alloc, width, 1)?;
+    for (pixel, value) in raster.pixels_mut().iter_mut().zip(values) {
+        *pixel = gray(*value);
     }
     Ok(raster)
 }
@@ -26,7 +22,7 @@ fn grays(alloc: Global, values: &[u8]) -> Result<Raster<SRgb8>, RasterFault> {
 #[test]
 fn near_colors_while_a_table_grows(rt: HostRuntime) -> Result<(), Fail> {
     let mut table = ColorTable::new(rt.alloc(), 3, gray(3))?;
-    let picture = grays(rt.alloc(), &[10, 13, 200, 13, 14, 13, 14, 201])?;
+    let picture = grays(rt.alloc(), 8, &[10, 13, 200, 13, 14, 13, 14, 201])?;
     // 13 is within 3 of 10 until 14 is added, which is closer.
     let Some(indices) = table.index(rt.alloc(), &picture)? else {
         return Err(Fail::from(RasterFault::Memory));
@@ -35,7 +31,7 @@ fn near_colors_while_a_table_grows(rt: HostRuntime) -> Result<(), Fail> {
         assert_eq!(rt; *pixel, Gray8::new(index));
     }
     assert_eq!(rt; table.len(), 3);
-    let more = grays(rt.alloc(), &[10, 100])?;
+    let more = grays(rt.alloc(), 2, &[10, 100])?;
     assert!(rt; table.index(rt.alloc(), &more)?.is_none());
     assert_eq!(rt; table.len(), 3);
     Ok(())
@@ -44,7 +40,7 @@ fn near_colors_while_a_table_grows(rt: HostRuntime) -> Result<(), Fail> {
 #[test]
 fn nearest_entries_and_back(rt: HostRuntime) -> Result<(), Fail> {
     let mut table = ColorTable::new(rt.alloc(), 300, gray(0))?;
-    let picture = grays(rt.alloc(), &[10, 20, 30, 15, 26])?;
+    let picture = grays(rt.alloc(), 5, &[10, 20, 30, 15, 26])?;
     assert!(rt; table.nearest(gray(1)).is_none());
     assert!(rt; table.map_indexed(rt.alloc(), &picture)?.is_none());
     for value in [10_u8, 20, 30] {
