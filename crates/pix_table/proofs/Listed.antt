@@ -2,7 +2,7 @@
 use Rattle.std.specs.Prelude.{All, min}
 use Rattle.std.proofs.Common.{◌≡◌, ◌≢◌, ◌⊎◌, ℕ, ◌+◌, ◌*◌, ◌%◌, ◌<◌, ◌≤◌, Bool, true, false, ◌&&◌, eqb, List, [], length, map, get_or, set, refl, sym, ap, ◌∙◌, subst, arith, inl, inr}
 use Rattle.std.proofs.lemmas.Bool.{cases_lt, eqb-true, true≢false}
-use Rattle.std.proofs.lemmas.List.{get_or-set_other, get_or-map, length-map}
+use Rattle.std.proofs.lemmas.List.{get_or-set_other, get_or-map}
 use Rattle.std.proofs.lemmas.List.Elements.{All-set, All-weaker}
 use Rattle.std.proofs.lemmas.Grind.{get_or-set_at}
 use Rattle.std.proofs.Math.Nat.{min-eq_left, min-eq_right}

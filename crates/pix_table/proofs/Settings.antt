@@ -9,15 +9,9 @@ use Rattle.pix_table.specs.PaletteMatch.{color_difference, difference_to, is_wit
 use Rattle.pix_table.specs.Setting.{Fits, StandsFor, IsSet, set_answer, set_colors}
 use Rattle.pix_table.proofs.PaletteMatches.{match_minimal, match_of_standing, zero_least, IsBest, best_first, best_closer, best_stays, best_match}
 
--- every threshold that is answered has a difference of 0 within it
-abbrev pub AreThresholds : (ℕ → List ℕ → Type 0) → Type 0
-AreThresholds answers = (count : ℕ) (threshold : List ℕ) → answers count threshold → is_within (0 ∷ 0 ∷ 0 ∷ []) threshold ≡ true
-
+-- a difference of 0 is within any threshold
 pub zero_within : (t : List ℕ) → is_within (0 ∷ 0 ∷ 0 ∷ []) t ≡ true
 zero_within t = grind (arith, nat_tests)
-
-pub all_thresholds : (answers : ℕ → List ℕ → Type 0) → AreThresholds answers
-all_thresholds answers count threshold h = zero_within threshold
 
 -- a match that is the color itself fits
 pub zero_fits : (answers : ℕ → List ℕ → Type 0) (count : ℕ) (difference : List ℕ) → difference ≡ 0 ∷ 0 ∷ 0 ∷ [] → Fits answers count difference false
