@@ -14,7 +14,6 @@ ghost use Rattle.pix_chan.specs.Runs.{over};
 ghost use Rattle.pix_chan.specs.Planes.{in_turn, both_in_turn, last_of_four};
 
 use crate::private::Sealed;
-use std::fmt::Debug;
 use std::ops::{Add, Div, Mul, Sub};
 
 mod bits16;
@@ -43,7 +42,6 @@ pub use modes::{Alpha, Gamma, Linear, Premultiplied, Srgb, Straight};
 /// ```
 pub trait Channel: Sealed
     + Copy
-    + Debug
     + Default
     + Ord
     + Add<Output = Self>

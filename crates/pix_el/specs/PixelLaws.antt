@@ -1,7 +1,6 @@
 -- Proofs of the laws of `Pixel`, which an impl takes from `specs/` alone. No public clause cites this file.
-use Rattle.std.specs.Prelude.{◌≡◌, ℕ, zero, suc, Bool, true, ◌&&◌, nat_eq, List, [], ◌∷◌, map, replicate, refl}
+use Rattle.std.specs.Prelude.{◌≡◌, ℕ, zero, suc, Bool, nat_eq, List, [], ◌∷◌, map, replicate, refl}
 use Rattle.std.specs.Cmp.Lexicographic.{pointwise}
-use Rattle.std.proofs.Math.Bool.{and-true}
 use Rattle.std.proofs.Common.{ap, ◌∙◌, arith, length}
 
 pub map_replicate : {X Y : Type 0} (f : X → Y) (x : X) (y : Y) (n : ℕ) → f x ≡ y → map f (replicate n x) ≡ replicate n y
@@ -14,17 +13,12 @@ pub numbers_of_replicate : {C : Type 0} (number : C → ℕ) (none : C) (n : ℕ
 numbers_of_replicate number none n channels is zero_is = ap (map number) is ∙ map_replicate number none 0 n zero_is
 
 -- lists of channels are equal where their numbers are
-equal_lists : {C : Type 0} (eq : C → C → Bool) (number : C → ℕ) → ((x y : C) → eq x y ≡ nat_eq (number x) (number y))
+pub equal_lists : {C : Type 0} (eq : C → C → Bool) (number : C → ℕ) → ((x y : C) → eq x y ≡ nat_eq (number x) (number y))
     → (a b : List C) → pointwise eq a b ≡ pointwise nat_eq (map number a) (map number b)
 equal_lists eq number same [] [] = refl
 equal_lists eq number same [] (y ∷ b) = refl
 equal_lists eq number same (x ∷ a) [] = refl
 equal_lists eq number same (x ∷ a) (y ∷ b) = rw (same x y, equal_lists eq number same a b) refl
-
--- pixels are equal where their numbers are: the markers of a format, which `==` compares too, always are
-pub equal_numbers : {C : Type 0} (eq : C → C → Bool) (number : C → ℕ) → ((x y : C) → eq x y ≡ nat_eq (number x) (number y))
-    → (a b : List C) → (pointwise eq a b && true) ≡ pointwise nat_eq (map number a) (map number b)
-equal_numbers eq number same a b = and-true (pointwise eq a b) ∙ equal_lists eq number same a b
 
 abbrev head_or_zero : List ℕ → ℕ
 head_or_zero [] = 0

@@ -7,11 +7,10 @@ ghost use Rattle.pix_el.specs.Color.{rgba_of, of_rgba};
 
 use crate::el::{Pix, PixRgba, Pixel};
 use crate::seal::SealedModel;
-use std::fmt::Debug;
 use std::ops::Range;
 
 /// A color model: which channels a pixel has, and what they mean. This trait is sealed.
-pub trait ColorModel: SealedModel + Clone + Copy + Debug + Default + PartialEq {
+pub trait ColorModel: SealedModel {
     /// The model as a row of the table of models.
     ghost model: { Model };
 

@@ -6,7 +6,6 @@ ghost use Rattle.pix_chan.specs.Modes as modes;
 
 use crate::chan::{Ch8, Channel};
 use crate::private::Sealed;
-use std::fmt::Debug;
 
 /// An alpha mode: whether color channels are stored multiplied by the alpha. This trait is sealed.
 ///
@@ -19,7 +18,7 @@ use std::fmt::Debug;
 /// let stored = Premultiplied::encode(same, light); // 64
 /// let straight = Premultiplied::decode(stored, light); // 128
 /// ```
-pub trait Alpha: Sealed + Clone + Copy + Debug + Default + PartialEq {
+pub trait Alpha: Sealed {
     /// The mode as a row of the table of alpha modes.
     ghost mode: { AlphaMode };
 
@@ -52,7 +51,7 @@ pub trait Alpha: Sealed + Clone + Copy + Debug + Default + PartialEq {
 /// let stored = Premultiplied::encode(same, light); // 64
 /// let straight = Premultiplied::decode(stored, light); // 128
 /// ```
-pub trait Gamma<C: Channel>: Sealed + Clone + Copy + Debug + Default + PartialEq {
+pub trait Gamma<C: Channel>: Sealed {
     /// The mode as a row of the table of gamma modes.
     ghost mode: { GammaMode };
 

@@ -1,7 +1,7 @@
 //! A [`Pix`], which is an array of channels, as a [`Pixel`].
 ghost use Rattle.std.specs.Prelude.{map, refl};
 ghost use Rattle.std.proofs.Common.{ap};
-ghost use Rattle.pix_el.specs.PixelLaws.{numbers_of_replicate, equal_numbers, equal_by_numbers};
+ghost use Rattle.pix_el.specs.PixelLaws.{numbers_of_replicate, equal_lists, equal_by_numbers};
 
 use crate::el::{Pix, Pixel};
 use crate::model::ColorModel;
@@ -86,7 +86,7 @@ where
 
     ghost clones_always = { λ p. tt };
 
-    ghost equals = { λ p q. equal_numbers C.eq C.number C.equals p.channels q.channels };
+    ghost equals = { λ p q. equal_lists C.eq C.number C.equals p.channels q.channels };
 
     ghost injective = { λ p q e. ap (λ w. record p { channels = w })
         (equal_by_numbers C.number C.numbered.injective p.channels q.channels e) };

@@ -1,5 +1,7 @@
 //! Pixels made of their channels, and copies of them.
 ghost use Rattle.std.specs.Prelude.{◌≡◌, List, [], ◌∷◌, replicate, ⊤};
+ghost use Rattle.std.specs.Cmp.{on_per, on_equiv};
+ghost use Rattle.std.specs.Cmp.Lexicographic.{pointwise, lists_per, lists_equiv};
 
 use crate::el::Pix;
 use crate::model::ColorModel;
@@ -38,7 +40,7 @@ where
     G: Gamma<C>,
 {}
 
-impl<const N: usize, C: Copy, M: Copy, A: Copy, G: Copy> Clone for Pix<N, C, M, A, G> {
+impl<const N: usize, C: Copy, M, A, G> Clone for Pix<N, C, M, A, G> {
     ghost is_clone = { λ x y. y ≡ x };
 
     ghost is_infallible = { λ _. ⊤ };
@@ -46,6 +48,20 @@ impl<const N: usize, C: Copy, M: Copy, A: Copy, G: Copy> Clone for Pix<N, C, M, 
     fn clone(&self) -> Result<Self, AllocError> {
         Ok(*self)
     }
+}
+
+impl<const N: usize, C: PartialEq, M, A, G> PartialEq for Pix<N, C, M, A, G> {
+    ghost eq = { λ p q. pointwise C.eq p.channels q.channels };
+
+    ghost laws = { on_per (λ p. p.channels) (lists_per C.laws) };
+
+    fn eq(&self, other: &Self) -> bool {
+        self.channels == other.channels
+    }
+}
+
+impl<const N: usize, C: Eq, M, A, G> Eq for Pix<N, C, M, A, G> {
+    ghost laws = { on_equiv (λ p. p.channels) (lists_equiv C.Eq.laws) };
 }
 
 impl<const N: usize, C: Channel, M, A, G> Default for Pix<N, C, M, A, G> {
