@@ -8,6 +8,7 @@ pub mod Channel
 pub mod SrgbCurve
 pub mod Srgb
 pub mod Srgb16
+mod Seal
 pub mod Modes
 pub mod Runs
 pub mod Planes

@@ -11,9 +11,9 @@ ghost use Rattle.pix_chan.specs.Depth.{to_16_bit, from_16_bit};
 ghost use Rattle.pix_chan.specs.Laws.{ChannelLaws};
 ghost use Rattle.pix_chan.specs.Channel.{IsNumbered, IsTotal, Answers};
 ghost use Rattle.pix_chan.specs.Runs.{over};
+ghost use Rattle.pix_chan.specs.Seal.{Seal};
 ghost use Rattle.pix_chan.specs.Planes.{in_turn, both_in_turn, last_of_four};
 
-use crate::private::Sealed;
 use std::ops::{Add, Div, Mul, Sub};
 
 mod bits16;
@@ -40,8 +40,7 @@ pub use modes::{Alpha, Gamma, Linear, Premultiplied, Srgb, Straight};
 /// let whole = half + half; // 255: a sum stops at the maximum
 /// let none = half - whole; // 0: a difference stops at 0
 /// ```
-pub trait Channel: Sealed
-    + Copy
+pub trait Channel: Copy
     + Default
     + Ord
     + Add<Output = Self>
@@ -298,4 +297,7 @@ pub trait Channel: Sealed
     ///
     /// The record is closed, and `known_laws` opens it for a proof.
     ghost laws: { ChannelLaws max };
+
+    /// What seals the trait.
+    ghost sealed: { Seal };
 }

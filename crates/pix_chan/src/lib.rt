@@ -2,6 +2,5 @@
 #![tactic(auto)]
 
 pub mod chan;
-mod private;
 #[doc(hidden)]
 pub mod reciprocals;

@@ -5,11 +5,11 @@ ghost use Rattle.std.specs.Borrow.{sem};
 ghost use Rattle.pix_el.specs.Pixel.{channel, LendsChannel};
 ghost use Rattle.pix_el.specs.Model as models;
 ghost use Rattle.pix_color.specs.Bgr.{reversed};
+ghost use Rattle.pix_el.specs.ModelSeal.{model_seal};
 
 use pix_el::chan::{Ch8, Ch16, Linear, Premultiplied, Srgb, Straight};
 use pix_el::el::{Pix, Pixel};
 use pix_el::model::ColorModel;
-use pix_el::seal::SealedModel;
 use std::ops::Range;
 
 /// The model of blue, green and red.
@@ -23,8 +23,6 @@ use std::ops::Range;
 /// ```
 #[derive(Clone, Copy, Debug, Default, PartialEq, Eq)]
 pub struct Bgr {}
-
-impl SealedModel for Bgr {}
 
 impl Bgr {
     /// Returns the blue channel, or the maximum where the format has none.
@@ -131,6 +129,8 @@ impl ColorModel for Bgr {
     ghost stands = { refl };
 
     ghost few = { lit≤ tt };
+
+    ghost sealed = { model_seal };
 }
 
 /// Blue, green and red of eight bits each, linear.

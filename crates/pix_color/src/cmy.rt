@@ -5,12 +5,12 @@ ghost use Rattle.std.specs.Borrow.{sem};
 ghost use Rattle.pix_el.specs.Pixel.{channel, LendsChannel};
 ghost use Rattle.pix_el.specs.Model as models;
 ghost use Rattle.pix_color.specs.Cmy.{complements};
+ghost use Rattle.pix_el.specs.ModelSeal.{model_seal};
 
 use crate::numbers::complement;
 use pix_el::chan::{Ch8, Ch16, Linear, Premultiplied, Srgb, Straight};
 use pix_el::el::{Pix, Pixel};
 use pix_el::model::ColorModel;
-use pix_el::seal::SealedModel;
 use std::ops::Range;
 
 /// The model of cyan, magenta and yellow.
@@ -24,8 +24,6 @@ use std::ops::Range;
 /// ```
 #[derive(Clone, Copy, Debug, Default, PartialEq, Eq)]
 pub struct Cmy {}
-
-impl SealedModel for Cmy {}
 
 impl Cmy {
     /// Returns the cyan channel, or the maximum where the format has none.
@@ -135,6 +133,8 @@ impl ColorModel for Cmy {
     ghost stands = { refl };
 
     ghost few = { lit≤ tt };
+
+    ghost sealed = { model_seal };
 }
 
 /// Cyan, magenta and yellow of eight bits each, linear.

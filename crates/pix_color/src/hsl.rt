@@ -5,6 +5,7 @@ ghost use Rattle.std.specs.Borrow.{sem};
 ghost use Rattle.pix_el.specs.Pixel.{channel, LendsChannel};
 ghost use Rattle.pix_el.specs.Model as models;
 ghost use Rattle.pix_color.specs.Hsl.{greatest_chroma, rgb_of_hsl, hsl_of_rgb};
+ghost use Rattle.pix_el.specs.ModelSeal.{model_seal};
 
 use crate::hue::{lifted_rgb, rgb_to_hue_chroma_value};
 use crate::numbers::{
@@ -13,7 +14,6 @@ use crate::numbers::{
 use pix_el::chan::{Ch8, Ch16, Channel, Linear, Premultiplied, Srgb, Straight};
 use pix_el::el::{Pix, Pixel};
 use pix_el::model::ColorModel;
-use pix_el::seal::SealedModel;
 use std::ops::Range;
 
 /// The model of hue, saturation and lightness, from G. H. Joblove and D. Greenberg, *Color Spaces for Computer Graphics*, SIGGRAPH 1978.
@@ -29,8 +29,6 @@ use std::ops::Range;
 /// ```
 #[derive(Clone, Copy, Debug, Default, PartialEq, Eq)]
 pub struct Hsl {}
-
-impl SealedModel for Hsl {}
 
 impl Hsl {
     /// Returns the hue, or the maximum where the format has none.
@@ -152,6 +150,8 @@ impl ColorModel for Hsl {
     ghost stands = { refl };
 
     ghost few = { lit≤ tt };
+
+    ghost sealed = { model_seal };
 }
 
 /// Hue, saturation and lightness of eight bits each, linear.

@@ -5,13 +5,13 @@ ghost use Rattle.std.specs.Borrow.{sem};
 ghost use Rattle.pix_el.specs.Pixel.{channel, LendsChannel};
 ghost use Rattle.pix_el.specs.Model as models;
 ghost use Rattle.pix_color.specs.Hsv.{rgb_of_hsv, hsv_of_rgb};
+ghost use Rattle.pix_el.specs.ModelSeal.{model_seal};
 
 use crate::hue::{lifted_rgb, rgb_to_hue_chroma_value};
 use crate::numbers::{difference, product, quotient};
 use pix_el::chan::{Ch8, Ch16, Linear, Premultiplied, Srgb, Straight};
 use pix_el::el::{Pix, Pixel};
 use pix_el::model::ColorModel;
-use pix_el::seal::SealedModel;
 use std::ops::Range;
 
 /// The model of hue, saturation and value: the hexcone of A. R. Smith, *Color Gamut Transform Pairs*, SIGGRAPH 1978.
@@ -27,8 +27,6 @@ use std::ops::Range;
 /// ```
 #[derive(Clone, Copy, Debug, Default, PartialEq, Eq)]
 pub struct Hsv {}
-
-impl SealedModel for Hsv {}
 
 impl Hsv {
     /// Returns the hue, or the maximum where the format has none.
@@ -139,6 +137,8 @@ impl ColorModel for Hsv {
     ghost stands = { refl };
 
     ghost few = { lit≤ tt };
+
+    ghost sealed = { model_seal };
 }
 
 /// Hue, saturation and value of eight bits each, linear.

@@ -5,13 +5,13 @@ ghost use Rattle.std.specs.Borrow.{sem};
 ghost use Rattle.pix_el.specs.Pixel.{channel, LendsChannel};
 ghost use Rattle.pix_el.specs.Model as models;
 ghost use Rattle.pix_color.specs.Hwb.{share, fitted, rgb_of_hwb, hwb_of_rgb};
+ghost use Rattle.pix_el.specs.ModelSeal.{model_seal};
 
 use crate::hue::{lifted_rgb, rgb_to_hue_chroma_value};
 use crate::numbers::{complement, difference, max, nearest, number, product, quotient};
 use pix_el::chan::{Ch8, Ch16, Channel, Linear, Premultiplied, Srgb, Straight};
 use pix_el::el::{Pix, Pixel};
 use pix_el::model::ColorModel;
-use pix_el::seal::SealedModel;
 use std::ops::Range;
 
 /// The model of hue, whiteness and blackness, from A. R. Smith and E. R. Lyons, *HWB: A More Intuitive Hue-Based Color Model*, Journal of Graphics
@@ -29,8 +29,6 @@ use std::ops::Range;
 /// ```
 #[derive(Clone, Copy, Debug, Default, PartialEq, Eq)]
 pub struct Hwb {}
-
-impl SealedModel for Hwb {}
 
 impl Hwb {
     /// Returns the hue, or the maximum where the format has none.
@@ -169,6 +167,8 @@ impl ColorModel for Hwb {
     ghost stands = { refl };
 
     ghost few = { lit≤ tt };
+
+    ghost sealed = { model_seal };
 }
 
 /// Hue, whiteness and blackness of eight bits each, linear.

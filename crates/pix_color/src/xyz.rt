@@ -5,12 +5,12 @@ ghost use Rattle.std.specs.Borrow.{sem};
 ghost use Rattle.pix_el.specs.Pixel.{channel, LendsChannel};
 ghost use Rattle.pix_el.specs.Model as models;
 ghost use Rattle.pix_color.specs.Xyz.{rgb_of_xyz, xyz_of_rgb};
+ghost use Rattle.pix_el.specs.ModelSeal.{model_seal};
 
 use crate::linear::weighted_sum;
 use pix_el::chan::{Ch8, Ch16, Linear, Premultiplied, Straight};
 use pix_el::el::{Pix, Pixel};
 use pix_el::model::ColorModel;
-use pix_el::seal::SealedModel;
 use std::ops::Range;
 
 /// The model of the tristimulus values of CIE 1931.
@@ -27,8 +27,6 @@ use std::ops::Range;
 /// ```
 #[derive(Clone, Copy, Debug, Default, PartialEq, Eq)]
 pub struct Xyz {}
-
-impl SealedModel for Xyz {}
 
 impl Xyz {
     /// Returns the x channel, or the maximum where the format has none.
@@ -142,6 +140,8 @@ impl ColorModel for Xyz {
     ghost stands = { refl };
 
     ghost few = { lit≤ tt };
+
+    ghost sealed = { model_seal };
 }
 
 /// The tristimulus values of eight bits each, linear.

@@ -10,6 +10,8 @@ pub use Rattle.pix_ops.specs.Operators
 pub use Rattle.pix_ops.specs.Composite
 pub use Rattle.pix_ops.specs.ExactComposite
 pub use Rattle.pix_ops.specs.Hue
+mod Seal
+pub mod ModelSeal
 pub mod Model
 pub mod Pixel
 pub mod Color

@@ -6,6 +6,7 @@ ghost use Rattle.std.specs.Borrow.{Lends, sem, Array};
 ghost use Rattle.pix_ops.specs.declared.ops.Op.{Op};
 ghost use Rattle.pix_ops.specs.Operators.{sum_fits};
 ghost use Rattle.pix_el.specs.Pixel.{Layout, channel};
+ghost use Rattle.pix_el.specs.Seal.{Seal};
 ghost use Rattle.pix_chan.specs.Runs.{over};
 ghost use Rattle.pix_el.specs.PixelComposite.{pixel_composite, matted_color, matted_composite, matte_numbers, matte_value};
 ghost use Rattle.pix_el.specs.ExactPixel.{IsNearExact, IsNearExactMatted, HuesMove};
@@ -20,7 +21,6 @@ use crate::matte::Matte;
 use crate::model::ColorModel;
 use crate::planes::masked::{faded_runs, masked_runs};
 use crate::planes::{color_runs, composite_runs, matte_runs};
-use crate::private::Sealed;
 use crate::rgb::Rgb;
 use pix_chan::chan::{Alpha, Channel, Gamma, Linear, Premultiplied};
 use pix_ops::ops::Blend;
@@ -54,7 +54,7 @@ impl<const N: usize, C: Copy, M, A, G> Copy for Pix<N, C, M, A, G> {}
 /// let alpha = color.alpha(); // 40
 /// let absent = Rgb8::new(10, 20, 30).alpha(); // 255, since the format has none
 /// ```
-pub trait Pixel: Sealed + Copy + Default + PartialEq {
+pub trait Pixel: Copy + Default + PartialEq {
     /// The type of its channels.
     type Chan: Channel;
 
@@ -496,4 +496,7 @@ pub trait Pixel: Sealed + Copy + Default + PartialEq {
     /// All channels of the default pixel are 0.
     ghost default_is_clear: { (p : Self) → Self.is_default p
         → numbers p ≡ replicate layout.count 0 };
+
+    /// What seals the trait.
+    ghost sealed: { Seal };
 }

@@ -12,6 +12,4 @@ pub mod light;
 pub mod matte;
 pub mod model;
 mod planes;
-mod private;
 pub mod rgb;
-pub mod seal;

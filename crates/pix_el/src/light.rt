@@ -3,17 +3,17 @@ ghost use Rattle.std.specs.Prelude.{◌≡◌, ◌≤◌, ◌+◌, map, refl};
 ghost use Rattle.pix_chan.specs.Runs.{over};
 ghost use Rattle.pix_chan.specs.Srgb16.{srgb_decoded16, srgb_encoded8};
 ghost use Rattle.pix_el.specs.Pixel.{channel};
+ghost use Rattle.pix_el.specs.Seal.{Seal, seal};
 ghost use Rattle.pix_el.specs.Conversion.{at_depth};
 ghost use Rattle.pix_el.specs.Light.{mode_changed, channel_in_light, channel_as_srgb, in_light, as_srgb};
 
 use crate::conversion::channel_at_depth;
 use crate::el::Pixel;
 use crate::model::ColorModel;
-use crate::private::Sealed;
 use pix_chan::chan::{Alpha, Ch8, Ch16, Channel, Linear, Srgb};
 
 /// A gamma mode with a curve from channels of type `C` to linear ones of type `D`: `Srgb`, from `Ch8` to `Ch16`. This trait is sealed.
-pub trait Transfer<C: Channel, D: Channel>: Sealed {
+pub trait Transfer<C: Channel, D: Channel> {
     /// Returns the linear channel that this mode encodes as `c`.
     fn to_light(c: C) -> D
         ensures { D.number result ≡ srgb_decoded16 (C.number c) };
@@ -27,9 +27,10 @@ pub trait Transfer<C: Channel, D: Channel>: Sealed {
 
     /// The linear channels have 16 bits.
     ghost wide: { D.max ≡ 65535 };
-}
 
-impl Sealed for Srgb {}
+    /// What seals the trait.
+    ghost sealed: { Seal };
+}
 
 impl Transfer<Ch8, Ch16> for Srgb {
     fn to_light(c: Ch8) -> Ch16 {
@@ -43,6 +44,8 @@ impl Transfer<Ch8, Ch16> for Srgb {
     ghost narrow = { refl };
 
     ghost wide = { refl };
+
+    ghost sealed = { seal };
 }
 
 /// Returns a linear color channel at an alpha, from the alpha mode `A` to `B`.

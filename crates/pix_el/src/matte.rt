@@ -3,10 +3,10 @@ ghost use Rattle.std.specs.Prelude.{ℕ, refl};
 ghost use Rattle.std.proofs.Common.{lit≤};
 ghost use Rattle.pix_el.specs.Model as models;
 ghost use Rattle.pix_el.specs.Color.{rgb_of_matte, matte_of_rgb};
+ghost use Rattle.pix_el.specs.ModelSeal.{model_seal};
 
 use crate::el::{Pix, Pixel};
 use crate::model::ColorModel;
-use crate::seal::SealedModel;
 use pix_chan::chan::{Ch8, Ch16, Channel, Linear, Premultiplied};
 use std::ops::Range;
 
@@ -21,8 +21,6 @@ use std::ops::Range;
 /// ```
 #[derive(Clone, Copy, Debug, Default, PartialEq, Eq)]
 pub struct Matte {}
-
-impl SealedModel for Matte {}
 
 impl ColorModel for Matte {
     ghost model = { models.Matte };
@@ -65,6 +63,8 @@ impl ColorModel for Matte {
     ghost stands = { refl };
 
     ghost few = { lit≤ tt };
+
+    ghost sealed = { model_seal };
 }
 
 /// A matte value of eight bits.

@@ -3,14 +3,14 @@ ghost use Rattle.std.specs.Prelude.{◌≡◌, ℕ, ◌≤◌, ◌+◌, List, []
 ghost use Rattle.std.specs.declared.ops.Range.{Range};
 ghost use Rattle.pix_el.specs.Pixel.{lies_in};
 ghost use Rattle.pix_el.specs.Model.{Model, row};
+ghost use Rattle.pix_el.specs.ModelSeal.{ModelSeal};
 ghost use Rattle.pix_el.specs.Color.{rgba_of, of_rgba};
 
 use crate::el::{Pix, PixRgba, Pixel};
-use crate::seal::SealedModel;
 use std::ops::Range;
 
 /// A color model: which channels a pixel has, and what they mean. This trait is sealed.
-pub trait ColorModel: SealedModel {
+pub trait ColorModel {
     /// The model as a row of the table of models.
     ghost model: { Model };
 
@@ -110,6 +110,9 @@ pub trait ColorModel: SealedModel {
 
     /// A model has at most four channels.
     ghost few: { ALPHA ≤ 3 };
+
+    /// What seals the trait.
+    ghost sealed: { ModelSeal };
 }
 
 /// Returns whether the channel `ch` is a hue in the model `M`.

@@ -5,11 +5,11 @@ ghost use Rattle.std.specs.Borrow.{sem};
 ghost use Rattle.pix_el.specs.Pixel.{channel, LendsChannel};
 ghost use Rattle.pix_el.specs.Model as models;
 ghost use Rattle.pix_el.specs.Color.{rgb_itself, rgba_difference, is_within};
+ghost use Rattle.pix_el.specs.ModelSeal.{model_seal};
 
 use crate::el::{Pix, Pixel};
 use crate::hue::apart;
 use crate::model::ColorModel;
-use crate::seal::SealedModel;
 use pix_chan::chan::{Ch8, Ch16, Channel, Linear, Premultiplied, Srgb, Straight};
 use std::ops::Range;
 
@@ -25,8 +25,6 @@ use std::ops::Range;
 /// ```
 #[derive(Clone, Copy, Debug, Default, PartialEq, Eq)]
 pub struct Rgb {}
-
-impl SealedModel for Rgb {}
 
 impl Rgb {
     /// Returns the red channel, or the maximum where the format has none.
@@ -187,6 +185,8 @@ impl ColorModel for Rgb {
     ghost stands = { refl };
 
     ghost few = { lit≤ tt };
+
+    ghost sealed = { model_seal };
 }
 
 /// Red, green and blue of eight bits each, linear.

@@ -1,6 +1,7 @@
 pub use Rattle.pix_chan.specs.Number
 pub use Rattle.pix_chan.specs.Product
 pub use Rattle.pix_chan.specs.Runs
+mod Seal
 pub mod Operators
 pub mod OperatorNames
 pub mod Composite

@@ -5,13 +5,13 @@
 ghost use Rattle.std.specs.Prelude.{◌≡◌, ℕ, ◌-◌, ⊤, List, length, map, slice_get, Some, ◌↔◌, IsTrue, nat_eq, refl};
 ghost use Rattle.pix_ops.specs.declared.ops.Op.{Op};
 ghost use Rattle.pix_ops.specs.Operators.{row};
+ghost use Rattle.pix_ops.specs.Seal.{Seal, seal};
 ghost use Rattle.pix_ops.specs.OperatorNames.{operators, op_number, op_name, operator_of};
 ghost use Rattle.pix_ops.specs.Composite.{channel_composite};
 ghost use Rattle.pix_chan.specs.Runs.{over, triples};
 ghost use Rattle.pix_ops.specs.Composite.{run_composite};
 
 use crate::ops::run::{Alpha, Factor, One, OneMinusAlpha, Zero};
-use crate::private::Sealed;
 use pix_chan::chan::Channel;
 
 #[doc(hidden)]
@@ -86,7 +86,7 @@ impl PartialEq for Op {
 /// SrcOver::composite(&mut dst, Ch8::MAX - da, &src, Ch8::MAX - sa); // 50 + 200 * 127/255
 /// Op::Plus.composite(&mut dst, Ch8::MAX - da, &src, Ch8::MAX - sa); // 50 more
 /// ```
-pub trait Blend: Sealed + Copy {
+pub trait Blend: Copy {
     /// The operator as a value.
     ghost op: { Op };
 
@@ -117,6 +117,9 @@ pub trait Blend: Sealed + Copy {
 
     /// Both are those of the operator's row of the table.
     ghost tabled: { ((row op).source ≡ Self.Source.coefficient) × ((row op).dest ≡ Self.Dest.coefficient) };
+
+    /// What seals the trait.
+    ghost sealed: { Seal };
 }
 
 /// An action on a `T` that takes its operator as a type. [`Op::visit`] runs it for an operator that is a value.
@@ -291,8 +294,6 @@ impl<C: Channel> OpVisitor<C> for OneChannel<C> {
 #[derive(Clone, Copy)]
 pub struct Src;
 
-impl Sealed for Src {}
-
 impl Blend for Src {
     ghost op = { Op.Src };
 
@@ -301,13 +302,13 @@ impl Blend for Src {
     type Dest = Zero;
 
     ghost tabled = { (refl, refl) };
+
+    ghost sealed = { seal };
 }
 
 /// The destination alone: `dst`.
 #[derive(Clone, Copy)]
 pub struct Dest;
-
-impl Sealed for Dest {}
 
 impl Blend for Dest {
     ghost op = { Op.Dest };
@@ -317,13 +318,13 @@ impl Blend for Dest {
     type Dest = One;
 
     ghost tabled = { (refl, refl) };
+
+    ghost sealed = { seal };
 }
 
 /// Source over: the source plus the destination times one minus the source's alpha: `src + dst * (1 - sa)`.
 #[derive(Clone, Copy)]
 pub struct SrcOver;
-
-impl Sealed for SrcOver {}
 
 impl Blend for SrcOver {
     ghost op = { Op.SrcOver };
@@ -333,13 +334,13 @@ impl Blend for SrcOver {
     type Dest = OneMinusAlpha;
 
     ghost tabled = { (refl, refl) };
+
+    ghost sealed = { seal };
 }
 
 /// Destination over: the destination plus the source times one minus the destination's alpha: `src * (1 - da) + dst`.
 #[derive(Clone, Copy)]
 pub struct DestOver;
-
-impl Sealed for DestOver {}
 
 impl Blend for DestOver {
     ghost op = { Op.DestOver };
@@ -349,13 +350,13 @@ impl Blend for DestOver {
     type Dest = One;
 
     ghost tabled = { (refl, refl) };
+
+    ghost sealed = { seal };
 }
 
 /// Source out: the source times one minus the destination's alpha: `src * (1 - da)`.
 #[derive(Clone, Copy)]
 pub struct SrcOut;
-
-impl Sealed for SrcOut {}
 
 impl Blend for SrcOut {
     ghost op = { Op.SrcOut };
@@ -365,13 +366,13 @@ impl Blend for SrcOut {
     type Dest = Zero;
 
     ghost tabled = { (refl, refl) };
+
+    ghost sealed = { seal };
 }
 
 /// Destination out: the destination times one minus the source's alpha: `dst * (1 - sa)`.
 #[derive(Clone, Copy)]
 pub struct DestOut;
-
-impl Sealed for DestOut {}
 
 impl Blend for DestOut {
     ghost op = { Op.DestOut };
@@ -381,13 +382,13 @@ impl Blend for DestOut {
     type Dest = OneMinusAlpha;
 
     ghost tabled = { (refl, refl) };
+
+    ghost sealed = { seal };
 }
 
 /// Source in: the source times the destination's alpha: `src * da`.
 #[derive(Clone, Copy)]
 pub struct SrcIn;
-
-impl Sealed for SrcIn {}
 
 impl Blend for SrcIn {
     ghost op = { Op.SrcIn };
@@ -397,13 +398,13 @@ impl Blend for SrcIn {
     type Dest = Zero;
 
     ghost tabled = { (refl, refl) };
+
+    ghost sealed = { seal };
 }
 
 /// Destination in: the destination times the source's alpha: `dst * sa`.
 #[derive(Clone, Copy)]
 pub struct DestIn;
-
-impl Sealed for DestIn {}
 
 impl Blend for DestIn {
     ghost op = { Op.DestIn };
@@ -413,13 +414,13 @@ impl Blend for DestIn {
     type Dest = Alpha;
 
     ghost tabled = { (refl, refl) };
+
+    ghost sealed = { seal };
 }
 
 /// Source atop: the source times the destination's alpha plus the destination times one minus the source's: `src * da + dst * (1 - sa)`.
 #[derive(Clone, Copy)]
 pub struct SrcAtop;
-
-impl Sealed for SrcAtop {}
 
 impl Blend for SrcAtop {
     ghost op = { Op.SrcAtop };
@@ -429,13 +430,13 @@ impl Blend for SrcAtop {
     type Dest = OneMinusAlpha;
 
     ghost tabled = { (refl, refl) };
+
+    ghost sealed = { seal };
 }
 
 /// Destination atop: the source times one minus the destination's alpha plus the destination times the source's: `src * (1 - da) + dst * sa`.
 #[derive(Clone, Copy)]
 pub struct DestAtop;
-
-impl Sealed for DestAtop {}
 
 impl Blend for DestAtop {
     ghost op = { Op.DestAtop };
@@ -445,13 +446,13 @@ impl Blend for DestAtop {
     type Dest = Alpha;
 
     ghost tabled = { (refl, refl) };
+
+    ghost sealed = { seal };
 }
 
 /// Exclusive or: each side times one minus the other's alpha: `src * (1 - da) + dst * (1 - sa)`.
 #[derive(Clone, Copy)]
 pub struct Xor;
-
-impl Sealed for Xor {}
 
 impl Blend for Xor {
     ghost op = { Op.Xor };
@@ -461,13 +462,13 @@ impl Blend for Xor {
     type Dest = OneMinusAlpha;
 
     ghost tabled = { (refl, refl) };
+
+    ghost sealed = { seal };
 }
 
 /// Neither: `0`.
 #[derive(Clone, Copy)]
 pub struct Clear;
-
-impl Sealed for Clear {}
 
 impl Blend for Clear {
     ghost op = { Op.Clear };
@@ -477,13 +478,13 @@ impl Blend for Clear {
     type Dest = Zero;
 
     ghost tabled = { (refl, refl) };
+
+    ghost sealed = { seal };
 }
 
 /// The saturating sum of both: `src + dst`.
 #[derive(Clone, Copy)]
 pub struct Plus;
-
-impl Sealed for Plus {}
 
 impl Blend for Plus {
     ghost op = { Op.Plus };
@@ -493,4 +494,6 @@ impl Blend for Plus {
     type Dest = One;
 
     ghost tabled = { (refl, refl) };
+
+    ghost sealed = { seal };
 }

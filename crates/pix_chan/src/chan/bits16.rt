@@ -7,9 +7,9 @@ ghost use Rattle.pix_chan.specs.Product.{channel_product, channel_quotient};
 ghost use Rattle.pix_chan.specs.Channel.{AnswersFrom};
 ghost use Rattle.pix_chan.specs.Depth.{to_16_bit, from_16_bit};
 ghost use Rattle.pix_chan.specs.Planes.{in_turn, both_in_turn, last_of_four};
+ghost use Rattle.pix_chan.specs.Seal.{seal};
 
 use crate::chan::{Ch8, Channel, whole};
-use crate::private::Sealed;
 use std::ops::{Add, Div, Mul, Sub};
 
 mod planes;
@@ -38,8 +38,6 @@ impl Ch16 {
         Ch16 { value }
     }
 }
-
-impl Sealed for Ch16 {}
 
 impl Default for Ch16 {
     ghost is_default = { λ c. c.value ≡ 0 };
@@ -387,4 +385,6 @@ impl Channel for Ch16 {
     ghost small = { Prim.search rules };
 
     ghost laws = { channel_laws 65535 (lit< tt) depth_of_sixteen };
+
+    ghost sealed = { seal };
 }

@@ -7,10 +7,10 @@ ghost use Rattle.pix_chan.specs.Product.{channel_product, channel_quotient};
 ghost use Rattle.pix_chan.specs.Channel.{AnswersFrom};
 ghost use Rattle.pix_chan.specs.Depth.{to_16_bit, from_16_bit};
 ghost use Rattle.pix_chan.specs.Planes.{in_turn, both_in_turn, last_of_four};
+ghost use Rattle.pix_chan.specs.Seal.{seal};
 
 use crate::chan::bits8::lanes::{channels, units};
 use crate::chan::{Ch16, Channel, whole};
-use crate::private::Sealed;
 use crate::reciprocals::quotient_by_byte;
 use std::ops::{Add, Div, Mul, Sub};
 
@@ -42,8 +42,6 @@ impl Ch8 {
         Ch8 { value }
     }
 }
-
-impl Sealed for Ch8 {}
 
 impl Default for Ch8 {
     ghost is_default = { λ c. c.value ≡ 0 };
@@ -373,4 +371,6 @@ impl Channel for Ch8 {
     ghost small = { Prim.search rules };
 
     ghost laws = { channel_laws 255 (lit< tt) depth_of_eight };
+
+    ghost sealed = { seal };
 }

@@ -3,9 +3,9 @@ ghost use Rattle.std.specs.Prelude.{◌≡◌, ℕ, refl};
 ghost use Rattle.pix_chan.specs.Modes.{AlphaMode, GammaMode, alpha_kind, gamma_kind};
 ghost use Rattle.pix_chan.specs.Modes.{alpha_encoded, alpha_decoded, to_linear, from_linear};
 ghost use Rattle.pix_chan.specs.Modes as modes;
+ghost use Rattle.pix_chan.specs.Seal.{Seal, seal};
 
 use crate::chan::{Ch8, Channel};
-use crate::private::Sealed;
 
 /// An alpha mode: whether color channels are stored multiplied by the alpha. This trait is sealed.
 ///
@@ -18,7 +18,7 @@ use crate::private::Sealed;
 /// let stored = Premultiplied::encode(same, light); // 64
 /// let straight = Premultiplied::decode(stored, light); // 128
 /// ```
-pub trait Alpha: Sealed {
+pub trait Alpha {
     /// The mode as a row of the table of alpha modes.
     ghost mode: { AlphaMode };
 
@@ -38,6 +38,9 @@ pub trait Alpha: Sealed {
 
     /// `KIND` is the number in the table.
     ghost tabled: { alpha_kind mode ≡ KIND };
+
+    /// What seals the trait.
+    ghost sealed: { Seal };
 }
 
 /// A gamma mode: how a channel of type `C` encodes light. This trait is sealed.
@@ -51,7 +54,7 @@ pub trait Alpha: Sealed {
 /// let stored = Premultiplied::encode(same, light); // 64
 /// let straight = Premultiplied::decode(stored, light); // 128
 /// ```
-pub trait Gamma<C: Channel>: Sealed {
+pub trait Gamma<C: Channel> {
     /// The mode as a row of the table of gamma modes.
     ghost mode: { GammaMode };
 
@@ -71,6 +74,9 @@ pub trait Gamma<C: Channel>: Sealed {
 
     /// `KIND` is the number in the table.
     ghost tabled: { gamma_kind mode ≡ KIND };
+
+    /// What seals the trait.
+    ghost sealed: { Seal };
 }
 
 /// Straight alpha: color channels are not multiplied by the alpha.
@@ -89,14 +95,6 @@ pub struct Linear;
 #[derive(Clone, Copy, Debug, Default, PartialEq, Eq)]
 pub struct Srgb;
 
-impl Sealed for Straight {}
-
-impl Sealed for Premultiplied {}
-
-impl Sealed for Linear {}
-
-impl Sealed for Srgb {}
-
 impl Alpha for Straight {
     ghost mode = { modes.Straight };
 
@@ -113,6 +111,8 @@ impl Alpha for Straight {
     }
 
     ghost tabled = { refl };
+
+    ghost sealed = { seal };
 }
 
 impl Alpha for Premultiplied {
@@ -131,6 +131,8 @@ impl Alpha for Premultiplied {
     }
 
     ghost tabled = { refl };
+
+    ghost sealed = { seal };
 }
 
 impl<C: Channel> Gamma<C> for Linear {
@@ -149,6 +151,8 @@ impl<C: Channel> Gamma<C> for Linear {
     }
 
     ghost tabled = { refl };
+
+    ghost sealed = { seal };
 }
 
 impl Gamma<Ch8> for Srgb {
@@ -167,4 +171,6 @@ impl Gamma<Ch8> for Srgb {
     }
 
     ghost tabled = { refl };
+
+    ghost sealed = { seal };
 }

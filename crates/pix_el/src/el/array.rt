@@ -1,6 +1,7 @@
 //! A [`Pix`], which is an array of channels, as a [`Pixel`].
 ghost use Rattle.std.specs.Prelude.{map, refl};
 ghost use Rattle.std.proofs.Common.{ap};
+ghost use Rattle.pix_el.specs.Seal.{seal};
 ghost use Rattle.pix_el.specs.PixelLaws.{numbers_of_replicate, equal_lists, equal_by_numbers};
 
 use crate::el::{Pix, Pixel};
@@ -90,6 +91,8 @@ where
 
     ghost injective = { λ p q e. ap (λ w. record p { channels = w })
         (equal_by_numbers C.number C.numbered.injective p.channels q.channels e) };
+
+    ghost sealed = { seal };
 
     ghost default_is_clear = { λ p h. numbers_of_replicate C.number C.MIN N p.channels h C.min_is_zero };
 }

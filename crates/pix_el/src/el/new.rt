@@ -4,9 +4,7 @@ ghost use Rattle.std.specs.Cmp.{on_per, on_equiv};
 ghost use Rattle.std.specs.Cmp.Lexicographic.{pointwise, lists_per, lists_equiv};
 
 use crate::el::Pix;
-use crate::model::ColorModel;
-use crate::private::Sealed;
-use pix_chan::chan::{Alpha, Channel, Gamma};
+use pix_chan::chan::Channel;
 use std::alloc::AllocError;
 use std::marker::PhantomData;
 
@@ -31,14 +29,6 @@ impl<const N: usize, C, M, A, G> Pix<N, C, M, A, G> {
         }
     }
 }
-
-impl<const N: usize, C, M, A, G> Sealed for Pix<N, C, M, A, G>
-where
-    C: Channel,
-    M: ColorModel,
-    A: Alpha,
-    G: Gamma<C>,
-{}
 
 impl<const N: usize, C: Copy, M, A, G> Clone for Pix<N, C, M, A, G> {
     ghost is_clone = { λ x y. y ≡ x };
