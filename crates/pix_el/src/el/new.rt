@@ -36,7 +36,7 @@ impl<const N: usize, C: Copy, M, A, G> Clone for Pix<N, C, M, A, G> {
     ghost is_infallible = { λ _. ⊤ };
 
     fn clone(&self) -> Result<Self, AllocError> {
-        Ok(*self)
+        Ok(Self::with_channels(self.channels))
     }
 }
 
