@@ -70,7 +70,7 @@ pub fn to_cmy_and_back<const N: usize, C: Channel, A: Alpha, G: Gamma<C>>(
 /// Converts gray to red, green, blue and alpha and back, which loses nothing. Returns the pixel in between too.
 ///
 /// Condition: the format of gray has one or two channels.
-pub fn gray_to_rgb_and_back<const N: usize, C: Channel, A: Alpha, G: Gamma<C>>(
+pub fn gray_to_rgb_and_back<const N: usize, C: Channel, A: Alpha + Copy, G: Gamma<C> + Copy>(
     p: Pix<N, C, Gray, A, G>,
 ) -> (Pix<4, C, Rgb, A, G>, Pix<N, C, Gray, A, G>)
     requires gray { 1 ≤ N }

@@ -46,7 +46,7 @@ pub fn premultiplied_light_and_back<const N: usize, const K: usize, M: ColorMode
 /// result: at each point that no command reaches it is the photograph as it was, if the alpha there is 13 or more or all channels are 0.
 ///
 /// Condition: the format of light has all channels of the model, and the photograph's no more.
-pub fn drawn_in_light<const N: usize, const K: usize, M: ColorModel>(
+pub fn drawn_in_light<const N: usize, const K: usize, M: ColorModel + Copy>(
     alloc: Global,
     photo: &Raster<Pix<N, Ch8, M, Straight, Srgb>>,
     commands: &[Command<'_, Pix<K, Ch16, M, Premultiplied, Linear>, Matte16>],
@@ -72,7 +72,7 @@ pub fn drawn_in_light<const N: usize, const K: usize, M: ColorModel>(
 }
 
 /// Looks at each pixel, and does no more: by that the theorem knows how many channels it has.
-fn count_channels<const N: usize, M: ColorModel>(pixels: &[Pix<N, Ch8, M, Straight, Srgb>])
+fn count_channels<const N: usize, M: ColorModel + Copy>(pixels: &[Pix<N, Ch8, M, Straight, Srgb>])
     ensures { All (λ w. length w ≡ N) (map (λ p. map (λ c. c.value) p.channels) pixels.now) }
 {
     for i in 0..pixels.len() {
