@@ -299,5 +299,5 @@ pub trait Channel: Copy
     ghost laws: { ChannelLaws max };
 
     /// What seals the trait.
-    ghost sealed: { Seal };
+    ghost sealed: { Seal Self };
 }

@@ -2,10 +2,10 @@
 use Rattle.std.specs.Prelude.{⊤}
 
 -- what a color model of this library has
-pub ModelSeal : Type 0
-ModelSeal = ⊤
+pub ModelSeal : Type 0 → Type 0
+ModelSeal T = ⊤
 
--- the seal of this library's color models
-pub model_seal : ModelSeal
+-- the seal of a color model of this library
+pub model_seal : {T : Type 0} → ModelSeal T
 unfolding ModelSeal
 model_seal = tt

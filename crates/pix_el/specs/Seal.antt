@@ -1,11 +1,11 @@
--- The seal of a trait. Only this crate names it, and it has a value only here, so that no type of another crate can have the trait.
+-- The seal of a trait. Only this crate names it, and it has values only here, so that no type of another crate can have the trait.
 use Rattle.std.specs.Prelude.{⊤}
 
 -- what a sealed type has
-pub Seal : Type 0
-Seal = ⊤
+pub Seal : Type 0 → Type 0
+Seal T = ⊤
 
--- the seal of this crate's types
-pub seal : Seal
+-- the seal of a type of this crate
+pub seal : {T : Type 0} → Seal T
 unfolding Seal
 seal = tt

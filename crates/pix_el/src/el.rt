@@ -498,5 +498,5 @@ pub trait Pixel: Copy + Default + PartialEq {
         → numbers p ≡ replicate layout.count 0 };
 
     /// What seals the trait.
-    ghost sealed: { Seal };
+    ghost sealed: { Seal Self };
 }

@@ -29,7 +29,7 @@ pub trait Transfer<C: Channel, D: Channel> {
     ghost wide: { D.max ≡ 65535 };
 
     /// What seals the trait.
-    ghost sealed: { Seal };
+    ghost sealed: { Seal Self };
 }
 
 impl Transfer<Ch8, Ch16> for Srgb {

@@ -112,7 +112,7 @@ pub trait ColorModel {
     ghost few: { ALPHA ≤ 3 };
 
     /// What seals the trait.
-    ghost sealed: { ModelSeal };
+    ghost sealed: { ModelSeal Self };
 }
 
 /// Returns whether the channel `ch` is a hue in the model `M`.

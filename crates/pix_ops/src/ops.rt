@@ -119,7 +119,7 @@ pub trait Blend: Copy {
     ghost tabled: { ((row op).source ≡ Self.Source.coefficient) × ((row op).dest ≡ Self.Dest.coefficient) };
 
     /// What seals the trait.
-    ghost sealed: { Seal };
+    ghost sealed: { Seal Self };
 }
 
 /// An action on a `T` that takes its operator as a type. [`Op::visit`] runs it for an operator that is a value.

@@ -40,7 +40,7 @@ pub trait Alpha {
     ghost tabled: { alpha_kind mode ≡ KIND };
 
     /// What seals the trait.
-    ghost sealed: { Seal };
+    ghost sealed: { Seal Self };
 }
 
 /// A gamma mode: how a channel of type `C` encodes light. This trait is sealed.
@@ -76,7 +76,7 @@ pub trait Gamma<C: Channel> {
     ghost tabled: { gamma_kind mode ≡ KIND };
 
     /// What seals the trait.
-    ghost sealed: { Seal };
+    ghost sealed: { Seal Self };
 }
 
 /// Straight alpha: color channels are not multiplied by the alpha.
