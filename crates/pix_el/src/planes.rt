@@ -3,7 +3,7 @@
 //! Each way to go is a `Block`. Pixels of four channels without a hue go eight at a time and then four, interleaved, as they lie. Pixels of
 //! four channels with a hue at the first go by planes, arrays of sixteen channels of one number, and so do pixels of two channels without a
 //! hue and a color through sixteen mattes. A pixel of one channel is its own alpha, so that mattes go as they lie. Pixels through mattes go
-//! four at a time (`masked.rt`).
+//! eight at a time as well (`masked.rt`).
 //!
 //! Nothing of this is in a contract above, so another way to cut a slice into blocks changes this file and its folder alone.
 ghost use Rattle.std.specs.Prelude.{◌≡◌, ◌≤◌, ◌+◌, ◌-◌, length, map, take, true, replicate};

@@ -1,5 +1,6 @@
 //! Eight pixels of four channels without a hue as they lie: thirty-two channels, pixel by pixel.
-ghost use Rattle.std.specs.Prelude.{◌≡◌, length, map, refl, replicate};
+ghost use Rattle.std.specs.Prelude.{◌≡◌, ◌++◌, length, map, refl, replicate};
+ghost use Rattle.pix_chan.specs.Planes.{in_turn};
 ghost use Rattle.pix_chan.specs.Runs.{over};
 ghost use Rattle.pix_el.specs.Planes.{by_fours};
 ghost use Rattle.pix_el.specs.PixelComposite.{pixel_composite, matted_color, matted_composite};
@@ -57,6 +58,36 @@ fn put_eight_pixels<P: Pixel>(p: &mut [P], c: [P::Chan; 32])
     put_channels(&mut p[4..8], &c[16..32]);
 }
 
+/// Returns both arrays, one after the other.
+#[inline(always)]
+fn joined<C: Channel>(a: [C; 16], b: [C; 16]) -> [C; 32]
+    ensures { map C.number result ≡ map C.number a ++ map C.number b }
+{
+    let mut both = [C::MIN; 32];
+    let whole = &mut both[..];
+    let (first, second) = (&a[..], &b[..]);
+    whole[..16].copy_from_slice(first);
+    whole[16..32].copy_from_slice(second);
+    both
+}
+
+/// Returns eight values, each at the four places of its pixel: planes that are the same are put together, which goes by lanes. Of an array
+/// that names each value four times LLVM makes as many steps.
+#[inline(always)]
+fn spread<C: Channel>(values: &[C]) -> [C; 32]
+    requires { length values.now ≡ 8 }
+    ensures { map C.number result ≡ in_turn (map C.number values.now) (map C.number values.now)
+        (map C.number values.now) (map C.number values.now) }
+{
+    let none = C::MIN;
+    let plane = [
+        values[0], values[1], values[2], values[3], values[4], values[5], values[6], values[7],
+        none, none, none, none, none, none, none, none,
+    ];
+    let (a, b, _, _) = C::join4(plane, plane, plane, plane);
+    joined(a, b)
+}
+
 /// Returns the channels of eight pixels, each pixel multiplied by the matte value of the same index. Each `CALLER` has a copy of its own,
 /// since LLVM inlines what is called once.
 ///
@@ -73,12 +104,7 @@ pub(super) fn covered<P: Pixel, const CALLER: usize>(
     ensures { by_fours (map P.Chan.number result) ≡ over (matted_color P.layout)
         (map P.Chan.number values.now) (by_fours (map P.Chan.number to)) }
 {
-    let (a, b, c, d) = (values[0], values[1], values[2], values[3]);
-    let (e, f, g, h) = (values[4], values[5], values[6], values[7]);
-    let by = [
-        a, a, a, a, b, b, b, b, c, c, c, c, d, d, d, d, e, e, e, e, f, f, f, f, g, g, g, g, h, h,
-        h, h,
-    ];
+    let by = spread(values);
     P::Chan::mul_run(&mut to, &by);
     to
 }

@@ -1,4 +1,4 @@
-//! Pixels through mattes, four at a time, and at one opacity, eight at a time and then four: each pixel's channels are multiplied by its matte and composited as they lie.
+//! Pixels through mattes or at one opacity, eight at a time and then four: each pixel's channels are multiplied by its matte and composited as they lie.
 ghost use Rattle.std.specs.Prelude.{◌≡◌, ◌≤◌, ◌+◌, [], ◌∷◌, length, map, take};
 ghost use Rattle.std.specs.List.{zip};
 ghost use Rattle.pix_chan.specs.Runs.{over};
@@ -6,8 +6,8 @@ ghost use Rattle.pix_el.specs.PixelComposite.{matted_composite, matte_numbers, m
 
 use crate::el::{Pix, Pixel};
 use crate::matte::Matte;
-use crate::planes::coverage::Coverage;
-use crate::planes::eight::{composite_eight, eight_pixels};
+use crate::planes::coverage::{Coverage, eight_values};
+use crate::planes::eight::{composite_eight, covered, eight_pixels};
 use crate::planes::interleaved::{composite_four, four_pixels};
 use crate::planes::is_interleaved;
 use pix_chan::chan::{Alpha, Channel, Linear};
@@ -63,6 +63,28 @@ fn composite_covered<O: Blend, P: Pixel, S: Coverage<P::Chan>>(
     composite_masked::<O, P>(dst, src, a, b, c, d);
 }
 
+/// Composites eight pixels with those of `dst`, each through the matte of the same index.
+///
+/// Condition: the alpha is the last channel, and none is a hue.
+#[inline(always)]
+fn composite_eight_covered<O: Blend, P: Pixel, S: Coverage<P::Chan>>(
+    dst: &mut [P],
+    src: &[P],
+    mattes: &[S],
+)
+    requires count { P.layout.count ≡ 4 }
+    requires alpha { P.layout.alpha ≡ 3 }
+    requires no_hue { P.layout.hues.end ≡ 0 }
+    requires size { length dst.old ≡ 8 }
+    requires src_size { length src.now ≡ 8 }
+    requires whole { length mattes.now ≡ 8 }
+    ensures { map P.numbers dst.new ≡ over (λ t. matted_composite P.layout O.op t.0 t.1)
+        (zip (map S.value mattes.now) (map P.numbers src.now)) (map P.numbers dst.old) }
+{
+    let colors = covered::<P, 4>(eight_pixels(src), &eight_values(mattes));
+    composite_eight::<O, P, 4>(dst, colors);
+}
+
 /// Composites eight pixels with those of `dst`, each through the same matte value.
 ///
 /// Condition: the alpha is the last channel, and none is a hue.
@@ -104,7 +126,15 @@ fn covered_runs<O: Blend, P: Pixel, S: Coverage<P::Chan>>(
     if !is_interleaved::<P>() {
         return 0;
     }
-    for i in 0..count / 4 {
+    for k in 0..count / 8 {
+        let at = 8 * k;
+        composite_eight_covered::<O, P, S>(
+            &mut dst[at..at + 8],
+            &src[at..at + 8],
+            &mattes[at..at + 8],
+        );
+    }
+    for i in count / 8 * 2..count / 4 {
         let at = 4 * i;
         composite_covered::<O, P, S>(&mut dst[at..at + 4], &src[at..at + 4], &mattes[at..at + 4]);
     }
