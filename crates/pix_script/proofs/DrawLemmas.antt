@@ -20,7 +20,7 @@ use Rattle.pix_script.specs.declared.command.Line.{Line}
 use Rattle.pix_script.specs.declared.command.Line.TheVariants as forms
 use Rattle.pix_script.specs.Pixels.{Rgba8p, Matte8, color_numbers}
 use Rattle.pix_script.specs.Picture.{Picture, rgba8, all_of, effect_of, drawn, Images, after, clear_picture, run_of}
-use Rattle.pix_script.specs.Seen.{keeps, picture_of, Effects, brought_by, effects_of, Shows}
+use Rattle.pix_script.specs.Seen.{clears, keeps, picture_of, Effects, brought_by, effects_of, Shows}
 use Rattle.pix_script.specs.Script.{text_of}
 use Rattle.pix_script.specs.Text.{picture_text}
 use Rattle.pix_raster.proofs.Places.{place_within}
@@ -178,6 +178,49 @@ pub other_more : (lines : List Line) (i : ℕ) (line : Line) (start : Images) (o
     → Show new kept (fold after start (take (i + 1) lines))
 other_more lines i line start old new kept lt is keep show draws =
     rw (fold_more lines i line start lt is, after_other (fold after start (take i lines)) line keep) (draws (fold after start (take i lines)) show.0 show.1, show.1)
+
+-- all pixels of an image are clear
+abbrev pub IsCleared : Image Rgba8p → Type 0
+IsCleared image = (x y : ℕ) → x < image.width → y < image.height → point color_numbers image x y ≡ replicate 4 0
+
+-- where a command changes nothing, all pixels are clear, and it clears
+pub unchanged : (a b : Bool) → not (a && b) ≡ false → (a ≡ true) × (b ≡ true)
+unchanged true true e = (refl, refl)
+unchanged true false e = absurd cc
+unchanged false b e = absurd cc
+
+-- an image shows its own picture
+own_picture : (image : Image Rgba8p) → Shows image (picture_of image)
+own_picture image = record { same_width = refl; same_height = refl; points = λ x y lx ly. refl }
+
+-- what a command that clears leaves
+pub cleared_by : (old new kept : Image Rgba8p) (line : Line) → clears line ≡ true
+    → ((images : Images) → Shows old images.image → Shows kept images.kept → Shows new (drawn images.kept images.image line))
+    → IsCleared new
+cleared_by old new kept forms.Clear is draws =
+    let shows = draws (record { image = picture_of old; kept = picture_of kept }) (own_picture old) (own_picture kept) in
+    λ x y lx ly. shows.points x y (rw shows.same_width at lx) (rw shows.same_height at ly)
+cleared_by old new kept (forms.Image width height) is draws = absurd cc
+cleared_by old new kept (forms.Fill reg clr) is draws = absurd cc
+cleared_by old new kept (forms.Paint op reg clr) is draws = absurd cc
+cleared_by old new kept forms.Keep is draws = absurd cc
+cleared_by old new kept (forms.Copy to from) is draws = absurd cc
+cleared_by old new kept (forms.Comp op to from) is draws = absurd cc
+
+-- and it changes nothing where all pixels are clear
+pub clear_again : (image kept : Image Rgba8p) (line : Line) → clears line ≡ true → IsCleared image
+    → (images : Images) → Shows image images.image → Shows kept images.kept → Shows image (drawn images.kept images.image line)
+clear_again image kept forms.Clear is cleared images shows keeps = record {
+  same_width = shows.same_width;
+  same_height = shows.same_height;
+  points = λ x y lx ly. cleared x y (rw (← shows.same_width) at lx) (rw (← shows.same_height) at ly);
+}
+clear_again image kept (forms.Image width height) is cleared images shows keeps = absurd cc
+clear_again image kept (forms.Fill reg clr) is cleared images shows keeps = absurd cc
+clear_again image kept (forms.Paint op reg clr) is cleared images shows keeps = absurd cc
+clear_again image kept forms.Keep is cleared images shows keeps = absurd cc
+clear_again image kept (forms.Copy to from) is cleared images shows keeps = absurd cc
+clear_again image kept (forms.Comp op to from) is cleared images shows keeps = absurd cc
 
 -- an image whose pixels are clear
 pub clear_shows : (image : Image Rgba8p) (width height : ℕ) → image.width ≡ width → image.height ≡ height

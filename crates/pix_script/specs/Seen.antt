@@ -14,6 +14,11 @@ abbrev pub keeps : Line → Bool
 keeps forms.Keep = true
 keeps line = false
 
+-- whether a command makes every pixel clear
+abbrev pub clears : Line → Bool
+clears forms.Clear = true
+clears line = false
+
 -- the picture of an image
 abbrev pub picture_of : Image Rgba8p → Picture
 picture_of image = record { width = image.width; height = image.height; at = point color_numbers image }

@@ -1,7 +1,7 @@
 //! The commands of a script.
-ghost use Rattle.std.specs.Prelude.{◌≡◌, map};
+ghost use Rattle.std.specs.Prelude.{◌≡◌, ◌&&◌, map, not};
 ghost use Rattle.pix_script.specs.Reading.{earlier_with};
-ghost use Rattle.pix_script.specs.Seen.{Draws, keeps};
+ghost use Rattle.pix_script.specs.Seen.{Draws, clears, keeps};
 
 use crate::pixel::pixel_of;
 use pix_el::matte::Matte8;
@@ -69,6 +69,20 @@ impl Line {
         ensures { result ≡ keeps self.now }
     {
         matches!(self, Line::Keep)
+    }
+
+    /// Returns whether the command makes every pixel clear.
+    pub(crate) fn clears(&self) -> bool
+        ensures { result ≡ clears self.now }
+    {
+        matches!(self, Line::Clear)
+    }
+
+    /// Returns whether the command can change an image, given whether all of its pixels are clear.
+    pub(crate) fn changes(&self, is_clear: bool) -> bool
+        ensures { result ≡ not (is_clear && clears self.now) }
+    {
+        !is_clear || !self.clears()
     }
 
     /// Returns the command on a raster that draws so, where `kept` is the kept image, and `None` where nothing is drawn.

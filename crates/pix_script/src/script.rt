@@ -134,15 +134,19 @@ fn draw(alloc: Global, image: &mut Raster<Rgba8p>, commands: &[Line]) -> Result<
     let Ok(mut kept) = Raster::<Rgba8p>::with_clear(alloc, 0, 0) else {
         return Err(PaintFault::OutOfMemory);
     };
-    // A copy is made only where something was drawn since the last one.
+    // A copy is made only where something was drawn since the last one, and what is clear is not cleared again.
     let mut is_kept = false;
+    let mut is_clear = false;
     for line in commands {
-        if !line.keeps() {
+        if line.keeps() {
+            if !is_kept {
+                keep(alloc, image, &mut kept)?;
+                is_kept = true;
+            }
+        } else if line.changes(is_clear) {
             draw_line(image, &kept, line);
             is_kept = false;
-        } else if !is_kept {
-            keep(alloc, image, &mut kept)?;
-            is_kept = true;
+            is_clear = line.clears();
         }
     }
     Ok(())
