@@ -177,7 +177,7 @@ nearest_is_listed entries color listed count i key near end enough small h n =
     let near_small : near < 256 = omega (arith, small found.at, found.same) in
     let keys : distance_to entries color (listed h.place) * 256 + listed h.place ≤ distance_to entries color near * 256 + near = omega (arith, least, h.is) in
     let order = key_order (distance_to entries color (listed h.place)) (distance_to entries color near) (listed h.place) near (small h.place) near_small keys
-        (n.least (listed h.place) stands) in
+    (n.least (listed h.place) stands) in
     elim (cases_order near (listed h.place)) [
       | inl e ↦ e
       | inr o ↦ elim o [
@@ -241,7 +241,7 @@ known_more entries old new used more at places known grows same h here k d below
           let put : get_or (set places at known) k d ≡ known = get_or-set_at places at k known d e (omega arith) in
           subst (λ n. IsKnown entries new more k n) (sym put) (subst (λ j. IsKnown entries new more j known) (sym e) here)
       | inr o ↦
-          let apart : k ≢ at = (λ e. elim o [ | inl b ↦ omega arith | inr b ↦ omega arith ]) in
+          let apart : k ≢ at = (λ e. elim o [ inl b ↦ omega arith | inr b ↦ omega arith ]) in
           subst (λ n. IsKnown entries new more k n) (sym (get_or-set_other places at k known d apart))
           (known_stays entries old new used more k (get_or places k d) grows same (h k d inside))
     ]
