@@ -7,6 +7,7 @@ pub mod BoxSpans
 pub mod Parts
 pub mod CutBoxes
 pub mod Distinct
+pub mod Rows
 pub mod Diffused
 pub mod Corners
 pub mod Listed

@@ -1,6 +1,6 @@
 -- Boxes of colors, each with a list of entries. No clause of a public call cites this file.
-use Rattle.std.specs.Prelude.{◌⊎◌, ◌≡◌, ℕ, ◌+◌, ◌<◌, ◌≤◌, List, length, slice_index, All, nat_lt, if◌then◌else◌}
-use Rattle.pix_table.specs.Nearest.{numbers, distance_to}
+use Rattle.std.specs.Prelude.{◌⊎◌, ◌≡◌, ℕ, ◌+◌, ◌*◌, ◌/◌, ◌%◌, ◌<◌, ◌≤◌, List, [], ◌∷◌, length, slice_index, slice_index_or, nat_lt, if◌then◌else◌}
+use Rattle.pix_table.specs.Nearest.{distance_to}
 use Rattle.pix_table.specs.declared.boxes.Known.{Known}
 use Rattle.pix_table.specs.declared.boxes.Boxes.{Boxes}
 
@@ -30,30 +30,37 @@ pub record IsListed (listed : ℕ → ℕ) (count k : ℕ) : Type 0 where
   pub below : at < count
   pub same : listed at ≡ k
 
--- one that is listed is nearer to a color
-pub record IsBeaten (entries : List (List ℕ)) (color : List ℕ) (listed : ℕ → ℕ) (count k : ℕ) : Type 0 where
+-- another entry is nearer to a color
+pub record IsBeaten (entries : List (List ℕ)) (color : List ℕ) (k : ℕ) : Type 0 where
   pub at : ℕ
-  pub below : at < count
-  pub nearer : distance_to entries color (listed at) < distance_to entries color k
+  pub stands : at < length entries
+  pub nearer : distance_to entries color at < distance_to entries color k
 
--- entries are listed in order, and for each color of a box an entry that is not listed is farther than one that is
-pub record AreListed (entries : List (List ℕ)) (low : List ℕ) (listed : ℕ → ℕ) (count : ℕ) : Type 0 where
+-- the nearest entry to a color is among those that are listed: for each that is not, another one is nearer
+pub record AreEnough (entries : List (List ℕ)) (color : List ℕ) (listed : ℕ → ℕ) (count : ℕ) : Type 0 where
   pub some : 0 < count
   pub inside : (p : ℕ) → p < count → listed p < length entries
-  pub rising : (p q : ℕ) → p < q → q < count → listed p < listed q
-  pub all : (color : List ℕ) → IsInside low color → (k : ℕ) → k < length entries → IsListed listed count k ⊎ IsBeaten entries color listed count k
+  pub all : (k : ℕ) → k < length entries → IsListed listed count k ⊎ IsBeaten entries color k
+
+-- it is so for each color of a box
+abbrev pub AreListed : List (List ℕ) → List ℕ → (ℕ → ℕ) → ℕ → Type 0
+AreListed entries low listed count = (color : List ℕ) → IsInside low color → AreEnough entries color listed count
+
+-- the least numbers of a box: boxes are numbered by their reds, then by their greens, then by their blues
+abbrev pub low_at : ℕ → List ℕ
+low_at place = place / 1024 * 8 ∷ place / 32 % 32 * 8 ∷ place % 32 * 8 ∷ []
 
 -- a box has no list, or one that stands before `used`
-abbrev pub IsKnown : List (List ℕ) → List ℕ → ℕ → Known → Type 0
-IsKnown entries lists used known = 0 < known.count
-    → (known.start + known.count ≤ used) × AreListed entries (numbers known.low) (λ p. slice_index lists (known.start + p)) known.count
+abbrev pub IsKnown : List (List ℕ) → List ℕ → ℕ → ℕ → Known → Type 0
+IsKnown entries lists used place known = 0 < known.count
+    → (known.start + known.count ≤ used) × AreListed entries (low_at place) (λ p. slice_index lists (known.start + p)) known.count
 
 -- each is known
 abbrev pub AreKnown : List (List ℕ) → Boxes → Type 0
-AreKnown entries boxes = All (IsKnown entries boxes.lists boxes.used) boxes.known
+AreKnown entries boxes = (k : ℕ) (d : Known) → k < length boxes.known → IsKnown entries boxes.lists boxes.used k (slice_index_or boxes.known k d)
 
 -- how long the lists are
 pub record HasRoom (boxes : Boxes) : Type 0 where
-  pub places : length boxes.known ≡ 8192
+  pub places : length boxes.known ≡ 32768
   pub lists : length boxes.lists ≡ 65536
   pub used : boxes.used ≤ 65536

@@ -1,31 +1,30 @@
 //! Boxes of colors, each with the entries that may be the nearest to one of its colors.
 //!
 //! The colors are cut into boxes of eight reds, eight greens and eight blues. The entries of a box are listed when a color of it is asked for,
-//! and the list is stored near the place that the box gives. Where that is, and how many lists there is room for, decides only how often they are made:
+//! and the list is stored behind those that are there. How much room there is for lists decides only how often they are made:
 //! no answer depends on it.
 ghost use Rattle.std.specs.Prelude.{◌≡◌, ◌<◌, ◌≤◌, ◌+◌, ◌*◌, ℕ, List, All, length, map, slice_index, true};
 ghost use Rattle.pix_table.specs.Nearest.{IsNearest, distance, distance_to, numbers};
-ghost use Rattle.pix_table.specs.Boxes.{IsInside, IsLow, AreListed, AreKnown, HasRoom, end};
+ghost use Rattle.pix_table.specs.Boxes.{IsInside, IsLow, AreEnough, AreListed, AreKnown, HasRoom, end, low_at};
 
 use crate::color::Color;
 use crate::search::{distance, search};
 
-/// The number of places for boxes.
-const PLACES: usize = 8192;
+/// The number of boxes.
+const BOXES: usize = 32768;
 
 /// The room for lists, one byte for an index.
 const ROOM: usize = 65536;
 
 /// How many boxes are listed as soon as a color of them is asked for.
-const EARLY: u16 = 8192;
+const EARLY: u16 = 16384;
 
 /// How many colors are asked for after that, of boxes without a list, until one of them has its box listed: a list takes as long as a few searches.
 const TURNS: u8 = 4;
 
-/// A box, and where its list stands; it is empty where there is none.
+/// Where the list of a box stands; it is empty where there is none.
 #[derive(Clone, Copy)]
 pub struct Known {
-    low: Color,
     start: u16,
     count: u16,
 }
@@ -33,7 +32,7 @@ pub struct Known {
 /// Boxes, and the lists of their entries.
 #[derive(Drop)]
 pub struct Boxes {
-    known: [Known; PLACES],
+    known: [Known; BOXES],
     lists: [u8; ROOM],
     used: usize,
     early: u16,
@@ -41,45 +40,62 @@ pub struct Boxes {
 }
 
 impl Boxes {
-    /// Makes room for boxes, none of which is known.
+    /// Makes room for boxes, none of which has a list, and says how many are listed as soon as a color of them is asked for.
+    fn with_early(early: u16) -> Boxes
+        ensures room { HasRoom result }
+        ensures empty { All (λ known. known.count ≡ 0) result.known }
+        ensures unused { result.used ≡ 0 }
+    {
+        Boxes {
+            known: [Known { start: 0, count: 0 }; BOXES],
+            lists: [0; ROOM],
+            used: 0,
+            early,
+            turn: 0,
+        }
+    }
+
+    /// Makes room for boxes, none of which has a list.
     pub fn new() -> Boxes
         ensures room { HasRoom result }
         ensures empty { All (λ known. known.count ≡ 0) result.known }
         ensures unused { result.used ≡ 0 }
     {
-        let known = Known {
-            low: Color::default(),
-            start: 0,
-            count: 0,
-        };
-        Boxes {
-            known: [known; PLACES],
-            lists: [0; ROOM],
-            used: 0,
-            early: EARLY,
-            turn: 0,
-        }
+        Boxes::with_early(EARLY)
     }
+}
+
+/// Returns the number of a color's box.
+#[inline(always)]
+fn place_of(clr: Color) -> usize
+    ensures below { result < 32768 }
+    ensures inside { IsInside (low_at result) (numbers clr) }
+{
+    usize::from(clr.red) / 8 * 1024 + usize::from(clr.green) / 8 * 32 + usize::from(clr.blue) / 8
 }
 
 /// Returns the color of a box that is least in each channel.
-fn low_of(clr: Color) -> Color
-    ensures low { IsLow (numbers result) }
-    ensures inside { IsInside (numbers result) (numbers clr) }
+fn low_of(place: usize) -> Color
+    requires { place < 32768 }
+    ensures low { numbers result ≡ low_at place }
+    ensures is_low { IsLow (numbers result) }
 {
     Color {
-        red: clr.red / 8 * 8,
-        green: clr.green / 8 * 8,
-        blue: clr.blue / 8 * 8,
+        red: (place / 1024 * 8) as u8,
+        green: (place / 32 % 32 * 8) as u8,
+        blue: (place % 32 * 8) as u8,
     }
 }
 
-/// Returns the place of a box. Boxes that are near to each other have places of their own.
-fn place_of(low: Color) -> usize
-    ensures { result < 8192 }
+/// Returns a color near the middle of a box.
+fn middle(low: Color) -> Color
+    requires { IsLow (numbers low) }
 {
-    (usize::from(low.red) / 8 + usize::from(low.green) / 8 * 20 + usize::from(low.blue) / 8 * 400)
-        % PLACES
+    Color {
+        red: low.red + 4,
+        green: low.green + 4,
+        blue: low.blue + 4,
+    }
 }
 
 /// Returns the end of a box in one channel, from `low` on, that lies on the side of `y` as seen from `x`.
@@ -105,6 +121,8 @@ fn is_nearer(near: Color, far: Color, low: Color) -> bool
 }
 
 /// Lists the entries that may be nearest to a color of a box, in order, from `start` on; returns how many they are.
+///
+/// An entry is left out where the one that is nearest to the middle of the box is nearer to each of its colors.
 fn list(entries: &[Color], low: Color, lists: &mut [u8], start: usize) -> usize
     requires some { 0 < length entries.now }
     requires few { length entries.now ≤ 256 }
@@ -116,48 +134,43 @@ fn list(entries: &[Color], low: Color, lists: &mut [u8], start: usize) -> usize
         → slice_index lists.new k ≡ slice_index lists.old k }
     ensures few { result ≤ length entries.now }
 {
-    let at = usize::from(search(entries, low));
+    let at = usize::from(search(entries, middle(low)));
     let mut count = 0;
     for i in 0..entries.len() {
+        lists[start + count] = i as u8;
         if !is_nearer(entries[at], entries[i], low) {
-            lists[start + count] = i as u8;
             count += 1;
         }
     }
     count
 }
 
-/// Returns the nearest of the entries that are listed from `start` on.
-fn nearest_listed(
-    entries: &[Color],
-    lists: &[u8],
-    start: usize,
-    count: usize,
-    low: Color,
-    clr: Color,
-) -> u8
-    requires room { start + count ≤ length lists.now }
-    requires listed { AreListed (map numbers entries.now) (numbers low)
-        (λ p. slice_index lists.now (start + p)) count }
-    requires inside { IsInside (numbers low) (numbers clr) }
+/// Returns the nearest of the entries that are listed.
+#[inline(always)]
+fn nearest_listed(entries: &[Color], lists: &[u8], known: Known, clr: Color) -> u8
+    requires room { known.start + known.count ≤ length lists.now }
+    requires enough { AreEnough (map numbers entries.now) (numbers clr)
+        (λ p. slice_index lists.now (known.start + p)) known.count }
     ensures { IsNearest (map numbers entries.now) (numbers clr) result }
 {
+    let start = usize::from(known.start);
     let mut least = key(entries, lists[start], clr);
-    for p in 0..count {
+    for p in 1..usize::from(known.count) {
         least = least.min(key(entries, lists[start + p], clr));
     }
     (least % 256) as u8
 }
 
 /// Returns how far an entry is from a color, 256 times, and its index: of keys the least is that of the nearest entry.
-fn key(entries: &[Color], index: u8, clr: Color) -> u64
+#[inline(always)]
+fn key(entries: &[Color], index: u8, clr: Color) -> u32
     requires { index < length entries.now }
     ensures { result ≡ distance_to (map numbers entries.now) (numbers clr) index * 256 + index }
 {
-    u64::from(distance(entries[usize::from(index)], clr)) * 256 + u64::from(index)
+    distance(entries[usize::from(index)], clr) * 256 + u32::from(index)
 }
 
-/// Makes room for one list more: where there is none, all are given up.
+/// Makes room for one list more: where there is none, all are given up, and from then on a box is listed in its turn.
 fn make_room(boxes: &mut Boxes, entries: &[Color])
     requires few { length entries.now ≤ 256 }
     requires room { HasRoom boxes.old }
@@ -167,47 +180,42 @@ fn make_room(boxes: &mut Boxes, entries: &[Color])
     ensures free { boxes.new.used + length entries.now ≤ 65536 }
 {
     if ROOM - boxes.used < entries.len() {
-        *boxes = Boxes::new();
+        *boxes = Boxes::with_early(0);
     }
 }
 
-/// Lists the entries of a box at its place, and returns it.
-fn add(boxes: &mut Boxes, entries: &[Color], low: Color) -> Known
+/// Lists the entries of a box, and returns where its list stands.
+fn add(boxes: &mut Boxes, entries: &[Color], place: usize) -> Known
     requires some { 0 < length entries.now }
     requires few { length entries.now ≤ 256 }
-    requires low { IsLow (numbers low) }
+    requires place { place < 32768 }
     requires room { HasRoom boxes.old }
     requires known { AreKnown (map numbers entries.now) boxes.old }
     ensures room { HasRoom boxes.new }
     ensures known { AreKnown (map numbers entries.now) boxes.new }
     ensures within { result.start + result.count ≤ boxes.new.used }
-    ensures listed { AreListed (map numbers entries.now) (numbers low)
+    ensures listed { AreListed (map numbers entries.now) (low_at place)
         (λ p. slice_index boxes.new.lists (result.start + p)) result.count }
 {
     make_room(boxes, entries);
     let start = boxes.used;
-    let count = list(entries, low, &mut boxes.lists, start);
+    let count = list(entries, low_of(place), &mut boxes.lists, start);
     let known = Known {
-        low,
         start: start as u16,
         count: count as u16,
     };
-    boxes.known[place_of(low)] = known;
+    boxes.known[place] = known;
     boxes.used = start + count;
     known
 }
 
-/// Returns whether a box is known, or else whether its entries are to be listed.
-fn is_listed(boxes: &mut Boxes, low: Color) -> bool
+/// Returns whether a box that has no list is to have one now.
+fn is_due(boxes: &mut Boxes) -> bool
     requires { HasRoom boxes.old }
     ensures known { boxes.new.known ≡ boxes.old.known }
     ensures lists { boxes.new.lists ≡ boxes.old.lists }
     ensures used { boxes.new.used ≡ boxes.old.used }
 {
-    let known = boxes.known[place_of(low)];
-    if known.count > 0 && known.low == low {
-        return true;
-    }
     if boxes.early > 0 {
         boxes.early -= 1;
         return true;
@@ -216,27 +224,25 @@ fn is_listed(boxes: &mut Boxes, low: Color) -> bool
     boxes.turn % TURNS == 0
 }
 
-/// Returns a box, and lists its entries where they are not.
-fn known_of(boxes: &mut Boxes, entries: &[Color], low: Color) -> Known
+/// Returns the index of the entry that is nearest to a color whose box has no list, and lists the box if it is due.
+fn nearest_unlisted(boxes: &mut Boxes, entries: &[Color], clr: Color) -> u8
     requires some { 0 < length entries.now }
     requires few { length entries.now ≤ 256 }
-    requires low { IsLow (numbers low) }
     requires room { HasRoom boxes.old }
     requires known { AreKnown (map numbers entries.now) boxes.old }
+    ensures nearest { IsNearest (map numbers entries.now) (numbers clr) result }
     ensures room { HasRoom boxes.new }
     ensures known { AreKnown (map numbers entries.now) boxes.new }
-    ensures within { result.start + result.count ≤ boxes.new.used }
-    ensures listed { AreListed (map numbers entries.now) (numbers low)
-        (λ p. slice_index boxes.new.lists (result.start + p)) result.count }
 {
-    let known = boxes.known[place_of(low)];
-    if known.count > 0 && known.low == low {
-        return known;
+    if !is_due(boxes) {
+        return search(entries, clr);
     }
-    add(boxes, entries, low)
+    let known = add(boxes, entries, place_of(clr));
+    nearest_listed(entries, &boxes.lists, known, clr)
 }
 
 /// Returns the index of the nearest of at least 1 and at most 256 entries, of which the boxes have the lists.
+#[inline(always)]
 pub fn nearest_of(boxes: &mut Boxes, entries: &[Color], clr: Color) -> u8
     requires some { 0 < length entries.now }
     requires few { length entries.now ≤ 256 }
@@ -246,11 +252,10 @@ pub fn nearest_of(boxes: &mut Boxes, entries: &[Color], clr: Color) -> u8
     ensures room { HasRoom boxes.new }
     ensures known { AreKnown (map numbers entries.now) boxes.new }
 {
-    let low = low_of(clr);
-    if !is_listed(boxes, low) {
-        return search(entries, clr);
+    let known = boxes.known[place_of(clr)];
+    if known.count > 0 {
+        nearest_listed(entries, &boxes.lists, known, clr)
+    } else {
+        nearest_unlisted(boxes, entries, clr)
     }
-    let known = known_of(boxes, entries, low);
-    let (start, count) = (usize::from(known.start), usize::from(known.count));
-    nearest_listed(entries, &boxes.lists, start, count, low, clr)
 }

@@ -1,10 +1,10 @@
 //! What is needed of a color.
 ghost use Rattle.std.specs.Prelude.{◌≡◌, ℕ, List, slice_index};
 ghost use Rattle.pix_table.specs.Nearest.{numbers, alpha_of};
-ghost use Rattle.pix_table.specs.SrgbColor.{srgb_numbers};
+ghost use Rattle.pix_table.specs.SrgbColor.{srgb_numbers, srgba_numbers};
 
 use pix_el::el::Pixel;
-use pix_el::rgb::SRgb8;
+use pix_el::rgb::{SRgb8, SRgba8};
 
 /// Red, green and blue, of eight bits each.
 #[repr(C)]
@@ -74,5 +74,23 @@ impl TablePixel for Color {
 
     fn alpha(self) -> u8 {
         255
+    }
+}
+
+impl TablePixel for SRgba8 {
+    ghost values = { srgba_numbers };
+
+    fn rgb(self) -> Color {
+        let channels = self.channels();
+        Color {
+            red: u8::from(channels[0]),
+            green: u8::from(channels[1]),
+            blue: u8::from(channels[2]),
+        }
+    }
+
+    fn alpha(self) -> u8 {
+        let channels = self.channels();
+        u8::from(channels[3])
     }
 }

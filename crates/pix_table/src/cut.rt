@@ -18,6 +18,7 @@ struct Span {
 }
 
 /// Returns the number of a channel: 0 is red, 1 green, 2 blue.
+#[inline(always)]
 pub(crate) fn channel(clr: Color, channel: usize) -> u8
     ensures { result ≡ slice_index (numbers clr) channel }
 {

@@ -53,6 +53,7 @@ impl Matcher {
     }
 
     /// Returns the index of the entry that is nearest to a color, the first of equals.
+    #[inline(always)]
     pub fn nearest(&mut self, clr: Color) -> u8
         ensures nearest { IsNearest self.old (numbers clr) result }
         ensures same { self.new ≡ self.old }
@@ -62,6 +63,7 @@ impl Matcher {
 }
 
 /// Returns the index of a pixel: `kept` where its alpha is below `alpha`, and else that of the nearest entry.
+#[inline(always)]
 fn matched<P: TablePixel>(matcher: &mut Matcher, pixel: P, alpha: u8, kept: u8) -> u8
     ensures matched { IsMatched matcher.old alpha kept (P.values pixel) result }
     ensures same { matcher.new ≡ matcher.old }

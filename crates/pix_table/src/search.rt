@@ -40,8 +40,10 @@ pub fn search(entries: &[Color], clr: Color) -> u8
 }
 
 /// Returns how far two colors are apart.
+#[inline(always)]
 pub fn distance(p: Color, q: Color) -> u32
-    ensures { result ≡ distance (numbers p) (numbers q) }
+    ensures distance { result ≡ distance (numbers p) (numbers q) }
+    ensures few { result ≤ 195075 }
 {
     squared_difference(p.red, q.red)
         + squared_difference(p.green, q.green)
@@ -49,8 +51,10 @@ pub fn distance(p: Color, q: Color) -> u32
 }
 
 /// Returns the square of how far two channels are apart.
+#[inline(always)]
 fn squared_difference(x: u8, y: u8) -> u32
-    ensures { result ≡ squared_difference x y }
+    ensures square { result ≡ squared_difference x y }
+    ensures few { result ≤ 65025 }
 {
     let apart = u32::from(x.abs_diff(y));
     apart * apart

@@ -4,7 +4,7 @@ use Rattle.std.proofs.lemmas.List.{length-map, get_or-set_other}
 use Rattle.pix_table.specs.declared.color.Color.{Color}
 use Rattle.pix_table.specs.Nearest.{numbers, distance_to}
 use Rattle.pix_table.specs.Boxes.{IsInside}
-use Rattle.pix_table.proofs.Listed.{AreSifted, none_sifted, sifted_in, sifted_out, all_sifted, inside_itself, entry_distance}
+use Rattle.pix_table.proofs.Listed.{AreSifted, none_sifted, sifted_in, sifted_out, all_sifted, entry_distance}
 use Rattle.pix_table.proofs.boxes.list.Goals as goal
 use Rattle.pix_table.proofs.boxes.list.Goals.{then-not-is_nearer, else-not-is_nearer}
 
@@ -20,18 +20,17 @@ loop-i-preserved c =
     let count = c.loop-i.count in
     let few : c.loop-i.count ≤ c.loop-i.i = c.loop-i.invariant.few in
     let room : start + count < length c.loop-i.lists = omega arith in
+    let lists = set c.loop-i.lists (start + count) c.loop-i.i in
+    let before : (k : ℕ) → k < start → get_or lists k 0 ≡ get_or c.args.lists.now k 0 =
+    (λ k b. let apart : k ≢ start + count = (λ e. omega arith) in get_or-set_other c.loop-i.lists (start + count) k c.loop-i.i 0 apart ∙ c.loop-i.invariant.before k b) in
     elim c.if-not-is_nearer.branch [
       | then-not-is_nearer w ↦
-          let lists = set c.loop-i.lists (start + count) c.loop-i.i in
           let new : AreSifted entries low c.from-at.result (c.loop-i.i + 1) (λ p. get_or lists (start + p) 0) (count + 1) =
           sifted_in entries low c.from-at.result c.loop-i.i c.loop-i.lists start count room c.loop-i.invariant.sifted in
           let more : count + 1 ≤ c.loop-i.i + 1 = omega arith in
-          let before : (k : ℕ) → k < start → get_or lists k 0 ≡ get_or c.args.lists.now k 0 =
-          (λ k b. let apart : k ≢ start + count = (λ e. omega arith) in get_or-set_other c.loop-i.lists (start + count) k c.loop-i.i 0 apart ∙ c.loop-i.invariant.before k b) in
-          rw (w.lists-is, w.count-is) (record { sifted = new; few = more; before = before })
+          rw (w.count-is) (record { sifted = new; few = more; before = before })
       | else-not-is_nearer w ↦
-          let long : length entries ≡ length c.args.entries.now = length-map c.args.entries.now numbers in
-          let stands : c.from-at.result < length c.args.entries.now = omega (arith, c.search.ensures.stands) in
+          let stands : c.from-at.result < length c.args.entries.now = omega (arith, c.search.ensures.stands, length-map c.args.entries.now numbers) in
           let nearer : (color : List ℕ) → IsInside low color → distance_to entries color c.from-at.result < distance_to entries color c.loop-i.i =
           (λ color inside. omega (
             arith,
@@ -39,13 +38,13 @@ loop-i-preserved c =
             entry_distance c.args.entries.now color c.from-at.result d stands,
             entry_distance c.args.entries.now color c.loop-i.i d (omega arith),
           )) in
-          let new : AreSifted entries low c.from-at.result (c.loop-i.i + 1) (λ p. get_or c.loop-i.lists (start + p) 0) count =
-          sifted_out entries low c.from-at.result c.loop-i.i (λ p. get_or c.loop-i.lists (start + p) 0) count c.loop-i.invariant.sifted nearer in
+          let new : AreSifted entries low c.from-at.result (c.loop-i.i + 1) (λ p. get_or lists (start + p) 0) count =
+          sifted_out entries low c.from-at.result c.loop-i.i c.loop-i.lists start count c.loop-i.invariant.sifted nearer in
           let more : count ≤ c.loop-i.i + 1 = omega arith in
-          rw (w.lists-is, w.count-is) (record { sifted = new; few = more; before = c.loop-i.invariant.before })
+          rw (w.count-is) (record { sifted = new; few = more; before = before })
     ]
 
 pub returns-clause-listed : goal.returns-clause-listed
 returns-clause-listed c =
     all_sifted (map numbers c.args.entries.now) (numbers c.args.low) c.from-at.result c.loop-i.i (λ p. get_or c.loop-i.lists (c.args.start + p) 0) c.loop-i.count
-    (omega (arith, length-map c.args.entries.now numbers)) (omega (arith, length-map c.args.entries.now numbers, c.search.ensures.stands)) c.loop-i.invariant.sifted (inside_itself _)
+    (omega (arith, length-map c.args.entries.now numbers)) (omega (arith, length-map c.args.entries.now numbers, c.search.ensures.stands)) c.loop-i.invariant.sifted

@@ -6,4 +6,4 @@ use Rattle.pix_table.proofs.boxes.nearest_listed.Given as goal
 
 -- `least` is the least key of the first p that are listed
 abbrev pub invariant-loop-p : goal.invariant-loop-p
-invariant-loop-p l = IsLeastKey (map numbers l.entries) (numbers l.clr) (λ p. get_or l.lists (l.start + p) 0) l.count l.p l.least
+invariant-loop-p l = IsLeastKey (map numbers l.entries) (numbers l.clr) (λ p. get_or l.lists (l.fn.known.start + p) 0) l.fn.known.count l.p l.least

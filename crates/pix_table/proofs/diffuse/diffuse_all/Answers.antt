@@ -1,5 +1,6 @@
 -- Of `diffuse_all`: its clause, and that the invariant of its loop over `k` holds at first and after each turn.
 use Rattle.std.proofs.Common.{◌≡◌, ◌+◌, ◌*◌, ◌%◌, ◌<◌, ◌≤◌, ℕ, [], length, map, take, set, get_or, refl, arith, sym, ap, ◌∙◌, subst}
+use Rattle.std.proofs.Math.Nat.{zero-mod}
 use Rattle.std.proofs.lemmas.List.{length-map, get_or-map, take_more_set}
 use Rattle.pix_table.specs.Nearest.{numbers, alpha_of, IsNearest}
 use Rattle.pix_table.specs.Diffusion.{wanted_at}
@@ -9,7 +10,7 @@ use Rattle.pix_table.proofs.diffuse.diffuse_all.Goals as goal
 use Rattle.pix_table.proofs.diffuse.diffuse_all.Goals.{then-clear, else-clear}
 
 pub loop-k-init : goal.loop-k-init
-loop-k-init g c = record { done = none_done _ _ _ _ _ _ _; same = refl }
+loop-k-init g c = record { done = none_done _ _ _ _ _ _ _; same = refl; place = sym (zero-mod (2 * c.args.how.width)) }
 
 pub loop-k-preserved : goal.loop-k-preserved
 loop-k-preserved g c =
@@ -20,22 +21,28 @@ loop-k-preserved g c =
     ∙ sym (get_or-map g.P.TablePixel.values c.args.pixels.now c.loop-k.k c.index-pixels-k.result [] c.loop-k-test.true) in
     let long_wanted : length c.loop-k.wanted ≡ 2 * c.args.how.width = c.loop-k.auto.wanted ∙ c.requires.wanted in
     let long_found : length c.loop-k.found ≡ 2 * c.args.how.width = c.loop-k.auto.found ∙ c.requires.found in
+    let long : length c.if-clear.wanted ≡ 2 * c.args.how.width = c.if-clear.auto.wanted ∙ long_wanted in
+    let here : c.loop-k.place ≡ c.loop-k.k % length c.if-clear.wanted = c.loop-k.invariant.place ∙ ap (λ m. c.loop-k.k % m) (sym long) in
+    let place : c.next_place-place.result ≡ (c.loop-k.k + 1) % (2 * c.args.how.width) =
+    c.next_place-place.ensures.next c.loop-k.k here ∙ ap (λ m. (c.loop-k.k + 1) % m) long in
     elim c.if-clear.branch [
       | then-clear w ↦
           let below : alpha_of (g.P.TablePixel.values c.index-pixels-k.result) < c.args.how.alpha = omega (arith, c.alpha.ensures, w.if-clear.true) in
           record {
             done = alike _ _ _ _ _ _ _ _ _ _ _ _
-                (w.wanted-is ∙ ap (λ m. set c.loop-k.wanted (c.loop-k.k % m) black) long_wanted)
-                (w.found-is ∙ ap (λ m. set c.loop-k.found (c.loop-k.k % m) black) long_wanted)
+                (w.wanted-is ∙ ap (λ m. set c.loop-k.wanted m black) c.loop-k.invariant.place)
+                (w.found-is ∙ ap (λ m. set c.loop-k.found m black) c.loop-k.invariant.place)
                 (ap (take (c.loop-k.k + 1)) w.indices-is ∙ take_more_set c.loop-k.indices c.loop-k.k c.args.how.kept (omega arith))
                 (clear_done _ _ _ _ _ _ _ _ _ c.requires.row long_wanted long_found c.loop-k.invariant.done black refl
                 (subst (λ v. alpha_of v < c.args.how.alpha) pixel below));
             same = w.matcher-is ∙ c.loop-k.invariant.same;
+            place = place;
           }
       | else-clear w ↦
           let p : Color = w.wanted_at-color.result in
           let i : ℕ = w.nearest-index.result in
-          let q : Color = get_or c.args.entries.now w.nearest-index.result black in
+          let q : Color = w.color.result in
+          let e = w.index-entries-from.result in
           let again : g.P.TablePixel.values w.index-pixels-k-else-clear.result ≡ get_or (map g.P.TablePixel.values c.args.pixels.now) c.loop-k.k [] =
           ap g.P.TablePixel.values w.index-pixels-k-else-clear.is
           ∙ sym (get_or-map g.P.TablePixel.values c.args.pixels.now c.loop-k.k w.index-pixels-k-else-clear.result [] c.loop-k-test.true) in
@@ -43,18 +50,19 @@ loop-k-preserved g c =
           let nearest : IsNearest c.args.matcher.now (numbers w.wanted_at-color.result) w.nearest-index.result =
           subst (λ m. IsNearest m (numbers w.wanted_at-color.result) w.nearest-index.result) c.loop-k.invariant.same w.nearest-index.ensures.nearest in
           let inside : w.nearest-index.result < length c.args.entries.now =
-          omega (arith, nearest.stands, ap length c.requires.entries, length-map c.args.entries.now numbers) in
-          let entry : numbers (get_or c.args.entries.now w.nearest-index.result black) ≡ get_or c.args.matcher.now w.nearest-index.result [] =
-          sym (ap (λ m. get_or m w.nearest-index.result []) c.requires.entries ∙ get_or-map numbers c.args.entries.now w.nearest-index.result black [] inside) in
+          omega (arith, nearest.stands, ap length c.requires.entries, length-map c.args.entries.now g.C.TableColor.channels) in
+          let entry : numbers w.color.result ≡ get_or c.args.matcher.now w.nearest-index.result [] =
+          w.color.ensures ∙ ap g.C.TableColor.channels w.index-entries-from.is ∙ ap (λ j. g.C.TableColor.channels (get_or c.args.entries.now j e)) w.from.ensures
+          ∙ sym (ap (λ m. get_or m w.nearest-index.result []) c.requires.entries ∙ get_or-map g.C.TableColor.channels c.args.entries.now w.nearest-index.result e [] inside) in
           record {
             done = alike _ _ _ _ _ _ _ _ _ _ _ _
-                (w.wanted-is ∙ ap (λ m. set c.loop-k.wanted (c.loop-k.k % m) p) long_wanted)
-                (w.found-is ∙ ap (λ m. set c.loop-k.found (c.loop-k.k % m) (get_or c.args.entries.now w.from.result black)) long_wanted
-                ∙ ap (λ j. set c.loop-k.found (c.loop-k.k % (2 * c.args.how.width)) (get_or c.args.entries.now j black)) w.from.ensures)
+                (w.wanted-is ∙ ap (λ m. set c.loop-k.wanted m p) c.loop-k.invariant.place)
+                (w.found-is ∙ ap (λ m. set c.loop-k.found m q) c.loop-k.invariant.place)
                 (ap (take (c.loop-k.k + 1)) w.indices-is ∙ take_more_set c.loop-k.indices c.loop-k.k i (omega arith))
                 (shown_done _ _ _ _ _ _ _ _ _ c.requires.row long_wanted long_found c.loop-k.invariant.done p q i
                 (λ ws gs a b. w.wanted_at-color.ensures ws gs a b ∙ ap (wanted_at c.args.how.width ws gs c.loop-k.k) again)
                 (subst (λ v. c.args.how.alpha ≤ alpha_of v) pixel above) nearest entry);
             same = w.matcher-is ∙ w.nearest-index.ensures.same ∙ c.loop-k.invariant.same;
+            place = place;
           }
     ]

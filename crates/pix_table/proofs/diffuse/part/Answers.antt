@@ -10,7 +10,7 @@ returns-then-there-clause-part c = λ all latest.
     let black : Color = record { red = 0; green = 0; blue = 0 } in
     let here : numbers (get_or c.args.colors.now ((c.args.k - c.args.back) % (2 * c.args.width)) black) ≡ get_or all (c.args.k - c.args.back) [] =
     latest (c.args.k - c.args.back) black (omega (arith, there.0, there.1)) (omega (arith, there.1, there.2)) in
+    let at : c.earlier_place-at.result ≡ (c.args.k - c.args.back) % (2 * c.args.width) =
+    c.earlier_place-at.ensures ∙ ap (λ m. (c.args.k - c.args.back) % m) c.requires.many in
     rw c.if-there.true (ap (λ n. c.args.sixteenths * n)
-    (c.from.ensures ∙ c.channel.ensures
-    ∙ ap (λ m. get_or (numbers (get_or c.args.colors.now ((c.args.k - c.args.back) % m) black)) c.args.c 0) c.requires.many
-    ∙ ap (λ l. get_or l c.args.c 0) here))
+    (c.from.ensures ∙ c.channel.ensures ∙ ap (λ m. get_or (numbers (get_or c.args.colors.now m black)) c.args.c 0) at ∙ ap (λ l. get_or l c.args.c 0) here))

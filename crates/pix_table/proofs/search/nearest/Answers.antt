@@ -13,7 +13,7 @@ loop-i-preserved g c =
     let entry : numbers c.color-in-loop-i.result ≡ get_or (map g.C.TableColor.channels c.args.colors.now) i [] =
     c.color-in-loop-i.ensures ∙ ap g.C.TableColor.channels c.index-colors-i.is ∙ sym (get_or-map g.C.TableColor.channels c.args.colors.now i c.index-colors-i.result [] (omega arith)) in
     let next : c.distance-next.result ≡ distance_to (map g.C.TableColor.channels c.args.colors.now) (numbers c.args.clr) i =
-    c.distance-next.ensures ∙ ap (λ p. distance p (numbers c.args.clr)) entry in
+    c.distance-next.ensures.distance ∙ ap (λ p. distance p (numbers c.args.clr)) entry in
     elim c.if-next-least.branch [
       | then-next-least w ↦
           let new : IsNearestBelow (map g.C.TableColor.channels c.args.colors.now) (numbers c.args.clr) (i + 1) i c.distance-next.result =

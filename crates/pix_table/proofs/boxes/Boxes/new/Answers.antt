@@ -1,7 +1,0 @@
--- Of `Boxes::new`: that no box has a list.
-use Rattle.std.proofs.Common.{◌≡◌, refl}
-use Rattle.std.proofs.lemmas.List.Elements.{All-replicate}
-use Rattle.pix_table.proofs.boxes.Boxes.new.Goals as goal
-
-pub returns-clause-empty : goal.returns-clause-empty
-returns-clause-empty c = All-replicate (λ known. known.count ≡ 0) 8192 _ refl
