@@ -10,7 +10,9 @@ use crate::copy::{CopiedColor, CopiedPixels};
 use crate::format::{Flat, FlatPixel};
 use crate::kind;
 use crate::operator::op_at;
-use crate::sixteen::{CompositedColor, CompositedPixels, FadedPixels, MattedColor, MattedPixels};
+use crate::sixteen::{
+    CompositedColor, CompositedPixels, FadedPixels, MattedColor, MattedPixels, Merged,
+};
 use crate::size::LIMIT;
 use pix_chan::chan::{Linear, Premultiplied};
 use pix_el::el::{Pix, Pixel};
@@ -100,16 +102,23 @@ impl<
                 fill_window(pixels, window, to, &CompositedColor::<P, O> { clr, op });
             }
             kind::COMPOSITE_IMAGE => {
-                let change = CompositedPixels::<P, O> {
-                    op,
-                    format: PhantomData,
+                let change = Merged::<P, P, CompositedPixels<O>> {
+                    change: CompositedPixels { op },
+                    formats: PhantomData,
                 };
                 let src_shape = source_shape(command);
                 blit_window(pixels, window, to, command.pixels, src_shape, from, &change);
             }
             kind::COMPOSITE_MATTE => {
                 let clr = command.color.read();
-                let change = MattedColor::<P, O> { clr, op };
+                let change = Merged::<
+                    P,
+                    Pix<1, P::Chan, Matte, Premultiplied, Linear>,
+                    MattedColor<P, O>,
+                > {
+                    change: MattedColor { clr, op },
+                    formats: PhantomData,
+                };
                 let src_shape = source_shape(command);
                 blit_window(pixels, window, to, command.mattes, src_shape, from, &change);
             }
@@ -169,10 +178,10 @@ fn composite_faded<
         (command_of command.now ∷ []))) }
 {
     let matte = command.alpha.read();
-    let change = FadedPixels::<P, P::Chan, O> {
-        alpha: matte.alpha(),
-        op,
-        format: PhantomData,
+    let alpha = matte.alpha();
+    let change = Merged::<P, P, FadedPixels<P::Chan, O>> {
+        change: FadedPixels { alpha, op },
+        formats: PhantomData,
     };
     blit_window(
         pixels,

@@ -1,5 +1,5 @@
 //! Composites in a row of pixels in memory: sixteen at a time are read, composited by planes and written back.
-ghost use Rattle.std.specs.Prelude.{◌≡◌, ◌≤◌, ◌+◌, List, ℕ, length, map, min, replicate, take, ⊤};
+ghost use Rattle.std.specs.Prelude.{◌≡◌, ◌≤◌, ◌<◌, ◌+◌, List, ℕ, length, map, min, replicate, take, ⊤};
 ghost use Rattle.pix_chan.specs.Runs.{over};
 ghost use Rattle.pix_el.specs.PixelComposite.{pixel_composite, matted_composite, matte_value};
 
@@ -38,7 +38,7 @@ fn write_pixels<P: Pixel, D: FlatPixel<P>>(part: &mut [D], pixels: &[P])
 }
 
 /// A change of the pixels of a row, each by a pixel of another row.
-trait Merge<P: Pixel, Q: Pixel> {
+pub(crate) trait Merge<P: Pixel, Q: Pixel> {
     /// What it makes of a source and a pixel.
     ghost makes: { Self → List ℕ → List ℕ → List ℕ };
 
@@ -55,117 +55,87 @@ trait Merge<P: Pixel, Q: Pixel> {
             makes self.now (Q.numbers src.now) (P.numbers pixel.old) };
 }
 
-/// Changes sixteen pixels in memory.
+/// Changes `N` pixels in memory, at most sixteen, each by the pixel of the source at the same place.
 #[inline(always)]
-fn merge_sixteen<P: Pixel, D: FlatPixel<P>, Q: Pixel, S: Flat<Q>, B: Merge<P, Q>>(
+fn merge_block<const N: usize, P: Pixel, D: FlatPixel<P>, Q: Pixel, S: Flat<Q>, B: Merge<P, Q>>(
     part: &mut [D],
     src: &[S],
     change: &B,
 )
-    requires size { length part.old ≡ 16 }
-    requires src_size { length src.now ≡ 16 }
+    requires few { N ≤ 16 }
+    requires size { length part.old ≡ N }
+    requires src_size { length src.now ≡ N }
     ensures { map D.numbers part.new ≡ over (B.makes change.now) (map S.numbers src.now)
         (map D.numbers part.old) }
 {
-    let mut pixels = [P::default(); 16];
-    let mut sources = [Q::default(); 16];
+    let mut pixels = [P::default(); N];
+    let mut sources = [Q::default(); N];
     read_pixels::<P, D>(part, &mut pixels);
     read_pixels::<Q, S>(src, &mut sources);
     change.merge(&mut pixels, &sources);
     write_pixels(part, &pixels);
 }
 
-/// Changes four pixels in memory.
+/// Changes as many whole blocks of `N` pixels of a row, at most sixteen, as it shares with the source, each pixel by the one at the same
+/// place, and returns the number of those pixels.
 #[inline(always)]
-fn merge_four<P: Pixel, D: FlatPixel<P>, Q: Pixel, S: Flat<Q>, B: Merge<P, Q>>(
-    part: &mut [D],
-    src: &[S],
-    change: &B,
-)
-    requires size { length part.old ≡ 4 }
-    requires src_size { length src.now ≡ 4 }
-    ensures { map D.numbers part.new ≡ over (B.makes change.now) (map S.numbers src.now)
-        (map D.numbers part.old) }
-{
-    let mut pixels = [P::default(); 4];
-    let mut sources = [Q::default(); 4];
-    read_pixels::<P, D>(part, &mut pixels);
-    read_pixels::<Q, S>(src, &mut sources);
-    change.merge(&mut pixels, &sources);
-    write_pixels(part, &pixels);
-}
-
-/// Changes as many whole sixteens of a row as it shares with the source, each pixel by the one at the same place, and returns the
-/// number of those pixels.
-#[inline(always)]
-fn merge_sixteens<P: Pixel, D: FlatPixel<P>, Q: Pixel, S: Flat<Q>, B: Merge<P, Q>>(
+fn merge_blocks<const N: usize, P: Pixel, D: FlatPixel<P>, Q: Pixel, S: Flat<Q>, B: Merge<P, Q>>(
     row: &mut [D],
     src: &[S],
     change: &B,
 ) -> usize
+    requires some { 0 < N }
+    requires few { N ≤ 16 }
     ensures within { result ≤ min (length row.old) (length src.now) }
     ensures merged { map D.numbers row.new ≡ over (B.makes change.now)
         (take result (map S.numbers src.now)) (map D.numbers row.old) }
-{
-    let sixteens = row.len().min(src.len()) / 16;
-    for k in 0..sixteens {
-        merge_sixteen(
-            &mut row[16 * k..16 * k + 16],
-            &src[16 * k..16 * k + 16],
-            change,
-        );
-    }
-    16 * sixteens
-}
-
-/// Changes as many whole fours of a row as it shares with the source, each pixel by the one at the same place, and returns the number of
-/// those pixels.
-#[inline(always)]
-fn merge_fours<P: Pixel, D: FlatPixel<P>, Q: Pixel, S: Flat<Q>, B: Merge<P, Q>>(
-    row: &mut [D],
-    src: &[S],
-    change: &B,
-) -> usize
-    ensures within { result ≤ min (length row.old) (length src.now) }
-    ensures merged { map D.numbers row.new ≡ over (B.makes change.now)
-        (take result (map S.numbers src.now)) (map D.numbers row.old) }
-{
-    let fours = row.len().min(src.len()) / 4;
-    for k in 0..fours {
-        merge_four(&mut row[4 * k..4 * k + 4], &src[4 * k..4 * k + 4], change);
-    }
-    4 * fours
-}
-
-/// Changes each pixel of a row by the pixel of the source at the same place.
-#[inline(always)]
-fn merge_row<P: Pixel, D: FlatPixel<P>, Q: Pixel, S: Flat<Q>, B: Merge<P, Q>>(
-    row: &mut [D],
-    src: &[S],
-    change: &B,
-)
-    ensures { map D.numbers row.new ≡ over (B.makes change.now) (map S.numbers src.now)
-        (map D.numbers row.old) }
 {
     let count = row.len().min(src.len());
-    let sixteens = merge_sixteens(row, src, change);
-    let start = sixteens + merge_fours(&mut row[sixteens..], &src[sixteens..], change);
-    for i in start..count {
-        let mut pixel = row[i].read();
-        change.merge_one(&mut pixel, &src[i].read());
-        row[i] = D::write(&pixel);
+    for k in 0..count / N {
+        let at = N * k;
+        merge_block::<N, P, D, Q, S, B>(&mut row[at..at + N], &src[at..at + N], change);
+    }
+    count / N * N
+}
+
+/// A change of the library's pixels `P`, each by a pixel `Q`, as one of pixels in memory.
+#[derive(Clone, Copy)]
+pub(crate) struct Merged<P, Q, B> {
+    pub(crate) change: B,
+    pub(crate) formats: PhantomData<(P, Q)>,
+}
+
+impl<P: Pixel, D: FlatPixel<P>, Q: Pixel, S: Flat<Q>, B: Merge<P, Q>> Blit<D, S>
+    for Merged<P, Q, B> {
+    ghost can_blit = { ⊤ };
+
+    ghost reads = { D.numbers };
+
+    ghost source_reads = { S.numbers };
+
+    ghost makes = { λ it. B.makes it.change };
+
+    fn blit(&self, row: &mut [D], src: &[S]) {
+        let change = &self.change;
+        let count = row.len().min(src.len());
+        let first = merge_blocks::<16, P, D, Q, S, B>(row, src, change);
+        let second = merge_blocks::<4, P, D, Q, S, B>(&mut row[first..], &src[first..], change);
+        for i in first + second..count {
+            let mut pixel = row[i].read();
+            change.merge_one(&mut pixel, &src[i].read());
+            row[i] = D::write(&pixel);
+        }
     }
 }
 
 /// Composites pixels.
 #[derive(Clone, Copy)]
-pub(crate) struct CompositedPixels<P, O> {
+pub(crate) struct CompositedPixels<O> {
     pub(crate) op: O,
-    pub(crate) format: PhantomData<P>,
 }
 
 impl<P: Pixel<Alpha = Premultiplied, Gamma = Linear>, O: Blend> Merge<P, P>
-    for CompositedPixels<P, O> {
+    for CompositedPixels<O> {
     ghost makes = { λ _. pixel_composite P.layout O.op };
 
     #[inline(always)]
@@ -176,21 +146,6 @@ impl<P: Pixel<Alpha = Premultiplied, Gamma = Linear>, O: Blend> Merge<P, P>
     #[inline(always)]
     fn merge_one(&self, pixel: &mut P, src: &P) {
         pixel.composite_channels(src, self.op);
-    }
-}
-
-impl<P: Pixel<Alpha = Premultiplied, Gamma = Linear>, D: FlatPixel<P>, O: Blend> Blit<D, D>
-    for CompositedPixels<P, O> {
-    ghost can_blit = { ⊤ };
-
-    ghost reads = { D.numbers };
-
-    ghost source_reads = { D.numbers };
-
-    ghost makes = { λ _. pixel_composite P.layout O.op };
-
-    fn blit(&self, row: &mut [D], src: &[D]) {
-        merge_row::<P, D, P, D, Self>(row, src, self);
     }
 }
 
@@ -216,26 +171,6 @@ impl<P: Pixel<Alpha = Premultiplied, Gamma = Linear>, O: Blend> Merge<
     #[inline(always)]
     fn merge_one(&self, pixel: &mut P, src: &Pix<1, P::Chan, Matte, Premultiplied, Linear>) {
         pixel.composite_channels_alpha(&self.clr, self.op, &src.alpha());
-    }
-}
-
-impl<
-    P: Pixel<Alpha = Premultiplied, Gamma = Linear>,
-    D: FlatPixel<P>,
-    M: Flat<Pix<1, P::Chan, Matte, Premultiplied, Linear>>,
-    O: Blend,
-> Blit<D, M> for MattedColor<P, O> {
-    ghost can_blit = { ⊤ };
-
-    ghost reads = { D.numbers };
-
-    ghost source_reads = { M.numbers };
-
-    ghost makes = { λ it matte. matted_composite P.layout O.op
-        (matte_value P.layout matte) (P.numbers it.clr) };
-
-    fn blit(&self, row: &mut [D], src: &[M]) {
-        merge_row::<P, D, Pix<1, P::Chan, Matte, Premultiplied, Linear>, M, Self>(row, src, self);
     }
 }
 

@@ -4,13 +4,13 @@ ghost use Rattle.std.specs.List.{zip};
 ghost use Rattle.pix_chan.specs.Runs.{over};
 ghost use Rattle.pix_el.specs.PixelComposite.{matted_composite, matte_value};
 
-use super::{Merge, merge_row, read_pixels, write_pixels};
+use super::{Merge, read_pixels, write_pixels};
 use crate::format::{Flat, FlatPixel};
 use pix_chan::chan::{Linear, Premultiplied};
 use pix_el::el::{Pix, Pixel};
 use pix_el::matte::Matte;
 use pix_ops::ops::Blend;
-use pix_raster::lent::{Blit, MaskedBlit};
+use pix_raster::lent::MaskedBlit;
 use std::marker::PhantomData;
 
 /// Composites pixels through mattes.
@@ -101,14 +101,13 @@ impl<
 
 /// Composites pixels at an opacity.
 #[derive(Clone, Copy)]
-pub(crate) struct FadedPixels<P, C, O> {
+pub(crate) struct FadedPixels<C, O> {
     pub(crate) alpha: C,
     pub(crate) op: O,
-    pub(crate) format: PhantomData<P>,
 }
 
 impl<P: Pixel<Alpha = Premultiplied, Gamma = Linear>, O: Blend> Merge<P, P>
-    for FadedPixels<P, P::Chan, O> {
+    for FadedPixels<P::Chan, O> {
     ghost makes = { λ it. matted_composite P.layout O.op (P.Chan.number it.alpha) };
 
     #[inline(always)]
@@ -119,20 +118,5 @@ impl<P: Pixel<Alpha = Premultiplied, Gamma = Linear>, O: Blend> Merge<P, P>
     #[inline(always)]
     fn merge_one(&self, pixel: &mut P, src: &P) {
         pixel.composite_channels_alpha(src, self.op, &self.alpha);
-    }
-}
-
-impl<P: Pixel<Alpha = Premultiplied, Gamma = Linear>, D: FlatPixel<P>, O: Blend> Blit<D, D>
-    for FadedPixels<P, P::Chan, O> {
-    ghost can_blit = { ⊤ };
-
-    ghost reads = { D.numbers };
-
-    ghost source_reads = { D.numbers };
-
-    ghost makes = { λ it. matted_composite P.layout O.op (P.Chan.number it.alpha) };
-
-    fn blit(&self, row: &mut [D], src: &[D]) {
-        merge_row::<P, D, P, D, Self>(row, src, self);
     }
 }

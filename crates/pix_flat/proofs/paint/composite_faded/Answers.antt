@@ -23,9 +23,9 @@ returns g c =
     let op = op_at c.args.command.now.op in
     let matte = m c.args.command.now.alpha in
     let max : top ≡ layout.max = sym (ap (λ (l : Layout). l.max) g.met.P.Pixel.laid_out) in
-    let value : number c.alpha.result ≡ matte_value layout matte =
-    c.alpha.ensures ∙ ap (λ (l : List ℕ). channel top l 0) c.read-matte.ensures ∙ ap (λ (r : ℕ). channel r matte 0) max in
+    let value : number c.alpha-alpha.result ≡ matte_value layout matte =
+    c.alpha-alpha.ensures ∙ ap (λ (l : List ℕ). channel top l 0) c.read-matte.ensures ∙ ap (λ (r : ℕ). channel r matte 0) max in
     painted_faded layout g.D.Numbered.numbers m c.args.window c.args.command.now c.args.pixels.now c.blit_window.new.pixels
     c.requires.kind c.requires.sound c.region_of.result c.region_of-2.result c.source_shape.result _
     c.region_of.ensures c.region_of-2.ensures c.source_shape.ensures
-    (λ s p. ap (λ (o : Op). matted_composite layout o (number c.alpha.result) s p) c.requires.same ∙ ap (λ (z : ℕ). matted_composite layout op z s p) value) c.blit_window.ensures
+    (λ s p. ap (λ (o : Op). matted_composite layout o (number c.alpha-alpha.result) s p) c.requires.same ∙ ap (λ (z : ℕ). matted_composite layout op z s p) value) c.blit_window.ensures

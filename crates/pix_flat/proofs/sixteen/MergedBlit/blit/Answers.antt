@@ -1,24 +1,24 @@
--- Of `merge_row`: that it meets its contract, and that the invariant of its loop over `i` holds after each turn.
+-- Of `MergedBlit::blit`: that it meets its contract, and that the invariant of its loop over `i` holds after each turn.
 use Rattle.std.proofs.Common.{◌≡◌, ◌≤◌, ◌+◌, ◌-◌, ◌∙◌, length, drop, sym, ap, arith, map, refl, List, ℕ}
 use Rattle.std.proofs.lemmas.List.{length-map, length-take, length-drop, get_or-map}
 use Rattle.pix_chan.proofs.Slices.{mapped_one_step, over_both}
 use Rattle.pix_el.proofs.Written.{same_over}
 use Rattle.pix_el.proofs.MattePlanes.{next_run}
-use Rattle.pix_flat.proofs.sixteen.merge_row.Goals as goal
+use Rattle.pix_flat.proofs.sixteen.MergedBlit.blit.Goals as goal
 
 pub loop-i-init : goal.loop-i-init
 loop-i-init g c =
     let n = g.D.Numbered.numbers in
-    let first = c.merge_sixteens-sixteens in
-    let second = c.merge_fours in
-    next_run n g.S.Numbered.numbers (g.B.Merge.makes c.args.change.now) first.result second.result c.args.row.now first.new.row second.new.row c.args.src.now
+    let first = c.merge_blocks-first in
+    let second = c.merge_blocks-second in
+    next_run n g.S.Numbered.numbers (g.B.Merge.makes c.args.self.now.change) first.result second.result c.args.row.now first.new.row second.new.row c.args.src.now
     first.ensures.merged (omega (arith, first.ensures.within)) second.ensures.merged
 
 pub loop-i-preserved : goal.loop-i-preserved
 loop-i-preserved g c =
     let n = g.D.Numbered.numbers in
     let m = g.S.Numbered.numbers in
-    let makes = g.B.Merge.makes c.args.change.now in
+    let makes = g.B.Merge.makes c.args.self.now.change in
     let f = λ (d s : List ℕ). makes s d in
     let s = m c.index-src-i.result in
     mapped_one_step n f c.loop-i.i (c.loop-i.i + 1) c.args.row.now c.loop-i.row c.write.result c.index-row-i.result s s s (map m c.args.src.now)
@@ -32,10 +32,10 @@ pub returns : goal.returns
 returns g c =
     let n = g.D.Numbered.numbers in
     let m = g.S.Numbered.numbers in
-    let makes = g.B.Merge.makes c.args.change.now in
+    let makes = g.B.Merge.makes c.args.self.now.change in
     let f = λ (d s : List ℕ). makes s d in
-    let first = c.merge_sixteens-sixteens in
-    let second = c.merge_fours in
+    let first = c.merge_blocks-first in
+    let second = c.merge_blocks-second in
     let at = first.result in
     let row = first.new.row in
     let src = c.args.src.now in
