@@ -9,3 +9,4 @@ pub mod Crossings
 pub mod LaneProducts
 pub mod LitFours
 pub mod Reciprocals16
+pub mod ConvertedPixels

@@ -6,3 +6,4 @@ pub mod Rows
 pub mod Bitmap
 pub mod Table
 pub mod Lit
+pub mod Converted

@@ -19,7 +19,7 @@ mod sample;
 mod way;
 
 /// All pixels are written.
-const DONE: u32 = 0;
+pub const DONE: u32 = 0;
 
 /// The bitmap isn't held in its bytes.
 const BAD_SIZE: u32 = 1;
@@ -28,7 +28,7 @@ const BAD_SIZE: u32 = 1;
 const BAD_SOURCE: u32 = 5;
 
 /// There is no format of such a number.
-const BAD_FORMAT: u32 = 6;
+pub const BAD_FORMAT: u32 = 6;
 
 /// Returns how many bytes a pixel of the format of a number has, and 0 where there is no such format.
 pub fn pixel_size(number: u32) -> u32

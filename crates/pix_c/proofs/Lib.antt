@@ -1,8 +1,1 @@
--- The files of lemmas. Answers, invariants and proofs of a function are found by its path.
-pub mod Rows
-pub mod Faults
-pub mod Images
-pub mod Effects
-pub mod Painted
-pub mod Ran
-pub mod ConvertedPixels
+-- There are no lemmas. Answers of a function are found by its path.

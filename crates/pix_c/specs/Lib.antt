@@ -1,9 +1,1 @@
-pub mod Format
-pub mod FormatLaws
-pub mod Command
-pub mod Status
-pub mod Run
-pub mod Formats
-pub mod Converted
-pub mod Layout
 pub mod Table

@@ -5,33 +5,22 @@
 #![tactic(auto)]
 
 ghost use Rattle.std.specs.Prelude.{◌≡◌, ◌≢◌, length, map};
-ghost use Rattle.pix_c.specs.Format.{rgba8, rgba8_numbers, rgba16, rgba16_numbers};
-ghost use Rattle.pix_c.specs.Format.{graya8, graya8_numbers};
-ghost use Rattle.pix_c.specs.Format.{matte8_numbers, matte16_numbers};
-ghost use Rattle.pix_c.specs.Command.{rgba8_command, rgba16_command, graya8_command};
-ghost use Rattle.pix_c.specs.Status.{status_of, done_of};
-ghost use Rattle.pix_c.specs.Run.{IsRun};
+ghost use Rattle.pix_flat.specs.Format.{rgba8, rgba8_numbers, rgba16, rgba16_numbers};
+ghost use Rattle.pix_flat.specs.Format.{graya8, graya8_numbers};
+ghost use Rattle.pix_flat.specs.Format.{matte8_numbers, matte16_numbers};
+ghost use Rattle.pix_flat.specs.Command.{rgba8_command, rgba16_command, graya8_command};
+ghost use Rattle.pix_flat.specs.Status.{status_of, done_of};
+ghost use Rattle.pix_flat.specs.Run.{IsRun};
 
 mod bitmap;
-mod command;
 mod convert;
-mod copy;
-mod format;
-mod kind;
 mod layout;
-mod operator;
-mod paint;
-mod run;
-mod sixteen;
-mod size;
 mod status;
 mod table;
 mod window;
 
 pub use crate::bitmap::{pix_convert_rows, pix_pixel_size};
-pub use crate::command::{PixCommand, PixCommandGraya8, PixCommandRgba16, PixRegion};
 pub use crate::convert::pix_convert_bytes;
-pub use crate::format::{PixGraya8, PixRgba8, PixRgba16};
 pub use crate::layout::pix_layout;
 pub use crate::status::{
     BAD_FORMAT, BAD_KIND, BAD_LENGTH, BAD_OP, BAD_REGION, BAD_SIZE, BAD_SOURCE, DONE,
@@ -42,8 +31,11 @@ pub use crate::table::{
     pix_table_unpack,
 };
 pub use crate::window::{pix_run_window, pix_run_window_graya8, pix_run_window_rgba16};
-use pix::gray::Graya8p;
-use pix::rgb::{Rgba8p, Rgba16p};
+use pix_color::gray::Graya8p;
+use pix_el::rgb::{Rgba8p, Rgba16p};
+pub use pix_flat::command::{PixCommand, PixCommandGraya8, PixCommandRgba16, PixRegion};
+pub use pix_flat::format::{PixGraya8, PixRgba8, PixRgba16};
+use pix_flat::run;
 
 /// Runs `commands` in order on an image of `width` columns and `height` rows, which start `stride` pixels apart in `pixels`.
 ///

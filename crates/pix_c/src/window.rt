@@ -1,17 +1,17 @@
 //! Lists of commands on a window of a picture: on a part of it that lies in memory by itself.
 ghost use Rattle.std.specs.Prelude.{◌≡◌, ◌≢◌, length, map};
-ghost use Rattle.pix_c.specs.Format.{rgba8, rgba8_numbers, rgba16, rgba16_numbers};
-ghost use Rattle.pix_c.specs.Format.{graya8, graya8_numbers};
-ghost use Rattle.pix_c.specs.Format.{matte8_numbers, matte16_numbers};
-ghost use Rattle.pix_c.specs.Command.{rgba8_command, rgba16_command, graya8_command};
-ghost use Rattle.pix_c.specs.Status.{window_status_of, window_done_of};
-ghost use Rattle.pix_c.specs.Run.{IsWindowRun};
+ghost use Rattle.pix_flat.specs.Format.{rgba8, rgba8_numbers, rgba16, rgba16_numbers};
+ghost use Rattle.pix_flat.specs.Format.{graya8, graya8_numbers};
+ghost use Rattle.pix_flat.specs.Format.{matte8_numbers, matte16_numbers};
+ghost use Rattle.pix_flat.specs.Command.{rgba8_command, rgba16_command, graya8_command};
+ghost use Rattle.pix_flat.specs.Status.{window_status_of, window_done_of};
+ghost use Rattle.pix_flat.specs.Run.{IsWindowRun};
 
-use crate::command::{PixCommand, PixCommandGraya8, PixCommandRgba16};
-use crate::format::{PixGraya8, PixRgba8, PixRgba16};
-use crate::run;
-use pix::gray::Graya8p;
-use pix::rgb::{Rgba8p, Rgba16p};
+use pix_color::gray::Graya8p;
+use pix_el::rgb::{Rgba8p, Rgba16p};
+use pix_flat::command::{PixCommand, PixCommandGraya8, PixCommandRgba16};
+use pix_flat::format::{PixGraya8, PixRgba8, PixRgba16};
+use pix_flat::run;
 
 /// Runs `commands` in order on a window of a picture: on the image of `width` columns and `height` rows, which start `stride` pixels
 /// apart in `pixels`, whose first pixel lies at the point (`left`, `top`) of the picture.

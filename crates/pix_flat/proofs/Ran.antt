@@ -1,0 +1,57 @@
+-- A run on rows in memory, as one on an image.
+use Rattle.std.proofs.Common.{◌≡◌, ℕ, ◌+◌, ◌≤◌, List, length, map, arith, ap, sym, ◌∙◌, refl}
+use Rattle.pix_el.specs.Pixel.{Layout}
+use Rattle.pix_raster.specs.Region.{limit, whole}
+use Rattle.pix_raster.specs.Run.{run_at}
+use Rattle.pix_raster.specs.Window.{command_from}
+use Rattle.pix_raster.specs.Claims.{IsImageRun}
+use Rattle.pix_raster.specs.Lent.{IsShaped, ChangedIn, largest}
+use Rattle.pix_raster.specs.declared.lent.Shape.{Shape}
+use Rattle.pix_raster.proofs.RunBounds.{IsFormat}
+use Rattle.pix_raster.proofs.Claimed.{claims}
+use Rattle.pix_raster.proofs.Seen.{commands_there}
+use Rattle.pix_raster.proofs.Pictures.{run_in_picture}
+use Rattle.pix_raster.proofs.Windows.{RanIn, ran_on, ran_seen}
+use Rattle.pix_flat.specs.declared.command.FlatCommand.{FlatCommand}
+use Rattle.pix_flat.specs.Command.{image_of, command_of}
+use Rattle.pix_flat.specs.Run.{IsRun, IsWindowRun}
+use Rattle.pix_flat.proofs.Images.{point_read}
+
+module _ {D M : Type 0} (layout : Layout) (n : D → List ℕ) (m : M → List ℕ) (left top width height stride : ℕ) (commands : List (FlatCommand D M)) (old new : List D) where
+  abbrev shape : Shape
+  shape = record { width = width; height = height; stride = stride }
+
+  -- it was done on a window of a picture
+  abbrev Ran : Type 0
+  Ran = ChangedIn n shape old new (λ x y. run_at layout n m largest (map command_of commands) (left + x) (top + y))
+
+  -- and what follows of it
+  pub ran_in_window : IsFormat layout n m → left + width ≤ 2147483647 → top + height ≤ 2147483647 → IsShaped shape (length old) → length new ≡ length old → Ran
+      → IsWindowRun layout n m left top width height stride commands old new
+  ran_in_window format across down shaped long ran =
+      let shaped_new : IsShaped shape (length new) = rw long shaped in
+      let cs = map command_of commands in
+      let before = image_of width height stride old in
+      let after = image_of width height stride new in
+      let here : RanIn layout n m left top cs before after = record {
+        same_width = refl;
+        same_height = refl;
+        points = λ x y lx ly.
+            point_read n width height stride new x y shaped_new lx ly
+            ∙ ran.points x y lx ly
+            ∙ sym (run_in_picture layout n m cs (left + width) (top + height) limit limit (left + x) (top + y) _ across down across down (omega arith) (omega arith))
+            ∙ ap (run_at layout n m (whole (left + width) (top + height)) cs (left + x) (top + y)) (sym (point_read n width height stride old x y shaped lx ly));
+      } in
+      record {
+        fold = λ picture_width picture_height wide high. ran_on layout n m left top cs before after across down here picture_width picture_height wide high;
+        run = claims layout n m (map (command_from left top) cs) before after format (ran_seen layout n m left top cs before after across down here);
+        stays = ran.stays;
+      }
+
+-- a run on a window at the corner of a picture is a run on an image
+pub run_at_corner : {D M : Type 0} (layout : Layout) (n : D → List ℕ) (m : M → List ℕ) (width height stride : ℕ) (commands : List (FlatCommand D M)) (old new : List D)
+    → IsWindowRun layout n m 0 0 width height stride commands old new → IsRun layout n m width height stride commands old new
+run_at_corner layout n m width height stride commands old new ran =
+    let run : IsImageRun layout n m (map command_of commands) (image_of width height stride old) (image_of width height stride new) =
+    rw (commands_there (map command_of commands)) at ran.run in
+    record { run = run; stays = ran.stays }

@@ -1,0 +1,112 @@
+-- Commands by their numbers, as commands of the library on images in memory.
+use Rattle.std.specs.Prelude.{ℕ, zero, suc, List, [], ◌++◌, take, drop, nat_eq, slice_index_or, if◌then◌else◌}
+use denote.Bor.{Bor}
+use Rattle.pix_ops.specs.declared.ops.Op.{Op}
+use Rattle.pix_ops.specs.declared.ops.Op.TheVariants.{Src}
+use Rattle.pix_ops.specs.OperatorNames.{operators}
+use Rattle.pix_raster.specs.Region.{Rectangle}
+use Rattle.pix_raster.specs.Image.{Image}
+use Rattle.pix_raster.specs.declared.command.Command.{Command}
+use Rattle.pix_raster.specs.declared.command.Command.TheVariants as commands
+use Rattle.pix_flat.specs.declared.command.PixRegion.{PixRegion}
+use Rattle.pix_flat.specs.declared.command.PixCommand.{PixCommand}
+use Rattle.pix_flat.specs.declared.command.PixCommandRgba16.{PixCommandRgba16}
+use Rattle.pix_flat.specs.declared.command.PixCommandGraya8.{PixCommandGraya8}
+use Rattle.pix_flat.specs.declared.command.FlatCommand.{FlatCommand}
+use Rattle.pix_flat.specs.declared.format.PixRgba8.{PixRgba8}
+use Rattle.pix_flat.specs.declared.format.PixRgba16.{PixRgba16}
+use Rattle.pix_flat.specs.declared.format.PixGraya8.{PixGraya8}
+
+-- the first `width` elements of each of `height` rows that start `stride` elements apart, one row after the other
+abbrev pub joined_rows : {D : Type 0} → ℕ → ℕ → ℕ → List D → List D
+joined_rows width zero stride items = []
+joined_rows width (suc height) stride items = take width items ++ joined_rows width height stride (drop stride items)
+
+-- the image of that width and height in rows that start `stride` elements apart
+abbrev pub image_of : {D : Type 0} → ℕ → ℕ → ℕ → List D → Image D
+image_of width height stride items = record { width = width; height = height; pixels = joined_rows width height stride items }
+
+-- the operator of a number; a number that is none is refused
+abbrev pub op_at : ℕ → Op
+op_at number = slice_index_or operators number Src
+
+-- the rectangle of a region
+abbrev pub rectangle : PixRegion → Rectangle
+rectangle r = record { left = r.x; top = r.y; width = r.width; height = r.height }
+
+-- an image as a source of a command of the library
+abbrev pub lent : {D : Type 0} → Image D → Bor (Image D)
+lent image = record { ref_ptr = (0, 0); now = image }
+
+-- a command by the number of its kind, as one of the library
+abbrev pub command_of : {D M : Type 0} → FlatCommand D M → Command D M
+command_of c =
+    let pixels = lent (image_of c.width c.height c.stride c.pixels.now) in
+    let mattes = lent (image_of c.width c.height c.stride c.mattes.now) in
+    let mask = lent (image_of c.mask_width c.mask_height c.mask_stride c.mattes.now) in
+    if nat_eq c.kind 0 then commands.Clear
+    else (if nat_eq c.kind 1 then commands.CopyColor (rectangle c.to) c.color
+    else (if nat_eq c.kind 2 then commands.CopyRaster (rectangle c.to) pixels (rectangle c.from)
+    else (if nat_eq c.kind 3 then commands.Color (rectangle c.to) c.color (op_at c.op)
+    else (if nat_eq c.kind 4 then commands.Raster (rectangle c.to) pixels (rectangle c.from) (op_at c.op)
+    else (if nat_eq c.kind 5 then commands.Matte (rectangle c.to) mattes (rectangle c.from) c.color (op_at c.op)
+    else (if nat_eq c.kind 6 then commands.RasterMatte (rectangle c.to) pixels (rectangle c.from) mask (rectangle c.mask) (op_at c.op)
+    else commands.RasterAlpha (rectangle c.to) pixels (rectangle c.from) c.alpha (op_at c.op)))))))
+
+-- a command of each format, with the same fields in the layout of all formats
+abbrev pub rgba8_command : PixCommand → FlatCommand PixRgba8 ℕ
+rgba8_command c = record {
+  kind = c.kind;
+  op = c.op;
+  to = c.to;
+  from = c.from;
+  color = c.color;
+  pixels = c.pixels;
+  mattes = c.mattes;
+  width = c.width;
+  height = c.height;
+  stride = c.stride;
+  mask = c.mask;
+  mask_width = c.mask_width;
+  mask_height = c.mask_height;
+  mask_stride = c.mask_stride;
+  alpha = c.alpha;
+}
+
+abbrev pub rgba16_command : PixCommandRgba16 → FlatCommand PixRgba16 ℕ
+rgba16_command c = record {
+  kind = c.kind;
+  op = c.op;
+  to = c.to;
+  from = c.from;
+  color = c.color;
+  pixels = c.pixels;
+  mattes = c.mattes;
+  width = c.width;
+  height = c.height;
+  stride = c.stride;
+  mask = c.mask;
+  mask_width = c.mask_width;
+  mask_height = c.mask_height;
+  mask_stride = c.mask_stride;
+  alpha = c.alpha;
+}
+
+abbrev pub graya8_command : PixCommandGraya8 → FlatCommand PixGraya8 ℕ
+graya8_command c = record {
+  kind = c.kind;
+  op = c.op;
+  to = c.to;
+  from = c.from;
+  color = c.color;
+  pixels = c.pixels;
+  mattes = c.mattes;
+  width = c.width;
+  height = c.height;
+  stride = c.stride;
+  mask = c.mask;
+  mask_width = c.mask_width;
+  mask_height = c.mask_height;
+  mask_stride = c.mask_stride;
+  alpha = c.alpha;
+}
