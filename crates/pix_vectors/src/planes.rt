@@ -12,6 +12,7 @@ use pix::ops::{
 };
 use pix::rgb::{Rgba8p, Rgba16p};
 use std::alloc::{AllocError, Global};
+use std::fmt::Debug;
 use std::process::Abort;
 
 /// The lengths of the slices.
@@ -59,7 +60,7 @@ fn assert_slices<P, O: Blend>(
     src_len: usize,
 ) -> Result<(), AllocError>
 where
-    P: Pixel<Alpha = Premultiplied, Gamma = Linear>,
+    P: Pixel<Alpha = Premultiplied, Gamma = Linear> + Debug,
     requires few { P.layout.count ≤ 4 }
     requires has_alpha { P.layout.count ≡ P.layout.alpha + 1 }
 {
@@ -87,7 +88,7 @@ fn assert_color<P, O: Blend>(
     count: usize,
 ) -> Result<(), AllocError>
 where
-    P: Pixel<Alpha = Premultiplied, Gamma = Linear>,
+    P: Pixel<Alpha = Premultiplied, Gamma = Linear> + Debug,
     requires few { P.layout.count ≤ 4 }
     requires has_alpha { P.layout.count ≡ P.layout.alpha + 1 }
 {
@@ -114,7 +115,7 @@ fn assert_mattes<P, O: Blend>(
     src: &[Mattes<P>],
 ) -> Result<(), AllocError>
 where
-    P: Pixel<Alpha = Premultiplied, Gamma = Linear>,
+    P: Pixel<Alpha = Premultiplied, Gamma = Linear> + Debug,
     requires few { P.layout.count ≤ 4 }
     requires has_alpha { P.layout.count ≡ P.layout.alpha + 1 }
 {
@@ -142,7 +143,7 @@ fn assert_matted_lengths<P>(
     mattes: &[Mattes<P>],
 ) -> Result<(), AllocError>
 where
-    P: Pixel<Alpha = Premultiplied, Gamma = Linear>,
+    P: Pixel<Alpha = Premultiplied, Gamma = Linear> + Debug,
     requires few { P.layout.count ≤ 4 }
     requires has_alpha { P.layout.count ≡ P.layout.alpha + 1 }
 {
@@ -160,7 +161,7 @@ where
 /// Asserts that an operator composites slices of all these lengths, and a color with each, as their pixels.
 fn assert_lengths<P, O: Blend>(rt: &impl Abort, alloc: Global, op: O) -> Result<(), AllocError>
 where
-    P: Pixel<Alpha = Premultiplied, Gamma = Linear>,
+    P: Pixel<Alpha = Premultiplied, Gamma = Linear> + Debug,
     requires few { P.layout.count ≤ 4 }
     requires has_alpha { P.layout.count ≡ P.layout.alpha + 1 }
 {
@@ -176,7 +177,7 @@ where
 /// Asserts the same for all operators.
 fn assert_operators<P>(rt: &impl Abort, alloc: Global) -> Result<(), AllocError>
 where
-    P: Pixel<Alpha = Premultiplied, Gamma = Linear>,
+    P: Pixel<Alpha = Premultiplied, Gamma = Linear> + Debug,
     requires few { P.layout.count ≤ 4 }
     requires has_alpha { P.layout.count ≡ P.layout.alpha + 1 }
 {
