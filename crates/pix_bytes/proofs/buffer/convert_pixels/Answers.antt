@@ -1,10 +1,18 @@
--- Of `convert_pixels`: that the invariant of its loop over `index` holds after each turn.
-use Rattle.std.proofs.Common.{◌≡◌, ◌+◌, ◌-◌, ◌*◌, ◌≤◌, length, slice_range, ap, ◌∙◌, sym, arith}
+-- Of `convert_pixels`: that a pixel's bytes lie in the buffer, and that the invariant of its loop over `index` holds after each turn.
+use Rattle.std.proofs.Common.{◌≡◌, ◌+◌, ◌-◌, ◌*◌, ◌≤◌, ℕ, length, slice_range, ap, ◌∙◌, sym, arith, rules}
 use Rattle.std.proofs.Math.Nat.{mul-le-mul_right}
 use Rattle.pix_el.specs.Conversion.{Format, converted}
 use Rattle.pix_bytes.specs.Converted.{pixel_at}
 use Rattle.pix_bytes.proofs.ConvertedPixels.{converted_more}
 use Rattle.pix_bytes.proofs.buffer.convert_pixels.Goals as goal
+
+pub slice_bounds-write-end : goal.slice_bounds-write-end
+slice_bounds-write-end g c =
+    let index = c.loop-index.index in
+    let wide : index * c.width-to_wide.result ≡ index * g.D.Pixel.layout.count = ap (λ (n : ℕ). index * n) c.width-to_wide.ensures in
+    let next : (index + 1) * g.D.Pixel.layout.count ≤ c.args.count * g.D.Pixel.layout.count = mul-le-mul_right g.D.Pixel.layout.count (let p : index + 1 ≤ c.args.count = omega arith in p) in
+    let fits : index * c.width-to_wide.result + c.width-to_wide.result ≤ length c.loop-index.dst = omega (arith, wide, next, c.loop-index.auto.dst, c.requires.dst, c.width-to_wide.ensures) in
+    search rules
 
 pub loop-index-preserved : goal.loop-index-preserved
 loop-index-preserved g c =
