@@ -268,7 +268,7 @@ fn index_image(
     size: &Raster<SRgba8>,
     indices: &[u8],
 ) -> Result<Raster<Gray8>, RasterFault>
-    requires { length indices.now ≡ length size.now.pixels }
+    requires { length indices.now ≡ size.now.height * size.now.width }
     ensures image { IfOk result
         (IsIndexImage ⟦<Gray8 as Pixel>⟧.numbers size.now.width size.now.height) }
     ensures indices { IfOk result (λ image.
