@@ -1,12 +1,12 @@
 //! Tables of the colors of a picture, and images of its indices by alpha and by error diffusion.
-ghost use Rattle.std.specs.Prelude.{◌≡◌, ◌<◌, ◌≤◌, ◌⊎◌, ◌*◌, ℕ, length, map, take, IfOk, IfErr, MatchOption};
+ghost use Rattle.std.specs.Prelude.{◌≡◌, ◌<◌, ◌≤◌, ◌⊎◌, ◌*◌, length, map, take, IfOk, IfErr, MatchOption};
 ghost use Rattle.pix_table.specs.Nearest.{numbers as color_numbers, AreMatched};
 ghost use Rattle.pix_table.specs.Diffusion.{AreDiffused};
 ghost use Rattle.pix_table.specs.From.{shown};
 ghost use Rattle.pix_table.specs.SrgbColor.{srgba_numbers};
 ghost use Rattle.pix_palette.specs.Palette.{numbers};
 ghost use Rattle.pix_palette.specs.Indexing.{AreGray, shades_of, values};
-ghost use Rattle.pix_palette.specs.ColorTable.{entries_of, limit_of, IsIndexImage, IsMadeOf};
+ghost use Rattle.pix_palette.specs.ColorTable.{entries_of, IsIndexImage, IsMadeOf};
 ghost use Rattle.pix_raster.specs.declared.fault.RasterFault.{RasterFault};
 
 use super::index::IndexPixel;
@@ -71,7 +71,10 @@ impl ColorTable {
     /// # Examples
     ///
     /// ```rust
-    /// let nearest = table.map_indexed_alpha(alloc, picture, 128, 255)?; // index 255 where the alpha is below 128
+    /// let Some(indices) = table.map_indexed_alpha(alloc, picture, 128, 255)? else {
+    ///     return Ok(None); // the table has no entry, or more than 256
+    /// };
+    /// Ok(Some(indices)) // index 255 where the alpha is below 128
     /// ```
     pub fn map_indexed_alpha<S>(
         &self,

@@ -99,8 +99,10 @@ pub fn mapped_alpha(
     table: &ColorTable,
     picture: &Raster<SRgba8>,
 ) -> Result<Option<Raster<Gray8>>, RasterFault> {
-    let nearest = table.map_indexed_alpha(alloc, picture, 128, 255)?; // index 255 where the alpha is below 128
-    Ok(nearest)
+    let Some(indices) = table.map_indexed_alpha(alloc, picture, 128, 255)? else {
+        return Ok(None); // the table has no entry, or more than 256
+    };
+    Ok(Some(indices)) // index 255 where the alpha is below 128
 }
 
 /// Indexes a picture by error diffusion in a table of its colors.

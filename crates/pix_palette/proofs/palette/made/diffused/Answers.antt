@@ -1,5 +1,5 @@
 -- Of `diffused`: that there is no index where a row has no pixel.
-use Rattle.std.proofs.Common.{◌≡◌, List, ℕ, [], ◌∷◌, length, map, refl, sym, subst, arith}
+use Rattle.std.proofs.Common.{◌≡◌, List, ℕ, [], ◌∷◌, length, map, refl, arith}
 use Rattle.std.proofs.lemmas.List.{length-map}
 use Rattle.pix_table.specs.Diffusion.{AreDiffused, none}
 use Rattle.pix_table.specs.SrgbColor.{srgba_numbers}
