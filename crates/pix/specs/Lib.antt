@@ -52,6 +52,9 @@ pub use Rattle.pix_table.specs.PaletteMatch
 pub use Rattle.pix_table.specs.Setting
 pub use Rattle.pix_table.specs.Indexing as SetInTurn
 pub use Rattle.pix_table.specs.Nearest as NearestEntry
+pub use Rattle.pix_table.specs.Cut
+pub use Rattle.pix_table.specs.From
+pub use Rattle.pix_table.specs.Diffusion
 pub use Rattle.pix_table.specs.LookUp
 pub use Rattle.pix_palette.specs.Palette
 pub use Rattle.pix_palette.specs.Histogram

@@ -2,6 +2,7 @@
 use Rattle.std.specs.Prelude.{◌≡◌, ℕ, ◌<◌, List, [], ◌∷◌, length, map, take, slice_index_or, slice_index, Option, Some, None, IfSome}
 use Rattle.pix_table.specs.Nearest.{IsNearest}
 use Rattle.pix_table.specs.LookUp.{AreLookedUp}
+use Rattle.pix_table.specs.From.{IsTableFrom}
 use Rattle.pix_table.specs.Setting.{Always, IsSet}
 use Rattle.pix_table.specs.Indexing.{AreIndexed}
 use Rattle.pix_table.specs.PaletteMatch.{color_difference}
@@ -48,3 +49,15 @@ pub record IsLookedUp (entries : List Color) (width height : ℕ) (indices : Lis
   -- of a picture whose pixels are the entries of their indices it is the picture: it differs in no channel
   pub back : (pixels : List (List ℕ)) → AllEqual (map numbers entries) pixels indices → length pixels ≡ length indices
       → (k : ℕ) → k < length pixels → color_difference (slice_index_or (map numbers image.pixels) k []) (slice_index_or pixels k []) ≡ 0 ∷ 0 ∷ 0 ∷ []
+
+-- an image of a size whose pixels are indices
+pub record IsIndexImage {P : Type 0} (read : P → List ℕ) (width height : ℕ) (image : Image P) : Type 0 where
+  pub wide : image.width ≡ width
+  pub high : image.height ≡ height
+  pub gray : AreGray read image.pixels
+
+-- a table of no other threshold than 0 that is made of pixels, of at most so many colors
+pub record IsMadeOf (limit : ℕ) (pixels : List (List ℕ)) (table : ColorTable) : Type 0 where
+  pub room : limit_of table ≡ limit
+  pub exact : numbers table.threshold ≡ 0 ∷ 0 ∷ 0 ∷ []
+  pub colors : IsTableFrom limit pixels (map numbers (entries_of table))

@@ -26,6 +26,14 @@ color_format = record {
 abbrev pub colors_of : {P : Type 0} → Format → GammaMode → (P → List ℕ) → List P → List (List ℕ)
 colors_of format gamma read pixels = map (λ p. converted format gamma color_format Srgb (read p)) pixels
 
+-- the format of such colors with an alpha
+abbrev pub shade_format : Format
+shade_format = record color_format { layout = record { max = 255; count = 4; hues = (row Rgb).hues; alpha = (row Rgb).alpha } }
+
+-- the numbers of each pixel, converted to a color with an alpha
+abbrev pub shades_of : {P : Type 0} → Format → GammaMode → (P → List ℕ) → List P → List (List ℕ)
+shades_of format gamma read pixels = map (λ p. converted format gamma shade_format Srgb (read p)) pixels
+
 -- the gray value of each pixel, its first number; `read` reads a pixel
 abbrev pub values : {P : Type 0} → (P → List ℕ) → List P → List ℕ
 values read pixels = map (λ p. slice_index_or (read p) 0 0) pixels

@@ -12,6 +12,7 @@ mod index;
 mod indexing;
 mod known;
 mod lent;
+mod made;
 mod mapped;
 mod slots;
 mod table;

@@ -1,6 +1,6 @@
 //! Color tables: nearest entries, near colors while a table grows, and back to colors.
 use pix::gray::Gray8;
-use pix::rgb::SRgb8;
+use pix::rgb::{SRgb8, SRgba8};
 use pix::{ColorTable, Raster, RasterFault};
 use std::alloc::Global;
 use std::test::Fail;
@@ -62,5 +62,59 @@ fn nearest_entries_and_back(rt: HostRuntime) -> Result<(), Fail> {
     }
     let past = Raster::with_color(rt.alloc(), 1, 1, Gray8::new(3u8))?;
     assert!(rt; table.look_up(rt.alloc(), &past)?.is_none());
+    Ok(())
+}
+
+/// Returns whether there is an image, of these indices.
+fn has_indices(image: Option<Raster<Gray8>>, indices: &[u8]) -> bool {
+    image.is_some_and(|image| {
+        image.pixels().len() == indices.len()
+            && image
+                .pixels()
+                .iter()
+                .zip(indices)
+                .all(|(pixel, index)| *pixel == Gray8::new(*index))
+    })
+}
+
+#[test]
+fn tables_of_a_picture(rt: HostRuntime) -> Result<(), Fail> {
+    let mut picture = Raster::with_clear(rt.alloc(), 4, 1)?;
+    for (pixel, value) in picture.pixels_mut().iter_mut().zip([10_u8, 20, 30, 40]) {
+        let alpha = if value == 40 { 127 } else { 128 };
+        *pixel = SRgba8::new(value, value, value, alpha);
+    }
+    assert!(rt; ColorTable::from_raster(rt.alloc(), &picture, 0, 128)?.is_none());
+    assert!(rt; ColorTable::from_raster(rt.alloc(), &picture, 257, 128)?.is_none());
+
+    // Three colors count: they are the table, and no color leaves an error.
+    let Some(exact) = ColorTable::from_raster(rt.alloc(), &picture, 3, 128)? else {
+        return Err(Fail::from(RasterFault::Memory));
+    };
+    assert!(rt; exact.colors() == [gray(10), gray(20), gray(30)].as_slice());
+    let indices = exact.diffuse_indexed(rt.alloc(), &picture, 128, 9)?;
+    assert!(rt; has_indices(indices, &[0, 1, 2, 9]));
+    let indices = exact.map_indexed_alpha(rt.alloc(), &picture, 128, 9)?;
+    assert!(rt; has_indices(indices, &[0, 1, 2, 9]));
+    let indices = exact.map_indexed_alpha(rt.alloc(), &picture, 127, 9)?;
+    assert!(rt; has_indices(indices, &[0, 1, 2, 2]));
+
+    // The box of 10, 20 and 30 is cut at 21: the means are 15 and 30. The errors make 18 of 20, and 31 of 30.
+    let Some(means) = ColorTable::from_raster(rt.alloc(), &picture, 2, 128)? else {
+        return Err(Fail::from(RasterFault::Memory));
+    };
+    assert!(rt; means.colors() == [gray(15), gray(30)].as_slice());
+    assert_eq!(rt; means.limit(), 2);
+    let indices = means.diffuse_indexed(rt.alloc(), &picture, 128, 9)?;
+    assert!(rt; has_indices(indices, &[0, 0, 1, 9]));
+
+    let none = Raster::<SRgba8>::with_clear(rt.alloc(), 0, 3)?;
+    let indices = means.diffuse_indexed(rt.alloc(), &none, 0, 0)?;
+    assert!(rt; has_indices(indices, &[]));
+    let Some(empty) = ColorTable::from_raster(rt.alloc(), &none, 2, 0)? else {
+        return Err(Fail::from(RasterFault::Memory));
+    };
+    assert!(rt; empty.is_empty());
+    assert!(rt; empty.diffuse_indexed(rt.alloc(), &picture, 0, 0)?.is_none());
     Ok(())
 }

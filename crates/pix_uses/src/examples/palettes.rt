@@ -1,6 +1,6 @@
 //! Palettes. A palette is made and used up in one function.
 use pix::gray::Gray8;
-use pix::rgb::SRgb8;
+use pix::rgb::{SRgb8, SRgba8};
 use pix::{ColorTable, Palette, Raster, RasterFault};
 use std::alloc::Global;
 
@@ -91,4 +91,27 @@ pub fn mapped(
         return Ok(None); // the table has no entry, or more than 256
     };
     Ok(Some(indices))
+}
+
+/// Indexes a picture by the nearest entries of a table; where it is clear, its index is one that no entry has.
+pub fn mapped_alpha(
+    alloc: Global,
+    table: &ColorTable,
+    picture: &Raster<SRgba8>,
+) -> Result<Option<Raster<Gray8>>, RasterFault> {
+    let Some(indices) = table.map_indexed_alpha(alloc, picture, 128, 255)? else {
+        return Ok(None); // the table has no entry, or more than 256
+    };
+    Ok(Some(indices)) // index 255 where the alpha is below 128
+}
+
+/// Indexes a picture by error diffusion in a table of its colors.
+pub fn diffused(
+    alloc: Global,
+    picture: &Raster<SRgba8>,
+) -> Result<Option<Raster<Gray8>>, RasterFault> {
+    let Some(table) = ColorTable::from_raster(alloc, picture, 255, 128)? else {
+        return Ok(None); // not for 255 entries
+    };
+    table.diffuse_indexed(alloc, picture, 128, 255) // index 255 where the alpha is below 128
 }

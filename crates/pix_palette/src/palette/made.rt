@@ -1,0 +1,300 @@
+//! Tables of the colors of a picture, and images of its indices by alpha and by error diffusion.
+ghost use Rattle.std.specs.Prelude.{◌≡◌, ◌<◌, ◌≤◌, ◌⊎◌, ◌*◌, length, map, take, IfOk, IfErr, MatchOption};
+ghost use Rattle.pix_table.specs.Nearest.{numbers as color_numbers, AreMatched};
+ghost use Rattle.pix_table.specs.Diffusion.{AreDiffused};
+ghost use Rattle.pix_table.specs.From.{shown};
+ghost use Rattle.pix_table.specs.SrgbColor.{srgba_numbers};
+ghost use Rattle.pix_palette.specs.Palette.{numbers};
+ghost use Rattle.pix_palette.specs.Indexing.{AreGray, shades_of, values};
+ghost use Rattle.pix_palette.specs.ColorTable.{entries_of, IsIndexImage, IsMadeOf};
+ghost use Rattle.pix_raster.specs.declared.fault.RasterFault.{RasterFault};
+
+use super::index::IndexPixel;
+use super::slots::ColorTable;
+use pix_chan::chan::{Ch8, Gamma};
+use pix_color::gray::Gray8;
+use pix_el::el::{Pix, Pixel};
+use pix_el::rgb::{SRgb8, SRgba8};
+use pix_raster::{Raster, RasterFault};
+use pix_table::{Color, Diffusion, Matcher, TableColor, diffuse_pixels, match_pixels, table_from};
+use std::alloc::Global;
+
+/// The greatest number of entries of a table that is made.
+const ENTRIES: usize = 256;
+
+impl ColorTable {
+    /// Makes a table of the colors of a raster, of at most `limit` entries: its distinct colors in order of first place, where there are no more than
+    /// that, and else the means of boxes of colors, by median cut. Answers `None` where the limit is 0 or above 256.
+    ///
+    /// Pixels whose alpha is below `alpha` do not count; by 0 each does. To keep an index for those, make a table of one entry less than there may be
+    /// indices: its limit is an index that no entry has. The threshold of the table is 0.
+    ///
+    /// # Errors
+    ///
+    /// `Memory` on allocation failure.
+    ///
+    /// # Examples
+    ///
+    /// ```rust
+    /// let Some(table) = ColorTable::from_raster(alloc, picture, 255, 128)? else {
+    ///     return Ok(None); // not for 255 entries
+    /// };
+    /// table.diffuse_indexed(alloc, picture, 128, 255) // index 255 where the alpha is below 128
+    /// ```
+    pub fn from_raster<S>(
+        alloc: Global,
+        raster: &Raster<S>,
+        limit: usize,
+        alpha: u8,
+    ) -> Result<Option<ColorTable>, RasterFault>
+    where
+        S: Pixel,
+        Ch8: From<S::Chan>,
+        S::Gamma: Gamma<Ch8>,
+        ensures made { IfOk result (λ answer. MatchOption answer
+            ((limit ≡ 0) ⊎ (256 < limit))
+            (IsMadeOf limit (shown alpha
+            (shades_of S.format ⟦<S::Gamma as Gamma<Ch8>>⟧.mode S.numbers raster.now.pixels)))) }
+        ensures memory { IfErr result (λ fault. fault ≡ RasterFault.Memory) }
+    {
+        let shades = shades(alloc, raster)?;
+        table_of(alloc, shades.pixels(), limit, alpha)
+    }
+
+    /// Makes a raster of indices: the value of each pixel is the index of the entry that is nearest to the color of the pixel at its place, the first of
+    /// equals; or `kept`, where the alpha of that pixel is below `alpha`. Answers `None` where there is no entry, or more than 256.
+    ///
+    /// # Errors
+    ///
+    /// `Memory` on allocation failure.
+    ///
+    /// # Examples
+    ///
+    /// ```rust
+    /// let Some(indices) = table.map_indexed_alpha(alloc, picture, 128, 255)? else {
+    ///     return Ok(None); // the table has no entry, or more than 256
+    /// };
+    /// Ok(Some(indices)) // index 255 where the alpha is below 128
+    /// ```
+    pub fn map_indexed_alpha<S>(
+        &self,
+        alloc: Global,
+        raster: &Raster<S>,
+        alpha: u8,
+        kept: u8,
+    ) -> Result<Option<Raster<Gray8>>, RasterFault>
+    where
+        S: Pixel,
+        Ch8: From<S::Chan>,
+        S::Gamma: Gamma<Ch8>,
+        ensures mapped { IfOk result (λ answer. MatchOption answer
+            ((length (entries_of self.now) ≡ 0) ⊎ (256 < length (entries_of self.now)))
+            (λ image. IsIndexImage ⟦<Gray8 as Pixel>⟧.numbers raster.now.width raster.now.height image
+            × AreMatched (map numbers (entries_of self.now)) alpha kept
+            (shades_of S.format ⟦<S::Gamma as Gamma<Ch8>>⟧.mode S.numbers raster.now.pixels)
+            (values ⟦<Gray8 as Pixel>⟧.numbers image.pixels))) }
+        ensures memory { IfErr result (λ fault. fault ≡ RasterFault.Memory) }
+    {
+        let shades = shades(alloc, raster)?;
+        let Some(indices) = matched(alloc, self.colors(), shades.pixels(), alpha, kept)? else {
+            return Ok(None);
+        };
+        let image = index_image(alloc, &shades, &indices)?;
+        Ok(Some(image))
+    }
+
+    /// Makes a raster of indices by error diffusion: the value of each pixel is the index of the entry that is nearest to its color and what it gets of
+    /// the errors of the pixels before it; or `kept`, where its alpha is below `alpha`, and then it hands on no error. Answers `None` where there is no
+    /// entry, or more than 256.
+    ///
+    /// The error of a pixel is what was wanted there less the entry that was found: 7 sixteenths of it go to the pixel on the right, 3 to the one below
+    /// on the left, 5 to the one below, and 1 to the one below on the right.
+    ///
+    /// # Errors
+    ///
+    /// `Memory` on allocation failure.
+    ///
+    /// # Examples
+    ///
+    /// ```rust
+    /// let Some(table) = ColorTable::from_raster(alloc, picture, 255, 128)? else {
+    ///     return Ok(None); // not for 255 entries
+    /// };
+    /// table.diffuse_indexed(alloc, picture, 128, 255) // index 255 where the alpha is below 128
+    /// ```
+    pub fn diffuse_indexed<S>(
+        &self,
+        alloc: Global,
+        raster: &Raster<S>,
+        alpha: u8,
+        kept: u8,
+    ) -> Result<Option<Raster<Gray8>>, RasterFault>
+    where
+        S: Pixel,
+        Ch8: From<S::Chan>,
+        S::Gamma: Gamma<Ch8>,
+        ensures diffused { IfOk result (λ answer. MatchOption answer
+            ((length (entries_of self.now) ≡ 0) ⊎ (256 < length (entries_of self.now)))
+            (λ image. IsIndexImage ⟦<Gray8 as Pixel>⟧.numbers raster.now.width raster.now.height image
+            × AreDiffused (map numbers (entries_of self.now)) alpha kept raster.now.width
+            (shades_of S.format ⟦<S::Gamma as Gamma<Ch8>>⟧.mode S.numbers raster.now.pixels)
+            (values ⟦<Gray8 as Pixel>⟧.numbers image.pixels))) }
+        ensures memory { IfErr result (λ fault. fault ≡ RasterFault.Memory) }
+    {
+        let shades = shades(alloc, raster)?;
+        let how = Diffusion {
+            width: shades.width() as usize,
+            alpha,
+            kept,
+        };
+        let Some(indices) = diffused(alloc, self.colors(), shades.pixels(), how)? else {
+            return Ok(None);
+        };
+        let image = index_image(alloc, &shades, &indices)?;
+        Ok(Some(image))
+    }
+}
+
+/// Makes a copy of a raster, whose pixels are colors with an alpha.
+fn shades<S>(alloc: Global, raster: &Raster<S>) -> Result<Raster<SRgba8>, RasterFault>
+where
+    S: Pixel,
+    Ch8: From<S::Chan>,
+    S::Gamma: Gamma<Ch8>,
+    ensures size { IfOk result (λ r. (r.width ≡ raster.now.width) × (r.height ≡ raster.now.height)) }
+    ensures shades { IfOk result (λ r. map srgba_numbers r.pixels
+        ≡ shades_of S.format ⟦<S::Gamma as Gamma<Ch8>>⟧.mode S.numbers raster.now.pixels) }
+    ensures memory { IfErr result (λ fault. fault ≡ RasterFault.Memory) }
+{
+    let copy = Raster::<SRgba8>::with_raster(alloc, raster)?;
+    Ok(copy)
+}
+
+/// Makes a table of pixels, as [`ColorTable::from_raster`] does.
+fn table_of(
+    alloc: Global,
+    pixels: &[SRgba8],
+    limit: usize,
+    alpha: u8,
+) -> Result<Option<ColorTable>, RasterFault>
+    ensures made { IfOk result (λ answer. MatchOption answer
+        ((limit ≡ 0) ⊎ (256 < limit))
+        (IsMadeOf limit (shown alpha (map srgba_numbers pixels.now)))) }
+    ensures memory { IfErr result (λ fault. fault ≡ RasterFault.Memory) }
+{
+    if limit == 0 || limit > ENTRIES {
+        return Ok(None);
+    }
+    let mut table = ColorTable::new(alloc, limit, SRgb8::default())?;
+    let mut work = vec![in alloc; Color::default(); pixels.len()]?;
+    let mut room = [Color::default(); ENTRIES];
+    let entries = &mut room[..limit];
+    let Some(len) = table_from(pixels, alpha, &mut work, entries) else {
+        return Ok(None);
+    };
+    copy_colors(&entries[..len], &mut table.slots);
+    table.len = len;
+    Ok(Some(table))
+}
+
+/// Makes the indices of the entries that are nearest to pixels, or of the one that is kept; or `None` where there is no entry, or more than 256.
+fn matched(
+    alloc: Global,
+    colors: &[SRgb8],
+    pixels: &[SRgba8],
+    alpha: u8,
+    kept: u8,
+) -> Result<Option<Vec<u8>>, RasterFault>
+    ensures mapped { IfOk result (λ answer. MatchOption answer
+        ((length colors.now ≡ 0) ⊎ (256 < length colors.now))
+        (λ indices. AreMatched (map numbers colors.now) alpha kept
+        (map srgba_numbers pixels.now) indices.items)) }
+    ensures memory { IfErr result (λ fault. fault ≡ RasterFault.Memory) }
+{
+    let Some(mut matcher) = Matcher::new(colors) else {
+        return Ok(None);
+    };
+    let mut indices = vec![in alloc; 0; pixels.len()]?;
+    match_pixels(&mut matcher, pixels, alpha, kept, &mut indices);
+    Ok(Some(indices))
+}
+
+/// Makes the indices of the pixels of rows by error diffusion; or `None` where there is no entry, or more than 256.
+fn diffused(
+    alloc: Global,
+    colors: &[SRgb8],
+    pixels: &[SRgba8],
+    how: Diffusion,
+) -> Result<Option<Vec<u8>>, RasterFault>
+    requires row { how.width ≡ 0 → length pixels.now ≡ 0 }
+    requires few { how.width < 4294967296 }
+    ensures diffused { IfOk result (λ answer. MatchOption answer
+        ((length colors.now ≡ 0) ⊎ (256 < length colors.now))
+        (λ indices. AreDiffused (map numbers colors.now) how.alpha how.kept how.width
+        (map srgba_numbers pixels.now) indices.items)) }
+    ensures memory { IfErr result (λ fault. fault ≡ RasterFault.Memory) }
+{
+    let Some(mut matcher) = Matcher::new(colors) else {
+        return Ok(None);
+    };
+    let mut indices = vec![in alloc; 0; pixels.len()]?;
+    if how.width == 0 {
+        return Ok(Some(indices));
+    }
+    let mut work = vec![in alloc; Color::default(); 4 * how.width]?;
+    diffuse_pixels(&mut matcher, colors, pixels, how, &mut work, &mut indices);
+    Ok(Some(indices))
+}
+
+/// Sets the first of some slots to colors, of which there are no more than slots.
+fn copy_colors<C: TableColor>(colors: &[C], slots: &mut [SRgb8])
+    requires { length colors.now ≤ length slots.old }
+    ensures colors { map numbers (take (length colors.now) slots.new)
+        ≡ map C.channels colors.now }
+    ensures room { length slots.new ≡ length slots.old }
+{
+    for i in 0..colors.len() {
+        slots[i] = srgb(colors[i].color());
+    }
+}
+
+/// Returns a color as a pixel.
+fn srgb(clr: Color) -> SRgb8
+    ensures { numbers result ≡ color_numbers clr }
+{
+    Pix::with_channels([Ch8::new(clr.red), Ch8::new(clr.green), Ch8::new(clr.blue)])
+}
+
+/// Makes an image of indices, as large as another one that has as many pixels.
+fn index_image(
+    alloc: Global,
+    size: &Raster<SRgba8>,
+    indices: &[u8],
+) -> Result<Raster<Gray8>, RasterFault>
+    requires { length indices.now ≡ size.now.height * size.now.width }
+    ensures image { IfOk result
+        (IsIndexImage ⟦<Gray8 as Pixel>⟧.numbers size.now.width size.now.height) }
+    ensures indices { IfOk result (λ image.
+        values ⟦<Gray8 as Pixel>⟧.numbers image.pixels ≡ indices.now) }
+    ensures memory { IfErr result (λ fault. fault ≡ RasterFault.Memory) }
+{
+    match Raster::with_clear(alloc, size.width(), size.height()) {
+        Err(_) => Err(RasterFault::Memory),
+        Ok(mut image) => {
+            write_indices(indices, image.pixels_mut());
+            Ok(image)
+        }
+    }
+}
+
+/// Sets each pixel to the index at its place.
+fn write_indices<P: IndexPixel>(indices: &[u8], pixels: &mut [P])
+    requires many { length pixels.old ≡ length indices.now }
+    requires greatest { 255 ≤ P.GREATEST }
+    ensures indices { values P.numbers pixels.new ≡ indices.now }
+    ensures gray { AreGray P.numbers pixels.new }
+{
+    for i in 0..indices.len() {
+        pixels[i] = P::of_index(usize::from(indices[i]));
+    }
+}
