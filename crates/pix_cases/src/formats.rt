@@ -4,6 +4,7 @@
 //! model, its alpha mode and its gamma mode.
 ghost use Rattle.std.specs.Prelude.{◌≤◌};
 
+use crate::conversions::{of_rgba8, to_rgba8};
 use crate::flaw::Flaw;
 use crate::models::{from_rgba8, from_rgba16, into_rgba8, into_rgba16};
 use pix::ColorModel;
@@ -30,6 +31,10 @@ pub(crate) enum Task<'a> {
     FromRgba(&'a str),
     /// Makes red, green, blue and alpha of a color of it.
     IntoRgba(&'a str),
+    /// Converts a pixel of `Rgba8` to it.
+    OfRgba8(&'a str),
+    /// Converts a pixel of it to `Rgba8`.
+    ToRgba8(&'a str),
 }
 
 /// A color model.
@@ -148,6 +153,8 @@ where
         Task::Describe => description::<Pix<N, Ch8, M, A, G>>(alloc),
         Task::FromRgba(word) => from_rgba8::<N, M, A, G>(word, alloc),
         Task::IntoRgba(word) => into_rgba8::<N, M, A, G>(word, alloc),
+        Task::OfRgba8(word) => of_rgba8::<Pix<N, Ch8, M, A, G>>(word, alloc),
+        Task::ToRgba8(word) => to_rgba8::<Pix<N, Ch8, M, A, G>>(word, alloc),
     }
 }
 
@@ -162,6 +169,8 @@ where
         Task::Describe => description::<Pix<N, Ch16, M, A, Linear>>(alloc),
         Task::FromRgba(word) => from_rgba16::<N, M, A>(word, alloc),
         Task::IntoRgba(word) => into_rgba16::<N, M, A>(word, alloc),
+        Task::OfRgba8(word) => of_rgba8::<Pix<N, Ch16, M, A, Linear>>(word, alloc),
+        Task::ToRgba8(word) => to_rgba8::<Pix<N, Ch16, M, A, Linear>>(word, alloc),
     }
 }
 
