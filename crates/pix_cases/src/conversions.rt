@@ -29,12 +29,12 @@ pub(crate) fn converted(words: &[&str], alloc: Global) -> Result<String, Flaw> {
     };
     match (from, to) {
         ("Rgba8", _) => Format::of(to)?.answer(Task::OfRgba8(word), alloc),
+        ("Rgb8", _) => Format::of(to)?.answer(Task::OfRgb8(word), alloc),
         (_, "Rgba8") => Format::of(from)?.answer(Task::ToRgba8(word), alloc),
         ("SBgra8p" | "SCmya8p" | "SGraya8p" | "SHsva8p" | "SHsla8p", _) => {
             to_straight(from, word, to, alloc)
         }
         ("SHwba8p" | "YCbCra8p" | "Xyza8p", _) => to_straight(from, word, to, alloc),
-        (_, "Cmy16" | "Hsv16" | "Hsl16" | "Hwb16") => to_wide(from, word, to, alloc),
         (_, "SRgb8") => to_eight::<3, Rgb, Straight, Srgb>(from, word, alloc),
         (_, "SRgba8p") => to_eight::<4, Rgb, Premultiplied, Srgb>(from, word, alloc),
         (_, "Rgba8p") => to_eight::<4, Rgb, Premultiplied, Linear>(from, word, alloc),
@@ -52,6 +52,16 @@ where
     Linear: Gamma<D::Chan>,
 {
     of_eight::<4, Rgb, Straight, Linear, D>(word, alloc)
+}
+
+/// Converts a pixel of `Rgb8` to another format.
+pub(crate) fn of_rgb8<D>(word: &str, alloc: Global) -> Result<String, Flaw>
+where
+    D: Pixel,
+    D::Chan: From<Ch8>,
+    Linear: Gamma<D::Chan>,
+{
+    of_eight::<3, Rgb, Straight, Linear, D>(word, alloc)
 }
 
 /// Converts a pixel to `Rgba8`.
@@ -105,25 +115,6 @@ fn to_model(from: &str, word: &str, to: &str, alloc: Global) -> Result<String, F
     }
 }
 
-/// Converts red, green and blue of eight bits to the format of a name, of sixteen bits.
-fn to_wide(from: &str, word: &str, to: &str, alloc: Global) -> Result<String, Flaw> {
-    if from != "Rgb8" {
-        return Err(Flaw::Name);
-    }
-    match to {
-        "Cmy16" => to_sixteen::<Cmy>(word, alloc),
-        "Hsv16" => to_sixteen::<Hsv>(word, alloc),
-        "Hsl16" => to_sixteen::<Hsl>(word, alloc),
-        "Hwb16" => to_sixteen::<Hwb>(word, alloc),
-        _ => Err(Flaw::Name),
-    }
-}
-
-/// Converts red, green and blue of eight bits to sixteen bits of another model.
-fn to_sixteen<M: ColorModel>(word: &str, alloc: Global) -> Result<String, Flaw> {
-    of_eight::<3, Rgb, Straight, Linear, Pix<3, Ch16, M, Straight, Linear>>(word, alloc)
-}
-
 /// Converts the pixel of a word, of the format of a name, to the format of eight bits of these parts.
 fn to_eight<const N: usize, M, A, G>(from: &str, word: &str, alloc: Global) -> Result<String, Flaw>
 where
@@ -143,7 +134,6 @@ where
     Srgb: Gamma<D::Chan>,
 {
     match from {
-        "Rgb8" => of_eight::<3, Rgb, Straight, Linear, D>(word, alloc),
         "Cmy8" => of_eight::<3, Cmy, Straight, Linear, D>(word, alloc),
         "Cmy16" => of_sixteen::<3, Cmy, Straight, D>(word, alloc),
         "YCbCr8" => of_eight::<3, YCbCr, Straight, Linear, D>(word, alloc),

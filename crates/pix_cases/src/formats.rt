@@ -4,9 +4,9 @@
 //! model, its alpha mode and its gamma mode.
 ghost use Rattle.std.specs.Prelude.{◌≤◌};
 
-use crate::conversions::{of_rgba8, to_rgba8};
+use crate::conversions::{of_rgb8, of_rgba8, to_rgba8};
 use crate::flaw::Flaw;
-use crate::models::{from_rgba8, from_rgba16, into_rgba8, into_rgba16};
+use crate::models::{made_of_rgba, rgba_of};
 use pix::ColorModel;
 use pix::bgr::Bgr;
 use pix::chan::{Alpha, Ch8, Ch16, Channel, Gamma, Linear, Premultiplied, Srgb, Straight};
@@ -21,6 +21,7 @@ use pix::rgb::Rgb;
 use pix::xyz::Xyz;
 use pix::ycc::YCbCr;
 use std::alloc::Global;
+use std::fmt::Debug;
 
 /// What is done with a format.
 #[derive(Clone, Copy)]
@@ -33,6 +34,8 @@ pub(crate) enum Task<'a> {
     IntoRgba(&'a str),
     /// Converts a pixel of `Rgba8` to it.
     OfRgba8(&'a str),
+    /// Converts a pixel of `Rgb8` to it.
+    OfRgb8(&'a str),
     /// Converts a pixel of it to `Rgba8`.
     ToRgba8(&'a str),
 }
@@ -149,13 +152,7 @@ where
     G: Gamma<Ch8>,
     requires { N ≤ 4 }
 {
-    match task {
-        Task::Describe => description::<Pix<N, Ch8, M, A, G>>(alloc),
-        Task::FromRgba(word) => from_rgba8::<N, M, A, G>(word, alloc),
-        Task::IntoRgba(word) => into_rgba8::<N, M, A, G>(word, alloc),
-        Task::OfRgba8(word) => of_rgba8::<Pix<N, Ch8, M, A, G>>(word, alloc),
-        Task::ToRgba8(word) => to_rgba8::<Pix<N, Ch8, M, A, G>>(word, alloc),
-    }
+    done::<Pix<N, Ch8, M, A, G>>(task, alloc)
 }
 
 /// Does a task for a linear format of sixteen bits.
@@ -165,12 +162,25 @@ where
     A: Alpha,
     requires { N ≤ 4 }
 {
+    done::<Pix<N, Ch16, M, A, Linear>>(task, alloc)
+}
+
+/// Does a task for a format.
+fn done<P>(task: Task, alloc: Global) -> Result<String, Flaw>
+where
+    P: Pixel,
+    P::Chan: From<Ch8>,
+    Ch8: From<P::Chan>,
+    P::Gamma: Gamma<Ch8>,
+    Linear: Gamma<P::Chan>,
+{
     match task {
-        Task::Describe => description::<Pix<N, Ch16, M, A, Linear>>(alloc),
-        Task::FromRgba(word) => from_rgba16::<N, M, A>(word, alloc),
-        Task::IntoRgba(word) => into_rgba16::<N, M, A>(word, alloc),
-        Task::OfRgba8(word) => of_rgba8::<Pix<N, Ch16, M, A, Linear>>(word, alloc),
-        Task::ToRgba8(word) => to_rgba8::<Pix<N, Ch16, M, A, Linear>>(word, alloc),
+        Task::Describe => description::<P>(alloc),
+        Task::FromRgba(word) => made_of_rgba::<P>(word, alloc),
+        Task::IntoRgba(word) => rgba_of::<P>(word, alloc),
+        Task::OfRgba8(word) => of_rgba8::<P>(word, alloc),
+        Task::OfRgb8(word) => of_rgb8::<P>(word, alloc),
+        Task::ToRgba8(word) => to_rgba8::<P>(word, alloc),
     }
 }
 
@@ -212,8 +222,49 @@ pub(crate) fn described(words: &[&str], alloc: Global) -> Result<String, Flaw> {
 fn description<P: Pixel>(alloc: Global) -> Result<String, Flaw> {
     let count = P::default().channels().len();
     let max = P::Chan::MAX.to_u32();
-    let model = P::Model::default();
-    let alpha = P::Alpha::default();
-    let gamma = P::Gamma::default();
-    Ok(format!(in alloc; "{count} {max} {model:?} {alpha:?} {gamma:?}")?)
+    let model = model_name(<P::Model as ColorModel>::KIND, alloc)?;
+    let alpha = alpha_name(<P::Alpha as Alpha>::KIND, alloc)?;
+    let gamma = gamma_name(<P::Gamma as Gamma<P::Chan>>::KIND, alloc)?;
+    Ok(format!(in alloc; "{count} {max} {model} {alpha} {gamma}")?)
+}
+
+/// The name that the color model of a number prints.
+fn model_name(kind: u8, alloc: Global) -> Result<String, Flaw> {
+    match kind {
+        k if k == Rgb::KIND => name::<Rgb>(alloc),
+        k if k == Bgr::KIND => name::<Bgr>(alloc),
+        k if k == Cmy::KIND => name::<Cmy>(alloc),
+        k if k == Gray::KIND => name::<Gray>(alloc),
+        k if k == Hsv::KIND => name::<Hsv>(alloc),
+        k if k == Hsl::KIND => name::<Hsl>(alloc),
+        k if k == Hwb::KIND => name::<Hwb>(alloc),
+        k if k == YCbCr::KIND => name::<YCbCr>(alloc),
+        k if k == Xyz::KIND => name::<Xyz>(alloc),
+        k if k == Matte::KIND => name::<Matte>(alloc),
+        _ => Err(Flaw::Name),
+    }
+}
+
+/// The name that the alpha mode of a number prints.
+fn alpha_name(kind: u8, alloc: Global) -> Result<String, Flaw> {
+    match kind {
+        k if k == Straight::KIND => name::<Straight>(alloc),
+        k if k == Premultiplied::KIND => name::<Premultiplied>(alloc),
+        _ => Err(Flaw::Name),
+    }
+}
+
+/// The name that the gamma mode of a number prints.
+fn gamma_name(kind: u8, alloc: Global) -> Result<String, Flaw> {
+    match kind {
+        k if k == <Linear as Gamma<Ch8>>::KIND => name::<Linear>(alloc),
+        k if k == <Srgb as Gamma<Ch8>>::KIND => name::<Srgb>(alloc),
+        _ => Err(Flaw::Name),
+    }
+}
+
+/// The name that a model or a mode prints.
+fn name<T: Default + Debug + Copy>(alloc: Global) -> Result<String, Flaw> {
+    let value = T::default();
+    Ok(format!(in alloc; "{value:?}")?)
 }
