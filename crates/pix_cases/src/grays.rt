@@ -154,7 +154,10 @@ where
 /// How many rows a region has, and the pixels of each; after the last row there is none, however
 /// often it is asked for.
 fn rows<P: Pixel>(raster: &Raster<P>, reg: Region, alloc: Global) -> Result<String, Flaw> {
-    let count = raster.rows(reg).count();
+    let mut count = 0_usize;
+    for _ in raster.rows(reg) {
+        count = count.wrapping_add(1);
+    }
     let mut answer = format!(in alloc; "{count}")?;
     let mut rows = raster.rows(reg);
     for _ in 0..count {
