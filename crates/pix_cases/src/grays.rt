@@ -102,7 +102,8 @@ where
         ["pixels"] => picture(raster, alloc),
         ["at", x, y] => {
             let (x, y) = (coordinate(number(x)?)?, coordinate(number(y)?)?);
-            text(&[pixel_at(raster, x, y).ok_or(Flaw::Number)?], alloc)
+            let point = pixel_at(raster, x, y).ok_or(Flaw::Number)?;
+            text(&Vec::from_elem(alloc, point, 1)?, alloc)
         }
         ["rows", reg] => rows(raster, region(reg, alloc)?, alloc),
         ["row", y, reg] => {
