@@ -1,5 +1,6 @@
-/* Bitmaps of many formats, sizes and strides, from top to bottom and from bottom to top, beside the plain model: each byte that is
- * written, each that stays, and each status; in place too. And pictures in sRGB that come back from light as they were.
+/* Bitmaps from each format to each, and of random formats, sizes and strides, from top to bottom and from bottom to top, beside the
+ * plain model: each byte that is written, each that stays, and each status; in place too. And pictures in sRGB that come back from
+ * light as they were.
  *
  *     bitmaps [COUNT [SEED]] */
 #include "pix.h"
@@ -7,7 +8,7 @@
 #include <stdio.h>
 #include <stdlib.h>
 
-enum { ROOM = 8192, SIDE = 9, WIDTH = 640, HEIGHT = 480 };
+enum { ROOM = 8192, SIDE = 9, PIXELS = 64, WIDTH = 640, HEIGHT = 480 };
 
 static uint64_t seed = 1;
 
@@ -23,10 +24,8 @@ static void insist(int holds, const char *what) {
     }
 }
 
-/* A number of a format that the plain model has. */
 static pix_format any_format(void) {
-    uint32_t number = below(31);
-    return (pix_format)(number < 27 ? number : number + 50);
+    return (pix_format)below(PLAIN_STORED);
 }
 
 static void fill(uint8_t *bytes, size_t count) {
@@ -53,6 +52,25 @@ static void plain_rows_of(pix_format from, pix_format to, const uint8_t *src, pt
             uint8_t made[8];
             plain_cross(&source, &target, src + (ptrdiff_t)y * src_stride + x * plain_stored_size(&source), made);
             memcpy(dst + (ptrdiff_t)y * dst_stride + x * plain_stored_size(&target), made, plain_stored_size(&target));
+        }
+}
+
+/* A row of pixels, from each format to each. */
+static void compare_each_pair(void) {
+    static uint8_t src[8 * PIXELS], dst[8 * PIXELS], wanted[8 * PIXELS];
+    for (uint32_t from = 0; from < PLAIN_STORED; from++)
+        for (uint32_t to = 0; to < PLAIN_STORED; to++) {
+            pix_format format = (pix_format)from, target = (pix_format)to;
+            pix_bitmap image = pix_bitmap_of(dst, PIXELS, 1, target);
+            fill(src, sizeof src);
+            fill(dst, sizeof dst);
+            memcpy(wanted, dst, sizeof dst);
+            plain_rows_of(format, target, src, 0, wanted, 0, PIXELS, 1);
+            insist(pix_convert_bitmap(pix_bitmap_source_of(src, PIXELS, 1, format), image) == PIX_OK, "a row is refused");
+            if (memcmp(dst, wanted, sizeof dst)) {
+                fprintf(stderr, "formats %u and %u: ", from, to);
+                insist(0, "another row than the model's");
+            }
         }
 }
 
@@ -246,8 +264,9 @@ int main(int argc, char **argv) {
     comes_back(PIX_FORMAT_SBGRA8, 4);
     comes_back(PIX_FORMAT_SRGB8, 3);
     comes_back(PIX_FORMAT_SBGR8, 3);
+    compare_each_pair();
     for (unsigned long i = 0; i < count; i++)
         compare_with_the_model();
-    printf("%lu bitmaps are those of the plain model\n", count);
+    printf("%d pairs of formats and %lu bitmaps are those of the plain model\n", PLAIN_STORED * PLAIN_STORED, count);
     return 0;
 }

@@ -107,7 +107,7 @@ uint32_t pix_convert_bytes(uint32_t from, uint32_t to, const uint8_t *src, size_
     return PIX_OK;
 }
 
-/* The bitmaps of this library are those of red, green, blue and gray; it refuses the other formats. */
+/* Bitmaps. */
 uint32_t pix_pixel_size(uint32_t format) {
     static const uint8_t sizes[] = {
         4, 4, 4, 4, 4, 4, 3, 1, 4, 4, 3, 1, 8, 8, 6, 8, 8, 6, 3, 3, 2, 2, 2, 2, 2, 4, 4,

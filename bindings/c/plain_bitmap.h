@@ -1,13 +1,15 @@
-/* plain_bitmap.h - bitmaps of red, green, blue and gray, a second time: a plain model, written from the definitions, one pixel
- * after the other. The library is compared with it, and other.c is made of it. */
+/* plain_bitmap.h - bitmaps of every format, a second time: a plain model, written from the definitions, one pixel after the
+ * other. The library is compared with it, and other.c is made of it. */
 #ifndef PLAIN_BITMAP_H
 #define PLAIN_BITMAP_H
 
 #include "plain.h"
 
-/* A format: its model (r, b for the reverse order, g for gray, and 0 where this model has none), whether it has an alpha, whether
- * colors are multiplied by it and encoded by the sRGB curve, whether channels have 16 bits, and whether a byte follows that says
- * nothing. */
+enum { PLAIN_STORED = 81 };
+
+/* A format: its model (r, b for the reverse order, g for gray, m for a matte, c for CMY, v for HSV, l for HSL, w for HWB, y for
+ * YCbCr, x for XYZ, and 0 where there is no such format), whether it has an alpha, whether colors are multiplied by it and
+ * encoded by the sRGB curve, whether channels have 16 bits, and whether a byte follows that says nothing. */
 typedef struct {
     char model;
     int has_alpha, is_premultiplied, is_srgb, is_wide, is_opaque;
@@ -18,27 +20,49 @@ static inline plain_stored plain_stored_of(uint32_t number) {
         {'r', 1, 0, 0, 1, 0}, {'r', 1, 1, 0, 1, 0}, {'r', 0, 0, 0, 1, 0}, {'b', 1, 0, 0, 1, 0}, {'b', 1, 1, 0, 1, 0},
         {'b', 0, 0, 0, 1, 0}, {'b', 0, 0, 0, 0, 0}, {'b', 0, 0, 1, 0, 0}, {'g', 1, 0, 0, 0, 0}, {'g', 1, 1, 0, 0, 0},
         {'g', 1, 0, 1, 0, 0}, {'g', 1, 1, 1, 0, 0}, {'g', 0, 0, 0, 1, 0}, {'g', 1, 0, 0, 1, 0}, {'g', 1, 1, 0, 1, 0},
+        {'m', 1, 1, 0, 0, 0}, {'m', 1, 1, 0, 1, 0},
+    };
+    /* of one model: without an alpha, with one, and multiplied by it */
+    static const plain_stored nine[] = {
+        {0, 0, 0, 0, 0, 0}, {0, 1, 0, 0, 0, 0}, {0, 1, 1, 0, 0, 0}, {0, 0, 0, 0, 1, 0}, {0, 1, 0, 0, 1, 0},
+        {0, 1, 1, 0, 1, 0}, {0, 0, 0, 1, 0, 0}, {0, 1, 0, 1, 0, 0}, {0, 1, 1, 1, 0, 0},
     };
     static const plain_stored opaque[] = {
         {'r', 0, 0, 1, 0, 1}, {'b', 0, 0, 1, 0, 1}, {'r', 0, 0, 0, 0, 1}, {'b', 0, 0, 0, 0, 1},
     };
-    static const plain_stored none = {0, 0, 0, 0, 0, 0};
+    plain_stored it = {0, 0, 0, 0, 0, 0};
     if (number < 12) {
-        const plain_format *it = &plain_formats[number];
-        plain_stored same = {it->model, it->has_alpha, it->is_premultiplied, it->is_srgb, 0, 0};
+        const plain_format *buffer = &plain_formats[number];
+        plain_stored same = {buffer->model, buffer->has_alpha, buffer->is_premultiplied, buffer->is_srgb, 0, 0};
         return same;
     }
-    return number < 27 ? common[number - 12] : number >= 77 && number < 81 ? opaque[number - 77] : none;
+    if (number < 29)
+        return common[number - 12];
+    if (number < 77) { /* four models of nine formats, and two of six, which have none in sRGB */
+        it = number < 65 ? nine[(number - 29) % 9] : nine[(number - 65) % 6];
+        it.model = number < 65 ? "cvlw"[(number - 29) / 9] : "yx"[(number - 65) / 6];
+        return it;
+    }
+    return number < PLAIN_STORED ? opaque[number - 77] : it;
+}
+
+/* How many colors a model has before the alpha. */
+static inline size_t plain_colors(char model) {
+    return model == 'm' ? 0 : model == 'g' ? 1 : 3;
+}
+
+/* The number of the first color that is no hue. */
+static inline size_t plain_first(char model) {
+    return model == 'v' || model == 'l' || model == 'w';
 }
 
 static inline size_t plain_stored_size(const plain_stored *it) {
-    return ((it->model == 'g' ? 1 : 3) + (size_t)it->has_alpha + (size_t)it->is_opaque) * (it->is_wide ? 2 : 1);
+    return (plain_colors(it->model) + (size_t)it->has_alpha + (size_t)it->is_opaque) * (it->is_wide ? 2 : 1);
 }
 
-/* Red, green, blue and alpha of a pixel, up to `max`. In gray the three are the value. */
-typedef struct {
-    uint64_t max, color[3], alpha;
-} plain_rgba;
+static inline uint64_t plain_max(const plain_stored *it) {
+    return it->is_wide ? 65535 : 255;
+}
 
 static inline uint64_t plain_sample(const plain_stored *it, const unsigned char *pixel, size_t number) {
     return it->is_wide ? pixel[2 * number] + 256u * pixel[2 * number + 1] : pixel[number];
@@ -49,6 +73,134 @@ static inline void plain_set_sample(const plain_stored *it, unsigned char *pixel
     if (it->is_wide)
         pixel[2 * number + 1] = (unsigned char)(value / 256);
 }
+
+/* ---- Color models: their formulas into red, green and blue and back, over whole numbers ---- */
+
+/* The number nearest to n / d, ties up, at most max; 0 over 0. */
+static inline uint64_t plain_near(uint64_t max, uint64_t n, uint64_t d) {
+    uint64_t nearest = d ? (2 * n + d) / (2 * d) : 0;
+    return nearest < max ? nearest : max;
+}
+
+/* x - y, at least 0, and x + y, at most max. */
+static inline uint64_t plain_less(uint64_t x, uint64_t y) {
+    return x > y ? x - y : 0;
+}
+
+static inline uint64_t plain_sum(uint64_t max, uint64_t x, uint64_t y) {
+    return x + y < max ? x + y : max;
+}
+
+static inline void plain_set_color(uint64_t color[3], uint64_t one, uint64_t two, uint64_t three) {
+    color[0] = one;
+    color[1] = two;
+    color[2] = three;
+}
+
+/* Red, green and blue of a hue at a chroma, with `lift` added to each. */
+static inline void plain_of_hue(uint64_t max, uint64_t color[3], uint64_t hue, uint64_t chroma, uint64_t lift) {
+    uint64_t part = 6 * hue % max, rising = plain_product(max, chroma, part), falling = plain_product(max, chroma, max - part);
+    switch (6 * hue / max) {
+    case 1: plain_set_color(color, falling, chroma, 0); break;
+    case 2: plain_set_color(color, 0, chroma, rising); break;
+    case 3: plain_set_color(color, 0, falling, chroma); break;
+    case 4: plain_set_color(color, rising, 0, chroma); break;
+    case 5: plain_set_color(color, chroma, 0, falling); break;
+    default: plain_set_color(color, chroma, rising, 0); break;
+    }
+    for (size_t i = 0; i < 3; i++)
+        color[i] = plain_sum(max, color[i], lift);
+}
+
+static inline void plain_to_rgb(char model, uint64_t max, uint64_t color[3]) {
+    uint64_t one = color[0], two = color[1], three = color[2], chroma, white, black, room;
+    switch (model) {
+    case 'b': plain_set_color(color, three, two, one); break;
+    case 'c': plain_set_color(color, max - one, max - two, max - three); break;
+    case 'g': plain_set_color(color, one, one, one); break;
+    case 'm': plain_set_color(color, max, max, max); break;
+    case 'v':
+        chroma = plain_product(max, three, two);
+        plain_of_hue(max, color, one, chroma, three - chroma);
+        break;
+    case 'l':
+        room = max - (2 * three > max ? 2 * three - max : max - 2 * three);
+        chroma = plain_product(max, room, two);
+        plain_of_hue(max, color, one, chroma, plain_less(three, plain_product(max, chroma, max / 2 + 1)));
+        break;
+    case 'w':
+        white = two + three > max ? plain_near(max, two * max, two + three) : two;
+        black = two + three > max ? plain_near(max, three * max, two + three) : three;
+        chroma = plain_less(max - black, white);
+        plain_of_hue(max, color, one, chroma, max - black - chroma);
+        break;
+    case 'y':
+        plain_set_color(color, plain_near(max, plain_less(1000 * one + 1402 * three, 701 * max), 1000),
+                  plain_near(max, plain_less(1000000 * one + 529136 * max, 344136 * two + 714136 * three), 1000000),
+                  plain_near(max, plain_less(1000 * one + 1772 * two, 886 * max), 1000));
+        break;
+    case 'x':
+        plain_set_color(color, plain_near(max, plain_less(32406 * one, 15372 * two + 4986 * three), 10000),
+                  plain_near(max, plain_less(18758 * two + 415 * three, 9689 * one), 10000),
+                  plain_near(max, plain_less(557 * one + 10570 * three, 2040 * two), 10000));
+        break;
+    default: break;
+    }
+}
+
+static inline uint64_t plain_greatest(const uint64_t color[3]) {
+    uint64_t two = color[0] > color[1] ? color[0] : color[1];
+    return two > color[2] ? two : color[2];
+}
+
+static inline uint64_t plain_least(const uint64_t color[3]) {
+    uint64_t two = color[0] < color[1] ? color[0] : color[1];
+    return two < color[2] ? two : color[2];
+}
+
+/* The hue of red, green and blue, the greatest of which are `chroma` above the least. */
+static inline uint64_t plain_hue(uint64_t max, const uint64_t color[3], uint64_t chroma) {
+    uint64_t red = color[0], green = color[1], blue = color[2], greatest = plain_greatest(color), turn;
+    if (red == greatest)
+        turn = green >= blue ? green - blue : 6 * chroma + green - blue;
+    else
+        turn = green == greatest ? 2 * chroma + blue - red : 4 * chroma + red - green;
+    return plain_near(max, max * turn, 6 * chroma);
+}
+
+static inline void plain_of_rgb(char model, uint64_t max, uint64_t color[3]) {
+    uint64_t red = color[0], green = color[1], blue = color[2], greatest = plain_greatest(color);
+    uint64_t chroma = greatest - plain_least(color), hue = plain_hue(max, color, chroma), light, room;
+    uint64_t luminance = plain_near(max, 2126 * red + 7152 * green + 722 * blue, 10000);
+    switch (model) {
+    case 'b': plain_set_color(color, blue, green, red); break;
+    case 'c': plain_set_color(color, max - red, max - green, max - blue); break;
+    case 'g': plain_set_color(color, luminance, 0, 0); break;
+    case 'm': plain_set_color(color, 0, 0, 0); break;
+    case 'v': plain_set_color(color, hue, plain_quotient(max, chroma, greatest), greatest); break;
+    case 'l':
+        light = plain_less(greatest, plain_product(max, chroma, max / 2 + 1));
+        room = light < max - light ? light : max - light;
+        plain_set_color(color, hue, plain_quotient(max, plain_less(greatest, light), room), light);
+        break;
+    case 'w':
+        light = max - plain_quotient(max, chroma, greatest);
+        plain_set_color(color, hue, plain_product(max, light, greatest), max - greatest);
+        break;
+    case 'y':
+        plain_set_color(color, plain_near(max, 299 * red + 587 * green + 114 * blue, 1000),
+                  plain_near(max, plain_less(500000 * max + 500000 * blue, 168736 * red + 331264 * green), 1000000),
+                  plain_near(max, plain_less(500000 * max + 500000 * red, 418688 * green + 81312 * blue), 1000000));
+        break;
+    case 'x':
+        plain_set_color(color, plain_near(max, 4124 * red + 3576 * green + 1805 * blue, 10000), luminance,
+                  plain_near(max, 193 * red + 1192 * green + 9505 * blue, 10000));
+        break;
+    default: break;
+    }
+}
+
+/* ---- Pixels ---- */
 
 static inline uint64_t plain_at_depth(uint64_t max, uint64_t to_max, uint64_t value) {
     return max == to_max ? value : to_max > max ? 257 * value : value / 256;
@@ -68,49 +220,77 @@ static inline uint64_t plain_mode_changed(int from, int to, uint64_t max, uint64
     return from == to ? color : to ? plain_product(max, color, alpha) : plain_quotient(max, color, alpha);
 }
 
-/* The gray of a color, where only one of the two models is gray. */
-static inline void plain_change_model(const plain_stored *from, const plain_stored *to, plain_rgba *it) {
-    if (to->model == 'g' && from->model != 'g') {
-        uint64_t gray = (2 * (2126 * it->color[0] + 7152 * it->color[1] + 722 * it->color[2]) + 10000) / 20000;
-        it->color[0] = it->color[1] = it->color[2] = gray;
+/* A color at an alpha, from the modes of one format to those of another. */
+static inline uint64_t plain_reencoded(const plain_stored *from, const plain_stored *to, uint64_t color, uint64_t alpha) {
+    int recodes = from->is_premultiplied != to->is_premultiplied || from->is_srgb != to->is_srgb;
+    if (recodes && from->is_srgb)
+        color = plain_to_linear(color);
+    color = plain_mode_changed(from->is_premultiplied, to->is_premultiplied, plain_max(to), color, alpha);
+    return recodes && to->is_srgb ? plain_from_linear(color) : color;
+}
+
+static inline void plain_change_model(const plain_stored *from, const plain_stored *to, uint64_t max, uint64_t color[3]) {
+    if (from->model != to->model) {
+        plain_to_rgb(from->model, max, color);
+        plain_of_rgb(to->model, max, color);
     }
 }
 
-static inline void plain_cross(const plain_stored *from, const plain_stored *to, const unsigned char *src, unsigned char *dst) {
-    size_t colors = from->model == 'g' ? 1 : 3, to_colors = to->model == 'g' ? 1 : 3;
-    uint64_t max = from->is_wide ? 65535 : 255, to_max = to->is_wide ? 65535 : 255;
-    plain_rgba it = {max, {0, 0, 0}, from->has_alpha ? plain_sample(from, src, colors) : max};
+/* From sRGB of 8 bits to 16 bits: by way of light, in the model of the source. The answer is the alpha. */
+static inline uint64_t plain_decode(const plain_stored *from, const plain_stored *to, uint64_t color[3], uint64_t alpha) {
+    int mode = from->is_premultiplied, to_mode = to->is_premultiplied;
+    alpha = plain_at_depth(255, 65535, alpha);
     for (size_t i = 0; i < 3; i++)
-        it.color[i] = plain_sample(from, src, from->model == 'g' ? 0 : from->model == 'b' ? 2 - i : i);
-    if (from->is_srgb && to->is_wide) {
-        it.alpha = plain_at_depth(255, 65535, it.alpha);
-        for (size_t i = 0; i < 3; i++)
-            it.color[i] = plain_mode_changed(from->is_premultiplied, to->is_premultiplied, 65535,
-                                             plain_decoded16(it.color[i]), it.alpha);
-        plain_change_model(from, to, &it);
-    } else if (from->is_wide && to->is_srgb) {
-        plain_change_model(from, to, &it);
-        for (size_t i = 0; i < 3; i++)
-            it.color[i] = plain_encoded8(
-                plain_mode_changed(from->is_premultiplied, to->is_premultiplied, 65535, it.color[i], it.alpha));
-        it.alpha = plain_at_depth(65535, 255, it.alpha);
-    } else {
-        it.alpha = plain_at_depth(max, to_max, it.alpha);
-        for (size_t i = 0; i < 3; i++) {
-            uint64_t alpha = from->model == to->model && !to->has_alpha ? to_max : it.alpha;
-            int recodes = from->is_premultiplied != to->is_premultiplied || from->is_srgb != to->is_srgb;
-            uint64_t color = plain_at_depth(max, to_max, it.color[i]);
-            if (recodes && from->is_srgb)
-                color = plain_to_linear(color);
-            color = plain_mode_changed(from->is_premultiplied, to->is_premultiplied, to_max, color, alpha);
-            it.color[i] = recodes && to->is_srgb ? plain_from_linear(color) : color;
-        }
-        plain_change_model(from, to, &it);
+        color[i] = i < plain_first(from->model)
+            ? plain_at_depth(255, 65535, color[i])
+            : plain_mode_changed(mode, to_mode, 65535, plain_decoded16(color[i]), alpha);
+    plain_change_model(from, to, 65535, color);
+    return alpha;
+}
+
+/* From 16 bits to sRGB of 8: by way of light, in the model of the target. */
+static inline uint64_t plain_encode(const plain_stored *from, const plain_stored *to, uint64_t color[3], uint64_t alpha) {
+    int mode = from->is_premultiplied, to_mode = to->is_premultiplied;
+    plain_change_model(from, to, 65535, color);
+    for (size_t i = 0; i < 3; i++)
+        color[i] = i < plain_first(to->model)
+            ? plain_at_depth(65535, 255, color[i])
+            : plain_encoded8(plain_mode_changed(mode, to_mode, 65535, color[i], alpha));
+    return plain_at_depth(65535, 255, alpha);
+}
+
+/* Between any other two: first the depth, and then each color but a hue; from model to model in red, green and blue. */
+static inline uint64_t plain_converted(const plain_stored *from, const plain_stored *to, uint64_t color[3], uint64_t alpha) {
+    uint64_t max = plain_max(from), to_max = plain_max(to);
+    int is_within = from->model == to->model;
+    alpha = is_within && !to->has_alpha ? to_max : plain_at_depth(max, to_max, alpha);
+    if (!is_within)
+        plain_to_rgb(from->model, max, color);
+    for (size_t i = 0; i < 3; i++) {
+        color[i] = plain_at_depth(max, to_max, color[i]);
+        if (!is_within || i >= plain_first(to->model))
+            color[i] = plain_reencoded(from, to, color[i], alpha);
     }
+    if (!is_within)
+        plain_of_rgb(to->model, to_max, color);
+    return alpha;
+}
+
+static inline void plain_cross(const plain_stored *from, const plain_stored *to, const unsigned char *src, unsigned char *dst) {
+    size_t colors = plain_colors(from->model), to_colors = plain_colors(to->model);
+    uint64_t color[3] = {0, 0, 0}, alpha = from->has_alpha ? plain_sample(from, src, colors) : plain_max(from);
+    for (size_t i = 0; i < colors; i++)
+        color[i] = plain_sample(from, src, i);
+    if (from->is_srgb && to->is_wide)
+        alpha = plain_decode(from, to, color, alpha);
+    else if (from->is_wide && to->is_srgb)
+        alpha = plain_encode(from, to, color, alpha);
+    else
+        alpha = plain_converted(from, to, color, alpha);
     for (size_t i = 0; i < to_colors; i++)
-        plain_set_sample(to, dst, i, it.color[to->model == 'b' ? 2 - i : i]);
+        plain_set_sample(to, dst, i, color[i]);
     if (to->has_alpha || to->is_opaque)
-        plain_set_sample(to, dst, to_colors, to->has_alpha ? it.alpha : to_max);
+        plain_set_sample(to, dst, to_colors, to->has_alpha ? alpha : plain_max(to));
 }
 
 #endif

@@ -5,6 +5,7 @@
 ghost use Rattle.std.specs.Prelude.{◌≤◌, ◌+◌};
 
 use crate::flaw::Flaw;
+use crate::formats::{Format, Task};
 use crate::pixels::{pixel, word_of};
 use pix::ColorModel;
 use pix::bgr::Bgr;
@@ -26,16 +27,76 @@ pub(crate) fn converted(words: &[&str], alloc: Global) -> Result<String, Flaw> {
     let &[from, word, to] = words else {
         return Err(Flaw::Count);
     };
-    match to {
-        "Cmy16" | "Hsv16" | "Hsl16" | "Hwb16" => to_wide(from, word, to, alloc),
-        "SRgb8" => to_eight::<3, Rgb, Straight, Srgb>(from, word, alloc),
-        "SRgba8p" => to_eight::<4, Rgb, Premultiplied, Srgb>(from, word, alloc),
-        "Rgba8p" => to_eight::<4, Rgb, Premultiplied, Linear>(from, word, alloc),
-        "Rgba8" => to_eight::<4, Rgb, Straight, Linear>(from, word, alloc),
-        "SGraya8" => to_eight::<2, Gray, Straight, Srgb>(from, word, alloc),
-        "Bgra8" => to_eight::<4, Bgr, Straight, Linear>(from, word, alloc),
+    match (from, to) {
+        ("Rgba8", _) => Format::of(to)?.answer(Task::OfRgba8(word), alloc),
+        ("Rgb8", _) => Format::of(to)?.answer(Task::OfRgb8(word), alloc),
+        (_, "Rgba8") => Format::of(from)?.answer(Task::ToRgba8(word), alloc),
+        ("SBgra8p" | "SCmya8p" | "SGraya8p" | "SHsva8p" | "SHsla8p", _) => {
+            to_straight(from, word, to, alloc)
+        }
+        ("SHwba8p" | "YCbCra8p" | "Xyza8p", _) => to_straight(from, word, to, alloc),
+        (_, "SRgb8") => to_eight::<3, Rgb, Straight, Srgb>(from, word, alloc),
+        (_, "SRgba8p") => to_eight::<4, Rgb, Premultiplied, Srgb>(from, word, alloc),
+        (_, "Rgba8p") => to_eight::<4, Rgb, Premultiplied, Linear>(from, word, alloc),
+        (_, "SGraya8") => to_eight::<2, Gray, Straight, Srgb>(from, word, alloc),
+        (_, "Bgra8") => to_eight::<4, Bgr, Straight, Linear>(from, word, alloc),
         _ => to_model(from, word, to, alloc),
     }
+}
+
+/// Converts a pixel of `Rgba8` to another format.
+pub(crate) fn of_rgba8<D>(word: &str, alloc: Global) -> Result<String, Flaw>
+where
+    D: Pixel,
+    D::Chan: From<Ch8>,
+    Linear: Gamma<D::Chan>,
+{
+    of_eight::<4, Rgb, Straight, Linear, D>(word, alloc)
+}
+
+/// Converts a pixel of `Rgb8` to another format.
+pub(crate) fn of_rgb8<D>(word: &str, alloc: Global) -> Result<String, Flaw>
+where
+    D: Pixel,
+    D::Chan: From<Ch8>,
+    Linear: Gamma<D::Chan>,
+{
+    of_eight::<3, Rgb, Straight, Linear, D>(word, alloc)
+}
+
+/// Converts a pixel to `Rgba8`.
+pub(crate) fn to_rgba8<S>(word: &str, alloc: Global) -> Result<String, Flaw>
+where
+    S: Pixel,
+    Ch8: From<S::Chan>,
+    S::Gamma: Gamma<Ch8>,
+{
+    one::<S, Pix<4, Ch8, Rgb, Straight, Linear>>(word, alloc)
+}
+
+/// Converts a premultiplied pixel of eight bits to straight linear channels of the same model.
+fn to_straight(from: &str, word: &str, to: &str, alloc: Global) -> Result<String, Flaw> {
+    match (from, to) {
+        ("SBgra8p", "Bgra8") => straight::<4, Bgr, Srgb>(word, alloc),
+        ("SCmya8p", "Cmya8") => straight::<4, Cmy, Srgb>(word, alloc),
+        ("SGraya8p", "Graya8") => straight::<2, Gray, Srgb>(word, alloc),
+        ("SHsva8p", "Hsva8") => straight::<4, Hsv, Srgb>(word, alloc),
+        ("SHsla8p", "Hsla8") => straight::<4, Hsl, Srgb>(word, alloc),
+        ("SHwba8p", "Hwba8") => straight::<4, Hwb, Srgb>(word, alloc),
+        ("YCbCra8p", "YCbCra8") => straight::<4, YCbCr, Linear>(word, alloc),
+        ("Xyza8p", "Xyza8") => straight::<4, Xyz, Linear>(word, alloc),
+        _ => Err(Flaw::Name),
+    }
+}
+
+/// Converts a premultiplied pixel of eight bits to straight linear channels of the same model.
+fn straight<const N: usize, M, G>(word: &str, alloc: Global) -> Result<String, Flaw>
+where
+    M: ColorModel,
+    G: Gamma<Ch8>,
+    requires { N ≤ 4 }
+{
+    of_eight::<N, M, Premultiplied, G, Pix<N, Ch8, M, Straight, Linear>>(word, alloc)
 }
 
 /// Converts the pixel of a word, of the format of a name, to straight linear channels of eight bits without an alpha.
@@ -52,25 +113,6 @@ fn to_model(from: &str, word: &str, to: &str, alloc: Global) -> Result<String, F
         "Hwb8" => to_eight::<3, Hwb, Straight, Linear>(from, word, alloc),
         _ => Err(Flaw::Name),
     }
-}
-
-/// Converts red, green and blue of eight bits to the format of a name, of sixteen bits.
-fn to_wide(from: &str, word: &str, to: &str, alloc: Global) -> Result<String, Flaw> {
-    if from != "Rgb8" {
-        return Err(Flaw::Name);
-    }
-    match to {
-        "Cmy16" => to_sixteen::<Cmy>(word, alloc),
-        "Hsv16" => to_sixteen::<Hsv>(word, alloc),
-        "Hsl16" => to_sixteen::<Hsl>(word, alloc),
-        "Hwb16" => to_sixteen::<Hwb>(word, alloc),
-        _ => Err(Flaw::Name),
-    }
-}
-
-/// Converts red, green and blue of eight bits to sixteen bits of another model.
-fn to_sixteen<M: ColorModel>(word: &str, alloc: Global) -> Result<String, Flaw> {
-    of_eight::<3, Rgb, Straight, Linear, Pix<3, Ch16, M, Straight, Linear>>(word, alloc)
 }
 
 /// Converts the pixel of a word, of the format of a name, to the format of eight bits of these parts.
@@ -92,7 +134,6 @@ where
     Srgb: Gamma<D::Chan>,
 {
     match from {
-        "Rgb8" => of_eight::<3, Rgb, Straight, Linear, D>(word, alloc),
         "Cmy8" => of_eight::<3, Cmy, Straight, Linear, D>(word, alloc),
         "Cmy16" => of_sixteen::<3, Cmy, Straight, D>(word, alloc),
         "YCbCr8" => of_eight::<3, YCbCr, Straight, Linear, D>(word, alloc),
@@ -109,7 +150,6 @@ where
         "SGraya8" => of_eight::<2, Gray, Straight, Srgb, D>(word, alloc),
         "SGray8" => of_eight::<1, Gray, Straight, Srgb, D>(word, alloc),
         "SRgba8" => of_eight::<4, Rgb, Straight, Srgb, D>(word, alloc),
-        "Rgba8" => of_eight::<4, Rgb, Straight, Linear, D>(word, alloc),
         "Rgba8p" => of_eight::<4, Rgb, Premultiplied, Linear, D>(word, alloc),
         "Rgba16" => of_sixteen::<4, Rgb, Straight, D>(word, alloc),
         "Rgba16p" => of_sixteen::<4, Rgb, Premultiplied, D>(word, alloc),

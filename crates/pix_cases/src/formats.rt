@@ -4,8 +4,9 @@
 //! model, its alpha mode and its gamma mode.
 ghost use Rattle.std.specs.Prelude.{◌≤◌};
 
+use crate::conversions::{of_rgb8, of_rgba8, to_rgba8};
 use crate::flaw::Flaw;
-use crate::models::{from_rgba8, from_rgba16, into_rgba8, into_rgba16};
+use crate::models::{made_of_rgba, rgba_of};
 use pix::ColorModel;
 use pix::bgr::Bgr;
 use pix::chan::{Alpha, Ch8, Ch16, Channel, Gamma, Linear, Premultiplied, Srgb, Straight};
@@ -31,6 +32,12 @@ pub(crate) enum Task<'a> {
     FromRgba(&'a str),
     /// Makes red, green, blue and alpha of a color of it.
     IntoRgba(&'a str),
+    /// Converts a pixel of `Rgba8` to it.
+    OfRgba8(&'a str),
+    /// Converts a pixel of `Rgb8` to it.
+    OfRgb8(&'a str),
+    /// Converts a pixel of it to `Rgba8`.
+    ToRgba8(&'a str),
 }
 
 /// A color model.
@@ -145,11 +152,7 @@ where
     G: Gamma<Ch8>,
     requires { N ≤ 4 }
 {
-    match task {
-        Task::Describe => description::<Pix<N, Ch8, M, A, G>>(alloc),
-        Task::FromRgba(word) => from_rgba8::<N, M, A, G>(word, alloc),
-        Task::IntoRgba(word) => into_rgba8::<N, M, A, G>(word, alloc),
-    }
+    done::<Pix<N, Ch8, M, A, G>>(task, alloc)
 }
 
 /// Does a task for a linear format of sixteen bits.
@@ -159,10 +162,25 @@ where
     A: Alpha,
     requires { N ≤ 4 }
 {
+    done::<Pix<N, Ch16, M, A, Linear>>(task, alloc)
+}
+
+/// Does a task for a format.
+fn done<P>(task: Task, alloc: Global) -> Result<String, Flaw>
+where
+    P: Pixel,
+    P::Chan: From<Ch8>,
+    Ch8: From<P::Chan>,
+    P::Gamma: Gamma<Ch8>,
+    Linear: Gamma<P::Chan>,
+{
     match task {
-        Task::Describe => description::<Pix<N, Ch16, M, A, Linear>>(alloc),
-        Task::FromRgba(word) => from_rgba16::<N, M, A>(word, alloc),
-        Task::IntoRgba(word) => into_rgba16::<N, M, A>(word, alloc),
+        Task::Describe => description::<P>(alloc),
+        Task::FromRgba(word) => made_of_rgba::<P>(word, alloc),
+        Task::IntoRgba(word) => rgba_of::<P>(word, alloc),
+        Task::OfRgba8(word) => of_rgba8::<P>(word, alloc),
+        Task::OfRgb8(word) => of_rgb8::<P>(word, alloc),
+        Task::ToRgba8(word) => to_rgba8::<P>(word, alloc),
     }
 }
 

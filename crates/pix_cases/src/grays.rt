@@ -3,6 +3,7 @@ use crate::flaw::Flaw;
 use crate::images::{all, image, picture, pixel, pixel_at, put, text};
 use crate::regions::{coordinate, region};
 use crate::words::{hexadecimal, number};
+use pix::chan::Channel;
 use pix::el::Pixel;
 use pix::gray::Gray8;
 use pix::{Raster, Region};
@@ -34,7 +35,16 @@ pub(crate) fn gray(words: &[&str], alloc: Global) -> Result<String, Flaw> {
     let [size, pixels, words @ ..] = words else {
         return Err(Flaw::Count);
     };
-    let mut raster = image(size, pixels, alloc)?;
+    walked::<Gray8>(size, pixels, words, alloc)
+}
+
+/// The answer of [`gray`] for a format whose rasters become bytes.
+fn walked<P>(size: &str, pixels: &str, words: &[&str], alloc: Global) -> Result<String, Flaw>
+where
+    P: Pixel,
+    Raster<P>: Bytes,
+{
+    let mut raster: Raster<P> = image(size, pixels, alloc)?;
     let mut source = image("0x0", "-", alloc)?;
     let mut answer = String::new(alloc);
     for part in words.split(|word| *word == ";") {
@@ -51,9 +61,9 @@ pub(crate) fn gray(words: &[&str], alloc: Global) -> Result<String, Flaw> {
 }
 
 /// Does what the words say, and returns whether they say a change.
-fn change(
-    raster: &mut Raster<Gray8>,
-    source: &mut Raster<Gray8>,
+fn change<P: Pixel>(
+    raster: &mut Raster<P>,
+    source: &mut Raster<P>,
     words: &[&str],
     alloc: Global,
 ) -> Result<bool, Flaw> {
@@ -69,7 +79,7 @@ fn change(
         ["write", y, reg, pixels] => {
             let (y, reg) = (coordinate(number(y)?)?, region(reg, alloc)?);
             let row = raster.row_mut(y, reg).ok_or(Flaw::Refused)?;
-            Gray8::copy_slice(row, &all::<Gray8>(pixels, alloc)?);
+            P::copy_slice(row, &all::<P>(pixels, alloc)?);
         }
         ["swap"] => mem::swap(raster, source),
         _ => return Ok(false),
@@ -78,17 +88,22 @@ fn change(
 }
 
 /// The answer to a question.
-fn told(
-    raster: &mut Raster<Gray8>,
-    source: &mut Raster<Gray8>,
+fn told<P>(
+    raster: &mut Raster<P>,
+    source: &mut Raster<P>,
     words: &[&str],
     alloc: Global,
-) -> Result<String, Flaw> {
+) -> Result<String, Flaw>
+where
+    P: Pixel,
+    Raster<P>: Bytes,
+{
     match words {
         ["pixels"] => picture(raster, alloc),
         ["at", x, y] => {
             let (x, y) = (coordinate(number(x)?)?, coordinate(number(y)?)?);
-            text(&[pixel_at(raster, x, y).ok_or(Flaw::Number)?], alloc)
+            let point = pixel_at(raster, x, y).ok_or(Flaw::Number)?;
+            text(&Vec::from_elem(alloc, point, 1)?, alloc)
         }
         ["rows", reg] => rows(raster, region(reg, alloc)?, alloc),
         ["row", y, reg] => {
@@ -110,11 +125,28 @@ fn told(
     }
 }
 
+/// A raster that becomes bytes.
+trait Bytes {
+    /// Its bytes, and the ones that it becomes.
+    fn bytes(&self, alloc: Global) -> Result<(Vec<u8>, Vec<u8>), Flaw>;
+}
+
+impl Bytes for Raster<Gray8> {
+    fn bytes(&self, alloc: Global) -> Result<(Vec<u8>, Vec<u8>), Flaw> {
+        let lent = self.to_u8_vec(alloc).map_err(|_| Flaw::Memory)?;
+        let copy = self.try_clone(alloc).map_err(|_| Flaw::Memory)?;
+        Ok((lent, copy.into_u8_vec(alloc).map_err(|_| Flaw::Memory)?))
+    }
+}
+
 /// The pixels and the bytes that come out of copies of a raster.
-fn copies(raster: &Raster<Gray8>, alloc: Global) -> Result<String, Flaw> {
-    let lent = hexadecimal(&raster.to_u8_vec(alloc).map_err(|_| Flaw::Memory)?, alloc)?;
-    let copy = raster.try_clone(alloc).map_err(|_| Flaw::Memory)?;
-    let bytes = hexadecimal(&copy.into_u8_vec(alloc).map_err(|_| Flaw::Memory)?, alloc)?;
+fn copies<P>(raster: &Raster<P>, alloc: Global) -> Result<String, Flaw>
+where
+    P: Pixel,
+    Raster<P>: Bytes,
+{
+    let (lent, bytes) = raster.bytes(alloc)?;
+    let (lent, bytes) = (hexadecimal(&lent, alloc)?, hexadecimal(&bytes, alloc)?);
     let copy = raster.try_clone(alloc).map_err(|_| Flaw::Memory)?;
     let pixels = text(&copy.into_pixels(), alloc)?;
     Ok(format!(in alloc; "{pixels} {lent} {bytes}")?)
@@ -122,8 +154,11 @@ fn copies(raster: &Raster<Gray8>, alloc: Global) -> Result<String, Flaw> {
 
 /// How many rows a region has, and the pixels of each; after the last row there is none, however
 /// often it is asked for.
-fn rows(raster: &Raster<Gray8>, reg: Region, alloc: Global) -> Result<String, Flaw> {
-    let count = raster.rows(reg).count();
+fn rows<P: Pixel>(raster: &Raster<P>, reg: Region, alloc: Global) -> Result<String, Flaw> {
+    let mut count = 0_usize;
+    for _ in raster.rows(reg) {
+        count = count.wrapping_add(1);
+    }
     let mut answer = format!(in alloc; "{count}")?;
     let mut rows = raster.rows(reg);
     for _ in 0..count {
@@ -137,7 +172,11 @@ fn rows(raster: &Raster<Gray8>, reg: Region, alloc: Global) -> Result<String, Fl
 }
 
 /// How many rows of a region can be written, and the pixels of each.
-fn rows_taken(raster: &mut Raster<Gray8>, reg: Region, alloc: Global) -> Result<String, Flaw> {
+fn rows_taken<P: Pixel>(
+    raster: &mut Raster<P>,
+    reg: Region,
+    alloc: Global,
+) -> Result<String, Flaw> {
     let mut count = 0_usize;
     let mut answer = String::new(alloc);
     for row in raster.rows_mut(reg) {
@@ -150,14 +189,16 @@ fn rows_taken(raster: &mut Raster<Gray8>, reg: Region, alloc: Global) -> Result<
 
 /// Writes 101, 102 and so on to the points of a region, row by row, and returns the number of
 /// rows.
-fn number_points(raster: &mut Raster<Gray8>, reg: Region) -> usize {
+fn number_points<P: Pixel>(raster: &mut Raster<P>, reg: Region) -> usize {
     let mut count = 0_usize;
     let mut number = 100_u8;
     for row in raster.rows_mut(reg) {
         count = count.wrapping_add(1);
         for pixel in row.iter_mut() {
             number = number.wrapping_add(1);
-            *pixel = Gray8::new(number);
+            for channel in pixel.channels_mut() {
+                *channel = P::Chan::from_ratio(i64::from(number), 1);
+            }
         }
     }
     count

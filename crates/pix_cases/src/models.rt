@@ -1,13 +1,11 @@
 //! Colors between a model and red, green and blue.
-ghost use Rattle.std.specs.Prelude.{◌≤◌};
+ghost use Rattle.std.specs.Prelude.{◌≤◌, ◌+◌};
 
 use crate::flaw::Flaw;
 use crate::formats::{Format, Task};
-use crate::pixels::{pixel, word_of};
+use crate::pixels::{channels, pixel, word_of};
 use pix::ColorModel;
-use pix::chan::{Alpha, Ch8, Ch16, Gamma, Linear};
-use pix::el::{Pix, Pixel};
-use pix::rgb::Rgb;
+use pix::el::Pixel;
 use std::alloc::Global;
 
 /// `Hsv8 255,0,0,255`: a format, and red, green, blue and alpha.
@@ -36,57 +34,22 @@ pub(crate) fn corner(words: &[&str], alloc: Global) -> Result<String, Flaw> {
     Ok(format!(in alloc; "{made} {back}")?)
 }
 
-/// The color of a format of eight bits that is made of red, green, blue and alpha.
-pub(crate) fn from_rgba8<const N: usize, M, A, G>(word: &str, alloc: Global) -> Result<String, Flaw>
-where
-    M: ColorModel,
-    A: Alpha,
-    G: Gamma<Ch8>,
-    requires { N ≤ 4 }
-{
-    let rgba = pixel::<Pix<4, Ch8, Rgb, A, G>>(word, alloc)?;
-    if N > M::ALPHA + 1 {
+/// The color of a format that is made of red, green, blue and alpha.
+pub(crate) fn made_of_rgba<P: Pixel>(word: &str, alloc: Global) -> Result<String, Flaw> {
+    let channels = channels::<P::Chan>(word, alloc)?;
+    let &[red, green, blue, alpha] = channels.as_slice() else {
+        return Err(Flaw::Count);
+    };
+    if P::default().channels().len() > <P::Model as ColorModel>::ALPHA + 1 {
         return Err(Flaw::Refused);
     }
-    word_of(M::from_rgba::<Pix<N, Ch8, M, A, G>>(rgba).channels(), alloc)
+    let color = <P::Model as ColorModel>::from_four::<P>(red, green, blue, alpha);
+    word_of(color.channels(), alloc)
 }
 
-/// The color of a linear format of sixteen bits that is made of red, green, blue and alpha.
-pub(crate) fn from_rgba16<const N: usize, M, A>(word: &str, alloc: Global) -> Result<String, Flaw>
-where
-    M: ColorModel,
-    A: Alpha,
-    requires { N ≤ 4 }
-{
-    let rgba = pixel::<Pix<4, Ch16, Rgb, A, Linear>>(word, alloc)?;
-    if N > M::ALPHA + 1 {
-        return Err(Flaw::Refused);
-    }
-    word_of(
-        M::from_rgba::<Pix<N, Ch16, M, A, Linear>>(rgba).channels(),
-        alloc,
-    )
-}
-
-/// Red, green, blue and alpha of a color of a format of eight bits.
-pub(crate) fn into_rgba8<const N: usize, M, A, G>(word: &str, alloc: Global) -> Result<String, Flaw>
-where
-    M: ColorModel,
-    A: Alpha,
-    G: Gamma<Ch8>,
-    requires { N ≤ 4 }
-{
-    let color = pixel::<Pix<N, Ch8, M, A, G>>(word, alloc)?;
-    word_of(M::into_rgba(color).channels(), alloc)
-}
-
-/// Red, green, blue and alpha of a color of a linear format of sixteen bits.
-pub(crate) fn into_rgba16<const N: usize, M, A>(word: &str, alloc: Global) -> Result<String, Flaw>
-where
-    M: ColorModel,
-    A: Alpha,
-    requires { N ≤ 4 }
-{
-    let color = pixel::<Pix<N, Ch16, M, A, Linear>>(word, alloc)?;
-    word_of(M::into_rgba(color).channels(), alloc)
+/// Red, green, blue and alpha of a color of a format.
+pub(crate) fn rgba_of<P: Pixel>(word: &str, alloc: Global) -> Result<String, Flaw> {
+    let color = pixel::<P>(word, alloc)?;
+    let (red, green, blue, alpha) = <P::Model as ColorModel>::into_four(color);
+    word_of(&[red, green, blue, alpha], alloc)
 }
