@@ -38,7 +38,7 @@ pub channels_fit : {C : Type 0} (max : ℕ) (number : C → ℕ) (channels : Lis
 channels_fit max number channels numbered = record { at = λ ch. fit_at max number channels ch numbered }
 
 -- a number past a range does not lie in it
-pub lies_past : (range : Range ℕ) (ch : ℕ) → range.end ≤ ch → lies_in range ch ≡ false
+lies_past : (range : Range ℕ) (ch : ℕ) → range.end ≤ ch → lies_in range ch ≡ false
 lies_past range ch le = grind (arith, nat_tests)
 
 -- the alpha comes after the hue, so it is no hue

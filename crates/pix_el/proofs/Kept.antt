@@ -1,5 +1,5 @@
 -- Pixels that a composite leaves as they are.
-use Rattle.std.proofs.Common.{◌≡◌, ℕ, zero, suc, ◌-◌, ◌<◌, ◌≤◌, ◌∙◌, List, [], ◌∷◌, length, map, get_or, replicate, refl, sym, ap, arith, Bool, true, false, if◌then◌else◌}
+use Rattle.std.proofs.Common.{◌≡◌, ℕ, suc, ◌-◌, ◌<◌, ◌≤◌, ◌∙◌, List, [], ◌∷◌, length, map, get_or, refl, sym, ap, arith, Bool, true, false, if◌then◌else◌}
 use Rattle.std.proofs.lemmas.List.FromFn.{fill_by_all}
 use Rattle.pix_ops.specs.declared.ops.Op.{Op}
 use Rattle.pix_chan.specs.Product.{channel_product, fineness, IsProduct}
@@ -12,8 +12,8 @@ use Rattle.pix_ops.proofs.Transparent.{over_hue}
 use Rattle.pix_el.specs.Pixel.{Layout, is_hue, channel, alpha_of}
 use Rattle.pix_el.specs.PixelComposite.{composite_at, pixel_composite, matted_color, matted_composite}
 use Rattle.pix_el.specs.Premultiplied.{IsBounded}
-use Rattle.pix_el.specs.Planes.{Keeps, KeepsAll, ReplacesAll}
-use Rattle.pix_el.proofs.Composited.{Fits, lies_past, bounded-matted}
+use Rattle.pix_el.specs.Planes.{Keeps, KeepsAll}
+use Rattle.pix_el.proofs.Composited.{Fits, bounded-matted}
 
 -- factors, by what they make of the maximum
 module _ (max : ℕ) (laws : IsProduct fineness max (channel_product max)) where
@@ -66,13 +66,6 @@ module _ (max : ℕ) (laws : IsProduct fineness max (channel_product max)) where
   keeps_any op e f = λ s sa d da l k.
       (sum_of _ _ d (ap (λ (c : Coefficient). term max c s da) e) (ap (λ (c : Coefficient). term max c d sa) f) l, ap (λ (c : Coefficient). term max c sa da) e)
 
-  sum_with : (x y s : ℕ) → x ≡ s → y ≡ 0 → s ≤ max → saturating_sum max x y ≡ s
-  sum_with x y s e f h = omega arith
-
-  pub replaces_any : (op : Op) → (row op).source ≡ One → (row op).dest ≡ Zero → ReplacesAll max op
-  replaces_any op e f = λ s sa d da h.
-      sum_with _ _ s (ap (λ (c : Coefficient). term max c s da) e) (ap (λ (c : Coefficient). term max c d sa) f) h
-
 -- a channel that is kept
 kept_at : (max : ℕ) (op : Op) (b : Bool) (s sa d da : ℕ) → 0 < max → d ≤ max → da ≤ max → (b ≡ false → Keeps max op s sa) → hue_weight max op sa da ≡ 0
     → d ≡ (if b then hue_composite max op s sa d da else channel_composite max op s sa d da)
@@ -89,36 +82,6 @@ kept_pixel layout op source dest some long fits keeps still =
     fill_by_all (composite_at layout op (alpha_of layout source) (alpha_of layout dest) source dest) dest layout.count layout.max long
     (λ ch lt. kept_at layout.max op (is_hue layout ch) (channel layout.max source ch) (alpha_of layout source) (channel layout.max dest ch) (alpha_of layout dest)
     some (fits.at ch) (fits.at layout.alpha) (keeps ch lt) still)
-
--- a pixel that takes the place of another
-pub replaced_pixel : (layout : Layout) (op : Op) (source dest : List ℕ) → length source ≡ layout.count → Fits layout.max source
-    → layout.hues.end ≡ 0 → ReplacesAll layout.max op → source ≡ pixel_composite layout op source dest
-replaced_pixel layout op source dest long fits none replaces =
-    fill_by_all (composite_at layout op (alpha_of layout source) (alpha_of layout dest) source dest) source layout.count layout.max long
-    (λ ch lt. rw (lies_past layout.hues ch (omega (arith, none)))
-    (sym (replaces (channel layout.max source ch) (alpha_of layout source) (channel layout.max dest ch) (alpha_of layout dest) (fits.at ch))))
-
--- pixels that take the place of others
-pub over_replaced : {X : Type 0} (f : List ℕ → List ℕ → List ℕ) (numbers : X → List ℕ) (count : ℕ) (ss ds : List X) → length ds ≡ length ss
-    → ((s : X) (d : List ℕ) → length (numbers s) ≡ count → numbers s ≡ f (numbers s) d)
-    → ((k : ℕ) → k < length ss → length (get_or (map numbers ss) k []) ≡ count)
-    → map numbers ss ≡ over f (map numbers ss) (map numbers ds)
-over_replaced f numbers count [] [] e replaced counted = refl
-over_replaced f numbers count (s ∷ ss) [] e replaced counted = absurd (omega arith)
-over_replaced f numbers count [] (d ∷ ds) e replaced counted = absurd (omega arith)
-over_replaced f numbers count (s ∷ ss) (d ∷ ds) e replaced counted =
-    ap (λ (l : List ℕ). l ∷ map numbers ss) (replaced s (numbers d) (counted 0 (omega arith)))
-    ∙ ap (λ (l : List (List ℕ)). f (numbers s) (numbers d) ∷ l) (over_replaced f numbers count ss ds (omega arith) replaced (λ k h. counted (suc k) (omega arith)))
-
--- a pixel that takes the place of each of a list
-pub over_filled : {X : Type 0} (f : List ℕ → List ℕ → List ℕ) (numbers : X → List ℕ) (n : ℕ) (s : X) (ds : List X) → length ds ≡ n
-    → ((d : List ℕ) → numbers s ≡ f (numbers s) d) → map numbers (replicate n s) ≡ over f (replicate n (numbers s)) (map numbers ds)
-over_filled f numbers zero s [] e replaced = refl
-over_filled f numbers zero s (d ∷ ds) e replaced = absurd (omega arith)
-over_filled f numbers (suc n) s [] e replaced = absurd (omega arith)
-over_filled f numbers (suc n) s (d ∷ ds) e replaced =
-    ap (λ (l : List ℕ). l ∷ map numbers (replicate n s)) (replaced (numbers d))
-    ∙ ap (λ (l : List (List ℕ)). f (numbers s) (numbers d) ∷ l) (over_filled f numbers n s ds (omega arith) replaced)
 
 module _ (layout : Layout) (op : Op) (laws : IsProduct fineness layout.max (channel_product layout.max)) (alpha : IsBounded layout layout.alpha) where
   -- under a color through a matte of 0

@@ -63,10 +63,6 @@ Keeps max op s sa = (d da : ℕ) → d ≤ max → da ≤ max → (channel_compo
 abbrev pub KeepsAll : ℕ → Op → Type 0
 KeepsAll max op = (s sa : ℕ) → Keeps max op s sa
 
--- the source's channel takes the place of the destination's, whatever both are
-abbrev pub ReplacesAll : ℕ → Op → Type 0
-ReplacesAll max op = (s sa d da : ℕ) → s ≤ max → channel_composite max op s sa d da ≡ s
-
 -- a straight pixel of four channels, premultiplied
 abbrev pub premultiplied_four : ℕ → List ℕ → List ℕ
 premultiplied_four max pixel =

@@ -5,9 +5,7 @@ ghost use Rattle.pix_el.specs.PixelComposite.{pixel_composite, matted_composite}
 
 use crate::el::Pixel;
 use crate::planes::coverage::Coverage;
-use crate::planes::kept::{
-    are_clear, has_no_hue, keeps_all, keeps_under_clear, replaces_all, see_channels,
-};
+use crate::planes::kept::{are_clear, keeps_all, keeps_under_clear, see_channels};
 use pix_ops::ops::Blend;
 
 /// A way to composite the pixels of a format by blocks of one size.
@@ -52,39 +50,6 @@ pub(super) trait Block<P: Pixel> {
             (map S.value src.now) (map P.numbers dst.old) };
 }
 
-/// Composites the pixels of a block with those of another. Pixels without a hue are copied where the operator replaces any pixel.
-#[inline(always)]
-fn composited_block<O: Blend, P: Pixel, B: Block<P>>(dst: &mut [P], src: &[P])
-    requires suits { B.suits }
-    requires size { length dst.old ≡ B.SIZE }
-    requires src_size { length src.now ≡ B.SIZE }
-    ensures { map P.numbers dst.new ≡ over (pixel_composite P.layout O.op)
-        (map P.numbers src.now) (map P.numbers dst.old) }
-{
-    if has_no_hue::<P>() && replaces_all::<O, P::Chan>() {
-        see_channels(src);
-        dst.copy_from_slice(src);
-    } else {
-        B::composite::<O>(dst, src);
-    }
-}
-
-/// Composites `clr` with each pixel of a block. A color without a hue is copied where the operator replaces any pixel.
-#[inline(always)]
-fn colored_block<O: Blend, P: Pixel, B: Block<P>>(dst: &mut [P], clr: &P)
-    requires suits { B.suits }
-    requires size { length dst.old ≡ B.SIZE }
-    ensures { map P.numbers dst.new ≡ over (pixel_composite P.layout O.op)
-        (replicate B.SIZE (P.numbers clr.now)) (map P.numbers dst.old) }
-{
-    if has_no_hue::<P>() && replaces_all::<O, P::Chan>() {
-        let _ = clr.channels();
-        P::copy_color(dst, clr);
-    } else {
-        B::color::<O>(dst, clr);
-    }
-}
-
 /// Composites as many of the first `count` pixels as go by whole blocks, and returns how many these are.
 ///
 /// Condition: both slices have `count` pixels.
@@ -104,7 +69,7 @@ pub(super) fn composite_blocks<O: Blend, P: Pixel, B: Block<P>>(
     let size = B::SIZE;
     for i in 0..count / size {
         let at = size * i;
-        composited_block::<O, P, B>(&mut dst[at..at + size], &src[at..at + size]);
+        B::composite::<O>(&mut dst[at..at + size], &src[at..at + size]);
     }
     count / size * size
 }
@@ -122,7 +87,7 @@ pub(super) fn color_blocks<O: Blend, P: Pixel, B: Block<P>>(dst: &mut [P], clr: 
     let count = dst.len();
     for i in 0..count / size {
         let at = size * i;
-        colored_block::<O, P, B>(&mut dst[at..at + size], &color);
+        B::color::<O>(&mut dst[at..at + size], &color);
     }
     count / size * size
 }

@@ -1,10 +1,9 @@
 //! Composites that leave pixels as they are, or replace them, told by the factors of the operator.
 ghost use Rattle.std.specs.Prelude.{◌≡◌, ◌<◌, ℕ, [], length, map, get_or, true};
 ghost use Rattle.pix_ops.specs.Operators as operators;
-ghost use Rattle.pix_el.specs.Planes.{Keeps, KeepsAll, ReplacesAll};
+ghost use Rattle.pix_el.specs.Planes.{Keeps, KeepsAll};
 
 use crate::el::Pixel;
-use crate::model::ColorModel;
 use crate::planes::coverage::Coverage;
 use pix_chan::chan::Channel;
 use pix_ops::ops::Blend;
@@ -32,23 +31,6 @@ pub(super) fn keeps_all<O: Blend, C: Channel>() -> bool
     ensures { result ≡ true → KeepsAll C.max O.op }
 {
     is_zero::<O::Source, C>() && is_one::<O::Dest, C>()
-}
-
-/// Returns whether an operator replaces whatever it is composited with: the source alone counts, as it is.
-#[inline(always)]
-pub(super) fn replaces_all<O: Blend, C: Channel>() -> bool
-    ensures { result ≡ true → ReplacesAll C.max O.op }
-{
-    is_one::<O::Source, C>() && is_zero::<O::Dest, C>()
-}
-
-/// Returns whether no channel of a format is a hue.
-#[inline(always)]
-pub(super) fn has_no_hue<P: Pixel>() -> bool
-    ensures { result ≡ true → P.layout.hues.end ≡ 0 }
-{
-    let hues = P::Model::CIRCULAR;
-    hues.end == 0
 }
 
 /// Returns whether an operator keeps what a transparent source is composited with: the destination's factor leaves it there.

@@ -21,8 +21,8 @@ loop-i-preserved g c =
     let v = g.P.Pixel.numbers in
     let size = c.SIZE-size.result in
     let ends = block_ends (length c.args.dst.now) size c.loop-i.i c.loop-i-test.true in
-    next_color_block v (λ d s. pixel_composite g.P.Pixel.layout g.O.Blend.op s d) g.B.Block.SIZE size c.loop-i.i (length c.args.dst.now) c.args.dst.now c.loop-i.dst c.colored_block.new.dst (v c.args.clr.now)
-    c.SIZE-size.ensures c.loop-i.invariant ends ends c.colored_block.ensures
+    next_color_block v (λ d s. pixel_composite g.P.Pixel.layout g.O.Blend.op s d) g.B.Block.SIZE size c.loop-i.i (length c.args.dst.now) c.args.dst.now c.loop-i.dst c.color.new.dst (v c.args.clr.now)
+    c.SIZE-size.ensures c.loop-i.invariant ends ends c.color.ensures
 
 pub nonzero_div-i-end : goal.nonzero_div-i-end
 nonzero_div-i-end g c = omega (arith, c.SIZE-size.ensures, g.B.Block.some)

@@ -21,9 +21,9 @@ pub loop-i-preserved : goal.loop-i-preserved
 loop-i-preserved g c =
     let v = g.P.Pixel.numbers in
     let ends = block_ends c.args.count c.SIZE-size.result c.loop-i.i c.loop-i-test.true in
-    next_mapped_block v (λ d s. pixel_composite g.P.Pixel.layout g.O.Blend.op s d) v c.SIZE-size.result c.loop-i.i c.args.dst.now c.loop-i.dst c.composited_block.new.dst c.args.src.now
+    next_mapped_block v (λ d s. pixel_composite g.P.Pixel.layout g.O.Blend.op s d) v c.SIZE-size.result c.loop-i.i c.args.dst.now c.loop-i.dst c.composite.new.dst c.args.src.now
     c.loop-i.invariant (omega (arith, ends, c.requires.dst_has)) (omega (arith, ends, c.requires.src_has))
-    c.composited_block.ensures
+    c.composite.ensures
 
 pub nonzero_div-i-end : goal.nonzero_div-i-end
 nonzero_div-i-end g c = omega (arith, c.SIZE-size.ensures, g.B.Block.some)
