@@ -1,5 +1,6 @@
 -- The files of lemmas. Answers, invariants and proofs of a function are found by its path.
 pub mod NumberLemmas
+pub mod DigitLemmas
 pub mod LineLemmas
 pub mod CheckLemmas
 pub mod WordLemmas

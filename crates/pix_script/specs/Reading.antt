@@ -1,5 +1,5 @@
 -- What the code has read of a script so far. No clause of a public call cites this file.
-use Rattle.std.specs.Prelude.{◌≡◌, ℕ, List, [], ◌∷◌, ◌++◌, Bool, false, ◌||◌, Option, Some, None, IfSome, Result, Ok, Err, codes}
+use Rattle.std.specs.Prelude.{◌≡◌, ℕ, List, [], ◌∷◌, ◌++◌, false, ◌||◌, Option, Some, None, IfSome, Result, Ok, Err, codes}
 use Rattle.pix_script.specs.declared.command.Earlier.{Earlier}
 use Rattle.pix_script.specs.declared.command.Line.{Line}
 use Rattle.pix_script.specs.declared.fault.Problem.{Problem}

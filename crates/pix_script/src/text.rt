@@ -1,22 +1,23 @@
 //! The text of bytes.
-ghost use Rattle.std.specs.Prelude.{◌≡◌, ◌<◌};
-ghost use Rattle.pix_script.specs.Text.{hex_digit, hex_byte};
+ghost use Rattle.std.specs.Prelude.{◌≡◌};
+ghost use Rattle.pix_script.specs.Text.{hex_byte};
 
-/// The lower-case letter of a hexadecimal digit.
-fn hex_digit(digit: u8) -> u8
-    requires { digit < 16 }
-    ensures { result ≡ hex_digit digit }
-{
-    if digit < 10 {
-        b'0' + digit
-    } else {
-        b'a' + (digit - 10)
-    }
-}
+/// The two digits of each byte, pair after pair.
+const DIGITS: [u8; 512] = *b"\
+    000102030405060708090a0b0c0d0e0f101112131415161718191a1b1c1d1e1f\
+    202122232425262728292a2b2c2d2e2f303132333435363738393a3b3c3d3e3f\
+    404142434445464748494a4b4c4d4e4f505152535455565758595a5b5c5d5e5f\
+    606162636465666768696a6b6c6d6e6f707172737475767778797a7b7c7d7e7f\
+    808182838485868788898a8b8c8d8e8f909192939495969798999a9b9c9d9e9f\
+    a0a1a2a3a4a5a6a7a8a9aaabacadaeafb0b1b2b3b4b5b6b7b8b9babbbcbdbebf\
+    c0c1c2c3c4c5c6c7c8c9cacbcccdcecfd0d1d2d3d4d5d6d7d8d9dadbdcdddedf\
+    e0e1e2e3e4e5e6e7e8e9eaebecedeeeff0f1f2f3f4f5f6f7f8f9fafbfcfdfeff";
 
 /// The two digits of a byte.
+#[tactic(auto, using(crate::proofs::DigitLemmas::digits))]
 pub(crate) fn byte_digits(byte: u8) -> [u8; 2]
     ensures { result ≡ hex_byte byte }
 {
-    [hex_digit(byte / 16), hex_digit(byte % 16)]
+    let at = 2 * usize::from(byte);
+    [DIGITS[at], DIGITS[at + 1]]
 }
