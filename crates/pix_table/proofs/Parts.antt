@@ -36,10 +36,27 @@ others_swapped f value xs ys at i within s h j d from to = elim (cases_lt j i) [
       subst (λ k. value ≤ f (get_or ys k d)) e (subst (λ x. value ≤ f x) (sym (s.1 d)) (h at d (omega arith) (omega arith)))
 ]
 
--- one that is not below stays
-pub others_more : {X : Type 0} (f : X → ℕ) (value : ℕ) (xs : List X) (at i : ℕ) → AreOthers f value xs at i → ((d : X) → value ≤ f (get_or xs i d))
-    → AreOthers f value xs at (i + 1)
-others_more f value xs at i h here j d from to = elim (cases_lt j i) [
-  | inl b ↦ h j d from b
-  | inr b ↦ let e : i ≡ j = omega arith in subst (λ k. value ≤ f (get_or xs k d)) e (here d)
+-- one that is not is swapped with the first that is not
+pub below_kept : {X : Type 0} (f : X → ℕ) (value : ℕ) (xs ys : List X) (at i : ℕ) → at ≤ i → SwappedAt xs ys at i → AreBelow f value xs at
+    → AreBelow f value ys at
+below_kept f value xs ys at i within s h j d before =
+    let one : j ≢ at = (λ e. omega arith) in
+    let two : j ≢ i = (λ e. omega arith) in
+    subst (λ x. f x < value) (sym (s.2 j d one two)) (h j d before)
+
+pub others_kept : {X : Type 0} (f : X → ℕ) (value : ℕ) (xs ys : List X) (at i : ℕ) → at ≤ i → SwappedAt xs ys at i → AreOthers f value xs at i
+    → ((d : X) → value ≤ f (get_or xs i d)) → AreOthers f value ys at (i + 1)
+others_kept f value xs ys at i within s h here j d from to = elim (cases_lt at j) [
+  | inr b ↦
+      let e : at ≡ j = omega arith in
+      subst (λ k. value ≤ f (get_or ys k d)) e (subst (λ x. value ≤ f x) (sym (s.0 d)) (here d))
+  | inl after ↦ elim (cases_lt j i) [
+    | inl b ↦
+        let one : j ≢ at = (λ e. omega arith) in
+        let two : j ≢ i = (λ e. omega arith) in
+        subst (λ x. value ≤ f x) (sym (s.2 j d one two)) (h j d from b)
+    | inr b ↦
+        let e : i ≡ j = omega arith in
+        subst (λ k. value ≤ f (get_or ys k d)) e (subst (λ x. value ≤ f x) (sym (s.1 d)) (h at d (omega arith) (omega arith)))
+  ]
 ]

@@ -168,10 +168,9 @@ fn partition(colors: &mut [Color], k: usize, value: u8) -> usize
 {
     let mut at = 0;
     for i in 0..colors.len() {
-        if channel(colors[i], k) < value {
-            colors.swap(at, i);
-            at += 1;
-        }
+        let is_low = channel(colors[i], k) < value;
+        colors.swap(at, i);
+        at += usize::from(is_low);
     }
     at
 }
@@ -203,6 +202,20 @@ pub(crate) fn cut_table(colors: &mut [Color], entries: &mut [Color]) -> usize
         (map numbers (take result entries.new)) }
 {
     let span = Span::new(colors);
+    cut_box(colors, span, entries)
+}
+
+/// Does what [`cut_table`] does to a box of a known span.
+fn cut_box(colors: &mut [Color], span: Span, entries: &mut [Color]) -> usize
+    requires some { 0 < length colors.old }
+    requires span { IsSpan (map numbers colors.old) span }
+    requires room { 0 < length entries.old }
+    requires few { length entries.old ≤ 256 }
+    ensures some { 0 < result }
+    ensures within { result ≤ length entries.new }
+    ensures table { IsCutTable (length entries.old) (map numbers colors.old)
+        (map numbers (take result entries.new)) }
+{
     let k = span.widest();
     if entries.len() == 1 || span.spread() == PLAIN {
         entries[0] = Color {
@@ -215,12 +228,9 @@ pub(crate) fn cut_table(colors: &mut [Color], entries: &mut [Color]) -> usize
     let value = median(colors, k, channel(span.greatest, k));
     let at = partition(colors, k, value);
     let (low, high) = colors.split_at_mut(at);
-    let part = share(
-        entries.len(),
-        Span::new(low).spread(),
-        Span::new(high).spread(),
-    );
-    let used = cut_table(low, &mut entries[..part]);
-    let more = cut_table(high, &mut entries[used..]);
+    let (low_span, high_span) = (Span::new(low), Span::new(high));
+    let part = share(entries.len(), low_span.spread(), high_span.spread());
+    let used = cut_box(low, low_span, &mut entries[..part]);
+    let more = cut_box(high, high_span, &mut entries[used..]);
     used + more
 }
