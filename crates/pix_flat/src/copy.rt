@@ -1,7 +1,8 @@
 //! Copies in a row of pixels in memory.
-ghost use Rattle.std.specs.Prelude.{⊤};
+ghost use Rattle.std.specs.Prelude.{◌≡◌, length, ⊤};
 
-use crate::format::Numbered;
+use crate::format::{Flat, Numbered};
+use pix_el::el::Pixel;
 use pix_raster::lent::{Blit, Fill};
 
 /// Copies a color.
@@ -41,4 +42,13 @@ impl<D: Numbered> Blit<D, D> for CopiedPixels {
         let count = row.len().min(src.len());
         row[..count].copy_from_slice(&src[..count]);
     }
+}
+
+/// Sees that a pixel has the channels of its format, which takes no step of the processor.
+#[inline(always)]
+pub(crate) fn see_channels<P: Pixel, S: Flat<P>>(pixel: &S)
+    ensures { length (S.numbers pixel.now) ≡ P.layout.count }
+{
+    let pixel = pixel.read();
+    let _ = pixel.channels();
 }
