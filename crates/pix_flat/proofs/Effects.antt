@@ -1,13 +1,12 @@
 -- What fills and blits of rows in memory make of the points of an image, as effects of commands.
-use Rattle.std.proofs.Common.{◌≡◌, ℕ, ◌<◌, ◌≤◌, List, [], ◌∷◌, ◌++◌, length, map, fold, pos, ℤ, ◌+ℤ◌, ◌-ℤ◌, Bool, true, false, cond, ap, sym, ◌∙◌, refl}
+use Rattle.std.proofs.Common.{◌≡◌, ℕ, List, [], ◌∷◌, ◌++◌, length, map, fold, pos, ℤ, ◌+ℤ◌, ◌-ℤ◌, Bool, true, false, cond, ap, sym, ◌∙◌, refl}
 use Rattle.std.specs.List.{zip}
 use Rattle.pix_el.specs.Pixel.{Layout}
 use Rattle.pix_raster.specs.Region.{Rectangle, whole, covers}
 use Rattle.pix_raster.specs.Image.{point, region_of}
 use Rattle.pix_raster.specs.Reach.{from_pair, is_paired, natural}
-use Rattle.pix_raster.specs.Lent.{read_at, where_covered, where_paired, where_masked, IsShaped, ChangedIn}
+use Rattle.pix_raster.specs.Lent.{read_at, where_covered, where_paired, where_masked, IsShaped}
 use Rattle.pix_raster.specs.Run.{Effect, apply}
-use Rattle.pix_raster.specs.declared.lent.Shape.{Shape}
 use Rattle.pix_raster.proofs.Masked.{paired_below}
 use Rattle.pix_raster.proofs.Steps.{masked_effect as raster_masked}
 use Rattle.pix_flat.specs.Command.{image_of}

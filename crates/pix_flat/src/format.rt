@@ -67,6 +67,9 @@ pub trait FlatPixel<P: Pixel>: Flat<P> {
 
     /// The format has an alpha channel.
     ghost has_alpha: { P.layout.count ≡ P.layout.alpha + 1 };
+
+    /// No channel of the format is a hue.
+    ghost no_hue: { P.layout.hues.end ≡ 0 };
 }
 
 impl Numbered for PixRgba8 {
@@ -105,6 +108,8 @@ impl FlatPixel<Rgba8p> for PixRgba8 {
     }
 
     ghost has_alpha = { refl };
+
+    ghost no_hue = { refl };
 }
 
 impl Numbered for PixRgba16 {
@@ -143,6 +148,8 @@ impl FlatPixel<Rgba16p> for PixRgba16 {
     }
 
     ghost has_alpha = { refl };
+
+    ghost no_hue = { refl };
 }
 
 impl Numbered for PixGraya8 {
@@ -171,6 +178,8 @@ impl FlatPixel<Graya8p> for PixGraya8 {
     }
 
     ghost has_alpha = { refl };
+
+    ghost no_hue = { refl };
 }
 
 impl Numbered for u8 {

@@ -6,7 +6,7 @@ ghost use Rattle.pix_flat.specs.Command.{op_at, rectangle, command_of};
 ghost use Rattle.pix_flat.specs.Status.{fits, fault_of};
 
 use crate::command::{FlatCommand, PixRegion};
-use crate::copy::{CopiedColor, CopiedPixels};
+use crate::copy::{CopiedColor, CopiedPixels, ReplacedPixels, see_channels};
 use crate::format::{Flat, FlatPixel};
 use crate::kind;
 use crate::operator::op_at;
@@ -17,7 +17,7 @@ use crate::size::LIMIT;
 use pix_chan::chan::{Linear, Premultiplied};
 use pix_el::el::{Pix, Pixel};
 use pix_el::matte::Matte;
-use pix_ops::ops::{Blend, SliceVisitor};
+use pix_ops::ops::{Blend, Op, SliceVisitor};
 use pix_raster::Region;
 use pix_raster::lent::{Shape, Source, Window, blit_masked, blit_window, fill_window};
 use std::marker::PhantomData;
@@ -194,6 +194,45 @@ fn composite_faded<
     );
 }
 
+/// Composites a command on a window of a picture. `Src` puts a source in the place of what is there, so without a matte it is copied.
+fn paint_composite<
+    P: Pixel<Alpha = Premultiplied, Gamma = Linear>,
+    D: FlatPixel<P>,
+    M: Flat<Pix<1, P::Chan, Matte, Premultiplied, Linear>>,
+>(pixels: &mut [D], window: Window, command: &FlatCommand<'_, D, M>)
+    requires placed { IsWindow window (length pixels.old) }
+    requires sound { fault_of command.now ≡ 0 }
+    requires kind { 2 < command.now.kind }
+    ensures { ChangedIn D.numbers window.shape pixels.old pixels.new
+        (in_window window (run_at P.layout D.numbers M.numbers (picture window)
+        (command_of command.now ∷ []))) }
+{
+    let op = op_at(command.op);
+    let to = region_of(command.to);
+    let format = PhantomData;
+    match (command.kind, op) {
+        (kind::COMPOSITE_COLOR, Op::Src) => {
+            let clr = command.color;
+            see_channels::<P, D>(&clr);
+            fill_window(pixels, window, to, &CopiedColor { clr });
+        }
+        (kind::COMPOSITE_IMAGE, Op::Src) => {
+            let src_shape = source_shape(command);
+            let from = region_of(command.from);
+            let change = ReplacedPixels::<P> { format };
+            blit_window(pixels, window, to, command.pixels, src_shape, from, &change);
+        }
+        _ => {
+            let composite = Composite::<P, D, M> {
+                command,
+                window,
+                format,
+            };
+            op.visit_slice(&composite, pixels);
+        }
+    }
+}
+
 /// Draws a command on a window of a picture.
 ///
 /// Condition: the rows of the window lie in `pixels`, its sides end within the limit, and the command is not refused.
@@ -229,13 +268,6 @@ pub(crate) fn paint<
             region_of(command.from),
             &CopiedPixels {},
         ),
-        _ => {
-            let composite = Composite::<P, D, M> {
-                command,
-                window,
-                format: PhantomData,
-            };
-            op_at(command.op).visit_slice(&composite, pixels);
-        }
+        _ => paint_composite::<P, D, M>(pixels, window, command),
     }
 }

@@ -1,4 +1,4 @@
-//! Composites in a row of pixels in memory: sixteen at a time are read, composited by planes and written back.
+//! Composites in a row of pixels in memory: sixteen at a time, and then four, are read, composited and written back.
 ghost use Rattle.std.specs.Prelude.{◌≡◌, ◌≤◌, ◌<◌, ◌+◌, List, ℕ, length, map, min, replicate, take, ⊤};
 ghost use Rattle.pix_chan.specs.Runs.{over};
 ghost use Rattle.pix_el.specs.PixelComposite.{pixel_composite, matted_composite, matte_value};
@@ -181,39 +181,45 @@ pub(crate) struct CompositedColor<P, O> {
     pub(crate) op: O,
 }
 
-/// Composites a color with sixteen pixels in memory.
+/// Composites a color with `N` pixels in memory, at most sixteen.
 #[inline(always)]
-fn color_sixteen<P: Pixel<Alpha = Premultiplied, Gamma = Linear>, D: FlatPixel<P>, O: Blend>(
-    part: &mut [D],
-    clr: &P,
-    op: O,
-)
-    requires { length part.old ≡ 16 }
+fn color_block<
+    const N: usize,
+    P: Pixel<Alpha = Premultiplied, Gamma = Linear>,
+    D: FlatPixel<P>,
+    O: Blend,
+>(part: &mut [D], clr: &P, op: O)
+    requires few { N ≤ 16 }
+    requires size { length part.old ≡ N }
     ensures { map D.numbers part.new ≡
         map (pixel_composite P.layout O.op (P.numbers clr.now)) (map D.numbers part.old) }
 {
-    let mut pixels = [P::default(); 16];
+    let mut pixels = [P::default(); N];
     read_pixels::<P, D>(part, &mut pixels);
     P::composite_color(&mut pixels, clr, op);
     write_pixels(part, &pixels);
 }
 
-/// Composites a color with as many whole sixteens of pixels as a row has, and returns the number of those pixels.
+/// Composites a color with as many whole blocks of `N` pixels, at most sixteen, as a row has, and returns the number of those pixels.
 #[inline(always)]
-fn color_sixteens<P: Pixel<Alpha = Premultiplied, Gamma = Linear>, D: FlatPixel<P>, O: Blend>(
-    row: &mut [D],
-    clr: &P,
-    op: O,
-) -> usize
+fn color_blocks<
+    const N: usize,
+    P: Pixel<Alpha = Premultiplied, Gamma = Linear>,
+    D: FlatPixel<P>,
+    O: Blend,
+>(row: &mut [D], clr: &P, op: O) -> usize
+    requires some { 0 < N }
+    requires few { N ≤ 16 }
     ensures within { result ≤ length row.old }
     ensures composited { map D.numbers row.new ≡ over (pixel_composite P.layout O.op)
-        (replicate result (P.numbers clr.now)) (map D.numbers row.old) }
+        (take result (replicate (length row.old) (P.numbers clr.now))) (map D.numbers row.old) }
 {
-    let sixteens = row.len() / 16;
-    for k in 0..sixteens {
-        color_sixteen(&mut row[16 * k..16 * k + 16], clr, op);
+    let count = row.len();
+    for k in 0..count / N {
+        let at = N * k;
+        color_block::<N, P, D, O>(&mut row[at..at + N], clr, op);
     }
-    16 * sixteens
+    count / N * N
 }
 
 impl<P: Pixel<Alpha = Premultiplied, Gamma = Linear>, D: FlatPixel<P>, O: Blend> Fill<D>
@@ -225,9 +231,10 @@ impl<P: Pixel<Alpha = Premultiplied, Gamma = Linear>, D: FlatPixel<P>, O: Blend>
     ghost makes = { λ it. pixel_composite P.layout O.op (P.numbers it.clr) };
 
     fn fill(&self, row: &mut [D]) {
-        let start = color_sixteens(row, &self.clr, self.op);
         let count = row.len();
-        for i in start..count {
+        let first = color_blocks::<16, P, D, O>(row, &self.clr, self.op);
+        let second = color_blocks::<4, P, D, O>(&mut row[first..], &self.clr, self.op);
+        for i in first + second..count {
             let mut pixel = row[i].read();
             pixel.composite_channels(&self.clr, self.op);
             row[i] = D::write(&pixel);

@@ -1,5 +1,5 @@
 //! Composites of an image in memory through a mask, and at an opacity.
-ghost use Rattle.std.specs.Prelude.{◌≡◌, ◌≤◌, ◌+◌, length, map, min, take, ⊤};
+ghost use Rattle.std.specs.Prelude.{◌≡◌, ◌≤◌, ◌<◌, ◌+◌, length, map, min, take, ⊤};
 ghost use Rattle.std.specs.List.{zip};
 ghost use Rattle.pix_chan.specs.Runs.{over};
 ghost use Rattle.pix_el.specs.PixelComposite.{matted_composite, matte_value};
@@ -20,24 +20,26 @@ pub(crate) struct MattedPixels<P, O> {
     pub(crate) format: PhantomData<P>,
 }
 
-/// Composites sixteen pixels through mattes with those in memory.
+/// Composites `N` pixels through mattes with those in memory, at most sixteen.
 #[inline(always)]
-fn matted_sixteen<
+fn matted_block<
+    const N: usize,
     P: Pixel<Alpha = Premultiplied, Gamma = Linear>,
     D: FlatPixel<P>,
     M: Flat<Pix<1, P::Chan, Matte, Premultiplied, Linear>>,
     O: Blend,
 >(part: &mut [D], src: &[D], mask: &[M], op: O)
-    requires size { length part.old ≡ 16 }
-    requires src_size { length src.now ≡ 16 }
-    requires mask_size { length mask.now ≡ 16 }
+    requires few { N ≤ 16 }
+    requires size { length part.old ≡ N }
+    requires src_size { length src.now ≡ N }
+    requires mask_size { length mask.now ≡ N }
     ensures { map D.numbers part.new ≡
         over (λ t. matted_composite P.layout O.op (matte_value P.layout t.0) t.1)
         (zip (map M.numbers mask.now) (map D.numbers src.now)) (map D.numbers part.old) }
 {
-    let mut pixels = [P::default(); 16];
-    let mut sources = [P::default(); 16];
-    let mut mattes = [Pix::<1, P::Chan, Matte, Premultiplied, Linear>::default(); 16];
+    let mut pixels = [P::default(); N];
+    let mut sources = [P::default(); N];
+    let mut mattes = [Pix::<1, P::Chan, Matte, Premultiplied, Linear>::default(); N];
     read_pixels::<P, D>(part, &mut pixels);
     read_pixels::<P, D>(src, &mut sources);
     read_pixels::<Pix<1, P::Chan, Matte, Premultiplied, Linear>, M>(mask, &mut mattes);
@@ -45,30 +47,30 @@ fn matted_sixteen<
     write_pixels(part, &pixels);
 }
 
-/// Composites as many whole sixteens of a row as all three have, and returns the number of those pixels.
+/// Composites as many whole blocks of `N` pixels of a row, at most sixteen, as all three have, and returns the number of those pixels.
 #[inline(always)]
-fn matted_sixteens<
+fn matted_blocks<
+    const N: usize,
     P: Pixel<Alpha = Premultiplied, Gamma = Linear>,
     D: FlatPixel<P>,
     M: Flat<Pix<1, P::Chan, Matte, Premultiplied, Linear>>,
     O: Blend,
 >(row: &mut [D], src: &[D], mask: &[M], op: O) -> usize
+    requires some { 0 < N }
+    requires few { N ≤ 16 }
     ensures within { result ≤ min (length row.old) (min (length src.now) (length mask.now)) }
     ensures composited { map D.numbers row.new ≡
         over (λ t. matted_composite P.layout O.op (matte_value P.layout t.0) t.1)
         (take result (zip (map M.numbers mask.now) (map D.numbers src.now)))
         (map D.numbers row.old) }
 {
-    let sixteens = row.len().min(src.len().min(mask.len())) / 16;
-    for k in 0..sixteens {
-        matted_sixteen::<P, D, M, O>(
-            &mut row[16 * k..16 * k + 16],
-            &src[16 * k..16 * k + 16],
-            &mask[16 * k..16 * k + 16],
-            op,
-        );
+    let count = row.len().min(src.len().min(mask.len()));
+    for k in 0..count / N {
+        let at = N * k;
+        let end = at + N;
+        matted_block::<N, P, D, M, O>(&mut row[at..end], &src[at..end], &mask[at..end], op);
     }
-    16 * sixteens
+    count / N * N
 }
 
 impl<
@@ -88,12 +90,15 @@ impl<
     ghost makes = { λ _ matte. matted_composite P.layout O.op (matte_value P.layout matte) };
 
     fn blit(&self, row: &mut [D], src: &[D], mask: &[M]) {
-        let start = matted_sixteens::<P, D, M, O>(row, src, mask, self.op);
+        let op = self.op;
         let count = row.len().min(src.len().min(mask.len()));
-        for i in start..count {
+        let first = matted_blocks::<16, P, D, M, O>(row, src, mask, op);
+        let rest = &mut row[first..];
+        let second = matted_blocks::<4, P, D, M, O>(rest, &src[first..], &mask[first..], op);
+        for i in first + second..count {
             let mut pixel = row[i].read();
             let matte = mask[i].read();
-            pixel.composite_channels_alpha(&src[i].read(), self.op, &matte.alpha());
+            pixel.composite_channels_alpha(&src[i].read(), op, &matte.alpha());
             row[i] = D::write(&pixel);
         }
     }

@@ -1,17 +1,17 @@
 -- Of `CompositedColorFill::fill`: that it meets its contract, and that the invariant of its loop over `i` holds at first and stays.
 use Rattle.std.proofs.Common.{◌+◌, ◌∙◌, length, sym, ap, arith, map, refl, replicate, List, ℕ}
-use Rattle.std.proofs.lemmas.List.{length-map, take-replicate}
-use Rattle.pix_chan.specs.Runs.{over}
+use Rattle.std.proofs.lemmas.List.{length-map}
 use Rattle.pix_el.specs.PixelComposite.{pixel_composite}
 use Rattle.pix_chan.proofs.Slices.{mapped_one_step, over_color, get_or-same, length-replicate}
+use Rattle.pix_el.proofs.MattePlanes.{next_color}
 use Rattle.pix_flat.proofs.sixteen.CompositedColorFill.fill.Goals as goal
 
 pub loop-i-init : goal.loop-i-init
 loop-i-init g c =
-    let f = pixel_composite g.P.Pixel.layout g.O.Blend.op in
-    c.color_sixteens-start.ensures.composited
-    ∙ ap (λ (l : List (List ℕ)). over f l (map g.D.Numbered.numbers c.args.row.now))
-    (sym (take-replicate c.color_sixteens-start.result (length c.args.row.now) (g.P.Pixel.numbers c.args.self.now.clr) c.color_sixteens-start.ensures.within))
+    let first = c.color_blocks-first in
+    let second = c.color_blocks-second in
+    next_color g.D.Numbered.numbers (pixel_composite g.P.Pixel.layout g.O.Blend.op) first.result second.result c.args.row.now first.new.row second.new.row (g.P.Pixel.numbers c.args.self.now.clr)
+    first.ensures.composited first.ensures.within second.ensures.composited
 
 pub loop-i-preserved : goal.loop-i-preserved
 loop-i-preserved g c =

@@ -1,12 +1,23 @@
 -- Of `MattedPixelsMaskedBlit::blit`: that it meets its contract, and that the invariant of its loop over `i` holds after each turn.
-use Rattle.std.proofs.Common.{◌≡◌, ◌≤◌, ◌+◌, ◌∙◌, sym, ap, arith, map, refl, List, ℕ}
+use Rattle.std.proofs.Common.{◌≡◌, ◌≤◌, ◌+◌, ◌-◌, ◌∙◌, length, drop, sym, ap, arith, map, refl, List, ℕ}
 use Rattle.std.specs.List.{zip}
-use Rattle.std.proofs.lemmas.List.{length-map}
+use Rattle.std.proofs.lemmas.List.{length-map, length-take, length-drop}
 use Rattle.pix_chan.proofs.Slices.{mapped_one_step, over_both}
 use Rattle.pix_el.specs.Pixel.{Layout, channel}
 use Rattle.pix_el.specs.PixelComposite.{matted_composite, matte_value}
 use Rattle.pix_el.proofs.Masked.{item-zip, length-beside}
+use Rattle.pix_flat.proofs.Beside.{next_beside}
 use Rattle.pix_flat.proofs.sixteen.masked.MattedPixelsMaskedBlit.blit.Goals as goal
+
+pub loop-i-init : goal.loop-i-init
+loop-i-init g c =
+    let n = g.D.Numbered.numbers in
+    let layout : Layout = g.P.Pixel.layout in
+    let first = c.matted_blocks-first in
+    let second = c.matted_blocks-second in
+    next_beside n g.M.Numbered.numbers n (λ (t : List ℕ × List ℕ). matted_composite layout g.O.Blend.op (matte_value layout t.0) t.1)
+    first.result second.result c.args.row.now first.new.row second.new.row c.args.mask.now c.args.src.now
+    first.ensures.composited (omega (arith, first.ensures.within)) second.ensures.composited
 
 pub loop-i-preserved : goal.loop-i-preserved
 loop-i-preserved g c =
@@ -43,7 +54,23 @@ returns g c =
     let f = λ (d : List ℕ) (t : List ℕ × List ℕ). matted_composite layout g.O.Blend.op (matte_value layout t.0) t.1 d in
     let mask = c.args.mask.now in
     let src = c.args.src.now in
-    let within : c.matted_sixteens-start.result ≤ c.min-count.result = omega (arith, c.matted_sixteens-start.auto.row, c.matted_sixteens-start.ensures.within) in
+    let first = c.matted_blocks-first in
+    let second = c.matted_blocks-second in
+    let at = first.result in
+    let row = first.new.row in
+    let within : at + second.result ≤ c.min-count.result = omega (
+      arith,
+      c.min-count.ensures,
+      first.auto.row,
+      first.ensures.within,
+      second.ensures.within,
+      length-take (length row - at) (drop at row),
+      length-drop at row,
+      length-take (length src - at) (drop at src),
+      length-drop at src,
+      length-take (length mask - at) (drop at mask),
+      length-drop at mask,
+    ) in
     let end : c.loop-i.i ≡ c.min-count.result = omega (arith, within) in
     c.loop-i.invariant
-    ∙ over_both f c.loop-i.i (map n c.args.row.now) (zip (map m mask) (map n src)) (omega (arith, end, c.matted_sixteens-start.auto.row, length-map c.args.row.now n, length-beside m n mask src))
+    ∙ over_both f c.loop-i.i (map n c.args.row.now) (zip (map m mask) (map n src)) (omega (arith, end, first.auto.row, length-map c.args.row.now n, length-beside m n mask src))
