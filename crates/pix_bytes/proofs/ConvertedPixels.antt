@@ -4,9 +4,25 @@ use Rattle.std.proofs.lemmas.Bool.{cases_lt}
 use Rattle.std.proofs.lemmas.Slice.{between_is, take-put_mid_below, between-put_mid}
 use Rattle.std.proofs.Math.Nat.{mul-le-mul_right}
 use borrow.Rule.Slice.PartMut.{put_mid}
+use Rattle.std.specs.declared.ops.Range.{Range}
+use Rattle.pix_chan.specs.Modes.{AlphaMode, GammaMode}
 use Rattle.pix_el.specs.Conversion.{converted}
 use Rattle.pix_bytes.specs.Formats.{BufferFormat, channels}
 use Rattle.pix_bytes.specs.Converted.{IsConverted, pixel_at}
+
+-- the format of bytes by what decides it
+abbrev pub bytes_format : (count : ℕ) (hues colors : Range ℕ) (alpha kind : ℕ) → (ℕ → ℕ → ℕ → ℕ → List ℕ) → (ℕ → ℕ → ℕ → ℕ → List ℕ) → AlphaMode → GammaMode → BufferFormat
+bytes_format count hues colors alpha kind to_rgb of_rgb alpha_mode gamma = record {
+  format = record {
+    layout = record { max = 255; count = count; hues = hues; alpha = alpha };
+    kind = kind;
+    colors = colors;
+    to_rgb = to_rgb;
+    of_rgb = of_rgb;
+    alpha_mode = alpha_mode;
+  };
+  gamma = gamma;
+}
 
 -- no pixel is converted yet
 pub converted_none : (from to : BufferFormat) (src dst : List ℕ) → IsConverted from to 0 src dst

@@ -6,59 +6,13 @@ use Rattle.std.specs.Prelude.{slice_index_or}
 use Rattle.pix_chan.specs.Product.{channel_product}
 use Rattle.pix_chan.specs.Srgb16.{srgb_decoded16}
 use Rattle.pix_chan.proofs.Planes.{cons}
-use Rattle.pix_bytes.specs.Lit.{first_place, last_place, multiplied_light, word_of, opaque_light, four_alphas, bytes_of}
+use Rattle.pix_bytes.specs.Lit.{multiplied_light, opaque_light, four_alphas, bytes_of}
 use Rattle.pix_bytes.specs.Rows.{IsEach}
 use Rattle.pix_bytes.proofs.Parts.{range_at}
 
 abbrev twice : ℕ → ℕ
 twice zero = zero
 twice (suc n) = suc (suc (twice n))
-
--- digits in base 256, read as digits in base 65536
-pair_digit : (m r : ℕ) → (m % 256 + 256 * (m / 256 % 256 + 256 * r)) % 65536 ≡ m % 65536
-pair_digit m r = omega arith
-
-pair_rest : (m r : ℕ) → (m % 256 + 256 * (m / 256 % 256 + 256 * r)) / 65536 ≡ r
-pair_rest m r = omega arith
-
-two_down : (m : ℕ) → m / 256 / 256 ≡ m / 65536
-two_down m = omega arith
-
-by_bytes : (n m : ℕ) → digits_l 65536 n (number_l 256 (digits_l 256 (twice n) m)) ≡ digits_l 65536 n m
-by_bytes zero m = refl
-by_bytes (suc n) m =
-    let r : ℕ = number_l 256 (digits_l 256 (twice n) (m / 256 / 256)) in
-    cons (pair_digit m r) (ap (digits_l 65536 n) (pair_rest m r) ∙ by_bytes n (m / 256 / 256) ∙ ap (digits_l 65536 n) (two_down m))
-
--- a word and what stands above it, by its channels
-first_digit : (x r : ℕ) → x < 65536 → (x + 65536 * r) % 65536 ≡ x
-first_digit x r h = omega (arith, h)
-
-rest_digits : (x r : ℕ) → x < 65536 → (x + 65536 * r) / 65536 ≡ r
-rest_digits x r h = omega (arith, h)
-
-one_digit : (n x r : ℕ) (l : List ℕ) → x < 65536 → digits_l 65536 n r ≡ l → digits_l 65536 (suc n) (x + 65536 * r) ≡ x ∷ l
-one_digit n x r l h e = cons (first_digit x r h) (ap (digits_l 65536 n) (rest_digits x r h) ∙ e)
-
-lifted : (a b c d r : ℕ) → word_of a b c d + 18446744073709551616 * r ≡ a + 65536 * (b + 65536 * (c + 65536 * (d + 65536 * r)))
-lifted a b c d r = omega arith
-
-one_word : (n a b c d r : ℕ) (l : List ℕ) → a < 65536 → b < 65536 → c < 65536 → d < 65536 → digits_l 65536 n r ≡ l
-    → digits_l 65536 (suc (suc (suc (suc n)))) (word_of a b c d + 18446744073709551616 * r) ≡ a ∷ b ∷ c ∷ d ∷ l
-one_word n a b c d r l ha hb hc hd e =
-    ap (digits_l 65536 (suc (suc (suc (suc n))))) (lifted a b c d r)
-    ∙ one_digit (suc (suc (suc n))) a (b + 65536 * (c + 65536 * (d + 65536 * r))) (b ∷ c ∷ d ∷ l) ha
-    (one_digit (suc (suc n)) b (c + 65536 * (d + 65536 * r)) (c ∷ d ∷ l) hb (one_digit (suc n) c (d + 65536 * r) (d ∷ l) hc (one_digit n d r l hd e)))
-
--- four words of opaque pixels
-pub four_words : (a b c e f g i j k m n o : ℕ) → a < 65536 → b < 65536 → c < 65536 → e < 65536 → f < 65536 → g < 65536 → i < 65536 → j < 65536 → k < 65536
-    → m < 65536 → n < 65536 → o < 65536
-    → digits_l 65536 16 (number_l 256 (digits_l 256 32 (number_l 18446744073709551616 (word_of a b c 65535 ∷ word_of e f g 65535 ∷ word_of i j k 65535 ∷ word_of m n o 65535 ∷ []))))
-    ≡ a ∷ b ∷ c ∷ 65535 ∷ e ∷ f ∷ g ∷ 65535 ∷ i ∷ j ∷ k ∷ 65535 ∷ m ∷ n ∷ o ∷ 65535 ∷ []
-four_words a b c e f g i j k m n o ha hb hc he hf hg hi hj hk hm hn ho =
-    by_bytes 16 (number_l 18446744073709551616 (word_of a b c 65535 ∷ word_of e f g 65535 ∷ word_of i j k 65535 ∷ word_of m n o 65535 ∷ []))
-    ∙ one_word 12 a b c 65535 _ _ ha hb hc (omega arith) (one_word 8 e f g 65535 _ _ he hf hg (omega arith)
-    (one_word 4 i j k 65535 _ _ hi hj hk (omega arith) (one_word 0 m n o 65535 0 [] hm hn ho (omega arith) refl)))
 
 -- an opaque pixel keeps its colors
 full : (x b : ℕ) → b ≡ 255 → x ≡ channel_product 65535 x (257 * b)
@@ -108,14 +62,6 @@ whole_alpha x = omega arith
 
 alpha_made : (alpha last : ℕ) → last ≡ alpha → let x = channel_product 65535 65535 (257 * alpha) in x % 256 + 256 * (x / 256) ≡ 257 * last
 alpha_made alpha last e = joined (channel_product 65535 65535 (257 * alpha)) ∙ whole_alpha (257 * alpha) ∙ ap (λ (a : ℕ). 257 * a) (sym e)
-
-pub first_within : (r : Bool) → first_place r < 4
-first_within true = omega arith
-first_within false = omega arith
-
-pub last_within : (r : Bool) → last_place r < 4
-last_within true = omega arith
-last_within false = omega arith
 
 pub four_lit : (r : Bool) (src : List ℕ) → IsEach 255 65535 4 4 4 8 (multiplied_light r) src (bytes_of (zip2 (channel_product 65535) (opaque_light r src) (four_alphas src))) 4
 four_lit true src zero lt =

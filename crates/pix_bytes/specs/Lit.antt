@@ -20,10 +20,6 @@ multiplied_light is_reversed pixel =
     ∷ (257 * channel 255 pixel 3)
     ∷ []
 
--- four channels of sixteen bits in one number, the first in the lowest bits
-abbrev pub word_of : (one two three four : ℕ) → ℕ
-word_of one two three four = one + 65536 * (two + 65536 * (three + 65536 * four))
-
 -- the light of the byte at a place, and the byte there as an alpha of sixteen bits
 abbrev pub light_at : List ℕ → ℕ → ℕ
 light_at bytes place = srgb_decoded16 (slice_index_or bytes place 0)
@@ -34,7 +30,7 @@ alpha_at bytes place = 257 * slice_index_or bytes place 0
 -- the light of four pixels as if they were opaque
 abbrev pub opaque_light : Bool → List ℕ → List ℕ
 opaque_light is_reversed bytes =
-    light_at bytes (0 + first_place is_reversed) ∷ light_at bytes 1 ∷ light_at bytes (0 + last_place is_reversed) ∷ 65535
+    light_at bytes (first_place is_reversed) ∷ light_at bytes 1 ∷ light_at bytes (last_place is_reversed) ∷ 65535
     ∷ light_at bytes (4 + first_place is_reversed) ∷ light_at bytes 5 ∷ light_at bytes (4 + last_place is_reversed) ∷ 65535
     ∷ light_at bytes (8 + first_place is_reversed) ∷ light_at bytes 9 ∷ light_at bytes (8 + last_place is_reversed) ∷ 65535
     ∷ light_at bytes (12 + first_place is_reversed) ∷ light_at bytes 13 ∷ light_at bytes (12 + last_place is_reversed) ∷ 65535

@@ -8,11 +8,11 @@ use crate::bitmap::cross::cross_row;
 use crate::bitmap::format::Stored;
 use crate::bitmap::rows::Lines;
 
-mod cross;
-mod format;
+pub(crate) mod cross;
+pub(crate) mod format;
 mod four;
 mod fours;
-mod model;
+pub(crate) mod model;
 mod quotient;
 mod rows;
 mod sample;

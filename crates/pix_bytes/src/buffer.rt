@@ -1,17 +1,23 @@
 //! Buffers of pixels, converted from one format to another.
 ghost use Rattle.std.specs.Prelude.{◌≡◌, ◌≢◌, ◌+◌, ◌*◌, ◌<◌, ◌≤◌};
-ghost use Rattle.std.specs.Prelude.{ℕ, length, Some, slice_get, nat_eq};
+ghost use Rattle.std.specs.Prelude.{ℕ, length, Some, slice_get, nat_eq, true, false};
 ghost use Rattle.std.specs.Option.{option_map};
 ghost use Rattle.pix_bytes.specs.Formats.{BufferFormat, channels, channels_of, formats};
 ghost use Rattle.pix_bytes.specs.Converted.{IsConverted, conversion_status};
+ghost use Rattle.pix_bytes.specs.declared.bitmap.format.Depth.{Depth};
+ghost use Rattle.pix_bytes.specs.declared.bitmap.model.ModelName.{ModelName};
 
+use crate::bitmap::cross::cross_row;
+use crate::bitmap::format::{Depth, Stored};
+use crate::bitmap::model::ModelName;
 use crate::bitmap::{BAD_FORMAT, DONE};
 use crate::buffer::bytes::Bytes;
-use pix_chan::chan::{Ch8, Gamma};
-use pix_color::bgr::{Bgra8, Bgra8p, SBgra8, SBgra8p};
-use pix_color::gray::{Gray8, SGray8};
-use pix_el::el::Pixel;
-use pix_el::rgb::{Rgb8, Rgba8, Rgba8p, SRgb8, SRgba8, SRgba8p};
+use pix_chan::chan::{Alpha, Ch8, Gamma, Linear, Premultiplied, Srgb, Straight};
+use pix_color::bgr::Bgr;
+use pix_color::gray::Gray;
+use pix_el::el::{Pix, Pixel};
+use pix_el::model::ColorModel;
+use pix_el::rgb::Rgb;
 
 mod bytes;
 
@@ -73,83 +79,127 @@ fn convert(from: u32, to: u32, src: &[u8], dst: &mut [u8], count: usize)
         → IsConverted format target count src.now dst.new }
 {
     match from {
-        0 => convert_from::<SRgba8>(to, src, dst, count),
-        1 => convert_from::<SRgba8p>(to, src, dst, count),
-        2 => convert_from::<Rgba8>(to, src, dst, count),
-        3 => convert_from::<Rgba8p>(to, src, dst, count),
-        4 => convert_from::<Bgra8>(to, src, dst, count),
-        5 => convert_from::<Bgra8p>(to, src, dst, count),
-        6 => convert_from::<Rgb8>(to, src, dst, count),
-        7 => convert_from::<Gray8>(to, src, dst, count),
-        8 => convert_from::<SBgra8>(to, src, dst, count),
-        9 => convert_from::<SBgra8p>(to, src, dst, count),
-        10 => convert_from::<SRgb8>(to, src, dst, count),
-        11 => convert_from::<SGray8>(to, src, dst, count),
+        0 => convert_from::<4, Rgb, Straight, Srgb>(to, src, dst, count),
+        1 => convert_from::<4, Rgb, Premultiplied, Srgb>(to, src, dst, count),
+        2 => convert_from::<4, Rgb, Straight, Linear>(to, src, dst, count),
+        3 => convert_painted(to, src, dst, count),
+        4 => convert_from::<4, Bgr, Straight, Linear>(to, src, dst, count),
+        5 => convert_from::<4, Bgr, Premultiplied, Linear>(to, src, dst, count),
+        6 => convert_from::<3, Rgb, Straight, Linear>(to, src, dst, count),
+        7 => convert_from::<1, Gray, Straight, Linear>(to, src, dst, count),
+        8 => convert_from::<4, Bgr, Straight, Srgb>(to, src, dst, count),
+        9 => convert_from::<4, Bgr, Premultiplied, Srgb>(to, src, dst, count),
+        10 => convert_from::<3, Rgb, Straight, Srgb>(to, src, dst, count),
+        11 => convert_from::<1, Gray, Straight, Srgb>(to, src, dst, count),
         _ => {}
     }
 }
 
-/// Converts pixels of the format `S` to the format of number `to`.
+/// Converts premultiplied linear pixels of red, green, blue and alpha to the format of number `to`.
 ///
-/// Condition: there are `count` in both buffers, and `S` has at most four channels.
-fn convert_from<S>(to: u32, src: &[u8], dst: &mut [u8], count: usize)
+/// To straight sRGB they go as those of bitmaps do, for which no opaque pixel is divided. Condition: there are `count` in both buffers.
+fn convert_painted(to: u32, src: &[u8], dst: &mut [u8], count: usize)
+    requires src { length src.now ≡ count * 4 }
+    requires dst { length dst.old ≡ count * channels_of to }
+    ensures { (format target : BufferFormat) → slice_get formats 3 ≡ Some format
+        → slice_get formats to ≡ Some target
+        → IsConverted format target count src.now dst.new }
+{
+    match to {
+        0 => cross_row(painted(), straight(ModelName::Rgb), src, dst, count),
+        8 => cross_row(painted(), straight(ModelName::Bgr), src, dst, count),
+        _ => convert_from::<4, Rgb, Premultiplied, Linear>(to, src, dst, count),
+    }
+}
+
+/// Returns the format of premultiplied linear pixels of red, green, blue and alpha.
+fn painted() -> Stored
+    ensures { result ≡ record { model = ModelName.Rgb; count = 4; is_premultiplied = true; depth = Depth.Linear8; spare = 0 } }
+{
+    Stored {
+        model: ModelName::Rgb,
+        count: 4,
+        is_premultiplied: true,
+        depth: Depth::Linear8,
+        spare: 0,
+    }
+}
+
+/// Returns the format of straight sRGB pixels of four channels of a model.
+fn straight(model: ModelName) -> Stored
+    ensures { result ≡ record { model = model; count = 4; is_premultiplied = false; depth = Depth.Srgb8; spare = 0 } }
+{
+    Stored {
+        model,
+        count: 4,
+        is_premultiplied: false,
+        depth: Depth::Srgb8,
+        spare: 0,
+    }
+}
+
+/// Converts pixels of `N` channels of the model `M`, in these modes, to the format of number `to`.
+///
+/// Condition: there are `count` in both buffers, and `N` is at most four.
+fn convert_from<const N: usize, M, A, G>(to: u32, src: &[u8], dst: &mut [u8], count: usize)
 where
-    S: Bytes,
-    Ch8: From<S::Chan>,
-    S::Gamma: Gamma<Ch8>,
-    requires few { S.layout.count ≤ 4 }
-    requires src { length src.now ≡ count * S.layout.count }
+    M: ColorModel,
+    A: Alpha,
+    G: Gamma<Ch8>,
+    requires few { N ≤ 4 }
+    requires src { length src.now ≡ count * N }
     requires dst { length dst.old ≡ count * channels_of to }
     ensures { (target : BufferFormat) → slice_get formats to ≡ Some target
-        → IsConverted (record { format = S.format; gamma = ⟦<S::Gamma as Gamma<Ch8>>⟧.mode })
+        → IsConverted
+        (record { format = ⟦<Pix<N, Ch8, M, A, G> as Pixel>⟧.format; gamma = G.mode })
         target count src.now dst.new }
 {
     match to {
-        0 => convert_pixels::<S, SRgba8>(src, dst, count),
-        1 => convert_pixels::<S, SRgba8p>(src, dst, count),
-        2 => convert_pixels::<S, Rgba8>(src, dst, count),
-        3 => convert_pixels::<S, Rgba8p>(src, dst, count),
-        4 => convert_pixels::<S, Bgra8>(src, dst, count),
-        5 => convert_pixels::<S, Bgra8p>(src, dst, count),
-        6 => convert_pixels::<S, Rgb8>(src, dst, count),
-        7 => convert_pixels::<S, Gray8>(src, dst, count),
-        8 => convert_pixels::<S, SBgra8>(src, dst, count),
-        9 => convert_pixels::<S, SBgra8p>(src, dst, count),
-        10 => convert_pixels::<S, SRgb8>(src, dst, count),
-        11 => convert_pixels::<S, SGray8>(src, dst, count),
+        0 => convert_pixels::<N, M, A, G, 4, Rgb, Straight, Srgb>(src, dst, count),
+        1 => convert_pixels::<N, M, A, G, 4, Rgb, Premultiplied, Srgb>(src, dst, count),
+        2 => convert_pixels::<N, M, A, G, 4, Rgb, Straight, Linear>(src, dst, count),
+        3 => convert_pixels::<N, M, A, G, 4, Rgb, Premultiplied, Linear>(src, dst, count),
+        4 => convert_pixels::<N, M, A, G, 4, Bgr, Straight, Linear>(src, dst, count),
+        5 => convert_pixels::<N, M, A, G, 4, Bgr, Premultiplied, Linear>(src, dst, count),
+        6 => convert_pixels::<N, M, A, G, 3, Rgb, Straight, Linear>(src, dst, count),
+        7 => convert_pixels::<N, M, A, G, 1, Gray, Straight, Linear>(src, dst, count),
+        8 => convert_pixels::<N, M, A, G, 4, Bgr, Straight, Srgb>(src, dst, count),
+        9 => convert_pixels::<N, M, A, G, 4, Bgr, Premultiplied, Srgb>(src, dst, count),
+        10 => convert_pixels::<N, M, A, G, 3, Rgb, Straight, Srgb>(src, dst, count),
+        11 => convert_pixels::<N, M, A, G, 1, Gray, Straight, Srgb>(src, dst, count),
         _ => {}
     }
 }
 
-/// Converts pixels of the format `S` to the format `D`.
+/// Converts pixels of `N` channels of the model `M` to pixels of `K` channels of the model `L`, each in modes of its own.
 ///
-/// Condition: there are `count` in both buffers, `S` has at most four channels, and `D` no more than its model.
-fn convert_pixels<S, D>(src: &[u8], dst: &mut [u8], count: usize)
+/// Condition: there are `count` in both buffers, `N` is at most four, and `K` no more than the channels of `L`.
+fn convert_pixels<const N: usize, M, A, G, const K: usize, L, B, H>(
+    src: &[u8],
+    dst: &mut [u8],
+    count: usize,
+)
 where
-    S: Bytes,
-    D: Bytes,
-    D::Chan: From<S::Chan>,
-    S::Gamma: Gamma<D::Chan>,
-    requires few { S.layout.count ≤ 4 }
-    requires of_model { D.layout.count ≤ D.layout.alpha + 1 }
-    requires src { length src.now ≡ count * S.layout.count }
-    requires dst { length dst.old ≡ count * D.layout.count }
+    M: ColorModel,
+    A: Alpha,
+    G: Gamma<Ch8>,
+    L: ColorModel,
+    B: Alpha,
+    H: Gamma<Ch8>,
+    requires few { N ≤ 4 }
+    requires of_model { K ≤ L.ALPHA + 1 }
+    requires src { length src.now ≡ count * N }
+    requires dst { length dst.old ≡ count * K }
     ensures { IsConverted
-        (record { format = S.format; gamma = ⟦<S::Gamma as Gamma<D::Chan>>⟧.mode })
-        (record { format = D.format; gamma = D.Gamma.mode }) count src.now dst.new }
+        (record { format = ⟦<Pix<N, Ch8, M, A, G> as Pixel>⟧.format; gamma = G.mode })
+        (record { format = ⟦<Pix<K, Ch8, L, B, H> as Pixel>⟧.format; gamma = H.mode })
+        count src.now dst.new }
 {
-    let (wide, to_wide) = (width::<S>(), width::<D>());
     for index in 0..count {
-        let start = index * wide;
-        let pixel = S::of_bytes(&src[start..start + wide]).convert::<D>();
-        let start = index * to_wide;
-        pixel.write(&mut dst[start..start + to_wide]);
+        let start = index * N;
+        let pixel = Pix::<N, Ch8, M, A, G>::of_bytes(&src[start..start + N]);
+        let made = pixel.convert::<Pix<K, Ch8, L, B, H>>();
+        let start = index * K;
+        made.write(&mut dst[start..start + K]);
     }
-}
-
-/// Returns the number of channels of a pixel.
-fn width<P: Pixel>() -> usize
-    ensures { result ≡ P.layout.count }
-{
-    P::default().channels().len()
 }

@@ -75,16 +75,43 @@ fn cross_each<C: Sample, D: Sample, W: Way<C, D>>(
     }
 }
 
-/// Does what [`cross_pixels`] does, with a loop of its own for each format that pictures mostly come in.
+/// Does what [`cross_pixels`] does, where both formats are known by other names.
+#[inline(always)]
+fn cross_known<C: Sample, D: Sample, W: Way<C, D>>(
+    way: &W,
+    known: Stored,
+    to_known: Stored,
+    from: Stored,
+    to: Stored,
+    src: &[u8],
+    dst: &mut [u8],
+    count: usize,
+)
+    requires same { known ≡ from }
+    requires to_same { to_known ≡ to }
+    requires sound { is_sound from ≡ true }
+    requires to_sound { is_sound to ≡ true }
+    requires src { length src.now ≡ count * ((from.count + from.spare) * sample_size C.max) }
+    requires dst { length dst.old ≡ count * ((to.count + to.spare) * sample_size D.max) }
+    ensures { IsEach C.max D.max from.count (to.count + to.spare)
+        ((from.count + from.spare) * sample_size C.max) ((to.count + to.spare) * sample_size D.max)
+        (W.makes (format_at C.max from) (format_at D.max to)) src.now dst.new count }
+{
+    cross_pixels(way, known, to_known, src, dst, count);
+}
+
+/// Does what [`cross_known`] does, with a loop of its own for each format that pictures mostly come in.
 #[inline(always)]
 fn cross_from_usual<C: Sample, D: Sample, W: Way<C, D>>(
     way: &W,
     from: Stored,
+    to_known: Stored,
     to: Stored,
     src: &[u8],
     dst: &mut [u8],
     count: usize,
 )
+    requires to_same { to_known ≡ to }
     requires sound { is_sound from ≡ true }
     requires to_sound { is_sound to ≡ true }
     requires src { length src.now ≡ count * ((from.count + from.spare) * sample_size C.max) }
@@ -93,35 +120,37 @@ fn cross_from_usual<C: Sample, D: Sample, W: Way<C, D>>(
         ((from.count + from.spare) * sample_size C.max) ((to.count + to.spare) * sample_size D.max)
         (W.makes (format_at C.max from) (format_at D.max to)) src.now dst.new count }
 {
-    if let Some(from) = from.known(Rgb, 4, false, 0) {
-        cross_pixels(way, from, to, src, dst, count);
-    } else if let Some(from) = from.known(Bgr, 4, false, 0) {
-        cross_pixels(way, from, to, src, dst, count);
-    } else if let Some(from) = from.known(Bgr, 4, true, 0) {
-        cross_pixels(way, from, to, src, dst, count);
-    } else if let Some(from) = from.known(Rgb, 3, false, 0) {
-        cross_pixels(way, from, to, src, dst, count);
-    } else if let Some(from) = from.known(Bgr, 3, false, 0) {
-        cross_pixels(way, from, to, src, dst, count);
-    } else if let Some(from) = from.known(Rgb, 3, false, 1) {
-        cross_pixels(way, from, to, src, dst, count);
-    } else if let Some(from) = from.known(Bgr, 3, false, 1) {
-        cross_pixels(way, from, to, src, dst, count);
+    if let Some(known) = from.known(Rgb, 4, false, 0) {
+        cross_known(way, known, to_known, from, to, src, dst, count);
+    } else if let Some(known) = from.known(Bgr, 4, false, 0) {
+        cross_known(way, known, to_known, from, to, src, dst, count);
+    } else if let Some(known) = from.known(Bgr, 4, true, 0) {
+        cross_known(way, known, to_known, from, to, src, dst, count);
+    } else if let Some(known) = from.known(Rgb, 3, false, 0) {
+        cross_known(way, known, to_known, from, to, src, dst, count);
+    } else if let Some(known) = from.known(Bgr, 3, false, 0) {
+        cross_known(way, known, to_known, from, to, src, dst, count);
+    } else if let Some(known) = from.known(Rgb, 3, false, 1) {
+        cross_known(way, known, to_known, from, to, src, dst, count);
+    } else if let Some(known) = from.known(Bgr, 3, false, 1) {
+        cross_known(way, known, to_known, from, to, src, dst, count);
     } else {
-        cross_pixels(way, from, to, src, dst, count);
+        cross_known(way, from, to_known, from, to, src, dst, count);
     }
 }
 
-/// Does what [`cross_pixels`] does, with a loop of its own for each format that pictures mostly go to.
+/// Does what [`cross_known`] does, with a loop of its own for each format that pictures mostly go to.
 #[inline(always)]
 fn cross_to_usual<C: Sample, D: Sample, W: Way<C, D>>(
     way: &W,
+    from_known: Stored,
     from: Stored,
     to: Stored,
     src: &[u8],
     dst: &mut [u8],
     count: usize,
 )
+    requires same { from_known ≡ from }
     requires sound { is_sound from ≡ true }
     requires to_sound { is_sound to ≡ true }
     requires src { length src.now ≡ count * ((from.count + from.spare) * sample_size C.max) }
@@ -130,22 +159,22 @@ fn cross_to_usual<C: Sample, D: Sample, W: Way<C, D>>(
         ((from.count + from.spare) * sample_size C.max) ((to.count + to.spare) * sample_size D.max)
         (W.makes (format_at C.max from) (format_at D.max to)) src.now dst.new count }
 {
-    if let Some(to) = to.known(Rgb, 4, false, 0) {
-        cross_pixels(way, from, to, src, dst, count);
-    } else if let Some(to) = to.known(Bgr, 4, false, 0) {
-        cross_pixels(way, from, to, src, dst, count);
-    } else if let Some(to) = to.known(Bgr, 4, true, 0) {
-        cross_pixels(way, from, to, src, dst, count);
-    } else if let Some(to) = to.known(Rgb, 3, false, 0) {
-        cross_pixels(way, from, to, src, dst, count);
-    } else if let Some(to) = to.known(Bgr, 3, false, 0) {
-        cross_pixels(way, from, to, src, dst, count);
-    } else if let Some(to) = to.known(Rgb, 3, false, 1) {
-        cross_pixels(way, from, to, src, dst, count);
-    } else if let Some(to) = to.known(Bgr, 3, false, 1) {
-        cross_pixels(way, from, to, src, dst, count);
+    if let Some(known) = to.known(Rgb, 4, false, 0) {
+        cross_known(way, from_known, known, from, to, src, dst, count);
+    } else if let Some(known) = to.known(Bgr, 4, false, 0) {
+        cross_known(way, from_known, known, from, to, src, dst, count);
+    } else if let Some(known) = to.known(Bgr, 4, true, 0) {
+        cross_known(way, from_known, known, from, to, src, dst, count);
+    } else if let Some(known) = to.known(Rgb, 3, false, 0) {
+        cross_known(way, from_known, known, from, to, src, dst, count);
+    } else if let Some(known) = to.known(Bgr, 3, false, 0) {
+        cross_known(way, from_known, known, from, to, src, dst, count);
+    } else if let Some(known) = to.known(Rgb, 3, false, 1) {
+        cross_known(way, from_known, known, from, to, src, dst, count);
+    } else if let Some(known) = to.known(Bgr, 3, false, 1) {
+        cross_known(way, from_known, known, from, to, src, dst, count);
     } else {
-        cross_pixels(way, from, to, src, dst, count);
+        cross_known(way, from_known, to, from, to, src, dst, count);
     }
 }
 
@@ -167,10 +196,10 @@ fn cross_painted<C: Sample, D: Sample, W: Way<C, D>>(
         ((from.count + from.spare) * sample_size C.max) ((to.count + to.spare) * sample_size D.max)
         (W.makes (format_at C.max from) (format_at D.max to)) src.now dst.new count }
 {
-    if let Some(to) = to.known(Rgb, 4, true, 0) {
-        cross_from_usual(way, from, to, src, dst, count);
-    } else if let Some(from) = from.known(Rgb, 4, true, 0) {
-        cross_to_usual(way, from, to, src, dst, count);
+    if let Some(known) = to.known(Rgb, 4, true, 0) {
+        cross_from_usual(way, from, known, to, src, dst, count);
+    } else if let Some(known) = from.known(Rgb, 4, true, 0) {
+        cross_to_usual(way, known, from, to, src, dst, count);
     } else {
         cross_pixels(way, from, to, src, dst, count);
     }

@@ -1,12 +1,12 @@
 //! sRGB pixels of red, green, blue and alpha, or blue, green, red and alpha, in light, four at a time.
 //!
-//! The colors of each are looked up as those of an opaque pixel, in one word. Where not all four are opaque, their sixteen channels are then
-//! multiplied by the alphas.
+//! The colors of each are looked up as those of an opaque pixel. Where not all four are opaque, their sixteen channels are then multiplied by
+//! the alphas.
 ghost use Rattle.std.specs.Prelude.{◌≡◌, ◌≤◌, ◌<◌, ◌*◌, length, slice_index_or, true};
 ghost use Rattle.std.specs.Simd.Lanes.{zip2};
 ghost use Rattle.pix_chan.specs.Product.{channel_product};
 ghost use Rattle.pix_chan.specs.Srgb16.{srgb_decoded16};
-ghost use Rattle.pix_bytes.specs.Lit.{multiplied_light, word_of, first_place, last_place, light_at, opaque_light};
+ghost use Rattle.pix_bytes.specs.Lit.{multiplied_light, first_place, last_place, light_at, opaque_light};
 ghost use Rattle.pix_bytes.specs.Lit.{four_alphas, bytes_of};
 ghost use Rattle.pix_bytes.specs.Rows.{IsEach};
 
@@ -42,55 +42,62 @@ fn alphas(pixels: u8x16) -> u16x16
 
 /// Returns the linear channel of an sRGB level.
 #[inline(always)]
-fn light(level: u8) -> u64
-    ensures value { result ≡ srgb_decoded16 level }
-    ensures fits { result < 65536 }
+fn light(level: u8) -> u16
+    ensures { result ≡ srgb_decoded16 level }
 {
-    u64::from(u16::from(Ch8::new(level).decode_srgb16()))
+    u16::from(Ch8::new(level).decode_srgb16())
 }
 
-/// Returns the four bytes of a pixel. Condition: there are four.
+/// Returns the bytes of four pixels. Condition: there are sixteen.
 #[inline(always)]
-fn pixel(bytes: &[u8]) -> [u8; 4]
-    requires { length bytes.now ≡ 4 }
+fn pixels(bytes: &[u8]) -> [u8; 16]
+    requires { length bytes.now ≡ 16 }
     ensures { result ≡ bytes.now }
 {
-    if let Some(whole) = bytes.as_array::<4>() {
+    if let Some(whole) = bytes.as_array::<16>() {
         *whole
     } else {
-        [0, 0, 0, 0]
+        [0; 16]
     }
 }
 
-/// Returns the light of an sRGB pixel as if it was opaque. Condition: it has four bytes.
+/// Returns the places of the first and the last color in a pixel.
 #[inline(always)]
-fn word(is_reversed: bool, bytes: &[u8]) -> u64
-    requires { length bytes.now ≡ 4 }
-    ensures { result ≡ word_of (light_at bytes.now (first_place is_reversed))
-        (light_at bytes.now 1) (light_at bytes.now (last_place is_reversed)) 65535 }
+fn ends(is_reversed: bool) -> (usize, usize)
+    ensures first { result.0 ≡ first_place is_reversed }
+    ensures last { result.1 ≡ last_place is_reversed }
+    ensures first_fits { result.0 < 4 }
+    ensures last_fits { result.1 < 4 }
 {
-    let p = pixel(bytes);
-    let (one, three) = if is_reversed {
-        (p[2], p[0])
-    } else {
-        (p[0], p[2])
-    };
-    light(one) + 65536 * (light(p[1]) + 65536 * (light(three) + 65536 * 65535))
+    if is_reversed { (2, 0) } else { (0, 2) }
 }
 
 /// Returns the light of four sRGB pixels as if they were opaque. Condition: they have sixteen bytes.
 #[inline(always)]
-fn words(is_reversed: bool, bytes: &[u8]) -> u16x16
+fn opaque(is_reversed: bool, bytes: &[u8]) -> u16x16
     requires { length bytes.now ≡ 16 }
     ensures { result ≡ opaque_light is_reversed bytes.now }
 {
-    let four = u64x4::from_array([
-        word(is_reversed, &bytes[0..4]),
-        word(is_reversed, &bytes[4..8]),
-        word(is_reversed, &bytes[8..12]),
-        word(is_reversed, &bytes[12..16]),
-    ]);
-    u16x16::from_le_bytes(four.to_le_bytes())
+    let p = pixels(bytes);
+    let (first, last) = ends(is_reversed);
+    u16x16::from_array([
+        light(p[first]),
+        light(p[1]),
+        light(p[last]),
+        65535,
+        light(p[4 + first]),
+        light(p[5]),
+        light(p[4 + last]),
+        65535,
+        light(p[8 + first]),
+        light(p[9]),
+        light(p[8 + last]),
+        65535,
+        light(p[12 + first]),
+        light(p[13]),
+        light(p[12 + last]),
+        65535,
+    ])
 }
 
 /// Writes the lanes, the lower byte of each first. Condition: there is room for sixteen.
@@ -123,11 +130,11 @@ fn lit(is_reversed: bool, bytes: &[u8]) -> u16x16
     ensures { result ≡
         zip2 (channel_product 65535) (opaque_light is_reversed bytes.now) (four_alphas bytes.now) }
 {
-    let opaque = words(is_reversed, bytes);
+    let colors = opaque(is_reversed, bytes);
     if are_opaque(bytes) {
-        opaque
+        colors
     } else {
-        products(opaque, alphas(u8x16::from_slice(bytes)))
+        products(colors, alphas(u8x16::from_slice(bytes)))
     }
 }
 

@@ -81,94 +81,126 @@ impl ModelName {
 
 /// A channel type whose colors every model knows.
 pub(crate) trait Colored: Channel {
-    /// Returns red, green, blue and alpha of a pixel of the model.
-    fn into_rgb(model: ModelName, pixel: Four<Self>) -> Four<Self>
-        ensures { listed Self.number result ≡ rgba_of (into_rgb (model_of model))
-            (row (model_of model)).alpha Self.max (listed Self.number pixel) };
+    /// Returns red, green, blue and alpha of a pixel of the model `M`.
+    fn rgba_of<M: ColorModel>(pixel: Four<Self>) -> Four<Self>
+        ensures { listed Self.number result ≡
+            rgba_of M.to_rgb M.ALPHA Self.max (listed Self.number pixel) };
 
-    /// Returns the pixel of the model that has this red, green, blue and alpha; a channel that the model lacks is the maximum.
-    fn out_of_rgb(model: ModelName, rgba: Four<Self>) -> Four<Self>
-        ensures { listed Self.number result ≡ four_of Self.max
-            (of_rgba (out_of_rgb (model_of model)) Self.max (listed Self.number rgba)) };
+    /// Returns the pixel of two channels of the model `M` that has this red, green, blue and alpha; others are the maximum.
+    ///
+    /// Condition: the model has as many channels.
+    fn two_of_rgba<M: ColorModel>(rgba: Four<Self>) -> Four<Self>
+        requires { 2 ≤ M.ALPHA + 1 }
+        ensures { listed Self.number result ≡ four_of Self.max (take 2
+            (of_rgba M.of_rgb Self.max (listed Self.number rgba))) };
+
+    /// Returns the pixel of four channels of the model `M` that has this red, green, blue and alpha; others are the maximum.
+    ///
+    /// Condition: the model has as many channels.
+    fn four_of_rgba<M: ColorModel>(rgba: Four<Self>) -> Four<Self>
+        requires { 4 ≤ M.ALPHA + 1 }
+        ensures { listed Self.number result ≡ four_of Self.max (take 4
+            (of_rgba M.of_rgb Self.max (listed Self.number rgba))) };
 }
 
 impl Colored for Ch8 {
     #[inline(always)]
-    fn into_rgb(model: ModelName, pixel: Four<Ch8>) -> Four<Ch8>
-        ensures { listed ⟦<Ch8 as Channel>⟧.number result ≡ rgba_of (into_rgb (model_of model))
-            (row (model_of model)).alpha 255 (listed ⟦<Ch8 as Channel>⟧.number pixel) }
+    fn rgba_of<M: ColorModel>(pixel: Four<Ch8>) -> Four<Ch8>
+        ensures { listed ⟦<Ch8 as Channel>⟧.number result ≡
+            rgba_of M.to_rgb M.ALPHA 255 (listed ⟦<Ch8 as Channel>⟧.number pixel) }
     {
-        match model {
-            ModelName::Rgb => pixel,
-            ModelName::Bgr => rgba_of::<Pix<4, Ch8, Bgr, Straight, Linear>>(pixel),
-            ModelName::Cmy => rgba_of::<Pix<4, Ch8, Cmy, Straight, Linear>>(pixel),
-            ModelName::Gray => rgba_of::<Pix<4, Ch8, Gray, Straight, Linear>>(pixel),
-            ModelName::Hsv => rgba_of::<Pix<4, Ch8, Hsv, Straight, Linear>>(pixel),
-            ModelName::Hsl => rgba_of::<Pix<4, Ch8, Hsl, Straight, Linear>>(pixel),
-            ModelName::Hwb => rgba_of::<Pix<4, Ch8, Hwb, Straight, Linear>>(pixel),
-            ModelName::YCbCr => rgba_of::<Pix<4, Ch8, YCbCr, Straight, Linear>>(pixel),
-            ModelName::Xyz => rgba_of::<Pix<4, Ch8, Xyz, Straight, Linear>>(pixel),
-            ModelName::Matte => rgba_of::<Pix<4, Ch8, Matte, Straight, Linear>>(pixel),
-        }
+        rgba_of::<Pix<4, Ch8, M, Straight, Linear>>(pixel)
     }
 
     #[inline(always)]
-    fn out_of_rgb(model: ModelName, rgba: Four<Ch8>) -> Four<Ch8>
-        ensures { listed ⟦<Ch8 as Channel>⟧.number result ≡ four_of 255
-            (of_rgba (out_of_rgb (model_of model)) 255 (listed ⟦<Ch8 as Channel>⟧.number rgba)) }
+    fn two_of_rgba<M: ColorModel>(rgba: Four<Ch8>) -> Four<Ch8>
+        requires { 2 ≤ M.ALPHA + 1 }
+        ensures { listed ⟦<Ch8 as Channel>⟧.number result ≡ four_of 255 (take 2
+            (of_rgba M.of_rgb 255 (listed ⟦<Ch8 as Channel>⟧.number rgba))) }
     {
-        match model {
-            ModelName::Rgb => rgba,
-            ModelName::Bgr => of_rgba::<Pix<4, Ch8, Bgr, Straight, Linear>>(rgba),
-            ModelName::Cmy => of_rgba::<Pix<4, Ch8, Cmy, Straight, Linear>>(rgba),
-            ModelName::Gray => of_rgba::<Pix<2, Ch8, Gray, Straight, Linear>>(rgba),
-            ModelName::Hsv => of_rgba::<Pix<4, Ch8, Hsv, Straight, Linear>>(rgba),
-            ModelName::Hsl => of_rgba::<Pix<4, Ch8, Hsl, Straight, Linear>>(rgba),
-            ModelName::Hwb => of_rgba::<Pix<4, Ch8, Hwb, Straight, Linear>>(rgba),
-            ModelName::YCbCr => of_rgba::<Pix<4, Ch8, YCbCr, Straight, Linear>>(rgba),
-            ModelName::Xyz => of_rgba::<Pix<4, Ch8, Xyz, Straight, Linear>>(rgba),
-            ModelName::Matte => of_rgba::<Pix<1, Ch8, Matte, Straight, Linear>>(rgba),
-        }
+        of_rgba::<Pix<2, Ch8, M, Straight, Linear>>(rgba)
+    }
+
+    #[inline(always)]
+    fn four_of_rgba<M: ColorModel>(rgba: Four<Ch8>) -> Four<Ch8>
+        requires { 4 ≤ M.ALPHA + 1 }
+        ensures { listed ⟦<Ch8 as Channel>⟧.number result ≡ four_of 255 (take 4
+            (of_rgba M.of_rgb 255 (listed ⟦<Ch8 as Channel>⟧.number rgba))) }
+    {
+        of_rgba::<Pix<4, Ch8, M, Straight, Linear>>(rgba)
     }
 }
 
 impl Colored for Ch16 {
     #[inline(always)]
-    fn into_rgb(model: ModelName, pixel: Four<Ch16>) -> Four<Ch16>
-        ensures { listed ⟦<Ch16 as Channel>⟧.number result ≡ rgba_of (into_rgb (model_of model))
-            (row (model_of model)).alpha 65535 (listed ⟦<Ch16 as Channel>⟧.number pixel) }
+    fn rgba_of<M: ColorModel>(pixel: Four<Ch16>) -> Four<Ch16>
+        ensures { listed ⟦<Ch16 as Channel>⟧.number result ≡
+            rgba_of M.to_rgb M.ALPHA 65535 (listed ⟦<Ch16 as Channel>⟧.number pixel) }
     {
-        match model {
-            ModelName::Rgb => pixel,
-            ModelName::Bgr => rgba_of::<Pix<4, Ch16, Bgr, Straight, Linear>>(pixel),
-            ModelName::Cmy => rgba_of::<Pix<4, Ch16, Cmy, Straight, Linear>>(pixel),
-            ModelName::Gray => rgba_of::<Pix<4, Ch16, Gray, Straight, Linear>>(pixel),
-            ModelName::Hsv => rgba_of::<Pix<4, Ch16, Hsv, Straight, Linear>>(pixel),
-            ModelName::Hsl => rgba_of::<Pix<4, Ch16, Hsl, Straight, Linear>>(pixel),
-            ModelName::Hwb => rgba_of::<Pix<4, Ch16, Hwb, Straight, Linear>>(pixel),
-            ModelName::YCbCr => rgba_of::<Pix<4, Ch16, YCbCr, Straight, Linear>>(pixel),
-            ModelName::Xyz => rgba_of::<Pix<4, Ch16, Xyz, Straight, Linear>>(pixel),
-            ModelName::Matte => rgba_of::<Pix<4, Ch16, Matte, Straight, Linear>>(pixel),
-        }
+        rgba_of::<Pix<4, Ch16, M, Straight, Linear>>(pixel)
     }
 
     #[inline(always)]
-    fn out_of_rgb(model: ModelName, rgba: Four<Ch16>) -> Four<Ch16>
-        ensures { listed ⟦<Ch16 as Channel>⟧.number result ≡ four_of 65535
-            (of_rgba (out_of_rgb (model_of model)) 65535 (listed ⟦<Ch16 as Channel>⟧.number rgba)) }
+    fn two_of_rgba<M: ColorModel>(rgba: Four<Ch16>) -> Four<Ch16>
+        requires { 2 ≤ M.ALPHA + 1 }
+        ensures { listed ⟦<Ch16 as Channel>⟧.number result ≡ four_of 65535 (take 2
+            (of_rgba M.of_rgb 65535 (listed ⟦<Ch16 as Channel>⟧.number rgba))) }
     {
-        match model {
-            ModelName::Rgb => rgba,
-            ModelName::Bgr => of_rgba::<Pix<4, Ch16, Bgr, Straight, Linear>>(rgba),
-            ModelName::Cmy => of_rgba::<Pix<4, Ch16, Cmy, Straight, Linear>>(rgba),
-            ModelName::Gray => of_rgba::<Pix<2, Ch16, Gray, Straight, Linear>>(rgba),
-            ModelName::Hsv => of_rgba::<Pix<4, Ch16, Hsv, Straight, Linear>>(rgba),
-            ModelName::Hsl => of_rgba::<Pix<4, Ch16, Hsl, Straight, Linear>>(rgba),
-            ModelName::Hwb => of_rgba::<Pix<4, Ch16, Hwb, Straight, Linear>>(rgba),
-            ModelName::YCbCr => of_rgba::<Pix<4, Ch16, YCbCr, Straight, Linear>>(rgba),
-            ModelName::Xyz => of_rgba::<Pix<4, Ch16, Xyz, Straight, Linear>>(rgba),
-            ModelName::Matte => of_rgba::<Pix<1, Ch16, Matte, Straight, Linear>>(rgba),
-        }
+        of_rgba::<Pix<2, Ch16, M, Straight, Linear>>(rgba)
+    }
+
+    #[inline(always)]
+    fn four_of_rgba<M: ColorModel>(rgba: Four<Ch16>) -> Four<Ch16>
+        requires { 4 ≤ M.ALPHA + 1 }
+        ensures { listed ⟦<Ch16 as Channel>⟧.number result ≡ four_of 65535 (take 4
+            (of_rgba M.of_rgb 65535 (listed ⟦<Ch16 as Channel>⟧.number rgba))) }
+    {
+        of_rgba::<Pix<4, Ch16, M, Straight, Linear>>(rgba)
+    }
+}
+
+/// Returns red, green, blue and alpha of a pixel of the model.
+#[inline(always)]
+pub(crate) fn into_rgb<C: Colored>(model: ModelName, pixel: Four<C>) -> Four<C>
+    ensures { listed C.number result ≡ rgba_of (into_rgb (model_of model))
+        (row (model_of model)).alpha C.max (listed C.number pixel) }
+{
+    match model {
+        ModelName::Rgb => pixel,
+        ModelName::Bgr => C::rgba_of::<Bgr>(pixel),
+        ModelName::Cmy => C::rgba_of::<Cmy>(pixel),
+        ModelName::Gray => C::rgba_of::<Gray>(pixel),
+        ModelName::Hsv => C::rgba_of::<Hsv>(pixel),
+        ModelName::Hsl => C::rgba_of::<Hsl>(pixel),
+        ModelName::Hwb => C::rgba_of::<Hwb>(pixel),
+        ModelName::YCbCr => C::rgba_of::<YCbCr>(pixel),
+        ModelName::Xyz => C::rgba_of::<Xyz>(pixel),
+        ModelName::Matte => C::rgba_of::<Matte>(pixel),
+    }
+}
+
+/// Returns the pixel of the model that has this red, green, blue and alpha; a channel that the model lacks is the maximum.
+#[inline(always)]
+pub(crate) fn out_of_rgb<C: Colored>(model: ModelName, rgba: Four<C>) -> Four<C>
+    ensures { listed C.number result ≡ four_of C.max
+        (of_rgba (out_of_rgb (model_of model)) C.max (listed C.number rgba)) }
+{
+    match model {
+        ModelName::Rgb => rgba,
+        ModelName::Bgr => C::four_of_rgba::<Bgr>(rgba),
+        ModelName::Cmy => C::four_of_rgba::<Cmy>(rgba),
+        ModelName::Gray => C::two_of_rgba::<Gray>(rgba),
+        ModelName::Hsv => C::four_of_rgba::<Hsv>(rgba),
+        ModelName::Hsl => C::four_of_rgba::<Hsl>(rgba),
+        ModelName::Hwb => C::four_of_rgba::<Hwb>(rgba),
+        ModelName::YCbCr => C::four_of_rgba::<YCbCr>(rgba),
+        ModelName::Xyz => C::four_of_rgba::<Xyz>(rgba),
+        ModelName::Matte => Four {
+            one: rgba.four,
+            two: C::MAX,
+            three: C::MAX,
+            four: C::MAX,
+        },
     }
 }
 

@@ -14,8 +14,8 @@ ghost use Rattle.pix_bytes.specs.Stored.{sample_size};
 use crate::bitmap::format::Stored;
 use crate::bitmap::four::Four;
 use crate::bitmap::fours::decode_fours;
-use crate::bitmap::model::Colored;
 use crate::bitmap::model::ModelName::{Bgr, Rgb};
+use crate::bitmap::model::{Colored, into_rgb, out_of_rgb};
 use crate::bitmap::quotient::quotient;
 use pix_chan::chan::{Alpha, Ch8, Ch16, Channel, Gamma, Linear, Premultiplied};
 use std::marker::PhantomData;
@@ -236,9 +236,9 @@ impl<C: Colored, D: Colored, G: Gamma<D>, H: Gamma<D>> Way<C, D> for Converted<G
         if from.model.kind() == to.model.kind() {
             within::<C, D, G, H>(Step::between(from, to), pixel)
         } else {
-            let rgba = C::into_rgb(from.model, pixel);
+            let rgba = into_rgb(from.model, pixel);
             let rgba = within::<C, D, G, H>(Step::of_rgba(from, to), rgba);
-            D::out_of_rgb(to.model, rgba)
+            out_of_rgb(to.model, rgba)
         }
     }
 

@@ -15,6 +15,6 @@ returns c =
       | then-are_opaque w ↦
           let is = c.are_opaque.ensures in
           let t = w.if-are_opaque.true in
-          w.result-is ∙ c.words-opaque.ensures ∙ opaque_lit c.args.is_reversed bytes (is.three t) (is.seven t) (is.eleven t) (is.fifteen t)
-      | else-are_opaque w ↦ w.result-is ∙ w.products.ensures ∙ ap (λ (l : List ℕ). zip2 (channel_product 65535) l w.alphas.result) c.words-opaque.ensures ∙ ap (zip2 (channel_product 65535) (opaque_light c.args.is_reversed bytes)) (w.alphas.ensures ∙ ap four_alphas (take_all 16 bytes (omega arith)))
+          w.result-is ∙ c.opaque-colors.ensures ∙ opaque_lit c.args.is_reversed bytes (is.three t) (is.seven t) (is.eleven t) (is.fifteen t)
+      | else-are_opaque w ↦ w.result-is ∙ w.products.ensures ∙ ap (λ (l : List ℕ). zip2 (channel_product 65535) l w.alphas.result) c.opaque-colors.ensures ∙ ap (zip2 (channel_product 65535) (opaque_light c.args.is_reversed bytes)) (w.alphas.ensures ∙ ap four_alphas (take_all 16 bytes (omega arith)))
     ]
