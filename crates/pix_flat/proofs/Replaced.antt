@@ -1,9 +1,8 @@
 -- Pixels that `Src` puts in the place of others.
-use Rattle.std.proofs.Common.{◌≡◌, ℕ, suc, ◌+◌, ◌<◌, ◌≤◌, ◌∙◌, List, [], ◌∷◌, length, map, get_or, min, refl, ap, arith, false}
+use Rattle.std.proofs.Common.{◌≡◌, ℕ, ◌+◌, ◌≤◌, List, length, min, arith, false}
 use Rattle.std.proofs.lemmas.Bool.Decides.{nat_tests}
 use Rattle.std.proofs.lemmas.List.FromFn.{fill_by_all}
 use Rattle.std.specs.declared.ops.Range.{Range}
-use Rattle.pix_chan.specs.Runs.{over}
 use Rattle.pix_ops.specs.declared.ops.Op.TheVariants.{Src}
 use Rattle.pix_ops.specs.Composite.{channel_composite}
 use Rattle.pix_el.specs.Pixel.{Layout, lies_in, channel, alpha_of}
@@ -24,13 +23,3 @@ src_pixel layout source dest none fits long =
     fill_by_all (composite_at layout Src (alpha_of layout source) (alpha_of layout dest) source dest) source layout.count layout.max long
     (λ ch lt. rw (lies_in_none layout.hues ch none)
     (src_channel layout.max (channel layout.max source ch) (alpha_of layout source) (channel layout.max dest ch) (alpha_of layout dest) (fits ch)))
-
--- pixels in the place of others, where each has the channels of its format
-pub src_over : {X : Type 0} (layout : Layout) (n : X → List ℕ) (ss : List X) (ds : List (List ℕ)) → layout.hues.end ≡ 0
-    → ((s : X) (ch : ℕ) → channel layout.max (n s) ch ≤ layout.max) → ((k : ℕ) → k < length ss → length (get_or (map n ss) k []) ≡ layout.count)
-    → over (λ s _. s) (map n ss) ds ≡ over (pixel_composite layout Src) (map n ss) ds
-src_over layout n ss [] none fits counted = refl
-src_over layout n [] (d ∷ ds) none fits counted = refl
-src_over layout n (s ∷ ss) (d ∷ ds) none fits counted =
-    ap (λ (l : List ℕ). l ∷ over (λ s _. s) (map n ss) ds) (src_pixel layout (n s) d none (fits s) (counted 0 (omega arith)))
-    ∙ ap (λ (l : List (List ℕ)). pixel_composite layout Src (n s) d ∷ l) (src_over layout n ss ds none fits (λ k h. counted (suc k) (omega arith)))

@@ -6,7 +6,7 @@ ghost use Rattle.pix_flat.specs.Command.{op_at, rectangle, command_of};
 ghost use Rattle.pix_flat.specs.Status.{fits, fault_of};
 
 use crate::command::{FlatCommand, PixRegion};
-use crate::copy::{CopiedColor, CopiedPixels, ReplacedPixels, see_channels};
+use crate::copy::{CopiedColor, CopiedPixels, see_channels};
 use crate::format::{Flat, FlatPixel};
 use crate::kind;
 use crate::operator::op_at;
@@ -194,7 +194,7 @@ fn composite_faded<
     );
 }
 
-/// Composites a command on a window of a picture. `Src` puts a source in the place of what is there, so without a matte it is copied.
+/// Composites a command on a window of a picture. `Src` puts a color in the place of what is there, so without a matte it is copied.
 fn paint_composite<
     P: Pixel<Alpha = Premultiplied, Gamma = Linear>,
     D: FlatPixel<P>,
@@ -208,25 +208,17 @@ fn paint_composite<
         (command_of command.now ∷ []))) }
 {
     let op = op_at(command.op);
-    let to = region_of(command.to);
-    let format = PhantomData;
     match (command.kind, op) {
         (kind::COMPOSITE_COLOR, Op::Src) => {
             let clr = command.color;
             see_channels::<P, D>(&clr);
-            fill_window(pixels, window, to, &CopiedColor { clr });
-        }
-        (kind::COMPOSITE_IMAGE, Op::Src) => {
-            let src_shape = source_shape(command);
-            let from = region_of(command.from);
-            let change = ReplacedPixels::<P> { format };
-            blit_window(pixels, window, to, command.pixels, src_shape, from, &change);
+            fill_window(pixels, window, region_of(command.to), &CopiedColor { clr });
         }
         _ => {
             let composite = Composite::<P, D, M> {
                 command,
                 window,
-                format,
+                format: PhantomData,
             };
             op.visit_slice(&composite, pixels);
         }
