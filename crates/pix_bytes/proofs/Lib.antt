@@ -10,4 +10,3 @@ pub mod LaneProducts
 pub mod LitFours
 pub mod Reciprocals16
 pub mod ConvertedPixels
-pub mod Painted

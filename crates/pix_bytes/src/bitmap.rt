@@ -8,11 +8,11 @@ use crate::bitmap::cross::cross_row;
 use crate::bitmap::format::Stored;
 use crate::bitmap::rows::Lines;
 
-pub(crate) mod cross;
-pub(crate) mod format;
+mod cross;
+mod format;
 mod four;
 mod fours;
-pub(crate) mod model;
+mod model;
 mod quotient;
 mod rows;
 mod sample;

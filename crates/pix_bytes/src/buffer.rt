@@ -1,15 +1,10 @@
 //! Buffers of pixels, converted from one format to another.
 ghost use Rattle.std.specs.Prelude.{◌≡◌, ◌≢◌, ◌+◌, ◌*◌, ◌<◌, ◌≤◌};
-ghost use Rattle.std.specs.Prelude.{ℕ, length, Some, slice_get, nat_eq, true, false};
+ghost use Rattle.std.specs.Prelude.{ℕ, length, Some, slice_get, nat_eq};
 ghost use Rattle.std.specs.Option.{option_map};
 ghost use Rattle.pix_bytes.specs.Formats.{BufferFormat, channels, channels_of, formats};
 ghost use Rattle.pix_bytes.specs.Converted.{IsConverted, conversion_status};
-ghost use Rattle.pix_bytes.specs.declared.bitmap.format.Depth.{Depth};
-ghost use Rattle.pix_bytes.specs.declared.bitmap.model.ModelName.{ModelName};
 
-use crate::bitmap::cross::cross_row;
-use crate::bitmap::format::{Depth, Stored};
-use crate::bitmap::model::ModelName;
 use crate::bitmap::{BAD_FORMAT, DONE};
 use crate::buffer::bytes::Bytes;
 use pix_chan::chan::{Alpha, Ch8, Gamma, Linear, Premultiplied, Srgb, Straight};
@@ -82,7 +77,7 @@ fn convert(from: u32, to: u32, src: &[u8], dst: &mut [u8], count: usize)
         0 => convert_from::<4, Rgb, Straight, Srgb>(to, src, dst, count),
         1 => convert_from::<4, Rgb, Premultiplied, Srgb>(to, src, dst, count),
         2 => convert_from::<4, Rgb, Straight, Linear>(to, src, dst, count),
-        3 => convert_painted(to, src, dst, count),
+        3 => convert_from::<4, Rgb, Premultiplied, Linear>(to, src, dst, count),
         4 => convert_from::<4, Bgr, Straight, Linear>(to, src, dst, count),
         5 => convert_from::<4, Bgr, Premultiplied, Linear>(to, src, dst, count),
         6 => convert_from::<3, Rgb, Straight, Linear>(to, src, dst, count),
@@ -92,49 +87,6 @@ fn convert(from: u32, to: u32, src: &[u8], dst: &mut [u8], count: usize)
         10 => convert_from::<3, Rgb, Straight, Srgb>(to, src, dst, count),
         11 => convert_from::<1, Gray, Straight, Srgb>(to, src, dst, count),
         _ => {}
-    }
-}
-
-/// Converts premultiplied linear pixels of red, green, blue and alpha to the format of number `to`.
-///
-/// To straight sRGB they go as those of bitmaps do, for which no opaque pixel is divided. Condition: there are `count` in both buffers.
-fn convert_painted(to: u32, src: &[u8], dst: &mut [u8], count: usize)
-    requires src { length src.now ≡ count * 4 }
-    requires dst { length dst.old ≡ count * channels_of to }
-    ensures { (format target : BufferFormat) → slice_get formats 3 ≡ Some format
-        → slice_get formats to ≡ Some target
-        → IsConverted format target count src.now dst.new }
-{
-    match to {
-        0 => cross_row(painted(), straight(ModelName::Rgb), src, dst, count),
-        8 => cross_row(painted(), straight(ModelName::Bgr), src, dst, count),
-        _ => convert_from::<4, Rgb, Premultiplied, Linear>(to, src, dst, count),
-    }
-}
-
-/// Returns the format of premultiplied linear pixels of red, green, blue and alpha.
-fn painted() -> Stored
-    ensures { result ≡ record { model = ModelName.Rgb; count = 4; is_premultiplied = true; depth = Depth.Linear8; spare = 0 } }
-{
-    Stored {
-        model: ModelName::Rgb,
-        count: 4,
-        is_premultiplied: true,
-        depth: Depth::Linear8,
-        spare: 0,
-    }
-}
-
-/// Returns the format of straight sRGB pixels of four channels of a model.
-fn straight(model: ModelName) -> Stored
-    ensures { result ≡ record { model = model; count = 4; is_premultiplied = false; depth = Depth.Srgb8; spare = 0 } }
-{
-    Stored {
-        model,
-        count: 4,
-        is_premultiplied: false,
-        depth: Depth::Srgb8,
-        spare: 0,
     }
 }
 
