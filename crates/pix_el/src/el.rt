@@ -187,9 +187,8 @@ pub trait Pixel: Copy + Default + PartialEq {
         D::Chan: From<Self::Chan>,
         Self::Gamma: Gamma<D::Chan>,
         requires few { D.layout.count ≤ D.layout.alpha + 1 }
-        ensures { D.numbers result ≡
-            converted format ⟦<Self::Gamma as Gamma<D::Chan>>⟧.mode D.format D.Gamma.mode
-            (numbers self) }
+        ensures { D.numbers result ≡ converted format
+            ⟦<Self::Gamma as Gamma<D::Chan>>⟧.mode D.format D.Gamma.mode (numbers self) }
     {
         if <Self::Model as ColorModel>::KIND == <D::Model as ColorModel>::KIND {
             converted_within::<Self, D>(self)
@@ -305,8 +304,7 @@ pub trait Pixel: Copy + Default + PartialEq {
             → IsPremultiplied layout (numbers self.old)
             → IsTrue (sum_fits O.op)
             → IsUncut layout O.op (matted_color layout (Self.Chan.number alpha.now)
-            (numbers src.now))
-            (numbers self.old) }
+            (numbers src.now)) (numbers self.old) }
 
         // A transparent source changes nothing under `SrcOver`, the hue included.
         ensures transparent { O.op ≡ Op.SrcOver
@@ -363,8 +361,7 @@ pub trait Pixel: Copy + Default + PartialEq {
         }
     }
 
-    /// Composites `clr` with each pixel of `dst` through the matte of `src` of the same index; the shorter length decides, and the
-    /// rest stays.
+    /// Composites `clr` with each pixel of `dst` through the matte of `src` at its index; the shorter length decides, the rest stays.
     ///
     /// Condition: the format has an alpha channel.
     ///
