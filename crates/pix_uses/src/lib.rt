@@ -1,5 +1,5 @@
 //! Callers of the library, as a user would write them: each is proved, and tried by a test of
-//! `pix_vectors`.
+//! `pix_callers`.
 #![tactic(auto)]
 
 pub mod bytes;

@@ -4,21 +4,15 @@
 #[cfg(test)]
 mod bounds;
 #[cfg(test)]
-mod callers;
-#[cfg(test)]
 mod channels;
 #[cfg(test)]
 mod color_tables;
 #[cfg(test)]
 mod conversions;
 #[cfg(test)]
-mod devices;
-#[cfg(test)]
 mod ends;
 #[cfg(test)]
 mod exact;
-#[cfg(test)]
-mod examples;
 #[cfg(test)]
 mod getters;
 #[cfg(test)]
@@ -32,8 +26,6 @@ mod kinds;
 #[cfg(test)]
 mod lanes;
 #[cfg(test)]
-mod lossless;
-#[cfg(test)]
 mod operators;
 #[cfg(test)]
 mod palettes;
@@ -46,11 +38,7 @@ mod premultiplied;
 #[cfg(test)]
 mod random_lists;
 #[cfg(test)]
-mod reports;
-#[cfg(test)]
 mod rgbas;
-#[cfg(test)]
-mod scripts;
 #[cfg(test)]
 mod sixteen_bits;
 #[cfg(test)]
