@@ -14,3 +14,4 @@ pub mod Entries
 pub mod SrgbTables
 pub mod SrgbOnce
 pub mod Srgb16
+pub mod SrgbLanes

@@ -1,12 +1,13 @@
 //! The sRGB transfer curve (IEC 61966-2-1) from channels of 8 bits to linear ones of 16 bits, and back: two tables.
 //!
 //! Each level comes back. That of the nearest level is proved for all 65,536 channels of 16 bits.
-ghost use Rattle.std.specs.Prelude.{◌≡◌, ℕ, ◌≤◌, ◌<◌, slice_index_or};
+ghost use Rattle.std.specs.Prelude.{◌≡◌, ℕ, ◌≤◌, ◌<◌, ◌/◌, map, slice_index_or};
 ghost use Rattle.pix_chan.specs.declared.chan.srgb16.TheConstants.{LEVELS};
 ghost use Rattle.pix_chan.specs.Srgb16.{srgb_decoded16, srgb_encoded8, IsCurve16};
 ghost use Rattle.pix_chan.specs.SrgbCurve.{IsNearestDecoded, IsNearestEncoded};
 
 use crate::chan::{Ch8, Ch16};
+use std::simd::prelude::*;
 
 /// The linear channel of 16 bits that each sRGB channel of 8 bits encodes: the nearest to the curve, computed exactly.
 pub(crate) const DECODE16: [u16; 256] = [
@@ -298,6 +299,40 @@ fn entry(sixteen: usize) -> u32
     u32::from(LEVELS[sixteen])
 }
 
+/// Returns the entry of `LEVELS` for the sixteen channels that this one is among.
+#[inline(always)]
+fn entry_of(channel: u16) -> u16
+    ensures { result ≡ slice_index_or LEVELS (channel / 16) 0 }
+{
+    entry(usize::from(channel / 16)) as u16
+}
+
+/// Returns the entry of `LEVELS` for each channel.
+#[inline(always)]
+fn entries(channels: u16x16) -> u16x16
+    ensures { result ≡ map (λ x. slice_index_or LEVELS (x / 16) 0) channels }
+{
+    let c = channels.to_array();
+    u16x16::from_array([
+        entry_of(c[0]),
+        entry_of(c[1]),
+        entry_of(c[2]),
+        entry_of(c[3]),
+        entry_of(c[4]),
+        entry_of(c[5]),
+        entry_of(c[6]),
+        entry_of(c[7]),
+        entry_of(c[8]),
+        entry_of(c[9]),
+        entry_of(c[10]),
+        entry_of(c[11]),
+        entry_of(c[12]),
+        entry_of(c[13]),
+        entry_of(c[14]),
+        entry_of(c[15]),
+    ])
+}
+
 impl Ch8 {
     /// Returns the linear channel of 16 bits that the sRGB curve encodes as this one.
     ///
@@ -338,5 +373,15 @@ impl Ch16 {
     {
         let channel = u16::from(self);
         Ch8::new(((entry(usize::from(channel / 16)) + u32::from(channel % 16)) / 16) as u8)
+    }
+
+    /// Returns, of sixteen linear channels of 16 bits, each as the sRGB curve encodes it in 8 bits: the nearest level.
+    #[doc(hidden)]
+    #[inline(always)]
+    pub fn encode_srgb8_lanes(channels: u16x16) -> u16x16
+        ensures { result ≡ map srgb_encoded8 channels }
+    {
+        let sums = entries(channels) + (channels & u16x16::splat(15));
+        sums >> u16x16::splat(4)
     }
 }
