@@ -1,7 +1,8 @@
 //! The sRGB transfer curve (IEC 61966-2-1) from channels of 8 bits to linear ones of 16 bits, and back: two tables.
 //!
 //! Each level comes back. That of the nearest level is proved for all 65,536 channels of 16 bits.
-ghost use Rattle.std.specs.Prelude.{◌≡◌, ℕ, ◌≤◌, ◌<◌, ◌/◌, map, slice_index_or};
+ghost use Rattle.std.specs.Prelude.{◌≡◌, ℕ, ◌≤◌, ◌<◌, ◌*◌, ◌/◌, ◌%◌, ◌^◌, map, slice_index_or};
+ghost use Rattle.std.specs.Simd.Lanes.{number_l, digits_l};
 ghost use Rattle.pix_chan.specs.declared.chan.srgb16.TheConstants.{LEVELS};
 ghost use Rattle.pix_chan.specs.Srgb16.{srgb_decoded16, srgb_encoded8, IsCurve16};
 ghost use Rattle.pix_chan.specs.SrgbCurve.{IsNearestDecoded, IsNearestEncoded};
@@ -299,37 +300,48 @@ fn entry(sixteen: usize) -> u32
     u32::from(LEVELS[sixteen])
 }
 
-/// Returns the entry of `LEVELS` for the sixteen channels that this one is among.
+/// Returns sixteen channels of 16 bits as four words, the first channel of each lowest.
 #[inline(always)]
-fn entry_of(channel: u16) -> u16
-    ensures { result ≡ slice_index_or LEVELS (channel / 16) 0 }
+fn words(channels: u16x16) -> [u64; 4]
+    ensures { result ≡ digits_l (2 ^ 64) 4 (number_l (2 ^ 16) channels) }
 {
-    entry(usize::from(channel / 16)) as u16
+    u64x4::from_le_bytes(channels.to_le_bytes()).to_array()
+}
+
+/// Returns the entry of `LEVELS` whose number stands in a word from a bit on.
+#[inline(always)]
+fn entry_at(word: u64, bit: u64) -> u16
+    requires { bit < 64 }
+    ensures { result ≡ slice_index_or LEVELS (word / 2 ^ bit % 4096) 0 }
+{
+    entry(((word >> bit) % 4096) as usize) as u16
 }
 
 /// Returns the entry of `LEVELS` for each channel.
+///
+/// A word is taken out of a vector once for its four channels.
 #[inline(always)]
 fn entries(channels: u16x16) -> u16x16
     ensures { result ≡ map (λ x. slice_index_or LEVELS (x / 16) 0) channels }
 {
-    let c = channels.to_array();
+    let w = words(channels);
     u16x16::from_array([
-        entry_of(c[0]),
-        entry_of(c[1]),
-        entry_of(c[2]),
-        entry_of(c[3]),
-        entry_of(c[4]),
-        entry_of(c[5]),
-        entry_of(c[6]),
-        entry_of(c[7]),
-        entry_of(c[8]),
-        entry_of(c[9]),
-        entry_of(c[10]),
-        entry_of(c[11]),
-        entry_of(c[12]),
-        entry_of(c[13]),
-        entry_of(c[14]),
-        entry_of(c[15]),
+        entry_at(w[0], 4),
+        entry_at(w[0], 20),
+        entry_at(w[0], 36),
+        entry_at(w[0], 52),
+        entry_at(w[1], 4),
+        entry_at(w[1], 20),
+        entry_at(w[1], 36),
+        entry_at(w[1], 52),
+        entry_at(w[2], 4),
+        entry_at(w[2], 20),
+        entry_at(w[2], 36),
+        entry_at(w[2], 52),
+        entry_at(w[3], 4),
+        entry_at(w[3], 20),
+        entry_at(w[3], 36),
+        entry_at(w[3], 52),
     ])
 }
 
