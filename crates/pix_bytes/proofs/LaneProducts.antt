@@ -13,7 +13,7 @@ use Rattle.pix_chan.proofs.Lanes.{add, mul, shr, same, pairs, firsts, seconds, l
 
 -- of a product p: the upper half of p + 32768, its lower half, and the sum of both without the carry
 abbrev upper : ℕ → ℕ
-upper p = (p % 2 ^ 32 / 2 ^ 16 + p % 2 ^ 16 / 2 ^ 15) % 2 ^ 16
+upper p = (p / 65536 + p % 2 ^ 16 / 2 ^ 15) % 2 ^ 16
 
 abbrev lower : ℕ → ℕ
 lower p = (p % 2 ^ 16 + 32768) % 2 ^ 16
@@ -22,13 +22,13 @@ abbrev both : ℕ → ℕ
 both p = (lower p + upper p) % 2 ^ 16
 
 -- a one where a test holds
-abbrev one_if : Bool → ℕ
+abbrev pub one_if : Bool → ℕ
 one_if t = cond t 1 0
 
 abbrev rounded : ℕ → ℕ
 rounded p = (upper p + one_if (ltb (both p) (lower p))) % 2 ^ 16
 
-halves : (p h l : ℕ) → p ≡ 65536 * h + l → l < 65536 → h < 65535 → (p % 2 ^ 32 / 2 ^ 16 ≡ h) × (p % 2 ^ 16 ≡ l)
+halves : (p h l : ℕ) → p ≡ 65536 * h + l → l < 65536 → h < 65535 → (p / 65536 ≡ h) × (p % 2 ^ 16 ≡ l)
 halves p h l e a b = (omega (arith, e, a, b), omega (arith, e, a, b))
 
 up_is : (h l : ℕ) → h < 65535 → l < 65536 → (h + l / 2 ^ 15) % 2 ^ 16 ≡ (65536 * h + l + 32768) / 65536
@@ -61,18 +61,21 @@ rounds p most =
 below : (x y : ℕ) → x < 65536 → y < 65536 → x * y ≤ 4294836225
 below x y a b = let k : x * y ≤ 65535 * 65535 = mul-le-mul {n₁ = x} {m₁ = y} {n₂ = 65535} {m₂ = 65535} (omega arith) (omega arith) in omega arith
 
+high_is : (x y : ℕ) → x < 65536 → y < 65536 → x * y % 2 ^ 32 / 2 ^ 16 ≡ x * y / 65536
+high_is x y a b = let most = below x y a b in omega (arith, most)
+
 lane_is : (x y : ℕ) → x < 65536 → y < 65536 → rounded (x * y) ≡ channel_product 65535 x y
 unfolding channel_product
 lane_is x y a b = rounds (x * y) (below x y a b)
 
-abbrev ones : ℕ → List ℕ
+abbrev pub ones : ℕ → List ℕ
 ones n = replicate n 1
 
-abbrev zeros : ℕ → List ℕ
+abbrev pub zeros : ℕ → List ℕ
 zeros n = replicate n 0
 
 -- a one where a test of two lanes holds
-chosen : (t : ℕ → ℕ → Bool) (n : ℕ) (xs ys : List ℕ) → length xs ≡ n → sel_l (zip2 t xs ys) (ones n) (zeros n) ≡ zip2 (λ x y. one_if (t x y)) xs ys
+pub chosen : (t : ℕ → ℕ → Bool) (n : ℕ) (xs ys : List ℕ) → length xs ≡ n → sel_l (zip2 t xs ys) (ones n) (zeros n) ≡ zip2 (λ x y. one_if (t x y)) xs ys
 chosen t zero [] ys l = refl
 chosen t zero (x ∷ xs) ys l = absurd (omega (arith, l))
 chosen t (suc n) [] ys l = refl
@@ -93,8 +96,11 @@ module _ (a b : List ℕ) (la : length a ≡ 16) (lb : length b ≡ 16) where
   abbrev lows : List ℕ
   lows = zip2 (mul (2 ^ 16)) a b
 
+  abbrev highs : List ℕ
+  highs = zip2 (λ x y. x * y / 65536) a b
+
   abbrev uppers : List ℕ
-  uppers = zip2 (add (2 ^ 16)) (map same high_halves) (zip2 shr lows (replicate 16 15))
+  uppers = zip2 (add (2 ^ 16)) highs (zip2 shr lows (replicate 16 15))
 
   abbrev lowers : List ℕ
   lowers = zip2 (add (2 ^ 16)) lows (replicate 16 32768)
@@ -121,14 +127,18 @@ module _ (a b : List ℕ) (la : length a ≡ 16) (lb : length b ≡ 16) where
       let y = ap (map same) two ∙ map-map same (λ (v : ℕ × ℕ). v.1) vs in
       zip2_of_maps shr _ _ vs (zip2_of_maps (mul (2 ^ 32)) _ _ vs x y) (splat_is_map vs 16 16 long)
 
+  pub highs_are : Each1 (Fits w16) a → Each1 (Fits w16) b → map same high_halves ≡ highs
+  highs_are fa fb =
+      ap (map same) high_halves_are ∙ map-map same (λ (v : ℕ × ℕ). v.0 * v.1 % 2 ^ 32 / 2 ^ 16) (pairs a b)
+      ∙ map_pairs (Fits w16) (Fits w16) (λ v. v.0 * v.1 % 2 ^ 32 / 2 ^ 16) (λ x y. x * y / 65536) (λ i j u k. high_is i j u.fits k.fits) a b (la ∙ sym lb) fa fb
+
   lows_are : lows ≡ map (λ v. v.0 * v.1 % 2 ^ 16) (pairs a b)
   lows_are = zip2_of_maps (mul (2 ^ 16)) _ _ (pairs a b) one two
 
   uppers_are : uppers ≡ map (λ v. upper (v.0 * v.1)) (pairs a b)
   uppers_are =
       let vs = pairs a b in
-      let h = ap (map same) high_halves_are ∙ map-map same (λ (v : ℕ × ℕ). v.0 * v.1 % 2 ^ 32 / 2 ^ 16) vs in
-      zip2_of_maps (add (2 ^ 16)) _ _ vs h (zip2_of_maps shr _ _ vs lows_are (splat_is_map vs 16 15 long))
+      zip2_of_maps (add (2 ^ 16)) _ _ vs (zip2_of_maps (λ x y. x * y / 65536) _ _ vs one two) (zip2_of_maps shr _ _ vs lows_are (splat_is_map vs 16 15 long))
 
   lowers_are : lowers ≡ map (λ v. lower (v.0 * v.1)) (pairs a b)
   lowers_are = zip2_of_maps (add (2 ^ 16)) _ _ (pairs a b) lows_are (splat_is_map (pairs a b) 16 32768 long)

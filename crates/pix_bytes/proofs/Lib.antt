@@ -10,3 +10,4 @@ pub mod LaneProducts
 pub mod LitFours
 pub mod Reciprocals16
 pub mod ConvertedPixels
+pub mod ShownFours

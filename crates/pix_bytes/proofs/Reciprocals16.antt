@@ -86,13 +86,13 @@ raised : (c k : ℕ) → c * 65536 * k ≡ 65536 * (c * k)
 raised c k = grind arith
 
 -- the quotient of a channel and an alpha of eight bits
-by_byte : (c b : ℕ) → c < 65536 → 0 < b → b < 256 → c * (whole / (257 * b) + 1) / 4294967296 ≡ c * 65536 / (257 * b)
+pub by_byte : (c b : ℕ) → c < 65536 → 0 < b → b < 256 → c * (whole / (257 * b) + 1) / 4294967296 ≡ c * 65536 / (257 * b)
 by_byte c b hc some hb =
     let d : ℕ = 257 * b in
     let k : ℕ = whole / d + 1 in
     sym (scaled (c * k)) ∙ ap (λ (n : ℕ). n / whole) (sym (raised c k)) ∙ by_reciprocal (c * 65536) d (omega (arith, hc)) (omega (arith, some)) (omega (arith, hb))
 
-cut : (x y : ℕ) → 0 < y → min (65536 * x / y) 65535 ≡ channel_quotient 65535 x y
+pub cut : (x y : ℕ) → 0 < y → min (65536 * x / y) 65535 ≡ channel_quotient 65535 x y
 cut x zero some = absurd (omega (arith, some))
 cut x (suc y) some = omega arith
 

@@ -7,3 +7,4 @@ pub mod Bitmap
 pub mod Table
 pub mod Lit
 pub mod Converted
+pub mod Shown

@@ -12,6 +12,7 @@ mod cross;
 mod format;
 mod four;
 mod fours;
+mod levels;
 mod model;
 mod quotient;
 mod rows;

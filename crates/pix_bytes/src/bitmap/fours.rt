@@ -2,7 +2,7 @@
 //!
 //! The colors of each are looked up as those of an opaque pixel. Where not all four are opaque, their sixteen channels are then multiplied by
 //! the alphas.
-ghost use Rattle.std.specs.Prelude.{◌≡◌, ◌≤◌, ◌<◌, ◌*◌, length, slice_index_or, true};
+ghost use Rattle.std.specs.Prelude.{◌≡◌, ◌≤◌, ◌<◌, ◌*◌, ◌/◌, length, slice_index_or, true};
 ghost use Rattle.std.specs.Simd.Lanes.{zip2};
 ghost use Rattle.pix_chan.specs.Product.{channel_product};
 ghost use Rattle.pix_chan.specs.Srgb16.{srgb_decoded16};
@@ -13,6 +13,15 @@ ghost use Rattle.pix_bytes.specs.Rows.{IsEach};
 use pix_chan::chan::Ch8;
 use std::simd::prelude::*;
 
+/// Returns the upper halves of the products of the lanes.
+#[inline(always)]
+pub(super) fn high_products(x: u16x16, y: u16x16) -> u16x16
+    ensures { result ≡ zip2 (λ x y. x * y / 65536) x y }
+{
+    let whole = x.cast::<u32>() * y.cast::<u32>();
+    (whole >> u32x16::splat(16)).cast::<u16>()
+}
+
 /// Returns the channel products of the lanes.
 ///
 /// With t = x y + 32768, the product is the upper half of t and, where the sum of both halves carries, one more.
@@ -21,8 +30,7 @@ fn products(x: u16x16, y: u16x16) -> u16x16
     ensures { result ≡ zip2 (channel_product 65535) x y }
 {
     let low = x * y;
-    let whole = x.cast::<u32>() * y.cast::<u32>();
-    let upper = (whole >> u32x16::splat(16)).cast::<u16>() + (low >> u16x16::splat(15));
+    let upper = high_products(x, y) + (low >> u16x16::splat(15));
     let lower = low + u16x16::splat(32768);
     let sum = lower + upper;
     upper

@@ -269,7 +269,7 @@ const RECIPROCALS: [u64; 256] = [
 
 /// Returns the entry of `RECIPROCALS`. Condition: `b` is below 256.
 #[inline(always)]
-fn reciprocal(b: usize) -> u64
+pub(super) fn reciprocal(b: usize) -> u64
     requires { b < 256 }
     ensures value { result ≡ slice_index_or RECIPROCALS b 0 }
     ensures fits { result < 2 ^ 41 }

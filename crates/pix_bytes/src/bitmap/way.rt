@@ -14,6 +14,7 @@ ghost use Rattle.pix_bytes.specs.Stored.{sample_size};
 use crate::bitmap::format::Stored;
 use crate::bitmap::four::Four;
 use crate::bitmap::fours::decode_fours;
+use crate::bitmap::levels::encode_fours;
 use crate::bitmap::model::ModelName::{Bgr, Rgb};
 use crate::bitmap::model::{Colored, into_rgb, out_of_rgb};
 use crate::bitmap::quotient::quotient;
@@ -409,12 +410,21 @@ impl Way<Ch16, Ch8> for OutOfLight {
     #[inline(always)]
     fn go_ahead(
         &self,
-        _from: Stored,
-        _to: Stored,
-        _src: &[u8],
-        _dst: &mut [u8],
-        _count: usize,
+        from: Stored,
+        to: Stored,
+        src: &[u8],
+        dst: &mut [u8],
+        count: usize,
     ) -> usize {
+        if !from.has(Rgb, 4, true, 0) {
+            return 0;
+        }
+        if to.has(Rgb, 4, false, 0) {
+            return encode_fours(false, src, dst, count);
+        }
+        if to.has(Bgr, 4, false, 0) {
+            return encode_fours(true, src, dst, count);
+        }
         0
     }
 }

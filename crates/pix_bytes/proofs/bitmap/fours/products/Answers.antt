@@ -1,14 +1,6 @@
--- Of `products`: that it meets its contract, and that its numbers fit.
-use Rattle.std.proofs.Common.{subst, sym, Fits}
-use mir.Syntax.{w16}
-use lib.Lanes.{Each1}
-use Rattle.pix_chan.proofs.Lanes.{pairs}
-use Rattle.pix_bytes.proofs.LaneProducts.{high_halves_are, Each1-halves, products_are}
+-- Of `products`: that it meets its contract.
+use Rattle.pix_bytes.proofs.LaneProducts.{products_are}
 use Rattle.pix_bytes.proofs.bitmap.fours.products.Goals as goal
 
-pub overflow_cast-upper : goal.overflow_cast-upper
-overflow_cast-upper c =
-    subst (Each1 (Fits w16)) (sym (high_halves_are c.args.x c.args.y c.fits-x.0 c.fits-y.0)) (Each1-halves (pairs c.args.x c.args.y))
-
 pub returns : goal.returns
-returns c = products_are c.args.x c.args.y c.fits-x.0 c.fits-y.0 c.fits-x.1 c.fits-y.1
+returns c = rw c.high_products.ensures (products_are c.args.x c.args.y c.fits-x.0 c.fits-y.0 c.fits-x.1 c.fits-y.1)
