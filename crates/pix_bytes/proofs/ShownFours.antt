@@ -1,23 +1,22 @@
 -- Four pixels of light, in one vector and in bytes.
-use Rattle.std.proofs.Common.{◌≡◌, ℕ, zero, suc, ◌≤◌, ◌<◌, ◌+◌, ◌-◌, ◌*◌, ◌/◌, ◌%◌, ◌^◌, List, [], ◌∷◌, ◌++◌, length, map, get_or, slice_range, refl, sym, ap, ◌∙◌, arith, inl, inr, replicate, Fits, Bool, true, false, cond, ltb, leb, min}
+use Rattle.std.proofs.Common.{◌≡◌, ℕ, zero, suc, ◌≤◌, ◌<◌, ◌+◌, ◌-◌, ◌*◌, ◌/◌, ◌%◌, ◌^◌, List, [], ◌∷◌, ◌++◌, length, map, get_or, slice_range, refl, sym, ap, ◌∙◌, arith, inl, inr, replicate, Fits, Bool, true, false, cond, ltb, leb, eqb, eqb-true, drop, min}
 use mir.Syntax.{w8, w16, w64}
 use mir.Val.{hbits, bits}
-use lib.Lanes.{zip2, Each1, chunk, number_l, digits_l, sel_l, top, pick_l}
-use Rattle.std.specs.List.{range_with_len}
+use lib.Lanes.{zip2, Each1, chunk, number_l, digits_l, sel_l, top, pick_l, mask_l}
 use Rattle.std.proofs.lemmas.Grind.{same_number_lists}
 use Rattle.std.proofs.lemmas.Bool.{cases_lt}
 use Rattle.std.proofs.lemmas.Bool.Decides.{nat_tests}
-use Rattle.std.proofs.lemmas.List.{length-map}
+use Rattle.std.proofs.lemmas.List.{length-map, map-id}
 use Rattle.std.proofs.lemmas.List.FromFn.{length-map-range_with_len, get_or-map-range_with_len}
-use Rattle.std.proofs.lemmas.Simd.{get_or_wider, get_or-chunk, length-chunk, tops_compared, zip2_of_maps, map-map, below_from_Fits}
+use Rattle.std.proofs.lemmas.Simd.{get_or_wider, get_or-chunk, length-chunk, bitmask_splat, tops_compared, zip2_of_maps, splat_is_map, map-map, below_from_Fits}
 use Rattle.std.proofs.Math.Nat.{mul-le-mul, div-add-mod', mod-lt}
 use Rattle.std.proofs.lemmas.Nat.{mul-le}
 use Rattle.pix_chan.specs.Product.{channel_quotient}
 use Rattle.pix_chan.specs.Srgb16.{srgb_encoded8}
-use Rattle.pix_chan.proofs.Lanes.{add, mul, pairs, firsts, seconds, length-pairs, map_pairs}
+use Rattle.pix_chan.proofs.Lanes.{add, mul, shr, pairs, firsts, seconds, length-pairs, map_pairs}
 use Rattle.pix_chan.proofs.Planes.{cons}
 use Rattle.pix_chan.proofs.Srgb16.{curve}
-use Rattle.pix_bytes.specs.Shown.{shown, straight_light, light_alphas, for_each_channel, reciprocal_of, parts, shown_bytes}
+use Rattle.pix_bytes.specs.Shown.{shown, reciprocal_of, parts, shown_bytes}
 use Rattle.pix_chan.specs.Modes.{Straight, Premultiplied}
 use Rattle.pix_el.specs.Conversion.{at_depth}
 use Rattle.pix_el.specs.Model.{Rgb, Bgr}
@@ -276,22 +275,52 @@ reciprocals_fit (a ∷ bs) =
     let fits = entry_fits (a % 256) (omega arith) in
     (omega (arith, fits), reciprocals_fit bs)
 
--- ---- one fact for each channel of four pixels
-pub each_channel : (P : ℕ → Type 0) (a b c d : ℕ) → P a → P b → P c → P d → Each1 P (for_each_channel a b c d)
-each_channel P a b c d e f g h = (e, (e, (e, (e, (f, (f, (f, (f, (g, (g, (g, (g, (h, (h, (h, (h, tt))))))))))))))))
+-- ---- tests of all lanes
+mask_full : (n : ℕ) (ms : List Bool) → length ms ≡ n → suc (mask_l ms) ≡ 2 ^ n → Each1 (λ m. m ≡ true) ms
+mask_full n [] l e = tt
+mask_full zero (m ∷ ms) l e = absurd (omega (arith, l))
+mask_full (suc n) (true ∷ ms) l e =
+    let p : 2 ^ suc n ≡ 2 * 2 ^ n = grind arith in
+    (refl, mask_full n ms (omega (arith, l)) (omega (arith, e, p)))
+mask_full (suc n) (false ∷ ms) l e =
+    let p : 2 ^ suc n ≡ 2 * 2 ^ n = grind arith in
+    absurd (omega (arith, e, p))
 
-pub opaque_alphas : (a b c d : ℕ) → a ≡ 65535 → b ≡ 65535 → c ≡ 65535 → d ≡ 65535 → replicate 16 65535 ≡ for_each_channel a b c d
-opaque_alphas a b c d e f g h = rw (e, f, g, h) refl
+all_equal : (n v : ℕ) (xs : List ℕ) → length xs ≡ n → Each1 (λ m. m ≡ true) (map (λ x. eqb x v) xs) → xs ≡ replicate n v
+all_equal zero v [] l f = refl
+all_equal zero v (x ∷ xs) l f = absurd (omega (arith, l))
+all_equal (suc n) v [] l f = absurd (omega (arith, l))
+all_equal (suc n) v (x ∷ xs) l f = cons (eqb-true x v f.0) (all_equal n v xs (omega (arith, l)) f.1)
+
+pub all_are : (xs : List ℕ) (v : ℕ) → length xs ≡ 16 → mask_l (map (top (hbits w16)) (zip2 (λ x y. cond (eqb x y) (2 ^ bits w16 - 1) 0) xs (replicate 16 v))) % 2 ^ 64 ≡ 65535
+    → xs ≡ replicate 16 v
+all_are xs v l e =
+    let mask = sym (bitmask_splat w16 eqb xs 16 v l (omega arith)) ∙ e in
+    all_equal 16 v xs l (mask_full 16 (map (λ x. eqb x v) xs) (length-map xs (λ x. eqb x v) ∙ l) (ap suc mask))
+
+abbrev beside : ℕ → ℕ
+beside a = (a + (65536 - a / 2 ^ 8 * 257 % 2 ^ 16)) % 65536
+
+pub beside_are : (xs : List ℕ) → length xs ≡ 16
+    → zip2 (λ x y. (x + (65536 - y)) % 65536) xs (zip2 (mul (2 ^ 16)) (zip2 shr xs (replicate 16 8)) (replicate 16 257)) ≡ map beside xs
+beside_are xs l =
+    let lane = sym (map-id xs) in
+    let uppers = zip2_of_maps shr _ _ xs lane (splat_is_map xs 16 8 l) in
+    zip2_of_maps (λ x y. (x + (65536 - y)) % 65536) _ _ xs lane (zip2_of_maps (mul (2 ^ 16)) _ _ xs uppers (splat_is_map xs 16 257 l))
+
+repeated_lane : (a : ℕ) → a < 65536 → beside a ≡ 0 → a ≡ 257 * (a % 256)
+repeated_lane a h e = omega (arith, h, e)
+
+pub each_repeated : (n : ℕ) (xs : List ℕ) → Each1 (Fits w16) xs → map beside xs ≡ replicate n 0 → Each1 (λ a. a ≡ 257 * (a % 256)) xs
+each_repeated n [] f e = tt
+each_repeated zero (x ∷ xs) f e = absurd (let l = ap length e in omega (arith, l))
+each_repeated (suc n) (x ∷ xs) f e =
+    (repeated_lane x f.0.fits (ap (λ (l : List ℕ). get_or l 0 0) e), each_repeated n xs f.1 (ap (drop 1) e))
 
 -- ---- levels and alphas fit eight bits
-quotient_fits : (x a : ℕ) → channel_quotient 65535 x a < 65536
-quotient_fits x zero = omega arith
-quotient_fits x (suc a) = omega arith
-
-levels_fit : (xs bs : List ℕ) → Each1 (Fits w8) (map srgb_encoded8 (zip2 (channel_quotient 65535) xs bs))
-levels_fit [] bs = tt
-levels_fit (x ∷ xs) [] = tt
-levels_fit (x ∷ xs) (b ∷ bs) = (record { fits = curve.encoded_fits (channel_quotient 65535 x b) (quotient_fits x b) }, levels_fit xs bs)
+levels_fit : (xs : List ℕ) → Each1 (Fits w16) xs → Each1 (Fits w8) (map srgb_encoded8 xs)
+levels_fit [] f = tt
+levels_fit (x ∷ xs) f = (record { fits = curve.encoded_fits x f.0.fits }, levels_fit xs f.1)
 
 uppers_fit : (xs : List ℕ) → Each1 (Fits w16) xs → Each1 (Fits w8) (map (λ x. x / 256) xs)
 uppers_fit [] f = tt
@@ -310,11 +339,11 @@ picks_fit : (xs ks : List ℕ) → Each1 (Fits w8) xs → Each1 (Fits w8) (pick_
 picks_fit xs [] f = tt
 picks_fit xs (k ∷ ks) f = (one_fits xs k f, picks_fit xs ks f)
 
-pub shown_fit : (bytes ks : List ℕ) → ((i : ℕ) → Fits w8 (get_or bytes i 0))
-    → Each1 (Fits w8) (pick_l 0 (map srgb_encoded8 (straight_light bytes) ++ map (λ x. x / 256) (samples 65535 16 bytes)) ks)
-shown_fit bytes ks f =
-    picks_fit (map srgb_encoded8 (straight_light bytes) ++ map (λ x. x / 256) (samples 65535 16 bytes)) ks
-    (both_fit (map srgb_encoded8 (straight_light bytes)) (map (λ x. x / 256) (samples 65535 16 bytes)) (levels_fit (samples 65535 16 bytes) (light_alphas bytes)) (uppers_fit (samples 65535 16 bytes) (samples_fit bytes (range_with_len 0 16) f)))
+pub encoded_fit : (straight xs ks : List ℕ) → Each1 (Fits w16) straight → Each1 (Fits w16) xs
+    → Each1 (Fits w8) (pick_l 0 (map srgb_encoded8 straight ++ map (λ x. x / 256) xs) ks)
+encoded_fit straight xs ks f g =
+    picks_fit (map srgb_encoded8 straight ++ map (λ x. x / 256) xs) ks
+    (both_fit (map srgb_encoded8 straight) (map (λ x. x / 256) xs) (levels_fit straight f) (uppers_fit xs g))
 
 -- ---- four pixels in bytes
 pixel_at : (src : List ℕ) (start k : ℕ) → k < 4

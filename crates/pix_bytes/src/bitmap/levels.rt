@@ -1,7 +1,7 @@
 //! Pixels of light, of colors multiplied by an alpha in 16 bits, as sRGB of red, green, blue and alpha, or blue, green, red and alpha, four at a time.
 //!
 //! Where not all four are opaque, their colors are divided by the alphas: all at once where these come from eight bits, and else one by one.
-ghost use Rattle.std.specs.Prelude.{◌≡◌, ◌≤◌, ◌<◌, ◌+◌, ◌*◌, ◌/◌, ◌%◌, ◌^◌, ◌++◌, ℕ, List, map, length, true};
+ghost use Rattle.std.specs.Prelude.{◌≡◌, ◌≤◌, ◌<◌, ◌+◌, ◌*◌, ◌/◌, ◌%◌, ◌^◌, ◌++◌, ℕ, List, map, length, replicate, true};
 ghost use Rattle.std.specs.Simd.Lanes.{zip2, Each1, pick_l, number_l, digits_l};
 ghost use Rattle.pix_chan.specs.Product.{channel_quotient};
 ghost use Rattle.pix_chan.specs.Srgb16.{srgb_encoded8};
@@ -24,47 +24,39 @@ fn channels(bytes: &[u8]) -> u16x16
     u16x16::from_le_bytes(u8x32::from_slice(bytes))
 }
 
-/// Returns the alpha of the pixel of a number. Condition: there are four pixels.
+/// Returns the alphas of four pixels, each once for each channel of its pixel.
 #[inline(always)]
-fn alpha(bytes: &[u8], number: usize) -> u16
+fn alphas(channels: u16x16) -> u16x16
+    ensures { result ≡ pick_l 0 (channels ++ channels) (for_each_channel 3 7 11 15) }
+{
+    channels.swizzle([3, 3, 3, 3, 7, 7, 7, 7, 11, 11, 11, 11, 15, 15, 15, 15])
+}
+
+/// Returns whether all lanes have this value.
+#[inline(always)]
+fn are_all(lanes: u16x16, value: u16) -> bool
+    ensures { result ≡ true → lanes ≡ replicate 16 value }
+{
+    lanes.simd_eq(u16x16::splat(value)).to_bitmask() == 65535
+}
+
+/// Returns whether all alphas come from eight bits.
+#[inline(always)]
+fn are_repeated(alphas: u16x16) -> bool
+    ensures { result ≡ true → Each1 (λ a. a ≡ 257 * (a % 256)) alphas }
+{
+    let uppers = alphas >> u16x16::splat(8);
+    are_all(alphas - uppers * u16x16::splat(257), 0)
+}
+
+/// Returns the lower byte of the alpha of the pixel of a number. Condition: there are four pixels.
+#[inline(always)]
+fn lower_alpha(bytes: &[u8], number: usize) -> u8
     requires whole { length bytes.now ≡ 32 }
     requires fits { number < 4 }
-    ensures { result ≡ light_alpha bytes.now number }
+    ensures { result ≡ light_alpha bytes.now number % 256 }
 {
-    u16::from(Ch16::read(bytes, 4 * number + 3))
-}
-
-/// Returns whether four pixels are opaque. Condition: they have thirty-two bytes.
-#[inline(always)]
-fn are_opaque(bytes: &[u8]) -> bool
-    requires { length bytes.now ≡ 32 }
-    ensures { result ≡ true → (number : ℕ) → number < 4 → light_alpha bytes.now number ≡ 65535 }
-{
-    alpha(bytes, 0) == 65535
-        && alpha(bytes, 1) == 65535
-        && alpha(bytes, 2) == 65535
-        && alpha(bytes, 3) == 65535
-}
-
-/// Returns whether an alpha comes from eight bits.
-#[inline(always)]
-fn is_repeated(alpha: u16) -> bool
-    ensures { result ≡ true → alpha ≡ 257 * (alpha % 256) }
-{
-    alpha / 256 == alpha % 256
-}
-
-/// Returns whether the alphas of four pixels come from eight bits. Condition: they have thirty-two bytes.
-#[inline(always)]
-fn are_repeated(bytes: &[u8]) -> bool
-    requires { length bytes.now ≡ 32 }
-    ensures { result ≡ true → (number : ℕ) → number < 4
-        → light_alpha bytes.now number ≡ 257 * (light_alpha bytes.now number % 256) }
-{
-    is_repeated(alpha(bytes, 0))
-        && is_repeated(alpha(bytes, 1))
-        && is_repeated(alpha(bytes, 2))
-        && is_repeated(alpha(bytes, 3))
+    bytes[2 * (4 * number + 3)]
 }
 
 /// Returns four words, each in four parts.
@@ -83,10 +75,10 @@ fn reciprocals(bytes: &[u8]) -> u16x16
         ++ (parts (reciprocal_of (light_alpha bytes.now 2)) ++ parts (reciprocal_of (light_alpha bytes.now 3)))) }
 {
     in_parts(u64x4::from_array([
-        reciprocal(usize::from(alpha(bytes, 0) % 256)),
-        reciprocal(usize::from(alpha(bytes, 1) % 256)),
-        reciprocal(usize::from(alpha(bytes, 2) % 256)),
-        reciprocal(usize::from(alpha(bytes, 3) % 256)),
+        reciprocal(usize::from(lower_alpha(bytes, 0))),
+        reciprocal(usize::from(lower_alpha(bytes, 1))),
+        reciprocal(usize::from(lower_alpha(bytes, 2))),
+        reciprocal(usize::from(lower_alpha(bytes, 3))),
     ]))
 }
 
@@ -109,17 +101,15 @@ fn scaled(x: u16x16, low: u16x16, middle: u16x16, high: u16x16) -> u16x16
 #[inline(always)]
 fn divided(bytes: &[u8]) -> u16x16
     requires whole { length bytes.now ≡ 32 }
-    requires repeated { (number : ℕ) → number < 4
-        → light_alpha bytes.now number ≡ 257 * (light_alpha bytes.now number % 256) }
+    requires repeated { Each1 (λ a. a ≡ 257 * (a % 256)) (light_alphas bytes.now) }
     ensures { result ≡ straight_light bytes.now }
 {
     let x = channels(bytes);
-    let alphas = x.swizzle([3, 3, 3, 3, 7, 7, 7, 7, 11, 11, 11, 11, 15, 15, 15, 15]);
     let r = reciprocals(bytes);
     let low = r.swizzle([0, 0, 0, 0, 4, 4, 4, 4, 8, 8, 8, 8, 12, 12, 12, 12]);
     let middle = r.swizzle([1, 1, 1, 1, 5, 5, 5, 5, 9, 9, 9, 9, 13, 13, 13, 13]);
     let high = r.swizzle([2, 2, 2, 2, 6, 6, 6, 6, 10, 10, 10, 10, 14, 14, 14, 14]);
-    x.simd_le(alphas - u16x16::splat(1))
+    x.simd_le(alphas(x) - u16x16::splat(1))
         .select(scaled(x, low, middle, high), u16x16::splat(65535))
 }
 
@@ -159,21 +149,6 @@ fn divided_one_by_one(bytes: &[u8]) -> u16x16
     ])
 }
 
-/// Returns the levels of the channels of four pixels, divided by the alphas. Condition: they have thirty-two bytes.
-#[inline(always)]
-fn levels_of(bytes: &[u8]) -> u16x16
-    requires { length bytes.now ≡ 32 }
-    ensures { result ≡ map srgb_encoded8 (straight_light bytes.now) }
-{
-    if are_opaque(bytes) {
-        Ch16::encode_srgb8_lanes(channels(bytes))
-    } else if are_repeated(bytes) {
-        Ch16::encode_srgb8_lanes(divided(bytes))
-    } else {
-        Ch16::encode_srgb8_lanes(divided_one_by_one(bytes))
-    }
-}
-
 /// Returns three levels and the alpha of each of four pixels, the first and the last level in each other's place or not.
 #[inline(always)]
 fn arranged(is_reversed: bool, levels: u16x16, alphas: u16x16) -> u16x16
@@ -192,14 +167,31 @@ fn arranged(is_reversed: bool, levels: u16x16, alphas: u16x16) -> u16x16
     }
 }
 
+/// Returns four pixels as sRGB, by their straight channels and by those that are multiplied by the alphas.
+#[inline(always)]
+fn encoded(is_reversed: bool, straight: u16x16, channels: u16x16) -> u8x16
+    ensures { result ≡ pick_l 0 (map srgb_encoded8 straight ++ map (λ x. x / 256) channels) (shown_places is_reversed) }
+{
+    let levels = Ch16::encode_srgb8_lanes(straight);
+    arranged(is_reversed, levels, channels >> u16x16::splat(8)).cast::<u8>()
+}
+
 /// Returns four pixels as sRGB. Condition: they have thirty-two bytes.
+///
+/// Levels are arranged in each branch by themselves, so that LLVM looks up none for an alpha.
 #[inline(always)]
 fn shown(is_reversed: bool, bytes: &[u8]) -> u8x16
     requires { length bytes.now ≡ 32 }
     ensures { result ≡ shown_bytes is_reversed bytes.now }
 {
-    let alphas = channels(bytes) >> u16x16::splat(8);
-    arranged(is_reversed, levels_of(bytes), alphas).cast::<u8>()
+    let x = channels(bytes);
+    if are_all(alphas(x), 65535) {
+        encoded(is_reversed, x, x)
+    } else if are_repeated(alphas(x)) {
+        encoded(is_reversed, divided(bytes), x)
+    } else {
+        encoded(is_reversed, divided_one_by_one(bytes), x)
+    }
 }
 
 /// Writes four pixels as sRGB. Condition: there are as many of both.
