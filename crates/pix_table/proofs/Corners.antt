@@ -39,22 +39,22 @@ ordered x y c e le me =
     omega (arith, p, square_apart x c, square_apart y e, square_apart x e, square_apart y c)
 
 -- at the end of a box on the side of y as seen from x
-at_end : (low x y c : ℕ) → IsWithin low c
-    → squared_difference x c + squared_difference y (end low x y) ≤ squared_difference x (end low x y) + squared_difference y c
-at_end low x y c inside = elim (cases_lt x y) [
-  | inl b ↦ rw (lt-ltb x y b) (ordered x y c (low + 7) (omega arith) (inside.1))
+at_end : (reach low x y c : ℕ) → IsWithin reach low c
+    → squared_difference x c + squared_difference y (end reach low x y) ≤ squared_difference x (end reach low x y) + squared_difference y c
+at_end reach low x y c inside = elim (cases_lt x y) [
+  | inl b ↦ rw (lt-ltb x y b) (ordered x y c (low + reach) (omega arith) (inside.1))
   | inr b ↦ rw (le-ltb x y b) (let o = ordered y x low c b inside.0 in omega (arith, o))
 ]
 
 -- one that is nearer to the corner is nearer to each color of the box
-pub nearer_inside : (low near far corner : List ℕ) → slice_index corner 0 ≡ end (slice_index low 0) (slice_index near 0) (slice_index far 0)
-    → slice_index corner 1 ≡ end (slice_index low 1) (slice_index near 1) (slice_index far 1)
-    → slice_index corner 2 ≡ end (slice_index low 2) (slice_index near 2) (slice_index far 2)
-    → distance near corner < distance far corner → (color : List ℕ) → IsInside low color → distance near color < distance far color
-nearer_inside low near far corner red green blue nearer color inside =
-    let r = at_end (slice_index low 0) (slice_index near 0) (slice_index far 0) (slice_index color 0) inside.red in
-    let g = at_end (slice_index low 1) (slice_index near 1) (slice_index far 1) (slice_index color 1) inside.green in
-    let b = at_end (slice_index low 2) (slice_index near 2) (slice_index far 2) (slice_index color 2) inside.blue in
+pub nearer_inside : (reach : ℕ) (low near far corner : List ℕ) → slice_index corner 0 ≡ end reach (slice_index low 0) (slice_index near 0) (slice_index far 0)
+    → slice_index corner 1 ≡ end reach (slice_index low 1) (slice_index near 1) (slice_index far 1)
+    → slice_index corner 2 ≡ end reach (slice_index low 2) (slice_index near 2) (slice_index far 2)
+    → distance near corner < distance far corner → (color : List ℕ) → IsInside reach low color → distance near color < distance far color
+nearer_inside reach low near far corner red green blue nearer color inside =
+    let r = at_end reach (slice_index low 0) (slice_index near 0) (slice_index far 0) (slice_index color 0) inside.red in
+    let g = at_end reach (slice_index low 1) (slice_index near 1) (slice_index far 1) (slice_index color 1) inside.green in
+    let b = at_end reach (slice_index low 2) (slice_index near 2) (slice_index far 2) (slice_index color 2) inside.blue in
     let r2 = rw (← red) at r in
     let g2 = rw (← green) at g in
     let b2 = rw (← blue) at b in

@@ -6,18 +6,22 @@ use Rattle.std.proofs.lemmas.List.{get_or-set_other, get_or-map}
 use Rattle.std.proofs.lemmas.Grind.{get_or-set_at}
 use Rattle.std.proofs.Math.Nat.{min-eq_left, min-eq_right}
 use Rattle.pix_table.specs.Nearest.{distance, distance_to, IsNearest, numbers}
-use Rattle.pix_table.specs.Boxes.{IsInside, IsListed, IsBeaten, AreEnough, AreListed, IsKnown}
+use Rattle.pix_table.specs.Boxes.{IsInside, IsListed, IsBeaten, IsPlaced, AreEnough, AreListed, IsKnown}
 use Rattle.pix_table.specs.declared.boxes.Known.{Known}
 use Rattle.pix_table.specs.declared.color.Color.{Color}
 use Rattle.pix_table.proofs.NearestEntries.{IsNearestBelow, nearest_at_first, nearest_changes, nearest_stays, nearest_of_all}
 
--- the first i entries are sifted: each is listed, or `near` is nearer to each color of the box
-pub record AreSifted (entries : List (List ℕ)) (low : List ℕ) (near i : ℕ) (listed : ℕ → ℕ) (count : ℕ) : Type 0 where
-  pub below : (p : ℕ) → p < count → listed p < i
-  pub each : (k : ℕ) → k < i → IsListed listed count k ⊎ ((color : List ℕ) → IsInside low color → distance_to entries color near < distance_to entries color k)
+-- one entry is nearer than another to each color of a box
+abbrev pub IsFarther : List (List ℕ) → (reach : ℕ) → (low : List ℕ) → (near k : ℕ) → Type 0
+IsFarther entries reach low near k = (color : List ℕ) → IsInside reach low color → distance_to entries color near < distance_to entries color k
 
-pub none_sifted : (entries : List (List ℕ)) (low : List ℕ) (near : ℕ) (listed : ℕ → ℕ) → AreSifted entries low near 0 listed 0
-none_sifted entries low near listed = record {
+-- the first i entries of a list are sifted: each is on the new list, or `near` is nearer to each color of the box
+pub record AreSifted (entries : List (List ℕ)) (reach : ℕ) (low : List ℕ) (near : ℕ) (from : ℕ → ℕ) (i : ℕ) (listed : ℕ → ℕ) (count : ℕ) : Type 0 where
+  pub below : (p : ℕ) → p < count → listed p < length entries
+  pub each : (q : ℕ) → q < i → IsListed listed count (from q) ⊎ IsFarther entries reach low near (from q)
+
+pub none_sifted : (entries : List (List ℕ)) (reach : ℕ) (low : List ℕ) (near : ℕ) (from listed : ℕ → ℕ) → AreSifted entries reach low near from 0 listed 0
+none_sifted entries reach low near from listed = record {
   below = λ p h. absurd (omega arith);
   each = λ k h. absurd (omega arith);
 }
@@ -35,60 +39,42 @@ listed_still f g count more k grows same l = record {
 }
 
 -- one more that is farther, also where it was written behind the list
-pub sifted_out : (entries : List (List ℕ)) (low : List ℕ) (near i : ℕ) (lists : List ℕ) (start count : ℕ)
-    → AreSifted entries low near i (λ p. get_or lists (start + p) 0) count
-    → ((color : List ℕ) → IsInside low color → distance_to entries color near < distance_to entries color i)
-    → AreSifted entries low near (i + 1) (λ p. get_or (set lists (start + count) i) (start + p) 0) count
-sifted_out entries low near i lists start count h farther =
-    let before = listed_before lists start count i in
+pub sifted_out : (entries : List (List ℕ)) (reach : ℕ) (low : List ℕ) (near : ℕ) (from : ℕ → ℕ) (i x : ℕ) (lists : List ℕ) (start count : ℕ)
+    → AreSifted entries reach low near from i (λ p. get_or lists (start + p) 0) count → IsFarther entries reach low near (from i)
+    → AreSifted entries reach low near from (i + 1) (λ p. get_or (set lists (start + count) x) (start + p) 0) count
+sifted_out entries reach low near from i x lists start count h farther =
+    let before = listed_before lists start count x in
     record {
       below = λ p b. omega (arith, before p b, h.below p b);
-      each = λ k b. elim (cases_lt k i) [
-        | inl c ↦ elim (h.each k c) [
-          | inl l ↦ inl (listed_still _ _ count count k (omega arith) before l)
+      each = λ q b. elim (cases_lt q i) [
+        | inl c ↦ elim (h.each q c) [
+          | inl l ↦ inl (listed_still _ _ count count (from q) (omega arith) before l)
           | inr f ↦ inr f
         ]
-        | inr c ↦ let e : i ≡ k = omega arith in inr (subst (λ j. (color : List ℕ) → IsInside low color → distance_to entries color near < distance_to entries color j) e farther)
+        | inr c ↦ let e : i ≡ q = omega arith in inr (subst (λ j. IsFarther entries reach low near (from j)) e farther)
       ];
     }
 
--- one more that is listed
-pub sifted_in : (entries : List (List ℕ)) (low : List ℕ) (near i : ℕ) (lists : List ℕ) (start count : ℕ) → start + count < length lists
-    → AreSifted entries low near i (λ p. get_or lists (start + p) 0) count
-    → AreSifted entries low near (i + 1) (λ p. get_or (set lists (start + count) i) (start + p) 0) (count + 1)
-sifted_in entries low near i lists start count room h =
-    let before = listed_before lists start count i in
-    let here : (p : ℕ) → p ≡ count → get_or (set lists (start + count) i) (start + p) 0 ≡ i =
-    (λ p e. let same : start + p ≡ start + count = omega arith in get_or-set_at lists (start + count) (start + p) i 0 same room) in
+-- one more that is on the new list
+pub sifted_in : (entries : List (List ℕ)) (reach : ℕ) (low : List ℕ) (near : ℕ) (from : ℕ → ℕ) (i x : ℕ) (lists : List ℕ) (start count : ℕ)
+    → start + count < length lists → x ≡ from i → x < length entries
+    → AreSifted entries reach low near from i (λ p. get_or lists (start + p) 0) count
+    → AreSifted entries reach low near from (i + 1) (λ p. get_or (set lists (start + count) x) (start + p) 0) (count + 1)
+sifted_in entries reach low near from i x lists start count room is stands h =
+    let before = listed_before lists start count x in
+    let here : (p : ℕ) → p ≡ count → get_or (set lists (start + count) x) (start + p) 0 ≡ x =
+    (λ p e. let same : start + p ≡ start + count = omega arith in get_or-set_at lists (start + count) (start + p) x 0 same room) in
     record {
       below = λ p b. elim (cases_lt p count) [
         | inl c ↦ omega (arith, before p c, h.below p c)
-        | inr c ↦ omega (arith, here p (omega arith))
+        | inr c ↦ omega (arith, here p (omega arith), stands)
       ];
-      each = λ k b. elim (cases_lt k i) [
-        | inl c ↦ elim (h.each k c) [
-          | inl l ↦ inl (listed_still _ _ count (count + 1) k (omega arith) before l)
+      each = λ q b. elim (cases_lt q i) [
+        | inl c ↦ elim (h.each q c) [
+          | inl l ↦ inl (listed_still _ _ count (count + 1) (from q) (omega arith) before l)
           | inr f ↦ inr f
         ]
-        | inr c ↦ inl (record { at = count; below = omega arith; same = here count refl ∙ omega arith })
-      ];
-    }
-
--- all entries are sifted: they are listed
-pub all_sifted : (entries : List (List ℕ)) (low : List ℕ) (near i : ℕ) (listed : ℕ → ℕ) (count : ℕ) → i ≡ length entries → near < i
-    → AreSifted entries low near i listed count → AreListed entries low listed count
-all_sifted entries low near i listed count end stands h = λ color within.
-    let found : IsListed listed count near = elim (h.each near stands) [
-      | inl l ↦ l
-      | inr f ↦ absurd (let b : distance_to entries color near < distance_to entries color near = f color within in omega arith)
-    ] in
-    let there : found.at < count = found.below in
-    record {
-      some = omega arith;
-      inside = λ p b. omega (arith, h.below p b);
-      all = λ k b. elim (h.each k (omega arith)) [
-        | inl l ↦ inl l
-        | inr f ↦ inr (record { at = near; stands = omega arith; nearer = f color within })
+        | inr c ↦ let e : i ≡ q = omega arith in inl (record { at = count; below = omega arith; same = here count refl ∙ is ∙ ap from e })
       ];
     }
 
@@ -108,6 +94,46 @@ some_nearest_below entries color (suc i) some within =
       | inr b ↦ record { at = h.at; far = h.far; nearest = nearest_stays entries color i h.at h.far (distance_to entries color i) h.nearest refl b }
     ] in
     subst (HasNearestBelow entries color) one next
+
+-- the nearest entry is not beaten
+pub some_listed : (entries : List (List ℕ)) (color : List ℕ) (listed : ℕ → ℕ) (count : ℕ) → 0 < length entries
+    → ((k : ℕ) → k < length entries → IsListed listed count k ⊎ IsBeaten entries color k) → 0 < count
+some_listed entries color listed count some all =
+    let has = some_nearest_below entries color (length entries) some (omega arith) in
+    let n : IsNearest entries color has.at = nearest_of_all entries color (length entries) has.at has.far refl has.nearest in
+    elim (all has.at n.stands) [
+      | inl l ↦ (let b : l.at < count = l.below in omega arith)
+      | inr f ↦ absurd (omega (arith, n.least f.at f.stands, f.nearer))
+    ]
+
+-- a whole list is sifted: what is on the new list is enough where the old one was
+pub all_sifted : (entries : List (List ℕ)) (reach : ℕ) (low : List ℕ) (near : ℕ) (from : ℕ → ℕ) (i : ℕ) (listed : ℕ → ℕ) (count : ℕ)
+    → near < length entries → AreListed entries reach low from i → AreSifted entries reach low near from i listed count
+    → AreListed entries reach low listed count
+all_sifted entries reach low near from i listed count stands enough h = λ color within.
+    let old : AreEnough entries color from i = enough color within in
+    let all : (k : ℕ) → k < length entries → IsListed listed count k ⊎ IsBeaten entries color k =
+    (λ k b. elim (old.all k b) [
+      | inl l ↦ subst (λ j. IsListed listed count j ⊎ IsBeaten entries color j) l.same (elim (h.each l.at l.below) [
+        | inl m ↦ inl m
+        | inr f ↦ inr (record { at = near; stands = stands; nearer = f color within })
+      ])
+      | inr f ↦ inr f
+    ]) in
+    record {
+      some = some_listed entries color listed count (omega arith) all;
+      inside = h.below;
+      all = all;
+    }
+
+-- a list of all entries is enough
+pub all_listed : (entries : List (List ℕ)) (reach : ℕ) (low : List ℕ) (listed : ℕ → ℕ) (count : ℕ) → 0 < length entries → count ≡ length entries
+    → ((k : ℕ) → k < count → listed k ≡ k) → AreListed entries reach low listed count
+all_listed entries reach low listed count some long same = λ color within. record {
+  some = omega arith;
+  inside = λ p b. omega (arith, same p b);
+  all = λ k b. inl (record { at = k; below = omega arith; same = same k (omega arith) });
+}
 
 -- the least key of the first i that are listed: how far one of them is, 256 times, and its index
 pub record IsLeastKey (entries : List (List ℕ)) (color : List ℕ) (listed : ℕ → ℕ) (count i key : ℕ) : Type 0 where
@@ -207,8 +233,9 @@ pub entry_distance : (entries : List Color) (color : List ℕ) (i : ℕ) (d : Co
 entry_distance entries color i d below = ap (λ p. distance p color) (sym (get_or-map numbers entries i d [] below))
 
 -- what is listed stays so where the lists before it stay
-listed_same : (entries : List (List ℕ)) (low : List ℕ) (f g : ℕ → ℕ) (count : ℕ) → ((p : ℕ) → p < count → g p ≡ f p) → AreListed entries low f count → AreListed entries low g count
-listed_same entries low f g count same h = λ color within.
+pub listed_same : (entries : List (List ℕ)) (reach : ℕ) (low : List ℕ) (f g : ℕ → ℕ) (count : ℕ) → ((p : ℕ) → p < count → g p ≡ f p)
+    → AreListed entries reach low f count → AreListed entries reach low g count
+listed_same entries reach low f g count same h = λ color within.
     let e = h color within in
     record {
       some = e.some;
@@ -223,9 +250,10 @@ listed_same entries low f g count same h = λ color within.
 known_stays : (entries : List (List ℕ)) (old new : List ℕ) (used more k : ℕ) (known : Known) → used ≤ more → ((k : ℕ) → k < used → get_or new k 0 ≡ get_or old k 0)
     → IsKnown entries old used k known → IsKnown entries new more k known
 known_stays entries old new used more k known grows same h = λ some.
-    let inside : known.start + known.count ≤ used = (h some).0 in (
-      omega arith,
-      listed_same entries _ (λ p. get_or old (known.start + p) 0) (λ p. get_or new (known.start + p) 0) known.count
+    let placed : IsPlaced entries used known = (h some).0 in
+    let inside : known.start + known.count ≤ used = placed.before in (
+      record { few = placed.few; before = omega arith },
+      listed_same entries _ _ (λ p. get_or old (known.start + p) 0) (λ p. get_or new (known.start + p) 0) known.count
           (λ p b. same (known.start + p) (omega arith)) (h some).1,
     )
 

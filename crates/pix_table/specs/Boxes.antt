@@ -1,28 +1,28 @@
 -- Boxes of colors, each with a list of entries. No clause of a public call cites this file.
-use Rattle.std.specs.Prelude.{◌⊎◌, ◌≡◌, ℕ, ◌+◌, ◌*◌, ◌/◌, ◌%◌, ◌<◌, ◌≤◌, List, [], ◌∷◌, length, slice_index, slice_index_or, nat_lt, if◌then◌else◌}
+use Rattle.std.specs.Prelude.{◌⊎◌, ◌≡◌, ℕ, ◌+◌, ◌-◌, ◌*◌, ◌/◌, ◌%◌, ◌<◌, ◌≤◌, List, [], ◌∷◌, length, slice_index, slice_index_or, nat_lt, if◌then◌else◌}
 use Rattle.pix_table.specs.Nearest.{distance_to}
 use Rattle.pix_table.specs.declared.boxes.Known.{Known}
 use Rattle.pix_table.specs.declared.boxes.Boxes.{Boxes}
 
--- a channel from which a box may reach seven numbers further
-pub record IsLow (low : List ℕ) : Type 0 where
-  pub red : slice_index low 0 ≤ 248
-  pub green : slice_index low 1 ≤ 248
-  pub blue : slice_index low 2 ≤ 248
+-- a color from which a box reaches so many numbers further in each channel
+pub record IsLow (reach : ℕ) (low : List ℕ) : Type 0 where
+  pub red : slice_index low 0 + reach ≤ 255
+  pub green : slice_index low 1 + reach ≤ 255
+  pub blue : slice_index low 2 + reach ≤ 255
 
--- a number from `low` on, and not further than seven
-abbrev pub IsWithin : ℕ → ℕ → Type 0
-IsWithin low x = (low ≤ x) × (x ≤ low + 7)
+-- a number from `low` on, and not further than the reach
+abbrev pub IsWithin : (reach low x : ℕ) → Type 0
+IsWithin reach low x = (low ≤ x) × (x ≤ low + reach)
 
 -- a color is in a box
-pub record IsInside (low color : List ℕ) : Type 0 where
-  pub red : IsWithin (slice_index low 0) (slice_index color 0)
-  pub green : IsWithin (slice_index low 1) (slice_index color 1)
-  pub blue : IsWithin (slice_index low 2) (slice_index color 2)
+pub record IsInside (reach : ℕ) (low color : List ℕ) : Type 0 where
+  pub red : IsWithin reach (slice_index low 0) (slice_index color 0)
+  pub green : IsWithin reach (slice_index low 1) (slice_index color 1)
+  pub blue : IsWithin reach (slice_index low 2) (slice_index color 2)
 
 -- the end of a box in one channel that lies on the side of y as seen from x
-abbrev pub end : ℕ → ℕ → ℕ → ℕ
-end low x y = if nat_lt x y then low + 7 else low
+abbrev pub end : (reach low x y : ℕ) → ℕ
+end reach low x y = if nat_lt x y then low + reach else low
 
 -- an entry is among so many that are listed
 pub record IsListed (listed : ℕ → ℕ) (count k : ℕ) : Type 0 where
@@ -43,24 +43,36 @@ pub record AreEnough (entries : List (List ℕ)) (color : List ℕ) (listed : �
   pub all : (k : ℕ) → k < length entries → IsListed listed count k ⊎ IsBeaten entries color k
 
 -- it is so for each color of a box
-abbrev pub AreListed : List (List ℕ) → List ℕ → (ℕ → ℕ) → ℕ → Type 0
-AreListed entries low listed count = (color : List ℕ) → IsInside low color → AreEnough entries color listed count
+abbrev pub AreListed : List (List ℕ) → (reach : ℕ) → (low : List ℕ) → (ℕ → ℕ) → ℕ → Type 0
+AreListed entries reach low listed count = (color : List ℕ) → IsInside reach low color → AreEnough entries color listed count
 
--- the least numbers of a box: boxes are numbered by their reds, then by their greens, then by their blues
+-- how far a box reaches: the first 32768 boxes are the small ones, of eight numbers a channel, and the others are the large ones, of thirty-two
+abbrev pub reach_at : ℕ → ℕ
+reach_at place = if nat_lt place 32768 then 7 else 31
+
+-- the least numbers of a box: boxes of a kind are numbered by their reds, then by their greens, then by their blues
 abbrev pub low_at : ℕ → List ℕ
-low_at place = place / 1024 * 8 ∷ place / 32 % 32 * 8 ∷ place % 32 * 8 ∷ []
+low_at place = if nat_lt place 32768 then place / 1024 * 8 ∷ place / 32 % 32 * 8 ∷ place % 32 * 8 ∷ []
+    else (place - 32768) / 64 * 32 ∷ (place - 32768) / 8 % 8 * 32 ∷ (place - 32768) % 8 * 32 ∷ []
 
--- a box has no list, or one that stands before `used`
+-- a list that is no longer than the entries, and stands before `used`
+pub record IsPlaced (entries : List (List ℕ)) (used : ℕ) (known : Known) : Type 0 where
+  pub few : known.count ≤ length entries
+  pub before : known.start + known.count ≤ used
+
+-- a box has no list, or one that is placed
 abbrev pub IsKnown : List (List ℕ) → List ℕ → ℕ → ℕ → Known → Type 0
 IsKnown entries lists used place known = 0 < known.count
-    → (known.start + known.count ≤ used) × AreListed entries (low_at place) (λ p. slice_index lists (known.start + p)) known.count
+    → IsPlaced entries used known × AreListed entries (reach_at place) (low_at place) (λ p. slice_index lists (known.start + p)) known.count
 
 -- each is known
 abbrev pub AreKnown : List (List ℕ) → Boxes → Type 0
 AreKnown entries boxes = (k : ℕ) (d : Known) → k < length boxes.known → IsKnown entries boxes.lists boxes.used k (slice_index_or boxes.known k d)
 
--- how long the lists are
+-- how long the lists are, and that they begin with all indices
 pub record HasRoom (boxes : Boxes) : Type 0 where
-  pub places : length boxes.known ≡ 32768
+  pub places : length boxes.known ≡ 33280
   pub lists : length boxes.lists ≡ 65536
   pub used : boxes.used ≤ 65536
+  pub begun : 256 ≤ boxes.used
+  pub all : (k : ℕ) → k < 256 → slice_index boxes.lists k ≡ k

@@ -1,25 +1,30 @@
 //! Boxes of colors, each with the entries that may be the nearest to one of its colors.
 //!
-//! The colors are cut into boxes of eight reds, eight greens and eight blues. The entries of a box are listed when a color of it is asked for,
-//! and the list is stored behind those that are there. How much room there is for lists decides only how often they are made:
-//! no answer depends on it.
+//! The colors are cut into small boxes of eight reds, eight greens and eight blues, and into large ones of thirty-two each. The entries of a
+//! small box are listed when a color of it is asked for: those that are listed for the large box around it are sifted, and the large box
+//! is listed first, out of all entries. A list is stored behind those that are there. How much room there is for lists decides only how
+//! often they are made: no answer depends on it.
 ghost use Rattle.std.specs.Prelude.{◌≡◌, ◌<◌, ◌≤◌, ◌+◌, ◌*◌, ℕ, List, All, length, map, slice_index, true};
 ghost use Rattle.pix_table.specs.Nearest.{IsNearest, distance, distance_to, numbers};
-ghost use Rattle.pix_table.specs.Boxes.{IsInside, IsLow, AreEnough, AreListed, AreKnown, HasRoom, end, low_at};
+ghost use Rattle.pix_table.specs.Boxes.{IsInside, IsLow, IsPlaced, AreEnough, AreListed, AreKnown};
+ghost use Rattle.pix_table.specs.Boxes.{HasRoom, end, low_at, reach_at};
 
 use crate::color::Color;
 use crate::search::{distance, search};
 
-/// The number of boxes.
-const BOXES: usize = 32768;
+/// The number of small boxes.
+const SMALL: usize = 32768;
+
+/// The number of all boxes: the large ones come after the small ones.
+const BOXES: usize = 33280;
 
 /// The room for lists, one byte for an index.
 const ROOM: usize = 65536;
 
-/// How many boxes are listed as soon as a color of them is asked for.
-const EARLY: u16 = 16384;
+/// How many boxes are listed as soon as a color of them is asked for: as many as there are, until there is no room.
+const EARLY: u16 = 32768;
 
-/// How many colors are asked for after that, of boxes without a list, until one of them has its box listed: a list takes as long as a few searches.
+/// How many colors are asked for after that, of boxes without a list, until one of them has its box listed.
 const TURNS: u8 = 4;
 
 /// Where the list of a box stands; it is empty where there is none.
@@ -44,12 +49,16 @@ impl Boxes {
     fn with_early(early: u16) -> Boxes
         ensures room { HasRoom result }
         ensures empty { All (λ known. known.count ≡ 0) result.known }
-        ensures unused { result.used ≡ 0 }
+        ensures unused { result.used ≡ 256 }
     {
+        let mut lists = [0; ROOM];
+        for i in 0..256 {
+            lists[i] = i as u8;
+        }
         Boxes {
             known: [Known { start: 0, count: 0 }; BOXES],
-            lists: [0; ROOM],
-            used: 0,
+            lists,
+            used: 256,
             early,
             turn: 0,
         }
@@ -59,86 +68,123 @@ impl Boxes {
     pub fn new() -> Boxes
         ensures room { HasRoom result }
         ensures empty { All (λ known. known.count ≡ 0) result.known }
-        ensures unused { result.used ≡ 0 }
+        ensures unused { result.used ≡ 256 }
     {
         Boxes::with_early(EARLY)
     }
 }
 
-/// Returns the number of a color's box.
+/// Returns the number of a color's small box.
 #[inline(always)]
 fn place_of(clr: Color) -> usize
     ensures below { result < 32768 }
-    ensures inside { IsInside (low_at result) (numbers clr) }
+    ensures inside { IsInside (reach_at result) (low_at result) (numbers clr) }
 {
     usize::from(clr.red) / 8 * 1024 + usize::from(clr.green) / 8 * 32 + usize::from(clr.blue) / 8
 }
 
+/// Returns the number of the large box around a small one.
+fn around(place: usize) -> usize
+    requires { place < 32768 }
+    ensures large { 32768 ≤ result }
+    ensures below { result < 33280 }
+    ensures inside { (color : List ℕ) → IsInside (reach_at place) (low_at place) color
+        → IsInside (reach_at result) (low_at result) color }
+{
+    SMALL + place / 4096 * 64 + place / 128 % 8 * 8 + place / 4 % 8
+}
+
+/// Returns how far a box reaches from its least color in each channel.
+fn reach_of(place: usize) -> u8
+    ensures { result ≡ reach_at place }
+{
+    if place < SMALL { 7 } else { 31 }
+}
+
 /// Returns the color of a box that is least in each channel.
 fn low_of(place: usize) -> Color
-    requires { place < 32768 }
+    requires { place < 33280 }
     ensures low { numbers result ≡ low_at place }
-    ensures is_low { IsLow (numbers result) }
+    ensures is_low { IsLow (reach_at place) (numbers result) }
 {
+    if place < SMALL {
+        return Color {
+            red: (place / 1024 * 8) as u8,
+            green: (place / 32 % 32 * 8) as u8,
+            blue: (place % 32 * 8) as u8,
+        };
+    }
+    let large = place - SMALL;
     Color {
-        red: (place / 1024 * 8) as u8,
-        green: (place / 32 % 32 * 8) as u8,
-        blue: (place % 32 * 8) as u8,
+        red: (large / 64 * 32) as u8,
+        green: (large / 8 % 8 * 32) as u8,
+        blue: (large % 8 * 32) as u8,
     }
 }
 
 /// Returns a color near the middle of a box.
-fn middle(low: Color) -> Color
-    requires { IsLow (numbers low) }
+fn middle(low: Color, reach: u8) -> Color
+    requires { IsLow reach (numbers low) }
+    ensures { IsInside reach (numbers low) (numbers result) }
 {
     Color {
-        red: low.red + 4,
-        green: low.green + 4,
-        blue: low.blue + 4,
+        red: low.red + reach / 2,
+        green: low.green + reach / 2,
+        blue: low.blue + reach / 2,
     }
 }
 
 /// Returns the end of a box in one channel, from `low` on, that lies on the side of `y` as seen from `x`.
-fn end(low: u8, x: u8, y: u8) -> u8
-    requires { low ≤ 248 }
-    ensures { result ≡ end low x y }
+fn end(low: u8, reach: u8, x: u8, y: u8) -> u8
+    requires { low + reach ≤ 255 }
+    ensures { result ≡ end reach low x y }
 {
-    if x < y { low + 7 } else { low }
+    if x < y { low + reach } else { low }
 }
 
 /// Returns whether `near` is nearer than `far` to the corner of a box that lies on the side of `far`: then it is to each color of the box.
-fn is_nearer(near: Color, far: Color, low: Color) -> bool
-    requires { IsLow (numbers low) }
-    ensures { result ≡ true → (color : List ℕ) → IsInside (numbers low) color
+fn is_nearer(near: Color, far: Color, low: Color, reach: u8) -> bool
+    requires { IsLow reach (numbers low) }
+    ensures { result ≡ true → (color : List ℕ) → IsInside reach (numbers low) color
         → distance (numbers near) color < distance (numbers far) color }
 {
     let corner = Color {
-        red: end(low.red, near.red, far.red),
-        green: end(low.green, near.green, far.green),
-        blue: end(low.blue, near.blue, far.blue),
+        red: end(low.red, reach, near.red, far.red),
+        green: end(low.green, reach, near.green, far.green),
+        blue: end(low.blue, reach, near.blue, far.blue),
     };
     distance(near, corner) < distance(far, corner)
 }
 
-/// Lists the entries that may be nearest to a color of a box, in order, from `start` on; returns how many they are.
+/// Lists those of the entries of a list that may be nearest to a color of a box, in order, from `start` on; returns how many they are.
 ///
 /// An entry is left out where the one that is nearest to the middle of the box is nearer to each of its colors.
-fn list(entries: &[Color], low: Color, lists: &mut [u8], start: usize) -> usize
-    requires some { 0 < length entries.now }
+fn sift(
+    entries: &[Color],
+    from: Known,
+    low: Color,
+    reach: u8,
+    lists: &mut [u8],
+    start: usize,
+) -> usize
     requires few { length entries.now ≤ 256 }
-    requires low { IsLow (numbers low) }
-    requires room { start + length entries.now ≤ length lists.old }
-    ensures listed { AreListed (map numbers entries.now) (numbers low)
+    requires low { IsLow reach (numbers low) }
+    requires from { from.start + from.count ≤ start }
+    requires room { start + from.count ≤ length lists.old }
+    requires listed { AreListed (map numbers entries.now) reach (numbers low)
+        (λ p. slice_index lists.old (from.start + p)) from.count }
+    ensures listed { AreListed (map numbers entries.now) reach (numbers low)
         (λ p. slice_index lists.new (start + p)) result }
     ensures before { (k : ℕ) → k < start
         → slice_index lists.new k ≡ slice_index lists.old k }
-    ensures few { result ≤ length entries.now }
+    ensures few { result ≤ from.count }
 {
-    let at = usize::from(search(entries, middle(low)));
+    let at = usize::from(nearest_listed(entries, lists, from, middle(low, reach)));
     let mut count = 0;
-    for i in 0..entries.len() {
-        lists[start + count] = i as u8;
-        if !is_nearer(entries[at], entries[i], low) {
+    for p in 0..usize::from(from.count) {
+        let index = lists[usize::from(from.start) + p];
+        lists[start + count] = index;
+        if !is_nearer(entries[at], entries[usize::from(index)], low, reach) {
             count += 1;
         }
     }
@@ -170,21 +216,54 @@ fn key(entries: &[Color], index: u8, clr: Color) -> u32
     distance(entries[usize::from(index)], clr) * 256 + u32::from(index)
 }
 
-/// Makes room for one list more: where there is none, all are given up, and from then on a box is listed in its turn.
+/// Makes room for two lists more: where there is none, all are given up, and from then on a box is listed in its turn.
 fn make_room(boxes: &mut Boxes, entries: &[Color])
     requires few { length entries.now ≤ 256 }
     requires room { HasRoom boxes.old }
     requires known { AreKnown (map numbers entries.now) boxes.old }
     ensures room { HasRoom boxes.new }
     ensures known { AreKnown (map numbers entries.now) boxes.new }
-    ensures free { boxes.new.used + length entries.now ≤ 65536 }
+    ensures free { boxes.new.used + 2 * length entries.now ≤ 65536 }
 {
-    if ROOM - boxes.used < entries.len() {
+    if ROOM - boxes.used < 2 * entries.len() {
         *boxes = Boxes::with_early(0);
     }
 }
 
-/// Lists the entries of a box, and returns where its list stands.
+/// Returns where the list of a box stands. If it has none, it gets one: what is sifted from another list, on which are enough entries for it.
+fn listed(boxes: &mut Boxes, entries: &[Color], from: Known, place: usize) -> Known
+    requires few { length entries.now ≤ 256 }
+    requires place { place < 33280 }
+    requires room { HasRoom boxes.old }
+    requires known { AreKnown (map numbers entries.now) boxes.old }
+    requires free { boxes.old.used + length entries.now ≤ 65536 }
+    requires placed { IsPlaced (map numbers entries.now) boxes.old.used from }
+    requires listed { AreListed (map numbers entries.now) (reach_at place) (low_at place)
+        (λ p. slice_index boxes.old.lists (from.start + p)) from.count }
+    ensures room { HasRoom boxes.new }
+    ensures known { AreKnown (map numbers entries.now) boxes.new }
+    ensures few { boxes.new.used ≤ boxes.old.used + length entries.now }
+    ensures placed { IsPlaced (map numbers entries.now) boxes.new.used result }
+    ensures listed { AreListed (map numbers entries.now) (reach_at place) (low_at place)
+        (λ p. slice_index boxes.new.lists (result.start + p)) result.count }
+{
+    let old = boxes.known[place];
+    if old.count > 0 {
+        return old;
+    }
+    let start = boxes.used;
+    let (low, reach) = (low_of(place), reach_of(place));
+    let count = sift(entries, from, low, reach, &mut boxes.lists, start);
+    let known = Known {
+        start: start as u16,
+        count: count as u16,
+    };
+    boxes.known[place] = known;
+    boxes.used = start + count;
+    known
+}
+
+/// Lists the entries of a small box, and returns where its list stands.
 fn add(boxes: &mut Boxes, entries: &[Color], place: usize) -> Known
     requires some { 0 < length entries.now }
     requires few { length entries.now ≤ 256 }
@@ -193,20 +272,17 @@ fn add(boxes: &mut Boxes, entries: &[Color], place: usize) -> Known
     requires known { AreKnown (map numbers entries.now) boxes.old }
     ensures room { HasRoom boxes.new }
     ensures known { AreKnown (map numbers entries.now) boxes.new }
-    ensures within { result.start + result.count ≤ boxes.new.used }
-    ensures listed { AreListed (map numbers entries.now) (low_at place)
+    ensures placed { IsPlaced (map numbers entries.now) boxes.new.used result }
+    ensures listed { AreListed (map numbers entries.now) (reach_at place) (low_at place)
         (λ p. slice_index boxes.new.lists (result.start + p)) result.count }
 {
     make_room(boxes, entries);
-    let start = boxes.used;
-    let count = list(entries, low_of(place), &mut boxes.lists, start);
-    let known = Known {
-        start: start as u16,
-        count: count as u16,
+    let all = Known {
+        start: 0,
+        count: entries.len() as u16,
     };
-    boxes.known[place] = known;
-    boxes.used = start + count;
-    known
+    let large = listed(boxes, entries, all, around(place));
+    listed(boxes, entries, large, place)
 }
 
 /// Returns whether a box that has no list is to have one now.

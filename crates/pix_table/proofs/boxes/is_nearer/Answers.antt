@@ -11,4 +11,4 @@ returns c = λ yes color inside.
     let less : c.distance.result < c.distance-2.result = ltb-true _ _ yes in
     let both = rw (c.distance.ensures.distance, c.distance-2.ensures.distance) at less in
     let corner : Color = record { red = c.end.result; green = c.end-2.result; blue = c.end-3.result } in
-    nearer_inside (numbers c.args.low) (numbers c.args.near) (numbers c.args.far) (numbers corner) c.end.ensures c.end-2.ensures c.end-3.ensures both color inside
+    nearer_inside c.args.reach (numbers c.args.low) (numbers c.args.near) (numbers c.args.far) (numbers corner) c.end.ensures c.end-2.ensures c.end-3.ensures both color inside

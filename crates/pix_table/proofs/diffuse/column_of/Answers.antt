@@ -1,5 +1,5 @@
 -- Of `column_of`: a place in the first row, and one in the second.
-use Rattle.std.proofs.Common.{◌≡◌, ◌*◌, ◌%◌, ◌<◌, arith, mod-lt}
+use Rattle.std.proofs.Common.{◌*◌, arith, mod-lt}
 use Rattle.pix_table.proofs.Rows.{first_row, second_row}
 use Rattle.pix_table.proofs.diffuse.column_of.Goals as goal
 

@@ -1,5 +1,5 @@
 -- Of `earlier_place`: a place in the same turn, and one in the turn before.
-use Rattle.std.proofs.Common.{◌≡◌, ◌%◌, ◌<◌, arith, mod-lt}
+use Rattle.std.proofs.Common.{◌%◌, ◌<◌, arith, mod-lt}
 use Rattle.pix_table.proofs.Rows.{same_turn, turn_before}
 use Rattle.pix_table.proofs.diffuse.earlier_place.Goals as goal
 

@@ -1,5 +1,5 @@
 -- Of `next_place`: the next place in the same turn, and the first of the next turn.
-use Rattle.std.proofs.Common.{◌≡◌, ◌+◌, arith}
+use Rattle.std.proofs.Common.{arith}
 use Rattle.pix_table.proofs.Rows.{next_in_turn, next_turn}
 use Rattle.pix_table.proofs.diffuse.next_place.Goals as goal
 

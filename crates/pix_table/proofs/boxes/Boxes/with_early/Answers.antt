@@ -1,7 +1,21 @@
--- Of `Boxes::with_early`: that no box has a list.
-use Rattle.std.proofs.Common.{◌≡◌, refl}
+-- Of `Boxes::with_early`: that no box has a list, that all indices stand at the head of the lists, and that the invariant of its loop over `i` holds at first and
+-- after each turn.
+use Rattle.std.proofs.Common.{◌≡◌, ◌≢◌, length-set, refl, ◌∙◌, arith, inl, inr}
+use Rattle.std.proofs.lemmas.Bool.{cases_lt}
+use Rattle.std.proofs.lemmas.List.{get_or-set_other}
 use Rattle.std.proofs.lemmas.List.Elements.{All-replicate}
+use Rattle.std.proofs.lemmas.Grind.{get_or-set_at}
+use Rattle.pix_table.specs.declared.boxes.Known.{Known}
 use Rattle.pix_table.proofs.boxes.Boxes.with_early.Goals as goal
 
+pub loop-i-preserved : goal.loop-i-preserved
+loop-i-preserved c = record {
+  long = length-set _ _ _ ∙ c.loop-i.invariant.long;
+  begun = λ k b. elim (cases_lt k c.loop-i.i) [
+    | inl l ↦ (let apart : k ≢ c.loop-i.i = (λ e. omega arith) in get_or-set_other c.loop-i.lists c.loop-i.i k c.loop-i.i 0 apart ∙ c.loop-i.invariant.begun k l)
+    | inr l ↦ (let e : k ≡ c.loop-i.i = omega arith in get_or-set_at c.loop-i.lists c.loop-i.i k c.loop-i.i 0 e (omega (arith, c.loop-i.invariant.long)) ∙ omega arith)
+  ];
+}
+
 pub returns-clause-empty : goal.returns-clause-empty
-returns-clause-empty c = All-replicate (λ known. known.count ≡ 0) 32768 _ refl
+returns-clause-empty c = All-replicate (λ (known : Known). known.count ≡ 0) 33280 _ refl
