@@ -4,6 +4,7 @@ pub mod Writes
 pub mod Below
 pub mod Places
 pub mod BoxSpans
+pub mod Sixteens
 pub mod Parts
 pub mod CutBoxes
 pub mod Distinct

@@ -8,3 +8,10 @@ use Rattle.pix_table.specs.declared.cut.Span.{Span}
 pub record IsSpan (box : List (List ℕ)) (span : Span) : Type 0 where
   pub least : numbers span.least ≡ least 0 box ∷ least 1 box ∷ least 2 box ∷ []
   pub greatest : numbers span.greatest ≡ greatest 0 box ∷ greatest 1 box ∷ greatest 2 box ∷ []
+
+-- the colors whose numbers stand one after the other
+abbrev pub by_threes : List ℕ → List (List ℕ)
+by_threes [] = []
+by_threes (x ∷ []) = []
+by_threes (x ∷ y ∷ []) = []
+by_threes (x ∷ y ∷ z ∷ rest) = (x ∷ y ∷ z ∷ []) ∷ by_threes rest

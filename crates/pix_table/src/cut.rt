@@ -1,11 +1,13 @@
 //! Median cut: a table of the means of boxes of colors.
-ghost use Rattle.std.specs.Prelude.{◌≡◌, ℕ, ◌+◌, ◌*◌, ◌/◌, ◌<◌, ◌≤◌, List, [], ◌∷◌, All, min, max, length, map, take, drop, slice_index, IsPermutation};
+ghost use Rattle.std.specs.Prelude.{◌≡◌, ℕ, ◌+◌, ◌*◌, ◌/◌, ◌<◌, ◌≤◌, List, [], ◌∷◌, ◌++◌, ◌%◌, All, min, max, length, map, take, drop, slice_index, IsPermutation};
 ghost use Rattle.pix_table.specs.Nearest.{numbers};
 ghost use Rattle.pix_table.specs.Cut.{IsWidest, IsMedian, IsCutTable, width, spread, mean_of, greatest};
 ghost use Rattle.pix_table.specs.LookUp.{AreCounted};
 ghost use Rattle.pix_table.specs.Span.{IsSpan};
 
 use crate::color::Color;
+use crate::sixteen;
+use std::simd::prelude::*;
 
 /// The spread of a box whose colors are all the same: there is one number in each channel.
 const PLAIN: usize = 3;
@@ -35,17 +37,68 @@ impl Span {
     fn new(colors: &[Color]) -> Span
         ensures { IsSpan (map numbers colors.now) result }
     {
-        let mut least = Color {
-            red: 255,
-            green: 255,
-            blue: 255,
-        };
-        let mut greatest = Color::default();
+        let whole = colors.len() / 16 * 16;
+        Span::of_sixteens(&colors[..whole]).with(&colors[whole..])
+    }
+
+    /// Returns the span of no colors.
+    fn none() -> Span
+        ensures { IsSpan [] result }
+    {
+        Span {
+            least: Color {
+                red: 255,
+                green: 255,
+                blue: 255,
+            },
+            greatest: Color::default(),
+        }
+    }
+
+    /// Returns the span of the box with more colors.
+    fn with(self, colors: &[Color]) -> Span
+        ensures { (box : List (List ℕ)) → IsSpan box self
+            → IsSpan (box ++ map numbers colors.now) result }
+    {
+        let mut least = self.least;
+        let mut greatest = self.greatest;
         for i in 0..colors.len() {
             least = lesser(least, colors[i]);
             greatest = greater(greatest, colors[i]);
         }
         Span { least, greatest }
+    }
+
+    /// Returns the span of a box of so many times sixteen colors.
+    fn of_sixteens(colors: &[Color]) -> Span
+        requires { length colors.now % 16 ≡ 0 }
+        ensures { IsSpan (map numbers colors.now) result }
+    {
+        let (mut low, mut low2, mut low3) = (
+            u8x16::splat(255),
+            u8x16::splat(255),
+            u8x16::splat(255),
+        );
+        let (mut high, mut high2, mut high3) = (u8x16::splat(0), u8x16::splat(0), u8x16::splat(0));
+        for i in 0..colors.len() / 16 {
+            let (a, b, c) = sixteen::sixteen(&colors[16 * i..16 * i + 16]);
+            (low, low2, low3) = (
+                sixteen::lesser(low, a),
+                sixteen::lesser(low2, b),
+                sixteen::lesser(low3, c),
+            );
+            (high, high2, high3) = (
+                sixteen::greater(high, a),
+                sixteen::greater(high2, b),
+                sixteen::greater(high3, c),
+            );
+        }
+        let least = Span::none().with(&sixteen::colors_of(low, low2, low3));
+        let greatest = Span::none().with(&sixteen::colors_of(high, high2, high3));
+        Span {
+            least: least.least,
+            greatest: greatest.greatest,
+        }
     }
 
     /// Returns how wide it is in a channel.

@@ -15,6 +15,7 @@ mod matcher;
 mod row;
 mod search;
 mod set;
+mod sixteen;
 mod threshold;
 
 pub use crate::color::{Color, TableColor, TablePixel};
