@@ -51,17 +51,17 @@ impl Boxes {
         ensures empty { All (λ known. known.count ≡ 0) result.known }
         ensures unused { result.used ≡ 256 }
     {
-        let mut lists = [0; ROOM];
-        for i in 0..256 {
-            lists[i] = i as u8;
-        }
-        Boxes {
+        let mut boxes = Boxes {
             known: [Known { start: 0, count: 0 }; BOXES],
-            lists,
+            lists: [0; ROOM],
             used: 256,
             early,
             turn: 0,
+        };
+        for i in 0..256 {
+            boxes.lists[i] = i as u8;
         }
+        boxes
     }
 
     /// Makes room for boxes, none of which has a list.

@@ -56,6 +56,6 @@ fn squared_difference(x: u8, y: u8) -> u32
     ensures square { result ≡ squared_difference x y }
     ensures few { result ≤ 65025 }
 {
-    let apart = u32::from(x.abs_diff(y));
+    let apart = (i32::from(x) - i32::from(y)).unsigned_abs();
     apart * apart
 }
