@@ -12,6 +12,7 @@ pub mod Rows
 pub mod Diffused
 pub mod Corners
 pub mod Listed
+pub mod Words
 pub mod PaletteMatches
 pub mod Settings
 pub mod KeptColors

@@ -1,6 +1,6 @@
 -- Boxes of colors, each with a list of entries. No clause of a public call cites this file.
 use Rattle.std.specs.Prelude.{◌⊎◌, ◌≡◌, ℕ, ◌+◌, ◌-◌, ◌*◌, ◌/◌, ◌%◌, ◌<◌, ◌≤◌, List, [], ◌∷◌, length, slice_index, slice_index_or, nat_lt, if◌then◌else◌}
-use Rattle.pix_table.specs.Nearest.{distance_to}
+use Rattle.pix_table.specs.Nearest.{distance, distance_to}
 use Rattle.pix_table.specs.declared.boxes.Known.{Known}
 use Rattle.pix_table.specs.declared.boxes.Boxes.{Boxes}
 
@@ -35,6 +35,24 @@ pub record IsBeaten (entries : List (List ℕ)) (color : List ℕ) (k : ℕ) : T
   pub at : ℕ
   pub stands : at < length entries
   pub nearer : distance_to entries color at < distance_to entries color k
+
+-- the color of a number that has a color and an index, and how far it is from another color, 256 times, with the index
+abbrev pub word_color : ℕ → List ℕ
+word_color word = word / 16777216 ∷ word / 65536 % 256 ∷ word / 256 % 256 ∷ []
+
+abbrev pub word_key : List ℕ → ℕ → ℕ
+word_key color word = distance (word_color word) color * 256 + word % 256
+
+-- a number has the index of an entry, and its color
+pub record IsWord (entries : List (List ℕ)) (word : ℕ) : Type 0 where
+  pub stands : word % 256 < length entries
+  pub color : word_color word ≡ slice_index_or entries (word % 256) []
+
+-- each entry has its number at its index; at the other indices stand numbers of any entries
+pub record AreWords (entries : List (List ℕ)) (words : List ℕ) : Type 0 where
+  pub many : length words ≡ 256
+  pub each : (k : ℕ) → k < 256 → IsWord entries (slice_index words k)
+  pub own : (k : ℕ) → k < length entries → slice_index words k % 256 ≡ k
 
 -- the nearest entry to a color is among those that are listed: for each that is not, another one is nearer
 pub record AreEnough (entries : List (List ℕ)) (color : List ℕ) (listed : ℕ → ℕ) (count : ℕ) : Type 0 where
@@ -72,7 +90,7 @@ AreKnown entries boxes = (k : ℕ) (d : Known) → k < length boxes.known → Is
 -- how long the lists are, and that they begin with all indices
 pub record HasRoom (boxes : Boxes) : Type 0 where
   pub places : length boxes.known ≡ 33280
-  pub lists : length boxes.lists ≡ 65536
+  pub lists : length boxes.lists ≡ 65539
   pub used : boxes.used ≤ 65536
   pub begun : 256 ≤ boxes.used
   pub all : (k : ℕ) → k < 256 → slice_index boxes.lists k ≡ k

@@ -5,12 +5,13 @@
 //! is listed first, out of all entries. A list is stored behind those that are there. How much room there is for lists decides only how
 //! often they are made: no answer depends on it.
 ghost use Rattle.std.specs.Prelude.{◌≡◌, ◌<◌, ◌≤◌, ◌+◌, ◌*◌, ℕ, List, All, length, map, slice_index, true};
-ghost use Rattle.pix_table.specs.Nearest.{IsNearest, distance, distance_to, numbers};
-ghost use Rattle.pix_table.specs.Boxes.{IsInside, IsLow, IsPlaced, AreEnough, AreListed, AreKnown};
+ghost use Rattle.pix_table.specs.Nearest.{IsNearest, distance, numbers};
+ghost use Rattle.pix_table.specs.Boxes.{IsInside, IsLow, IsPlaced, AreListed, AreKnown, AreWords};
 ghost use Rattle.pix_table.specs.Boxes.{HasRoom, end, low_at, reach_at};
 
 use crate::color::Color;
 use crate::search::{distance, search};
+use crate::word::nearest_listed;
 
 /// The number of small boxes.
 const SMALL: usize = 32768;
@@ -21,6 +22,9 @@ const BOXES: usize = 33280;
 /// The room for lists, one byte for an index.
 const ROOM: usize = 65536;
 
+/// How long the lists are: entries are looked at by fours, and so some behind a list.
+const LISTS: usize = 65539;
+
 /// How many boxes are listed as soon as a color of them is asked for: as many as there are, until there is no room.
 const EARLY: u16 = 32768;
 
@@ -30,15 +34,17 @@ const TURNS: u8 = 4;
 /// Where the list of a box stands; it is empty where there is none.
 #[derive(Clone, Copy)]
 pub struct Known {
-    start: u16,
-    count: u16,
+    /// Where it begins.
+    pub start: u16,
+    /// How many entries are listed.
+    pub count: u16,
 }
 
 /// Boxes, and the lists of their entries.
 #[derive(Drop)]
 pub struct Boxes {
     known: [Known; BOXES],
-    lists: [u8; ROOM],
+    lists: [u8; LISTS],
     used: usize,
     early: u16,
     turn: u8,
@@ -53,7 +59,7 @@ impl Boxes {
     {
         let mut boxes = Boxes {
             known: [Known { start: 0, count: 0 }; BOXES],
-            lists: [0; ROOM],
+            lists: [0; LISTS],
             used: 256,
             early,
             turn: 0,
@@ -161,6 +167,7 @@ fn is_nearer(near: Color, far: Color, low: Color, reach: u8) -> bool
 /// An entry is left out where the one that is nearest to the middle of the box is nearer to each of its colors.
 fn sift(
     entries: &[Color],
+    words: &[u32],
     from: Known,
     low: Color,
     reach: u8,
@@ -169,8 +176,10 @@ fn sift(
 ) -> usize
     requires few { length entries.now ≤ 256 }
     requires low { IsLow reach (numbers low) }
+    requires words { AreWords (map numbers entries.now) words.now }
+    requires some { 0 < from.count }
     requires from { from.start + from.count ≤ start }
-    requires room { start + from.count ≤ length lists.old }
+    requires room { start + from.count + 3 ≤ length lists.old }
     requires listed { AreListed (map numbers entries.now) reach (numbers low)
         (λ p. slice_index lists.old (from.start + p)) from.count }
     ensures listed { AreListed (map numbers entries.now) reach (numbers low)
@@ -178,8 +187,9 @@ fn sift(
     ensures before { (k : ℕ) → k < start
         → slice_index lists.new k ≡ slice_index lists.old k }
     ensures few { result ≤ from.count }
+    ensures some { 0 < result }
 {
-    let at = usize::from(nearest_listed(entries, lists, from, middle(low, reach)));
+    let at = usize::from(nearest_listed(words, lists, from, middle(low, reach)));
     let mut count = 0;
     for p in 0..usize::from(from.count) {
         let index = lists[usize::from(from.start) + p];
@@ -189,31 +199,6 @@ fn sift(
         }
     }
     count
-}
-
-/// Returns the nearest of the entries that are listed.
-#[inline(always)]
-fn nearest_listed(entries: &[Color], lists: &[u8], known: Known, clr: Color) -> u8
-    requires room { known.start + known.count ≤ length lists.now }
-    requires enough { AreEnough (map numbers entries.now) (numbers clr)
-        (λ p. slice_index lists.now (known.start + p)) known.count }
-    ensures { IsNearest (map numbers entries.now) (numbers clr) result }
-{
-    let start = usize::from(known.start);
-    let mut least = key(entries, lists[start], clr);
-    for p in 1..usize::from(known.count) {
-        least = least.min(key(entries, lists[start + p], clr));
-    }
-    (least % 256) as u8
-}
-
-/// Returns how far an entry is from a color, 256 times, and its index: of keys the least is that of the nearest entry.
-#[inline(always)]
-fn key(entries: &[Color], index: u8, clr: Color) -> u32
-    requires { index < length entries.now }
-    ensures { result ≡ distance_to (map numbers entries.now) (numbers clr) index * 256 + index }
-{
-    distance(entries[usize::from(index)], clr) * 256 + u32::from(index)
 }
 
 /// Makes room for two lists more: where there is none, all are given up, and from then on a box is listed in its turn.
@@ -231,8 +216,10 @@ fn make_room(boxes: &mut Boxes, entries: &[Color])
 }
 
 /// Returns where the list of a box stands. If it has none, it gets one: what is sifted from another list, on which are enough entries for it.
-fn listed(boxes: &mut Boxes, entries: &[Color], from: Known, place: usize) -> Known
+fn listed(boxes: &mut Boxes, entries: &[Color], words: &[u32], from: Known, place: usize) -> Known
+    requires some { 0 < from.count }
     requires few { length entries.now ≤ 256 }
+    requires words { AreWords (map numbers entries.now) words.now }
     requires place { place < 33280 }
     requires room { HasRoom boxes.old }
     requires known { AreKnown (map numbers entries.now) boxes.old }
@@ -243,6 +230,7 @@ fn listed(boxes: &mut Boxes, entries: &[Color], from: Known, place: usize) -> Kn
     ensures room { HasRoom boxes.new }
     ensures known { AreKnown (map numbers entries.now) boxes.new }
     ensures few { boxes.new.used ≤ boxes.old.used + length entries.now }
+    ensures some { 0 < result.count }
     ensures placed { IsPlaced (map numbers entries.now) boxes.new.used result }
     ensures listed { AreListed (map numbers entries.now) (reach_at place) (low_at place)
         (λ p. slice_index boxes.new.lists (result.start + p)) result.count }
@@ -253,7 +241,7 @@ fn listed(boxes: &mut Boxes, entries: &[Color], from: Known, place: usize) -> Kn
     }
     let start = boxes.used;
     let (low, reach) = (low_of(place), reach_of(place));
-    let count = sift(entries, from, low, reach, &mut boxes.lists, start);
+    let count = sift(entries, words, from, low, reach, &mut boxes.lists, start);
     let known = Known {
         start: start as u16,
         count: count as u16,
@@ -264,14 +252,16 @@ fn listed(boxes: &mut Boxes, entries: &[Color], from: Known, place: usize) -> Kn
 }
 
 /// Lists the entries of a small box, and returns where its list stands.
-fn add(boxes: &mut Boxes, entries: &[Color], place: usize) -> Known
+fn add(boxes: &mut Boxes, entries: &[Color], words: &[u32], place: usize) -> Known
     requires some { 0 < length entries.now }
     requires few { length entries.now ≤ 256 }
+    requires words { AreWords (map numbers entries.now) words.now }
     requires place { place < 32768 }
     requires room { HasRoom boxes.old }
     requires known { AreKnown (map numbers entries.now) boxes.old }
     ensures room { HasRoom boxes.new }
     ensures known { AreKnown (map numbers entries.now) boxes.new }
+    ensures some { 0 < result.count }
     ensures placed { IsPlaced (map numbers entries.now) boxes.new.used result }
     ensures listed { AreListed (map numbers entries.now) (reach_at place) (low_at place)
         (λ p. slice_index boxes.new.lists (result.start + p)) result.count }
@@ -281,8 +271,8 @@ fn add(boxes: &mut Boxes, entries: &[Color], place: usize) -> Known
         start: 0,
         count: entries.len() as u16,
     };
-    let large = listed(boxes, entries, all, around(place));
-    listed(boxes, entries, large, place)
+    let large = listed(boxes, entries, words, all, around(place));
+    listed(boxes, entries, words, large, place)
 }
 
 /// Returns whether a box that has no list is to have one now.
@@ -301,9 +291,10 @@ fn is_due(boxes: &mut Boxes) -> bool
 }
 
 /// Returns the index of the entry that is nearest to a color whose box has no list, and lists the box if it is due.
-fn nearest_unlisted(boxes: &mut Boxes, entries: &[Color], clr: Color) -> u8
+fn nearest_unlisted(boxes: &mut Boxes, entries: &[Color], words: &[u32], clr: Color) -> u8
     requires some { 0 < length entries.now }
     requires few { length entries.now ≤ 256 }
+    requires words { AreWords (map numbers entries.now) words.now }
     requires room { HasRoom boxes.old }
     requires known { AreKnown (map numbers entries.now) boxes.old }
     ensures nearest { IsNearest (map numbers entries.now) (numbers clr) result }
@@ -313,15 +304,16 @@ fn nearest_unlisted(boxes: &mut Boxes, entries: &[Color], clr: Color) -> u8
     if !is_due(boxes) {
         return search(entries, clr);
     }
-    let known = add(boxes, entries, place_of(clr));
-    nearest_listed(entries, &boxes.lists, known, clr)
+    let known = add(boxes, entries, words, place_of(clr));
+    nearest_listed(words, &boxes.lists, known, clr)
 }
 
 /// Returns the index of the nearest of at least 1 and at most 256 entries, of which the boxes have the lists.
 #[inline(always)]
-pub fn nearest_of(boxes: &mut Boxes, entries: &[Color], clr: Color) -> u8
+pub fn nearest_of(boxes: &mut Boxes, entries: &[Color], words: &[u32], clr: Color) -> u8
     requires some { 0 < length entries.now }
     requires few { length entries.now ≤ 256 }
+    requires words { AreWords (map numbers entries.now) words.now }
     requires room { HasRoom boxes.old }
     requires known { AreKnown (map numbers entries.now) boxes.old }
     ensures nearest { IsNearest (map numbers entries.now) (numbers clr) result }
@@ -330,8 +322,8 @@ pub fn nearest_of(boxes: &mut Boxes, entries: &[Color], clr: Color) -> u8
 {
     let known = boxes.known[place_of(clr)];
     if known.count > 0 {
-        nearest_listed(entries, &boxes.lists, known, clr)
+        nearest_listed(words, &boxes.lists, known, clr)
     } else {
-        nearest_unlisted(boxes, entries, clr)
+        nearest_unlisted(boxes, entries, words, clr)
     }
 }

@@ -17,6 +17,7 @@ mod search;
 mod set;
 mod sixteen;
 mod threshold;
+mod word;
 
 pub use crate::color::{Color, TableColor, TablePixel};
 pub use crate::diffuse::{Diffusion, diffuse_pixels, diffusion_work};

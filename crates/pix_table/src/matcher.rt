@@ -1,18 +1,34 @@
 //! The nearest entries of many colors, one after the other.
 ghost use Rattle.std.specs.Prelude.{◌≡◌, ◌<◌, ◌≤◌, ◌⊎◌, length, map, take, MatchOption};
 ghost use Rattle.pix_table.specs.Nearest.{IsNearest, IsMatched, AreMatched, numbers};
+ghost use Rattle.pix_table.specs.Boxes.{AreWords};
 
 use crate::boxes::{Boxes, nearest_of};
 use crate::color::{Color, TableColor, TablePixel};
+use crate::word::word_of;
 use std::marker::Model;
 
 /// The greatest number of entries.
 const ENTRIES: usize = 256;
 
+/// Returns the numbers of the entries, and behind them that of the first.
+fn words_of(entries: &[Color]) -> [u32; ENTRIES]
+    requires some { 0 < length entries.now }
+    requires few { length entries.now ≤ 256 }
+    ensures { AreWords (map numbers entries.now) result }
+{
+    let mut words = [word_of(entries[0], 0); ENTRIES];
+    for i in 0..entries.len() {
+        words[i] = word_of(entries[i], i as u8);
+    }
+    words
+}
+
 /// A copy of a table of colors, to which many colors are matched.
 #[derive(Drop)]
 pub struct Matcher {
     entries: [Color; ENTRIES],
+    words: [u32; ENTRIES],
     len: usize,
     boxes: Boxes,
 }
@@ -20,13 +36,14 @@ pub struct Matcher {
 impl Model for Matcher {
     ghost use Rattle.std.specs.Prelude.{List, ℕ, length, map, take, ◌≡◌, ◌<◌, ◌≤◌};
     ghost use Rattle.pix_table.specs.Nearest.{numbers};
-    ghost use Rattle.pix_table.specs.Boxes.{AreKnown, HasRoom};
+    ghost use Rattle.pix_table.specs.Boxes.{AreKnown, AreWords, HasRoom};
 
     ghost Value = { List (List ℕ) };
 
     ghost view = { λ m. map numbers (take m.len m.entries) };
 
     ghost invariant = { λ m. (0 < m.len) × (m.len ≤ 256) × (length m.entries ≡ 256)
+        × AreWords (map numbers (take m.len m.entries)) m.words
         × HasRoom m.boxes × AreKnown (map numbers (take m.len m.entries)) m.boxes };
 }
 
@@ -45,8 +62,10 @@ impl Matcher {
         for i in 0..len {
             entries[i] = colors[i].color();
         }
+        let words = words_of(&entries[..len]);
         Some(Matcher {
             entries,
+            words,
             len,
             boxes: Boxes::new(),
         })
@@ -58,7 +77,7 @@ impl Matcher {
         ensures nearest { IsNearest self.old (numbers clr) result }
         ensures same { self.new ≡ self.old }
     {
-        nearest_of(&mut self.boxes, &self.entries[..self.len], clr)
+        nearest_of(&mut self.boxes, &self.entries[..self.len], &self.words, clr)
     }
 }
 

@@ -1,4 +1,4 @@
--- Of `sift`: the condition of its call of `nearest_listed`, that an index is one of an entry, what is listed, and that the invariant of its loop over `p`
+-- Of `sift`: that an index is one of an entry, what is listed, and that the invariant of its loop over `p`
 -- holds at first and after each turn.
 use Rattle.std.proofs.Common.{◌≡◌, ◌≢◌, ◌<◌, ◌≤◌, ◌+◌, ℕ, length, map, get_or, set, refl, ap, ◌∙◌, subst, arith}
 use Rattle.std.proofs.lemmas.List.{length-map, get_or-set_other}
@@ -7,9 +7,6 @@ use Rattle.pix_table.specs.Nearest.{numbers}
 use Rattle.pix_table.proofs.Listed.{AreSifted, IsFarther, none_sifted, sifted_in, sifted_out, all_sifted, entry_distance}
 use Rattle.pix_table.proofs.boxes.sift.Goals as goal
 use Rattle.pix_table.proofs.boxes.sift.Goals.{then-not-is_nearer, else-not-is_nearer}
-
-pub nearest_listed-requires-clause-enough : goal.nearest_listed-requires-clause-enough
-nearest_listed-requires-clause-enough c = c.requires.listed (numbers c.middle.result) c.middle.ensures
 
 pub bounds-entries-from : goal.bounds-entries-from
 bounds-entries-from c =
@@ -21,6 +18,15 @@ bounds-entries-from c =
       same,
       (c.requires.listed (numbers c.middle.result) c.middle.ensures).inside c.loop-p.p (omega arith),
       length-map c.args.entries.now numbers,
+    )
+
+pub bounds-entries-at : goal.bounds-entries-at
+bounds-entries-at c =
+    omega (
+      arith,
+      c.from-at.ensures,
+      length-map c.args.entries.now numbers,
+      (c.nearest_listed.ensures (map numbers c.args.entries.now) c.requires.words (c.requires.listed (numbers c.middle.result) c.middle.ensures)).stands,
     )
 
 pub loop-p-init : goal.loop-p-init
@@ -51,7 +57,7 @@ loop-p-preserved c =
           let more : count + 1 ≤ c.loop-p.p + 1 = omega arith in
           rw (w.count-is) (record { sifted = new; few = more; before = before })
       | else-not-is_nearer w ↦
-          let stands : c.from-at.result < length c.args.entries.now = omega (arith, c.nearest_listed.ensures.stands, length-map c.args.entries.now numbers) in
+          let stands : c.from-at.result < length c.args.entries.now = omega (arith, (c.nearest_listed.ensures (map numbers c.args.entries.now) c.requires.words (c.requires.listed (numbers c.middle.result) c.middle.ensures)).stands, length-map c.args.entries.now numbers) in
           let there : c.from-in-loop-p.result < length c.args.entries.now = omega (arith, c.from-in-loop-p.ensures, is, inside, length-map c.args.entries.now numbers) in
           let far : IsFarther entries c.args.reach (numbers c.args.low) near c.from-in-loop-p.result =
           (λ color inside. omega (
@@ -73,4 +79,11 @@ returns-clause-listed c =
     let from : ℕ → ℕ = (λ q. get_or c.args.lists.now (c.args.from.start + q) 0) in
     let end : c.loop-p.p ≡ c.args.from.count = omega arith in
     all_sifted (map numbers c.args.entries.now) c.args.reach (numbers c.args.low) c.from-at.result from c.loop-p.p (λ q. get_or c.loop-p.lists (c.args.start + q) 0) c.loop-p.count
-    (omega (arith, length-map c.args.entries.now numbers, c.nearest_listed.ensures.stands)) (rw (end) c.requires.listed) c.loop-p.invariant.sifted
+    (omega (arith, length-map c.args.entries.now numbers, (c.nearest_listed.ensures (map numbers c.args.entries.now) c.requires.words (c.requires.listed (numbers c.middle.result) c.middle.ensures)).stands)) (rw (end) c.requires.listed) c.loop-p.invariant.sifted
+
+pub returns-clause-some : goal.returns-clause-some
+returns-clause-some c =
+    let from : ℕ → ℕ = (λ q. get_or c.args.lists.now (c.args.from.start + q) 0) in
+    let end : c.loop-p.p ≡ c.args.from.count = omega arith in
+    ((all_sifted (map numbers c.args.entries.now) c.args.reach (numbers c.args.low) c.from-at.result from c.loop-p.p (λ q. get_or c.loop-p.lists (c.args.start + q) 0) c.loop-p.count
+    (omega (arith, length-map c.args.entries.now numbers, (c.nearest_listed.ensures (map numbers c.args.entries.now) c.requires.words (c.requires.listed (numbers c.middle.result) c.middle.ensures)).stands)) (rw (end) c.requires.listed) c.loop-p.invariant.sifted) (numbers c.middle.result) c.middle.ensures).some

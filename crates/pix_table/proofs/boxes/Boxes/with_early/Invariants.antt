@@ -8,7 +8,7 @@ abbrev pub invariant-loop-i : goal.invariant-loop-i
 invariant-loop-i l = record {
   places : length l.boxes.known ≡ 33280;
   empty : All (λ (known : Known). known.count ≡ 0) l.boxes.known;
-  long : length l.boxes.lists ≡ 65536;
+  long : length l.boxes.lists ≡ 65539;
   used : l.boxes.used ≡ 256;
   begun : (k : ℕ) → k < l.i → get_or l.boxes.lists k 0 ≡ k;
 }

@@ -16,6 +16,7 @@ invariant_of-result g c = (
   omega arith,
   omega arith,
   c.loop-i.invariant.long,
+  c.words_of-words.ensures,
   c.new.ensures.room,
   empty_known _ _ _ _ c.new.ensures.empty,
 )
