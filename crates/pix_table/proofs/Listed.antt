@@ -233,7 +233,7 @@ pub entry_distance : (entries : List Color) (color : List ℕ) (i : ℕ) (d : Co
 entry_distance entries color i d below = ap (λ p. distance p color) (sym (get_or-map numbers entries i d [] below))
 
 -- what is listed stays so where the lists before it stay
-pub listed_same : (entries : List (List ℕ)) (reach : ℕ) (low : List ℕ) (f g : ℕ → ℕ) (count : ℕ) → ((p : ℕ) → p < count → g p ≡ f p)
+listed_same : (entries : List (List ℕ)) (reach : ℕ) (low : List ℕ) (f g : ℕ → ℕ) (count : ℕ) → ((p : ℕ) → p < count → g p ≡ f p)
     → AreListed entries reach low f count → AreListed entries reach low g count
 listed_same entries reach low f g count same h = λ color within.
     let e = h color within in

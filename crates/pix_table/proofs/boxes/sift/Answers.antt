@@ -82,8 +82,4 @@ returns-clause-listed c =
     (omega (arith, length-map c.args.entries.now numbers, (c.nearest_listed.ensures (map numbers c.args.entries.now) c.requires.words (c.requires.listed (numbers c.middle.result) c.middle.ensures)).stands)) (rw (end) c.requires.listed) c.loop-p.invariant.sifted
 
 pub returns-clause-some : goal.returns-clause-some
-returns-clause-some c =
-    let from : ℕ → ℕ = (λ q. get_or c.args.lists.now (c.args.from.start + q) 0) in
-    let end : c.loop-p.p ≡ c.args.from.count = omega arith in
-    ((all_sifted (map numbers c.args.entries.now) c.args.reach (numbers c.args.low) c.from-at.result from c.loop-p.p (λ q. get_or c.loop-p.lists (c.args.start + q) 0) c.loop-p.count
-    (omega (arith, length-map c.args.entries.now numbers, (c.nearest_listed.ensures (map numbers c.args.entries.now) c.requires.words (c.requires.listed (numbers c.middle.result) c.middle.ensures)).stands)) (rw (end) c.requires.listed) c.loop-p.invariant.sifted) (numbers c.middle.result) c.middle.ensures).some
+returns-clause-some c = (returns-clause-listed c (numbers c.middle.result) c.middle.ensures).some
