@@ -1,7 +1,7 @@
 //! The sRGB transfer curve (IEC 61966-2-1) from channels of 8 bits to linear ones of 16 bits, and back: two tables.
 //!
 //! Each level comes back. That of the nearest level is proved for all 65,536 channels of 16 bits.
-ghost use Rattle.std.specs.Prelude.{◌≡◌, ℕ, ◌≤◌, ◌<◌, ◌*◌, ◌/◌, ◌%◌, ◌^◌, map, slice_index_or};
+ghost use Rattle.std.specs.Prelude.{◌≡◌, ℕ, ◌≤◌, ◌<◌, ◌/◌, ◌%◌, ◌^◌, map, slice_index_or};
 ghost use Rattle.std.specs.Simd.Lanes.{number_l, digits_l};
 ghost use Rattle.pix_chan.specs.declared.chan.srgb16.TheConstants.{LEVELS};
 ghost use Rattle.pix_chan.specs.Srgb16.{srgb_decoded16, srgb_encoded8, IsCurve16};
