@@ -8,9 +8,9 @@ static const char *const operators[OPERATORS] = {
 };
 static const char *const source_names[SOURCES] = {"image", "color", "mask", "masked image", "faded image", "copy of an image", "copy of a color", "clear"};
 static const char *const part_names[KINDS] = {"rgba8", "rgba16", "graya8"};
-static const uint32_t sides[COLUMNS] = {1024, 64, 8};
+static const uint32_t sides[COLUMNS] = {1024, 64, 32, 8};
 static const source_t sources[] = {IMAGE, COLOR, MASK, MASKED, FADED};
-static const char *const side_names[COLUMNS] = {"1024", "64", "8"};
+static const char *const side_names[COLUMNS] = {"1024", "64", "32", "8"};
 
 /* A new block, or null where its part is not wanted. */
 static block_t *block_of(table_t *table, const wanted_t *wanted, const char *part) {
@@ -31,7 +31,7 @@ static row_t *row_of(block_t *block, const wanted_t *wanted, const char *name) {
     return row;
 }
 
-/* The job of a side: tiles of 8 by 8 fill an image of 64 by 64, and other sides are those of the image. */
+/* The job of a side: tiles of 32 by 32 or of 8 by 8 fill an image of 64 by 64, and other sides are those of the image. */
 static void make_job(cell_t *cell, kind_t kind, source_t source, uint32_t op, uint32_t side) {
     cell->is_there = 1;
     cell->job.kind = kind;
@@ -92,18 +92,19 @@ static void add_conversions(table_t *table, const wanted_t *wanted) {
         {"RGBA8P to SRGBA8", 3, 0}, {"RGBA8P to SBGRA8", 3, 8}, {"RGBA8 to RGBA8P", 2, 3}, {"RGBA8P to RGBA8", 3, 2},
         {"RGBA8 to BGRA8", 2, 4}, {"SRGBA8 to RGBA8", 0, 2}, {"RGBA8 to SRGBA8", 2, 0}, {"SRGBA8 to SGRAY8", 0, 11},
     };
-    static const shape_t shapes[COLUMNS] = {RANDOM, SPRITES, FLAT};
+    static const shape_t shapes[] = {RANDOM, SPRITES, FLAT};
+    const size_t count = sizeof shapes / sizeof *shapes;
     block_t *block = block_of(table, wanted, "convert");
     if (!block)
         return;
     snprintf(block->title, sizeof block->title, "conversions of 1024 by 1024");
     block->work = CONVERSION;
     block->peer = PLAIN;
-    for (int k = 0; k < COLUMNS; k++)
+    for (size_t k = 0; k < count; k++)
         block->columns[k] = shape_names[shapes[k]];
     for (size_t i = 0; i < sizeof pairs / sizeof *pairs; i++) {
         row_t *row = row_of(block, wanted, pairs[i].name);
-        for (int k = 0; row && k < COLUMNS; k++) {
+        for (size_t k = 0; row && k < count; k++) {
             row->cells[k].is_there = 1;
             row->cells[k].shape = shapes[k];
             row->cells[k].conversion.from = pairs[i].from;

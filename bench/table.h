@@ -6,7 +6,7 @@
 #include "data.h"
 #include <stdio.h>
 
-enum { BUILDS = 2, COLUMNS = 3, ROWS = 16, BLOCKS = 64 };
+enum { BUILDS = 2, COLUMNS = 4, ROWS = 16, BLOCKS = 64 };
 
 /* What the times are compared with. */
 typedef enum { NONE, PIXMAN, PLAIN } peer_t;
