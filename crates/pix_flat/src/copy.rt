@@ -1,9 +1,15 @@
 //! Copies in a row of pixels in memory.
-ghost use Rattle.std.specs.Prelude.{◌≡◌, length, ⊤};
+ghost use Rattle.std.specs.Prelude.{◌≡◌, ◌<◌, ℕ, [], get_or, length, map, ⊤};
+ghost use Rattle.pix_ops.specs.declared.ops.Op.TheVariants.{Src};
+ghost use Rattle.pix_el.specs.PixelComposite.{pixel_composite};
 
-use crate::format::{Flat, Numbered};
+use crate::format::{Flat, FlatPixel, Numbered};
 use pix_el::el::Pixel;
 use pix_raster::lent::{Blit, Fill};
+use std::marker::PhantomData;
+
+/// How many columns a region has at most whose image is copied under `Src`. Longer rows go by blocks, which takes less time than to copy them.
+pub(crate) const SHORT: u32 = 256;
 
 /// Copies a color.
 #[derive(Clone, Copy)]
@@ -51,4 +57,36 @@ pub(crate) fn see_channels<P: Pixel, S: Flat<P>>(pixel: &S)
 {
     let pixel = pixel.read();
     let _ = pixel.channels();
+}
+
+/// Sees that each pixel has the channels of its format, which takes no step of the processor.
+#[inline(always)]
+fn see_all<P: Pixel, S: Flat<P>>(pixels: &[S])
+    ensures { (k : ℕ) → k < length pixels.now
+        → length (get_or (map S.numbers pixels.now) k []) ≡ P.layout.count }
+{
+    for i in 0..pixels.len() {
+        see_channels::<P, S>(&pixels[i]);
+    }
+}
+
+/// Puts pixels in the place of others, as `Src` does.
+#[derive(Clone, Copy)]
+pub(crate) struct ReplacedPixels<P> {
+    pub(crate) format: PhantomData<P>,
+}
+
+impl<P: Pixel, D: FlatPixel<P>> Blit<D, D> for ReplacedPixels<P> {
+    ghost can_blit = { ⊤ };
+
+    ghost reads = { D.numbers };
+
+    ghost source_reads = { D.numbers };
+
+    ghost makes = { λ _. pixel_composite P.layout Src };
+
+    fn blit(&self, row: &mut [D], src: &[D]) {
+        see_all::<P, D>(src);
+        CopiedPixels {}.blit(row, src);
+    }
 }

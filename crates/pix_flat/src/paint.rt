@@ -6,7 +6,7 @@ ghost use Rattle.pix_flat.specs.Command.{op_at, rectangle, command_of};
 ghost use Rattle.pix_flat.specs.Status.{fits, fault_of};
 
 use crate::command::{FlatCommand, PixRegion};
-use crate::copy::{CopiedColor, CopiedPixels, see_channels};
+use crate::copy::{CopiedColor, CopiedPixels, ReplacedPixels, SHORT, see_channels};
 use crate::format::{Flat, FlatPixel};
 use crate::kind;
 use crate::operator::op_at;
@@ -194,7 +194,8 @@ fn composite_faded<
     );
 }
 
-/// Composites a command on a window of a picture. `Src` puts a color in the place of what is there, so without a matte it is copied.
+/// Composites a command on a window of a picture. `Src` puts a color or an image in the place of what is there, so without a matte it is copied, an image where
+/// its rows are short.
 fn paint_composite<
     P: Pixel<Alpha = Premultiplied, Gamma = Linear>,
     D: FlatPixel<P>,
@@ -208,8 +209,16 @@ fn paint_composite<
         (command_of command.now ∷ []))) }
 {
     let op = op_at(command.op);
-    match (command.kind, op) {
-        (kind::COMPOSITE_COLOR, Op::Src) => {
+    match (command.kind, op, command.from.width <= SHORT) {
+        (kind::COMPOSITE_IMAGE, Op::Src, true) => {
+            let change = ReplacedPixels::<P> {
+                format: PhantomData,
+            };
+            let (to, from) = (region_of(command.to), region_of(command.from));
+            let src_shape = source_shape(command);
+            blit_window(pixels, window, to, command.pixels, src_shape, from, &change);
+        }
+        (kind::COMPOSITE_COLOR, Op::Src, _) => {
             let clr = command.color;
             see_channels::<P, D>(&clr);
             fill_window(pixels, window, region_of(command.to), &CopiedColor { clr });
