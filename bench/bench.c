@@ -11,7 +11,7 @@
 #include <string.h>
 #include <time.h>
 
-enum { POINTS = MOST * MOST, RASTER_POINTS = 512 * 512, PASSES = 4, FEW = 3, FEW_RUNS = 4 };
+enum { POINTS = MOST * MOST, RASTER_POINTS = 512 * 512, PASSES = 4, FEW = 3, FEW_RUNS = 4, MAPPED = 5 };
 
 int run_pixman(const job_t *job);
 const char *pixman_says(void);
@@ -150,12 +150,17 @@ static void fill(const block_t *block, cell_t *cell) {
 
 /* ---- Rasters ---- */
 
+/* The number in crates/pix_bench of the work of a row: both rows of make_indexed have one. */
+static uint32_t work_of(uint32_t row) {
+    return row < FEW ? row : row == MAPPED ? FEW + 1 : FEW;
+}
+
 /* The least time of many works less that of none: a call makes its rasters first. */
 static void measure_rasters(cell_t *cell) {
     enum { TIMES = 4 };
     const size_t channels = cell->number == 0 ? 4 : 3;
     uint8_t *src = (uint8_t *)read;
-    if (cell->number < FEW)
+    if (cell->number < FEW || cell->number == MAPPED)
         fill_pixels(RGBA8, RANDOM, 1, MOST, src);
     else
         fill_few(cell->number == FEW_RUNS ? 8 : 1, RASTER_POINTS, src);
@@ -164,8 +169,8 @@ static void measure_rasters(cell_t *cell) {
         for (int round = 0; loaded[build].rasters && round < rounds; round++)
             for (uint32_t many = 0; many < 2; many++) {
                 double start = now();
-                if (!loaded[build].rasters(cell->number < FEW ? cell->number : FEW, TIMES * many, src,
-                                           channels * RASTER_POINTS, (uint8_t *)pixels, sizeof pixels))
+                if (!loaded[build].rasters(work_of(cell->number), TIMES * many, src, channels * RASTER_POINTS, (uint8_t *)pixels,
+                                           sizeof pixels))
                     fail("a work on rasters was refused");
                 keep_least(&least[many], now() - start, RASTER_POINTS);
             }

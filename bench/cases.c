@@ -113,10 +113,11 @@ static void add_conversions(table_t *table, const wanted_t *wanted) {
     }
 }
 
-/* What rasters alone have: the numbers are those of crates/pix_bench. */
+/* What rasters alone have. */
 static void add_rasters(table_t *table, const wanted_t *wanted) {
     static const char *const names[] = {
         "SrcOver of Hsva8p", "Rgb8 to Hsv8", "YCbCr8 to Rgb8", "make_indexed, random", "make_indexed, runs of 8",
+        "map_indexed, random",
     };
     block_t *block = block_of(table, wanted, "raster");
     if (!block)

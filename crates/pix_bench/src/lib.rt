@@ -13,7 +13,7 @@ use std::alloc::Global;
 
 /// Does work number `work` so many `times` over the bytes of `src`, writes those of the outcome to `out`, and answers whether it could.
 ///
-/// The numbers are those of the rows in `bench/cases.c`.
+/// The numbers are those that `bench/bench.c` has for its rows.
 #[unsafe(no_mangle)]
 pub extern "C" fn pix_bench(
     alloc: Global,
@@ -26,7 +26,8 @@ pub extern "C" fn pix_bench(
         0 => rasters::composited::<Hsv>(alloc, times, src, out),
         1 => rasters::converted::<Rgb, Hsv>(alloc, times, src, out),
         2 => rasters::converted::<YCbCr, Rgb>(alloc, times, src, out),
-        _ => rasters::indexed(alloc, times, src, out),
+        3 => rasters::indexed(alloc, times, src, out),
+        _ => rasters::mapped(alloc, times, src, out),
     };
     done.is_some()
 }

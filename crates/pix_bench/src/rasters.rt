@@ -6,7 +6,7 @@ use pix::el::Pix;
 use pix::gray::Gray8;
 use pix::ops::SrcOver;
 use pix::rgb::SRgb8;
-use pix::{ColorModel, Palette, Raster, Region};
+use pix::{ColorModel, ColorTable, Palette, Raster, Region};
 use std::alloc::Global;
 
 /// The width and the height of a raster.
@@ -92,6 +92,17 @@ pub(crate) fn indexed(alloc: Global, times: u32, src: &[u8], out: &mut [u8]) -> 
         let copy = source.try_clone(alloc).ok()?;
         let mut palette = Palette::new(alloc, 256).ok()?;
         made = palette.make_indexed(alloc, copy).ok()??;
+    }
+    write(alloc, &made, out)
+}
+
+/// Makes a table of 256 colors of a raster of `src`, and so many times an image of the nearest of them.
+pub(crate) fn mapped(alloc: Global, times: u32, src: &[u8], out: &mut [u8]) -> Option<()> {
+    let source: Raster<SRgb8> = raster_of(alloc, src)?;
+    let table = ColorTable::from_raster(alloc, &source, 256, 0).ok()??;
+    let mut made: Raster<Gray8> = Raster::with_clear(alloc, 0, 0).ok()?;
+    for _ in 0..times {
+        made = table.map_indexed(alloc, &source).ok()??;
     }
     write(alloc, &made, out)
 }
