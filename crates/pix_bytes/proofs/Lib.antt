@@ -7,6 +7,7 @@ pub mod Table
 pub mod Bitmaps
 pub mod Crossings
 pub mod LaneProducts
+pub mod LaneTests
 pub mod LitFours
 pub mod Reciprocals16
 pub mod ConvertedPixels

@@ -1,14 +1,14 @@
 -- Four pixels of light, in one vector and in bytes.
-use Rattle.std.proofs.Common.{◌≡◌, ℕ, zero, suc, ◌≤◌, ◌<◌, ◌+◌, ◌-◌, ◌*◌, ◌/◌, ◌%◌, ◌^◌, List, [], ◌∷◌, ◌++◌, length, map, get_or, slice_range, refl, sym, ap, ◌∙◌, arith, inl, inr, replicate, Fits, Bool, true, false, cond, ltb, leb, eqb, eqb-true, drop, min}
+use Rattle.std.proofs.Common.{◌≡◌, ℕ, zero, suc, ◌≤◌, ◌<◌, ◌+◌, ◌-◌, ◌*◌, ◌/◌, ◌%◌, ◌^◌, List, [], ◌∷◌, ◌++◌, length, map, get_or, slice_range, refl, sym, ap, ◌∙◌, arith, inl, inr, replicate, Fits, Bool, true, false, cond, ltb, leb, drop, min}
 use mir.Syntax.{w8, w16, w64}
 use mir.Val.{hbits, bits}
-use lib.Lanes.{zip2, Each1, chunk, number_l, digits_l, sel_l, top, pick_l, mask_l}
+use lib.Lanes.{zip2, Each1, chunk, number_l, digits_l, sel_l, top, pick_l}
 use Rattle.std.proofs.lemmas.Grind.{same_number_lists}
 use Rattle.std.proofs.lemmas.Bool.{cases_lt}
 use Rattle.std.proofs.lemmas.Bool.Decides.{nat_tests}
 use Rattle.std.proofs.lemmas.List.{length-map, map-id}
 use Rattle.std.proofs.lemmas.List.FromFn.{length-map-range_with_len, get_or-map-range_with_len}
-use Rattle.std.proofs.lemmas.Simd.{get_or_wider, get_or-chunk, length-chunk, bitmask_splat, tops_compared, zip2_of_maps, splat_is_map, map-map, below_from_Fits}
+use Rattle.std.proofs.lemmas.Simd.{get_or_wider, get_or-chunk, length-chunk, tops_compared, zip2_of_maps, splat_is_map, map-map, below_from_Fits}
 use Rattle.std.proofs.Math.Nat.{mul-le-mul, div-add-mod', mod-lt}
 use Rattle.std.proofs.lemmas.Nat.{mul-le}
 use Rattle.pix_chan.specs.Product.{channel_quotient}
@@ -275,29 +275,7 @@ reciprocals_fit (a ∷ bs) =
     let fits = entry_fits (a % 256) (omega arith) in
     (omega (arith, fits), reciprocals_fit bs)
 
--- ---- tests of all lanes
-mask_full : (n : ℕ) (ms : List Bool) → length ms ≡ n → suc (mask_l ms) ≡ 2 ^ n → Each1 (λ m. m ≡ true) ms
-mask_full n [] l e = tt
-mask_full zero (m ∷ ms) l e = absurd (omega (arith, l))
-mask_full (suc n) (true ∷ ms) l e =
-    let p : 2 ^ suc n ≡ 2 * 2 ^ n = grind arith in
-    (refl, mask_full n ms (omega (arith, l)) (omega (arith, e, p)))
-mask_full (suc n) (false ∷ ms) l e =
-    let p : 2 ^ suc n ≡ 2 * 2 ^ n = grind arith in
-    absurd (omega (arith, e, p))
-
-all_equal : (n v : ℕ) (xs : List ℕ) → length xs ≡ n → Each1 (λ m. m ≡ true) (map (λ x. eqb x v) xs) → xs ≡ replicate n v
-all_equal zero v [] l f = refl
-all_equal zero v (x ∷ xs) l f = absurd (omega (arith, l))
-all_equal (suc n) v [] l f = absurd (omega (arith, l))
-all_equal (suc n) v (x ∷ xs) l f = cons (eqb-true x v f.0) (all_equal n v xs (omega (arith, l)) f.1)
-
-pub all_are : (xs : List ℕ) (v : ℕ) → length xs ≡ 16 → mask_l (map (top (hbits w16)) (zip2 (λ x y. cond (eqb x y) (2 ^ bits w16 - 1) 0) xs (replicate 16 v))) % 2 ^ 64 ≡ 65535
-    → xs ≡ replicate 16 v
-all_are xs v l e =
-    let mask = sym (bitmask_splat w16 eqb xs 16 v l (omega arith)) ∙ e in
-    all_equal 16 v xs l (mask_full 16 (map (λ x. eqb x v) xs) (length-map xs (λ x. eqb x v) ∙ l) (ap suc mask))
-
+-- ---- alphas that come from eight bits
 abbrev beside : ℕ → ℕ
 beside a = (a + (65536 - a / 2 ^ 8 * 257 % 2 ^ 16)) % 65536
 

@@ -2,7 +2,7 @@
 //!
 //! The colors of each are looked up as those of an opaque pixel. Where not all four are opaque, their sixteen channels are then multiplied by
 //! the alphas.
-ghost use Rattle.std.specs.Prelude.{◌≡◌, ◌≤◌, ◌<◌, ◌*◌, ◌/◌, length, slice_index_or, true};
+ghost use Rattle.std.specs.Prelude.{◌≡◌, ◌≤◌, ◌<◌, ◌*◌, ◌/◌, length, replicate, slice_index_or, true};
 ghost use Rattle.std.specs.Simd.Lanes.{zip2};
 ghost use Rattle.pix_chan.specs.Product.{channel_product};
 ghost use Rattle.pix_chan.specs.Srgb16.{srgb_decoded16};
@@ -119,7 +119,17 @@ fn put(bytes: &mut [u8], lanes: u16x16)
     }
 }
 
+/// Returns whether all bytes are 255.
+#[inline(always)]
+fn are_full(bytes: u8x16) -> bool
+    ensures { result ≡ true → bytes ≡ replicate 16 255 }
+{
+    bytes.simd_eq(u8x16::splat(255)).to_bitmask() == 65535
+}
+
 /// Returns whether four pixels are opaque. Condition: they have sixteen bytes.
+///
+/// The bytes of their colors are set to 255, so that one test of all sixteen is one of the alphas.
 #[inline(always)]
 fn are_opaque(bytes: &[u8]) -> bool
     requires { length bytes.now ≡ 16 }
@@ -128,7 +138,10 @@ fn are_opaque(bytes: &[u8]) -> bool
     ensures eleven { result ≡ true → slice_index_or bytes.now 11 0 ≡ 255 }
     ensures fifteen { result ≡ true → slice_index_or bytes.now 15 0 ≡ 255 }
 {
-    bytes[3] == 255 && bytes[7] == 255 && bytes[11] == 255 && bytes[15] == 255
+    let colors = u8x16::from_array([
+        255, 255, 255, 0, 255, 255, 255, 0, 255, 255, 255, 0, 255, 255, 255, 0,
+    ]);
+    are_full(u8x16::from_slice(bytes) | colors)
 }
 
 /// Returns the light of four sRGB pixels, multiplied by their alphas. Condition: they have sixteen bytes.
