@@ -1,4 +1,4 @@
--- Four pixels of light of three colors and an alpha as sRGB, by their bytes.
+-- Four pixels of light of three colors and an alpha as sRGB, by their bytes. No clause of a public call cites this file.
 use Rattle.std.specs.Prelude.{ℕ, ◌+◌, ◌*◌, ◌/◌, ◌%◌, List, [], ◌∷◌, ◌++◌, map, slice_index_or, Bool, if◌then◌else◌}
 use Rattle.std.specs.Simd.Lanes.{zip2, pick_l}
 use Rattle.pix_chan.specs.Product.{channel_quotient}

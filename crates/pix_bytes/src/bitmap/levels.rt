@@ -1,12 +1,14 @@
 //! Pixels of light, of colors multiplied by an alpha in 16 bits, as sRGB of red, green, blue and alpha, or blue, green, red and alpha, four at a time.
 //!
 //! Where not all four are opaque, their colors are divided by the alphas: all at once where these come from eight bits, and else one by one.
-ghost use Rattle.std.specs.Prelude.{◌≡◌, ◌≤◌, ◌<◌, ◌+◌, ◌*◌, ◌/◌, ◌%◌, ◌^◌, ◌++◌, ℕ, List, map, length, replicate, true};
+ghost use Rattle.std.specs.Prelude.{◌≡◌, ◌≤◌, ◌<◌, ◌+◌, ◌*◌, ◌/◌, ◌%◌, ◌^◌, ◌++◌};
+ghost use Rattle.std.specs.Prelude.{ℕ, List, map, length, replicate, true};
 ghost use Rattle.std.specs.Simd.Lanes.{zip2, Each1, pick_l, number_l, digits_l};
 ghost use Rattle.pix_chan.specs.Product.{channel_quotient};
 ghost use Rattle.pix_chan.specs.Srgb16.{srgb_encoded8};
 ghost use Rattle.pix_bytes.specs.Rows.{IsEach};
-ghost use Rattle.pix_bytes.specs.Shown.{shown, straight_light, light_alpha, light_alphas, for_each_channel, reciprocal_of, parts, shown_places, shown_bytes};
+ghost use Rattle.pix_bytes.specs.Shown.{shown, straight_light, light_alpha, light_alphas, for_each_channel};
+ghost use Rattle.pix_bytes.specs.Shown.{reciprocal_of, parts, shown_places, shown_bytes};
 ghost use Rattle.pix_bytes.specs.Stored.{sample_at, samples};
 
 use crate::bitmap::fours::high_products;
@@ -71,8 +73,10 @@ fn in_parts(words: u64x4) -> u16x16
 #[inline(always)]
 fn reciprocals(bytes: &[u8]) -> u16x16
     requires { length bytes.now ≡ 32 }
-    ensures { result ≡ parts (reciprocal_of (light_alpha bytes.now 0)) ++ (parts (reciprocal_of (light_alpha bytes.now 1))
-        ++ (parts (reciprocal_of (light_alpha bytes.now 2)) ++ parts (reciprocal_of (light_alpha bytes.now 3)))) }
+    ensures { result ≡ parts (reciprocal_of (light_alpha bytes.now 0))
+        ++ (parts (reciprocal_of (light_alpha bytes.now 1))
+        ++ (parts (reciprocal_of (light_alpha bytes.now 2))
+        ++ parts (reciprocal_of (light_alpha bytes.now 3)))) }
 {
     in_parts(u64x4::from_array([
         reciprocal(usize::from(lower_alpha(bytes, 0))),
@@ -85,7 +89,8 @@ fn reciprocals(bytes: &[u8]) -> u16x16
 /// Returns the products of lanes and numbers of three parts, shifted down by 32 bits.
 #[inline(always)]
 fn scaled(x: u16x16, low: u16x16, middle: u16x16, high: u16x16) -> u16x16
-    ensures { (ys : List ℕ) → length ys ≡ 16 → Each1 (λ y. y < 2 ^ 48) ys → low ≡ map (λ y. y % 65536) ys
+    ensures { (ys : List ℕ) → length ys ≡ 16 → Each1 (λ y. y < 2 ^ 48) ys
+        → low ≡ map (λ y. y % 65536) ys
         → middle ≡ map (λ y. y / 65536 % 65536) ys → high ≡ map (λ y. y / 65536 / 65536 % 65536) ys
         → result ≡ zip2 (λ x y. x * y / 2 ^ 32 % 65536) x ys }
 {
@@ -118,7 +123,8 @@ fn divided(bytes: &[u8]) -> u16x16
 fn divided_at(bytes: &[u8], number: usize) -> u16
     requires whole { length bytes.now ≡ 32 }
     requires fits { number < 16 }
-    ensures { result ≡ channel_quotient 65535 (sample_at 65535 bytes.now number) (light_alpha bytes.now (number / 4)) }
+    ensures { result ≡ channel_quotient 65535 (sample_at 65535 bytes.now number)
+        (light_alpha bytes.now (number / 4)) }
 {
     let alpha = Ch16::read(bytes, number / 4 * 4 + 3);
     u16::from(quotient(Ch16::read(bytes, number), alpha))
@@ -170,7 +176,8 @@ fn arranged(is_reversed: bool, levels: u16x16, alphas: u16x16) -> u16x16
 /// Returns four pixels as sRGB, by their straight channels and by those that are multiplied by the alphas.
 #[inline(always)]
 fn encoded(is_reversed: bool, straight: u16x16, channels: u16x16) -> u8x16
-    ensures { result ≡ pick_l 0 (map srgb_encoded8 straight ++ map (λ x. x / 256) channels) (shown_places is_reversed) }
+    ensures { result ≡ pick_l 0 (map srgb_encoded8 straight ++ map (λ x. x / 256) channels)
+        (shown_places is_reversed) }
 {
     let levels = Ch16::encode_srgb8_lanes(straight);
     arranged(is_reversed, levels, channels >> u16x16::splat(8)).cast::<u8>()

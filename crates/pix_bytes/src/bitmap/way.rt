@@ -60,7 +60,13 @@ impl Step {
     /// Returns the step from red, green, blue and alpha to the same, in the alpha modes of two formats.
     #[inline(always)]
     fn of_rgba(from: Stored, to: Stored) -> Step
-        ensures { result ≡ record { count = 4; first = 0; end = 3; is_premultiplied = from.is_premultiplied; to_premultiplied = to.is_premultiplied } }
+        ensures { result ≡ record {
+          count = 4;
+          first = 0;
+          end = 3;
+          is_premultiplied = from.is_premultiplied;
+          to_premultiplied = to.is_premultiplied;
+        } }
     {
         Step {
             count: 4,
@@ -96,8 +102,8 @@ where
     C: Channel,
     G: Gamma<C>,
     H: Gamma<C>,
-    ensures { C.number result ≡ reencoded C.max (alpha_mode_of from) G.mode (alpha_mode_of to) H.mode
-        (C.number alpha) (C.number c) }
+    ensures { C.number result ≡ reencoded C.max (alpha_mode_of from) G.mode
+        (alpha_mode_of to) H.mode (C.number alpha) (C.number c) }
 {
     if from != to {
         H::from_linear(mode_changed(from, to, G::to_linear(c), alpha))
@@ -138,7 +144,8 @@ fn at_depth<C: Channel, D: Channel>(c: C) -> D
 /// Returns a channel at another depth, the maximum where the other format lacks the channel of that number.
 #[inline(always)]
 fn depth_or_max<C: Channel, D: Channel>(count: usize, ch: usize, c: C) -> D
-    ensures { D.number result ≡ (if nat_lt ch count then at_depth C.max D.max (C.number c) else D.max) }
+    ensures { D.number result ≡ (if nat_lt ch count then at_depth C.max D.max (C.number c)
+        else D.max) }
 {
     if ch < count { at_depth(c) } else { D::MAX }
 }
@@ -203,7 +210,8 @@ pub(crate) trait Way<C: Channel, D: Channel> {
         requires dst { length dst.old ≡ count * ((to.count + to.spare) * sample_size D.max) }
         ensures some { result ≤ count }
         ensures each { IsEach C.max D.max from.count (to.count + to.spare)
-            ((from.count + from.spare) * sample_size C.max) ((to.count + to.spare) * sample_size D.max)
+            ((from.count + from.spare) * sample_size C.max)
+            ((to.count + to.spare) * sample_size D.max)
             (makes (format_at C.max from) (format_at D.max to)) src.now dst.new result };
 }
 
