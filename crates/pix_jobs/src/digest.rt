@@ -1,0 +1,64 @@
+//! A digest of results.
+
+use pix::chan::{Alpha, Ch8, Gamma};
+use pix::el::Pix;
+use pix::{ColorModel, Raster};
+use std::alloc::Global;
+
+/// A number that all bytes which were added have changed, by the method of Fowler, Noll and Vo for words of 64 bits.
+#[derive(Drop)]
+pub(crate) struct Digest {
+    pub(crate) value: u64,
+}
+
+impl Digest {
+    /// Makes the digest of nothing.
+    pub(crate) fn new() -> Digest {
+        Digest {
+            value: 14695981039346656037,
+        }
+    }
+
+    /// Adds a number.
+    pub(crate) fn add(&mut self, word: u64) {
+        let mixed = (self.value ^ word).wrapping_mul(1099511628211);
+        self.value = mixed ^ (mixed >> 29);
+    }
+
+    /// Adds bytes, sixteen of them at a time, and their number.
+    pub(crate) fn add_bytes(&mut self, bytes: &[u8]) {
+        for k in 0..bytes.len() / 16 {
+            let low = word(&bytes[16 * k..16 * k + 8]);
+            let high = word(&bytes[16 * k + 8..16 * k + 16]);
+            self.add(low ^ high.wrapping_mul(11400714819323198485));
+        }
+        for byte in &bytes[bytes.len() / 16 * 16..] {
+            self.add(u64::from(*byte));
+        }
+        self.add(bytes.len() as u64);
+    }
+
+    /// Adds the channels of a raster.
+    pub(crate) fn add_raster<const N: usize, M, A, G>(
+        &mut self,
+        alloc: Global,
+        raster: &Raster<Pix<N, Ch8, M, A, G>>,
+    ) -> Option<()>
+    where
+        M: ColorModel,
+        A: Alpha,
+        G: Gamma<Ch8>,
+    {
+        let bytes = raster.to_u8_vec(alloc).ok()?;
+        self.add_bytes(&bytes);
+        Some(())
+    }
+}
+
+/// Returns eight bytes as a number.
+fn word(bytes: &[u8]) -> u64 {
+    match bytes {
+        [a, b, c, d, e, f, g, h] => u64::from_le_bytes([*a, *b, *c, *d, *e, *f, *g, *h]),
+        _ => 0,
+    }
+}

@@ -1,0 +1,93 @@
+//! The jobs that users of the library wait for, which `bench/run` times: images of indices, pictures in another format, sprites, photographs in
+//! light, and scripts.
+//!
+//! Three arguments say what is done: the name of a job, `whole` or `small`, and the seed of its inputs. A line is printed with the name and a digest of
+//! all results. For `all` each job is done.
+#![tactic(auto)]
+
+mod convert;
+mod digest;
+mod indexed;
+mod light;
+mod pictures;
+mod random;
+mod script;
+mod sheets;
+mod size;
+mod sprites;
+
+use digest::Digest;
+use random::Random;
+use size::Size;
+use std::alloc::Global;
+use std::process::ExitCode;
+use std::{env, io};
+
+fn main(rt: HostRuntime) -> ExitCode {
+    match run(&rt) {
+        Ok(true) => ExitCode::SUCCESS,
+        Ok(false) => {
+            let _ = println!(rt; "usage: pix_jobs JOB whole|small SEED");
+            ExitCode::FAILURE
+        }
+        Err(error) => {
+            let _ = println!(rt; "{error}");
+            ExitCode::FAILURE
+        }
+    }
+}
+
+/// Does what the arguments say; returns whether they say it.
+fn run(rt: &HostRuntime) -> io::Result<bool> {
+    let mut words = env::args(rt)?.skip(1);
+    let (Some(job), Some(size), Some(seed)) = (words.next(), words.next(), words.next()) else {
+        return Ok(false);
+    };
+    let size = match size.as_str() {
+        "whole" => Size::whole(),
+        "small" => Size::small(),
+        _ => return Ok(false),
+    };
+    let Ok(seed) = seed.as_str().parse::<u64>() else {
+        return Ok(false);
+    };
+    let mut known = false;
+    for name in ["indexed", "sheets", "convert", "sprites", "light", "script"] {
+        if job.as_str() == name || job.as_str() == "all" {
+            known = true;
+            print_job(rt, name, size, seed)?;
+        }
+    }
+    Ok(known)
+}
+
+/// Does a job, and prints its digest.
+fn print_job(rt: &HostRuntime, name: &str, size: Size, seed: u64) -> io::Result<()> {
+    let mut digest = Digest::new();
+    let mut random = Random::new(seed);
+    match done(rt.alloc(), name, size, &mut random, &mut digest) {
+        Some(()) => {
+            let value = digest.value;
+            println!(rt; "{name} {value:016x}")
+        }
+        None => println!(rt; "{name}: out of memory"),
+    }
+}
+
+/// Does a job; or answers `None` where a request for memory was refused.
+fn done(
+    alloc: Global,
+    name: &str,
+    size: Size,
+    random: &mut Random,
+    digest: &mut Digest,
+) -> Option<()> {
+    match name {
+        "indexed" => indexed::run(alloc, size, random, digest),
+        "sheets" => sheets::run(alloc, size, random, digest),
+        "convert" => convert::run(alloc, size, random, digest),
+        "sprites" => sprites::run(alloc, size, random, digest),
+        "light" => light::run(alloc, size, random, digest),
+        _ => script::run(alloc, size, random, digest),
+    }
+}

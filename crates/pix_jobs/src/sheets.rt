@@ -1,0 +1,80 @@
+//! Palettes of many colors, and palettes whose colors stand for those near them.
+
+use crate::digest::Digest;
+use crate::pictures;
+use crate::random::Random;
+use crate::size::Size;
+use pix::rgb::SRgb8;
+use pix::{ColorTable, Palette, Raster};
+use std::alloc::Global;
+
+/// Does the job.
+pub(crate) fn run(
+    alloc: Global,
+    size: Size,
+    random: &mut Random,
+    digest: &mut Digest,
+) -> Option<()> {
+    let colors = pictures::colors(alloc, size.of(8000), random)?;
+    let sheet = pictures::drawing(alloc, size.of(512), size.of(384), &colors, 4, random)?;
+    wide(alloc, sheet, false, digest)?;
+    let noise = pictures::noise(alloc, size.of(160), size.of(160), random)?;
+    wide(alloc, noise, false, digest)?;
+    let photo = pictures::photo(alloc, size.of(400), size.of(300), random)?;
+    wide(alloc, photo, true, digest)?;
+    for _ in 0..size.of(16) {
+        let photo = pictures::photo(alloc, 240, 200, random)?;
+        few(alloc, &photo, SRgb8::new(36u8, 36u8, 36u8), digest)?;
+    }
+    let photo = pictures::photo(alloc, size.of(1024), size.of(768), random)?;
+    few(alloc, &photo, SRgb8::new(36u8, 36u8, 36u8), digest)?;
+    let colors = pictures::colors(alloc, 250, random)?;
+    let drawing = pictures::drawing(alloc, size.of(1024), size.of(768), &colors, 20, random)?;
+    few(alloc, &drawing, SRgb8::default(), digest)
+}
+
+/// The more entries there are, the farther a color may be from the one that stands for it.
+fn near(entries: usize) -> SRgb8 {
+    let apart = 4 + (entries / 128 % 64) as u8;
+    SRgb8::new(apart, apart, apart)
+}
+
+/// Indexes a picture by a palette of up to 65536 colors, whose threshold is 0 or grows, and counts its indices.
+fn wide(alloc: Global, picture: Raster<SRgb8>, grows: bool, digest: &mut Digest) -> Option<()> {
+    let mut palette = Palette::new(alloc, 65536).ok()?;
+    if grows {
+        palette.set_threshold_fn(near);
+    }
+    let image = palette.make_indexed_wide(alloc, picture).ok()??;
+    let Ok(words) = image.into_u16_vec(alloc) else {
+        return None;
+    };
+    let counts = palette.histogram(alloc, &words).ok()??;
+    digest.add(palette.len() as u64);
+    for word in &words {
+        digest.add(u64::from(*word));
+    }
+    for count in &counts {
+        digest.add(*count as u64);
+    }
+    Some(())
+}
+
+/// Indexes a picture by a table of up to 256 colors with a threshold.
+fn few(
+    alloc: Global,
+    picture: &Raster<SRgb8>,
+    threshold: SRgb8,
+    digest: &mut Digest,
+) -> Option<()> {
+    let mut table = ColorTable::new(alloc, 256, threshold).ok()?;
+    digest.add(table.len() as u64);
+    match table.index(alloc, picture).ok()? {
+        Some(image) => {
+            digest.add_raster(alloc, &image)?;
+            let shown = table.look_up(alloc, &image).ok()??;
+            digest.add_raster(alloc, &shown)
+        }
+        None => Some(()),
+    }
+}

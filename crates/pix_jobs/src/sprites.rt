@@ -1,0 +1,263 @@
+//! Sprites, layers and text: what compositors, games and terminals draw.
+ghost use Rattle.std.specs.Prelude.{◌≡◌, ◌≤◌, ◌+◌};
+
+use crate::digest::Digest;
+use crate::pictures;
+use crate::random::Random;
+use crate::size::Size;
+use pix::chan::{Channel, Gamma, Linear, Premultiplied};
+use pix::el::{Pix, Pixel};
+use pix::hsv::Hsva8p;
+use pix::matte::{Matte, Matte8, Matte16};
+use pix::ops::Op;
+use pix::rgb::{Rgba8p, Rgba16p};
+use pix::{ColorModel, Command, Raster, Region};
+use std::alloc::{AllocError, Global};
+
+/// What is drawn: sprites, and the masks of glyphs.
+#[derive(Drop)]
+struct Sheet<P, K> {
+    sprites: Vec<Raster<P>>,
+    masks: Vec<Raster<K>>,
+}
+
+/// Does the job.
+pub(crate) fn run(
+    alloc: Global,
+    size: Size,
+    random: &mut Random,
+    digest: &mut Digest,
+) -> Option<()> {
+    let sheet = Sheet {
+        sprites: sprites(alloc, random)?,
+        masks: glyphs(alloc, random)?,
+    };
+    let mut page = Raster::<Rgba8p>::with_clear(alloc, size.of(1920), size.of(1080)).ok()?;
+    for _ in 0..size.of(160) {
+        draw(alloc, &mut page, &sheet, size.of(3000), random)?;
+    }
+    digest.add_raster(alloc, &page)?;
+    for _ in 0..size.of(32) {
+        layers(alloc, size, random, digest)?;
+    }
+    awkward(alloc, size, &sheet, random, digest)
+}
+
+/// Makes sprites of 16 to 64 pixels.
+fn sprites(alloc: Global, random: &mut Random) -> Option<Vec<Raster<Rgba8p>>> {
+    let mut sprites = Vec::new(alloc);
+    for _ in 0..16 {
+        let (width, height) = (16 + random.below(49), 16 + random.below(49));
+        sprites
+            .push(pictures::sprite(alloc, width, height, random)?)
+            .ok()?;
+    }
+    Some(sprites)
+}
+
+/// Makes masks of glyphs of 8 to 20 pixels.
+fn glyphs(alloc: Global, random: &mut Random) -> Option<Vec<Raster<Matte8>>> {
+    let mut glyphs = Vec::new(alloc);
+    for _ in 0..64 {
+        let (width, height) = (5 + random.below(10), 8 + random.below(13));
+        glyphs
+            .push(pictures::glyph(alloc, width, height, random)?)
+            .ok()?;
+    }
+    Some(glyphs)
+}
+
+/// Makes rasters of another format.
+fn converted<S: Pixel, D: Pixel>(alloc: Global, rasters: &[Raster<S>]) -> Option<Vec<Raster<D>>>
+where
+    D::Chan: From<S::Chan>,
+    S::Gamma: Gamma<D::Chan>,
+    requires few { D.layout.count ≤ D.layout.alpha + 1 }
+{
+    let mut made = Vec::new(alloc);
+    for i in 0..rasters.len() {
+        made.push(Raster::<D>::with_raster(alloc, &rasters[i]).ok()?)
+            .ok()?;
+    }
+    Some(made)
+}
+
+/// Draws a list of sprites and glyphs, some of which lie outside.
+///
+/// Condition: the model has three colors.
+fn draw<C: Channel, M: ColorModel>(
+    alloc: Global,
+    page: &mut Raster<Pix<4, C, M, Premultiplied, Linear>>,
+    sheet: &Sheet<Pix<4, C, M, Premultiplied, Linear>, Pix<1, C, Matte, Premultiplied, Linear>>,
+    count: u32,
+    random: &mut Random,
+) -> Option<()>
+    requires has_alpha { 4 ≡ M.ALPHA + 1 }
+{
+    let commands = scattered(alloc, sheet, count, random).ok()?;
+    page.run(&commands);
+    Some(())
+}
+
+/// Makes a list of sprites and glyphs at places by chance.
+fn scattered<'a, C: Channel, M: ColorModel>(
+    alloc: Global,
+    sheet: &'a Sheet<Pix<4, C, M, Premultiplied, Linear>, Pix<1, C, Matte, Premultiplied, Linear>>,
+    count: u32,
+    random: &mut Random,
+) -> Result<
+    Vec<Command<'a, Pix<4, C, M, Premultiplied, Linear>, Pix<1, C, Matte, Premultiplied, Linear>>>,
+    AllocError,
+> {
+    let mut commands = Vec::new(alloc);
+    for _ in 0..count {
+        commands.push(placed(sheet, random))?;
+    }
+    Ok(commands)
+}
+
+/// Returns the command that draws a sprite or a glyph at a place by chance.
+fn placed<'a, C: Channel, M: ColorModel>(
+    sheet: &'a Sheet<Pix<4, C, M, Premultiplied, Linear>, Pix<1, C, Matte, Premultiplied, Linear>>,
+    random: &mut Random,
+) -> Command<'a, Pix<4, C, M, Premultiplied, Linear>, Pix<1, C, Matte, Premultiplied, Linear>> {
+    let x = random.below(2000) as i32 - 40;
+    let y = random.below(1160) as i32 - 40;
+    let to = Region::new(x, y, 64, 64);
+    let sprite = sheet.sprites.get(random.below(16) as usize);
+    let glyph = sheet.masks.get(random.below(64) as usize);
+    let (Some(sprite), Some(glyph)) = (sprite, glyph) else {
+        return Command::Clear;
+    };
+    let clr = sprite.pixels().last().copied().unwrap_or_default();
+    let alpha = glyph.pixels().first().copied().unwrap_or_default();
+    match random.below(8) {
+        0..=3 => Command::Raster {
+            to,
+            src: sprite,
+            from: sprite.region(),
+            op: Op::SrcOver,
+        },
+        4 => Command::RasterAlpha {
+            to,
+            src: sprite,
+            from: sprite.region(),
+            alpha,
+            op: Op::SrcOver,
+        },
+        _ => Command::Matte {
+            to,
+            src: glyph,
+            from: glyph.region(),
+            clr,
+            op: Op::SrcOver,
+        },
+    }
+}
+
+/// Composites a picture of layers, each of them as large as it.
+fn layers(alloc: Global, size: Size, random: &mut Random, digest: &mut Digest) -> Option<()> {
+    let (width, height) = (size.of(960), size.of(540));
+    let mut page = Raster::<Rgba8p>::with_clear(alloc, width, height).ok()?;
+    let mut sheet = Sheet {
+        sprites: Vec::new(alloc),
+        masks: Vec::new(alloc),
+    };
+    let layer = pictures::sprite(alloc, width, height, random)?;
+    sheet.sprites.push(layer).ok()?;
+    let mask = pictures::glyph(alloc, width, height, random)?;
+    sheet.masks.push(mask).ok()?;
+    let commands = stacked(alloc, &sheet, random).ok()?;
+    page.run(&commands);
+    digest.add_raster(alloc, &page)
+}
+
+/// Makes a list of thirty layers.
+fn stacked<'a, C: Channel, M: ColorModel>(
+    alloc: Global,
+    sheet: &'a Sheet<Pix<4, C, M, Premultiplied, Linear>, Pix<1, C, Matte, Premultiplied, Linear>>,
+    random: &mut Random,
+) -> Result<
+    Vec<Command<'a, Pix<4, C, M, Premultiplied, Linear>, Pix<1, C, Matte, Premultiplied, Linear>>>,
+    AllocError,
+> {
+    let mut commands = Vec::new(alloc);
+    for _ in 0..30 {
+        commands.push(layer(sheet, random))?;
+    }
+    Ok(commands)
+}
+
+/// Returns the command of a layer that is moved by up to fifty pixels, or through a mask, or of a color.
+fn layer<'a, C: Channel, M: ColorModel>(
+    sheet: &'a Sheet<Pix<4, C, M, Premultiplied, Linear>, Pix<1, C, Matte, Premultiplied, Linear>>,
+    random: &mut Random,
+) -> Command<'a, Pix<4, C, M, Premultiplied, Linear>, Pix<1, C, Matte, Premultiplied, Linear>> {
+    let (Some(layer), Some(mask)) = (sheet.sprites.first(), sheet.masks.first()) else {
+        return Command::Clear;
+    };
+    let all = layer.region();
+    let x = random.below(100) as i32 - 50;
+    let y = random.below(100) as i32 - 50;
+    let to = Region::new(x, y, layer.width(), layer.height());
+    let place = random.below(30000) as usize;
+    let clr = layer.pixels().get(place).copied().unwrap_or_default();
+    let alpha = mask.pixels().get(place).copied().unwrap_or_default();
+    match random.below(4) {
+        0 => Command::Color {
+            reg: all,
+            clr,
+            op: Op::SrcOver,
+        },
+        1 => Command::RasterAlpha {
+            to,
+            src: layer,
+            from: all,
+            alpha,
+            op: Op::SrcOver,
+        },
+        2 => Command::RasterMatte {
+            to: all,
+            src: layer,
+            from: to,
+            mask,
+            mask_from: all,
+            op: Op::SrcOver,
+        },
+        _ => Command::Raster {
+            to,
+            src: layer,
+            from: all,
+            op: Op::SrcOver,
+        },
+    }
+}
+
+/// Draws the same on pages of a hue and of 16 bits.
+fn awkward(
+    alloc: Global,
+    size: Size,
+    sheet: &Sheet<Rgba8p, Matte8>,
+    random: &mut Random,
+    digest: &mut Digest,
+) -> Option<()> {
+    let hues = Sheet {
+        sprites: converted::<Rgba8p, Hsva8p>(alloc, &sheet.sprites)?,
+        masks: converted::<Matte8, Matte8>(alloc, &sheet.masks)?,
+    };
+    let mut page = Raster::<Hsva8p>::with_clear(alloc, size.of(1920), size.of(1080)).ok()?;
+    for _ in 0..size.of(32) {
+        draw(alloc, &mut page, &hues, size.of(600), random)?;
+    }
+    digest.add_raster(alloc, &page)?;
+    let fine = Sheet {
+        sprites: converted::<Rgba8p, Rgba16p>(alloc, &sheet.sprites)?,
+        masks: converted::<Matte8, Matte16>(alloc, &sheet.masks)?,
+    };
+    let mut page = Raster::<Rgba16p>::with_clear(alloc, size.of(1920), size.of(1080)).ok()?;
+    for _ in 0..size.of(32) {
+        draw(alloc, &mut page, &fine, size.of(1500), random)?;
+    }
+    let shown = Raster::<Rgba8p>::with_raster(alloc, &page).ok()?;
+    digest.add_raster(alloc, &shown)
+}
