@@ -4,3 +4,4 @@ pub mod IndexingSets
 pub mod IndexingLaws
 pub mod Thresholds
 pub mod Mapped
+pub mod Finders

@@ -1,9 +1,11 @@
 -- An entry that stands for a color by a threshold which is answered stands for it.
-use Rattle.std.proofs.Common.{◌≡◌, ℕ, List, [], ◌∷◌, Bool, true, false, length, map, sym, subst, inl, inr, Option, Some, None}
+use Rattle.std.proofs.Common.{◌≡◌, ℕ, List, [], ◌∷◌, Bool, true, false, length, map, sym, subst, ◌∙◌, inl, inr, Option, Some, None}
 use Rattle.std.proofs.lemmas.List.{length-map}
 use Rattle.pix_table.specs.PaletteMatch.{difference_to}
 use Rattle.pix_table.specs.Setting.{Fits, Matches, StandsFor, Always}
+use Rattle.pix_table.proofs.Settings.{none_stands}
 use Rattle.pix_palette.specs.Palette.{Color, numbers}
+use Rattle.pix_palette.specs.Finder.{IsNowhere}
 
 fits_by : (answers : ℕ → List ℕ → Type 0) (t : List ℕ) (n : ℕ) (d : List ℕ) (fits : Bool) → answers n t → Fits (Always t) n d fits → Fits answers n d fits
 fits_by answers t n d fits h (inl both) = inl both
@@ -29,3 +31,10 @@ standing_by answers t t' color color' entries entries' found e f g h s =
     (subst (λ c. StandsFor (Always t) (map numbers entries) c found) g
     (subst (λ u. StandsFor (Always u) (map numbers entries) color' found) f
     (subst (λ l. StandsFor (Always t') (map numbers l) color' found) e s)))
+
+-- where each entry differs from a color, none stands for it by a threshold of 0 that is answered
+pub none_by : (answers : ℕ → List ℕ → Type 0) (t t' : List ℕ) (color : List ℕ) (entries : List Color) → IsNowhere (map numbers entries) color
+    → t' ≡ t → t' ≡ 0 ∷ 0 ∷ 0 ∷ [] → answers (length entries) t → StandsFor answers (map numbers entries) color None
+none_by answers t t' color entries none e zeros h =
+    none_stands answers (map numbers entries) color none
+    (subst (λ n. answers n (0 ∷ 0 ∷ 0 ∷ [])) (sym (length-map entries numbers)) (subst (answers (length entries)) (sym e ∙ zeros) h))

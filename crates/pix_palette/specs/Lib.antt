@@ -2,3 +2,4 @@ pub mod Palette
 pub mod Histogram
 pub mod Indexing
 pub mod ColorTable
+pub mod Finder

@@ -8,6 +8,7 @@ ghost use Rattle.pix_palette.specs.Histogram.{IsHistogram};
 ghost use Rattle.pix_raster.specs.declared.fault.RasterFault.{RasterFault};
 
 mod color_table;
+mod finder;
 mod index;
 mod indexing;
 mod known;
@@ -194,8 +195,25 @@ impl Palette {
         ensures minimal { (m : ℕ) → IsMatch (map numbers self.old.colors.items) (numbers clr) m
             → IsMinimal (map numbers self.old.colors.items) (numbers clr) m }
     {
-        if let Some(at) = self.standing(clr) {
-            return Some(at);
+        let standing = self.standing(clr);
+        self.set_by(clr, standing)
+    }
+
+    /// Sets a color for which an entry stands, or none: answers that entry, or else appends the color where there is room.
+    fn set_by(&mut self, clr: SRgb8, standing: Option<usize>) -> Option<usize>
+        requires { StandsFor
+            (Answers Threshold.post (option_map (λ chosen. chosen.f) self.old.threshold))
+            (map numbers self.old.colors.items) (numbers clr) standing }
+        ensures set { IsSet numbers
+            (Answers Threshold.post (option_map (λ chosen. chosen.f) self.old.threshold))
+            self.old.limit self.old.colors.items clr result self.new.colors.items }
+        ensures answered { IfSome standing (λ at. (result ≡ Some at)
+            × (self.new.colors.items ≡ self.old.colors.items)) }
+        ensures limit { self.new.limit ≡ self.old.limit }
+        ensures threshold { self.new.threshold ≡ self.old.threshold }
+    {
+        if standing.is_some() {
+            return standing;
         }
         let len = self.colors.len();
         if len < self.limit {

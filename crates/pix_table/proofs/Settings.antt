@@ -1,7 +1,7 @@
 -- What setting a color keeps: entries stay where they are, and a color that stands is answered at its first index.
 use Rattle.std.specs.Prelude.{nat_lt, if◌then◌else◌}
 use Rattle.std.proofs.Common.{◌≡◌, ◌≢◌, ℕ, zero, suc, ◌+◌, ◌-◌, ◌<◌, ◌≤◌, Bool, true, false, List, [], ◌∷◌, ◌++◌, length, map, get_or, refl, arith, sym, ap, ◌∙◌, subst, inl, inr, Some, None, Option, append_assoc, length-append}
-use Rattle.std.proofs.lemmas.Bool.{true≢false}
+use Rattle.std.proofs.lemmas.Bool.{true≢false, false_from_ne_true}
 use Rattle.std.proofs.lemmas.Bool.Decides.{nat_tests}
 use Rattle.std.proofs.lemmas.List.{length-map, map-append, append-nil, get_or_append_left}
 use Rattle.std.proofs.Math.Seq.{get_or-append_seam}
@@ -199,3 +199,24 @@ pub standing_first : (answers : ℕ → List ℕ → Type 0) (entries : List (Li
 standing_first answers entries color i h same =
     let near : IsMinimal entries color i = match_minimal entries color i h.match in
     record { stands = match_below entries color i h.match; same = same; first = λ k before. λ z. near.first k before (z ∙ sym same) }
+
+-- a difference that is not 0 is not within a threshold of 0
+not_within_zero : (x y z : ℕ) → (x ∷ y ∷ z ∷ [] ≢ 0 ∷ 0 ∷ 0 ∷ []) → is_within (x ∷ y ∷ z ∷ []) (0 ∷ 0 ∷ 0 ∷ []) ≡ false
+not_within_zero x y z other = false_from_ne_true _ (λ e.
+    let red : x ≡ 0 = grind (arith, nat_tests) in
+    let green : y ≡ 0 = grind (arith, nat_tests) in
+    let blue : z ≡ 0 = grind (arith, nat_tests) in
+    other (rw (red, green, blue) refl))
+
+-- where each entry differs from a color, none stands for it by a threshold of 0
+pub none_stands : (answers : ℕ → List ℕ → Type 0) (entries : List (List ℕ)) (color : List ℕ)
+    → ((k : ℕ) → k < length entries → difference_to entries color k ≢ 0 ∷ 0 ∷ 0 ∷ []) → answers (length entries) (0 ∷ 0 ∷ 0 ∷ [])
+    → StandsFor answers entries color None
+none_stands answers [] color other zeros = tt
+none_stands answers (entry ∷ entries) color other zeros =
+    let h : HasBest (entry ∷ entries) color (length (entry ∷ entries)) = has_best (entry ∷ entries) color (length entries) (length (entry ∷ entries)) (omega arith) in
+    let match : IsMatch (entry ∷ entries) color h.at = best_match (entry ∷ entries) color (length (entry ∷ entries)) h.at h.least refl h.best in
+    (h.at, record {
+      match = match;
+      within = inr (0 ∷ 0 ∷ 0 ∷ [], zeros, not_within_zero _ _ _ (other h.at h.best.below));
+    })

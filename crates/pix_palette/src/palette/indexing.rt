@@ -5,9 +5,11 @@ ghost use Rattle.pix_table.specs.Kept.{AreRight};
 ghost use Rattle.pix_table.specs.Setting.{IsSet};
 ghost use Rattle.pix_table.specs.Indexing.{IsSetUpTo, AreIndexed};
 ghost use Rattle.pix_palette.specs.Palette.{Answers, numbers};
+ghost use Rattle.pix_palette.specs.Finder.{IsFinder};
 ghost use Rattle.pix_palette.specs.Indexing.{IsIndexed, AreGray, colors_of, values};
 ghost use Rattle.pix_raster.specs.declared.fault.RasterFault.{RasterFault};
 
+use super::finder::Finder;
 use super::index::IndexPixel;
 use super::table::{Palette, Threshold};
 use pix_chan::chan::{Ch8, Gamma};
@@ -102,10 +104,19 @@ impl Palette {
     }
 
     /// Sets a color: answers its index, or `None` where there is none up to `greatest`.
-    fn set_index(&mut self, cache: &mut Cache, clr: SRgb8, greatest: usize) -> Option<usize>
-        requires { AreRight
+    fn set_index(
+        &mut self,
+        alloc: Global,
+        cache: &mut Cache,
+        finder: &mut Finder,
+        clr: SRgb8,
+        greatest: usize,
+    ) -> Option<usize>
+        requires right { AreRight
             (Answers Threshold.post (option_map (λ chosen. chosen.f) self.old.threshold))
             (map numbers self.old.colors.items) cache.old.kept }
+        requires finder { IsFinder (map numbers self.old.colors.items)
+            finder.old.latest.items finder.old.earlier.items }
         ensures set { IsSetUpTo numbers (IsSet numbers
             (Answers Threshold.post (option_map (λ chosen. chosen.f) self.old.threshold))
             self.old.limit)
@@ -113,10 +124,12 @@ impl Palette {
         ensures right { AreRight
             (Answers Threshold.post (option_map (λ chosen. chosen.f) self.old.threshold))
             (map numbers self.new.colors.items) cache.new.kept }
+        ensures finder { IsFinder (map numbers self.new.colors.items)
+            finder.new.latest.items finder.new.earlier.items }
         ensures limit { self.new.limit ≡ self.old.limit }
         ensures threshold { self.new.threshold ≡ self.old.threshold }
     {
-        match self.set_known(cache, clr) {
+        match self.set_known(alloc, cache, finder, clr) {
             Some(index) if index <= greatest => Some(index),
             _ => None,
         }
@@ -124,7 +137,7 @@ impl Palette {
 
     /// Sets the color of each pixel, and sets the pixel of `indices` at the same place to its index, up to the first that has no index;
     /// returns whether all have one.
-    fn index_pixels<S, P>(&mut self, pixels: &[S], indices: &mut [P]) -> bool
+    fn index_pixels<S, P>(&mut self, alloc: Global, pixels: &[S], indices: &mut [P]) -> bool
     where
         S: Pixel,
         P: IndexPixel,
@@ -143,8 +156,10 @@ impl Palette {
         ensures threshold { self.new.threshold ≡ self.old.threshold }
     {
         let mut cache = Cache::new();
+        let mut finder = Finder::new(alloc);
         for i in 0..pixels.len() {
-            match self.set_index(&mut cache, pixels[i].convert::<SRgb8>(), P::GREATEST) {
+            let clr = pixels[i].convert::<SRgb8>();
+            match self.set_index(alloc, &mut cache, &mut finder, clr, P::GREATEST) {
                 Some(index) => indices[i] = P::of_index(index),
                 None => return false,
             }
@@ -180,7 +195,7 @@ impl Palette {
         match Raster::with_clear(alloc, raster.width(), raster.height()) {
             Err(_) => Err((RasterFault::Memory, raster)),
             Ok(mut image) => {
-                if self.index_pixels(raster.pixels(), image.pixels_mut()) {
+                if self.index_pixels(alloc, raster.pixels(), image.pixels_mut()) {
                     Ok(Some(image))
                 } else {
                     Ok(None)

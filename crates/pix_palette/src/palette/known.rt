@@ -1,26 +1,96 @@
 //! Colors that are kept beside a palette while an image is indexed.
-ghost use Rattle.std.specs.Prelude.{◌≡◌, length, map};
+ghost use Rattle.std.specs.Prelude.{◌≡◌, [], ◌∷◌, map, true};
 ghost use Rattle.std.specs.Option.{option_map};
 ghost use Rattle.pix_table.specs.Kept.{AreRight};
-ghost use Rattle.pix_table.specs.Setting.{IsSet};
+ghost use Rattle.pix_table.specs.Nearest.{numbers as color_numbers};
+ghost use Rattle.pix_table.specs.Setting.{IsSet, StandsFor};
 ghost use Rattle.pix_palette.specs.Palette.{Answers, numbers};
+ghost use Rattle.pix_palette.specs.Finder.{IsFinder, IsNowhere, IsWhole};
 
+use super::finder::Finder;
 use super::table::{Palette, Threshold};
 use pix_el::rgb::SRgb8;
-use pix_table::{Cache, TableColor};
+use pix_table::{Cache, Color, TableColor, standing};
+use std::alloc::Global;
+
+/// Returns whether all channels of a color are 0.
+fn is_zero(clr: Color) -> bool
+    ensures { result ≡ true → color_numbers clr ≡ 0 ∷ 0 ∷ 0 ∷ [] }
+{
+    clr.red == 0 && clr.green == 0 && clr.blue == 0
+}
 
 impl Palette {
+    /// Returns the entry that stands for a color: the first that is the color, which the finder knows, or else one within the threshold.
+    ///
+    /// Condition: the finder has all entries.
+    fn standing_found(&self, finder: &Finder, clr: SRgb8) -> Option<usize>
+        requires finder { IsFinder (map numbers self.now.colors.items)
+            finder.now.latest.items finder.now.earlier.items }
+        requires whole { IsWhole (map numbers self.now.colors.items)
+            finder.now.latest.items finder.now.earlier.items }
+        ensures { StandsFor
+            (Answers Threshold.post (option_map (λ chosen. chosen.f) self.now.threshold))
+            (map numbers self.now.colors.items) (numbers clr) result }
+    {
+        match finder.first(&self.colors, clr) {
+            Some(first) => Some(first),
+            None => self.standing_near(clr),
+        }
+    }
+
+    /// Returns the entry that stands for a color which no entry is: there is none where the threshold is 0.
+    fn standing_near(&self, clr: SRgb8) -> Option<usize>
+        requires { IsNowhere (map numbers self.now.colors.items) (numbers clr) }
+        ensures { StandsFor
+            (Answers Threshold.post (option_map (λ chosen. chosen.f) self.now.threshold))
+            (map numbers self.now.colors.items) (numbers clr) result }
+    {
+        let threshold = self.threshold().color();
+        if is_zero(threshold) {
+            return None;
+        }
+        standing(&self.colors, clr.color(), threshold)
+    }
+
+    /// Returns the entry that stands for a color, by a finder that is made and follows the palette where there are enough entries.
+    fn standing_known(&self, alloc: Global, finder: &mut Finder, clr: SRgb8) -> Option<usize>
+        requires finder { IsFinder (map numbers self.now.colors.items)
+            finder.old.latest.items finder.old.earlier.items }
+        ensures standing { StandsFor
+            (Answers Threshold.post (option_map (λ chosen. chosen.f) self.now.threshold))
+            (map numbers self.now.colors.items) (numbers clr) result }
+        ensures finder { IsFinder (map numbers self.now.colors.items)
+            finder.new.latest.items finder.new.earlier.items }
+    {
+        if finder.follow(alloc, &self.colors) {
+            self.standing_found(finder, clr)
+        } else {
+            self.standing(clr)
+        }
+    }
+
     /// Sets a color as `set_entry` does; a color that is kept takes no search.
-    pub(super) fn set_known(&mut self, cache: &mut Cache, clr: SRgb8) -> Option<usize>
-        requires { AreRight
+    pub(super) fn set_known(
+        &mut self,
+        alloc: Global,
+        cache: &mut Cache,
+        finder: &mut Finder,
+        clr: SRgb8,
+    ) -> Option<usize>
+        requires right { AreRight
             (Answers Threshold.post (option_map (λ chosen. chosen.f) self.old.threshold))
             (map numbers self.old.colors.items) cache.old.kept }
+        requires finder { IsFinder (map numbers self.old.colors.items)
+            finder.old.latest.items finder.old.earlier.items }
         ensures set { IsSet numbers
             (Answers Threshold.post (option_map (λ chosen. chosen.f) self.old.threshold))
             self.old.limit self.old.colors.items clr result self.new.colors.items }
         ensures right { AreRight
             (Answers Threshold.post (option_map (λ chosen. chosen.f) self.old.threshold))
             (map numbers self.new.colors.items) cache.new.kept }
+        ensures finder { IsFinder (map numbers self.new.colors.items)
+            finder.new.latest.items finder.new.earlier.items }
         ensures limit { self.new.limit ≡ self.old.limit }
         ensures threshold { self.new.threshold ≡ self.old.threshold }
     {
@@ -28,7 +98,8 @@ impl Palette {
         if let Some(index) = cache.find(color, self.colors.len()) {
             return Some(index);
         }
-        let index = self.set_entry(clr)?;
+        let standing = self.standing_known(alloc, finder, clr);
+        let index = self.set_by(clr, standing)?;
         cache.keep(&self.colors, color, index);
         Some(index)
     }

@@ -1,0 +1,6 @@
+-- Of `Palette::standing_found`: that the first entry which is the color stands for it.
+use Rattle.pix_table.proofs.Settings.{first_stands}
+use Rattle.pix_palette.proofs.palette.table.Palette.standing_found.Goals as goal
+
+pub returns-in-Some : goal.returns-in-Some
+returns-in-Some g c = first_stands _ _ _ c.in-Some.first (rw (c.deref.ensures.value, c.in-Some.is) at c.first.ensures)

@@ -1,0 +1,145 @@
+//! A finder of the entries of a palette that are a color, by which no other entry is looked at but those of the same place.
+//!
+//! Each color has one of so many places, by multiplicative hashing (D. E. Knuth, *The Art of Computer Programming*, 6.4), and the entries
+//! of a place are linked from the latest to the first. Where a request for memory is refused, the finder stays behind the palette,
+//! and all entries are looked at: no answer depends on it.
+ghost use Rattle.std.specs.Prelude.{◌≡◌, ◌+◌, ◌<◌, ◌≤◌, ℕ, List, [], length, map, MatchOption, slice_index_or, true};
+ghost use Rattle.pix_table.specs.PaletteMatch.{IsFirstOf};
+ghost use Rattle.pix_palette.specs.Palette.{numbers};
+ghost use Rattle.pix_palette.specs.Finder.{IsFinder, IsNowhere, IsWhole, place};
+
+use pix_el::rgb::SRgb8;
+use pix_table::TableColor;
+use std::alloc::Global;
+
+/// The number of places.
+const PLACES: usize = 16384;
+
+/// With fewer entries than these all are looked at, as fast as a finder is made.
+const FEW: usize = 128;
+
+/// The greatest number of entries.
+const MOST: usize = 4294967295;
+
+/// The latest entry of each place, and for each entry the one before it: indices plus one, or 0 where there is none.
+#[derive(Drop)]
+pub(super) struct Finder {
+    latest: Vec<u32>,
+    earlier: Vec<u32>,
+}
+
+/// Returns the place of a color.
+fn place_of(clr: SRgb8) -> usize
+    ensures place { result ≡ place (numbers clr) }
+    ensures below { result < 16384 }
+{
+    let color = clr.color();
+    let number = u64::from(color.red) * 65536
+        + u64::from(color.green) * 256
+        + u64::from(color.blue);
+    (number * 2654435761 / 67108864 % 16384) as usize
+}
+
+impl Finder {
+    /// Makes a finder of no entries, which takes no memory.
+    pub(super) fn new(alloc: Global) -> Finder
+        ensures { (colors : List (List ℕ)) → IsFinder colors result.latest.items
+            result.earlier.items }
+    {
+        Finder {
+            latest: Vec::new(alloc),
+            earlier: Vec::new(alloc),
+        }
+    }
+
+    /// Makes the places, if there are none and there are enough entries; returns whether they are made.
+    fn make(&mut self, alloc: Global, count: usize) -> bool
+        ensures finder { (colors : List (List ℕ))
+            → IsFinder colors self.old.latest.items self.old.earlier.items
+            → IsFinder colors self.new.latest.items self.new.earlier.items }
+        ensures made { (colors : List (List ℕ))
+            → IsFinder colors self.old.latest.items self.old.earlier.items
+            → result ≡ true → length self.new.latest.items ≡ 16384 }
+        ensures same { self.new.earlier ≡ self.old.earlier }
+    {
+        if self.latest.len() == 0 {
+            if count < FEW {
+                return false;
+            }
+            match Vec::from_elem(alloc, 0, PLACES) {
+                Ok(latest) => self.latest = latest,
+                Err(_) => return false,
+            }
+        }
+        true
+    }
+
+    /// Adds the color of the next entry; returns whether it could.
+    fn add(&mut self, clr: SRgb8) -> bool
+        requires made { length self.old.latest.items ≡ 16384 }
+        ensures made { length self.new.latest.items ≡ 16384 }
+        ensures added { (colors : List (List ℕ))
+            → IsFinder colors self.old.latest.items self.old.earlier.items
+            → length self.old.earlier.items < length colors
+            → slice_index_or colors (length self.old.earlier.items) [] ≡ numbers clr
+            → IsFinder colors self.new.latest.items self.new.earlier.items }
+        ensures one { result ≡ true
+            → length self.new.earlier.items ≡ length self.old.earlier.items + 1 }
+    {
+        let count = self.earlier.len();
+        if count >= MOST {
+            return false;
+        }
+        let place = place_of(clr);
+        let before = self.latest[place];
+        if self.earlier.push(before).is_err() {
+            return false;
+        }
+        self.latest[place] = count as u32 + 1;
+        true
+    }
+
+    /// Adds the entries that came after those which it has; returns whether it has all of them then.
+    pub(super) fn follow(&mut self, alloc: Global, colors: &[SRgb8]) -> bool
+        requires { IsFinder (map numbers colors.now) self.old.latest.items
+            self.old.earlier.items }
+        ensures finder { IsFinder (map numbers colors.now) self.new.latest.items
+            self.new.earlier.items }
+        ensures whole { result ≡ true → IsWhole (map numbers colors.now) self.new.latest.items
+            self.new.earlier.items }
+    {
+        if !self.make(alloc, colors.len()) {
+            return false;
+        }
+        for i in self.earlier.len()..colors.len() {
+            if !self.add(colors[i]) {
+                return false;
+            }
+        }
+        true
+    }
+
+    /// Returns the first entry that is a color.
+    ///
+    /// Condition: the finder has all entries.
+    pub(super) fn first(&self, colors: &[SRgb8], clr: SRgb8) -> Option<usize>
+        requires finder { IsFinder (map numbers colors.now) self.now.latest.items
+            self.now.earlier.items }
+        requires whole { IsWhole (map numbers colors.now) self.now.latest.items
+            self.now.earlier.items }
+        ensures { MatchOption result (IsNowhere (map numbers colors.now) (numbers clr))
+            (IsFirstOf (map numbers colors.now) (numbers clr)) }
+    {
+        let color = clr.color();
+        let mut found = None;
+        let mut at = self.latest[place_of(clr)];
+        while at > 0 {
+            let i = at as usize - 1;
+            if colors[i].color() == color {
+                found = Some(i);
+            }
+            at = self.earlier[i];
+        }
+        found
+    }
+}
