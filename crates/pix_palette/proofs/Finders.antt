@@ -1,6 +1,6 @@
 -- Entries that are found by the places of their colors.
 use Rattle.std.specs.Prelude.{slice_index, slice_index_or, MatchOption, ◌&&◌, nat_eq, replicate}
-use Rattle.std.proofs.Common.{◌≡◌, ◌≢◌, ℕ, ◌+◌, ◌-◌, ◌<◌, ◌≤◌, Bool, true, false, List, [], ◌∷◌, ◌++◌, length, map, refl, arith, sym, ap, ◌∙◌, subst, ◌⊎◌, inl, inr, Option, Some, None, get_or, set, length-append, length-set}
+use Rattle.std.proofs.Common.{◌≡◌, ◌≢◌, ℕ, ◌+◌, ◌-◌, ◌*◌, ◌<◌, ◌≤◌, Bool, true, false, List, [], ◌∷◌, ◌++◌, length, map, refl, arith, sym, ap, ◌∙◌, subst, ◌⊎◌, inl, inr, Option, Some, None, get_or, set, length-append, length-set}
 use Rattle.std.proofs.lemmas.Bool.{cases_lt, cases_eq, true≢false}
 use Rattle.std.proofs.lemmas.List.{get_or-replicate, length-replicate, get_or-set_same, get_or-set_other, get_or_append_left}
 use Rattle.std.proofs.Math.Seq.{get_or-append_seam}
@@ -8,7 +8,10 @@ use Rattle.std.proofs.lemmas.Bool.Decides.{nat_tests}
 use Rattle.pix_table.specs.From.{same_color}
 use Rattle.pix_table.specs.PaletteMatch.{color_difference, difference_to, IsFirstOf}
 use Rattle.pix_table.proofs.Settings.{Grows, entry_stays, longer}
-use Rattle.pix_palette.specs.Finder.{place, place_at, IsLatest, IsFinder, IsNowhere}
+use Rattle.pix_table.specs.ColorBlocks.{AreBlocks, IsBlock, channels_at}
+use Rattle.pix_table.specs.declared.color_block.ColorBlock.{ColorBlock}
+use Rattle.pix_palette.specs.Finder.{place, place_at, IsLatest, IsFinder, IsNowhere, Follows}
+use Rattle.pix_palette.specs.declared.palette.finder.Finder.{Finder}
 
 -- colors that do not differ have one place
 same_channel : (x y : ℕ) → x - y + (y - x) ≡ 0 → x ≡ y
@@ -201,3 +204,33 @@ module _ {C : Type 0} (read : C → List ℕ) (old new : List C) (g : Grows old 
             subst (λ p. IsLatest (map read new) p i (get_or earlier i d)) (sym (place_stays i (omega arith)))
             (latest_grows (place_at (map read old) i) i (get_or earlier i d) (omega arith) (h.before i d below));
       }
+
+  channels_stay : (i : ℕ) → i < length (map read old) → channels_at (map read new) i ≡ channels_at (map read old) i
+  channels_stay i below = ap (λ p. slice_index p 0 ∷ slice_index p 1 ∷ slice_index p 2 ∷ []) (entry_stays read old new i g below)
+
+  blocks_grow : (blocks : List ColorBlock) → AreBlocks (map read old) blocks → AreBlocks (map read new) blocks
+  blocks_grow blocks h = λ k d below.
+      let block : IsBlock (map read old) (16 * k) (slice_index_or blocks k d) = h k d below in
+      let within : 16 * k + 16 ≤ length (map read old) = block.within in
+      record {
+        within = (let more : length (map read old) ≤ length (map read new) = longer read old new g in omega arith);
+        each = λ i inside. block.each i inside ∙ sym (channels_stay (16 * k + i) (omega arith));
+      }
+
+  pub follows_grown : (finder : Finder) → Follows (map read old) finder → Follows (map read new) finder
+  follows_grown finder h = record {
+    places = finder_grows finder.latest.items finder.earlier.items h.places;
+    blocks = blocks_grow finder.blocks.items h.blocks;
+  }
+
+-- with one block more
+pub blocks_more : (entries : List (List ℕ)) (blocks : List ColorBlock) (block : ColorBlock) → AreBlocks entries blocks
+    → IsBlock entries (16 * length blocks) block → AreBlocks entries (blocks ++ block ∷ [])
+blocks_more entries blocks block h is = λ k d below. elim (cases_lt k (length blocks)) [
+  | inl b ↦ subst (IsBlock entries (16 * k)) (sym (get_or_append_left blocks (block ∷ []) d k b)) (h k d b)
+  | inr b ↦
+      let same : length blocks ≡ k = (let n : length (blocks ++ block ∷ []) ≡ length blocks + 1 = length-append blocks (block ∷ []) in omega arith) in
+      let there : get_or (blocks ++ block ∷ []) k d ≡ block =
+      ap (λ j. get_or (blocks ++ block ∷ []) j d) (sym same) ∙ get_or-append_seam blocks block [] d in
+      subst (IsBlock entries (16 * k)) (sym there) (subst (λ j. IsBlock entries (16 * j) block) same is)
+]

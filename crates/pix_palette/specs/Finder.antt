@@ -1,6 +1,8 @@
 -- How a finder keeps the entries of a palette: by the places of their colors. No clause that a user reads cites this file.
 use Rattle.std.specs.Prelude.{◌≡◌, ◌≢◌, ◌⊎◌, ℕ, ◌+◌, ◌*◌, ◌/◌, ◌%◌, ◌-◌, ◌<◌, ◌≤◌, List, [], ◌∷◌, length, slice_index, slice_index_or}
+use Rattle.pix_table.specs.ColorBlocks.{AreBlocks}
 use Rattle.pix_table.specs.PaletteMatch.{difference_to}
+use Rattle.pix_palette.specs.declared.palette.finder.Finder.{Finder}
 
 -- the place of a color: its channels as one number, times an odd constant near 2^32 over the golden ratio, of which the middle bits are taken
 abbrev pub place : List ℕ → ℕ
@@ -31,3 +33,8 @@ pub record IsWhole (colors : List (List ℕ)) (latest earlier : List ℕ) : Type
 -- no entry is the color: each differs
 abbrev pub IsNowhere : List (List ℕ) → List ℕ → Type 0
 IsNowhere colors color = (k : ℕ) → k < length colors → difference_to colors color k ≢ 0 ∷ 0 ∷ 0 ∷ []
+
+-- a finder knows the places of the first entries, and has blocks of the first entries
+pub record Follows (colors : List (List ℕ)) (finder : Finder) : Type 0 where
+  pub places : IsFinder colors finder.latest.items finder.earlier.items
+  pub blocks : AreBlocks colors finder.blocks.items

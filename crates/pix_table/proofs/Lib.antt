@@ -18,3 +18,4 @@ pub mod Settings
 pub mod KeptColors
 pub mod IndexingSets
 pub mod OneAnswer
+pub mod ColorBlockLemmas

@@ -1,8 +1,10 @@
 -- The candidates of a color, one entry after the other.
-use Rattle.std.specs.Prelude.{slice_index_or}
-use Rattle.std.proofs.Common.{◌≡◌, ◌≢◌, ℕ, ◌+◌, ◌<◌, ◌≤◌, true, false, List, [], ◌∷◌, ◌++◌, length, refl, arith, sym, ap, ◌∙◌, subst, ◌⊎◌, inl, inr}
+use Rattle.std.specs.Prelude.{slice_index_or, ◌&&◌, not}
+use Rattle.pix_table.specs.From.{same_color}
+use Rattle.std.proofs.Common.{◌≡◌, ◌≢◌, ℕ, zero, suc, ◌+◌, ◌<◌, ◌≤◌, true, false, List, [], ◌∷◌, ◌++◌, length, refl, arith, sym, ap, ◌∙◌, subst, ◌⊎◌, inl, inr}
 use Rattle.std.proofs.lemmas.Bool.{cases_lt, cases_order, true≢false, false_from_ne_true}
 use Rattle.std.proofs.lemmas.Bool.Decides.{nat_tests}
+use Rattle.pix_table.specs.ColorBlocks.{IsBest}
 use Rattle.pix_table.specs.PaletteMatch.{difference_to, is_within, is_closer, IsNext, AreCandidates, IsMatch, IsMinimal, IsFirstOf}
 
 -- the next candidate stays the next with one entry more
@@ -169,13 +171,6 @@ match_of_standing entries color m i h f =
       ]
     ]
 
--- the last candidate among the first n entries, and its difference
-pub record IsBest (entries : List (List ℕ)) (color : List ℕ) (n at : ℕ) (least : List ℕ) : Type 0 where
-  pub below : at < n
-  pub candidates : List ℕ
-  pub last : AreCandidates (difference_to entries color) n 0 candidates at
-  pub same : least ≡ difference_to entries color at
-
 -- of one entry it is that
 pub best_first : (entries : List (List ℕ)) (color least : List ℕ) → least ≡ difference_to entries color 0 → IsBest entries color 1 0 least
 best_first entries color least e = record { below = omega arith; candidates = []; last = (refl, λ k after before. absurd (omega arith)); same = e }
@@ -209,3 +204,17 @@ best_match entries color n at least e h = record {
   candidates = h.candidates;
   last = subst (λ k. AreCandidates (difference_to entries color) k 0 h.candidates at) e h.last;
 }
+
+-- entries that are too far in a channel leave it as it is
+far_stays : (entries : List (List ℕ)) (color : List ℕ) (n at : ℕ) (least : List ℕ) → IsBest entries color n at least
+    → is_within (difference_to entries color n) least ≡ false → IsBest entries color (n + 1) at least
+far_stays entries color n at least h far =
+    best_stays entries color n at least (difference_to entries color n) h refl (ap (λ w. w && not (same_color (difference_to entries color n) least)) far)
+
+pub all_far : (entries : List (List ℕ)) (color : List ℕ) (n count at : ℕ) (least : List ℕ) → IsBest entries color n at least
+    → ((i : ℕ) → n ≤ i → i < n + count → is_within (difference_to entries color i) least ≡ false) → IsBest entries color (n + count) at least
+all_far entries color n zero at least h far = (let e : n ≡ n + 0 = omega arith in subst (λ k. IsBest entries color k at least) e h)
+all_far entries color n (suc count) at least h far =
+    let before : IsBest entries color (n + count) at least = all_far entries color n count at least h (λ i from below. far i from (omega arith)) in
+    let next : IsBest entries color (n + count + 1) at least = far_stays entries color (n + count) at least before (far (n + count) (omega arith) (omega arith)) in
+    (let e : n + count + 1 ≡ n + suc count = omega arith in subst (λ k. IsBest entries color k at least) e next)

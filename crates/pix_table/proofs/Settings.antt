@@ -7,7 +7,8 @@ use Rattle.std.proofs.lemmas.List.{length-map, map-append, append-nil, get_or_ap
 use Rattle.std.proofs.Math.Seq.{get_or-append_seam}
 use Rattle.pix_table.specs.PaletteMatch.{color_difference, difference_to, is_within, is_closer, AreCandidates, IsMatch, IsMinimal, IsFirstOf}
 use Rattle.pix_table.specs.Setting.{Fits, StandsFor, IsSet, set_answer, set_colors}
-use Rattle.pix_table.proofs.PaletteMatches.{match_minimal, match_of_standing, zero_least, IsBest, best_first, best_closer, best_stays, best_match}
+use Rattle.pix_table.specs.ColorBlocks.{IsBest}
+use Rattle.pix_table.proofs.PaletteMatches.{match_minimal, match_of_standing, zero_least, best_first, best_closer, best_stays, best_match}
 
 -- a difference of 0 is within any threshold
 pub zero_within : (t : List ℕ) → is_within (0 ∷ 0 ∷ 0 ∷ []) t ≡ true
@@ -215,8 +216,10 @@ pub none_stands : (answers : ℕ → List ℕ → Type 0) (entries : List (List 
 none_stands answers [] color other zeros = tt
 none_stands answers (entry ∷ entries) color other zeros =
     let h : HasBest (entry ∷ entries) color (length (entry ∷ entries)) = has_best (entry ∷ entries) color (length entries) (length (entry ∷ entries)) (omega arith) in
-    let match : IsMatch (entry ∷ entries) color h.at = best_match (entry ∷ entries) color (length (entry ∷ entries)) h.at h.least refl h.best in
-    (h.at, record {
-      match = match;
-      within = inr (0 ∷ 0 ∷ 0 ∷ [], zeros, not_within_zero _ _ _ (other h.at h.best.below));
-    })
+    let match : IsMatch (entry ∷ entries) color h.at = best_match (entry ∷ entries) color (length (entry ∷ entries)) h.at h.least refl h.best in (
+      h.at,
+      record {
+        match = match;
+        within = inr (0 ∷ 0 ∷ 0 ∷ [], zeros, not_within_zero _ _ _ (other h.at h.best.below));
+      },
+    )

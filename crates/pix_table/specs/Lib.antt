@@ -12,3 +12,4 @@ pub mod Setting
 pub mod Indexing
 pub mod Kept
 pub mod SrgbColor
+pub mod ColorBlocks

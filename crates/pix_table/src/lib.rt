@@ -5,6 +5,7 @@
 
 mod boxes;
 mod color;
+mod color_block;
 mod cut;
 mod diffuse;
 mod from;
@@ -20,6 +21,7 @@ mod threshold;
 mod word;
 
 pub use crate::color::{Color, TableColor, TablePixel};
+pub use crate::color_block::{ColorBlock, standing_in};
 pub use crate::diffuse::{Diffusion, diffuse_pixels, diffusion_work};
 pub use crate::from::{table_from, table_work};
 pub use crate::index::index_pixels;

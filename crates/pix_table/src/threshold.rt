@@ -1,5 +1,6 @@
 //! The entry that stands for a color: its match, where that is within a threshold.
-ghost use Rattle.std.specs.Prelude.{◌≡◌, ◌<◌, length, map};
+ghost use Rattle.std.specs.Prelude.{◌≡◌, ◌<◌, ◌≤◌, length, map};
+ghost use Rattle.pix_table.specs.ColorBlocks.{IsBest};
 ghost use Rattle.pix_table.specs.Nearest.{numbers};
 ghost use Rattle.pix_table.specs.PaletteMatch.{IsMatch, color_difference, difference_to, is_closer, is_within};
 ghost use Rattle.pix_table.specs.Setting.{Always, StandsFor};
@@ -19,7 +20,7 @@ fn apart(p: Color, q: Color) -> Color
 }
 
 /// Returns whether a difference is no greater than a threshold in any channel.
-fn is_within(difference: Color, threshold: Color) -> bool
+pub(crate) fn is_within(difference: Color, threshold: Color) -> bool
     ensures { result ≡ is_within (numbers difference) (numbers threshold) }
 {
     difference.red <= threshold.red
@@ -34,16 +35,30 @@ fn is_closer(difference: Color, least: Color) -> bool
     is_within(difference, least) && !same(difference, least)
 }
 
-/// Returns the match of a color, with its difference. Condition: there is an entry.
-fn closest<C: TableColor>(colors: &[C], clr: Color) -> (usize, Color)
+/// Returns entry 0, which is the first candidate, with its difference. Condition: there is one.
+pub(crate) fn closest_of_one<C: TableColor>(colors: &[C], clr: Color) -> (usize, Color)
     requires { 0 < length colors.now }
-    ensures found { IsMatch (map C.channels colors.now) (numbers clr) result.0 }
-    ensures difference { numbers result.1 ≡
-        difference_to (map C.channels colors.now) (numbers clr) result.0 }
+    ensures { IsBest (map C.channels colors.now) (numbers clr) 1 result.0 (numbers result.1) }
 {
-    let mut at = 0;
-    let mut least = apart(colors[0].color(), clr);
-    for i in 1..colors.len() {
+    (0, apart(colors[0].color(), clr))
+}
+
+/// Returns the last candidate of the entries before `end`, with its difference, given that of the entries before `start`.
+pub(crate) fn closest_between<C: TableColor>(
+    colors: &[C],
+    clr: Color,
+    start: usize,
+    end: usize,
+    at: usize,
+    least: Color,
+) -> (usize, Color)
+    requires order { start ≤ end }
+    requires within { end ≤ length colors.now }
+    requires best { IsBest (map C.channels colors.now) (numbers clr) start at (numbers least) }
+    ensures { IsBest (map C.channels colors.now) (numbers clr) end result.0 (numbers result.1) }
+{
+    let (mut at, mut least) = (at, least);
+    for i in start..end {
         let difference = apart(colors[i].color(), clr);
         if is_closer(difference, least) {
             at = i;
@@ -51,6 +66,17 @@ fn closest<C: TableColor>(colors: &[C], clr: Color) -> (usize, Color)
         }
     }
     (at, least)
+}
+
+/// Returns the match of a color, with its difference. Condition: there is an entry.
+fn closest<C: TableColor>(colors: &[C], clr: Color) -> (usize, Color)
+    requires { 0 < length colors.now }
+    ensures found { IsMatch (map C.channels colors.now) (numbers clr) result.0 }
+    ensures difference { numbers result.1 ≡
+        difference_to (map C.channels colors.now) (numbers clr) result.0 }
+{
+    let (at, least) = closest_of_one(colors, clr);
+    closest_between(colors, clr, 1, colors.len(), at, least)
 }
 
 /// Returns the entry that stands for a color: its match, if it is within the threshold; or `None`.

@@ -4,12 +4,13 @@
 //! of a place are linked from the latest to the first. Where a request for memory is refused, the finder stays behind the palette,
 //! and all entries are looked at: no answer depends on it.
 ghost use Rattle.std.specs.Prelude.{◌≡◌, ◌+◌, ◌<◌, ◌≤◌, ℕ, List, [], length, map, MatchOption, slice_index_or, true};
+ghost use Rattle.pix_table.specs.ColorBlocks.{AreBlocks};
 ghost use Rattle.pix_table.specs.PaletteMatch.{IsFirstOf};
 ghost use Rattle.pix_palette.specs.Palette.{numbers};
-ghost use Rattle.pix_palette.specs.Finder.{IsFinder, IsNowhere, IsWhole, place};
+ghost use Rattle.pix_palette.specs.Finder.{Follows, IsFinder, IsNowhere, IsWhole, place};
 
 use pix_el::rgb::SRgb8;
-use pix_table::TableColor;
+use pix_table::{ColorBlock, TableColor};
 use std::alloc::Global;
 
 /// The number of places.
@@ -21,11 +22,12 @@ const FEW: usize = 128;
 /// The greatest number of entries.
 const MOST: usize = 4294967295;
 
-/// The latest entry of each place, and for each entry the one before it: indices plus one, or 0 where there is none.
+/// The latest entry of each place, and for each entry the one before it: indices plus one, or 0 where there is none; and blocks of the first entries.
 #[derive(Drop)]
 pub(super) struct Finder {
     latest: Vec<u32>,
     earlier: Vec<u32>,
+    pub(super) blocks: Vec<ColorBlock>,
 }
 
 /// Returns the place of a color.
@@ -43,12 +45,12 @@ fn place_of(clr: SRgb8) -> usize
 impl Finder {
     /// Makes a finder of no entries, which takes no memory.
     pub(super) fn new(alloc: Global) -> Finder
-        ensures { (colors : List (List ℕ)) → IsFinder colors result.latest.items
-            result.earlier.items }
+        ensures { (colors : List (List ℕ)) → Follows colors result }
     {
         Finder {
             latest: Vec::new(alloc),
             earlier: Vec::new(alloc),
+            blocks: Vec::new(alloc),
         }
     }
 
@@ -61,6 +63,7 @@ impl Finder {
             → IsFinder colors self.old.latest.items self.old.earlier.items
             → result ≡ true → length self.new.latest.items ≡ 16384 }
         ensures same { self.new.earlier ≡ self.old.earlier }
+        ensures blocks { self.new.blocks ≡ self.old.blocks }
     {
         if self.latest.len() == 0 {
             if count < FEW {
@@ -85,6 +88,7 @@ impl Finder {
             → IsFinder colors self.new.latest.items self.new.earlier.items }
         ensures one { result ≡ true
             → length self.new.earlier.items ≡ length self.old.earlier.items + 1 }
+        ensures blocks { self.new.blocks ≡ self.old.blocks }
     {
         let count = self.earlier.len();
         if count >= MOST {
@@ -99,12 +103,25 @@ impl Finder {
         true
     }
 
+    /// Adds blocks of the entries that came after those of which it has some, as far as memory is given.
+    fn follow_blocks(&mut self, colors: &[SRgb8])
+        requires { AreBlocks (map numbers colors.now) self.old.blocks.items }
+        ensures blocks { AreBlocks (map numbers colors.now) self.new.blocks.items }
+        ensures latest { self.new.latest ≡ self.old.latest }
+        ensures earlier { self.new.earlier ≡ self.old.earlier }
+    {
+        for k in self.blocks.len()..colors.len() / 16 {
+            let block = ColorBlock::new(colors, 16 * k);
+            if self.blocks.push(block).is_err() {
+                return;
+            }
+        }
+    }
+
     /// Adds the entries that came after those which it has; returns whether it has all of them then.
     pub(super) fn follow(&mut self, alloc: Global, colors: &[SRgb8]) -> bool
-        requires { IsFinder (map numbers colors.now) self.old.latest.items
-            self.old.earlier.items }
-        ensures finder { IsFinder (map numbers colors.now) self.new.latest.items
-            self.new.earlier.items }
+        requires { Follows (map numbers colors.now) self.old }
+        ensures finder { Follows (map numbers colors.now) self.new }
         ensures whole { result ≡ true → IsWhole (map numbers colors.now) self.new.latest.items
             self.new.earlier.items }
     {
@@ -116,6 +133,7 @@ impl Finder {
                 return false;
             }
         }
+        self.follow_blocks(colors);
         true
     }
 

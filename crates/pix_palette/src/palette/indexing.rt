@@ -5,7 +5,7 @@ ghost use Rattle.pix_table.specs.Kept.{AreRight};
 ghost use Rattle.pix_table.specs.Setting.{IsSet};
 ghost use Rattle.pix_table.specs.Indexing.{IsSetUpTo, AreIndexed};
 ghost use Rattle.pix_palette.specs.Palette.{Answers, numbers};
-ghost use Rattle.pix_palette.specs.Finder.{IsFinder};
+ghost use Rattle.pix_palette.specs.Finder.{Follows};
 ghost use Rattle.pix_palette.specs.Indexing.{IsIndexed, AreGray, colors_of, values};
 ghost use Rattle.pix_raster.specs.declared.fault.RasterFault.{RasterFault};
 
@@ -115,8 +115,7 @@ impl Palette {
         requires right { AreRight
             (Answers Threshold.post (option_map (λ chosen. chosen.f) self.old.threshold))
             (map numbers self.old.colors.items) cache.old.kept }
-        requires finder { IsFinder (map numbers self.old.colors.items)
-            finder.old.latest.items finder.old.earlier.items }
+        requires finder { Follows (map numbers self.old.colors.items) finder.old }
         ensures set { IsSetUpTo numbers (IsSet numbers
             (Answers Threshold.post (option_map (λ chosen. chosen.f) self.old.threshold))
             self.old.limit)
@@ -124,8 +123,7 @@ impl Palette {
         ensures right { AreRight
             (Answers Threshold.post (option_map (λ chosen. chosen.f) self.old.threshold))
             (map numbers self.new.colors.items) cache.new.kept }
-        ensures finder { IsFinder (map numbers self.new.colors.items)
-            finder.new.latest.items finder.new.earlier.items }
+        ensures finder { Follows (map numbers self.new.colors.items) finder.new }
         ensures limit { self.new.limit ≡ self.old.limit }
         ensures threshold { self.new.threshold ≡ self.old.threshold }
     {

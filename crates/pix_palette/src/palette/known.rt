@@ -1,16 +1,17 @@
 //! Colors that are kept beside a palette while an image is indexed.
 ghost use Rattle.std.specs.Prelude.{◌≡◌, [], ◌∷◌, map, true};
 ghost use Rattle.std.specs.Option.{option_map};
+ghost use Rattle.pix_table.specs.ColorBlocks.{AreBlocks};
 ghost use Rattle.pix_table.specs.Kept.{AreRight};
 ghost use Rattle.pix_table.specs.Nearest.{numbers as color_numbers};
 ghost use Rattle.pix_table.specs.Setting.{IsSet, StandsFor};
 ghost use Rattle.pix_palette.specs.Palette.{Answers, numbers};
-ghost use Rattle.pix_palette.specs.Finder.{IsFinder, IsNowhere, IsWhole};
+ghost use Rattle.pix_palette.specs.Finder.{Follows, IsNowhere, IsWhole};
 
 use super::finder::Finder;
 use super::table::{Palette, Threshold};
 use pix_el::rgb::SRgb8;
-use pix_table::{Cache, Color, TableColor, standing};
+use pix_table::{Cache, Color, ColorBlock, TableColor, standing_in};
 use std::alloc::Global;
 
 /// Returns whether all channels of a color are 0.
@@ -25,8 +26,7 @@ impl Palette {
     ///
     /// Condition: the finder has all entries.
     fn standing_found(&self, finder: &Finder, clr: SRgb8) -> Option<usize>
-        requires finder { IsFinder (map numbers self.now.colors.items)
-            finder.now.latest.items finder.now.earlier.items }
+        requires finder { Follows (map numbers self.now.colors.items) finder.now }
         requires whole { IsWhole (map numbers self.now.colors.items)
             finder.now.latest.items finder.now.earlier.items }
         ensures { StandsFor
@@ -35,13 +35,14 @@ impl Palette {
     {
         match finder.first(&self.colors, clr) {
             Some(first) => Some(first),
-            None => self.standing_near(clr),
+            None => self.standing_near(&finder.blocks, clr),
         }
     }
 
     /// Returns the entry that stands for a color which no entry is: there is none where the threshold is 0.
-    fn standing_near(&self, clr: SRgb8) -> Option<usize>
-        requires { IsNowhere (map numbers self.now.colors.items) (numbers clr) }
+    fn standing_near(&self, blocks: &[ColorBlock], clr: SRgb8) -> Option<usize>
+        requires nowhere { IsNowhere (map numbers self.now.colors.items) (numbers clr) }
+        requires blocks { AreBlocks (map numbers self.now.colors.items) blocks.now }
         ensures { StandsFor
             (Answers Threshold.post (option_map (λ chosen. chosen.f) self.now.threshold))
             (map numbers self.now.colors.items) (numbers clr) result }
@@ -50,18 +51,16 @@ impl Palette {
         if is_zero(threshold) {
             return None;
         }
-        standing(&self.colors, clr.color(), threshold)
+        standing_in(blocks, &self.colors, clr.color(), threshold)
     }
 
     /// Returns the entry that stands for a color, by a finder that is made and follows the palette where there are enough entries.
     fn standing_known(&self, alloc: Global, finder: &mut Finder, clr: SRgb8) -> Option<usize>
-        requires finder { IsFinder (map numbers self.now.colors.items)
-            finder.old.latest.items finder.old.earlier.items }
+        requires finder { Follows (map numbers self.now.colors.items) finder.old }
         ensures standing { StandsFor
             (Answers Threshold.post (option_map (λ chosen. chosen.f) self.now.threshold))
             (map numbers self.now.colors.items) (numbers clr) result }
-        ensures finder { IsFinder (map numbers self.now.colors.items)
-            finder.new.latest.items finder.new.earlier.items }
+        ensures finder { Follows (map numbers self.now.colors.items) finder.new }
     {
         if finder.follow(alloc, &self.colors) {
             self.standing_found(finder, clr)
@@ -81,16 +80,14 @@ impl Palette {
         requires right { AreRight
             (Answers Threshold.post (option_map (λ chosen. chosen.f) self.old.threshold))
             (map numbers self.old.colors.items) cache.old.kept }
-        requires finder { IsFinder (map numbers self.old.colors.items)
-            finder.old.latest.items finder.old.earlier.items }
+        requires finder { Follows (map numbers self.old.colors.items) finder.old }
         ensures set { IsSet numbers
             (Answers Threshold.post (option_map (λ chosen. chosen.f) self.old.threshold))
             self.old.limit self.old.colors.items clr result self.new.colors.items }
         ensures right { AreRight
             (Answers Threshold.post (option_map (λ chosen. chosen.f) self.old.threshold))
             (map numbers self.new.colors.items) cache.new.kept }
-        ensures finder { IsFinder (map numbers self.new.colors.items)
-            finder.new.latest.items finder.new.earlier.items }
+        ensures finder { Follows (map numbers self.new.colors.items) finder.new }
         ensures limit { self.new.limit ≡ self.old.limit }
         ensures threshold { self.new.threshold ≡ self.old.threshold }
     {

@@ -5,7 +5,7 @@ use Rattle.pix_table.specs.Kept.{AreRight}
 use Rattle.pix_table.specs.Setting.{IsSet}
 use Rattle.pix_table.proofs.IndexingSets.{AreSetBelow}
 use Rattle.pix_palette.specs.Palette.{Answers, numbers}
-use Rattle.pix_palette.specs.Finder.{IsFinder}
+use Rattle.pix_palette.specs.Finder.{Follows}
 use Rattle.pix_palette.specs.Indexing.{colors_of, values}
 use Rattle.pix_palette.specs.contracts.palette.table.Palette.index_pixels.fn-1 as pointer
 use Rattle.pix_palette.proofs.palette.table.Palette.index_pixels.Given as goal
@@ -23,7 +23,7 @@ invariant-loop-i g l = record {
       (pointer.members g.row.S g.row.P g.row.S-Chan g.row.S-Model g.row.S-Alpha g.row.S-Gamma g.row.P-Chan g.row.P-Model g.row.P-Alpha g.row.P-Gamma g.fn-1)).post
       (option_map (λ chosen. chosen.f) l.fn.self.threshold))
       (map numbers l.self.colors.items) l.cache.kept;
-  finder : IsFinder (map numbers l.self.colors.items) l.finder.latest.items l.finder.earlier.items;
+  finder : Follows (map numbers l.self.colors.items) l.finder;
   limit : l.self.limit ≡ l.fn.self.limit;
   threshold : l.self.threshold ≡ l.fn.self.threshold;
 }

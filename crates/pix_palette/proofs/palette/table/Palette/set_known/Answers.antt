@@ -3,7 +3,7 @@ use Rattle.std.proofs.Common.{◌<◌, length, sym, subst, arith}
 use Rattle.pix_palette.specs.Palette.{numbers}
 use Rattle.pix_table.proofs.KeptColors.{all_kept_is_set, set_below, set_kept_right, set_right}
 use Rattle.pix_table.proofs.Settings.{set_grows}
-use Rattle.pix_palette.proofs.Finders.{finder_grows}
+use Rattle.pix_palette.proofs.Finders.{follows_grown}
 use Rattle.pix_palette.proofs.palette.table.Palette.set_known.Goals as goal
 
 pub returns-in-Some-clause-set : goal.returns-in-Some-clause-set
@@ -15,7 +15,7 @@ returns-in_err-index-clause-right g c = set_right numbers _ _ _ c.args.clr _ _ _
 
 pub returns-in_err-index-clause-finder : goal.returns-in_err-index-clause-finder
 returns-in_err-index-clause-finder g c =
-    finder_grows numbers _ _ (set_grows numbers _ _ _ c.args.clr _ _ c.set_by.ensures.set) _ _ c.standing_known-standing.ensures.finder
+    follows_grown numbers _ _ (set_grows numbers _ _ _ c.args.clr _ _ c.set_by.ensures.set) _ c.standing_known-standing.ensures.finder
 
 pub keep-requires : goal.keep-requires
 keep-requires g c =
@@ -28,4 +28,4 @@ returns-clause-right g c =
 
 pub returns-clause-finder : goal.returns-clause-finder
 returns-clause-finder g c =
-    finder_grows numbers _ _ (set_grows numbers _ _ _ c.args.clr _ _ c.in_ok-index.ensures.set) _ _ c.standing_known-standing.ensures.finder
+    follows_grown numbers _ _ (set_grows numbers _ _ _ c.args.clr _ _ c.in_ok-index.ensures.set) _ c.standing_known-standing.ensures.finder
