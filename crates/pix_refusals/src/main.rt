@@ -38,6 +38,10 @@ fn main(rt: HostRuntime) -> ExitCode {
         ("histogram", palettes::histogram(alloc)),
         ("make_indexed", palettes::make_indexed(alloc)),
         ("make_indexed_wide", palettes::make_indexed_wide(alloc)),
+        (
+            "make_indexed_of_many",
+            palettes::make_indexed_of_many(alloc),
+        ),
     ] {
         if !right {
             let _ = println!(rt; "{name}: another answer");

@@ -119,3 +119,30 @@ pub(crate) fn make_indexed_wide(alloc: Global) -> bool {
         }
     }
 }
+
+/// A raster of 200 colors, and once more the first of them.
+fn many_colors(alloc: Global) -> Option<Raster<SRgb8>> {
+    let mut raster = Raster::<SRgb8>::with_clear(alloc, 201, 1).ok()?;
+    let mut red = 0_u8;
+    for pixel in raster.pixels_mut().iter_mut() {
+        *pixel = SRgb8::new(red, 9u8, 7u8);
+        red = if red < 199 { red + 1 } else { 0 };
+    }
+    Some(raster)
+}
+
+/// Colors are found by places, and where a request for those is refused, among all entries: the answer is the same.
+pub(crate) fn make_indexed_of_many(alloc: Global) -> bool {
+    let (Ok(mut palette), Some(raster)) = (Palette::new(alloc, 200), many_colors(alloc)) else {
+        return true;
+    };
+    match palette.make_indexed(alloc, raster) {
+        Ok(Some(image)) => {
+            palette.len() == 200
+                && image.pixels().get(199) == Some(&Gray8::new(199u8))
+                && image.pixels().last() == Some(&Gray8::new(0u8))
+        }
+        Ok(None) => false,
+        Err((fault, _)) => fault == RasterFault::Memory && palette.is_empty(),
+    }
+}
