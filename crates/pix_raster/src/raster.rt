@@ -112,12 +112,11 @@ impl<P: Pixel> Raster<P> {
         ensures no_room { size_fault width height ≡ None → height * width ≡ 0 → IsOk result }
     {
         let count = point_count(width, height)?;
-        let mut pixels = Vec::with_capacity(alloc, count)?;
-        for _ in 0..count {
-            if pixels.push(clr).is_err() {
-                return Err(RasterFault::Memory);
-            }
-        }
+        let pixels = if count == 0 {
+            Vec::new(alloc)
+        } else {
+            Vec::from_elem(alloc, clr, count)?
+        };
         Ok(Raster {
             width,
             height,
