@@ -4,6 +4,7 @@ pub mod Written
 pub mod Composited
 pub mod Conversions
 pub mod InLight
+pub mod LightBlocks
 pub mod FourPlanes
 pub mod TwoPlanes
 pub mod Halves

@@ -17,6 +17,7 @@ pub mod Pixel
 pub mod Color
 pub mod Conversion
 pub mod Light
+pub mod LightBlocks
 pub mod PixelComposite
 pub mod Planes
 pub mod Premultiplied

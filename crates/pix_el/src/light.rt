@@ -9,8 +9,11 @@ ghost use Rattle.pix_el.specs.Light.{mode_changed, channel_in_light, channel_as_
 
 use crate::conversion::channel_at_depth;
 use crate::el::Pixel;
+use crate::light::blocks::{encode_blocks, srgb_levels};
 use crate::model::ColorModel;
 use pix_chan::chan::{Alpha, Ch8, Ch16, Channel, Linear, Srgb};
+
+mod blocks;
 
 /// A gamma mode with a curve from channels of type `C` to linear ones of type `D`: `Srgb`, from `Ch8` to `Ch16`. This trait is sealed.
 pub trait Transfer<C: Channel, D: Channel> {
@@ -21,6 +24,32 @@ pub trait Transfer<C: Channel, D: Channel> {
     /// Returns the linear channel `c` as this mode encodes it.
     fn from_light(c: D) -> C
         ensures { C.number result ≡ srgb_encoded8 (D.number c) };
+
+    /// Returns sixteen linear channels as this mode encodes them.
+    #[doc(hidden)]
+    #[inline(always)]
+    fn from_light16(c: [D; 16]) -> [C; 16]
+        ensures { map C.number result ≡ map srgb_encoded8 (map D.number c) }
+    {
+        [
+            Self::from_light(c[0]),
+            Self::from_light(c[1]),
+            Self::from_light(c[2]),
+            Self::from_light(c[3]),
+            Self::from_light(c[4]),
+            Self::from_light(c[5]),
+            Self::from_light(c[6]),
+            Self::from_light(c[7]),
+            Self::from_light(c[8]),
+            Self::from_light(c[9]),
+            Self::from_light(c[10]),
+            Self::from_light(c[11]),
+            Self::from_light(c[12]),
+            Self::from_light(c[13]),
+            Self::from_light(c[14]),
+            Self::from_light(c[15]),
+        ]
+    }
 
     /// The channels have 8 bits, and the linear ones 16.
     ghost narrow: { C.max ≡ 255 };
@@ -39,6 +68,13 @@ impl Transfer<Ch8, Ch16> for Srgb {
 
     fn from_light(c: Ch16) -> Ch8 {
         c.encode_srgb8()
+    }
+
+    #[inline(always)]
+    fn from_light16(c: [Ch16; 16]) -> [Ch8; 16]
+        ensures { map (λ x. x.value) result ≡ map srgb_encoded8 (map (λ x. x.value) c) }
+    {
+        srgb_levels(c)
     }
 
     ghost narrow = { refl };
@@ -91,7 +127,12 @@ where
     let colors = <P::Model as ColorModel>::LINEAR;
     if colors.start <= ch && ch < colors.end {
         let color = <P::Gamma as Transfer<P::Chan, D::Chan>>::to_light(p.get(ch));
-        mode_changed::<D::Chan, P::Alpha, D::Alpha>(color, alpha)
+        if p.channels().len() <= <P::Model as ColorModel>::ALPHA {
+            // The alpha is the maximum, which is known as this is compiled.
+            mode_changed_unless_opaque::<D::Chan, P::Alpha, D::Alpha>(color, alpha)
+        } else {
+            mode_changed::<D::Chan, P::Alpha, D::Alpha>(color, alpha)
+        }
     } else {
         channel_at_depth::<P, D::Chan>(p, ch)
     }
@@ -244,7 +285,7 @@ pub trait Light: Pixel {
             (map Self.numbers src.now) (map D.numbers dst.old) }
     {
         let count = dst.len().min(src.len());
-        for i in 0..count {
+        for i in encode_blocks::<Self, D>(dst, src, count)..count {
             dst[i] = src[i].encode_srgb::<D>();
         }
     }

@@ -24,7 +24,7 @@ pub(super) fn four_channels<P: Pixel>(p: &P) -> (P::Chan, P::Chan, P::Chan, P::C
 
 /// Returns the channels of four pixels, pixel by pixel.
 #[inline(always)]
-pub(super) fn four_pixels<P: Pixel>(p: &[P]) -> [P::Chan; 16]
+pub(crate) fn four_pixels<P: Pixel>(p: &[P]) -> [P::Chan; 16]
     requires count { P.layout.count ≡ 4 }
     requires size { length p.now ≡ 4 }
     ensures { by_fours (map P.Chan.number result) ≡ map P.numbers p.now }

@@ -1,0 +1,108 @@
+-- Linear pixels as sRGB, four at a time.
+use Rattle.std.proofs.Common.{◌≡◌, ℕ, ◌≤◌, ◌<◌, List, [], ◌∷◌, length, map, refl, ap, sym, subst, ◌∙◌, get_or, set, zero, suc, Fits, true, false}
+use Rattle.std.proofs.lemmas.List.{get_or-map}
+use mir.Syntax.{w8, w16}
+use lib.Lanes.{Each1}
+use Rattle.pix_chan.specs.Modes.{AlphaMode}
+use Rattle.pix_chan.specs.Srgb16.{srgb_encoded8}
+use Rattle.pix_chan.proofs.Sixteen.{is_four, is_sixteen, whole16}
+use Rattle.pix_chan.proofs.Srgb16.{curve}
+use Rattle.pix_el.proofs.FourPlanes.{all_set, mapped4}
+use Rattle.std.proofs.lemmas.Simd.{map-map}
+use Rattle.pix_el.specs.Pixel.{channel, lies_in}
+use Rattle.pix_el.specs.Planes.{by_fours}
+use Rattle.pix_el.specs.Conversion.{Format, at_depth}
+use Rattle.pix_el.specs.Light.{channel_as_srgb}
+use Rattle.pix_el.specs.LightBlocks.{IsKept, AreLevels}
+
+-- what is made of each of sixteen
+pub mapped16 : {A B : Type 0} (f : A → B) (xs : List A) (d0 d1 d2 d3 d4 d5 d6 d7 d8 d9 d10 d11 d12 d13 d14 d15 : A) {r0 r1 r2 r3 r4 r5 r6 r7 r8 r9 r10 r11 r12 r13 r14 r15 : B} → length xs ≡ 16
+    → r0 ≡ f (get_or xs 0 d0) → r1 ≡ f (get_or xs 1 d1) → r2 ≡ f (get_or xs 2 d2) → r3 ≡ f (get_or xs 3 d3) → r4 ≡ f (get_or xs 4 d4) → r5 ≡ f (get_or xs 5 d5) → r6 ≡ f (get_or xs 6 d6) → r7 ≡ f (get_or xs 7 d7)
+    → r8 ≡ f (get_or xs 8 d8) → r9 ≡ f (get_or xs 9 d9) → r10 ≡ f (get_or xs 10 d10) → r11 ≡ f (get_or xs 11 d11) → r12 ≡ f (get_or xs 12 d12) → r13 ≡ f (get_or xs 13 d13) → r14 ≡ f (get_or xs 14 d14) → r15 ≡ f (get_or xs 15 d15)
+    → r0 ∷ r1 ∷ r2 ∷ r3 ∷ r4 ∷ r5 ∷ r6 ∷ r7 ∷ r8 ∷ r9 ∷ r10 ∷ r11 ∷ r12 ∷ r13 ∷ r14 ∷ r15 ∷ [] ≡ map f xs
+mapped16 f xs d0 d1 d2 d3 d4 d5 d6 d7 d8 d9 d10 d11 d12 d13 d14 d15 h e0 e1 e2 e3 e4 e5 e6 e7 e8 e9 e10 e11 e12 e13 e14 e15 =
+    rw (e0, e1, e2, e3, e4, e5, e6, e7, e8, e9, e10, e11, e12, e13, e14, e15) (ap (map f) (whole16 xs d0 d1 d2 d3 d4 d5 d6 d7 d8 d9 d10 d11 d12 d13 d14 d15 h))
+
+-- levels are bytes
+pub levels_fit : (xs : List ℕ) → Each1 (Fits w16) xs → Each1 (Fits w8) (map srgb_encoded8 xs)
+levels_fit [] f = tt
+levels_fit (x ∷ xs) f = (record { fits = curve.encoded_fits x f.0.fits }, levels_fit xs f.1)
+
+-- the levels of the channels of one number
+mapped_at : (f : ℕ → ℕ) (xs : List ℕ) (k d : ℕ) → get_or (map f xs) k (f d) ≡ f (get_or xs k d)
+mapped_at f [] k d = refl
+mapped_at f (x ∷ xs) zero d = refl
+mapped_at f (x ∷ xs) (suc k) d = mapped_at f xs k d
+
+-- the levels of a pixel
+levels_of : (max : ℕ) (pixel : List ℕ) (w x y z : ℕ) → w ∷ x ∷ y ∷ z ∷ [] ≡ map srgb_encoded8 pixel → AreLevels max pixel w x y
+levels_of max pixel w x y z e =
+    let at : (k : ℕ) → get_or (w ∷ x ∷ y ∷ z ∷ []) k (srgb_encoded8 max) ≡ srgb_encoded8 (channel max pixel k) =
+    λ k. ap (λ (l : List ℕ). get_or l k (srgb_encoded8 max)) e ∙ mapped_at srgb_encoded8 pixel k max in
+    record { first = at 0; second = at 1; third = at 2 }
+
+-- four pixels by their numbers, and sixteen channels by theirs
+module _ {C P : Type 0} (max : ℕ) (v : C → ℕ) (n : P → List ℕ) where
+  -- the channels are the levels of the pixels
+  abbrev pub Match : List C → List P → Type 0
+  Match cs ps = by_fours (map v cs) ≡ map (map srgb_encoded8) (map n ps)
+
+  -- the levels of each pixel
+  abbrev pub Each : List C → List P → Type 0
+  Each cs ps = (c d e : C) (p : P) →
+      (AreLevels max (n (get_or ps 0 p)) (v (get_or cs 0 c)) (v (get_or cs 1 d)) (v (get_or cs 2 e)))
+      × (AreLevels max (n (get_or ps 1 p)) (v (get_or cs 4 c)) (v (get_or cs 5 d)) (v (get_or cs 6 e)))
+      × (AreLevels max (n (get_or ps 2 p)) (v (get_or cs 8 c)) (v (get_or cs 9 d)) (v (get_or cs 10 e)))
+      × (AreLevels max (n (get_or ps 3 p)) (v (get_or cs 12 c)) (v (get_or cs 13 d)) (v (get_or cs 14 e)))
+
+  each_of : (a b c d e f g h i j k l m o q r : C) (s t u w : P) → Match (a ∷ b ∷ c ∷ d ∷ e ∷ f ∷ g ∷ h ∷ i ∷ j ∷ k ∷ l ∷ m ∷ o ∷ q ∷ r ∷ []) (s ∷ t ∷ u ∷ w ∷ [])
+      → Each (a ∷ b ∷ c ∷ d ∷ e ∷ f ∷ g ∷ h ∷ i ∷ j ∷ k ∷ l ∷ m ∷ o ∷ q ∷ r ∷ []) (s ∷ t ∷ u ∷ w ∷ [])
+  each_of a b c d e f g h i j k l m o q r s t u w same _ _ _ _ = (
+    levels_of max (n s) _ _ _ _ (ap (λ (x : List (List ℕ)). get_or x 0 []) same),
+    levels_of max (n t) _ _ _ _ (ap (λ (x : List (List ℕ)). get_or x 1 []) same),
+    levels_of max (n u) _ _ _ _ (ap (λ (x : List (List ℕ)). get_or x 2 []) same),
+    levels_of max (n w) _ _ _ _ (ap (λ (x : List (List ℕ)). get_or x 3 []) same),
+  )
+
+  pub each_matches : (cs : List C) (ps : List P) → length cs ≡ 16 → length ps ≡ 4 → Match cs ps → Each cs ps
+  each_matches cs ps h k =
+      subst (λ (ps : List P). Match cs ps → Each cs ps) (is_four ps k).1
+      (subst (λ (cs : List C). Match cs ((is_four ps k).0.0 ∷ (is_four ps k).0.1 ∷ (is_four ps k).0.2 ∷ (is_four ps k).0.3 ∷ []) → Each cs ((is_four ps k).0.0 ∷ (is_four ps k).0.1 ∷ (is_four ps k).0.2 ∷ (is_four ps k).0.3 ∷ [])) (is_sixteen cs h).1
+      (each_of _ _ _ _ _ _ _ _ _ _ _ _ _ _ _ _ _ _ _ _))
+
+-- the levels of four pixels from those of sixteen channels
+pub fours_mapped : (f : ℕ → ℕ) (xs : List ℕ) → length xs ≡ 16 → by_fours (map f xs) ≡ map (map f) (by_fours xs)
+fours_mapped f xs h = rw (← (is_sixteen xs h).1) refl
+
+-- a color of a pixel as sRGB, by its level
+pub shown_color : (format to : Format) (pixel : List ℕ) (ch max alpha level : ℕ) (mode to_mode : AlphaMode)
+    → format.layout.max ≡ max → format.alpha_mode ≡ mode → to.alpha_mode ≡ to_mode → to.layout.alpha ≡ alpha → lies_in to.colors ch ≡ true
+    → IsKept max mode to_mode (channel max pixel alpha) → channel max pixel ch ≤ max → level ≡ srgb_encoded8 (channel max pixel ch)
+    → level ≡ channel_as_srgb format to pixel ch
+shown_color format to pixel ch max alpha level mode to_mode em ef et ea inside kept fits is =
+    rw (inside, em, ef, et, ea) (is ∙ ap srgb_encoded8 (sym (kept (channel max pixel ch) fits)))
+
+-- any other channel
+pub shown_rest : (format to : Format) (pixel : List ℕ) (ch max to_max level : ℕ) → format.layout.max ≡ max → to.layout.max ≡ to_max → lies_in to.colors ch ≡ false
+    → level ≡ at_depth max to_max (channel max pixel ch) → level ≡ channel_as_srgb format to pixel ch
+shown_rest format to pixel ch max to_max level em et outside is = rw (outside, em, et) is
+
+-- what holds of the alpha of a pixel of a list
+pub kept_at : {P : Type 0} (max alpha : ℕ) (mode to_mode : AlphaMode) (n : P → List ℕ) (ps : List P) (k : ℕ) (p : P) → k < length ps → p ≡ get_or ps k p
+    → IsKept max mode to_mode (channel max (get_or (map n ps) k []) alpha) → IsKept max mode to_mode (channel max (n p) alpha)
+kept_at max alpha mode to_mode n ps k p lt is kept =
+    subst (λ (l : List ℕ). IsKept max mode to_mode (channel max l alpha)) (get_or-map n ps k p [] lt ∙ ap n (sym is)) kept
+
+-- the levels of a pixel by another name
+pub levels_at : {P : Type 0} (max : ℕ) (n : P → List ℕ) (p q : P) (one two three : ℕ) → p ≡ q → AreLevels max (n q) one two three → AreLevels max (n p) one two three
+levels_at max n p q one two three is levels = subst (λ (l : List ℕ). AreLevels max l one two three) (ap n (sym is)) levels
+
+-- four pixels, each made of that of the same index
+pub four_made : {D P : Type 0} (v : D → List ℕ) (n : P → List ℕ) (made : List ℕ → List ℕ) (ds : List D) (ps : List P) (a b c d : D) (w x y z : P) → length ds ≡ 4 → length ps ≡ 4
+    → w ≡ get_or ps 0 w → x ≡ get_or ps 1 x → y ≡ get_or ps 2 y → z ≡ get_or ps 3 z → v a ≡ made (n w) → v b ≡ made (n x) → v c ≡ made (n y) → v d ≡ made (n z)
+    → map v (set (set (set (set ds 0 a) 1 b) 2 c) 3 d) ≡ map made (map n ps)
+four_made {D = D} {P = P} v n made ds ps a b c d w x y z h k ew ex ey ez ia ib ic id =
+    let f : P → List ℕ = λ p. made (n p) in
+    ap (map v) (all_set ds a b c d h)
+    ∙ mapped4 f ps w x y z k (ia ∙ ap f ew) (ib ∙ ap f ex) (ic ∙ ap f ey) (id ∙ ap f ez)
+    ∙ sym (map-map made n ps)

@@ -1,0 +1,26 @@
+-- Of `levels`: that it meets its contract.
+use Rattle.std.proofs.Common.{arith}
+use Rattle.std.proofs.lemmas.Simd.{pick_l_whole}
+use Rattle.pix_el.proofs.light.blocks.levels.Goals as goal
+
+pub returns : goal.returns
+returns c =
+    rw (
+      c.new.ensures,
+      c.new-2.ensures,
+      c.new-3.ensures,
+      c.new-4.ensures,
+      c.new-5.ensures,
+      c.new-6.ensures,
+      c.new-7.ensures,
+      c.new-8.ensures,
+      c.new-9.ensures,
+      c.new-10.ensures,
+      c.new-11.ensures,
+      c.new-12.ensures,
+      c.new-13.ensures,
+      c.new-14.ensures,
+      c.new-15.ensures,
+      c.new-16.ensures,
+    )
+    (pick_l_whole 0 c.args.lanes 16 (omega arith))

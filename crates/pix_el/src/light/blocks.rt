@@ -1,0 +1,259 @@
+//! Linear pixels of four channels as sRGB, four at a time.
+//!
+//! Where the alpha modes leave the colors of all four as they are, their sixteen channels are encoded by one call; else the pixels go one
+//! by one.
+ghost use Rattle.std.specs.Prelude.{◌≡◌, ◌≤◌, ◌+◌, length, map, take, true};
+ghost use Rattle.pix_chan.specs.Runs.{over};
+ghost use Rattle.pix_chan.specs.Srgb16.{srgb_encoded8};
+ghost use Rattle.pix_el.specs.Pixel.{channel};
+ghost use Rattle.pix_el.specs.Conversion.{at_depth};
+ghost use Rattle.pix_el.specs.Light.{as_srgb};
+ghost use Rattle.pix_el.specs.LightBlocks.{IsKept, AreKept, AreLevels};
+ghost use Rattle.pix_el.specs.Planes.{by_fours};
+
+use crate::conversion::channel_at_depth;
+use crate::el::Pixel;
+use crate::light::{Light, Transfer};
+use crate::model::ColorModel;
+use crate::planes::interleaved::four_pixels;
+use pix_chan::chan::{Alpha, Ch8, Ch16, Channel, Linear};
+use std::simd::prelude::*;
+
+/// Returns the numbers of sixteen channels.
+#[inline(always)]
+fn units(c: [Ch16; 16]) -> u16x16
+    ensures { result ≡ map (λ x. x.value) c }
+{
+    u16x16::from_array([
+        u16::from(c[0]),
+        u16::from(c[1]),
+        u16::from(c[2]),
+        u16::from(c[3]),
+        u16::from(c[4]),
+        u16::from(c[5]),
+        u16::from(c[6]),
+        u16::from(c[7]),
+        u16::from(c[8]),
+        u16::from(c[9]),
+        u16::from(c[10]),
+        u16::from(c[11]),
+        u16::from(c[12]),
+        u16::from(c[13]),
+        u16::from(c[14]),
+        u16::from(c[15]),
+    ])
+}
+
+/// Returns the channels of sixteen levels.
+#[inline(always)]
+fn levels(lanes: u8x16) -> [Ch8; 16]
+    ensures { map (λ x. x.value) result ≡ lanes }
+{
+    let c = lanes.to_array();
+    [
+        Ch8::new(c[0]),
+        Ch8::new(c[1]),
+        Ch8::new(c[2]),
+        Ch8::new(c[3]),
+        Ch8::new(c[4]),
+        Ch8::new(c[5]),
+        Ch8::new(c[6]),
+        Ch8::new(c[7]),
+        Ch8::new(c[8]),
+        Ch8::new(c[9]),
+        Ch8::new(c[10]),
+        Ch8::new(c[11]),
+        Ch8::new(c[12]),
+        Ch8::new(c[13]),
+        Ch8::new(c[14]),
+        Ch8::new(c[15]),
+    ]
+}
+
+/// Returns the levels of sixteen linear channels.
+#[inline(always)]
+fn encoded(lanes: u16x16) -> u8x16
+    ensures { result ≡ map srgb_encoded8 lanes }
+{
+    Ch16::encode_srgb8_lanes(lanes).cast::<u8>()
+}
+
+/// Returns sixteen linear channels as the sRGB curve encodes them.
+#[inline(always)]
+pub(super) fn srgb_levels(c: [Ch16; 16]) -> [Ch8; 16]
+    ensures { map (λ x. x.value) result ≡ map srgb_encoded8 (map (λ x. x.value) c) }
+{
+    levels(encoded(units(c)))
+}
+
+/// Returns whether a format has three colors and then an alpha.
+#[inline(always)]
+fn has_three_colors<P: Pixel>() -> bool
+    ensures count { result ≡ true → P.layout.count ≡ 4 }
+    ensures start { result ≡ true → P.Model.LINEAR.start ≡ 0 }
+    ensures end { result ≡ true → P.Model.LINEAR.end ≡ 3 }
+    ensures alpha { result ≡ true → P.Model.ALPHA ≡ 3 }
+{
+    let colors = <P::Model as ColorModel>::LINEAR;
+    colors.start == 0
+        && colors.end == 3
+        && <P::Model as ColorModel>::ALPHA == 3
+        && P::default().channels().len() == 4
+}
+
+/// Returns whether the colors of a pixel are the same in the alpha mode of `D`.
+#[inline(always)]
+fn is_kept<P: Pixel, D: Pixel>(p: &P) -> bool
+    ensures { result ≡ true → IsKept P.Chan.max P.Alpha.mode D.Alpha.mode
+        (channel P.Chan.max (P.numbers p.now) P.Model.ALPHA) }
+{
+    P::Alpha::KIND == D::Alpha::KIND || p.alpha().to_u32() == P::Chan::MAX.to_u32()
+}
+
+/// Returns whether the colors of four pixels are the same in the alpha mode of `D`.
+#[inline(always)]
+fn are_kept<P: Pixel, D: Pixel>(p: &[P]) -> bool
+    requires { length p.now ≡ 4 }
+    ensures { result ≡ true → AreKept P.Chan.max P.Alpha.mode D.Alpha.mode
+        P.Model.ALPHA (map P.numbers p.now) }
+{
+    is_kept::<P, D>(&p[0])
+        && is_kept::<P, D>(&p[1])
+        && is_kept::<P, D>(&p[2])
+        && is_kept::<P, D>(&p[3])
+}
+
+/// Returns a linear pixel as sRGB, by the levels of its colors.
+///
+/// Condition: the colors are the same in the alpha mode of `D`, which has no more channels than its model.
+#[inline(always)]
+fn shown<P, D>(p: &P, one: D::Chan, two: D::Chan, three: D::Chan) -> D
+where
+    P: Pixel,
+    D: Pixel<Model = P::Model>,
+    requires few { D.layout.count ≤ D.layout.alpha + 1 }
+    requires start { P.Model.LINEAR.start ≡ 0 }
+    requires end { P.Model.LINEAR.end ≡ 3 }
+    requires alpha { P.Model.ALPHA ≡ 3 }
+    requires kept { IsKept P.Chan.max P.Alpha.mode D.Alpha.mode
+        (channel P.Chan.max (P.numbers p.now) P.Model.ALPHA) }
+    requires levels { AreLevels P.Chan.max (P.numbers p.now)
+        (D.Chan.number one) (D.Chan.number two) (D.Chan.number three) }
+    ensures { D.numbers result ≡ as_srgb P.format D.format (P.numbers p.now) }
+{
+    D::from_four(one, two, three, channel_at_depth::<P, D::Chan>(p, 3))
+}
+
+/// Writes four linear pixels as sRGB, by the levels of their channels.
+///
+/// Condition: the colors are the same in the alpha mode of `D`, which has no more channels than its model.
+#[inline(always)]
+fn put_shown<P, D>(dst: &mut [D], src: &[P], c: [D::Chan; 16])
+where
+    P: Pixel,
+    D: Pixel<Model = P::Model>,
+    requires few { D.layout.count ≤ D.layout.alpha + 1 }
+    requires start { P.Model.LINEAR.start ≡ 0 }
+    requires end { P.Model.LINEAR.end ≡ 3 }
+    requires alpha { P.Model.ALPHA ≡ 3 }
+    requires size { length dst.old ≡ 4 }
+    requires src_size { length src.now ≡ 4 }
+    requires kept { AreKept P.Chan.max P.Alpha.mode D.Alpha.mode
+        P.Model.ALPHA (map P.numbers src.now) }
+    requires levels { by_fours (map D.Chan.number c) ≡
+        map (map srgb_encoded8) (map P.numbers src.now) }
+    ensures { map D.numbers dst.new ≡
+        map (as_srgb P.format D.format) (map P.numbers src.now) }
+{
+    dst[0] = shown::<P, D>(&src[0], c[0], c[1], c[2]);
+    dst[1] = shown::<P, D>(&src[1], c[4], c[5], c[6]);
+    dst[2] = shown::<P, D>(&src[2], c[8], c[9], c[10]);
+    dst[3] = shown::<P, D>(&src[3], c[12], c[13], c[14]);
+}
+
+/// Encodes each of four linear pixels by itself.
+///
+/// Condition: that format has no more channels than its model.
+#[inline(always)]
+fn encode_each<P, D>(dst: &mut [D], src: &[P])
+where
+    P: Pixel<Gamma = Linear>,
+    D: Pixel<Model = P::Model>,
+    D::Gamma: Transfer<D::Chan, P::Chan>,
+    requires few { D.layout.count ≤ D.layout.alpha + 1 }
+    requires size { length dst.old ≡ 4 }
+    requires src_size { length src.now ≡ 4 }
+    ensures { map D.numbers dst.new ≡
+        map (as_srgb P.format D.format) (map P.numbers src.now) }
+{
+    dst[0] = src[0].encode_srgb::<D>();
+    dst[1] = src[1].encode_srgb::<D>();
+    dst[2] = src[2].encode_srgb::<D>();
+    dst[3] = src[3].encode_srgb::<D>();
+}
+
+/// Returns the levels of the channels of four linear pixels.
+#[inline(always)]
+fn four_levels<P, D>(src: &[P]) -> [D::Chan; 16]
+where
+    P: Pixel,
+    D: Pixel,
+    D::Gamma: Transfer<D::Chan, P::Chan>,
+    requires count { P.layout.count ≡ 4 }
+    requires size { length src.now ≡ 4 }
+    ensures { by_fours (map D.Chan.number result) ≡
+        map (map srgb_encoded8) (map P.numbers src.now) }
+{
+    <D::Gamma as Transfer<D::Chan, P::Chan>>::from_light16(four_pixels(src))
+}
+
+/// Encodes four linear pixels.
+///
+/// Condition: there are three colors and then an alpha, and `D` has no more channels than its model.
+#[inline(always)]
+fn encode_four<P, D>(dst: &mut [D], src: &[P])
+where
+    P: Pixel<Gamma = Linear>,
+    D: Pixel<Model = P::Model>,
+    D::Gamma: Transfer<D::Chan, P::Chan>,
+    requires few { D.layout.count ≤ D.layout.alpha + 1 }
+    requires count { P.layout.count ≡ 4 }
+    requires start { P.Model.LINEAR.start ≡ 0 }
+    requires end { P.Model.LINEAR.end ≡ 3 }
+    requires alpha { P.Model.ALPHA ≡ 3 }
+    requires size { length dst.old ≡ 4 }
+    requires src_size { length src.now ≡ 4 }
+    ensures { map D.numbers dst.new ≡
+        map (as_srgb P.format D.format) (map P.numbers src.now) }
+{
+    if are_kept::<P, D>(src) {
+        put_shown::<P, D>(dst, src, four_levels::<P, D>(src));
+    } else {
+        encode_each::<P, D>(dst, src);
+    }
+}
+
+/// Encodes as many of the first `count` pixels as go by fours, and returns how many these are.
+///
+/// Condition: both slices have `count` pixels, and that format has no more channels than its model.
+#[inline(always)]
+pub(super) fn encode_blocks<P, D>(dst: &mut [D], src: &[P], count: usize) -> usize
+where
+    P: Pixel<Gamma = Linear>,
+    D: Pixel<Model = P::Model>,
+    D::Gamma: Transfer<D::Chan, P::Chan>,
+    requires few { D.layout.count ≤ D.layout.alpha + 1 }
+    requires dst_has { count ≤ length dst.old }
+    requires src_has { count ≤ length src.now }
+    ensures some { result ≤ count }
+    ensures pixels { map D.numbers dst.new ≡ over (λ p d. as_srgb P.format D.format p)
+        (take result (map P.numbers src.now)) (map D.numbers dst.old) }
+{
+    if !has_three_colors::<P>() {
+        return 0;
+    }
+    for k in 0..count / 4 {
+        encode_four::<P, D>(&mut dst[4 * k..4 * k + 4], &src[4 * k..4 * k + 4]);
+    }
+    count / 4 * 4
+}
