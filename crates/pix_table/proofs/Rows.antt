@@ -1,6 +1,6 @@
--- Places in two rows, which are taken in turn.
+-- Places in a row, which are taken in turn.
 use Rattle.std.proofs.Common.{◌≡◌, ℕ, ◌+◌, ◌-◌, ◌*◌, ◌/◌, ◌%◌, ◌<◌, ◌≤◌, arith, sym, ap, ◌∙◌, subst, inl, inr, add-mul}
-use Rattle.std.proofs.Math.Nat.{mod-add-div', mul_assoc}
+use Rattle.std.proofs.Math.Nat.{mod-add-div'}
 use Rattle.std.proofs.lemmas.Bool.{cases_lt}
 use Rattle.std.proofs.lemmas.Nat.{mod-mul-add}
 
@@ -8,12 +8,7 @@ use Rattle.std.proofs.lemmas.Nat.{mod-mul-add}
 left_over : (q len n r : ℕ) → r < len → q * len + r ≡ n → r ≡ n % len
 left_over q len n r less e = sym (ap (λ m. m % len) (sym e) ∙ mod-mul-add q len r less)
 
--- the place of what came before, in the same turn or in the one before
-pub same_turn : (k len place back : ℕ) → place ≡ k % len → back ≤ place → place < len → place - back ≡ (k - back) % len
-same_turn k len place back e within less =
-    let whole = mod-add-div' k len in
-    left_over (k / len) len (k - back) (place - back) (omega arith) (omega (arith, whole, e))
-
+-- the place of what came before, in the turn before
 pub turn_before : (k len place back : ℕ) → place ≡ k % len → place < back → back ≤ k → back ≤ len → place < len
     → place + (len - back) ≡ (k - back) % len
 turn_before k len place back e past there near less =
@@ -37,13 +32,3 @@ next_in_turn k len place e less = left_over (k / len) len (k + 1) (place + 1) le
 pub next_turn : (k len place : ℕ) → place ≡ k % len → place + 1 ≡ len → 0 ≡ (k + 1) % len
 next_turn k len place e end =
     left_over (k / len + 1) len (k + 1) 0 (omega arith) (omega (arith, add-mul (k / len) 1 len, mod-add-div' k len, e))
-
--- the column of a place in the first row, and in the second
-pub first_row : (k width place : ℕ) → place ≡ k % (2 * width) → place < width → place ≡ k % width
-first_row k width place e less =
-    left_over (k / (2 * width) * 2) width k place less (omega (arith, mul_assoc (k / (2 * width)) 2 width, mod-add-div' k (2 * width), e))
-
-pub second_row : (k width place : ℕ) → place ≡ k % (2 * width) → width ≤ place → place < 2 * width → place - width ≡ k % width
-second_row k width place e past less =
-    left_over (k / (2 * width) * 2 + 1) width k (place - width) (omega arith)
-    (omega (arith, add-mul (k / (2 * width) * 2) 1 width, mul_assoc (k / (2 * width)) 2 width, mod-add-div' k (2 * width), e))

@@ -1,11 +1,10 @@
 //! Error diffusion by Floyd and Steinberg, in whole numbers.
 ghost use Rattle.std.specs.Prelude.{◌≡◌, ℕ, ◌+◌, ◌-◌, ◌*◌, ◌%◌, ◌^◌, ◌<◌, ◌≤◌, List, [], length, map, true, slice_index_or, MatchOption};
 ghost use Rattle.pix_table.specs.Nearest.{numbers};
-ghost use Rattle.pix_table.specs.Diffusion.{AreDiffused, part, handed, corrected, wanted_at};
-ghost use Rattle.pix_table.specs.Done.{AreLatest, AreDone};
+ghost use Rattle.pix_table.specs.Diffusion.{AreDiffused, corrected, wanted_at};
+ghost use Rattle.pix_table.specs.Done.{AreLatest, IsMiss, IsMissAbove, AreNear, AreDone};
 
 use crate::color::{Color, TableColor, TablePixel};
-use crate::cut::channel;
 use crate::matcher::Matcher;
 
 /// How the pixels of a picture are indexed by error diffusion.
@@ -17,6 +16,22 @@ pub struct Diffusion {
     pub alpha: u8,
     /// The index of those pixels.
     pub kept: u8,
+}
+
+/// What was wanted at a pixel less what was found for it, in each channel: 255 more, so that it is not below zero.
+#[derive(Clone, Copy)]
+struct Miss {
+    red: u16,
+    green: u16,
+    blue: u16,
+}
+
+/// The misses at three of the four pixels that hand on errors to a pixel. The fourth is above it on the right.
+#[derive(Clone, Copy)]
+struct Near {
+    left: Miss,
+    left_above: Miss,
+    above: Miss,
 }
 
 /// Returns how many colors of work memory [`diffuse_pixels`] takes for rows of so many pixels: those of four rows; or `None` where these are
@@ -50,12 +65,12 @@ pub fn diffuse_pixels<C: TableColor, P: TablePixel>(
         (map P.values pixels.now) indices.new }
     ensures same { matcher.new ≡ matcher.old }
 {
-    let half = work.len() / 2;
-    let (wanted, found) = work.split_at_mut(half);
+    let (wanted, rest) = work.split_at_mut(how.width);
+    let (found, _) = rest.split_at_mut(how.width);
     diffuse_all(matcher, entries, pixels, how, wanted, found, indices);
 }
 
-/// Does it with two rows of the colors that were wanted, and two rows of those that were found.
+/// Does it with a row of the colors that were wanted last, and a row of those that were found last.
 fn diffuse_all<C: TableColor, P: TablePixel>(
     matcher: &mut Matcher,
     entries: &[C],
@@ -67,8 +82,8 @@ fn diffuse_all<C: TableColor, P: TablePixel>(
 )
     requires entries { matcher.old ≡ map C.channels entries.now }
     requires row { 0 < how.width }
-    requires wanted { length wanted.old ≡ 2 * how.width }
-    requires found { length found.old ≡ 2 * how.width }
+    requires wanted { length wanted.old ≡ how.width }
+    requires found { length found.old ≡ how.width }
     requires many { length indices.old ≡ length pixels.now }
     ensures diffused { AreDiffused matcher.old how.alpha how.kept how.width
         (map P.values pixels.now) indices.new }
@@ -79,150 +94,173 @@ fn diffuse_all<C: TableColor, P: TablePixel>(
         green: 0,
         blue: 0,
     };
-    let mut place = 0;
+    let none = missed(black, black);
+    let mut near = Near {
+        left: none,
+        left_above: none,
+        above: none,
+    };
+    let mut column = 0;
     for k in 0..pixels.len() {
+        let around = begun(near, wanted, found, how.width, k, column);
+        let right_above = right_above(wanted, found, how.width, k, column);
         let clear = pixels[k].alpha() < how.alpha;
+        let mut left = none;
         if clear {
             indices[k] = how.kept;
-            wanted[place] = black;
-            found[place] = black;
+            wanted[column] = black;
+            found[column] = black;
         } else {
-            let color = wanted_at(pixels[k], how.width, k, place, wanted, found);
+            let color = wanted_at(pixels[k], around, right_above);
             let index = matcher.nearest(color);
+            let entry = entries[usize::from(index)].color();
             indices[k] = index;
-            wanted[place] = color;
-            found[place] = entries[usize::from(index)].color();
+            wanted[column] = color;
+            found[column] = entry;
+            left = missed(color, entry);
         }
-        place = next_place(place, wanted.len());
+        near = Near {
+            left,
+            left_above: around.above,
+            above: right_above,
+        };
+        column = next_place(column, how.width);
     }
 }
 
-/// Returns the color that is wanted at pixel `k`, which is kept at `place`.
+/// Returns the misses around pixel `k`: at the begin of a row those of the row above, and else those that are `near`.
 #[inline(always)]
-fn wanted_at<P: TablePixel>(
-    pixel: P,
-    width: usize,
-    k: usize,
-    place: usize,
+fn begun(
+    near: Near,
     wanted: &[Color],
     found: &[Color],
-) -> Color
+    width: usize,
+    k: usize,
+    column: usize,
+) -> Near
     requires row { 0 < width }
-    requires place { place ≡ k % (2 * width) }
-    requires wanted { length wanted.now ≡ 2 * width }
-    requires found { length found.now ≡ 2 * width }
+    requires column { column ≡ k % width }
+    requires wanted { length wanted.now ≡ width }
+    requires found { length found.now ≡ width }
     ensures { (ws gs : List (List ℕ)) → AreLatest ws width k wanted.now
         → AreLatest gs width k found.now
+        → (0 < k % width → AreNear ws gs width k near)
+        → AreNear ws gs width k result }
+{
+    if column > 0 {
+        return near;
+    }
+    let none = Miss {
+        red: 255,
+        green: 255,
+        blue: 255,
+    };
+    Near {
+        left: none,
+        left_above: none,
+        above: missed_at(wanted, found, width <= k, column),
+    }
+}
+
+/// Returns the miss of the pixel above pixel `k` on the right.
+#[inline(always)]
+fn right_above(wanted: &[Color], found: &[Color], width: usize, k: usize, column: usize) -> Miss
+    requires row { 0 < width }
+    requires column { column ≡ k % width }
+    requires wanted { length wanted.now ≡ width }
+    requires found { length found.now ≡ width }
+    ensures { (ws gs : List (List ℕ)) → AreLatest ws width k wanted.now
+        → AreLatest gs width k found.now → IsMissAbove ws gs width k result }
+{
+    let above = width <= k;
+    let there = column + 1 < width && above;
+    missed_at(wanted, found, there, next_place(column, width))
+}
+
+/// Returns the miss of the pixel whose colors are kept at a place, if it is there.
+#[inline(always)]
+fn missed_at(wanted: &[Color], found: &[Color], there: bool, at: usize) -> Miss
+    requires wanted { at < length wanted.now }
+    requires found { at < length found.now }
+    ensures { (ws gs : List (List ℕ)) (width k j : ℕ) → AreLatest ws width k wanted.now
+        → AreLatest gs width k found.now
+        → (there ≡ true → (at ≡ j % width) × (j < k) × (k ≤ j + width))
+        → IsMiss there (slice_index_or ws j []) (slice_index_or gs j []) result }
+{
+    if there {
+        missed(wanted[at], found[at])
+    } else {
+        Miss {
+            red: 255,
+            green: 255,
+            blue: 255,
+        }
+    }
+}
+
+/// Returns the miss of a pixel of which these colors were wanted and found.
+#[inline(always)]
+fn missed(wanted: Color, found: Color) -> Miss
+    ensures { IsMiss true (numbers wanted) (numbers found) result }
+{
+    Miss {
+        red: 255 + u16::from(wanted.red) - u16::from(found.red),
+        green: 255 + u16::from(wanted.green) - u16::from(found.green),
+        blue: 255 + u16::from(wanted.blue) - u16::from(found.blue),
+    }
+}
+
+/// Returns the color that is wanted at a pixel with these misses around it.
+#[inline(always)]
+fn wanted_at<P: TablePixel>(pixel: P, near: Near, right_above: Miss) -> Color
+    ensures { (ws gs : List (List ℕ)) (width k : ℕ) → AreNear ws gs width k near
+        → IsMissAbove ws gs width k right_above
         → numbers result ≡ wanted_at width ws gs k (P.values pixel) }
 {
+    let Near {
+        left,
+        left_above,
+        above,
+    } = near;
     let own = pixel.rgb();
     Color {
         red: corrected(
             own.red,
-            handed(wanted, width, k, place, 0),
-            handed(found, width, k, place, 0),
+            handed(left.red, left_above.red, above.red, right_above.red),
         ),
         green: corrected(
             own.green,
-            handed(wanted, width, k, place, 1),
-            handed(found, width, k, place, 1),
+            handed(left.green, left_above.green, above.green, right_above.green),
         ),
         blue: corrected(
             own.blue,
-            handed(wanted, width, k, place, 2),
-            handed(found, width, k, place, 2),
+            handed(left.blue, left_above.blue, above.blue, right_above.blue),
         ),
     }
 }
 
-/// Returns a number with what it gets of the colors that were wanted, less those that were found, in sixteenths.
+/// Returns what a pixel gets in a channel of the misses around it, in sixteenths.
 #[inline(always)]
-fn corrected(number: u8, wanted: u32, found: u32) -> u8
-    requires { wanted ≤ 4080 }
-    ensures { result ≡ corrected number wanted found }
+fn handed(left: u16, left_above: u16, above: u16, right_above: u16) -> u32
+    ensures sum { result ≡ 7 * left + left_above + 5 * above + 3 * right_above }
+    ensures few { result ≤ 1048560 }
 {
-    let sum = 16 * u32::from(number) + 8 + wanted;
-    if sum <= found {
+    7 * u32::from(left) + u32::from(left_above) + 5 * u32::from(above) + 3 * u32::from(right_above)
+}
+
+/// Returns a number with what it gets, in sixteenths, of misses that are 255 too great.
+#[inline(always)]
+fn corrected(number: u8, handed: u32) -> u8
+    requires { handed ≤ 1048560 }
+    ensures { (wanted found : ℕ) → handed + found ≡ 4080 + wanted
+        → result ≡ corrected number wanted found }
+{
+    let sum = 16 * u32::from(number) + 8 + handed;
+    if sum <= 4080 {
         return 0;
     }
-    let rounded = (sum - found) / 16;
+    let rounded = (sum - 4080) / 16;
     if rounded > 255 { 255 } else { rounded as u8 }
-}
-
-/// Returns what pixel `k`, which is kept at `place`, gets in a channel of the colors before it, in sixteenths.
-#[inline(always)]
-fn handed(colors: &[Color], width: usize, k: usize, place: usize, c: usize) -> u32
-    requires row { 0 < width }
-    requires place { place ≡ k % (2 * width) }
-    requires many { length colors.now ≡ 2 * width }
-    ensures handed { (all : List (List ℕ)) → AreLatest all width k colors.now
-        → result ≡ handed width all k c }
-    ensures few { result ≤ 4080 }
-{
-    let column = column_of(k, place, width);
-    let left = 0 < column;
-    let above = width <= k;
-    let left_above = left && width < k;
-    let right_above = column + 1 < width && above;
-    part(colors, width, left, 7, k, place, 1, c)
-        + part(colors, width, left_above, 1, k, place, width + 1, c)
-        + part(colors, width, above, 5, k, place, width, c)
-        + part(colors, width, right_above, 3, k, place, width - 1, c)
-}
-
-/// Returns so many sixteenths of the color that came `back` pixels before pixel `k`, if it is there.
-#[inline(always)]
-fn part(
-    colors: &[Color],
-    width: usize,
-    there: bool,
-    sixteenths: u32,
-    k: usize,
-    place: usize,
-    back: usize,
-    c: usize,
-) -> u32
-    requires row { 0 < width }
-    requires place { place ≡ k % (2 * width) }
-    requires many { length colors.now ≡ 2 * width }
-    requires few { sixteenths ≤ 16 }
-    requires there { there ≡ true → (0 < back) × (back ≤ k) × (back ≤ 2 * width) }
-    ensures part { (all : List (List ℕ)) → AreLatest all width k colors.now
-        → result ≡ part there sixteenths (slice_index_or all (k - back) []) c }
-    ensures few { result ≤ 255 * sixteenths }
-{
-    if there {
-        let at = earlier_place(k, place, back, colors.len());
-        sixteenths * u32::from(channel(colors[at], c))
-    } else {
-        0
-    }
-}
-
-/// Returns the column of pixel `k`, which is kept at `place`.
-#[inline(always)]
-fn column_of(k: usize, place: usize, width: usize) -> usize
-    requires row { 0 < width }
-    requires place { place ≡ k % (2 * width) }
-    ensures { result ≡ k % width }
-{
-    if place < width { place } else { place - width }
-}
-
-/// Returns the place, of so many, of what came `back` before number `k`, which has `place`.
-#[inline(always)]
-fn earlier_place(k: usize, place: usize, back: usize, len: usize) -> usize
-    requires some { 0 < len }
-    requires place { place ≡ k % len }
-    requires there { back ≤ k }
-    requires near { back ≤ len }
-    ensures { result ≡ (k - back) % len }
-{
-    if back <= place {
-        place - back
-    } else {
-        place + (len - back)
-    }
 }
 
 /// Returns the place, of so many, that comes after one.

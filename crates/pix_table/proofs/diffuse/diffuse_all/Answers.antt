@@ -1,16 +1,17 @@
 -- Of `diffuse_all`: its clause, and that the invariant of its loop over `k` holds at first and after each turn.
-use Rattle.std.proofs.Common.{◌≡◌, ◌+◌, ◌*◌, ◌%◌, ◌<◌, ◌≤◌, ℕ, [], length, map, take, set, get_or, refl, arith, sym, ap, ◌∙◌, subst}
+use Rattle.std.proofs.Common.{◌≡◌, ◌+◌, ◌%◌, ◌<◌, ◌≤◌, ℕ, [], true, length, map, take, set, get_or, refl, arith, sym, ap, ◌∙◌, subst}
 use Rattle.std.proofs.Math.Nat.{zero-mod}
 use Rattle.std.proofs.lemmas.List.{length-map, get_or-map, take_more_set}
 use Rattle.pix_table.specs.Nearest.{numbers, alpha_of, IsNearest}
 use Rattle.pix_table.specs.Diffusion.{wanted_at}
+use Rattle.pix_table.specs.Done.{IsMiss}
 use Rattle.pix_table.specs.declared.color.Color.{Color}
 use Rattle.pix_table.proofs.Diffused.{none_done, clear_done, shown_done, alike}
 use Rattle.pix_table.proofs.diffuse.diffuse_all.Goals as goal
 use Rattle.pix_table.proofs.diffuse.diffuse_all.Goals.{then-clear, else-clear}
 
 pub loop-k-init : goal.loop-k-init
-loop-k-init g c = record { done = none_done _ _ _ _ _ _ _; same = refl; place = sym (zero-mod (2 * c.args.how.width)) }
+loop-k-init g c = record { done = none_done _ _ _ _ _ _ _ _; same = refl; column = sym (zero-mod c.args.how.width) }
 
 pub loop-k-preserved : goal.loop-k-preserved
 loop-k-preserved g c =
@@ -19,29 +20,30 @@ loop-k-preserved g c =
     let pixel : g.P.TablePixel.values c.index-pixels-k.result ≡ get_or (map g.P.TablePixel.values c.args.pixels.now) c.loop-k.k [] =
     ap g.P.TablePixel.values c.index-pixels-k.is
     ∙ sym (get_or-map g.P.TablePixel.values c.args.pixels.now c.loop-k.k c.index-pixels-k.result [] c.loop-k-test.true) in
-    let long_wanted : length c.loop-k.wanted ≡ 2 * c.args.how.width = c.loop-k.auto.wanted ∙ c.requires.wanted in
-    let long_found : length c.loop-k.found ≡ 2 * c.args.how.width = c.loop-k.auto.found ∙ c.requires.found in
-    let long : length c.if-clear.wanted ≡ 2 * c.args.how.width = c.if-clear.auto.wanted ∙ long_wanted in
-    let here : c.loop-k.place ≡ c.loop-k.k % length c.if-clear.wanted = c.loop-k.invariant.place ∙ ap (λ m. c.loop-k.k % m) (sym long) in
-    let place : c.next_place-place.result ≡ (c.loop-k.k + 1) % (2 * c.args.how.width) =
-    c.next_place-place.ensures.next c.loop-k.k here ∙ ap (λ m. (c.loop-k.k + 1) % m) long in
+    let long_wanted : length c.loop-k.wanted ≡ c.args.how.width = c.loop-k.auto.wanted ∙ c.requires.wanted in
+    let long_found : length c.loop-k.found ≡ c.args.how.width = c.loop-k.auto.found ∙ c.requires.found in
+    let column : c.next_place-column.result ≡ (c.loop-k.k + 1) % c.args.how.width = c.next_place-column.ensures.next c.loop-k.k c.loop-k.invariant.column in
+    let done = c.loop-k.invariant.done in
+    let around = c.begun-around.ensures done.all_wanted done.all_found done.last_wanted done.last_found done.near_within in
+    let above_right = c.right_above-right_above.ensures done.all_wanted done.all_found done.last_wanted done.last_found in
     elim c.if-clear.branch [
       | then-clear w ↦
           let below : alpha_of (g.P.TablePixel.values c.index-pixels-k.result) < c.args.how.alpha = omega (arith, c.alpha.ensures, w.if-clear.true) in
           record {
-            done = alike _ _ _ _ _ _ _ _ _ _ _ _
-                (w.wanted-is ∙ ap (λ m. set c.loop-k.wanted m black) c.loop-k.invariant.place)
-                (w.found-is ∙ ap (λ m. set c.loop-k.found m black) c.loop-k.invariant.place)
+            done = alike _ _ _ _ _ _ _ _ _ _ _ _ _
+                (w.wanted-is ∙ ap (λ m. set c.loop-k.wanted m black) c.loop-k.invariant.column)
+                (w.found-is ∙ ap (λ m. set c.loop-k.found m black) c.loop-k.invariant.column)
                 (ap (take (c.loop-k.k + 1)) w.indices-is ∙ take_more_set c.loop-k.indices c.loop-k.k c.args.how.kept (omega arith))
-                (clear_done _ _ _ _ _ _ _ _ _ c.requires.row long_wanted long_found c.loop-k.invariant.done black refl
+                (clear_done _ _ _ _ _ _ _ _ _ _ _ _ _ c.requires.row long_wanted long_found c.loop-k.invariant.done around above_right black refl
+                (subst (λ m. IsMiss true (numbers black) (numbers black) m) (sym w.left-is) c.missed-none.ensures)
                 (subst (λ v. alpha_of v < c.args.how.alpha) pixel below));
             same = w.matcher-is ∙ c.loop-k.invariant.same;
-            place = place;
+            column = column;
           }
       | else-clear w ↦
           let p : Color = w.wanted_at-color.result in
           let i : ℕ = w.nearest-index.result in
-          let q : Color = w.color.result in
+          let q : Color = w.color-entry.result in
           let e = w.index-entries-from.result in
           let again : g.P.TablePixel.values w.index-pixels-k-else-clear.result ≡ get_or (map g.P.TablePixel.values c.args.pixels.now) c.loop-k.k [] =
           ap g.P.TablePixel.values w.index-pixels-k-else-clear.is
@@ -51,18 +53,19 @@ loop-k-preserved g c =
           subst (λ m. IsNearest m (numbers w.wanted_at-color.result) w.nearest-index.result) c.loop-k.invariant.same w.nearest-index.ensures.nearest in
           let inside : w.nearest-index.result < length c.args.entries.now =
           omega (arith, nearest.stands, ap length c.requires.entries, length-map c.args.entries.now g.C.TableColor.channels) in
-          let entry : numbers w.color.result ≡ get_or c.args.matcher.now w.nearest-index.result [] =
-          w.color.ensures ∙ ap g.C.TableColor.channels w.index-entries-from.is ∙ ap (λ j. g.C.TableColor.channels (get_or c.args.entries.now j e)) w.from.ensures
+          let entry : numbers w.color-entry.result ≡ get_or c.args.matcher.now w.nearest-index.result [] =
+          w.color-entry.ensures ∙ ap g.C.TableColor.channels w.index-entries-from.is ∙ ap (λ j. g.C.TableColor.channels (get_or c.args.entries.now j e)) w.from.ensures
           ∙ sym (ap (λ m. get_or m w.nearest-index.result []) c.requires.entries ∙ get_or-map g.C.TableColor.channels c.args.entries.now w.nearest-index.result e [] inside) in
           record {
-            done = alike _ _ _ _ _ _ _ _ _ _ _ _
-                (w.wanted-is ∙ ap (λ m. set c.loop-k.wanted m p) c.loop-k.invariant.place)
-                (w.found-is ∙ ap (λ m. set c.loop-k.found m q) c.loop-k.invariant.place)
+            done = alike _ _ _ _ _ _ _ _ _ _ _ _ _
+                (w.wanted-is ∙ ap (λ m. set c.loop-k.wanted m p) c.loop-k.invariant.column)
+                (w.found-is ∙ ap (λ m. set c.loop-k.found m q) c.loop-k.invariant.column)
                 (ap (take (c.loop-k.k + 1)) w.indices-is ∙ take_more_set c.loop-k.indices c.loop-k.k i (omega arith))
-                (shown_done _ _ _ _ _ _ _ _ _ c.requires.row long_wanted long_found c.loop-k.invariant.done p q i
-                (λ ws gs a b. w.wanted_at-color.ensures ws gs a b ∙ ap (wanted_at c.args.how.width ws gs c.loop-k.k) again)
-                (subst (λ v. c.args.how.alpha ≤ alpha_of v) pixel above) nearest entry);
+                (shown_done _ _ _ _ _ _ _ _ _ _ _ _ _ c.requires.row long_wanted long_found c.loop-k.invariant.done around above_right p q i
+                (λ ws gs _ _ a b. w.wanted_at-color.ensures ws gs c.args.how.width c.loop-k.k a b ∙ ap (wanted_at c.args.how.width ws gs c.loop-k.k) again)
+                (subst (λ v. c.args.how.alpha ≤ alpha_of v) pixel above) nearest entry
+                (subst (λ m. IsMiss true (numbers p) (numbers q) m) (sym w.left-is) w.missed-left.ensures));
             same = w.matcher-is ∙ w.nearest-index.ensures.same ∙ c.loop-k.invariant.same;
-            place = place;
+            column = column;
           }
     ]

@@ -1,12 +1,12 @@
 -- What holds at each turn of the loop over `k` in `diffuse_all`.
-use Rattle.std.proofs.Common.{◌≡◌, ◌*◌, ◌%◌, map, take}
+use Rattle.std.proofs.Common.{◌≡◌, ◌%◌, map, take}
 use Rattle.pix_table.specs.Done.{AreDone}
 use Rattle.pix_table.proofs.diffuse.diffuse_all.Given as goal
 
 -- the first k pixels are diffused
 abbrev pub invariant-loop-k : goal.invariant-loop-k
 invariant-loop-k g l = record {
-  done : AreDone l.fn.matcher l.how.alpha l.how.kept l.how.width (map g.P.TablePixel.values l.pixels) l.k l.wanted l.found (take l.k l.indices);
+  done : AreDone l.fn.matcher l.how.alpha l.how.kept l.how.width (map g.P.TablePixel.values l.pixels) l.k l.wanted l.found l.near (take l.k l.indices);
   same : l.matcher ≡ l.fn.matcher;
-  place : l.place ≡ l.k % (2 * l.how.width);
+  column : l.column ≡ l.k % l.how.width;
 }
