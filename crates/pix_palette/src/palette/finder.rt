@@ -16,8 +16,11 @@ use std::alloc::Global;
 /// The number of places.
 const PLACES: usize = 16384;
 
-/// With fewer entries than these all are looked at, as fast as a finder is made.
+/// With fewer entries than these all are looked at.
 const FEW: usize = 128;
+
+/// How many colors are looked for among all entries before the places are made, which takes no longer than they did.
+const EARLY: usize = 8;
 
 /// The greatest number of entries.
 const MOST: usize = 4294967295;
@@ -28,6 +31,7 @@ pub(super) struct Finder {
     latest: Vec<u32>,
     earlier: Vec<u32>,
     pub(super) blocks: Vec<ColorBlock>,
+    asked: usize,
 }
 
 /// Returns the place of a color.
@@ -51,10 +55,11 @@ impl Finder {
             latest: Vec::new(alloc),
             earlier: Vec::new(alloc),
             blocks: Vec::new(alloc),
+            asked: 0,
         }
     }
 
-    /// Makes the places, if there are none and there are enough entries; returns whether they are made.
+    /// Makes the places, if there are none, there are enough entries, and enough colors were looked for; returns whether they are made.
     fn make(&mut self, alloc: Global, count: usize) -> bool
         ensures finder { (colors : List (List ℕ))
             → IsFinder colors self.old.latest.items self.old.earlier.items
@@ -67,6 +72,10 @@ impl Finder {
     {
         if self.latest.len() == 0 {
             if count < FEW {
+                return false;
+            }
+            if self.asked < EARLY {
+                self.asked += 1;
                 return false;
             }
             match Vec::from_elem(alloc, 0, PLACES) {
