@@ -4,6 +4,7 @@ pub mod Answered
 pub mod Rising
 pub mod LaneProduct
 pub mod Lanes
+pub mod Lanes16
 pub mod Slices
 pub mod Planes
 pub mod Sixteen

@@ -34,3 +34,11 @@ high_pairs = pairs_from 8 4
 -- the high half of 257 t, where t is x y + 128, as lanes of 16 and 32 bits compute it
 abbrev pub high_half : ℕ → ℕ → ℕ
 high_half x y = (x * y % 2 ^ 16 + 128) % 2 ^ 16 * 257 % 2 ^ 32 / 2 ^ 16
+
+-- the high half of x y + 2^15
+abbrev pub high_sum : ℕ → ℕ → ℕ
+high_sum x y = (x * y + 2 ^ 15) / 2 ^ 16
+
+-- h, and one more where it carries when it is added to the low half of l + 2^15
+abbrev pub carried : ℕ → ℕ → ℕ
+carried l h = (h + ((l + 2 ^ 15) % 2 ^ 16 + h) / 2 ^ 16) % 2 ^ 16

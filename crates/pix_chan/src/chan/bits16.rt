@@ -12,6 +12,7 @@ ghost use Rattle.pix_chan.specs.Seal.{seal};
 use crate::chan::{Ch8, Channel, whole};
 use std::ops::{Add, Div, Mul, Sub};
 
+mod lanes;
 mod planes;
 
 /// A channel of 16 bits: a whole number of units from 0 to 65535.
@@ -210,6 +211,28 @@ impl Channel for Ch16 {
     fn from_ratio(n: i64, d: i64) -> Ch16 {
         Ch16 {
             value: whole::nearest(n, d, 65535) as u16,
+        }
+    }
+
+    #[inline(always)]
+    fn mul_run(dst: &mut [Ch16], by: &[Ch16]) {
+        let count = dst.len().min(by.len());
+        for k in 0..count / 16 {
+            lanes::mul_block(&mut dst[16 * k..16 * k + 16], &by[16 * k..16 * k + 16]);
+        }
+        for i in count / 16 * 16..count {
+            dst[i] = dst[i] * by[i];
+        }
+    }
+
+    #[inline(always)]
+    fn add_run(dst: &mut [Ch16], by: &[Ch16]) {
+        let count = dst.len().min(by.len());
+        for k in 0..count / 16 {
+            lanes::add_block(&mut dst[16 * k..16 * k + 16], &by[16 * k..16 * k + 16]);
+        }
+        for i in count / 16 * 16..count {
+            dst[i] = dst[i] + by[i];
         }
     }
 

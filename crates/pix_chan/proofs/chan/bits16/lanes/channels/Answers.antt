@@ -1,0 +1,21 @@
+-- Of `channels`: that it meets its contract, and that the invariant of its loop over `i` holds at first and stays.
+use Rattle.std.proofs.Common.{◌+◌, ◌∙◌, ℕ, sym, arith, refl, replicate, get_or, lit<}
+use Rattle.pix_chan.specs.declared.chan.bits16.Ch16.{Ch16}
+use Rattle.pix_chan.proofs.Slices.{over-nil, mapped_put_step}
+use Rattle.pix_chan.proofs.Pairs.{all_put}
+use Rattle.pix_chan.proofs.chan.bits16.lanes.channels.Goals as goal
+
+abbrev none : Ch16
+none = record { value = 0; fits = lit< tt }
+
+pub loop-i-init : goal.loop-i-init
+loop-i-init c = sym (over-nil (λ x y. y) (replicate 16 0))
+
+pub loop-i-preserved : goal.loop-i-preserved
+loop-i-preserved c =
+    let value = get_or c.args.v c.loop-i.i 0 in
+    mapped_put_step (λ (x : Ch16). x.value) (λ (y : ℕ). y) c.loop-i.i (c.loop-i.i + 1) (replicate 16 none) c.loop-i.own _ value 0 c.args.v
+    c.loop-i.invariant refl (omega arith) (omega arith) refl refl
+
+pub returns : goal.returns
+returns c = c.loop-i.invariant ∙ all_put c.loop-i.i c.args.v (replicate 16 0) (omega arith) (omega arith)

@@ -1,0 +1,114 @@
+//! Products and sums of sixteen channels of 16 bits at a time, on lanes.
+ghost use Rattle.std.specs.Prelude.{◌≡◌, map, length};
+ghost use Rattle.std.specs.Simd.Lanes.{zip2};
+ghost use Rattle.pix_chan.specs.Number.{saturating_sum};
+ghost use Rattle.pix_chan.specs.Product.{channel_product};
+ghost use Rattle.pix_chan.specs.Lanes.{high_sum, carried};
+
+use crate::chan::bits16::Ch16;
+use std::simd::prelude::*;
+
+/// Returns the high half of x y + 2^15 for the numbers of each lane.
+///
+/// LLVM makes one instruction of the product in 32 bits and its shift.
+#[inline(always)]
+fn high(a: u16x16, b: u16x16) -> u16x16
+    ensures { result ≡ zip2 high_sum a b }
+{
+    let wide = (a.cast::<u32>() * b.cast::<u32>()) >> u32x16::splat(16);
+    wide.cast::<u16>() + ((a * b) >> u16x16::splat(15))
+}
+
+/// Returns `high`, and one more in the lanes where it carries when it is added to the low half of `low` + 2^15.
+///
+/// The comparison is that of this low half with what `high` leaves up to 2^16 - 1, both less 2^15: x86-64 compares signed numbers in one
+/// instruction, and others in two or three.
+#[inline(always)]
+fn raise(low: u16x16, high: u16x16) -> u16x16
+    ensures { result ≡ zip2 carried low high }
+{
+    let half = (low + u16x16::splat(32768)).cast::<i32>() - i32x16::splat(32768);
+    let rest = i32x16::splat(32767) - high.cast::<i32>();
+    half.cast::<i16>()
+        .simd_gt(rest.cast::<i16>())
+        .select(high + u16x16::splat(1), high)
+}
+
+/// Returns the channel product of the numbers of each lane.
+///
+/// With x y + 2^15 = 2^16 h + l, the product is the high half of that sum and h: h, and one more where l + h carries.
+#[inline(always)]
+fn product_lanes(a: u16x16, b: u16x16) -> u16x16
+    ensures { result ≡ zip2 (channel_product 65535) a b }
+{
+    raise(a * b, high(a, b))
+}
+
+/// Returns the saturating sum of the numbers of each lane.
+#[inline(always)]
+fn sum_lanes(x: u16x16, y: u16x16) -> u16x16
+    ensures { result ≡ zip2 (saturating_sum 65535) x y }
+{
+    x.saturating_add(y)
+}
+
+/// Returns the numbers of sixteen channels.
+///
+/// LLVM makes one copy of the loop.
+#[inline(always)]
+fn units(c: &[Ch16]) -> u16x16
+    requires { length c.now ≡ 16 }
+    ensures { result ≡ map (λ x. x.value) c.now }
+{
+    let mut own = [0; 16];
+    for i in 0..16 {
+        own[i] = c[i].value;
+    }
+    u16x16::from_array(own)
+}
+
+/// Returns the channels of sixteen numbers, by a loop as well.
+#[inline(always)]
+fn channels(v: u16x16) -> [Ch16; 16]
+    ensures { map (λ x. x.value) result ≡ v }
+{
+    let from = v.to_array();
+    let mut own = [Ch16 { value: 0 }; 16];
+    for i in 0..16 {
+        own[i] = Ch16 { value: from[i] };
+    }
+    own
+}
+
+/// Writes sixteen channels to a slice of sixteen.
+#[inline(always)]
+fn store(to: &mut [Ch16], c: [Ch16; 16])
+    requires { length to.old ≡ 16 }
+    ensures { to.new ≡ c }
+{
+    if let Some(whole) = to.as_mut_array::<16>() {
+        *whole = c;
+    }
+}
+
+/// Multiplies each of sixteen channels by that of `by` of the same index.
+#[inline(always)]
+pub(super) fn mul_block(to: &mut [Ch16], by: &[Ch16])
+    requires to_whole { length to.old ≡ 16 }
+    requires by_whole { length by.now ≡ 16 }
+    ensures { map (λ x. x.value) to.new ≡
+        zip2 (channel_product 65535) (map (λ x. x.value) to.old) (map (λ x. x.value) by.now) }
+{
+    store(to, channels(product_lanes(units(to), units(by))));
+}
+
+/// Adds to each of sixteen channels that of `by` of the same index.
+#[inline(always)]
+pub(super) fn add_block(to: &mut [Ch16], by: &[Ch16])
+    requires to_whole { length to.old ≡ 16 }
+    requires by_whole { length by.now ≡ 16 }
+    ensures { map (λ x. x.value) to.new ≡
+        zip2 (saturating_sum 65535) (map (λ x. x.value) to.old) (map (λ x. x.value) by.now) }
+{
+    store(to, channels(sum_lanes(units(to), units(by))));
+}
