@@ -2,7 +2,7 @@
 ghost use Rattle.std.specs.Prelude.{◌≡◌, ◌+◌, ◌*◌, ◌-◌, ◌<◌, ◌≤◌, [], ◌∷◌};
 ghost use Rattle.pix_color.specs.Hexcone.{numbered, hexcone_of, rgb_of_hexcone, lifted_rgb, turn, hue_at, hue_after, hue_of, chroma_of, value_of};
 
-use crate::numbers::{complement, exact, max, nearest, number, product, sum};
+use crate::numbers::{complement, divided_short, exact, max, nearest, number, product, sum};
 use pix_chan::reciprocals::quotient_by_byte;
 use pix_el::chan::Channel;
 
@@ -90,7 +90,9 @@ fn hue_at<C: Channel>(n: u64, chroma: u64) -> C
 }
 
 /// Returns the hue after a turn of `n` / (6 * `chroma`) of the circle, 0 where the chroma is 0. At eight bits it multiplies by a
-/// reciprocal in place of a division. Condition: the chroma is a channel's, and that part is at most 1.
+/// reciprocal in place of a division, and at sixteen it divides 32 bits: a third of the maximum times `n`, and half of that, fit.
+///
+/// Condition: the chroma is a channel's, and that part is at most 1.
 #[inline(always)]
 fn hue_after<C: Channel>(n: u64, chroma: u64) -> C
     requires fits { chroma ≤ C.max }
@@ -101,6 +103,8 @@ fn hue_after<C: Channel>(n: u64, chroma: u64) -> C
         exact(quotient_by_byte(85 * n + chroma, chroma) / 2)
     } else if chroma == 0 {
         C::MIN
+    } else if max::<C>() == 65535 {
+        exact(divided_short((21845 * n + chroma) / 2, chroma))
     } else {
         hue_at(n, chroma)
     }

@@ -60,10 +60,21 @@ fn divided(n: u64, d: u64, narrow: bool) -> u64
     ensures { result ≡ n / d }
 {
     if narrow && n < 1 << 32 && d < 1 << 32 {
-        u64::from(n as u32 / d as u32)
+        divided_short(n, d)
     } else {
         n / d
     }
+}
+
+/// Returns `n` / `d` rounded down, in 32 bits, of which processors divide much faster than of 64. Condition: both fit.
+#[inline(always)]
+pub(crate) fn divided_short(n: u64, d: u64) -> u64
+    requires n_fits { n < 2 ^ 32 }
+    requires d_fits { d < 2 ^ 32 }
+    requires positive { 0 < d }
+    ensures { result ≡ n / d }
+{
+    u64::from(n as u32 / d as u32)
 }
 
 /// Returns what a channel lacks of the maximum.
