@@ -4,6 +4,7 @@
 mod clip;
 mod command;
 mod fault;
+mod filled;
 pub mod lent;
 mod raster;
 mod region;

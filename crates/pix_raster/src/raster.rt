@@ -12,6 +12,7 @@ ghost use Rattle.pix_raster.specs.contracts.raster.Raster.{the_row};
 
 use crate::clip::{ClippedRect, clip, row_places};
 use crate::fault::{RasterFault, point_count};
+use crate::filled::filled;
 use crate::region::Region;
 use crate::rows::{Rows, RowsMut};
 use pix_el::el::Pixel;
@@ -22,6 +23,7 @@ mod buffers;
 mod change;
 mod convert;
 mod light;
+mod making;
 mod row_change;
 mod samples;
 mod window;
@@ -115,7 +117,7 @@ impl<P: Pixel> Raster<P> {
         let pixels = if count == 0 {
             Vec::new(alloc)
         } else {
-            Vec::from_elem(alloc, clr, count)?
+            filled(alloc, clr, count)?
         };
         Ok(Raster {
             width,

@@ -4,6 +4,7 @@ ghost use Rattle.pix_el.specs.Conversion.{converted};
 ghost use Rattle.pix_raster.specs.declared.fault.RasterFault.{RasterFault};
 
 use super::Raster;
+use super::making::{Making, pixels_made};
 use crate::fault::RasterFault;
 use pix_chan::chan::Gamma;
 use pix_el::el::Pixel;
@@ -37,7 +38,7 @@ impl<P: Pixel> Raster<P> {
             (map S.numbers src.now.pixels)) }
         ensures memory { IfErr result (λ fault. fault ≡ RasterFault.Memory) }
     {
-        let pixels = converted_pixels::<S, P>(alloc, src.pixels())?;
+        let pixels = pixels_made::<S, P, Converting>(alloc, src.pixels())?;
         Ok(Raster {
             width: src.width,
             height: src.height,
@@ -46,43 +47,19 @@ impl<P: Pixel> Raster<P> {
     }
 }
 
-/// Converts each pixel of `src`, in memory that is reserved once.
-///
-/// # Errors
-///
-/// `Memory` where a request for memory was refused.
-fn converted_pixels<S, P>(alloc: Global, src: &[S]) -> Result<Vec<P>, RasterFault>
-where
-    S: Pixel,
-    P: Pixel,
-    P::Chan: From<S::Chan>,
-    S::Gamma: Gamma<P::Chan>,
-    requires few { P.layout.count ≤ P.layout.alpha + 1 }
-    ensures pixels { IfOk result (λ made. map P.numbers made.items ≡
-        map (converted S.format ⟦<S::Gamma as Gamma<P::Chan>>⟧.mode P.format P.Gamma.mode)
-        (map S.numbers src.now)) }
-    ensures count { IfOk result (λ made. vec_len made ≡ length src.now) }
-    ensures memory { IfErr result (λ fault. fault ≡ RasterFault.Memory) }
-{
-    let mut pixels = vec![in alloc; P::default(); src.len()]?;
-    convert_each::<S, P>(&mut pixels, src);
-    Ok(pixels)
-}
+/// Pixels that are converted.
+pub(super) struct Converting {}
 
-/// Converts each pixel of `src` in the place of that of `dst` at its index.
-///
-/// Condition: there are as many of both, and this format has no more channels than its model.
-fn convert_each<S, P>(dst: &mut [P], src: &[S])
+impl<S, P> Making<S, P> for Converting
 where
     S: Pixel,
     P: Pixel,
     P::Chan: From<S::Chan>,
     S::Gamma: Gamma<P::Chan>,
-    requires few { P.layout.count ≤ P.layout.alpha + 1 }
-    requires as_many { length dst.old ≡ length src.now }
-    ensures { map P.numbers dst.new ≡
-        map (converted S.format ⟦<S::Gamma as Gamma<P::Chan>>⟧.mode P.format P.Gamma.mode)
-        (map S.numbers src.now) }
 {
-    S::convert_slice::<P>(dst, src);
+    ghost made = { converted S.format ⟦<S::Gamma as Gamma<P::Chan>>⟧.mode P.format P.Gamma.mode };
+
+    fn make(dst: &mut [P], src: &[S]) {
+        S::convert_slice::<P>(dst, src);
+    }
 }

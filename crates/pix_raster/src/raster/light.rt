@@ -4,6 +4,7 @@ ghost use Rattle.pix_el.specs.Light.{in_light, as_srgb};
 ghost use Rattle.pix_raster.specs.declared.fault.RasterFault.{RasterFault};
 
 use super::Raster;
+use super::making::{Making, pixels_made};
 use crate::fault::RasterFault;
 use pix_chan::chan::Linear;
 use pix_el::el::Pixel;
@@ -37,7 +38,7 @@ impl<P: Pixel> Raster<P> {
             map (in_light P.format D.format) (map P.numbers self.now.pixels)) }
         ensures memory { IfErr result (λ fault. fault ≡ RasterFault.Memory) }
     {
-        let pixels = decoded_pixels::<P, D>(alloc, self.pixels())?;
+        let pixels = pixels_made::<P, D, Decoding>(alloc, self.pixels())?;
         Ok(Raster {
             width: self.width,
             height: self.height,
@@ -72,7 +73,7 @@ impl<P: Pixel> Raster<P> {
             map (as_srgb P.format D.format) (map P.numbers self.now.pixels)) }
         ensures memory { IfErr result (λ fault. fault ≡ RasterFault.Memory) }
     {
-        let pixels = encoded_pixels::<P, D>(alloc, self.pixels())?;
+        let pixels = pixels_made::<P, D, Encoding>(alloc, self.pixels())?;
         Ok(Raster {
             width: self.width,
             height: self.height,
@@ -81,76 +82,34 @@ impl<P: Pixel> Raster<P> {
     }
 }
 
-/// Decodes each pixel of `src`, in memory that is reserved once.
-///
-/// # Errors
-///
-/// `Memory` where a request for memory was refused.
-fn decoded_pixels<S, P>(alloc: Global, src: &[S]) -> Result<Vec<P>, RasterFault>
+/// Pixels that are decoded into light.
+pub(super) struct Decoding {}
+
+impl<S, P> Making<S, P> for Decoding
 where
     S: Pixel,
     P: Pixel<Model = S::Model, Gamma = Linear>,
     S::Gamma: Transfer<S::Chan, P::Chan>,
-    requires few { P.layout.count ≤ P.layout.alpha + 1 }
-    ensures pixels { IfOk result (λ made. map P.numbers made.items ≡
-        map (in_light S.format P.format) (map S.numbers src.now)) }
-    ensures count { IfOk result (λ made. vec_len made ≡ length src.now) }
-    ensures memory { IfErr result (λ fault. fault ≡ RasterFault.Memory) }
 {
-    let mut pixels = vec![in alloc; P::default(); src.len()]?;
-    decode_each::<S, P>(&mut pixels, src);
-    Ok(pixels)
+    ghost made = { in_light S.format P.format };
+
+    fn make(dst: &mut [P], src: &[S]) {
+        S::decode_srgb_slice::<P>(dst, src);
+    }
 }
 
-/// Decodes each pixel of `src` in the place of that of `dst` at its index.
-///
-/// Condition: there are as many of both, and that format has no more channels than its model.
-fn decode_each<S, P>(dst: &mut [P], src: &[S])
-where
-    S: Pixel,
-    P: Pixel<Model = S::Model, Gamma = Linear>,
-    S::Gamma: Transfer<S::Chan, P::Chan>,
-    requires few { P.layout.count ≤ P.layout.alpha + 1 }
-    requires as_many { length dst.old ≡ length src.now }
-    ensures { map P.numbers dst.new ≡
-        map (in_light S.format P.format) (map S.numbers src.now) }
-{
-    S::decode_srgb_slice::<P>(dst, src);
-}
+/// Pixels of light that are encoded.
+pub(super) struct Encoding {}
 
-/// Encodes each pixel of `src`, in memory that is reserved once.
-///
-/// # Errors
-///
-/// `Memory` where a request for memory was refused.
-fn encoded_pixels<S, P>(alloc: Global, src: &[S]) -> Result<Vec<P>, RasterFault>
+impl<S, P> Making<S, P> for Encoding
 where
     S: Pixel<Gamma = Linear>,
     P: Pixel<Model = S::Model>,
     P::Gamma: Transfer<P::Chan, S::Chan>,
-    requires few { P.layout.count ≤ P.layout.alpha + 1 }
-    ensures pixels { IfOk result (λ made. map P.numbers made.items ≡
-        map (as_srgb S.format P.format) (map S.numbers src.now)) }
-    ensures count { IfOk result (λ made. vec_len made ≡ length src.now) }
-    ensures memory { IfErr result (λ fault. fault ≡ RasterFault.Memory) }
 {
-    let mut pixels = vec![in alloc; P::default(); src.len()]?;
-    encode_each::<S, P>(&mut pixels, src);
-    Ok(pixels)
-}
+    ghost made = { as_srgb S.format P.format };
 
-/// Encodes each pixel of `src` in the place of that of `dst` at its index.
-///
-/// Condition: there are as many of both, and that format has no more channels than its model.
-fn encode_each<S, P>(dst: &mut [P], src: &[S])
-where
-    S: Pixel<Gamma = Linear>,
-    P: Pixel<Model = S::Model>,
-    P::Gamma: Transfer<P::Chan, S::Chan>,
-    requires few { P.layout.count ≤ P.layout.alpha + 1 }
-    requires as_many { length dst.old ≡ length src.now }
-    ensures { map P.numbers dst.new ≡
-        map (as_srgb S.format P.format) (map S.numbers src.now) }
-{
-    S::encode_srgb_slice::<P>(dst, src);
+    fn make(dst: &mut [P], src: &[S]) {
+        S::encode_srgb_slice::<P>(dst, src);
+    }
 }

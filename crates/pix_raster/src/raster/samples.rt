@@ -4,6 +4,7 @@ ghost use Rattle.std.specs.List.{flat_map};
 ghost use Rattle.pix_raster.specs.declared.fault.RasterFault.{RasterFault};
 
 use crate::fault::RasterFault;
+use crate::filled::filled;
 use pix_chan::chan::{Ch8, Ch16, Channel};
 use pix_el::el::Pixel;
 use std::alloc::Global;
@@ -119,7 +120,7 @@ pub(crate) fn pixels_from<P: Pixel, S: Sample<P::Chan>>(
         × (flat_map P.numbers pixels.items ≡ map S.number samples.now)) }
     ensures refused { IfErr result (λ fault. fault ≡ RasterFault.Memory) }
 {
-    let mut pixels = Vec::from_elem(alloc, P::default(), count)?;
+    let mut pixels = filled(alloc, P::default(), count)?;
     unpack(&mut pixels, samples);
     Ok(pixels)
 }
@@ -137,7 +138,7 @@ pub(crate) fn samples_from<P: Pixel, S: Sample<P::Chan>>(
         .len()
         .checked_mul(channel_count::<P>())
         .ok_or(RasterFault::Memory)?;
-    let mut samples = Vec::from_elem(alloc, S::of(P::Chan::MIN), len)?;
+    let mut samples = filled(alloc, S::of(P::Chan::MIN), len)?;
     pack(&mut samples, pixels);
     Ok(samples)
 }

@@ -1,9 +1,9 @@
--- Of `convert_each`: that it meets its contract.
+-- Of `make`: that it meets its contract.
 use Rattle.std.proofs.Common.{◌∙◌, sym, arith, map, List, ℕ}
 use Rattle.std.proofs.lemmas.List.{length-map}
 use Rattle.pix_el.specs.Conversion.{converted}
 use Rattle.pix_el.proofs.Written.{same_over, over_written}
-use Rattle.pix_raster.proofs.raster.convert.convert_each.Goals as goal
+use Rattle.pix_raster.proofs.raster.convert.ConvertingMaking.make.Goals as goal
 
 pub returns : goal.returns
 returns g c =
