@@ -247,7 +247,7 @@ listed_same entries reach low f g count same h = λ color within.
     }
 
 -- a box stays known where the lists grow
-known_stays : (entries : List (List ℕ)) (old new : List ℕ) (used more k : ℕ) (known : Known) → used ≤ more → ((k : ℕ) → k < used → get_or new k 0 ≡ get_or old k 0)
+pub known_stays : (entries : List (List ℕ)) (old new : List ℕ) (used more k : ℕ) (known : Known) → used ≤ more → ((k : ℕ) → k < used → get_or new k 0 ≡ get_or old k 0)
     → IsKnown entries old used k known → IsKnown entries new more k known
 known_stays entries old new used more k known grows same h = λ some.
     let placed : IsPlaced entries used known = (h some).0 in

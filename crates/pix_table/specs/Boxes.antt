@@ -64,14 +64,17 @@ pub record AreEnough (entries : List (List ℕ)) (color : List ℕ) (listed : �
 abbrev pub AreListed : List (List ℕ) → (reach : ℕ) → (low : List ℕ) → (ℕ → ℕ) → ℕ → Type 0
 AreListed entries reach low listed count = (color : List ℕ) → IsInside reach low color → AreEnough entries color listed count
 
--- how far a box reaches: the first 32768 boxes are the small ones, of eight numbers a channel, and the others are the large ones, of thirty-two
+-- how far a box reaches: the first 32768 boxes are the small ones, of eight numbers a channel, then come 4096 of sixteen, 512 of thirty-two, and
+-- 64 of sixty-four
 abbrev pub reach_at : ℕ → ℕ
-reach_at place = if nat_lt place 32768 then 7 else 31
+reach_at place = if nat_lt place 32768 then 7 else (if nat_lt place 36864 then 15 else (if nat_lt place 37376 then 31 else 63))
 
 -- the least numbers of a box: boxes of a kind are numbered by their reds, then by their greens, then by their blues
 abbrev pub low_at : ℕ → List ℕ
 low_at place = if nat_lt place 32768 then place / 1024 * 8 ∷ place / 32 % 32 * 8 ∷ place % 32 * 8 ∷ []
-    else (place - 32768) / 64 * 32 ∷ (place - 32768) / 8 % 8 * 32 ∷ (place - 32768) % 8 * 32 ∷ []
+    else (if nat_lt place 36864 then (place - 32768) / 256 * 16 ∷ (place - 32768) / 16 % 16 * 16 ∷ (place - 32768) % 16 * 16 ∷ []
+    else (if nat_lt place 37376 then (place - 36864) / 64 * 32 ∷ (place - 36864) / 8 % 8 * 32 ∷ (place - 36864) % 8 * 32 ∷ []
+    else (place - 37376) / 16 * 64 ∷ (place - 37376) / 4 % 4 * 64 ∷ (place - 37376) % 4 * 64 ∷ []))
 
 -- a list that is no longer than the entries, and stands before `used`
 pub record IsPlaced (entries : List (List ℕ)) (used : ℕ) (known : Known) : Type 0 where
@@ -89,7 +92,7 @@ AreKnown entries boxes = (k : ℕ) (d : Known) → k < length boxes.known → Is
 
 -- how long the lists are, and that they begin with all indices
 pub record HasRoom (boxes : Boxes) : Type 0 where
-  pub places : length boxes.known ≡ 33280
+  pub places : length boxes.known ≡ 37440
   pub lists : length boxes.lists ≡ 65539
   pub used : boxes.used ≤ 65536
   pub begun : 256 ≤ boxes.used

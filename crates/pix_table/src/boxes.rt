@@ -1,9 +1,9 @@
 //! Boxes of colors, each with the entries that may be the nearest to one of its colors.
 //!
-//! The colors are cut into small boxes of eight reds, eight greens and eight blues, and into large ones of thirty-two each. The entries of a
-//! small box are listed when a color of it is asked for: those that are listed for the large box around it are sifted, and the large box
-//! is listed first, out of all entries. A list is stored behind those that are there. How much room there is for lists decides only how
-//! often they are made: no answer depends on it.
+//! The colors are cut into small boxes of eight reds, eight greens and eight blues, and into larger ones of sixteen, thirty-two and sixty-four
+//! each. The entries of a small box are listed when a color of it is asked for: those that are listed for the box of the next size around it are
+//! sifted, which is listed first, and so on; the largest boxes are listed out of all entries. A list is stored behind those that are there. How
+//! much room there is for lists decides only how often they are made: no answer depends on it.
 ghost use Rattle.std.specs.Prelude.{◌≡◌, ◌<◌, ◌≤◌, ◌+◌, ◌*◌, ℕ, List, All, length, map, slice_index, true};
 ghost use Rattle.pix_table.specs.Nearest.{IsNearest, distance, numbers};
 ghost use Rattle.pix_table.specs.Boxes.{IsInside, IsLow, IsPlaced, AreListed, AreKnown, AreWords};
@@ -16,14 +16,26 @@ use crate::word::nearest_listed;
 /// The number of small boxes.
 const SMALL: usize = 32768;
 
-/// The number of all boxes: the large ones come after the small ones.
-const BOXES: usize = 33280;
+/// The number of the first box of sixteen: after the small boxes come the larger ones, by their size.
+const SIXTEENS: usize = SMALL;
+
+/// The number of the first box of thirty-two.
+const THIRTY_TWOS: usize = 36864;
+
+/// The number of the first box of sixty-four.
+const SIXTY_FOURS: usize = 37376;
+
+/// The number of all boxes.
+const BOXES: usize = 37440;
 
 /// The room for lists, one byte for an index.
 const ROOM: usize = 65536;
 
 /// How long the lists are: entries are looked at by fours, and so some behind a list.
 const LISTS: usize = 65539;
+
+/// How many entries of a list are looked at at once.
+const AT_ONCE: u16 = 4;
 
 /// How many boxes are listed as soon as a color of them is asked for: as many as there are, until there is no room.
 const EARLY: u16 = 32768;
@@ -89,42 +101,80 @@ fn place_of(clr: Color) -> usize
     usize::from(clr.red) / 8 * 1024 + usize::from(clr.green) / 8 * 32 + usize::from(clr.blue) / 8
 }
 
-/// Returns the number of the large box around a small one.
-fn around(place: usize) -> usize
+/// Returns the number of the box of sixteen around a small one.
+fn sixteen_around(place: usize) -> usize
     requires { place < 32768 }
-    ensures large { 32768 ≤ result }
-    ensures below { result < 33280 }
+    ensures sixteen { 32768 ≤ result }
+    ensures below { result < 36864 }
     ensures inside { (color : List ℕ) → IsInside (reach_at place) (low_at place) color
         → IsInside (reach_at result) (low_at result) color }
 {
-    SMALL + place / 4096 * 64 + place / 128 % 8 * 8 + place / 4 % 8
+    SIXTEENS + place / 2048 * 256 + place / 64 % 16 * 16 + place / 2 % 16
+}
+
+/// Returns the number of the box of thirty-two around one of sixteen.
+fn thirty_two_around(place: usize) -> usize
+    requires sixteen { 32768 ≤ place }
+    requires few { place < 36864 }
+    ensures thirty_two { 36864 ≤ result }
+    ensures below { result < 37376 }
+    ensures inside { (color : List ℕ) → IsInside (reach_at place) (low_at place) color
+        → IsInside (reach_at result) (low_at result) color }
+{
+    let at = place - SIXTEENS;
+    THIRTY_TWOS + at / 512 * 64 + at / 32 % 8 * 8 + at / 2 % 8
+}
+
+/// Returns the number of the box of sixty-four around one of thirty-two.
+fn sixty_four_around(place: usize) -> usize
+    requires thirty_two { 36864 ≤ place }
+    requires few { place < 37376 }
+    ensures sixty_four { 37376 ≤ result }
+    ensures below { result < 37440 }
+    ensures inside { (color : List ℕ) → IsInside (reach_at place) (low_at place) color
+        → IsInside (reach_at result) (low_at result) color }
+{
+    let at = place - THIRTY_TWOS;
+    SIXTY_FOURS + at / 128 * 16 + at / 16 % 4 * 4 + at / 2 % 4
 }
 
 /// Returns how far a box reaches from its least color in each channel.
 fn reach_of(place: usize) -> u8
     ensures { result ≡ reach_at place }
 {
-    if place < SMALL { 7 } else { 31 }
+    if place < SIXTEENS {
+        7
+    } else if place < THIRTY_TWOS {
+        15
+    } else if place < SIXTY_FOURS {
+        31
+    } else {
+        63
+    }
 }
 
 /// Returns the color of a box that is least in each channel.
 fn low_of(place: usize) -> Color
-    requires { place < 33280 }
+    requires { place < 37440 }
     ensures low { numbers result ≡ low_at place }
     ensures is_low { IsLow (reach_at place) (numbers result) }
 {
-    if place < SMALL {
-        return Color {
-            red: (place / 1024 * 8) as u8,
-            green: (place / 32 % 32 * 8) as u8,
-            blue: (place % 32 * 8) as u8,
-        };
-    }
-    let large = place - SMALL;
+    let (red, green, blue) = if place < SIXTEENS {
+        (place / 1024 * 8, place / 32 % 32 * 8, place % 32 * 8)
+    } else if place < THIRTY_TWOS {
+        let at = place - SIXTEENS;
+        (at / 256 * 16, at / 16 % 16 * 16, at % 16 * 16)
+    } else if place < SIXTY_FOURS {
+        let at = place - THIRTY_TWOS;
+        (at / 64 * 32, at / 8 % 8 * 32, at % 8 * 32)
+    } else {
+        let at = place - SIXTY_FOURS;
+        (at / 16 * 64, at / 4 % 4 * 64, at % 4 * 64)
+    };
     Color {
-        red: (large / 64 * 32) as u8,
-        green: (large / 8 % 8 * 32) as u8,
-        blue: (large % 8 * 32) as u8,
+        red: red as u8,
+        green: green as u8,
+        blue: blue as u8,
     }
 }
 
@@ -201,26 +251,27 @@ fn sift(
     count
 }
 
-/// Makes room for two lists more: where there is none, all are given up, and from then on a box is listed in its turn.
+/// Makes room for four lists more: where there is none, all are given up, and from then on a box is listed in its turn.
 fn make_room(boxes: &mut Boxes, entries: &[Color])
     requires few { length entries.now ≤ 256 }
     requires room { HasRoom boxes.old }
     requires known { AreKnown (map numbers entries.now) boxes.old }
     ensures room { HasRoom boxes.new }
     ensures known { AreKnown (map numbers entries.now) boxes.new }
-    ensures free { boxes.new.used + 2 * length entries.now ≤ 65536 }
+    ensures free { boxes.new.used + 4 * length entries.now ≤ 65536 }
 {
-    if ROOM - boxes.used < 2 * entries.len() {
+    if ROOM - boxes.used < 4 * entries.len() {
         *boxes = Boxes::with_early(0);
     }
 }
 
 /// Returns where the list of a box stands. If it has none, it gets one: what is sifted from another list, on which are enough entries for it.
+/// Where that is no longer than what is looked at at once, or nothing is sifted out of it, the box has the same list.
 fn listed(boxes: &mut Boxes, entries: &[Color], words: &[u32], from: Known, place: usize) -> Known
     requires some { 0 < from.count }
     requires few { length entries.now ≤ 256 }
     requires words { AreWords (map numbers entries.now) words.now }
-    requires place { place < 33280 }
+    requires place { place < 37440 }
     requires room { HasRoom boxes.old }
     requires known { AreKnown (map numbers entries.now) boxes.old }
     requires free { boxes.old.used + length entries.now ≤ 65536 }
@@ -239,9 +290,17 @@ fn listed(boxes: &mut Boxes, entries: &[Color], words: &[u32], from: Known, plac
     if old.count > 0 {
         return old;
     }
+    if from.count <= AT_ONCE {
+        boxes.known[place] = from;
+        return from;
+    }
     let start = boxes.used;
     let (low, reach) = (low_of(place), reach_of(place));
     let count = sift(entries, words, from, low, reach, &mut boxes.lists, start);
+    if count == usize::from(from.count) {
+        boxes.known[place] = from;
+        return from;
+    }
     let known = Known {
         start: start as u16,
         count: count as u16,
@@ -271,8 +330,12 @@ fn add(boxes: &mut Boxes, entries: &[Color], words: &[u32], place: usize) -> Kno
         start: 0,
         count: entries.len() as u16,
     };
-    let large = listed(boxes, entries, words, all, around(place));
-    listed(boxes, entries, words, large, place)
+    let sixteen = sixteen_around(place);
+    let thirty_two = thirty_two_around(sixteen);
+    let first = listed(boxes, entries, words, all, sixty_four_around(thirty_two));
+    let second = listed(boxes, entries, words, first, thirty_two);
+    let third = listed(boxes, entries, words, second, sixteen);
+    listed(boxes, entries, words, third, place)
 }
 
 /// Returns whether a box that has no list is to have one now.

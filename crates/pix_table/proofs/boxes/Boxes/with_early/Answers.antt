@@ -11,7 +11,7 @@ use Rattle.pix_table.proofs.boxes.Boxes.with_early.Goals as goal
 pub loop-i-init : goal.loop-i-init
 loop-i-init c = record {
   places = refl;
-  empty = All-replicate (λ (known : Known). known.count ≡ 0) 33280 _ refl;
+  empty = All-replicate (λ (known : Known). known.count ≡ 0) 37440 _ refl;
   long = refl;
   used = refl;
   begun = λ k b. absurd (omega arith);

@@ -6,7 +6,7 @@ use Rattle.pix_table.proofs.boxes.Boxes.with_early.Given as goal
 -- the first i indices stand at the head of the lists
 abbrev pub invariant-loop-i : goal.invariant-loop-i
 invariant-loop-i l = record {
-  places : length l.boxes.known ≡ 33280;
+  places : length l.boxes.known ≡ 37440;
   empty : All (λ (known : Known). known.count ≡ 0) l.boxes.known;
   long : length l.boxes.lists ≡ 65539;
   used : l.boxes.used ≡ 256;
