@@ -201,8 +201,21 @@ fn median(colors: &[Color], k: usize, most: u8) -> u8
     most
 }
 
-/// Returns for each number how many colors have it in a channel.
+/// Returns for each number how many colors have it in a channel: which one it is, is known in each loop.
 fn counts_of(colors: &[Color], k: usize) -> [usize; 256]
+    ensures { AreCounted 256 (map (λ c. slice_index (numbers c) k) colors.now) result }
+{
+    match k {
+        0 => counts_in(colors, 0),
+        1 => counts_in(colors, 1),
+        2 => counts_in(colors, 2),
+        _ => counts_in(colors, k),
+    }
+}
+
+/// Does what [`counts_of`] does.
+#[inline(always)]
+fn counts_in(colors: &[Color], k: usize) -> [usize; 256]
     ensures { AreCounted 256 (map (λ c. slice_index (numbers c) k) colors.now) result }
 {
     let mut counts = [0; 256];
@@ -212,8 +225,24 @@ fn counts_of(colors: &[Color], k: usize) -> [usize; 256]
     counts
 }
 
-/// Moves the colors whose number in a channel is below `value` to the front; returns how many they are.
+/// Moves the colors whose number in a channel is below `value` to the front; returns how many they are. Which channel it is, is known in each loop.
 fn partition(colors: &mut [Color], k: usize, value: u8) -> usize
+    ensures within { result ≤ length colors.new }
+    ensures moved { IsPermutation colors.old colors.new }
+    ensures front { All (λ c. slice_index (numbers c) k < value) (take result colors.new) }
+    ensures back { All (λ c. value ≤ slice_index (numbers c) k) (drop result colors.new) }
+{
+    match k {
+        0 => partition_in(colors, 0, value),
+        1 => partition_in(colors, 1, value),
+        2 => partition_in(colors, 2, value),
+        _ => partition_in(colors, k, value),
+    }
+}
+
+/// Does what [`partition`] does.
+#[inline(always)]
+fn partition_in(colors: &mut [Color], k: usize, value: u8) -> usize
     ensures within { result ≤ length colors.new }
     ensures moved { IsPermutation colors.old colors.new }
     ensures front { All (λ c. slice_index (numbers c) k < value) (take result colors.new) }

@@ -1,8 +1,8 @@
--- What holds at each turn of the loop over `i` in `counts_of`.
+-- What holds at each turn of the loop over `i` in `counts_in`.
 use Rattle.std.specs.Prelude.{nat_eq, count_by}
 use Rattle.std.proofs.Common.{◌≡◌, ◌<◌, ℕ, length, map, take, get_or}
 use Rattle.pix_table.specs.Nearest.{numbers}
-use Rattle.pix_table.proofs.cut.counts_of.Given as goal
+use Rattle.pix_table.proofs.cut.counts_in.Given as goal
 
 -- the first i colors are counted
 abbrev pub invariant-loop-i : goal.invariant-loop-i

@@ -1,4 +1,4 @@
--- Of `partition`: that the invariant of its loop over `i` holds after each turn.
+-- Of `partition_in`: that the invariant of its loop over `i` holds after each turn.
 use Rattle.std.proofs.Common.{◌≡◌, ℕ, ◌+◌, ◌<◌, ◌≤◌, get_or, length, arith, sym, ap, ◌∙◌, subst, inl, inr, lt-ltb, le-ltb}
 use Rattle.std.proofs.lemmas.Bool.{cases_lt}
 use Rattle.std.proofs.lemmas.List.{get_or_default}
@@ -7,7 +7,7 @@ use mir.Val.{bool_byte}
 use Rattle.pix_table.specs.Nearest.{numbers}
 use Rattle.pix_table.specs.declared.color.Color.{Color}
 use Rattle.pix_table.proofs.Parts.{AreBelow, AreOthers, below_swapped, others_swapped, below_kept, others_kept}
-use Rattle.pix_table.proofs.cut.partition.Goals as goal
+use Rattle.pix_table.proofs.cut.partition_in.Goals as goal
 
 pub loop-i-preserved : goal.loop-i-preserved
 loop-i-preserved c =

@@ -1,8 +1,8 @@
--- What holds at each turn of the loop over `i` in `partition`.
+-- What holds at each turn of the loop over `i` in `partition_in`.
 use Rattle.std.proofs.Common.{◌<◌, ◌≤◌, ℕ, get_or, IsPermutation}
 use Rattle.pix_table.specs.Nearest.{numbers}
 use Rattle.pix_table.specs.declared.color.Color.{Color}
-use Rattle.pix_table.proofs.cut.partition.Given as goal
+use Rattle.pix_table.proofs.cut.partition_in.Given as goal
 
 -- of the first i colors those below the value come first
 abbrev pub invariant-loop-i : goal.invariant-loop-i
