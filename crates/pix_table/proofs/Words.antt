@@ -20,6 +20,11 @@ pub word_distance : (entries : List (List ℕ)) (color words : List ℕ) (i : �
     → word_key color (get_or words i 0) ≡ distance_to entries color (get_or words i 0 % 256) * 256 + get_or words i 0 % 256
 word_distance entries color words i h below = ap (λ c. distance c color * 256 + get_or words i 0 % 256) (h.each i below).color
 
+-- how far the color of the number of an entry is from a color
+pub entry_word : (entries : List (List ℕ)) (color words : List ℕ) (i : ℕ) → AreWords entries words → i < 256 → i < length entries
+    → distance (word_color (get_or words i 0)) color ≡ distance_to entries color i
+entry_word entries color words i h below stands = ap (λ c. distance c color) (h.each i below).color ∙ ap (distance_to entries color) (h.own i stands)
+
 min_of_four : (k a b c d : ℕ) → min (min (min (min k a) b) c) d ≡ min k (min (min a b) (min c d))
 min_of_four k a b c d = omega arith
 

@@ -11,7 +11,7 @@ ghost use Rattle.pix_table.specs.Boxes.{HasRoom, end, low_at, reach_at};
 
 use crate::color::Color;
 use crate::search::{distance, search};
-use crate::word::nearest_listed;
+use crate::word::{color_of, nearest_listed};
 
 /// The number of small boxes.
 const SMALL: usize = 32768;
@@ -190,15 +190,19 @@ fn middle(low: Color, reach: u8) -> Color
     }
 }
 
-/// Returns the end of a box in one channel, from `low` on, that lies on the side of `y` as seen from `x`.
+/// Returns the end of a box in one channel, from `low` on, that lies on the side of `y` as seen from `x`: without a branch, which would be guessed in
+/// vain.
+#[inline(always)]
 fn end(low: u8, reach: u8, x: u8, y: u8) -> u8
     requires { low + reach ≤ 255 }
     ensures { result ≡ end reach low x y }
 {
-    if x < y { low + reach } else { low }
+    let past = (255 + u32::from(y) - u32::from(x)) / 256;
+    (u32::from(low) + u32::from(reach) * past) as u8
 }
 
 /// Returns whether `near` is nearer than `far` to the corner of a box that lies on the side of `far`: then it is to each color of the box.
+#[inline(always)]
 fn is_nearer(near: Color, far: Color, low: Color, reach: u8) -> bool
     requires { IsLow reach (numbers low) }
     ensures { result ≡ true → (color : List ℕ) → IsInside reach (numbers low) color
@@ -240,11 +244,12 @@ fn sift(
     ensures some { 0 < result }
 {
     let at = usize::from(nearest_listed(words, lists, from, middle(low, reach)));
+    let near = entries[at];
     let mut count = 0;
     for p in 0..usize::from(from.count) {
         let index = lists[usize::from(from.start) + p];
         lists[start + count] = index;
-        if !is_nearer(entries[at], entries[usize::from(index)], low, reach) {
+        if !is_nearer(near, color_of(words[usize::from(index)]), low, reach) {
             count += 1;
         }
     }

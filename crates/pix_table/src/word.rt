@@ -20,7 +20,7 @@ pub fn word_of(clr: Color, index: u8) -> u32
 
 /// Returns the color of such a number.
 #[inline(always)]
-fn color_of(word: u32) -> Color
+pub fn color_of(word: u32) -> Color
     ensures { numbers result ≡ word_color word }
 {
     Color {

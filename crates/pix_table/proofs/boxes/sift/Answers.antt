@@ -1,24 +1,13 @@
--- Of `sift`: that an index is one of an entry, what is listed, and that the invariant of its loop over `p`
+-- Of `sift`: that the nearest entry is one, what is listed, and that the invariant of its loop over `p`
 -- holds at first and after each turn.
 use Rattle.std.proofs.Common.{◌≡◌, ◌≢◌, ◌<◌, ◌≤◌, ◌+◌, ℕ, length, map, get_or, set, refl, ap, ◌∙◌, subst, arith}
 use Rattle.std.proofs.lemmas.List.{length-map, get_or-set_other}
 use Rattle.pix_table.specs.declared.color.Color.{Color}
-use Rattle.pix_table.specs.Nearest.{numbers}
+use Rattle.pix_table.specs.Nearest.{distance, numbers}
 use Rattle.pix_table.proofs.Listed.{AreSifted, IsFarther, none_sifted, sifted_in, sifted_out, all_sifted, entry_distance}
+use Rattle.pix_table.proofs.Words.{entry_word}
 use Rattle.pix_table.proofs.boxes.sift.Goals as goal
 use Rattle.pix_table.proofs.boxes.sift.Goals.{then-not-is_nearer, else-not-is_nearer}
-
-pub bounds-entries-from : goal.bounds-entries-from
-bounds-entries-from c =
-    let same : get_or c.loop-p.lists (c.from.result + c.loop-p.p) 0 ≡ get_or c.args.lists.now (c.args.from.start + c.loop-p.p) 0 =
-    ap (λ i. get_or c.loop-p.lists (i + c.loop-p.p) 0) c.from.ensures ∙ c.loop-p.invariant.before (c.args.from.start + c.loop-p.p) (omega arith) in
-    omega (
-      arith,
-      c.from-in-loop-p.ensures,
-      same,
-      (c.requires.listed (numbers c.middle.result) c.middle.ensures).inside c.loop-p.p (omega arith),
-      length-map c.args.entries.now numbers,
-    )
 
 pub bounds-entries-at : goal.bounds-entries-at
 bounds-entries-at c =
@@ -64,7 +53,9 @@ loop-p-preserved c =
             arith,
             c.is_nearer.ensures w.if-not-is_nearer.false color inside,
             entry_distance c.args.entries.now color c.from-at.result d stands,
-            entry_distance c.args.entries.now color c.from-in-loop-p.result d there,
+            ap (λ n. distance n color) c.color_of.ensures,
+            entry_word (map numbers c.args.entries.now) color c.args.words.now c.from-in-loop-p.result c.requires.words (omega (arith, there, c.requires.few))
+              (omega (arith, there, length-map c.args.entries.now numbers)),
           )) in
           let farther : IsFarther entries c.args.reach (numbers c.args.low) near (from p) =
           subst (λ j. IsFarther entries c.args.reach (numbers c.args.low) near j) (c.from-in-loop-p.ensures ∙ is) far in
