@@ -315,6 +315,38 @@ fn listed(boxes: &mut Boxes, entries: &[Color], words: &[u32], from: Known, plac
     known
 }
 
+/// Returns where the list of a box of sixteen stands. If it has none, it gets one, and the boxes around it first.
+fn sixteen_listed(boxes: &mut Boxes, entries: &[Color], words: &[u32], place: usize) -> Known
+    requires some { 0 < length entries.now }
+    requires few { length entries.now ≤ 256 }
+    requires words { AreWords (map numbers entries.now) words.now }
+    requires sixteen { 32768 ≤ place }
+    requires place { place < 36864 }
+    requires room { HasRoom boxes.old }
+    requires known { AreKnown (map numbers entries.now) boxes.old }
+    requires free { boxes.old.used + 3 * length entries.now ≤ 65536 }
+    ensures room { HasRoom boxes.new }
+    ensures known { AreKnown (map numbers entries.now) boxes.new }
+    ensures few { boxes.new.used ≤ boxes.old.used + 3 * length entries.now }
+    ensures some { 0 < result.count }
+    ensures placed { IsPlaced (map numbers entries.now) boxes.new.used result }
+    ensures listed { AreListed (map numbers entries.now) (reach_at place) (low_at place)
+        (λ p. slice_index boxes.new.lists (result.start + p)) result.count }
+{
+    let old = boxes.known[place];
+    if old.count > 0 {
+        return old;
+    }
+    let all = Known {
+        start: 0,
+        count: entries.len() as u16,
+    };
+    let thirty_two = thirty_two_around(place);
+    let first = listed(boxes, entries, words, all, sixty_four_around(thirty_two));
+    let second = listed(boxes, entries, words, first, thirty_two);
+    listed(boxes, entries, words, second, place)
+}
+
 /// Lists the entries of a small box, and returns where its list stands.
 fn add(boxes: &mut Boxes, entries: &[Color], words: &[u32], place: usize) -> Known
     requires some { 0 < length entries.now }
@@ -331,16 +363,9 @@ fn add(boxes: &mut Boxes, entries: &[Color], words: &[u32], place: usize) -> Kno
         (λ p. slice_index boxes.new.lists (result.start + p)) result.count }
 {
     make_room(boxes, entries);
-    let all = Known {
-        start: 0,
-        count: entries.len() as u16,
-    };
     let sixteen = sixteen_around(place);
-    let thirty_two = thirty_two_around(sixteen);
-    let first = listed(boxes, entries, words, all, sixty_four_around(thirty_two));
-    let second = listed(boxes, entries, words, first, thirty_two);
-    let third = listed(boxes, entries, words, second, sixteen);
-    listed(boxes, entries, words, third, place)
+    let from = sixteen_listed(boxes, entries, words, sixteen);
+    listed(boxes, entries, words, from, place)
 }
 
 /// Returns whether a box that has no list is to have one now.

@@ -24,4 +24,4 @@ returns-then-count-from-clause-known c =
     known_more (map numbers c.args.entries.now) boxes.lists c.sift-count.new.lists boxes.used boxes.used c.args.place boxes.known c.args.from (omega arith)
     c.sift-count.ensures.before c.requires.known
     (known_stays (map numbers c.args.entries.now) boxes.lists c.sift-count.new.lists boxes.used boxes.used c.args.place c.args.from (omega arith) c.sift-count.ensures.before
-      (λ some. (c.requires.placed, c.requires.listed)))
+    (λ some. (c.requires.placed, c.requires.listed)))

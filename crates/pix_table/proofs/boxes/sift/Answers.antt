@@ -55,7 +55,7 @@ loop-p-preserved c =
             entry_distance c.args.entries.now color c.from-at.result d stands,
             ap (λ n. distance n color) c.color_of.ensures,
             entry_word (map numbers c.args.entries.now) color c.args.words.now c.from-in-loop-p.result c.requires.words (omega (arith, there, c.requires.few))
-              (omega (arith, there, length-map c.args.entries.now numbers)),
+                (omega (arith, there, length-map c.args.entries.now numbers)),
           )) in
           let farther : IsFarther entries c.args.reach (numbers c.args.low) near (from p) =
           subst (λ j. IsFarther entries c.args.reach (numbers c.args.low) near j) (c.from-in-loop-p.ensures ∙ is) far in
