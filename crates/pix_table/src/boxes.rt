@@ -315,7 +315,8 @@ fn listed(boxes: &mut Boxes, entries: &[Color], words: &[u32], from: Known, plac
     known
 }
 
-/// Returns where the list of a box of sixteen stands. If it has none, it gets one, and the boxes around it first.
+/// Returns where a list stands that is enough for a box of sixteen: its own, which it gets if it has none, and the boxes around it first. Once there
+/// was no room, it gets none, since small boxes have more need of the room: then it is the list of the box around it.
 fn sixteen_listed(boxes: &mut Boxes, entries: &[Color], words: &[u32], place: usize) -> Known
     requires some { 0 < length entries.now }
     requires few { length entries.now ≤ 256 }
@@ -344,6 +345,9 @@ fn sixteen_listed(boxes: &mut Boxes, entries: &[Color], words: &[u32], place: us
     let thirty_two = thirty_two_around(place);
     let first = listed(boxes, entries, words, all, sixty_four_around(thirty_two));
     let second = listed(boxes, entries, words, first, thirty_two);
+    if boxes.early == 0 {
+        return second;
+    }
     listed(boxes, entries, words, second, place)
 }
 

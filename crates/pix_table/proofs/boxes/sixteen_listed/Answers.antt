@@ -16,3 +16,6 @@ listed-second-requires-clause-listed c = λ color inside. c.listed-first.ensures
 
 pub listed-requires-clause-listed : goal.listed-requires-clause-listed
 listed-requires-clause-listed c = λ color inside. c.listed-second.ensures.listed color (c.thirty_two_around-thirty_two.ensures.inside color inside)
+
+pub returns-then-boxes-eq0-clause-listed : goal.returns-then-boxes-eq0-clause-listed
+returns-then-boxes-eq0-clause-listed c = λ color inside. c.listed-second.ensures.listed color (c.thirty_two_around-thirty_two.ensures.inside color inside)
