@@ -66,7 +66,7 @@ fn divided(n: u64, d: u64, narrow: bool) -> u64
     }
 }
 
-/// Returns `n` / `d` rounded down, in 32 bits, of which processors divide much faster than of 64. Condition: both fit.
+/// Returns `n` / `d` rounded down, in 32 bits, which many processors divide much faster than 64. Condition: both fit.
 #[inline(always)]
 pub(crate) fn divided_short(n: u64, d: u64) -> u64
     requires n_fits { n < 2 ^ 32 }

@@ -266,8 +266,19 @@ fn make_room(boxes: &mut Boxes, entries: &[Color])
     ensures free { boxes.new.used + 4 * length entries.now ≤ 65536 }
 {
     if ROOM - boxes.used < 4 * entries.len() {
-        *boxes = Boxes::with_early(0);
+        give_up(boxes);
     }
+}
+
+/// Gives up all lists.
+// Out of line, so that no caller has the 210 kilobytes of new boxes on its stack: it would touch some seventy places of them in each call.
+#[inline(never)]
+fn give_up(boxes: &mut Boxes)
+    ensures room { HasRoom boxes.new }
+    ensures empty { All (λ known. known.count ≡ 0) boxes.new.known }
+    ensures unused { boxes.new.used ≡ 256 }
+{
+    *boxes = Boxes::with_early(0);
 }
 
 /// Returns where the list of a box stands. If it has none, it gets one: what is sifted from another list, on which are enough entries for it.

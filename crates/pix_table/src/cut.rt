@@ -201,7 +201,7 @@ fn median(colors: &[Color], k: usize, most: u8) -> u8
     most
 }
 
-/// Returns for each number how many colors have it in a channel: which one it is, is known in each loop.
+/// Returns for each number how many colors have it in a channel: each channel has a loop of its own.
 fn counts_of(colors: &[Color], k: usize) -> [usize; 256]
     ensures { AreCounted 256 (map (λ c. slice_index (numbers c) k) colors.now) result }
 {
@@ -225,7 +225,7 @@ fn counts_in(colors: &[Color], k: usize) -> [usize; 256]
     counts
 }
 
-/// Moves the colors whose number in a channel is below `value` to the front; returns how many they are. Which channel it is, is known in each loop.
+/// Moves the colors whose number in a channel is below `value` to the front; returns how many they are. Each channel has a loop of its own.
 fn partition(colors: &mut [Color], k: usize, value: u8) -> usize
     ensures within { result ≤ length colors.new }
     ensures moved { IsPermutation colors.old colors.new }
