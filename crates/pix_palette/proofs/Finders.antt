@@ -215,6 +215,7 @@ module _ {C : Type 0} (read : C → List ℕ) (old new : List C) (g : Grows old 
       record {
         within = (let more : length (map read old) ≤ length (map read new) = longer read old new g in omega arith);
         each = λ i inside. block.each i inside ∙ sym (channels_stay (16 * k + i) (omega arith));
+        ends = block.ends;
       }
 
   pub follows_grown : (finder : Finder) → Follows (map read old) finder → Follows (map read new) finder
