@@ -8,13 +8,21 @@ use pix::rgb::SRgb8;
 use pix::{ColorTable, Palette, Raster};
 use std::alloc::Global;
 
-/// Does the job.
+/// Does the job: twice, on other inputs of the same kinds and sizes, where the size is whole.
 pub(crate) fn run(
     alloc: Global,
     size: Size,
     random: &mut Random,
     digest: &mut Digest,
 ) -> Option<()> {
+    for _ in 0..=size.of(1) {
+        inputs(alloc, size, random, digest)?;
+    }
+    Some(())
+}
+
+/// Indexes an input of each kind.
+fn inputs(alloc: Global, size: Size, random: &mut Random, digest: &mut Digest) -> Option<()> {
     let colors = pictures::colors(alloc, size.of(8000), random)?;
     let sheet = pictures::drawing(alloc, size.of(512), size.of(384), &colors, 4, random)?;
     wide(alloc, sheet, false, digest)?;
