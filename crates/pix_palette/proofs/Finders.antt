@@ -215,23 +215,10 @@ module _ {C : Type 0} (read : C → List ℕ) (old new : List C) (g : Grows old 
       record {
         within = (let more : length (map read old) ≤ length (map read new) = longer read old new g in omega arith);
         each = λ i inside. block.each i inside ∙ sym (channels_stay (16 * k + i) (omega arith));
-        ends = block.ends;
       }
 
   pub follows_grown : (finder : Finder) → Follows (map read old) finder → Follows (map read new) finder
   follows_grown finder h = record {
     places = finder_grows finder.latest.items finder.earlier.items h.places;
-    blocks = blocks_grow finder.blocks.items h.blocks;
+    blocks = record { blocks = blocks_grow finder.blocks.blocks.items h.blocks.blocks; spans = h.blocks.spans };
   }
-
--- with one block more
-pub blocks_more : (entries : List (List ℕ)) (blocks : List ColorBlock) (block : ColorBlock) → AreBlocks entries blocks
-    → IsBlock entries (16 * length blocks) block → AreBlocks entries (blocks ++ block ∷ [])
-blocks_more entries blocks block h is = λ k d below. elim (cases_lt k (length blocks)) [
-  | inl b ↦ subst (IsBlock entries (16 * k)) (sym (get_or_append_left blocks (block ∷ []) d k b)) (h k d b)
-  | inr b ↦
-      let same : length blocks ≡ k = (let n : length (blocks ++ block ∷ []) ≡ length blocks + 1 = length-append blocks (block ∷ []) in omega arith) in
-      let there : get_or (blocks ++ block ∷ []) k d ≡ block =
-      ap (λ j. get_or (blocks ++ block ∷ []) j d) (sym same) ∙ get_or-append_seam blocks block [] d in
-      subst (IsBlock entries (16 * k)) (sym there) (subst (λ j. IsBlock entries (16 * j) block) same is)
-]

@@ -5,3 +5,4 @@ pub mod IndexingLaws
 pub mod Thresholds
 pub mod Mapped
 pub mod Finders
+pub mod BlocksMore

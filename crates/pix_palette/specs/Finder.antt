@@ -2,6 +2,8 @@
 use Rattle.std.specs.Prelude.{◌≡◌, ◌≢◌, ◌⊎◌, ℕ, ◌+◌, ◌*◌, ◌/◌, ◌%◌, ◌-◌, ◌<◌, ◌≤◌, List, [], ◌∷◌, length, slice_index, slice_index_or}
 use Rattle.pix_table.specs.ColorBlocks.{AreBlocks}
 use Rattle.pix_table.specs.PaletteMatch.{difference_to}
+use Rattle.pix_table.specs.Spans.{AreSpans}
+use Rattle.pix_palette.specs.declared.palette.blocks.Blocks.{Blocks}
 use Rattle.pix_palette.specs.declared.palette.finder.Finder.{Finder}
 
 -- the place of a color: its channels as one number, times an odd constant near 2^32 over the golden ratio, of which the middle bits are taken
@@ -34,7 +36,12 @@ pub record IsWhole (colors : List (List ℕ)) (latest earlier : List ℕ) : Type
 abbrev pub IsNowhere : List (List ℕ) → List ℕ → Type 0
 IsNowhere colors color = (k : ℕ) → k < length colors → difference_to colors color k ≢ 0 ∷ 0 ∷ 0 ∷ []
 
+-- blocks of the first entries, with their spans
+pub record HasBlocks (colors : List (List ℕ)) (has : Blocks) : Type 0 where
+  pub blocks : AreBlocks colors has.blocks.items
+  pub spans : AreSpans has.blocks.items has.spans.items
+
 -- a finder knows the places of the first entries, and has blocks of the first entries
 pub record Follows (colors : List (List ℕ)) (finder : Finder) : Type 0 where
   pub places : IsFinder colors finder.latest.items finder.earlier.items
-  pub blocks : AreBlocks colors finder.blocks.items
+  pub blocks : HasBlocks colors finder.blocks

@@ -7,6 +7,7 @@ ghost use Rattle.pix_palette.specs.Palette.{Answers, numbers};
 ghost use Rattle.pix_palette.specs.Histogram.{IsHistogram};
 ghost use Rattle.pix_raster.specs.declared.fault.RasterFault.{RasterFault};
 
+mod blocks;
 mod color_table;
 mod finder;
 mod index;

@@ -1,11 +1,10 @@
 -- Blocks of sixteen entries.
-use Rattle.std.specs.Prelude.{max}
-use Rattle.std.proofs.Common.{◌≡◌, ℕ, zero, suc, Bool, true, ◌+◌, ◌-◌, ◌*◌, ◌<◌, ◌≤◌, false, List, [], ◌∷◌, length, get_or, set, arith, sym, ap, ◌∙◌, subst, inl, inr}
-use Rattle.std.proofs.lemmas.Bool.{cases_lt, cases_Bool}
-use Rattle.std.proofs.lemmas.Bool.Decides.{nat_tests}
+use Rattle.std.specs.Prelude.{max, min, ◌/◌}
+use Rattle.std.proofs.Common.{◌≡◌, ℕ, ◌+◌, ◌-◌, ◌*◌, ◌<◌, ◌≤◌, false, List, [], ◌∷◌, length, get_or, set, arith, sym, ap, ◌∙◌, subst, inl, inr}
+use Rattle.std.proofs.lemmas.Bool.{cases_lt}
 use Rattle.std.proofs.lemmas.List.{get_or-set_same, get_or-set_other}
-use Rattle.pix_table.specs.ColorBlocks.{AreBlocks, EndsFit, HasEnds, IsBest, IsBlock, bounds_of, channels_at, channels_in}
-use Rattle.pix_table.specs.PaletteMatch.{apart, color_difference, is_within}
+use Rattle.pix_table.specs.ColorBlocks.{AreBlocks, IsBest, IsBlock, IsFar, Lies, channels_at, channels_in}
+use Rattle.pix_table.specs.PaletteMatch.{color_difference, difference_to, is_within}
 use Rattle.pix_table.specs.declared.color_block.ColorBlock.{ColorBlock}
 use Rattle.pix_table.proofs.PaletteMatches.{all_far}
 
@@ -28,59 +27,66 @@ color_written at red green blue i r g b in_red in_green in_blue h new j below = 
       (subst (λ k. r ∷ g ∷ b ∷ [] ≡ at k) e new)
 ]
 
--- the ends fit the channels of one more color too
-pub ends_written : (ends new red green blue : List ℕ) (i r g b : ℕ) → i < length red → i < length green → i < length blue
-    → ((j : ℕ) → j < i → EndsFit ends (get_or red j 0) (get_or green j 0) (get_or blue j 0)) → ((x y z : ℕ) → EndsFit ends x y z → EndsFit new x y z)
-    → EndsFit new r g b → (j : ℕ) → j < i + 1 → EndsFit new (get_or (set red i r) j 0) (get_or (set green i g) j 0) (get_or (set blue i b) j 0)
-ends_written ends new red green blue i r g b in_red in_green in_blue h more own j below = elim (cases_lt j i) [
-  | inl before ↦ rw (write_other red i j r before, write_other green i j g before, write_other blue i j b before) (more _ _ _ (h j before))
+-- the lesser and the greater numbers of two colors
+abbrev pub mins : List ℕ → List ℕ → List ℕ
+mins p q = min (get_or p 0 0) (get_or q 0 0) ∷ min (get_or p 1 0) (get_or q 1 0) ∷ min (get_or p 2 0) (get_or q 2 0) ∷ []
+
+abbrev pub maxs : List ℕ → List ℕ → List ℕ
+maxs p q = max (get_or p 0 0) (get_or q 0 0) ∷ max (get_or p 1 0) (get_or q 1 0) ∷ max (get_or p 2 0) (get_or q 2 0) ∷ []
+
+-- colors lie between the ends of one more color too, and so does that
+lies_more : (low high new color : List ℕ) → Lies low high color → Lies (mins low new) (maxs high new) color
+lies_more low high new color h = record {
+  red_low = omega (arith, h.red_low);
+  red_high = omega (arith, h.red_high);
+  green_low = omega (arith, h.green_low);
+  green_high = omega (arith, h.green_high);
+  blue_low = omega (arith, h.blue_low);
+  blue_high = omega (arith, h.blue_high);
+}
+
+lies_own : (low high color : List ℕ) → Lies (mins low color) (maxs high color) color
+lies_own low high color = record {
+  red_low = omega arith;
+  red_high = omega arith;
+  green_low = omega arith;
+  green_high = omega arith;
+  blue_low = omega arith;
+  blue_high = omega arith;
+}
+
+pub ends_more : (at : ℕ → List ℕ) (low high color : List ℕ) (i : ℕ) → ((j : ℕ) → j < i → Lies low high (at j)) → color ≡ at i
+    → (j : ℕ) → j < i + 1 → Lies (mins low color) (maxs high color) (at j)
+ends_more at low high color i h new j below = elim (cases_lt j i) [
+  | inl before ↦ lies_more low high color (at j) (h j before)
   | inr after ↦
       let e : i ≡ j = omega arith in
-      rw (write_here red i j r in_red e, write_here green i j g in_green e, write_here blue i j b in_blue e) own
+      subst (λ k. Lies (mins low color) (maxs high color) (at k)) e (subst (λ c. Lies (mins low color) (maxs high color) c) new (lies_own low high color))
 ]
 
--- the three parts of a difference that is within another
-within_parts : (x y z a b c : ℕ) → is_within (x ∷ y ∷ z ∷ []) (a ∷ b ∷ c ∷ []) ≡ true → (x ≤ a) × (y ≤ b) × (z ≤ c)
-within_parts x y z a b c h = (grind (arith, nat_tests), grind (arith, nat_tests), grind (arith, nat_tests))
+-- a block with no colors, which stands for those behind the last
+abbrev pub no_block : ColorBlock
+no_block = record { red = []; green = []; blue = [] }
 
-near_parts : (color difference : List ℕ) (r g b : ℕ) → is_within (color_difference (r ∷ g ∷ b ∷ []) color) difference ≡ true
-    → (apart r (get_or color 0 0) ≤ get_or difference 0 0) × (apart g (get_or color 1 0) ≤ get_or difference 1 0) × (apart b (get_or color 2 0) ≤ get_or difference 2 0)
-near_parts color difference r g b near =
-    within_parts (apart r (get_or color 0 0)) (apart g (get_or color 1 0)) (apart b (get_or color 2 0)) (get_or difference 0 0) (get_or difference 1 0) (get_or difference 2 0) near
-
--- the ends of a color within a difference lie within the bounds
-ends_within : (ends color difference : List ℕ) (r g b : ℕ) → EndsFit ends r g b → is_within (color_difference (r ∷ g ∷ b ∷ []) color) difference ≡ true
-    → (j : ℕ) → j < 6 → get_or ends j 0 ≤ get_or (bounds_of color difference) j 0
-ends_within ends color difference r g b h near zero small = omega (arith, h.red_least, h.red_greatest, (near_parts color difference r g b near).0)
-ends_within ends color difference r g b h near (suc zero) small = omega (arith, h.green_least, h.green_greatest, (near_parts color difference r g b near).1)
-ends_within ends color difference r g b h near (suc (suc zero)) small = omega (arith, h.blue_least, h.blue_greatest, (near_parts color difference r g b near).2)
-ends_within ends color difference r g b h near (suc (suc (suc zero))) small = omega (arith, h.red_greatest, (near_parts color difference r g b near).0)
-ends_within ends color difference r g b h near (suc (suc (suc (suc zero)))) small = omega (arith, h.green_greatest, (near_parts color difference r g b near).1)
-ends_within ends color difference r g b h near (suc (suc (suc (suc (suc zero))))) small = omega (arith, h.blue_greatest, (near_parts color difference r g b near).2)
-ends_within ends color difference r g b h near (suc (suc (suc (suc (suc (suc j)))))) small = absurd (omega arith)
-
--- a block with an end beyond the bounds has no color within the difference
-pub far_by_ends : (block : ColorBlock) (color difference : List ℕ) (reaches : Bool) → HasEnds block
-    → (((j : ℕ) → j < 6 → get_or block.ends j 0 ≤ get_or (bounds_of color difference) j 0) → reaches ≡ true) → reaches ≡ false
-    → (i : ℕ) → i < 16 → is_within (color_difference (channels_in block i) color) difference ≡ false
-far_by_ends block color difference reaches h tells beyond i below = elim (cases_Bool (is_within (color_difference (channels_in block i) color) difference)) [
-  | inl near ↦ absurd (let told : reaches ≡ true = tells (ends_within block.ends color difference _ _ _ (h i below) near) in cc)
-  | inr far ↦ far
-]
-
--- a block whose colors are all too far leaves the last candidate
-pub block_far : (entries : List (List ℕ)) (color : List ℕ) (k at : ℕ) (least : List ℕ) (block : ColorBlock) → IsBlock entries (16 * k) block
-    → IsBest entries color (max (16 * k) 1) at least
-    → ((i : ℕ) → i < 16 → is_within (color_difference (channels_in block i) color) least ≡ false) → IsBest entries color (max (16 * (k + 1)) 1) at least
-block_far entries color k at least block is h far =
-    let start = max (16 * k) 1 in
-    let count = 16 * k + 16 - start in
-    let more : start + count ≡ max (16 * (k + 1)) 1 = omega arith in
-    subst (λ n. IsBest entries color n at least) more (all_far entries color start count at least h (λ i from below.
+-- an entry is far whose block is
+entry_far : (entries : List (List ℕ)) (color : List ℕ) (least : List ℕ) (block : ColorBlock) (k i : ℕ) → IsBlock entries (16 * k) block → IsFar block color least
+    → 16 * k ≤ i → i < 16 * k + 16 → is_within (difference_to entries color i) least ≡ false
+entry_far entries color least block k i is far after before =
     let place : 16 * k + (i - 16 * k) ≡ i = omega arith in
     let inside : i - 16 * k < 16 = omega arith in
     let same : channels_in block (i - 16 * k) ≡ channels_at entries i = is.each (i - 16 * k) inside ∙ ap (channels_at entries) place in
-    subst (λ p. is_within (color_difference p color) least ≡ false) same (far (i - 16 * k) inside)))
+    subst (λ p. is_within (color_difference p color) least ≡ false) same (far (i - 16 * k) inside)
+
+-- blocks whose colors are all too far leave the last candidate
+pub blocks_far : (entries : List (List ℕ)) (color : List ℕ) (from to at : ℕ) (least : List ℕ) (blocks : List ColorBlock) → AreBlocks entries blocks
+    → from ≤ to → to ≤ length blocks → IsBest entries color (max (16 * from) 1) at least
+    → ((k : ℕ) (d : ColorBlock) → from ≤ k → k < to → IsFar (get_or blocks k d) color least) → IsBest entries color (max (16 * to) 1) at least
+blocks_far entries color from to at least blocks are order within h far =
+    let start = max (16 * from) 1 in
+    let count = max (16 * to) 1 - start in
+    let more : start + count ≡ max (16 * to) 1 = omega arith in
+    subst (λ n. IsBest entries color n at least) more (all_far entries color start count at least h (λ i after before.
+    entry_far entries color least (get_or blocks (i / 16) no_block) (i / 16) i (are (i / 16) no_block (omega arith)) (far (i / 16) no_block (omega arith) (omega arith)) (omega arith) (omega arith)))
 
 -- there are entries for all blocks
 pub blocks_fit : (entries : List (List ℕ)) (blocks : List ColorBlock) → AreBlocks entries blocks → 16 * length blocks ≤ length entries

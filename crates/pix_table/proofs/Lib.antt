@@ -19,3 +19,5 @@ pub mod KeptColors
 pub mod IndexingSets
 pub mod OneAnswer
 pub mod ColorBlockLemmas
+pub mod SpanLemmas
+pub mod BitLemmas

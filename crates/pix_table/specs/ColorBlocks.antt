@@ -1,6 +1,6 @@
 -- The entries of a table by sixteens, and the last candidate among the first of them. No clause that a user reads cites this file.
-use Rattle.std.specs.Prelude.{◌≡◌, ℕ, ◌+◌, ◌-◌, ◌*◌, ◌<◌, ◌≤◌, min, List, [], ◌∷◌, length, replicate, slice_index, slice_index_or}
-use Rattle.pix_table.specs.PaletteMatch.{difference_to, AreCandidates}
+use Rattle.std.specs.Prelude.{◌≡◌, ℕ, ◌+◌, ◌*◌, ◌<◌, ◌≤◌, List, [], ◌∷◌, length, slice_index, slice_index_or, false}
+use Rattle.pix_table.specs.PaletteMatch.{color_difference, difference_to, is_within, AreCandidates}
 use Rattle.pix_table.specs.declared.color_block.ColorBlock.{ColorBlock}
 
 -- the last candidate among the first n entries, and its difference
@@ -19,31 +19,23 @@ channels_at entries i =
 abbrev pub channels_in : ColorBlock → ℕ → List ℕ
 channels_in block i = slice_index block.red i ∷ slice_index block.green i ∷ slice_index block.blue i ∷ []
 
--- three numbers lie from the first three ends on, and what they lack of 255 from the next three on
-pub record EndsFit (ends : List ℕ) (red green blue : ℕ) : Type 0 where
-  pub red_least : slice_index ends 0 ≤ red
-  pub green_least : slice_index ends 1 ≤ green
-  pub blue_least : slice_index ends 2 ≤ blue
-  pub red_greatest : slice_index ends 3 + red ≤ 255
-  pub green_greatest : slice_index ends 4 + green ≤ 255
-  pub blue_greatest : slice_index ends 5 + blue ≤ 255
+-- the numbers of a color lie between those of two others
+pub record Lies (low high color : List ℕ) : Type 0 where
+  pub red_low : slice_index low 0 ≤ slice_index color 0
+  pub red_high : slice_index color 0 ≤ slice_index high 0
+  pub green_low : slice_index low 1 ≤ slice_index color 1
+  pub green_high : slice_index color 1 ≤ slice_index high 1
+  pub blue_low : slice_index low 2 ≤ slice_index color 2
+  pub blue_high : slice_index color 2 ≤ slice_index high 2
 
--- those of each color of a block do
-abbrev pub HasEnds : ColorBlock → Type 0
-HasEnds block = (i : ℕ) → i < 16 → EndsFit block.ends (slice_index block.red i) (slice_index block.green i) (slice_index block.blue i)
+-- no color of a block is within a difference of a color
+abbrev pub IsFar : ColorBlock → List ℕ → List ℕ → Type 0
+IsFar block color difference = (i : ℕ) → i < 16 → is_within (color_difference (channels_in block i) color) difference ≡ false
 
--- where the ends of a color lie at most that is within a difference of another: ten ends more are any
-abbrev pub bounds_of : List ℕ → List ℕ → List ℕ
-bounds_of color difference =
-    min (slice_index color 0 + slice_index difference 0) 255 ∷ min (slice_index color 1 + slice_index difference 1) 255
-    ∷ min (slice_index color 2 + slice_index difference 2) 255 ∷ (255 - (slice_index color 0 - slice_index difference 0))
-    ∷ (255 - (slice_index color 1 - slice_index difference 1)) ∷ (255 - (slice_index color 2 - slice_index difference 2)) ∷ replicate 10 255
-
--- a block has the channels of sixteen entries, and ends for them
+-- a block has the channels of sixteen entries
 pub record IsBlock (entries : List (List ℕ)) (start : ℕ) (block : ColorBlock) : Type 0 where
   pub within : start + 16 ≤ length entries
   pub each : (i : ℕ) → i < 16 → channels_in block i ≡ channels_at entries (start + i)
-  pub ends : HasEnds block
 
 -- blocks have those of the first entries
 abbrev pub AreBlocks : List (List ℕ) → List ColorBlock → Type 0

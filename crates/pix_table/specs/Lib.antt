@@ -4,6 +4,7 @@ pub mod LookUp
 pub mod Packing
 pub mod Cut
 pub mod Span
+pub mod Spans
 pub mod From
 pub mod Diffusion
 pub mod Done

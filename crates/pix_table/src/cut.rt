@@ -133,7 +133,7 @@ impl Span {
 }
 
 /// Returns the lesser number in each channel.
-fn lesser(p: Color, q: Color) -> Color
+pub(crate) fn lesser(p: Color, q: Color) -> Color
     ensures { numbers result
         ≡ min p.red q.red ∷ min p.green q.green ∷ min p.blue q.blue ∷ [] }
 {
@@ -145,7 +145,7 @@ fn lesser(p: Color, q: Color) -> Color
 }
 
 /// Returns the greater number in each channel.
-fn greater(p: Color, q: Color) -> Color
+pub(crate) fn greater(p: Color, q: Color) -> Color
     ensures { numbers result
         ≡ max p.red q.red ∷ max p.green q.green ∷ max p.blue q.blue ∷ [] }
 {

@@ -3,12 +3,14 @@
 //! The tables and the indices are slices that the caller owns, and nothing is allocated.
 #![tactic(auto)]
 
+mod block_spans;
 mod boxes;
 mod color;
 mod color_block;
 mod cut;
 mod diffuse;
 mod from;
+mod in_blocks;
 mod index;
 mod kept;
 mod look;
@@ -20,10 +22,12 @@ mod sixteen;
 mod threshold;
 mod word;
 
+pub use crate::block_spans::BlockSpans;
 pub use crate::color::{Color, TableColor, TablePixel};
-pub use crate::color_block::{ColorBlock, standing_in};
+pub use crate::color_block::ColorBlock;
 pub use crate::diffuse::{Diffusion, diffuse_pixels, diffusion_work};
 pub use crate::from::{table_from, table_work};
+pub use crate::in_blocks::standing_in;
 pub use crate::index::index_pixels;
 pub use crate::kept::Cache;
 pub use crate::look::{are_below, count, look_up};

@@ -4,13 +4,13 @@
 //! of a place are linked from the latest to the first. Where a request for memory is refused, the finder stays behind the palette,
 //! and all entries are looked at: no answer depends on it.
 ghost use Rattle.std.specs.Prelude.{◌≡◌, ◌+◌, ◌<◌, ◌≤◌, ℕ, List, [], length, map, MatchOption, slice_index_or, true};
-ghost use Rattle.pix_table.specs.ColorBlocks.{AreBlocks};
 ghost use Rattle.pix_table.specs.PaletteMatch.{IsFirstOf};
 ghost use Rattle.pix_palette.specs.Palette.{numbers};
 ghost use Rattle.pix_palette.specs.Finder.{Follows, IsFinder, IsNowhere, IsWhole, place};
 
+use super::blocks::Blocks;
 use pix_el::rgb::SRgb8;
-use pix_table::{ColorBlock, TableColor};
+use pix_table::TableColor;
 use std::alloc::Global;
 
 /// The number of places.
@@ -30,7 +30,7 @@ const MOST: usize = 4294967295;
 pub(super) struct Finder {
     latest: Vec<u32>,
     earlier: Vec<u32>,
-    pub(super) blocks: Vec<ColorBlock>,
+    pub(super) blocks: Blocks,
     asked: usize,
 }
 
@@ -54,7 +54,7 @@ impl Finder {
         Finder {
             latest: Vec::new(alloc),
             earlier: Vec::new(alloc),
-            blocks: Vec::new(alloc),
+            blocks: Blocks::new(alloc),
             asked: 0,
         }
     }
@@ -112,21 +112,6 @@ impl Finder {
         true
     }
 
-    /// Adds blocks of the entries that came after those of which it has some, as far as memory is given.
-    fn follow_blocks(&mut self, colors: &[SRgb8])
-        requires { AreBlocks (map numbers colors.now) self.old.blocks.items }
-        ensures blocks { AreBlocks (map numbers colors.now) self.new.blocks.items }
-        ensures latest { self.new.latest ≡ self.old.latest }
-        ensures earlier { self.new.earlier ≡ self.old.earlier }
-    {
-        for k in self.blocks.len()..colors.len() / 16 {
-            let block = ColorBlock::new(colors, 16 * k);
-            if self.blocks.push(block).is_err() {
-                return;
-            }
-        }
-    }
-
     /// Adds the entries that came after those which it has; returns whether it has all of them then.
     pub(super) fn follow(&mut self, alloc: Global, colors: &[SRgb8]) -> bool
         requires { Follows (map numbers colors.now) self.old }
@@ -142,7 +127,6 @@ impl Finder {
                 return false;
             }
         }
-        self.follow_blocks(colors);
         true
     }
 

@@ -1,17 +1,17 @@
 //! Colors that are kept beside a palette while an image is indexed.
 ghost use Rattle.std.specs.Prelude.{◌≡◌, [], ◌∷◌, map, true};
 ghost use Rattle.std.specs.Option.{option_map};
-ghost use Rattle.pix_table.specs.ColorBlocks.{AreBlocks};
 ghost use Rattle.pix_table.specs.Kept.{AreRight};
 ghost use Rattle.pix_table.specs.Nearest.{numbers as color_numbers};
 ghost use Rattle.pix_table.specs.Setting.{IsSet, StandsFor};
 ghost use Rattle.pix_palette.specs.Palette.{Answers, numbers};
-ghost use Rattle.pix_palette.specs.Finder.{Follows, IsNowhere, IsWhole};
+ghost use Rattle.pix_palette.specs.Finder.{Follows, HasBlocks, IsNowhere, IsWhole};
 
+use super::blocks::Blocks;
 use super::finder::Finder;
 use super::table::{Palette, Threshold};
 use pix_el::rgb::SRgb8;
-use pix_table::{Cache, Color, ColorBlock, TableColor, standing_in};
+use pix_table::{Cache, Color, TableColor, standing_in};
 use std::alloc::Global;
 
 /// Returns whether all channels of a color are 0.
@@ -25,33 +25,42 @@ impl Palette {
     /// Returns the entry that stands for a color: the first that is the color, which the finder knows, or else one within the threshold.
     ///
     /// Condition: the finder has all entries.
-    fn standing_found(&self, finder: &Finder, clr: SRgb8) -> Option<usize>
-        requires finder { Follows (map numbers self.now.colors.items) finder.now }
+    fn standing_found(&self, finder: &mut Finder, clr: SRgb8) -> Option<usize>
+        requires finder { Follows (map numbers self.now.colors.items) finder.old }
         requires whole { IsWhole (map numbers self.now.colors.items)
-            finder.now.latest.items finder.now.earlier.items }
-        ensures { StandsFor
+            finder.old.latest.items finder.old.earlier.items }
+        ensures standing { StandsFor
             (Answers Threshold.post (option_map (λ chosen. chosen.f) self.now.threshold))
             (map numbers self.now.colors.items) (numbers clr) result }
+        ensures finder { Follows (map numbers self.now.colors.items) finder.new }
     {
         match finder.first(&self.colors, clr) {
             Some(first) => Some(first),
-            None => self.standing_near(&finder.blocks, clr),
+            None => self.standing_near(&mut finder.blocks, clr),
         }
     }
 
-    /// Returns the entry that stands for a color which no entry is: there is none where the threshold is 0.
-    fn standing_near(&self, blocks: &[ColorBlock], clr: SRgb8) -> Option<usize>
+    /// Returns the entry that stands for a color which no entry is: there is none where the threshold is 0, and then no blocks are made.
+    fn standing_near(&self, blocks: &mut Blocks, clr: SRgb8) -> Option<usize>
         requires nowhere { IsNowhere (map numbers self.now.colors.items) (numbers clr) }
-        requires blocks { AreBlocks (map numbers self.now.colors.items) blocks.now }
-        ensures { StandsFor
+        requires blocks { HasBlocks (map numbers self.now.colors.items) blocks.old }
+        ensures standing { StandsFor
             (Answers Threshold.post (option_map (λ chosen. chosen.f) self.now.threshold))
             (map numbers self.now.colors.items) (numbers clr) result }
+        ensures blocks { HasBlocks (map numbers self.now.colors.items) blocks.new }
     {
         let threshold = self.threshold().color();
         if is_zero(threshold) {
             return None;
         }
-        standing_in(blocks, &self.colors, clr.color(), threshold)
+        blocks.follow(&self.colors);
+        standing_in(
+            &blocks.spans,
+            &blocks.blocks,
+            &self.colors,
+            clr.color(),
+            threshold,
+        )
     }
 
     /// Returns the entry that stands for a color, by a finder that is made and follows the palette where there are enough entries.

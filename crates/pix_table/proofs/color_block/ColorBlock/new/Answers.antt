@@ -1,9 +1,9 @@
 -- Of `ColorBlock::new`: that the invariant of its loop over `i` holds after each turn.
 use Rattle.std.proofs.Common.{◌≡◌, ◌+◌, ◌∷◌, [], map, get_or, sym, ap, ◌∙◌, length-set, arith}
-use Rattle.std.proofs.lemmas.List.{get_or-map, length-map}
+use Rattle.std.proofs.lemmas.List.{get_or-map}
 use Rattle.pix_table.specs.ColorBlocks.{channels_at}
 use Rattle.pix_table.specs.Nearest.{numbers}
-use Rattle.pix_table.proofs.ColorBlockLemmas.{color_written, ends_written}
+use Rattle.pix_table.proofs.ColorBlockLemmas.{color_written}
 use Rattle.pix_table.proofs.color_block.ColorBlock.new.Goals as goal
 
 pub loop-i-preserved : goal.loop-i-preserved
@@ -20,13 +20,4 @@ loop-i-preserved g c =
       blue = length-set _ _ _ ∙ c.loop-i.invariant.blue;
       each = color_written (λ j. channels_at entries (c.args.start + j)) c.loop-i.block.red c.loop-i.block.green c.loop-i.block.blue i _ _ _ (omega arith) (omega arith) (omega arith)
           c.loop-i.invariant.each new;
-      ends = ends_written c.loop-i.block.ends c.ends_with-block.result c.loop-i.block.red c.loop-i.block.green c.loop-i.block.blue i _ _ _ (omega arith) (omega arith) (omega arith)
-          c.loop-i.invariant.ends c.ends_with-block.ensures.more c.ends_with-block.ensures.own;
     }
-
-pub returns : goal.returns
-returns g c = record {
-  within = omega (arith, c.requires, length-map c.args.colors.now g.C.TableColor.channels);
-  each = λ i below. c.loop-i.invariant.each i (omega arith);
-  ends = λ i below. c.loop-i.invariant.ends i (omega arith);
-}

@@ -1,6 +1,6 @@
 -- What holds at each turn of the loop over `i` in `ColorBlock::new`.
-use Rattle.std.proofs.Common.{◌≡◌, ◌+◌, ◌<◌, ℕ, get_or, length, map}
-use Rattle.pix_table.specs.ColorBlocks.{EndsFit, channels_at, channels_in}
+use Rattle.std.proofs.Common.{◌≡◌, ◌+◌, ◌<◌, ℕ, length, map}
+use Rattle.pix_table.specs.ColorBlocks.{channels_at, channels_in}
 use Rattle.pix_table.proofs.color_block.ColorBlock.new.Given as goal
 
 -- the first i colors are there
@@ -10,5 +10,4 @@ invariant-loop-i g l = record {
   green : length l.block.green ≡ 16;
   blue : length l.block.blue ≡ 16;
   each : (i : ℕ) → i < l.i → channels_in l.block i ≡ channels_at (map g.C.TableColor.channels l.colors) (l.start + i);
-  ends : (i : ℕ) → i < l.i → EndsFit l.block.ends (get_or l.block.red i 0) (get_or l.block.green i 0) (get_or l.block.blue i 0);
 }

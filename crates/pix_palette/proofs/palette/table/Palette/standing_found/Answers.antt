@@ -2,8 +2,8 @@
 use Rattle.pix_table.proofs.Settings.{first_stands}
 use Rattle.pix_palette.proofs.palette.table.Palette.standing_found.Goals as goal
 
-pub returns-in-Some : goal.returns-in-Some
-returns-in-Some g c = first_stands _ _ _ c.in-Some.first (rw (c.deref.ensures.value, c.in-Some.is) at c.first.ensures)
+pub returns-in-Some-clause-standing : goal.returns-in-Some-clause-standing
+returns-in-Some-clause-standing g c = first_stands _ _ _ c.in-Some.first (rw (c.deref.ensures.value, c.in-Some.is) at c.first.ensures)
 
 pub standing_near-requires-clause-blocks : goal.standing_near-requires-clause-blocks
-standing_near-requires-clause-blocks g c = rw (c.deref-in-None.ensures.value) c.requires.finder.blocks
+standing_near-requires-clause-blocks g c = c.requires.finder.blocks

@@ -1,0 +1,116 @@
+//! The match of a color by blocks of entries and their spans.
+ghost use Rattle.std.specs.Prelude.{◌≡◌, ◌*◌, ◌<◌, ◌≤◌, ℕ, length, map, slice_index_or, MatchOption};
+ghost use Rattle.pix_table.specs.ColorBlocks.{AreBlocks, IsFar};
+ghost use Rattle.pix_table.specs.Nearest.{numbers};
+ghost use Rattle.pix_table.specs.PaletteMatch.{IsMatch, difference_to};
+ghost use Rattle.pix_table.specs.Setting.{Always, StandsFor};
+ghost use Rattle.pix_table.specs.Spans.{AreFarBefore, AreSpans};
+ghost use Rattle.pix_table.specs.declared.color_block.ColorBlock.{ColorBlock};
+
+use crate::block_spans::{BlockSpans, reach};
+use crate::color::{Color, TableColor};
+use crate::color_block::{ColorBlock, SIZE};
+use crate::threshold::{closest_between, closest_of_one, is_within};
+
+/// Returns the first block whose bit is set that has a color no farther from a color than a difference in any channel.
+fn first_near(blocks: &[ColorBlock], bits: u64, clr: Color, least: Color) -> Option<usize>
+    requires { length blocks.now ≤ 16 }
+    ensures { MatchOption result
+        (AreFarBefore blocks.now bits (numbers clr) (numbers least) (length blocks.now))
+        (λ k. (k < length blocks.now)
+        × AreFarBefore blocks.now bits (numbers clr) (numbers least) k) }
+{
+    let mut k = 0;
+    let mut rest = bits;
+    while rest != 0 {
+        let clear = rest.trailing_zeros();
+        k += clear as usize;
+        if k >= blocks.len() {
+            return None;
+        }
+        if blocks[k].has_near(clr, least) {
+            return Some(k);
+        }
+        k += 1;
+        rest = rest >> clear >> 1;
+    }
+    None
+}
+
+/// Returns the first block from `start` on that has a color no farther from a color than a difference in any channel, or how many blocks there are.
+fn next_near(
+    spans: &[BlockSpans],
+    blocks: &[ColorBlock],
+    start: usize,
+    clr: Color,
+    least: Color,
+) -> usize
+    requires spans { AreSpans blocks.now spans.now }
+    requires start { start ≤ length blocks.now }
+    requires few { 16 * length blocks.now < 18446744073709551616 }
+    ensures order { start ≤ result }
+    ensures within { result ≤ length blocks.now }
+    ensures far { (k : ℕ) (d : ColorBlock) → start ≤ k → k < result
+        → IsFar (slice_index_or blocks.now k d) (numbers clr) (numbers least) }
+{
+    let (low, high) = reach(clr, least);
+    let mut k = start;
+    while k < blocks.len() {
+        let end = (k / SIZE * SIZE + SIZE).min(blocks.len());
+        let bits = spans[k / SIZE].near_bits(low, high) >> (k % SIZE) as u32;
+        if let Some(near) = first_near(&blocks[k..end], bits, clr, least) {
+            return k + near;
+        }
+        k = end;
+    }
+    blocks.len()
+}
+
+/// Returns the match of a color, with its difference, by blocks of the first entries. Condition: there is an entry.
+fn closest_in<C: TableColor>(
+    spans: &[BlockSpans],
+    blocks: &[ColorBlock],
+    colors: &[C],
+    clr: Color,
+) -> (usize, Color)
+    requires some { 0 < length colors.now }
+    requires blocks { AreBlocks (map C.channels colors.now) blocks.now }
+    requires spans { AreSpans blocks.now spans.now }
+    ensures found { IsMatch (map C.channels colors.now) (numbers clr) result.0 }
+    ensures difference { numbers result.1 ≡
+        difference_to (map C.channels colors.now) (numbers clr) result.0 }
+{
+    let (mut at, mut least) = closest_of_one(colors, clr);
+    let mut k = next_near(spans, blocks, 0, clr, least);
+    while k < blocks.len() {
+        let start = (SIZE * k).max(1);
+        (at, least) = closest_between(colors, clr, start, SIZE * k + SIZE, at, least);
+        k = next_near(spans, blocks, k + 1, clr, least);
+    }
+    let start = (SIZE * blocks.len()).max(1);
+    closest_between(colors, clr, start, colors.len(), at, least)
+}
+
+/// Returns the entry that stands for a color, as [`standing`](crate::standing) does, by blocks of the first entries and their spans.
+pub fn standing_in<C: TableColor>(
+    spans: &[BlockSpans],
+    blocks: &[ColorBlock],
+    colors: &[C],
+    clr: Color,
+    threshold: Color,
+) -> Option<usize>
+    requires blocks { AreBlocks (map C.channels colors.now) blocks.now }
+    requires spans { AreSpans blocks.now spans.now }
+    ensures { StandsFor (Always (numbers threshold)) (map C.channels colors.now) (numbers clr)
+        result }
+{
+    if colors.is_empty() {
+        return None;
+    }
+    let (at, difference) = closest_in(spans, blocks, colors, clr);
+    if is_within(difference, threshold) {
+        Some(at)
+    } else {
+        None
+    }
+}
