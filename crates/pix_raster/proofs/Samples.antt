@@ -1,11 +1,12 @@
 -- channels and their numbers, and pixels and the numbers of their channels, one pixel after the other
-use Rattle.std.proofs.Common.{◌≡◌, ℕ, ◌<◌, ◌≤◌, ◌+◌, ◌*◌, List, [], ◌++◌, length, get_or, set, take, drop, map, sym, ap, ◌∙◌, arith}
+use Rattle.std.proofs.Common.{◌≡◌, ℕ, ◌<◌, ◌≤◌, ◌+◌, ◌-◌, ◌*◌, List, [], ◌++◌, length, get_or, set, take, drop, map, sym, ap, ◌∙◌, arith}
 use Rattle.std.specs.List.{flat_map}
-use Rattle.std.proofs.lemmas.List.{length-map, map-set, get_or-map, take-map, drop-map, map-append, take_more, take_more_set, flat_map_more}
+use Rattle.std.proofs.lemmas.List.{length-map, map-set, get_or-map, take-map, drop-map, map-append, take_more, take_more_set, take_all, flat_map_more}
 use Rattle.std.proofs.lemmas.List.Edits.{fill_by_more}
-use Rattle.std.proofs.lemmas.Grind.{same_number_lists}
+use Rattle.std.proofs.lemmas.Grind.{same_number_lists, flat_map-append}
 use Rattle.std.proofs.lemmas.Slice.{take-put_mid}
-use Rattle.std.proofs.Math.Seq.{take-add}
+use Rattle.std.proofs.Math.Seq.{take-add, take-length}
+use Rattle.std.proofs.Math.Nat.{mul-le-mul_right}
 use borrow.Rule.Slice.PartMut.{put_mid}
 
 -- the elements below i have the numbers of those of the other list
@@ -54,3 +55,36 @@ packed_more n m pixels samples part i count start wide d lt at fits long so_far 
     ∙ ap (λ l. flat_map n (take i pixels) ++ l) new
     ∙ flat_map_more n [] (take i pixels) (get_or pixels i d)
     ∙ ap (flat_map n) (sym (take_more pixels i d lt))
+
+-- the numbers of j pixels from i on are among all
+pub numbers_reach : (i j count n pixels samples : ℕ) → n ≡ count → samples ≡ pixels * count → i + j ≤ pixels → i * n + j * n ≤ samples
+numbers_reach i j count n pixels samples same long fits =
+    let up : (i + j) * count ≤ pixels * count = mul-le-mul_right count fits in
+    rw (same, long) (omega (arith, up))
+
+-- the numbers that are left are those of the last j pixels
+pub numbers_left : (i j count n pixels samples : ℕ) → n ≡ count → samples ≡ pixels * count → i + j ≡ pixels → samples - i * n ≡ j * count
+numbers_left i j count n pixels samples same long whole = rw (same, long, sym whole) (omega arith)
+
+-- the next numbers were set to those of the next j pixels
+pub packed_part : {P S : Type 0} (n : P → List ℕ) (m : S → ℕ) (pixels : List P) (samples part : List S) (i j end count start wide span : ℕ)
+    → end ≡ i + j → span ≡ j → start ≡ i * count → start ≤ length samples → length part ≡ j * count
+    → take (i * count) (map m samples) ≡ flat_map n (take i pixels) → map m part ≡ flat_map n (take span (drop i pixels))
+    → take (end * count) (map m (put_mid start wide samples part)) ≡ flat_map n (take end pixels)
+packed_part n m pixels samples part i j end count start wide span whole next at fits long so_far new =
+    let stop : (i + j) * count ≡ start + length part = omega arith in
+    rw whole (take-map m ((i + j) * count) (put_mid start wide samples part)
+    ∙ ap (map m) (take-put_mid start wide samples part ((i + j) * count) stop fits)
+    ∙ map-append m (take start samples) part
+    ∙ ap (λ l. l ++ map m part) (sym (take-map m start samples) ∙ ap (λ k. take k (map m samples)) at ∙ so_far)
+    ∙ ap (λ l. flat_map n (take i pixels) ++ l) (new ∙ ap (λ k. flat_map n (take k (drop i pixels))) next)
+    ∙ sym (flat_map-append n (take i pixels) (take j (drop i pixels)))
+    ∙ ap (flat_map n) (sym (take-add i j pixels)))
+
+-- all numbers were set to those of the pixels
+pub packed_whole : {P S : Type 0} (n : P → List ℕ) (m : S → ℕ) (pixels : List P) (samples : List S) (count : ℕ)
+    → length samples ≡ length pixels * count → take (length pixels * count) (map m samples) ≡ flat_map n (take (length pixels) pixels)
+    → map m samples ≡ flat_map n pixels
+packed_whole n m pixels samples count long so_far =
+    sym (take_all (length pixels * count) (map m samples) (omega (arith, length-map samples m)))
+    ∙ so_far ∙ ap (flat_map n) (take-length pixels)

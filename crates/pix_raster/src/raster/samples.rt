@@ -1,5 +1,7 @@
 //! Channels as the bytes or words of a buffer, and back: pixel after pixel, of each its channels in order.
-ghost use Rattle.std.specs.Prelude.{◌≡◌, ℕ, ◌*◌, length, map, IfOk, IfErr};
+ghost use Rattle.std.specs.Prelude.{◌≡◌, ℕ, ◌*◌, ◌^◌, ◌<◌, length, map, IfOk, IfErr};
+ghost use prog.Memory.{size};
+ghost use denote.Memory.{lone};
 ghost use Rattle.std.specs.List.{flat_map};
 ghost use Rattle.pix_raster.specs.declared.fault.RasterFault.{RasterFault};
 
@@ -8,6 +10,12 @@ use crate::filled::filled;
 use pix_chan::chan::{Ch8, Ch16, Channel};
 use pix_el::el::Pixel;
 use std::alloc::Global;
+
+/// How many pixels a block has.
+const BLOCK: usize = 16;
+
+/// How many channels a block's array has room for: pixels have at most four.
+const ROOM: usize = 64;
 
 /// A number as it stands in a buffer: a byte for a channel of eight bits, a word for one of sixteen.
 pub(crate) trait Sample<C: Channel>: Clone + Copy {
@@ -21,10 +29,17 @@ pub(crate) trait Sample<C: Channel>: Clone + Copy {
     /// The number of a channel.
     fn of(channel: C) -> Self
         ensures { number result ≡ C.number channel };
+
+    /// The numbers of a block fit in memory.
+    ghost small: { 64 * size (lone Self.row.mir) < 2 ^ 63 };
 }
 
 impl Sample<Ch8> for u8 {
+    ghost use Rattle.std.proofs.Common.{rules};
+
     ghost number = { λ n. n };
+
+    ghost small = { Prim.search rules };
 
     fn channel(self) -> Ch8 {
         Ch8::new(self)
@@ -36,7 +51,11 @@ impl Sample<Ch8> for u8 {
 }
 
 impl Sample<Ch16> for u16 {
+    ghost use Rattle.std.proofs.Common.{rules};
+
     ghost number = { λ n. n };
+
+    ghost small = { Prim.search rules };
 
     fn channel(self) -> Ch16 {
         Ch16::new(self)
@@ -96,17 +115,55 @@ fn unpack<P: Pixel, S: Sample<P::Chan>>(pixels: &mut [P], samples: &[S])
     }
 }
 
-/// Sets the numbers to those of each pixel in turn.
-fn pack<P: Pixel, S: Sample<P::Chan>>(samples: &mut [S], pixels: &[P])
+/// Sets the numbers to those of each pixel in turn, one by one.
+#[inline(always)]
+fn pack_each<P: Pixel, S: Sample<P::Chan>>(samples: &mut [S], pixels: &[P])
     requires { length samples.old ≡ length pixels.now * P.layout.count }
     ensures { map S.number samples.new ≡ flat_map P.numbers pixels.now }
 {
     let count = channel_count::<P>();
     for i in 0..pixels.len() {
         let start = i * count;
-        let pixel = pixels[i];
+        let pixel = &pixels[i];
         write_samples(&mut samples[start..start + count], pixel.channels());
     }
+}
+
+/// Sets the numbers to those of each pixel of a block.
+///
+/// They go by way of an array, which no pixel can share: so LLVM makes a few moves of it all.
+#[inline(always)]
+fn pack_block<P: Pixel, S: Sample<P::Chan>>(samples: &mut [S], pixels: &[P])
+    requires { length samples.old ≡ length pixels.now * P.layout.count }
+    ensures { map S.number samples.new ≡ flat_map P.numbers pixels.now }
+{
+    let len = samples.len();
+    if len > ROOM {
+        pack_each(samples, pixels);
+        return;
+    }
+    let mut array = [S::of(P::Chan::MIN); ROOM];
+    let whole = &mut array[..];
+    let block = &mut whole[..len];
+    pack_each(block, pixels);
+    samples.copy_from_slice(block);
+}
+
+/// Sets the numbers to those of each pixel in turn, by whole blocks and then one by one.
+fn pack<P: Pixel, S: Sample<P::Chan>>(samples: &mut [S], pixels: &[P])
+    requires { length samples.old ≡ length pixels.now * P.layout.count }
+    ensures { map S.number samples.new ≡ flat_map P.numbers pixels.now }
+{
+    let count = channel_count::<P>();
+    let blocks = pixels.len() / BLOCK;
+    for k in 0..blocks {
+        let i = BLOCK * k;
+        let start = i * count;
+        let block = &pixels[i..i + BLOCK];
+        pack_block(&mut samples[start..start + BLOCK * count], block);
+    }
+    let i = BLOCK * blocks;
+    pack_each(&mut samples[i * count..], &pixels[i..]);
 }
 
 /// The pixels of these numbers, `count` of them, or `Memory`.

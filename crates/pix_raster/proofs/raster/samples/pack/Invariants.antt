@@ -1,8 +1,9 @@
--- What holds at each turn of the loop over `i` in `pack`.
+-- What holds at each turn of the loop over `k` in `pack`.
 use Rattle.std.proofs.Common.{◌≡◌, ◌*◌, map, take}
 use Rattle.std.specs.List.{flat_map}
 use Rattle.pix_raster.proofs.raster.samples.pack.Given as goal
 
--- the first numbers are those of the pixels below i
-abbrev pub invariant-loop-i : goal.invariant-loop-i
-invariant-loop-i g l = take (l.i * g.P.Pixel.layout.count) (map g.S.Sample.number l.samples) ≡ flat_map g.P.Pixel.numbers (take l.i l.pixels)
+-- the first numbers are those of the pixels of the first k blocks
+abbrev pub invariant-loop-k : goal.invariant-loop-k
+invariant-loop-k g l =
+    take (16 * l.k * g.P.Pixel.layout.count) (map g.S.Sample.number l.samples) ≡ flat_map g.P.Pixel.numbers (take (16 * l.k) l.pixels)
