@@ -88,3 +88,27 @@ pub packed_whole : {P S : Type 0} (n : P → List ℕ) (m : S → ℕ) (pixels :
 packed_whole n m pixels samples count long so_far =
     sym (take_all (length pixels * count) (map m samples) (omega (arith, length-map samples m)))
     ∙ so_far ∙ ap (flat_map n) (take-length pixels)
+
+-- the next j pixels were set to the next numbers
+pub unpacked_part : {P S : Type 0} (n : P → List ℕ) (m : S → ℕ) (pixels block : List P) (samples : List S) (i j end count start wide span : ℕ)
+    → end ≡ i + j → i ≤ length pixels → length block ≡ j → start ≡ i * count → wide ≡ j * count
+    → flat_map n (take i pixels) ≡ take (i * count) (map m samples) → flat_map n block ≡ map m (take wide (drop start samples))
+    → flat_map n (take end (put_mid i span pixels block)) ≡ take (end * count) (map m samples)
+unpacked_part n m pixels block samples i j end count start wide span whole fits long at has so_far new =
+    let next : map m (take wide (drop start samples)) ≡ take (j * count) (drop (i * count) (map m samples)) =
+    rw (at, has) (sym (take-map m (j * count) (drop (i * count) samples)) ∙ ap (take (j * count)) (sym (drop-map m (i * count) samples))) in
+    let stop : i * count + j * count ≡ (i + j) * count = omega arith in
+    rw whole (ap (flat_map n) (take-put_mid i span pixels block (i + j) (omega arith) fits)
+    ∙ flat_map-append n (take i pixels) block
+    ∙ ap (λ l. l ++ flat_map n block) so_far
+    ∙ ap (λ l. take (i * count) (map m samples) ++ l) (new ∙ next)
+    ∙ sym (take-add (i * count) (j * count) (map m samples))
+    ∙ ap (λ k. take k (map m samples)) stop)
+
+-- all pixels were set to the numbers
+pub unpacked_whole : {P S : Type 0} (n : P → List ℕ) (m : S → ℕ) (pixels : List P) (samples : List S) (len count : ℕ)
+    → length pixels ≡ len → length samples ≡ len * count → flat_map n (take len pixels) ≡ take (len * count) (map m samples)
+    → flat_map n pixels ≡ map m samples
+unpacked_whole n m pixels samples len count many long so_far =
+    ap (flat_map n) (sym (take_all len pixels (omega arith)))
+    ∙ so_far ∙ take_all (len * count) (map m samples) (omega (arith, length-map samples m))

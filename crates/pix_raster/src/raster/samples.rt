@@ -93,26 +93,63 @@ fn write_samples<C: Channel, S: Sample<C>>(samples: &mut [S], channels: &[C])
     }
 }
 
-/// The pixel whose channels have these numbers.
-fn pixel_of<P: Pixel, S: Sample<P::Chan>>(samples: &[S]) -> P
+/// Sets the pixel to that whose channels have these numbers.
+#[inline(always)]
+fn write_pixel<P: Pixel, S: Sample<P::Chan>>(pixel: &mut P, samples: &[S])
     requires { length samples.now ≡ P.layout.count }
-    ensures { P.numbers result ≡ map S.number samples.now }
+    ensures { P.numbers pixel.new ≡ map S.number samples.now }
 {
-    let mut pixel = P::default();
     write_channels(pixel.channels_mut(), samples);
-    pixel
 }
 
-/// Sets each pixel to the next numbers.
-fn unpack<P: Pixel, S: Sample<P::Chan>>(pixels: &mut [P], samples: &[S])
+/// Sets each pixel to the next numbers, one by one.
+#[inline(always)]
+fn unpack_each<P: Pixel, S: Sample<P::Chan>>(pixels: &mut [P], samples: &[S])
     requires { length samples.now ≡ length pixels.old * P.layout.count }
     ensures { flat_map P.numbers pixels.new ≡ map S.number samples.now }
 {
     let count = channel_count::<P>();
     for i in 0..pixels.len() {
         let start = i * count;
-        pixels[i] = pixel_of(&samples[start..start + count]);
+        write_pixel(&mut pixels[i], &samples[start..start + count]);
     }
+}
+
+/// Sets each pixel of a block to the next numbers.
+///
+/// They come by way of an array, which no pixel can share: so LLVM makes a few moves of it all.
+#[inline(always)]
+fn unpack_block<P: Pixel, S: Sample<P::Chan>>(pixels: &mut [P], samples: &[S])
+    requires { length samples.now ≡ length pixels.old * P.layout.count }
+    ensures { flat_map P.numbers pixels.new ≡ map S.number samples.now }
+{
+    let len = samples.len();
+    if len > ROOM {
+        unpack_each(pixels, samples);
+        return;
+    }
+    let mut array = [S::of(P::Chan::MIN); ROOM];
+    let whole = &mut array[..];
+    let block = &mut whole[..len];
+    block.copy_from_slice(samples);
+    unpack_each(pixels, block);
+}
+
+/// Sets each pixel to the next numbers, by whole blocks and then one by one.
+fn unpack<P: Pixel, S: Sample<P::Chan>>(pixels: &mut [P], samples: &[S])
+    requires { length samples.now ≡ length pixels.old * P.layout.count }
+    ensures { flat_map P.numbers pixels.new ≡ map S.number samples.now }
+{
+    let count = channel_count::<P>();
+    let blocks = pixels.len() / BLOCK;
+    for k in 0..blocks {
+        let i = BLOCK * k;
+        let start = i * count;
+        let block = &samples[start..start + BLOCK * count];
+        unpack_block(&mut pixels[i..i + BLOCK], block);
+    }
+    let i = BLOCK * blocks;
+    unpack_each(&mut pixels[i..], &samples[i * count..]);
 }
 
 /// Sets the numbers to those of each pixel in turn, one by one.
