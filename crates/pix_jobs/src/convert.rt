@@ -86,7 +86,9 @@ fn words(alloc: Global, linear: &Raster<Rgb8>, digest: &mut Digest) -> Option<()
         return None;
     };
     let fine = Raster::<Rgb16>::with_u16_buffer(alloc, width, height, words).ok()?;
+    digest.add_wide_raster(&fine);
     let hues: Raster<Pix<3, Ch16, Hsv, Straight, Linear>> = Raster::with_raster(alloc, &fine).ok()?;
+    digest.add_wide_raster(&hues);
     let coarse = Raster::<Rgb8>::with_raster(alloc, &hues).ok()?;
     digest.add_raster(alloc, &coarse)?;
     let coarse = Raster::<Rgb8>::with_raster(alloc, &fine).ok()?;
@@ -103,7 +105,9 @@ fn alphas(alloc: Global, shade: &Raster<SRgba8>, digest: &mut Digest) -> Option<
     let quotient = Raster::<Rgba8>::with_raster(alloc, &product).ok()?;
     digest.add_raster(alloc, &quotient)?;
     let fine = Raster::<Rgba16p>::with_raster(alloc, &straight).ok()?;
+    digest.add_wide_raster(&fine);
     let quotient = Raster::<Rgba16>::with_raster(alloc, &fine).ok()?;
+    digest.add_wide_raster(&quotient);
     let swapped = Raster::<Bgra8>::with_raster(alloc, &quotient).ok()?;
     digest.add_raster(alloc, &swapped)
 }

@@ -1,7 +1,8 @@
 //! A digest of results.
 
-use pix::chan::{Alpha, Ch8, Gamma};
-use pix::el::Pix;
+use pix::chan::{Alpha, Ch8, Ch16, Gamma};
+use pix::el::{Pix, Pixel};
+use pix::gray::Gray8;
 use pix::{ColorModel, Raster};
 use std::alloc::Global;
 
@@ -52,6 +53,34 @@ impl Digest {
         let bytes = raster.to_u8_vec(alloc).ok()?;
         self.add_bytes(&bytes);
         Some(())
+    }
+
+    /// Adds the channels of a raster of 16 bits, all bits of each, pixel by pixel, and the number of pixels.
+    pub(crate) fn add_wide_raster<const N: usize, M, A, G>(
+        &mut self,
+        raster: &Raster<Pix<N, Ch16, M, A, G>>,
+    )
+    where
+        M: ColorModel,
+        A: Alpha,
+        G: Gamma<Ch16>,
+    {
+        for pixel in raster.pixels() {
+            let mut word = 0_u64;
+            for channel in pixel.channels() {
+                word = word.rotate_left(16) ^ u64::from(u16::from(*channel));
+            }
+            self.add(word);
+        }
+        self.add(raster.pixels().len() as u64);
+    }
+
+    /// Adds the indices of an image, one by one, which takes no memory.
+    pub(crate) fn add_indices(&mut self, image: &Raster<Gray8>) {
+        for pixel in image.pixels() {
+            let channels = pixel.channels();
+            self.add(u64::from(u8::from(channels[0])));
+        }
     }
 }
 

@@ -1,8 +1,8 @@
 //! The jobs that users of the library wait for, which `bench/run` times: images of indices, pictures in another format, sprites, photographs in
-//! light, and scripts.
+//! light, scripts, and tables of colors.
 //!
 //! Three arguments say what is done: the name of a job, `whole` or `small`, and the seed of its inputs. A line is printed with the name and a digest of
-//! all results. For `all` each job is done.
+//! all results. For `all` each job is done. Each part of the tables has a name as a job too.
 #![tactic(auto)]
 
 mod convert;
@@ -15,6 +15,7 @@ mod script;
 mod sheets;
 mod size;
 mod sprites;
+mod tables;
 
 use digest::Digest;
 use random::Random;
@@ -22,6 +23,11 @@ use size::Size;
 use std::alloc::Global;
 use std::process::ExitCode;
 use std::{env, io};
+
+/// The jobs that are done for `all`.
+const JOBS: [&str; 7] = [
+    "indexed", "sheets", "convert", "sprites", "light", "script", "tables",
+];
 
 fn main(rt: HostRuntime) -> ExitCode {
     match run(&rt) {
@@ -52,8 +58,14 @@ fn run(rt: &HostRuntime) -> io::Result<bool> {
         return Ok(false);
     };
     let mut known = false;
-    for name in ["indexed", "sheets", "convert", "sprites", "light", "script"] {
+    for name in JOBS {
         if job.as_str() == name || job.as_str() == "all" {
+            known = true;
+            print_job(rt, name, size, seed)?;
+        }
+    }
+    for name in tables::PARTS {
+        if job.as_str() == name {
             known = true;
             print_job(rt, name, size, seed)?;
         }
@@ -88,6 +100,8 @@ fn done(
         "convert" => convert::run(alloc, size, random, digest),
         "sprites" => sprites::run(alloc, size, random, digest),
         "light" => light::run(alloc, size, random, digest),
-        _ => script::run(alloc, size, random, digest),
+        "script" => script::run(alloc, size, random, digest),
+        "tables" => tables::run(alloc, size, random, digest),
+        part => tables::run_part(alloc, part, size, random, digest),
     }
 }

@@ -21,4 +21,9 @@ impl Size {
     pub(crate) fn of(self, count: u32) -> u32 {
         count / self.divisor.max(1)
     }
+
+    /// Returns how often something is done at this size: at least once.
+    pub(crate) fn times(self, count: u32) -> u32 {
+        self.of(count).max(1)
+    }
 }

@@ -258,6 +258,7 @@ fn awkward(
     for _ in 0..size.of(32) {
         draw(alloc, &mut page, &fine, size.of(1500), random)?;
     }
+    digest.add_wide_raster(&page);
     let shown = Raster::<Rgba8p>::with_raster(alloc, &page).ok()?;
     digest.add_raster(alloc, &shown)
 }

@@ -1,0 +1,152 @@
+//! Images whose pixels are matched to a table of 256 colors: most of them are small.
+
+use crate::digest::Digest;
+use crate::pictures;
+use crate::random::Random;
+use crate::size::Size;
+use pix::rgb::SRgb8;
+use pix::{ColorTable, Raster};
+use std::alloc::Global;
+
+/// How a picture is matched.
+#[derive(Clone, Copy)]
+enum Way {
+    Nearest,
+    ByAlpha,
+    Diffused,
+}
+
+/// Does a part: small images of a side, or images of grays or of dark colors.
+pub(crate) fn run_part(
+    alloc: Global,
+    part: &str,
+    size: Size,
+    random: &mut Random,
+    digest: &mut Digest,
+) -> Option<()> {
+    match part {
+        "map-1" => small(alloc, Way::Nearest, 1, size, random, digest),
+        "map-2" => small(alloc, Way::Nearest, 2, size, random, digest),
+        "map-8" => small(alloc, Way::Nearest, 8, size, random, digest),
+        "map-32" => small(alloc, Way::Nearest, 32, size, random, digest),
+        "alpha-1" => small(alloc, Way::ByAlpha, 1, size, random, digest),
+        "alpha-2" => small(alloc, Way::ByAlpha, 2, size, random, digest),
+        "alpha-8" => small(alloc, Way::ByAlpha, 8, size, random, digest),
+        "alpha-32" => small(alloc, Way::ByAlpha, 32, size, random, digest),
+        "diffuse-1" => small(alloc, Way::Diffused, 1, size, random, digest),
+        "diffuse-2" => small(alloc, Way::Diffused, 2, size, random, digest),
+        "diffuse-8" => small(alloc, Way::Diffused, 8, size, random, digest),
+        "diffuse-32" => small(alloc, Way::Diffused, 32, size, random, digest),
+        "grays-1" => grays(alloc, 1, size, random, digest),
+        "grays-2" => grays(alloc, 2, size, random, digest),
+        "grays-8" => grays(alloc, 8, size, random, digest),
+        "grays-32" => grays(alloc, 32, size, random, digest),
+        "grays-photo" => gray_photo(alloc, size, random, digest),
+        "grays-noise" => gray_noise(alloc, size, random, digest),
+        _ => dark(alloc, size, random, digest),
+    }
+}
+
+/// Returns how many images of a side are matched.
+fn count_of(side: u32, size: Size) -> u32 {
+    size.times(2000 / side.saturating_add(1))
+}
+
+/// Matches noise to a table of colors by chance, and photographs to the table of a photograph.
+fn small(
+    alloc: Global,
+    way: Way,
+    side: u32,
+    size: Size,
+    random: &mut Random,
+    digest: &mut Digest,
+) -> Option<()> {
+    let photo = pictures::photo(alloc, 240, 200, random)?;
+    let of_photo = ColorTable::from_raster(alloc, &photo, 256, 0).ok()??;
+    let noise = pictures::noise(alloc, 16, 16, random)?;
+    let by_chance = ColorTable::from_raster(alloc, &noise, 256, 0).ok()??;
+    for _ in 0..count_of(side, size).div_ceil(2) {
+        let noise = pictures::noise(alloc, side, side, random)?;
+        match_picture(alloc, &by_chance, &noise, way, digest)?;
+        let photo = pictures::photo(alloc, side, side, random)?;
+        match_picture(alloc, &of_photo, &photo, way, digest)?;
+    }
+    Some(())
+}
+
+/// Matches a picture in one way.
+fn match_picture(
+    alloc: Global,
+    table: &ColorTable,
+    picture: &Raster<SRgb8>,
+    way: Way,
+    digest: &mut Digest,
+) -> Option<()> {
+    let image = match way {
+        Way::Nearest => table.map_indexed(alloc, picture).ok()??,
+        Way::ByAlpha => table.map_indexed_alpha(alloc, picture, 128, 0).ok()??,
+        Way::Diffused => table.diffuse_indexed(alloc, picture, 128, 0).ok()??,
+    };
+    digest.add_indices(&image);
+    Some(())
+}
+
+/// Makes the table of 256 grays.
+fn gray_table(alloc: Global) -> Option<ColorTable> {
+    let mut table = ColorTable::new(alloc, 256, SRgb8::default()).ok()?;
+    for shade in 0..=255_u8 {
+        table.set_entry(SRgb8::new(shade, shade, shade));
+    }
+    Some(table)
+}
+
+/// Matches small noise to grays.
+fn grays(
+    alloc: Global,
+    side: u32,
+    size: Size,
+    random: &mut Random,
+    digest: &mut Digest,
+) -> Option<()> {
+    let table = gray_table(alloc)?;
+    for _ in 0..count_of(side, size) {
+        let noise = pictures::noise(alloc, side, side, random)?;
+        match_picture(alloc, &table, &noise, Way::Nearest, digest)?;
+    }
+    Some(())
+}
+
+/// Matches photographs to grays.
+fn gray_photo(alloc: Global, size: Size, random: &mut Random, digest: &mut Digest) -> Option<()> {
+    let table = gray_table(alloc)?;
+    for _ in 0..size.times(4) {
+        let photo = pictures::photo(alloc, 200, 200, random)?;
+        match_picture(alloc, &table, &photo, Way::Nearest, digest)?;
+    }
+    Some(())
+}
+
+/// Matches noise to grays.
+fn gray_noise(alloc: Global, size: Size, random: &mut Random, digest: &mut Digest) -> Option<()> {
+    let table = gray_table(alloc)?;
+    let noise = pictures::noise(alloc, size.of(256), size.of(256), random)?;
+    match_picture(alloc, &table, &noise, Way::Nearest, digest)
+}
+
+/// Matches a dark picture to a table of sixteen colors and 240 that are nearly black.
+fn dark(alloc: Global, size: Size, random: &mut Random, digest: &mut Digest) -> Option<()> {
+    let mut table = ColorTable::new(alloc, 256, SRgb8::default()).ok()?;
+    for clr in pictures::colors(alloc, 16, random)?.iter() {
+        table.set_entry(*clr);
+    }
+    for at in 0..240_u8 {
+        table.set_entry(SRgb8::new(at / 60, at / 15 % 4, at % 15));
+    }
+    let mut picture = Raster::<SRgb8>::with_clear(alloc, size.of(240), size.of(200)).ok()?;
+    for pixel in picture.pixels_mut().iter_mut() {
+        let bits = random.bits();
+        let shade = |at: u32| ((bits >> at) & 31) as u8;
+        *pixel = SRgb8::new(shade(8), shade(16), shade(24));
+    }
+    match_picture(alloc, &table, &picture, Way::Nearest, digest)
+}
