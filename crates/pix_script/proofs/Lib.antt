@@ -4,10 +4,10 @@ pub mod DigitLemmas
 pub mod LineLemmas
 pub mod CheckLemmas
 pub mod WordLemmas
-pub mod TextLemmas
 pub mod PictureLemmas
 pub mod DrawLemmas
 pub mod ReadingLemmas
 pub mod OutcomeLemmas
 pub mod StopLemmas
 pub mod ReportLemmas
+pub mod RowLemmas

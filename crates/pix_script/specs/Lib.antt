@@ -11,3 +11,4 @@ pub mod Script
 pub mod Reading
 pub mod Stop
 pub mod Run
+pub mod Rows

@@ -1,8 +1,9 @@
 //! Pixels from bytes and as text.
-ghost use Rattle.std.specs.Prelude.{◌≡◌, [], ◌∷◌, ◌++◌, OnOk, map, take, length, ◌≤◌};
+ghost use Rattle.std.specs.Prelude.{◌≡◌, ℕ, List, [], ◌∷◌, ◌++◌, OnOk, map, take, length, ◌<◌, ◌≤◌};
 ghost use Rattle.std.specs.List.{flat_map};
 ghost use Rattle.pix_script.specs.Pixels.{color_numbers};
-ghost use Rattle.pix_script.specs.Text.{pixel_text, row_text};
+ghost use Rattle.pix_script.specs.Text.{pixel_text};
+ghost use Rattle.pix_script.specs.Rows.{text_from};
 
 use crate::text::byte_digits;
 use pix_el::chan::Ch8;
@@ -46,42 +47,61 @@ fn push_cells(out: &mut Vec<u8>, cells: &[[u8; 9]]) -> Result<(), AllocError>
     out.extend_from_slice(cells.as_flattened())
 }
 
-/// Writes the text of each pixel and a space after it into a cell, from the first cell on.
-fn write_cells(cells: &mut [[u8; 9]], pixels: &[Rgba8p])
-    requires { length pixels.now ≤ length cells.old }
-    ensures { take (length pixels.now) cells.new
-        ≡ map (λ pixel. pixel_text (color_numbers pixel) ++ 32 ∷ []) pixels.now }
+/// Returns what comes after the pixel of a column, a space or a line feed, and the next column.
+#[inline(always)]
+fn after(column: usize, width: usize) -> (u8, usize)
+    requires { column < width }
+    ensures text { (pixel : List ℕ) (rest : List (List ℕ))
+        → text_from width column (pixel ∷ rest)
+        ≡ (pixel_text pixel ++ result.0 ∷ []) ++ text_from width result.1 rest }
+    ensures column { result.1 < width }
 {
-    for (i, pixel) in pixels.iter().enumerate() {
-        cells[i] = pixel_cell(pixel, b' ');
+    if column + 1 < width {
+        (b' ', column + 1)
+    } else {
+        (b'\n', 0)
     }
 }
 
-/// Adds the text of each pixel and a space after it, up to 32 pixels at once.
-fn push_spaced(out: &mut Vec<u8>, pixels: &[Rgba8p]) -> Result<(), AllocError>
-    ensures { OnOk result (out.new.items ≡ out.old.items
-        ++ flat_map (λ pixel. pixel_text (color_numbers pixel) ++ 32 ∷ []) pixels.now) }
+/// Writes the text of each pixel, and what comes after it, into a cell, from the first cell on; the first pixel stands in the column `start`.
+/// Returns the column after the last one.
+fn write_cells(cells: &mut [[u8; 9]], pixels: &[Rgba8p], start: usize, width: usize) -> usize
+    requires room { length pixels.now ≤ length cells.old }
+    requires start { start < width }
+    ensures text { (rest : List (List ℕ))
+        → text_from width start (map color_numbers pixels.now ++ rest)
+        ≡ flat_map (λ cell. cell) (take (length pixels.now) cells.new) ++ text_from width result rest }
+    ensures column { result < width }
+{
+    let mut column = start;
+    for (i, pixel) in pixels.iter().enumerate() {
+        let (byte, next) = after(column, width);
+        cells[i] = pixel_cell(pixel, byte);
+        column = next;
+    }
+    column
+}
+
+/// Adds the text of rows of pixels, up to 32 pixels at once, so that the rows of a picture a few columns wide take no longer than others.
+///
+/// Condition: a row has a pixel.
+pub(crate) fn push_rows(
+    out: &mut Vec<u8>,
+    pixels: &[Rgba8p],
+    width: usize,
+) -> Result<(), AllocError>
+    requires { 0 < width }
+    ensures { OnOk result (out.new.items
+        ≡ out.old.items ++ text_from width 0 (map color_numbers pixels.now)) }
 {
     let mut cells = [[0; 9]; 32];
+    let mut column = 0;
     let mut left = pixels;
     while !left.is_empty() {
         let (part, more) = left.split_at(left.len().min(32));
-        write_cells(&mut cells, part);
+        column = write_cells(&mut cells, part, column, width);
         push_cells(out, &cells[..part.len()])?;
         left = more;
     }
     Ok(())
-}
-
-/// Adds the line of a row of pixels.
-#[tactic(auto, unfolding(crate::specs::Text::row_text))]
-pub(crate) fn push_row(out: &mut Vec<u8>, row: &[Rgba8p]) -> Result<(), AllocError>
-    ensures { OnOk result (out.new.items ≡ out.old.items ++ row_text (map color_numbers row.now)) }
-{
-    let [front @ .., last] = row else {
-        out.push(b'\n')?;
-        return Ok(());
-    };
-    push_spaced(out, front)?;
-    push_cells(out, &[pixel_cell(last, b'\n')])
 }

@@ -1,9 +1,14 @@
 -- What holds at each turn of the loop in `write_cells`.
-use Rattle.std.proofs.Common.{◌≡◌, [], ◌∷◌, ◌++◌, map, take}
-use Rattle.pix_script.specs.Pixels.{Rgba8p, color_numbers}
-use Rattle.pix_script.specs.Text.{pixel_text}
+use Rattle.std.proofs.Common.{◌≡◌, ◌<◌, ℕ, List, ◌++◌, map, take}
+use Rattle.std.specs.List.{flat_map}
+use Rattle.pix_script.specs.Pixels.{color_numbers}
+use Rattle.pix_script.specs.Rows.{text_from}
 use Rattle.pix_script.proofs.pixel.write_cells.Given as goal
 
--- the cells below the index have the texts of the pixels below it
+-- the cells below the index have the text of the pixels below it, and the next pixel stands in the column
 abbrev pub invariant-loop-i : goal.invariant-loop-i
-invariant-loop-i l = take l.i l.cells ≡ map (λ (p : Rgba8p). pixel_text (color_numbers p) ++ 32 ∷ []) (take l.i l.pixels)
+invariant-loop-i l = record {
+  column : l.column < l.width;
+  text : (rest : List (List ℕ)) → text_from l.width l.start (map color_numbers (take l.i l.pixels) ++ rest)
+      ≡ flat_map (λ (t : List ℕ). t) (take l.i l.cells) ++ text_from l.width l.column rest;
+}
