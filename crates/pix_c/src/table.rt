@@ -15,8 +15,8 @@ ghost use Rattle.pix_c.specs.Table.{count_status, pack_status, unpack_status, de
 
 use crate::status::{BAD_LENGTH, DONE};
 use pix_table::{
-    Color, Diffusion, IndexDepth, Matcher, RowFault, TablePixel, count, diffuse_pixels,
-    index_pixels, look_up, match_pixels, nearest, pack_row, table_from, unpack_row,
+    Color, Diffusion, IndexDepth, RowFault, TablePixel, count, diffuse_pixels, index_pixels,
+    look_up, match_pixels, nearest, pack_row, table_from, unpack_row,
 };
 
 /// A table has no entry, or more than 256.
@@ -132,13 +132,13 @@ fn match_all<P: TablePixel>(
     ensures done { result ≡ 0 → AreMatched (map numbers entries.now) alpha kept
         (map P.values pixels.now) indices.new }
 {
-    let Some(mut matcher) = Matcher::new(entries) else {
+    if entries.is_empty() || entries.len() > 256 {
         return BAD_TABLE;
-    };
+    }
     if indices.len() != pixels.len() {
         return BAD_LENGTH;
     }
-    match_pixels(&mut matcher, pixels, alpha, kept, indices);
+    match_pixels(entries, pixels, alpha, kept, indices);
     DONE
 }
 
@@ -276,14 +276,14 @@ fn diffuse<P: TablePixel>(
     ensures done { result ≡ 0 → AreDiffused (map numbers entries.now) how.alpha how.kept how.width
         (map P.values pixels.now) indices.new }
 {
-    let Some(mut matcher) = Matcher::new(entries) else {
+    if entries.is_empty() || entries.len() > 256 {
         return BAD_TABLE;
-    };
+    }
     let rows = work.len() / 4;
     if how.width == 0 || work.len() % 4 != 0 || rows != how.width || indices.len() != pixels.len() {
         return BAD_LENGTH;
     }
-    diffuse_pixels(&mut matcher, entries, pixels, how, work, indices);
+    diffuse_pixels(entries, pixels, how, work, indices);
     DONE
 }
 

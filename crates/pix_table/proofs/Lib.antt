@@ -11,6 +11,11 @@ pub mod Distinct
 pub mod Rows
 pub mod Diffused
 pub mod Corners
+pub mod LaneSquares
+pub mod LaneNumbers
+pub mod LaneSearch
+pub mod LaneEntries
+pub mod SmallBlocks
 pub mod Listed
 pub mod Words
 pub mod PaletteMatches

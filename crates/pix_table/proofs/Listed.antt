@@ -1,12 +1,14 @@
 -- The entries of a box, one after the other, and the nearest of those that are listed.
-use Rattle.std.specs.Prelude.{All, min}
+use Rattle.std.specs.Prelude.{min}
 use Rattle.std.proofs.Common.{◌≡◌, ◌≢◌, ◌⊎◌, ℕ, zero, suc, ◌+◌, ◌*◌, ◌%◌, ◌<◌, ◌≤◌, List, [], length, map, get_or, set, length-set, refl, sym, ap, ◌∙◌, subst, arith, inl, inr}
 use Rattle.std.proofs.lemmas.Bool.{cases_lt, cases_order}
 use Rattle.std.proofs.lemmas.List.{get_or-set_other, get_or-map}
 use Rattle.std.proofs.lemmas.Grind.{get_or-set_at}
 use Rattle.std.proofs.Math.Nat.{min-eq_left, min-eq_right}
 use Rattle.pix_table.specs.Nearest.{distance, distance_to, IsNearest, numbers}
-use Rattle.pix_table.specs.Boxes.{IsInside, IsListed, IsBeaten, IsPlaced, AreEnough, AreListed, IsKnown}
+use Rattle.pix_table.specs.EntryLanes.{AreChosen}
+use Rattle.pix_table.specs.Boxes.{IsInside, IsListed, IsBeaten, IsPlaced, IsFirst, IsListFor, AreBoxes, HasLists, AreEnough, AreListed, IsKnown, low_at, reach_at}
+use Rattle.pix_table.specs.declared.boxes.Boxes.{Boxes}
 use Rattle.pix_table.specs.declared.boxes.Known.{Known}
 use Rattle.pix_table.specs.declared.color.Color.{Color}
 use Rattle.pix_table.proofs.NearestEntries.{IsNearestBelow, nearest_at_first, nearest_changes, nearest_stays, nearest_of_all}
@@ -96,44 +98,64 @@ some_nearest_below entries color (suc i) some within =
     subst (HasNearestBelow entries color) one next
 
 -- the nearest entry is not beaten
-pub some_listed : (entries : List (List ℕ)) (color : List ℕ) (listed : ℕ → ℕ) (count : ℕ) → 0 < length entries
+not_beaten : (entries : List (List ℕ)) (color : List ℕ) (near : ℕ) → length entries ≤ 256 → IsNearest entries color near → IsBeaten entries color near → ⊥
+not_beaten entries color near few n f = elim (cases_lt f.at near) [
+  | inl b ↦ omega (arith, n.first f.at b, f.less, n.stands)
+  | inr b ↦ omega (arith, n.least f.at f.stands, f.less)
+]
+
+pub some_listed : (entries : List (List ℕ)) (color : List ℕ) (listed : ℕ → ℕ) (count : ℕ) → 0 < length entries → length entries ≤ 256
     → ((k : ℕ) → k < length entries → IsListed listed count k ⊎ IsBeaten entries color k) → 0 < count
-some_listed entries color listed count some all =
+some_listed entries color listed count some few all =
     let has = some_nearest_below entries color (length entries) some (omega arith) in
     let n : IsNearest entries color has.at = nearest_of_all entries color (length entries) has.at has.far refl has.nearest in
     elim (all has.at n.stands) [
       | inl l ↦ (let b : l.at < count = l.below in omega arith)
-      | inr f ↦ absurd (omega (arith, n.least f.at f.stands, f.nearer))
+      | inr f ↦ absurd (not_beaten entries color has.at few n f)
     ]
 
 -- a whole list is sifted: what is on the new list is enough where the old one was
 pub all_sifted : (entries : List (List ℕ)) (reach : ℕ) (low : List ℕ) (near : ℕ) (from : ℕ → ℕ) (i : ℕ) (listed : ℕ → ℕ) (count : ℕ)
-    → near < length entries → AreListed entries reach low from i → AreSifted entries reach low near from i listed count
+    → near < length entries → length entries ≤ 256 → AreListed entries reach low from i → AreSifted entries reach low near from i listed count
     → AreListed entries reach low listed count
-all_sifted entries reach low near from i listed count stands enough h = λ color within.
+all_sifted entries reach low near from i listed count stands few enough h = λ color within.
     let old : AreEnough entries color from i = enough color within in
     let all : (k : ℕ) → k < length entries → IsListed listed count k ⊎ IsBeaten entries color k =
     (λ k b. elim (old.all k b) [
       | inl l ↦ subst (λ j. IsListed listed count j ⊎ IsBeaten entries color j) l.same (elim (h.each l.at l.below) [
         | inl m ↦ inl m
-        | inr f ↦ inr (record { at = near; stands = stands; nearer = f color within })
+        | inr f ↦ inr (record { at = near; stands = stands; less = omega (arith, f color within) })
       ])
       | inr f ↦ inr f
     ]) in
     record {
-      some = some_listed entries color listed count (omega arith) all;
+      some = some_listed entries color listed count (omega arith) few all;
       inside = h.below;
       all = all;
     }
 
--- a list of all entries is enough
-pub all_listed : (entries : List (List ℕ)) (reach : ℕ) (low : List ℕ) (listed : ℕ → ℕ) (count : ℕ) → 0 < length entries → count ≡ length entries
-    → ((k : ℕ) → k < count → listed k ≡ k) → AreListed entries reach low listed count
-all_listed entries reach low listed count some long same = λ color within. record {
-  some = omega arith;
-  inside = λ p b. omega (arith, same p b);
-  all = λ k b. inl (record { at = k; below = omega arith; same = same k (omega arith) });
-}
+-- the entries that are chosen for lanes are enough for any color
+pub chosen_listed : (entries colors : List (List ℕ)) (indices : List ℕ) (color : List ℕ) (listed : ℕ → ℕ) (count : ℕ) → 0 < length entries → length entries ≤ 256
+    → AreChosen entries (length entries) colors indices count → ((p : ℕ) → p < count → listed p ≡ get_or indices p 0) → AreEnough entries color listed count
+chosen_listed entries colors indices color listed count some few h same =
+    let all : (k : ℕ) → k < length entries → IsListed listed count k ⊎ IsBeaten entries color k =
+    (λ k b.
+    let l = h.whole k b in
+    let below : l.at < count = l.below in
+    let is : listed l.at ≡ get_or indices l.at 0 = same l.at below in
+    elim (cases_lt (get_or indices l.at 0) k) [
+      | inl c ↦
+          let stands : get_or indices l.at 0 < length entries = h.stands l.at below in
+          let far : distance_to entries color (get_or indices l.at 0) ≡ distance_to entries color k =
+          ap (λ c. distance c color) (sym (h.same l.at below) ∙ l.same) in
+          inr (record { at = get_or indices l.at 0; stands = stands; less = omega (arith, far, c) })
+      | inr c ↦ inl (record { at = l.at; below = below; same = is ∙ omega (arith, c, l.before) })
+    ]) in
+    record {
+      some = some_listed entries color listed count some few all;
+      inside = λ p b. omega (arith, same p b, h.stands p b);
+      all = all;
+    }
 
 -- the least key of the first i that are listed: how far one of them is, 256 times, and its index
 pub record IsLeastKey (entries : List (List ℕ)) (color : List ℕ) (listed : ℕ → ℕ) (count i key : ℕ) : Type 0 where
@@ -189,12 +211,12 @@ key_order : (far apart at near : ℕ) → at < 256 → near < 256 → far * 256 
 key_order far apart at near small less h farther = (omega (arith, small, less, h, farther), omega (arith, small, less, h, farther))
 
 -- the entry of the least key is the nearest of all
-nearest_is_listed : (entries : List (List ℕ)) (color : List ℕ) (listed : ℕ → ℕ) (count i key near : ℕ) → count ≤ i → AreEnough entries color listed count
-    → ((p : ℕ) → listed p < 256) → (h : IsLeastKey entries color listed count i key) → IsNearest entries color near → near ≡ listed h.place
-nearest_is_listed entries color listed count i key near end enough small h n =
+nearest_is_listed : (entries : List (List ℕ)) (color : List ℕ) (listed : ℕ → ℕ) (count i key near : ℕ) → length entries ≤ 256 → count ≤ i
+    → AreEnough entries color listed count → ((p : ℕ) → listed p < 256) → (h : IsLeastKey entries color listed count i key) → IsNearest entries color near → near ≡ listed h.place
+nearest_is_listed entries color listed count i key near few end enough small h n =
     let found : IsListed listed count near = elim (enough.all near n.stands) [
       | inl l ↦ l
-      | inr f ↦ absurd (omega (arith, n.least f.at f.stands, f.nearer))
+      | inr f ↦ absurd (not_beaten entries color near few n f)
     ] in
     let there : found.at < count = found.below in
     let stands : listed h.place < length entries = enough.inside h.place h.below in
@@ -212,20 +234,15 @@ nearest_is_listed entries color listed count i key near end enough small h n =
       ]
     ]
 
-pub nearest_of_keys : (entries : List (List ℕ)) (color : List ℕ) (listed : ℕ → ℕ) (count i key : ℕ) → count ≤ i → AreEnough entries color listed count
-    → ((p : ℕ) → listed p < 256) → IsLeastKey entries color listed count i key → IsNearest entries color (key % 256)
-nearest_of_keys entries color listed count i key end enough small h =
+pub nearest_of_keys : (entries : List (List ℕ)) (color : List ℕ) (listed : ℕ → ℕ) (count i key : ℕ) → length entries ≤ 256 → count ≤ i
+    → AreEnough entries color listed count → ((p : ℕ) → listed p < 256) → IsLeastKey entries color listed count i key → IsNearest entries color (key % 256)
+nearest_of_keys entries color listed count i key few end enough small h =
     let stands : listed h.place < length entries = enough.inside h.place h.below in
     let some = some_nearest_below entries color (length entries) (omega arith) (omega arith) in
     let nearest : IsNearest entries color some.at = nearest_of_all entries color (length entries) some.at some.far refl some.nearest in
-    let same : some.at ≡ listed h.place = nearest_is_listed entries color listed count i key some.at end enough small h nearest in
+    let same : some.at ≡ listed h.place = nearest_is_listed entries color listed count i key some.at few end enough small h nearest in
     let at : key % 256 ≡ listed h.place = ap (λ k. k % 256) h.is ∙ omega (arith, small h.place) in
     subst (λ j. IsNearest entries color j) (same ∙ sym at) nearest
-
--- boxes without a list are known
-pub empty_known : (entries : List (List ℕ)) (lists : List ℕ) (used : ℕ) (places : List Known) → All (λ known. known.count ≡ 0) places
-    → (k : ℕ) (d : Known) → k < length places → IsKnown entries lists used k (get_or places k d)
-empty_known entries lists used places h k d below some = absurd (omega (arith, h k d below))
 
 -- how far an entry is
 pub entry_distance : (entries : List Color) (color : List ℕ) (i : ℕ) (d : Color) → i < length entries
@@ -250,7 +267,7 @@ listed_same entries reach low f g count same h = λ color within.
 pub known_stays : (entries : List (List ℕ)) (old new : List ℕ) (used more k : ℕ) (known : Known) → used ≤ more → ((k : ℕ) → k < used → get_or new k 0 ≡ get_or old k 0)
     → IsKnown entries old used k known → IsKnown entries new more k known
 known_stays entries old new used more k known grows same h = λ some.
-    let placed : IsPlaced entries used known = (h some).0 in
+    let placed : IsPlaced used known = (h some).0 in
     let inside : known.start + known.count ≤ used = placed.before in (
       record { few = placed.few; before = omega arith },
       listed_same entries _ _ (λ p. get_or old (known.start + p) 0) (λ p. get_or new (known.start + p) 0) known.count
@@ -273,3 +290,117 @@ known_more entries old new used more at places known grows same h here k d below
           subst (λ n. IsKnown entries new more k n) (sym (get_or-set_other places at k known d apart))
           (known_stays entries old new used more k (get_or places k d) grows same (h k d inside))
     ]
+
+-- boxes of which none has a list
+pub empty_boxes : (entries : List (List ℕ)) (boxes : Boxes) → length boxes.known ≡ 37440 → length boxes.lists ≡ 65539 → boxes.used ≤ 65536
+    → (0 < boxes.first → IsFirst entries boxes) → ((k : ℕ) (d : Known) → k < length boxes.known → (get_or boxes.known k d).count ≡ 0) → AreBoxes entries boxes
+empty_boxes entries boxes places lists used first none = record {
+  places = places;
+  lists = lists;
+  used = used;
+  first = first;
+  none = λ e. none;
+  known = λ k d b some. absurd (omega (arith, none k d b));
+}
+
+-- entries that are enough are so on a list that is the same as far as it goes
+enough_same : (entries : List (List ℕ)) (color : List ℕ) (f g : ℕ → ℕ) (count : ℕ) → ((p : ℕ) → p < count → g p ≡ f p) → AreEnough entries color f count
+    → AreEnough entries color g count
+enough_same entries color f g count same e = record {
+  some = e.some;
+  inside = λ p b. omega (arith, e.inside p b, same p b);
+  all = λ k b. elim (e.all k b) [
+    | inl l ↦ inl (listed_still f g count count k (omega arith) same l)
+    | inr f ↦ inr f
+  ];
+}
+
+-- a list for a box is its list
+pub known_as : (entries : List (List ℕ)) (boxes : Boxes) (place : ℕ) (known : Known) → IsListFor entries boxes place known
+    → IsKnown entries boxes.lists boxes.used place known
+known_as entries boxes place known h = λ some. (h.placed, h.listed)
+
+-- the list that a box has is one for it
+pub list_of : (entries : List (List ℕ)) (boxes : Boxes) (place : ℕ) (d : Known) → AreBoxes entries boxes → place < 37440 → 0 < (get_or boxes.known place d).count
+    → IsListFor entries boxes place (get_or boxes.known place d)
+list_of entries boxes place d h below some =
+    let known = h.known place d (omega (arith, h.places)) some in
+    record { some = some; placed = known.0; listed = known.1 }
+
+-- the first list is one for any box
+pub first_for : (entries : List (List ℕ)) (boxes : Boxes) (place : ℕ) → AreBoxes entries boxes → 0 < boxes.first
+    → IsListFor entries boxes place (record { start = 0; count = boxes.first })
+first_for entries boxes place h some =
+    let first = h.first some in
+    let few : boxes.first ≤ 256 = first.few in
+    let begun : 256 ≤ boxes.used = first.begun in
+    record { some = some; placed = record { few = few; before = omega arith }; listed = λ color inside. first.enough color }
+
+-- a list for a box is one for a box inside it
+pub list_inside : (entries : List (List ℕ)) (boxes : Boxes) (around place : ℕ) (known : Known) → IsListFor entries boxes around known
+    → ((color : List ℕ) → IsInside (reach_at place) (low_at place) color → IsInside (reach_at around) (low_at around) color)
+    → IsListFor entries boxes place known
+list_inside entries boxes around place known h inside =
+    record { some = h.some; placed = h.placed; listed = λ color b. h.listed color (inside color b) }
+
+-- boxes with a list for one of them more, behind the others or among them
+pub boxes_more : (entries : List (List ℕ)) (old new : Boxes) (place : ℕ) (known : Known) → AreBoxes entries old → 0 < old.first
+    → new.known ≡ set old.known place known → new.first ≡ old.first → length new.lists ≡ 65539 → old.used ≤ new.used → new.used ≤ 65536
+    → ((k : ℕ) → k < old.used → get_or new.lists k 0 ≡ get_or old.lists k 0) → IsKnown entries new.lists new.used place known → AreBoxes entries new
+boxes_more entries old new place known h begun e f long more room same here =
+    let first = h.first begun in
+    let few : old.first ≤ 256 = first.few in
+    let used : 256 ≤ old.used = first.begun in
+    record {
+      places = ap length e ∙ length-set old.known place known ∙ h.places;
+      lists = long;
+      used = room;
+      first = λ some. record {
+        few = omega (arith, f);
+        begun = omega arith;
+        enough = λ color.
+            subst (λ n. AreEnough entries color (λ p. get_or new.lists (0 + p) 0) n) (sym f)
+            (enough_same entries color (λ p. get_or old.lists (0 + p) 0) (λ p. get_or new.lists (0 + p) 0) old.first
+            (λ p b. same (0 + p) (omega arith)) (first.enough color));
+      };
+      none = λ z. absurd (omega (arith, f, z, begun));
+      known = λ k d b.
+          let inside : k < length (set old.known place known) = omega (arith, ap length e, b) in
+          subst (λ (ks : List Known). IsKnown entries new.lists new.used k (get_or ks k d)) (sym e)
+          (known_more entries old.lists new.lists old.used new.used place old.known known more same h.known here k d inside);
+    }
+
+-- boxes with the same lists
+pub boxes_same : (entries : List (List ℕ)) (old new : Boxes) → HasLists old new → AreBoxes entries old → AreBoxes entries new
+boxes_same entries old new s h = record {
+  places = ap length s.known ∙ h.places;
+  lists = ap length s.lists ∙ h.lists;
+  used = omega (arith, s.used, h.used);
+  first = λ some.
+      let first = h.first (omega (arith, s.first, some)) in
+      record {
+        few = omega (arith, s.first, first.few);
+        begun = omega (arith, s.used, first.begun);
+        enough = λ color.
+            subst (λ n. AreEnough entries color (λ p. get_or new.lists (0 + p) 0) n) (sym s.first)
+            (enough_same entries color (λ p. get_or old.lists (0 + p) 0) (λ p. get_or new.lists (0 + p) 0) old.first
+            (λ p b. ap (λ ls. get_or ls (0 + p) 0) s.lists) (first.enough color));
+      };
+  none = λ z k d b. ap (λ (ks : List Known). (get_or ks k d).count) s.known ∙ h.none (omega (arith, s.first, z)) k d (omega (arith, ap length s.known, b));
+  known = λ k d b.
+      subst (λ (ks : List Known). IsKnown entries new.lists new.used k (get_or ks k d)) (sym s.known)
+      (known_stays entries old.lists new.lists old.used new.used k (get_or old.known k d) (omega (arith, s.used))
+      (λ j c. ap (λ ls. get_or ls j 0) s.lists) (h.known k d (omega (arith, ap length s.known, b))));
+}
+
+pub list_same : (entries : List (List ℕ)) (old new : Boxes) (place : ℕ) (known : Known) → HasLists old new → IsListFor entries old place known
+    → IsListFor entries new place known
+list_same entries old new place known s h =
+    let placed : IsPlaced old.used known = h.placed in
+    let before : known.start + known.count ≤ old.used = placed.before in
+    record {
+      some = h.some;
+      placed = record { few = placed.few; before = omega (arith, s.used) };
+      listed = listed_same entries (reach_at place) (low_at place) (λ p. get_or old.lists (known.start + p) 0) (λ p. get_or new.lists (known.start + p) 0) known.count
+          (λ p b. ap (λ ls. get_or ls (known.start + p) 0) s.lists) h.listed;
+    }

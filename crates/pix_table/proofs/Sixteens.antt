@@ -8,6 +8,7 @@ use lib.Seq.{take-add}
 use Rattle.std.proofs.lemmas.List.{map-append}
 use lib.ListN.{replicate}
 use lib.Lanes.{zip2, sel_l, top}
+use mir.Syntax.{Width}
 use mir.Val.{bits, hbits}
 use Rattle.pix_chan.proofs.Sixteen.{is_sixteen}
 use Rattle.pix_table.specs.Nearest.{numbers}
@@ -39,8 +40,9 @@ all_greater (x ∷ xs) [] = refl
 all_greater (x ∷ xs) (y ∷ ys) = ap₂ (λ (n : ℕ) (l : List ℕ). n ∷ l) (greater_chosen x y) (all_greater xs ys)
 
 -- the lesser and the greater number of each lane, as they are chosen by a mask
-pub lesser_lanes : (xs ys : List ℕ) → sel_l (map (top (hbits w8)) (zip2 (λ a b. cond (ltb a b) (2 ^ bits w8 - 1) 0) xs ys)) xs ys ≡ zip2 min xs ys
-lesser_lanes xs ys = ap (λ ms. sel_l ms xs ys) (tops_compared w8 ltb xs ys) ∙ all_lesser xs ys
+pub lesser_lanes : (w : Width) (xs ys : List ℕ)
+    → sel_l (map (top (hbits w)) (zip2 (λ a b. cond (ltb a b) (2 ^ bits w - 1) 0) xs ys)) xs ys ≡ zip2 min xs ys
+lesser_lanes w xs ys = ap (λ ms. sel_l ms xs ys) (tops_compared w ltb xs ys) ∙ all_lesser xs ys
 
 pub greater_lanes : (xs ys : List ℕ) → sel_l (map (top (hbits w8)) (zip2 (λ a b. cond (ltb a b) (2 ^ bits w8 - 1) 0) xs ys)) ys xs ≡ zip2 max xs ys
 greater_lanes xs ys = ap (λ ms. sel_l ms ys xs) (tops_compared w8 ltb xs ys) ∙ all_greater xs ys

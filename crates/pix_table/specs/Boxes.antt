@@ -30,11 +30,11 @@ pub record IsListed (listed : ℕ → ℕ) (count k : ℕ) : Type 0 where
   pub below : at < count
   pub same : listed at ≡ k
 
--- another entry is nearer to a color
+-- another entry is nearer to a color, or as near and before: its key, that is its distance, 256 times, and its index, is less
 pub record IsBeaten (entries : List (List ℕ)) (color : List ℕ) (k : ℕ) : Type 0 where
   pub at : ℕ
   pub stands : at < length entries
-  pub nearer : distance_to entries color at < distance_to entries color k
+  pub less : distance_to entries color at * 256 + at < distance_to entries color k * 256 + k
 
 -- the color of a number that has a color and an index, and how far it is from another color, 256 times, with the index
 abbrev pub word_color : ℕ → List ℕ
@@ -53,8 +53,9 @@ pub record AreWords (entries : List (List ℕ)) (words : List ℕ) : Type 0 wher
   pub many : length words ≡ 256
   pub each : (k : ℕ) → k < 256 → IsWord entries (slice_index words k)
   pub own : (k : ℕ) → k < length entries → slice_index words k % 256 ≡ k
+  pub few : length entries ≤ 256
 
--- the nearest entry to a color is among those that are listed: for each that is not, another one is nearer
+-- the nearest entry to a color is among those that are listed: for each that is not, another one is nearer, or as near and before
 pub record AreEnough (entries : List (List ℕ)) (color : List ℕ) (listed : ℕ → ℕ) (count : ℕ) : Type 0 where
   pub some : 0 < count
   pub inside : (p : ℕ) → p < count → listed p < length entries
@@ -76,24 +77,40 @@ low_at place = if nat_lt place 32768 then place / 1024 * 8 ∷ place / 32 % 32 *
     else (if nat_lt place 37376 then (place - 36864) / 64 * 32 ∷ (place - 36864) / 8 % 8 * 32 ∷ (place - 36864) % 8 * 32 ∷ []
     else (place - 37376) / 16 * 64 ∷ (place - 37376) / 4 % 4 * 64 ∷ (place - 37376) % 4 * 64 ∷ []))
 
--- a list that is no longer than the entries, and stands before `used`
-pub record IsPlaced (entries : List (List ℕ)) (used : ℕ) (known : Known) : Type 0 where
-  pub few : known.count ≤ length entries
+-- a list that has no more entries than a table, and stands before `used`
+pub record IsPlaced (used : ℕ) (known : Known) : Type 0 where
+  pub few : known.count ≤ 256
   pub before : known.start + known.count ≤ used
+
+-- a list has entries enough for a box
+pub record IsListFor (entries : List (List ℕ)) (boxes : Boxes) (place : ℕ) (known : Known) : Type 0 where
+  pub some : 0 < known.count
+  pub placed : IsPlaced boxes.used known
+  pub listed : AreListed entries (reach_at place) (low_at place) (λ p. slice_index boxes.lists (known.start + p)) known.count
 
 -- a box has no list, or one that is placed
 abbrev pub IsKnown : List (List ℕ) → List ℕ → ℕ → ℕ → Known → Type 0
 IsKnown entries lists used place known = 0 < known.count
-    → IsPlaced entries used known × AreListed entries (reach_at place) (low_at place) (λ p. slice_index lists (known.start + p)) known.count
+    → IsPlaced used known × AreListed entries (reach_at place) (low_at place) (λ p. slice_index lists (known.start + p)) known.count
 
--- each is known
-abbrev pub AreKnown : List (List ℕ) → Boxes → Type 0
-AreKnown entries boxes = (k : ℕ) (d : Known) → k < length boxes.known → IsKnown entries boxes.lists boxes.used k (slice_index_or boxes.known k d)
+-- the first list has entries enough for any color
+pub record IsFirst (entries : List (List ℕ)) (boxes : Boxes) : Type 0 where
+  pub few : boxes.first ≤ 256
+  pub begun : 256 ≤ boxes.used
+  pub enough : (color : List ℕ) → AreEnough entries color (λ p. slice_index boxes.lists (0 + p)) boxes.first
 
--- how long the lists are, and that they begin with all indices
-pub record HasRoom (boxes : Boxes) : Type 0 where
+-- how long the lists are, that the first is right, or nothing is listed before it is written, and that each box has no list or one for it
+pub record AreBoxes (entries : List (List ℕ)) (boxes : Boxes) : Type 0 where
   pub places : length boxes.known ≡ 37440
   pub lists : length boxes.lists ≡ 65539
   pub used : boxes.used ≤ 65536
-  pub begun : 256 ≤ boxes.used
-  pub all : (k : ℕ) → k < 256 → slice_index boxes.lists k ≡ k
+  pub first : 0 < boxes.first → IsFirst entries boxes
+  pub none : boxes.first ≡ 0 → (k : ℕ) (d : Known) → k < length boxes.known → (slice_index_or boxes.known k d).count ≡ 0
+  pub known : (k : ℕ) (d : Known) → k < length boxes.known → IsKnown entries boxes.lists boxes.used k (slice_index_or boxes.known k d)
+
+-- boxes have the same lists as others
+pub record HasLists (old new : Boxes) : Type 0 where
+  pub known : new.known ≡ old.known
+  pub lists : new.lists ≡ old.lists
+  pub used : new.used ≡ old.used
+  pub first : new.first ≡ old.first

@@ -12,5 +12,8 @@ pub mod PaletteMatch
 pub mod Setting
 pub mod Indexing
 pub mod Kept
+pub mod TableBlocks
+pub mod Lanes
+pub mod EntryLanes
 pub mod SrgbColor
 pub mod ColorBlocks

@@ -2,15 +2,19 @@
 //!
 //! The colors are cut into small boxes of eight reds, eight greens and eight blues, and into larger ones of sixteen, thirty-two and sixty-four
 //! each. The entries of a small box are listed when a color of it is asked for: those that are listed for the box of the next size around it are
-//! sifted, which is listed first, and so on; the largest boxes are listed out of all entries. A list is stored behind those that are there. How
-//! much room there is for lists decides only how often they are made: no answer depends on it.
-ghost use Rattle.std.specs.Prelude.{◌≡◌, ◌<◌, ◌≤◌, ◌+◌, ◌*◌, ℕ, List, All, length, map, slice_index, true};
+//! sifted, which is listed first, and so on; the largest boxes are listed out of all entries. A list is stored behind those that are there. Colors
+//! whose lists are long, or not made, are looked for among all entries, on lanes. Which lists are made, and how much room there is for them, decides
+//! only how long a look takes: no answer depends on it.
+ghost use Rattle.std.specs.Prelude.{◌≡◌, ◌<◌, ◌≤◌, ◌+◌, ℕ, List, length, map, slice_index, true, IfSome};
 ghost use Rattle.pix_table.specs.Nearest.{IsNearest, distance, numbers};
-ghost use Rattle.pix_table.specs.Boxes.{IsInside, IsLow, IsPlaced, AreListed, AreKnown, AreWords};
-ghost use Rattle.pix_table.specs.Boxes.{HasRoom, end, low_at, reach_at};
+ghost use Rattle.pix_table.specs.EntryLanes.{AreLanes};
+ghost use Rattle.pix_table.specs.Boxes.{IsInside, IsLow, AreEnough, AreListed, AreWords};
+ghost use Rattle.pix_table.specs.Boxes.{AreBoxes, HasLists, IsListFor, end, low_at, reach_at};
 
+use crate::chosen::ENTRIES;
 use crate::color::Color;
-use crate::search::{distance, search};
+use crate::entry_lanes::EntryLanes;
+use crate::search::distance;
 use crate::word::{color_of, nearest_listed};
 
 /// The number of small boxes.
@@ -26,22 +30,31 @@ const THIRTY_TWOS: usize = 36864;
 const SIXTY_FOURS: usize = 37376;
 
 /// The number of all boxes.
-const BOXES: usize = 37440;
+pub(crate) const BOXES: usize = 37440;
 
 /// The room for lists, one byte for an index.
 const ROOM: usize = 65536;
 
 /// How long the lists are: entries are looked at by fours, and so some behind a list.
-const LISTS: usize = 65539;
+pub(crate) const LISTS: usize = 65539;
 
 /// How many entries of a list are looked at at once.
 const AT_ONCE: u16 = 4;
 
-/// How many boxes are listed as soon as a color of them is asked for: as many as there are, until there is no room.
-const EARLY: u16 = 32768;
+/// The greatest length of a list that is looked at entry by entry: longer ones would take more time than all entries on lanes.
+const LONG: u16 = 24;
 
-/// How many colors are asked for after that, of boxes without a list, until one of them has its box listed.
-const TURNS: u8 = 4;
+/// The greatest length of a list that is sifted for a small box.
+const SIFTED: u16 = 64;
+
+/// How many entries may be sifted at first.
+pub(crate) const CREDIT: u32 = 10000;
+
+/// How many more may be sifted for each color that is asked for while its box has no list.
+pub(crate) const RATE: u32 = 16;
+
+/// A box without a list.
+pub(crate) const NONE: Known = Known { start: 0, count: 0 };
 
 /// Where the list of a box stands; it is empty where there is none.
 #[derive(Clone, Copy)]
@@ -55,41 +68,18 @@ pub struct Known {
 /// Boxes, and the lists of their entries.
 #[derive(Drop)]
 pub struct Boxes {
-    known: [Known; BOXES],
-    lists: [u8; LISTS],
-    used: usize,
-    early: u16,
-    turn: u8,
-}
-
-impl Boxes {
-    /// Makes room for boxes, none of which has a list, and says how many are listed as soon as a color of them is asked for.
-    fn with_early(early: u16) -> Boxes
-        ensures room { HasRoom result }
-        ensures empty { All (λ known. known.count ≡ 0) result.known }
-        ensures unused { result.used ≡ 256 }
-    {
-        let mut boxes = Boxes {
-            known: [Known { start: 0, count: 0 }; BOXES],
-            lists: [0; LISTS],
-            used: 256,
-            early,
-            turn: 0,
-        };
-        for i in 0..256 {
-            boxes.lists[i] = i as u8;
-        }
-        boxes
-    }
-
-    /// Makes room for boxes, none of which has a list.
-    pub fn new() -> Boxes
-        ensures room { HasRoom result }
-        ensures empty { All (λ known. known.count ≡ 0) result.known }
-        ensures unused { result.used ≡ 256 }
-    {
-        Boxes::with_early(EARLY)
-    }
+    /// Where the list of each box stands.
+    pub known: [Known; BOXES],
+    /// The lists, one after the other, of which the first is that of all entries.
+    pub lists: [u8; LISTS],
+    /// How much of the room is used.
+    pub used: usize,
+    /// How long the first list is; 0 before it is written.
+    pub first: u16,
+    /// How many entries may be sifted now.
+    pub credit: u32,
+    /// How many more may be sifted for each color that is asked for while its box has no list.
+    pub rate: u32,
 }
 
 /// Returns the number of a color's small box.
@@ -216,12 +206,30 @@ fn is_nearer(near: Color, far: Color, low: Color, reach: u8) -> bool
     distance(near, corner) < distance(far, corner)
 }
 
+/// Returns the nearest entry to a color for which a list is enough: from the list, or from all entries where it is long.
+#[inline(always)]
+fn nearest_from(lanes: &EntryLanes, words: &[u32], lists: &[u8], from: Known, clr: Color) -> u8
+    requires words { length words.now ≡ 256 }
+    requires some { 0 < from.count }
+    requires room { from.start + from.count + 3 ≤ length lists.now }
+    ensures { (entries : List (List ℕ)) → AreLanes entries lanes.now → AreWords entries words.now
+        → AreEnough entries (numbers clr) (λ p. slice_index lists.now (from.start + p)) from.count
+        → IsNearest entries (numbers clr) result }
+{
+    if from.count > LONG {
+        lanes.nearest(clr)
+    } else {
+        nearest_listed(words, lists, from, clr)
+    }
+}
+
 /// Lists those of the entries of a list that may be nearest to a color of a box, in order, from `start` on; returns how many they are.
 ///
 /// An entry is left out where the one that is nearest to the middle of the box is nearer to each of its colors.
 fn sift(
     entries: &[Color],
     words: &[u32],
+    lanes: &EntryLanes,
     from: Known,
     low: Color,
     reach: u8,
@@ -231,6 +239,7 @@ fn sift(
     requires few { length entries.now ≤ 256 }
     requires low { IsLow reach (numbers low) }
     requires words { AreWords (map numbers entries.now) words.now }
+    requires lanes { AreLanes (map numbers entries.now) lanes.now }
     requires some { 0 < from.count }
     requires from { from.start + from.count ≤ start }
     requires room { start + from.count + 3 ≤ length lists.old }
@@ -243,7 +252,7 @@ fn sift(
     ensures few { result ≤ from.count }
     ensures some { 0 < result }
 {
-    let at = usize::from(nearest_listed(words, lists, from, middle(low, reach)));
+    let at = usize::from(nearest_from(lanes, words, lists, from, middle(low, reach)));
     let near = entries[at];
     let mut count = 0;
     for p in 0..usize::from(from.count) {
@@ -256,51 +265,89 @@ fn sift(
     count
 }
 
-/// Makes room for four lists more: where there is none, all are given up, and from then on a box is listed in its turn.
-fn make_room(boxes: &mut Boxes, entries: &[Color])
+/// Makes room for four lists more, and writes the first one if it is not there. Where there is no room, all others are given up.
+fn make_room(boxes: &mut Boxes, entries: &[Color], lanes: &EntryLanes)
     requires few { length entries.now ≤ 256 }
-    requires room { HasRoom boxes.old }
-    requires known { AreKnown (map numbers entries.now) boxes.old }
-    ensures room { HasRoom boxes.new }
-    ensures known { AreKnown (map numbers entries.now) boxes.new }
-    ensures free { boxes.new.used + 4 * length entries.now ≤ 65536 }
+    requires lanes { AreLanes (map numbers entries.now) lanes.now }
+    requires boxes { AreBoxes (map numbers entries.now) boxes.old }
+    ensures boxes { AreBoxes (map numbers entries.now) boxes.new }
+    ensures first { 0 < boxes.new.first }
+    ensures free { boxes.new.used + 1024 ≤ 65536 }
 {
-    if ROOM - boxes.used < 4 * entries.len() {
-        give_up(boxes);
+    if boxes.first == 0 {
+        begin(boxes, entries, lanes);
+    } else if ROOM - boxes.used < 4 * ENTRIES {
+        give_up(boxes, entries);
     }
 }
 
-/// Gives up all lists.
-// Out of line, so that no caller has the 210 kilobytes of new boxes on its stack: it would touch some seventy places of them in each call.
-#[inline(never)]
-fn give_up(boxes: &mut Boxes)
-    ensures room { HasRoom boxes.new }
-    ensures empty { All (λ known. known.count ≡ 0) boxes.new.known }
-    ensures unused { boxes.new.used ≡ 256 }
+/// Writes the first list: all entries, and of equal ones the first at least.
+fn begin(boxes: &mut Boxes, entries: &[Color], lanes: &EntryLanes)
+    requires few { length entries.now ≤ 256 }
+    requires lanes { AreLanes (map numbers entries.now) lanes.now }
+    requires boxes { AreBoxes (map numbers entries.now) boxes.old }
+    requires unused { boxes.old.first ≡ 0 }
+    ensures boxes { AreBoxes (map numbers entries.now) boxes.new }
+    ensures first { 0 < boxes.new.first }
+    ensures used { boxes.new.used ≡ 256 }
 {
-    *boxes = Boxes::with_early(0);
+    for p in 0..lanes.len {
+        boxes.lists[p] = lanes.indices[p];
+    }
+    boxes.used = ENTRIES;
+    boxes.first = lanes.len as u16;
+}
+
+/// Gives up all lists but the first, where they are. From then on fewer are made, since those that there were have been of little use.
+#[inline(never)]
+fn give_up(boxes: &mut Boxes, entries: &[Color])
+    requires boxes { AreBoxes (map numbers entries.now) boxes.old }
+    requires begun { 0 < boxes.old.first }
+    ensures boxes { AreBoxes (map numbers entries.now) boxes.new }
+    ensures first { 0 < boxes.new.first }
+    ensures used { boxes.new.used ≡ 256 }
+{
+    for k in 0..BOXES {
+        boxes.known[k] = NONE;
+    }
+    boxes.used = ENTRIES;
+    boxes.rate = boxes.rate / 2 + 1;
+}
+
+/// Takes the price of sifting so many entries off the credit; returns whether there is enough.
+fn pays(boxes: &mut Boxes, count: u16) -> bool
+    ensures { HasLists boxes.old boxes.new }
+{
+    let price = u32::from(count);
+    if boxes.credit < price {
+        return false;
+    }
+    boxes.credit -= price;
+    true
 }
 
 /// Returns where the list of a box stands. If it has none, it gets one: what is sifted from another list, on which are enough entries for it.
 /// Where that is no longer than what is looked at at once, or nothing is sifted out of it, the box has the same list.
-fn listed(boxes: &mut Boxes, entries: &[Color], words: &[u32], from: Known, place: usize) -> Known
-    requires some { 0 < from.count }
+fn listed(
+    boxes: &mut Boxes,
+    entries: &[Color],
+    words: &[u32],
+    lanes: &EntryLanes,
+    from: Known,
+    place: usize,
+) -> Known
     requires few { length entries.now ≤ 256 }
     requires words { AreWords (map numbers entries.now) words.now }
+    requires lanes { AreLanes (map numbers entries.now) lanes.now }
+    requires boxes { AreBoxes (map numbers entries.now) boxes.old }
+    requires begun { 0 < boxes.old.first }
     requires place { place < 37440 }
-    requires room { HasRoom boxes.old }
-    requires known { AreKnown (map numbers entries.now) boxes.old }
-    requires free { boxes.old.used + length entries.now ≤ 65536 }
-    requires placed { IsPlaced (map numbers entries.now) boxes.old.used from }
-    requires listed { AreListed (map numbers entries.now) (reach_at place) (low_at place)
-        (λ p. slice_index boxes.old.lists (from.start + p)) from.count }
-    ensures room { HasRoom boxes.new }
-    ensures known { AreKnown (map numbers entries.now) boxes.new }
-    ensures few { boxes.new.used ≤ boxes.old.used + length entries.now }
-    ensures some { 0 < result.count }
-    ensures placed { IsPlaced (map numbers entries.now) boxes.new.used result }
-    ensures listed { AreListed (map numbers entries.now) (reach_at place) (low_at place)
-        (λ p. slice_index boxes.new.lists (result.start + p)) result.count }
+    requires free { boxes.old.used + 256 ≤ 65536 }
+    requires from { IsListFor (map numbers entries.now) boxes.old place from }
+    ensures boxes { AreBoxes (map numbers entries.now) boxes.new }
+    ensures few { boxes.new.used ≤ boxes.old.used + 256 }
+    ensures first { boxes.new.first ≡ boxes.old.first }
+    ensures listed { IsListFor (map numbers entries.now) boxes.new place result }
 {
     let old = boxes.known[place];
     if old.count > 0 {
@@ -312,7 +359,16 @@ fn listed(boxes: &mut Boxes, entries: &[Color], words: &[u32], from: Known, plac
     }
     let start = boxes.used;
     let (low, reach) = (low_of(place), reach_of(place));
-    let count = sift(entries, words, from, low, reach, &mut boxes.lists, start);
+    let count = sift(
+        entries,
+        words,
+        lanes,
+        from,
+        low,
+        reach,
+        &mut boxes.lists,
+        start,
+    );
     if count == usize::from(from.count) {
         boxes.known[place] = from;
         return from;
@@ -326,112 +382,150 @@ fn listed(boxes: &mut Boxes, entries: &[Color], words: &[u32], from: Known, plac
     known
 }
 
-/// Returns where a list stands that is enough for a box of sixteen: its own, which it gets if it has none, and the boxes around it first. Once there
-/// was no room, it gets none, since small boxes have more need of the room: then it is the list of the box around it.
-fn sixteen_listed(boxes: &mut Boxes, entries: &[Color], words: &[u32], place: usize) -> Known
-    requires some { 0 < length entries.now }
+/// Does the same if there is a list or credit for one; else answers `None`.
+fn listed_for(
+    boxes: &mut Boxes,
+    entries: &[Color],
+    words: &[u32],
+    lanes: &EntryLanes,
+    from: Known,
+    place: usize,
+) -> Option<Known>
     requires few { length entries.now ≤ 256 }
     requires words { AreWords (map numbers entries.now) words.now }
-    requires sixteen { 32768 ≤ place }
-    requires place { place < 36864 }
-    requires room { HasRoom boxes.old }
-    requires known { AreKnown (map numbers entries.now) boxes.old }
-    requires free { boxes.old.used + 3 * length entries.now ≤ 65536 }
-    ensures room { HasRoom boxes.new }
-    ensures known { AreKnown (map numbers entries.now) boxes.new }
-    ensures few { boxes.new.used ≤ boxes.old.used + 3 * length entries.now }
-    ensures some { 0 < result.count }
-    ensures placed { IsPlaced (map numbers entries.now) boxes.new.used result }
-    ensures listed { AreListed (map numbers entries.now) (reach_at place) (low_at place)
-        (λ p. slice_index boxes.new.lists (result.start + p)) result.count }
+    requires lanes { AreLanes (map numbers entries.now) lanes.now }
+    requires boxes { AreBoxes (map numbers entries.now) boxes.old }
+    requires begun { 0 < boxes.old.first }
+    requires place { place < 37440 }
+    requires free { boxes.old.used + 256 ≤ 65536 }
+    requires from { IsListFor (map numbers entries.now) boxes.old place from }
+    ensures boxes { AreBoxes (map numbers entries.now) boxes.new }
+    ensures few { boxes.new.used ≤ boxes.old.used + 256 }
+    ensures first { boxes.new.first ≡ boxes.old.first }
+    ensures listed { IfSome result (IsListFor (map numbers entries.now) boxes.new place) }
 {
     let old = boxes.known[place];
     if old.count > 0 {
-        return old;
+        return Some(old);
+    }
+    if !pays(boxes, from.count) {
+        return None;
+    }
+    Some(listed(boxes, entries, words, lanes, from, place))
+}
+
+/// Returns where the list of a box of sixteen stands, which it gets if it has none and there is credit, and the boxes around it first.
+fn sixteen_listed(
+    boxes: &mut Boxes,
+    entries: &[Color],
+    words: &[u32],
+    lanes: &EntryLanes,
+    place: usize,
+) -> Option<Known>
+    requires few { length entries.now ≤ 256 }
+    requires words { AreWords (map numbers entries.now) words.now }
+    requires lanes { AreLanes (map numbers entries.now) lanes.now }
+    requires boxes { AreBoxes (map numbers entries.now) boxes.old }
+    requires sixteen { 32768 ≤ place }
+    requires place { place < 36864 }
+    requires begun { 0 < boxes.old.first }
+    requires free { boxes.old.used + 768 ≤ 65536 }
+    ensures boxes { AreBoxes (map numbers entries.now) boxes.new }
+    ensures few { boxes.new.used ≤ boxes.old.used + 768 }
+    ensures first { 0 < boxes.new.first }
+    ensures listed { IfSome result (IsListFor (map numbers entries.now) boxes.new place) }
+{
+    let old = boxes.known[place];
+    if old.count > 0 {
+        return Some(old);
     }
     let all = Known {
         start: 0,
-        count: entries.len() as u16,
+        count: boxes.first,
     };
     let thirty_two = thirty_two_around(place);
-    let first = listed(boxes, entries, words, all, sixty_four_around(thirty_two));
-    let second = listed(boxes, entries, words, first, thirty_two);
-    if boxes.early == 0 {
-        return second;
-    }
-    listed(boxes, entries, words, second, place)
+    let sixty_four = sixty_four_around(thirty_two);
+    let first = listed_for(boxes, entries, words, lanes, all, sixty_four)?;
+    let second = listed_for(boxes, entries, words, lanes, first, thirty_two)?;
+    listed_for(boxes, entries, words, lanes, second, place)
 }
 
-/// Lists the entries of a small box, and returns where its list stands.
-fn add(boxes: &mut Boxes, entries: &[Color], words: &[u32], place: usize) -> Known
-    requires some { 0 < length entries.now }
+/// Returns where the list of a small box stands, which it gets if there is credit, and the boxes around it first. Where the list of the box around it
+/// is too long to be sifted, it has the same.
+fn small_listed(
+    boxes: &mut Boxes,
+    entries: &[Color],
+    words: &[u32],
+    lanes: &EntryLanes,
+    place: usize,
+) -> Option<Known>
     requires few { length entries.now ≤ 256 }
     requires words { AreWords (map numbers entries.now) words.now }
+    requires lanes { AreLanes (map numbers entries.now) lanes.now }
+    requires boxes { AreBoxes (map numbers entries.now) boxes.old }
     requires place { place < 32768 }
-    requires room { HasRoom boxes.old }
-    requires known { AreKnown (map numbers entries.now) boxes.old }
-    ensures room { HasRoom boxes.new }
-    ensures known { AreKnown (map numbers entries.now) boxes.new }
-    ensures some { 0 < result.count }
-    ensures placed { IsPlaced (map numbers entries.now) boxes.new.used result }
-    ensures listed { AreListed (map numbers entries.now) (reach_at place) (low_at place)
-        (λ p. slice_index boxes.new.lists (result.start + p)) result.count }
+    ensures boxes { AreBoxes (map numbers entries.now) boxes.new }
+    ensures listed { IfSome result (IsListFor (map numbers entries.now) boxes.new place) }
 {
-    make_room(boxes, entries);
+    make_room(boxes, entries, lanes);
     let sixteen = sixteen_around(place);
-    let from = sixteen_listed(boxes, entries, words, sixteen);
-    listed(boxes, entries, words, from, place)
-}
-
-/// Returns whether a box that has no list is to have one now.
-fn is_due(boxes: &mut Boxes) -> bool
-    requires { HasRoom boxes.old }
-    ensures known { boxes.new.known ≡ boxes.old.known }
-    ensures lists { boxes.new.lists ≡ boxes.old.lists }
-    ensures used { boxes.new.used ≡ boxes.old.used }
-{
-    if boxes.early > 0 {
-        boxes.early -= 1;
-        return true;
+    let from = sixteen_listed(boxes, entries, words, lanes, sixteen)?;
+    if from.count > SIFTED {
+        boxes.known[place] = from;
+        return Some(from);
     }
-    boxes.turn = boxes.turn.wrapping_add(1);
-    boxes.turn % TURNS == 0
+    listed_for(boxes, entries, words, lanes, from, place)
 }
 
-/// Returns the index of the entry that is nearest to a color whose box has no list, and lists the box if it is due.
-fn nearest_unlisted(boxes: &mut Boxes, entries: &[Color], words: &[u32], clr: Color) -> u8
-    requires some { 0 < length entries.now }
+/// Returns the index of the entry that is nearest to a color whose box has no list, or a long one.
+// Out of line, so that the look at a list alone stands where pixels are matched.
+#[inline(never)]
+fn nearest_unlisted(
+    boxes: &mut Boxes,
+    entries: &[Color],
+    words: &[u32],
+    lanes: &EntryLanes,
+    clr: Color,
+) -> u8
     requires few { length entries.now ≤ 256 }
     requires words { AreWords (map numbers entries.now) words.now }
-    requires room { HasRoom boxes.old }
-    requires known { AreKnown (map numbers entries.now) boxes.old }
+    requires lanes { AreLanes (map numbers entries.now) lanes.now }
+    requires boxes { AreBoxes (map numbers entries.now) boxes.old }
     ensures nearest { IsNearest (map numbers entries.now) (numbers clr) result }
-    ensures room { HasRoom boxes.new }
-    ensures known { AreKnown (map numbers entries.now) boxes.new }
+    ensures boxes { AreBoxes (map numbers entries.now) boxes.new }
 {
-    if !is_due(boxes) {
-        return search(entries, clr);
+    let place = place_of(clr);
+    if boxes.known[place].count > 0 {
+        return lanes.nearest(clr);
     }
-    let known = add(boxes, entries, words, place_of(clr));
-    nearest_listed(words, &boxes.lists, known, clr)
+    boxes.credit = boxes.credit.saturating_add(boxes.rate).min(CREDIT);
+    match small_listed(boxes, entries, words, lanes, place) {
+        Some(known) => nearest_from(lanes, words, &boxes.lists, known, clr),
+        None => lanes.nearest(clr),
+    }
 }
 
 /// Returns the index of the nearest of at least 1 and at most 256 entries, of which the boxes have the lists.
 #[inline(always)]
-pub fn nearest_of(boxes: &mut Boxes, entries: &[Color], words: &[u32], clr: Color) -> u8
-    requires some { 0 < length entries.now }
+pub fn nearest_of(
+    boxes: &mut Boxes,
+    entries: &[Color],
+    words: &[u32],
+    lanes: &EntryLanes,
+    clr: Color,
+) -> u8
     requires few { length entries.now ≤ 256 }
     requires words { AreWords (map numbers entries.now) words.now }
-    requires room { HasRoom boxes.old }
-    requires known { AreKnown (map numbers entries.now) boxes.old }
+    requires lanes { AreLanes (map numbers entries.now) lanes.now }
+    requires boxes { AreBoxes (map numbers entries.now) boxes.old }
     ensures nearest { IsNearest (map numbers entries.now) (numbers clr) result }
-    ensures room { HasRoom boxes.new }
-    ensures known { AreKnown (map numbers entries.now) boxes.new }
+    ensures boxes { AreBoxes (map numbers entries.now) boxes.new }
 {
     let known = boxes.known[place_of(clr)];
-    if known.count > 0 {
+    // One comparison tells that there is a list, and that it is not long.
+    if known.count.wrapping_sub(1) < LONG {
         nearest_listed(words, &boxes.lists, known, clr)
     } else {
-        nearest_unlisted(boxes, entries, words, clr)
+        nearest_unlisted(boxes, entries, words, lanes, clr)
     }
 }

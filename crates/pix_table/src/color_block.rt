@@ -13,22 +13,27 @@ pub(crate) const SIZE: usize = 16;
 /// The channels of sixteen colors.
 #[derive(Clone, Copy)]
 pub struct ColorBlock {
-    red: [u8; SIZE],
-    green: [u8; SIZE],
-    blue: [u8; SIZE],
+    pub(crate) red: [u8; SIZE],
+    pub(crate) green: [u8; SIZE],
+    pub(crate) blue: [u8; SIZE],
 }
 
 impl ColorBlock {
+    /// Makes a block of sixteen blacks.
+    pub(crate) fn black() -> ColorBlock {
+        ColorBlock {
+            red: [0; SIZE],
+            green: [0; SIZE],
+            blue: [0; SIZE],
+        }
+    }
+
     /// Makes the block of the sixteen colors from `start` on.
     pub fn new<C: TableColor>(colors: &[C], start: usize) -> ColorBlock
         requires { start + 16 ≤ length colors.now }
         ensures { IsBlock (map C.channels colors.now) start result }
     {
-        let mut block = ColorBlock {
-            red: [0; SIZE],
-            green: [0; SIZE],
-            blue: [0; SIZE],
-        };
+        let mut block = ColorBlock::black();
         for i in 0..SIZE {
             let color = colors[start + i].color();
             block.red[i] = color.red;

@@ -5,7 +5,8 @@ ghost use Rattle.pix_table.specs.Diffusion.{AreDiffused, corrected, wanted_at};
 ghost use Rattle.pix_table.specs.Done.{AreLatest, IsMiss, IsMissAbove, AreNear, AreDone};
 
 use crate::color::{Color, TableColor, TablePixel};
-use crate::matcher::Matcher;
+use crate::matcher::visit_nearest;
+use crate::nearest_search::{NearestSearch, SearchVisitor};
 
 /// How the pixels of a picture are indexed by error diffusion.
 #[derive(Clone, Copy, Debug, PartialEq, Eq)]
@@ -48,31 +49,65 @@ pub fn diffusion_work(width: usize) -> Option<usize>
 /// The pixels are in rows, from left to right and from above. The error of a pixel is what was wanted there less the entry that was found: 7
 /// sixteenths of it go to the pixel on the right, 3 to the one below on the left, 5 to the one below, and 1 to the one below on the right.
 ///
-/// Condition: the matcher is to `entries`, a row has a pixel, there are as many indices as pixels, and `work` has four rows of colors.
+/// Condition: there is at least one entry and at most 256, a row has a pixel, there are as many indices as pixels, and `work` has four rows of colors.
 pub fn diffuse_pixels<C: TableColor, P: TablePixel>(
-    matcher: &mut Matcher,
     entries: &[C],
     pixels: &[P],
     how: Diffusion,
     work: &mut [Color],
     indices: &mut [u8],
 )
-    requires entries { matcher.old ≡ map C.channels entries.now }
+    requires some { 0 < length entries.now }
+    requires few_entries { length entries.now ≤ 256 }
     requires row { 0 < how.width }
     requires work { length work.old ≡ 4 * how.width }
     requires many { length indices.old ≡ length pixels.now }
-    ensures diffused { AreDiffused matcher.old how.alpha how.kept how.width
+    ensures { AreDiffused (map C.channels entries.now) how.alpha how.kept how.width
         (map P.values pixels.now) indices.new }
-    ensures same { matcher.new ≡ matcher.old }
 {
-    let (wanted, rest) = work.split_at_mut(how.width);
-    let (found, _) = rest.split_at_mut(how.width);
-    diffuse_all(matcher, entries, pixels, how, wanted, found, indices);
+    let diffusing = Diffusing {
+        entries,
+        pixels,
+        how,
+    };
+    visit_nearest(entries, &diffusing, indices, work);
+}
+
+/// Pixels that are indexed by error diffusion to the entries of a table.
+#[derive(Drop)]
+struct Diffusing<'a, C, P> {
+    entries: &'a [C],
+    pixels: &'a [P],
+    how: Diffusion,
+}
+
+impl<C: TableColor, P: TablePixel> SearchVisitor<u8> for Diffusing<'_, C, P> {
+    ghost can_visit = { λ diffusing entries count work. (0 < diffusing.how.width)
+        × (entries ≡ map C.channels diffusing.entries.now)
+        × (work ≡ 4 * diffusing.how.width) × (count ≡ length diffusing.pixels.now) };
+
+    ghost visits = { λ diffusing entries old new. entries ≡ map C.channels diffusing.entries.now
+        → AreDiffused entries diffusing.how.alpha diffusing.how.kept diffusing.how.width
+        (map P.values diffusing.pixels.now) new };
+
+    fn visit<N: NearestSearch>(&self, search: &mut N, items: &mut [u8], work: &mut [Color]) {
+        let (wanted, rest) = work.split_at_mut(self.how.width);
+        let (found, _) = rest.split_at_mut(self.how.width);
+        diffuse_all(
+            search,
+            self.entries,
+            self.pixels,
+            self.how,
+            wanted,
+            found,
+            items,
+        );
+    }
 }
 
 /// Does it with a row of the colors that were wanted last, and a row of those that were found last.
-fn diffuse_all<C: TableColor, P: TablePixel>(
-    matcher: &mut Matcher,
+fn diffuse_all<N: NearestSearch, C: TableColor, P: TablePixel>(
+    search: &mut N,
     entries: &[C],
     pixels: &[P],
     how: Diffusion,
@@ -80,14 +115,13 @@ fn diffuse_all<C: TableColor, P: TablePixel>(
     found: &mut [Color],
     indices: &mut [u8],
 )
-    requires entries { matcher.old ≡ map C.channels entries.now }
     requires row { 0 < how.width }
     requires wanted { length wanted.old ≡ how.width }
     requires found { length found.old ≡ how.width }
     requires many { length indices.old ≡ length pixels.now }
-    ensures diffused { AreDiffused matcher.old how.alpha how.kept how.width
+    requires entries { N.finds search.old (map C.channels entries.now) }
+    ensures { AreDiffused (map C.channels entries.now) how.alpha how.kept how.width
         (map P.values pixels.now) indices.new }
-    ensures same { matcher.new ≡ matcher.old }
 {
     let black = Color {
         red: 0,
@@ -112,7 +146,7 @@ fn diffuse_all<C: TableColor, P: TablePixel>(
             found[column] = black;
         } else {
             let color = wanted_at(pixels[k], around, right_above);
-            let index = matcher.nearest(color);
+            let index = search.nearest_entry(color);
             let entry = entries[usize::from(index)].color();
             indices[k] = index;
             wanted[column] = color;

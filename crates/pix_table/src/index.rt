@@ -6,8 +6,8 @@ ghost use Rattle.pix_table.specs.Indexing.{AreSet, IsStopped};
 ghost use Rattle.pix_table.specs.declared.color.Color.{Color};
 
 use crate::color::Color;
-use crate::kept::Cache;
 use crate::set::set_kept;
+use crate::table_blocks::Beside;
 
 /// The greatest number of slots.
 const SLOTS: usize = 256;
@@ -73,10 +73,10 @@ fn set_pixels(
     ensures many { length indices.new ≡ length indices.old }
     ensures within { result.1 ≤ length slots.new }
 {
-    let mut cache = Cache::new();
+    let mut beside = Beside::new();
     let mut used = len;
     for i in 0..pixels.len() {
-        let (answer, now) = set_kept(slots, used, &mut cache, pixels[i], threshold);
+        let (answer, now) = set_kept(slots, used, &mut beside, pixels[i], threshold);
         used = now;
         match answer {
             Some(index) if index <= 255 => {

@@ -33,7 +33,7 @@ pub struct Cache {
 }
 
 /// Returns the first place that a color may be kept at.
-fn first_place(clr: Color) -> usize
+pub(crate) fn first_place(clr: Color) -> usize
     ensures { result < 2048 }
 {
     let red = usize::from(clr.red);

@@ -5,20 +5,25 @@
 
 mod block_spans;
 mod boxes;
+mod chosen;
 mod color;
 mod color_block;
 mod cut;
 mod diffuse;
+mod entry_lanes;
 mod from;
 mod in_blocks;
 mod index;
 mod kept;
+mod lanes;
 mod look;
 mod matcher;
+mod nearest_search;
 mod row;
 mod search;
 mod set;
 mod sixteen;
+mod table_blocks;
 mod threshold;
 mod word;
 
@@ -31,8 +36,10 @@ pub use crate::in_blocks::standing_in;
 pub use crate::index::index_pixels;
 pub use crate::kept::Cache;
 pub use crate::look::{are_below, count, look_up};
-pub use crate::matcher::{Matcher, match_pixels};
+pub use crate::matcher::{match_pixels, visit_nearest};
+pub use crate::nearest_search::{NearestSearch, SearchVisitor};
 pub use crate::row::{IndexDepth, RowFault, pack_row, unpack_row};
 pub use crate::search::nearest;
 pub use crate::set::{set_entry, set_kept};
+pub use crate::table_blocks::Beside;
 pub use crate::threshold::standing;

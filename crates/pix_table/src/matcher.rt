@@ -1,15 +1,22 @@
 //! The nearest entries of many colors, one after the other.
-ghost use Rattle.std.specs.Prelude.{◌≡◌, ◌<◌, ◌≤◌, ◌⊎◌, length, map, take, MatchOption};
-ghost use Rattle.pix_table.specs.Nearest.{IsNearest, IsMatched, AreMatched, numbers};
+ghost use Rattle.std.specs.Prelude.{◌≡◌, ◌<◌, ◌≤◌, ℕ, List, length, map, take};
+ghost use Rattle.pix_table.specs.Nearest.{IsMatched, AreMatched, numbers};
 ghost use Rattle.pix_table.specs.Boxes.{AreWords};
+ghost use Rattle.pix_table.specs.EntryLanes.{AreLanes};
 
-use crate::boxes::{Boxes, nearest_of};
+use crate::boxes::{BOXES, Boxes, CREDIT, LISTS, NONE, RATE, nearest_of};
+use crate::chosen::ENTRIES;
 use crate::color::{Color, TableColor, TablePixel};
+use crate::entry_lanes::EntryLanes;
+use crate::nearest_search::{NearestSearch, SearchVisitor};
 use crate::word::word_of;
 use std::marker::Model;
 
-/// The greatest number of entries.
-const ENTRIES: usize = 256;
+/// The greatest number of colors that are looked for among all entries: for more, lists save more time than they take.
+const FEW_COLORS: usize = 4096;
+
+/// The greatest number of entries that need no lists.
+const FEW_ENTRIES: usize = 32;
 
 /// Returns the numbers of the entries, and behind them that of the first.
 fn words_of(entries: &[Color]) -> [u32; ENTRIES]
@@ -24,19 +31,21 @@ fn words_of(entries: &[Color]) -> [u32; ENTRIES]
     words
 }
 
-/// A copy of a table of colors, to which many colors are matched.
+/// A copy of a table of colors, to which many colors are matched: each is looked for among the few entries of a list that may be the nearest to it.
 #[derive(Drop)]
-pub struct Matcher {
+struct Matcher {
     entries: [Color; ENTRIES],
     words: [u32; ENTRIES],
     len: usize,
+    lanes: EntryLanes,
     boxes: Boxes,
 }
 
 impl Model for Matcher {
     ghost use Rattle.std.specs.Prelude.{List, ℕ, length, map, take, ◌≡◌, ◌<◌, ◌≤◌};
     ghost use Rattle.pix_table.specs.Nearest.{numbers};
-    ghost use Rattle.pix_table.specs.Boxes.{AreKnown, AreWords, HasRoom};
+    ghost use Rattle.pix_table.specs.Boxes.{AreBoxes, AreWords};
+    ghost use Rattle.pix_table.specs.EntryLanes.{AreLanes};
 
     ghost Value = { List (List ℕ) };
 
@@ -44,70 +53,182 @@ impl Model for Matcher {
 
     ghost invariant = { λ m. (0 < m.len) × (m.len ≤ 256) × (length m.entries ≡ 256)
         × AreWords (map numbers (take m.len m.entries)) m.words
-        × HasRoom m.boxes × AreKnown (map numbers (take m.len m.entries)) m.boxes };
+        × AreLanes (map numbers (take m.len m.entries)) m.lanes
+        × AreBoxes (map numbers (take m.len m.entries)) m.boxes };
 }
 
-impl Matcher {
-    /// Makes a matcher to the entries of `colors`; or `None` where there is no entry, or more than 256.
-    pub fn new<C: TableColor>(colors: &[C]) -> Option<Matcher>
-        ensures { MatchOption result
-            ((length colors.now ≡ 0) ⊎ (256 < length colors.now))
-            (λ m. m ≡ map C.channels colors.now) }
-    {
-        let len = colors.len();
-        if len == 0 || len > ENTRIES {
-            return None;
-        }
-        let mut entries = [Color::default(); ENTRIES];
-        for i in 0..len {
-            entries[i] = colors[i].color();
-        }
-        let words = words_of(&entries[..len]);
-        Some(Matcher {
-            entries,
-            words,
-            len,
-            boxes: Boxes::new(),
-        })
-    }
+impl NearestSearch for Matcher {
+    ghost finds = { λ matcher entries. matcher ≡ entries };
 
-    /// Returns the index of the entry that is nearest to a color, the first of equals.
     #[inline(always)]
-    pub fn nearest(&mut self, clr: Color) -> u8
-        ensures nearest { IsNearest self.old (numbers clr) result }
-        ensures same { self.new ≡ self.old }
-    {
-        nearest_of(&mut self.boxes, &self.entries[..self.len], &self.words, clr)
+    fn nearest_entry(&mut self, clr: Color) -> u8 {
+        let entries = &self.entries[..self.len];
+        nearest_of(&mut self.boxes, entries, &self.words, &self.lanes, clr)
     }
+}
+
+impl NearestSearch for EntryLanes {
+    ghost finds = { λ lanes entries. AreLanes entries lanes };
+
+    #[inline(always)]
+    fn nearest_entry(&mut self, clr: Color) -> u8 {
+        self.nearest(clr)
+    }
+}
+
+/// Returns the colors of the entries, and behind them others.
+fn colors_of<C: TableColor>(colors: &[C]) -> [Color; ENTRIES]
+    requires { length colors.now ≤ 256 }
+    ensures long { length result ≡ 256 }
+    ensures colors { map numbers (take (length colors.now) result) ≡ map C.channels colors.now }
+{
+    let mut entries = [Color::default(); ENTRIES];
+    for i in 0..colors.len() {
+        entries[i] = colors[i].color();
+    }
+    entries
+}
+
+/// Runs an action on some items that asks for the nearest entries of a table, about once for each item.
+///
+/// For many items, the entries that may be the nearest to a color are listed; for few items, or few entries, all entries are looked at.
+///
+/// Condition: the table has at least one and at most 256 entries, and the action may run on so many items with so much work memory.
+pub fn visit_nearest<C: TableColor, T, V: SearchVisitor<T>>(
+    colors: &[C],
+    visitor: &V,
+    items: &mut [T],
+    work: &mut [Color],
+)
+    requires some { 0 < length colors.now }
+    requires few { length colors.now ≤ 256 }
+    requires can { V.can_visit visitor.now (map C.channels colors.now) (length items.old)
+        (length work.old) }
+    ensures { V.visits visitor.now (map C.channels colors.now) items.old items.new }
+{
+    let mut lanes = EntryLanes::new(colors);
+    if items.len() > FEW_COLORS {
+        visit_many(colors, &lanes, visitor, items, work);
+    } else {
+        visitor.visit(&mut lanes, items, work);
+    }
+}
+
+/// Does it for many items.
+fn visit_many<C: TableColor, T, V: SearchVisitor<T>>(
+    colors: &[C],
+    lanes: &EntryLanes,
+    visitor: &V,
+    items: &mut [T],
+    work: &mut [Color],
+)
+    requires some { 0 < length colors.now }
+    requires few { length colors.now ≤ 256 }
+    requires lanes { AreLanes (map C.channels colors.now) lanes.now }
+    requires can { V.can_visit visitor.now (map C.channels colors.now) (length items.old)
+        (length work.old) }
+    ensures { V.visits visitor.now (map C.channels colors.now) items.old items.new }
+{
+    let mut distinct = lanes.distinct(colors);
+    if distinct.len > FEW_ENTRIES {
+        visit_listed(colors, distinct, visitor, items, work);
+    } else {
+        visitor.visit(&mut distinct, items, work);
+    }
+}
+
+/// Does it with lists.
+// Out of line, so that no other call has its 215 kilobytes on the stack.
+#[inline(never)]
+fn visit_listed<C: TableColor, T, V: SearchVisitor<T>>(
+    colors: &[C],
+    lanes: EntryLanes,
+    visitor: &V,
+    items: &mut [T],
+    work: &mut [Color],
+)
+    requires some { 0 < length colors.now }
+    requires few { length colors.now ≤ 256 }
+    requires lanes { AreLanes (map C.channels colors.now) lanes }
+    requires can { V.can_visit visitor.now (map C.channels colors.now) (length items.old)
+        (length work.old) }
+    ensures { V.visits visitor.now (map C.channels colors.now) items.old items.new }
+{
+    let len = colors.len();
+    let entries = colors_of(colors);
+    let words = words_of(&entries[..len]);
+    let mut matcher = Matcher {
+        entries,
+        words,
+        len,
+        lanes,
+        boxes: Boxes {
+            known: [NONE; BOXES],
+            lists: [0; LISTS],
+            used: 0,
+            first: 0,
+            credit: CREDIT,
+            rate: RATE,
+        },
+    };
+    visitor.visit(&mut matcher, items, work);
+}
+
+/// Pixels, each of which is matched to an entry: one whose alpha is below `alpha` has the index `kept`, and another that of its nearest entry.
+#[derive(Drop)]
+struct Matching<'a, P> {
+    pixels: &'a [P],
+    alpha: u8,
+    kept: u8,
 }
 
 /// Returns the index of a pixel: `kept` where its alpha is below `alpha`, and else that of the nearest entry.
 #[inline(always)]
-fn matched<P: TablePixel>(matcher: &mut Matcher, pixel: P, alpha: u8, kept: u8) -> u8
-    ensures matched { IsMatched matcher.old alpha kept (P.values pixel) result }
-    ensures same { matcher.new ≡ matcher.old }
+fn matched<N: NearestSearch, P: TablePixel>(search: &mut N, pixel: P, alpha: u8, kept: u8) -> u8
+    ensures matched { (entries : List (List ℕ)) → N.finds search.old entries
+        → IsMatched entries alpha kept (P.values pixel) result }
+    ensures same { (entries : List (List ℕ)) → N.finds search.old entries
+        → N.finds search.new entries }
 {
     if pixel.alpha() < alpha {
         return kept;
     }
-    matcher.nearest(pixel.rgb())
+    search.nearest_entry(pixel.rgb())
 }
 
-/// Sets the index of each pixel: to `kept` where the pixel's alpha is below `alpha`, and else to that of the nearest entry.
+impl<P: TablePixel> SearchVisitor<u8> for Matching<'_, P> {
+    ghost can_visit = { λ matching entries count work. count ≡ length matching.pixels.now };
+
+    ghost visits = { λ matching entries old new.
+        AreMatched entries matching.alpha matching.kept (map P.values matching.pixels.now) new };
+
+    fn visit<N: NearestSearch>(&self, search: &mut N, items: &mut [u8], _work: &mut [Color]) {
+        for i in 0..items.len() {
+            items[i] = matched(search, self.pixels[i], self.alpha, self.kept);
+        }
+    }
+}
+
+/// Sets the index of each pixel: to `kept` where the pixel's alpha is below `alpha`, and else to that of the nearest entry, the first of equals.
 ///
-/// Condition: there are as many indices as pixels.
-pub fn match_pixels<P: TablePixel>(
-    matcher: &mut Matcher,
+/// Condition: the table has at least one and at most 256 entries, and there are as many indices as pixels.
+pub fn match_pixels<C: TableColor, P: TablePixel>(
+    colors: &[C],
     pixels: &[P],
     alpha: u8,
     kept: u8,
     indices: &mut [u8],
 )
-    requires { length indices.old ≡ length pixels.now }
-    ensures matched { AreMatched matcher.old alpha kept (map P.values pixels.now) indices.new }
-    ensures same { matcher.new ≡ matcher.old }
+    requires some { 0 < length colors.now }
+    requires few { length colors.now ≤ 256 }
+    requires many { length indices.old ≡ length pixels.now }
+    ensures { AreMatched (map C.channels colors.now) alpha kept (map P.values pixels.now)
+        indices.new }
 {
-    for i in 0..pixels.len() {
-        indices[i] = matched(matcher, pixels[i], alpha, kept);
-    }
+    let matching = Matching {
+        pixels,
+        alpha,
+        kept,
+    };
+    visit_nearest(colors, &matching, indices, &mut []);
 }

@@ -1,11 +1,11 @@
 //! Colors that are set in a table: each is answered by the entry that stands for it, or added.
 ghost use Rattle.std.specs.Prelude.{◌≡◌, ◌≤◌, length, map, take};
 ghost use Rattle.pix_table.specs.Nearest.{numbers};
-ghost use Rattle.pix_table.specs.Setting.{Always, IsSet};
-ghost use Rattle.pix_table.specs.Kept.{AreRight};
+ghost use Rattle.pix_table.specs.Setting.{Always, IsSet, StandsFor};
+ghost use Rattle.pix_table.specs.TableBlocks.{IsBeside};
 
 use crate::color::{Color, TableColor};
-use crate::kept::Cache;
+use crate::table_blocks::Beside;
 use crate::threshold::standing;
 
 /// Sets a color among the first `len` of `slots`; returns the answer, and the number of entries afterwards.
@@ -26,8 +26,30 @@ pub fn set_entry<C: TableColor>(
     ensures within { result.1 ≤ length slots.new }
     ensures more { len ≤ result.1 }
 {
-    if let Some(at) = standing(&slots[..len], clr.color(), threshold) {
-        return (Some(at), len);
+    let at = standing(&slots[..len], clr.color(), threshold);
+    set_by(slots, len, clr, threshold, at)
+}
+
+/// Sets a color for which an entry stands, or none.
+fn set_by<C: TableColor>(
+    slots: &mut [C],
+    len: usize,
+    clr: C,
+    threshold: Color,
+    at: Option<usize>,
+) -> (Option<usize>, usize)
+    requires within { len ≤ length slots.old }
+    requires standing { StandsFor (Always (numbers threshold))
+        (map C.channels (take len slots.old)) (C.channels clr) at }
+    ensures set { IsSet C.channels (Always (numbers threshold)) (length slots.old)
+        (take len slots.old) clr result.0 (take result.1 slots.new) }
+    ensures room { length slots.new ≡ length slots.old }
+    ensures before { take len slots.new ≡ take len slots.old }
+    ensures within { result.1 ≤ length slots.new }
+    ensures more { len ≤ result.1 }
+{
+    if at.is_some() {
+        return (at, len);
     }
     if len < slots.len() {
         slots[len] = clr;
@@ -37,33 +59,35 @@ pub fn set_entry<C: TableColor>(
     }
 }
 
-/// Sets a color as [`set_entry`] does; a color that is kept takes no search.
+/// Sets a color as [`set_entry`] does, by what is kept beside the table: a color that is kept takes no search, and another one is looked for by blocks of
+/// the entries.
 pub fn set_kept<C: TableColor>(
     slots: &mut [C],
     len: usize,
-    cache: &mut Cache,
+    beside: &mut Beside,
     clr: C,
     threshold: Color,
 ) -> (Option<usize>, usize)
     requires within { len ≤ length slots.old }
-    requires right { AreRight (Always (numbers threshold))
-        (map C.channels (take len slots.old)) cache.old.kept }
+    requires right { IsBeside (numbers threshold) (map C.channels (take len slots.old))
+        beside.old }
     ensures set { IsSet C.channels (Always (numbers threshold)) (length slots.old)
         (take len slots.old) clr result.0 (take result.1 slots.new) }
-    ensures right { AreRight (Always (numbers threshold))
-        (map C.channels (take result.1 slots.new)) cache.new.kept }
+    ensures right { IsBeside (numbers threshold)
+        (map C.channels (take result.1 slots.new)) beside.new }
     ensures room { length slots.new ≡ length slots.old }
     ensures before { take len slots.new ≡ take len slots.old }
     ensures within { result.1 ≤ length slots.new }
     ensures more { len ≤ result.1 }
 {
     let color = clr.color();
-    if let Some(index) = cache.find(color, len) {
+    if let Some(index) = beside.cache.find(color, len) {
         return (Some(index), len);
     }
-    let (answer, used) = set_entry(slots, len, clr, threshold);
+    let at = beside.blocks.standing(&slots[..len], color, threshold);
+    let (answer, used) = set_by(slots, len, clr, threshold, at);
     if let Some(index) = answer {
-        cache.keep(&slots[..used], color, index);
+        beside.cache.keep(&slots[..used], color, index);
     }
     (answer, used)
 }

@@ -2,30 +2,38 @@
 ghost use Rattle.std.specs.Prelude.{◌≡◌, ◌<◌, ◌≤◌, length, map};
 ghost use Rattle.pix_table.specs.ColorBlocks.{IsBest};
 ghost use Rattle.pix_table.specs.Nearest.{numbers};
+ghost use Rattle.pix_table.specs.SrgbColor.{srgb_numbers};
 ghost use Rattle.pix_table.specs.PaletteMatch.{IsMatch, color_difference, difference_to, is_closer, is_within};
 ghost use Rattle.pix_table.specs.Setting.{Always, StandsFor};
 
 use crate::color::{Color, TableColor};
 use crate::from::same;
+use pix_chan::chan::Ch8;
+use pix_el::el::Pix;
+use pix_el::rgb::{Rgb, SRgb8};
+
+/// Returns a color as a pixel, whose model tells how far colors are apart.
+#[inline(always)]
+fn pixel(clr: Color) -> SRgb8
+    ensures { srgb_numbers result ≡ numbers clr }
+{
+    Pix::with_channels([Ch8::new(clr.red), Ch8::new(clr.green), Ch8::new(clr.blue)])
+}
 
 /// Returns how far two colors are apart in each channel.
+#[inline(always)]
 fn apart(p: Color, q: Color) -> Color
     ensures { numbers result ≡ color_difference (numbers p) (numbers q) }
 {
-    Color {
-        red: p.red.abs_diff(q.red),
-        green: p.green.abs_diff(q.green),
-        blue: p.blue.abs_diff(q.blue),
-    }
+    Rgb::difference(pixel(p), pixel(q)).color()
 }
 
 /// Returns whether a difference is no greater than a threshold in any channel.
+#[inline(always)]
 pub(crate) fn is_within(difference: Color, threshold: Color) -> bool
     ensures { result ≡ is_within (numbers difference) (numbers threshold) }
 {
-    difference.red <= threshold.red
-        && difference.green <= threshold.green
-        && difference.blue <= threshold.blue
+    Rgb::within_threshold(pixel(difference), pixel(threshold))
 }
 
 /// Returns whether a difference is no greater than another in any channel, and not equal to it.

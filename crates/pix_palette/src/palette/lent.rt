@@ -9,7 +9,7 @@ use super::index::IndexPixel;
 use pix_chan::chan::{Ch8, Gamma};
 use pix_el::el::Pixel;
 use pix_el::rgb::SRgb8;
-use pix_table::{Cache, TableColor, set_kept};
+use pix_table::{Beside, TableColor, set_kept};
 
 /// Sets the color of each pixel among the first `len` of `slots`, and the pixel of `indices` at its place to its index, up to the first that has
 /// none; returns whether all have one, and the number of colors afterwards.
@@ -40,11 +40,11 @@ where
     ensures more { len ≤ result.1 }
 {
     let near = threshold.color();
-    let mut cache = Cache::new();
+    let mut beside = Beside::new();
     let mut used = len;
     for i in 0..pixels.len() {
         let clr = pixels[i].convert::<SRgb8>();
-        let (answer, now) = set_kept(slots, used, &mut cache, clr, near);
+        let (answer, now) = set_kept(slots, used, &mut beside, clr, near);
         used = now;
         match answer {
             Some(index) if index <= P::GREATEST => indices[i] = P::of_index(index),

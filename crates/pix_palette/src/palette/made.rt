@@ -16,11 +16,11 @@ use pix_color::gray::Gray8;
 use pix_el::el::{Pix, Pixel};
 use pix_el::rgb::{SRgb8, SRgba8};
 use pix_raster::{Raster, RasterFault};
-use pix_table::{Color, Diffusion, Matcher, TableColor, diffuse_pixels, match_pixels, table_from};
+use pix_table::{Color, Diffusion, TableColor, diffuse_pixels, match_pixels, table_from};
 use std::alloc::Global;
 
-/// The greatest number of entries of a table that is made.
-const ENTRIES: usize = 256;
+/// The greatest number of entries of a table that is made, or to which pixels are matched.
+pub(super) const ENTRIES: usize = 256;
 
 impl ColorTable {
     /// Makes a table of the colors of a raster, of at most `limit` entries: its distinct colors in order of first place, where there are no more than
@@ -211,11 +211,11 @@ fn matched(
         (map srgba_numbers pixels.now) indices.items)) }
     ensures memory { IfErr result (λ fault. fault ≡ RasterFault.Memory) }
 {
-    let Some(mut matcher) = Matcher::new(colors) else {
+    if colors.is_empty() || colors.len() > ENTRIES {
         return Ok(None);
-    };
+    }
     let mut indices = vec![in alloc; 0; pixels.len()]?;
-    match_pixels(&mut matcher, pixels, alpha, kept, &mut indices);
+    match_pixels(colors, pixels, alpha, kept, &mut indices);
     Ok(Some(indices))
 }
 
@@ -234,15 +234,15 @@ fn diffused(
         (map srgba_numbers pixels.now) indices.items)) }
     ensures memory { IfErr result (λ fault. fault ≡ RasterFault.Memory) }
 {
-    let Some(mut matcher) = Matcher::new(colors) else {
+    if colors.is_empty() || colors.len() > ENTRIES {
         return Ok(None);
-    };
+    }
     let mut indices = vec![in alloc; 0; pixels.len()]?;
     if how.width == 0 {
         return Ok(Some(indices));
     }
     let mut work = vec![in alloc; Color::default(); 4 * how.width]?;
-    diffuse_pixels(&mut matcher, colors, pixels, how, &mut work, &mut indices);
+    diffuse_pixels(colors, pixels, how, &mut work, &mut indices);
     Ok(Some(indices))
 }
 

@@ -8,13 +8,14 @@ ghost use Rattle.pix_palette.specs.ColorTable.{entries_of, IsMapped, IsLookedUp}
 ghost use Rattle.pix_raster.specs.declared.fault.RasterFault.{RasterFault};
 
 use super::index::IndexPixel;
+use super::made::ENTRIES;
 use super::slots::ColorTable;
 use pix_chan::chan::{Ch8, Gamma};
 use pix_color::gray::Gray8;
 use pix_el::el::Pixel;
 use pix_el::rgb::SRgb8;
 use pix_raster::{Raster, RasterFault};
-use pix_table::{Matcher, TableColor};
+use pix_table::{Color, NearestSearch, SearchVisitor, TableColor, visit_nearest};
 use std::alloc::Global;
 
 impl ColorTable {
@@ -49,13 +50,14 @@ impl ColorTable {
             (colors_of S.format ⟦<S::Gamma as Gamma<Ch8>>⟧.mode S.numbers raster.now.pixels))) }
         ensures memory { IfErr result (λ fault. fault ≡ RasterFault.Memory) }
     {
-        let Some(mut matcher) = Matcher::new(self.colors()) else {
+        let colors = self.colors();
+        if colors.is_empty() || colors.len() > ENTRIES {
             return Ok(None);
-        };
+        }
         match Raster::with_clear(alloc, raster.width(), raster.height()) {
             Err(_) => Err(RasterFault::Memory),
             Ok(mut image) => {
-                map_pixels(&mut matcher, raster.pixels(), image.pixels_mut());
+                map_pixels(colors, raster.pixels(), image.pixels_mut());
                 Ok(Some(image))
             }
         }
@@ -100,25 +102,54 @@ impl ColorTable {
     }
 }
 
-/// Sets the pixel of `indices` at the place of each pixel to the index of the entry that is nearest to its color.
-fn map_pixels<S, P>(matcher: &mut Matcher, pixels: &[S], indices: &mut [P])
+/// Pixels, to each of which the nearest entry of a table is looked for.
+#[derive(Drop)]
+struct Mapping<'a, S> {
+    pixels: &'a [S],
+}
+
+impl<S, P> SearchVisitor<P> for Mapping<'_, S>
 where
     S: Pixel,
     P: IndexPixel,
     Ch8: From<S::Chan>,
     S::Gamma: Gamma<Ch8>,
+{
+    ghost can_visit = { λ mapping entries count work. (count ≡ length mapping.pixels.now)
+        × (255 ≤ P.GREATEST) };
+
+    ghost visits = { λ mapping entries old new. ((k : ℕ) → k < length mapping.pixels.now
+        → IsNearest entries
+        (slice_index_or (colors_of S.format ⟦<S::Gamma as Gamma<Ch8>>⟧.mode S.numbers mapping.pixels.now)
+        k []) (slice_index (values P.numbers new) k)) × AreGray P.numbers new };
+
+    fn visit<N: NearestSearch>(&self, search: &mut N, items: &mut [P], _work: &mut [Color]) {
+        for i in 0..items.len() {
+            let clr = self.pixels[i].convert::<SRgb8>();
+            let index = search.nearest_entry(clr.color());
+            items[i] = P::of_index(usize::from(index));
+        }
+    }
+}
+
+/// Sets the pixel of `indices` at the place of each pixel to the index of the entry that is nearest to its color.
+fn map_pixels<S, P>(colors: &[SRgb8], pixels: &[S], indices: &mut [P])
+where
+    S: Pixel,
+    P: IndexPixel,
+    Ch8: From<S::Chan>,
+    S::Gamma: Gamma<Ch8>,
+    requires some { 0 < length colors.now }
+    requires few { length colors.now ≤ 256 }
     requires many { length indices.old ≡ length pixels.now }
     requires greatest { 255 ≤ P.GREATEST }
-    ensures nearest { (k : ℕ) → k < length pixels.now → IsNearest matcher.old
+    ensures nearest { (k : ℕ) → k < length pixels.now → IsNearest (map numbers colors.now)
         (slice_index_or (colors_of S.format ⟦<S::Gamma as Gamma<Ch8>>⟧.mode S.numbers pixels.now)
         k []) (slice_index (values P.numbers indices.new) k) }
     ensures gray { AreGray P.numbers indices.new }
 {
-    for i in 0..pixels.len() {
-        let clr = pixels[i].convert::<SRgb8>();
-        let index = matcher.nearest(clr.color());
-        indices[i] = P::of_index(usize::from(index));
-    }
+    let mapping = Mapping { pixels };
+    visit_nearest(colors, &mapping, indices, &mut []);
 }
 
 /// Sets each pixel to the entry of the index at its place, up to the first index that is past the end; returns whether there is none.

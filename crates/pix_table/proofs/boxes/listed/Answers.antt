@@ -1,27 +1,28 @@
--- Of `listed`: that its box is known, and the others stay so.
-use Rattle.std.proofs.Common.{◌+◌, ◌≤◌, map, length, refl, arith}
+-- Of `listed`: that the boxes are right with one list more.
+use Rattle.std.proofs.Common.{map, refl, arith, ◌∙◌}
 use Rattle.pix_table.specs.Nearest.{numbers}
-use Rattle.pix_table.proofs.Listed.{known_more, known_stays}
+use Rattle.pix_table.proofs.Listed.{boxes_more, known_as, known_stays}
 use Rattle.pix_table.proofs.boxes.listed.Goals as goal
 
-pub returns-clause-known : goal.returns-clause-known
-returns-clause-known c =
-    let boxes = c.args.boxes.now in
-    let long : c.sift-count.result ≤ length (map numbers c.args.entries.now) = omega (arith, c.sift-count.ensures.few, c.requires.placed.few) in
-    known_more (map numbers c.args.entries.now) boxes.lists c.sift-count.new.lists boxes.used (boxes.used + c.sift-count.result) c.args.place boxes.known
-    (record { start = boxes.used; count = c.sift-count.result }) (omega arith) c.sift-count.ensures.before c.requires.known
-    (λ some. (record { few = long; before = omega arith }, rw (c.low_of-low.ensures.low, c.reach_of-reach.ensures) at c.sift-count.ensures.listed))
+pub returns-then-from-le-AT_ONCE-clause-boxes : goal.returns-then-from-le-AT_ONCE-clause-boxes
+returns-then-from-le-AT_ONCE-clause-boxes c =
+    let entries = map numbers c.args.entries.now in
+    let old = c.args.boxes.now in
+    boxes_more entries old _ c.args.place c.args.from c.requires.boxes c.requires.begun refl refl c.requires.boxes.lists (omega arith) c.requires.boxes.used
+    (λ k b. refl) (known_as entries old c.args.place c.args.from c.requires.from)
 
-pub returns-then-from-le-AT_ONCE-clause-known : goal.returns-then-from-le-AT_ONCE-clause-known
-returns-then-from-le-AT_ONCE-clause-known c =
-    let boxes = c.args.boxes.now in
-    known_more (map numbers c.args.entries.now) boxes.lists boxes.lists boxes.used boxes.used c.args.place boxes.known c.args.from (omega arith) (λ k b. refl) c.requires.known
-    (λ some. (c.requires.placed, c.requires.listed))
+pub returns-then-count-from-clause-boxes : goal.returns-then-count-from-clause-boxes
+returns-then-count-from-clause-boxes c =
+    let entries = map numbers c.args.entries.now in
+    let old = c.args.boxes.now in
+    let before = c.sift-count.ensures.before in
+    boxes_more entries old _ c.args.place c.args.from c.requires.boxes c.requires.begun refl refl (c.sift-count.auto.lists ∙ c.requires.boxes.lists) (omega arith) c.requires.boxes.used before
+    (known_stays entries old.lists c.sift-count.new.lists old.used old.used c.args.place c.args.from (omega arith) before
+    (known_as entries old c.args.place c.args.from c.requires.from))
 
-pub returns-then-count-from-clause-known : goal.returns-then-count-from-clause-known
-returns-then-count-from-clause-known c =
-    let boxes = c.args.boxes.now in
-    known_more (map numbers c.args.entries.now) boxes.lists c.sift-count.new.lists boxes.used boxes.used c.args.place boxes.known c.args.from (omega arith)
-    c.sift-count.ensures.before c.requires.known
-    (known_stays (map numbers c.args.entries.now) boxes.lists c.sift-count.new.lists boxes.used boxes.used c.args.place c.args.from (omega arith) c.sift-count.ensures.before
-    (λ some. (c.requires.placed, c.requires.listed)))
+pub returns-clause-boxes : goal.returns-clause-boxes
+returns-clause-boxes c =
+    let entries = map numbers c.args.entries.now in
+    let old = c.args.boxes.now in
+    boxes_more entries old _ c.args.place _ c.requires.boxes c.requires.begun refl refl (c.sift-count.auto.lists ∙ c.requires.boxes.lists) (omega arith) (omega arith) c.sift-count.ensures.before
+    (λ some. (record { few = omega arith; before = omega arith }, rw (c.low_of-low.ensures.low, c.reach_of-reach.ensures) at c.sift-count.ensures.listed))

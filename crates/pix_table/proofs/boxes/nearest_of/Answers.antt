@@ -2,10 +2,11 @@
 use Rattle.std.proofs.Common.{arith, map}
 use Rattle.pix_table.specs.Nearest.{numbers}
 use Rattle.pix_table.specs.declared.boxes.Known.{Known}
+use Rattle.pix_table.proofs.Listed.{list_of}
 use Rattle.pix_table.proofs.boxes.nearest_of.Goals as goal
 
-pub returns-then-known-gt0-clause-nearest : goal.returns-then-known-gt0-clause-nearest
-returns-then-known-gt0-clause-nearest c =
+pub returns-then-known-lt-LONG-clause-nearest : goal.returns-then-known-lt-LONG-clause-nearest
+returns-then-known-lt-LONG-clause-nearest c =
     let d : Known = record { start = 0; count = 0 } in
-    c.nearest_listed.ensures (map numbers c.args.entries.now) c.requires.words
-    ((c.requires.known c.place_of.result d (omega arith) c.if-known-gt0.true).1 (numbers c.args.clr) c.place_of.ensures.inside)
+    let list = list_of (map numbers c.args.entries.now) c.args.boxes.now c.place_of.result d c.requires.boxes (omega arith) (omega arith) in
+    c.nearest_listed.ensures (map numbers c.args.entries.now) c.requires.words (list.listed (numbers c.args.clr) c.place_of.ensures.inside)

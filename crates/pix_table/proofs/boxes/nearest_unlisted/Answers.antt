@@ -1,8 +1,14 @@
--- Of `nearest_unlisted`: that the list which is made is enough for the color.
-use Rattle.std.proofs.Common.{map}
+-- Of `nearest_unlisted`: that nothing but the credit has changed at first, and that the list which is made is enough for the color.
+use Rattle.std.proofs.Common.{map, refl}
 use Rattle.pix_table.specs.Nearest.{numbers}
+use Rattle.pix_table.proofs.Listed.{boxes_same}
 use Rattle.pix_table.proofs.boxes.nearest_unlisted.Goals as goal
 
-pub returns-clause-nearest : goal.returns-clause-nearest
-returns-clause-nearest c =
-    c.nearest_listed.ensures (map numbers c.args.entries.now) c.requires.words (c.add-known.ensures.listed (numbers c.args.clr) c.place_of.ensures.inside)
+pub small_listed-requires-clause-boxes : goal.small_listed-requires-clause-boxes
+small_listed-requires-clause-boxes c =
+    boxes_same (map numbers c.args.entries.now) c.args.boxes.now _ (record { known = refl; lists = refl; used = refl; first = refl }) c.requires.boxes
+
+pub returns-in-Some-clause-nearest : goal.returns-in-Some-clause-nearest
+returns-in-Some-clause-nearest c =
+    c.nearest_from.ensures (map numbers c.args.entries.now) c.requires.lanes c.requires.words
+    (c.in-Some.ensures.listed.listed (numbers c.args.clr) c.place_of-place.ensures.inside)

@@ -15,7 +15,7 @@ bounds-entries-at c =
       arith,
       c.from-at.ensures,
       length-map c.args.entries.now numbers,
-      (c.nearest_listed.ensures (map numbers c.args.entries.now) c.requires.words (c.requires.listed (numbers c.middle.result) c.middle.ensures)).stands,
+      (c.nearest_from.ensures (map numbers c.args.entries.now) c.requires.lanes c.requires.words (c.requires.listed (numbers c.middle.result) c.middle.ensures)).stands,
     )
 
 pub loop-p-init : goal.loop-p-init
@@ -46,7 +46,7 @@ loop-p-preserved c =
           let more : count + 1 ≤ c.loop-p.p + 1 = omega arith in
           rw (w.count-is) (record { sifted = new; few = more; before = before })
       | else-not-is_nearer w ↦
-          let stands : c.from-at.result < length c.args.entries.now = omega (arith, (c.nearest_listed.ensures (map numbers c.args.entries.now) c.requires.words (c.requires.listed (numbers c.middle.result) c.middle.ensures)).stands, length-map c.args.entries.now numbers) in
+          let stands : c.from-at.result < length c.args.entries.now = omega (arith, (c.nearest_from.ensures (map numbers c.args.entries.now) c.requires.lanes c.requires.words (c.requires.listed (numbers c.middle.result) c.middle.ensures)).stands, length-map c.args.entries.now numbers) in
           let there : c.from-in-loop-p.result < length c.args.entries.now = omega (arith, c.from-in-loop-p.ensures, is, inside, length-map c.args.entries.now numbers) in
           let far : IsFarther entries c.args.reach (numbers c.args.low) near c.from-in-loop-p.result =
           (λ color inside. omega (
@@ -70,7 +70,8 @@ returns-clause-listed c =
     let from : ℕ → ℕ = (λ q. get_or c.args.lists.now (c.args.from.start + q) 0) in
     let end : c.loop-p.p ≡ c.args.from.count = omega arith in
     all_sifted (map numbers c.args.entries.now) c.args.reach (numbers c.args.low) c.from-at.result from c.loop-p.p (λ q. get_or c.loop-p.lists (c.args.start + q) 0) c.loop-p.count
-    (omega (arith, length-map c.args.entries.now numbers, (c.nearest_listed.ensures (map numbers c.args.entries.now) c.requires.words (c.requires.listed (numbers c.middle.result) c.middle.ensures)).stands)) (rw (end) c.requires.listed) c.loop-p.invariant.sifted
+    (omega (arith, length-map c.args.entries.now numbers, (c.nearest_from.ensures (map numbers c.args.entries.now) c.requires.lanes c.requires.words (c.requires.listed (numbers c.middle.result) c.middle.ensures)).stands))
+    (omega (arith, length-map c.args.entries.now numbers)) (rw (end) c.requires.listed) c.loop-p.invariant.sifted
 
 pub returns-clause-some : goal.returns-clause-some
 returns-clause-some c = (returns-clause-listed c (numbers c.middle.result) c.middle.ensures).some

@@ -11,11 +11,12 @@ use Rattle.pix_table.proofs.diffuse.diffuse_all.Goals as goal
 use Rattle.pix_table.proofs.diffuse.diffuse_all.Goals.{then-clear, else-clear}
 
 pub loop-k-init : goal.loop-k-init
-loop-k-init g c = record { done = none_done _ _ _ _ _ _ _ _; same = refl; column = sym (zero-mod c.args.how.width) }
+loop-k-init g c = record { done = none_done _ _ _ _ _ _ _ _; same = c.requires.entries; column = sym (zero-mod c.args.how.width) }
 
 pub loop-k-preserved : goal.loop-k-preserved
 loop-k-preserved g c =
     let k : ℕ = c.loop-k.k in
+    let entries = map g.C.TableColor.channels c.args.entries.now in
     let black : Color = record { red = 0; green = 0; blue = 0 } in
     let pixel : g.P.TablePixel.values c.index-pixels-k.result ≡ get_or (map g.P.TablePixel.values c.args.pixels.now) c.loop-k.k [] =
     ap g.P.TablePixel.values c.index-pixels-k.is
@@ -37,25 +38,25 @@ loop-k-preserved g c =
                 (clear_done _ _ _ _ _ _ _ _ _ _ _ _ _ c.requires.row long_wanted long_found c.loop-k.invariant.done around above_right black refl
                 (subst (λ m. IsMiss true (numbers black) (numbers black) m) (sym w.left-is) c.missed-none.ensures)
                 (subst (λ v. alpha_of v < c.args.how.alpha) pixel below));
-            same = w.matcher-is ∙ c.loop-k.invariant.same;
+            same = subst (λ m. g.N.NearestSearch.finds m entries) (sym w.search-is) c.loop-k.invariant.same;
             column = column;
           }
       | else-clear w ↦
           let p : Color = w.wanted_at-color.result in
-          let i : ℕ = w.nearest-index.result in
+          let i : ℕ = w.nearest_entry-index.result in
           let q : Color = w.color-entry.result in
           let e = w.index-entries-from.result in
           let again : g.P.TablePixel.values w.index-pixels-k-else-clear.result ≡ get_or (map g.P.TablePixel.values c.args.pixels.now) c.loop-k.k [] =
           ap g.P.TablePixel.values w.index-pixels-k-else-clear.is
           ∙ sym (get_or-map g.P.TablePixel.values c.args.pixels.now c.loop-k.k w.index-pixels-k-else-clear.result [] c.loop-k-test.true) in
           let above : c.args.how.alpha ≤ alpha_of (g.P.TablePixel.values c.index-pixels-k.result) = omega (arith, c.alpha.ensures, w.if-clear.false) in
-          let nearest : IsNearest c.args.matcher.now (numbers w.wanted_at-color.result) w.nearest-index.result =
-          subst (λ m. IsNearest m (numbers w.wanted_at-color.result) w.nearest-index.result) c.loop-k.invariant.same w.nearest-index.ensures.nearest in
-          let inside : w.nearest-index.result < length c.args.entries.now =
-          omega (arith, nearest.stands, ap length c.requires.entries, length-map c.args.entries.now g.C.TableColor.channels) in
-          let entry : numbers w.color-entry.result ≡ get_or c.args.matcher.now w.nearest-index.result [] =
+          let nearest : IsNearest entries (numbers w.wanted_at-color.result) w.nearest_entry-index.result =
+          w.nearest_entry-index.ensures.nearest entries c.loop-k.invariant.same in
+          let inside : w.nearest_entry-index.result < length c.args.entries.now =
+          omega (arith, nearest.stands, length-map c.args.entries.now g.C.TableColor.channels) in
+          let entry : numbers w.color-entry.result ≡ get_or entries w.nearest_entry-index.result [] =
           w.color-entry.ensures ∙ ap g.C.TableColor.channels w.index-entries-from.is ∙ ap (λ j. g.C.TableColor.channels (get_or c.args.entries.now j e)) w.from.ensures
-          ∙ sym (ap (λ m. get_or m w.nearest-index.result []) c.requires.entries ∙ get_or-map g.C.TableColor.channels c.args.entries.now w.nearest-index.result e [] inside) in
+          ∙ sym (get_or-map g.C.TableColor.channels c.args.entries.now w.nearest_entry-index.result e [] inside) in
           record {
             done = alike _ _ _ _ _ _ _ _ _ _ _ _ _
                 (w.wanted-is ∙ ap (λ m. set c.loop-k.wanted m p) c.loop-k.invariant.column)
@@ -65,7 +66,7 @@ loop-k-preserved g c =
                 (λ ws gs _ _ a b. w.wanted_at-color.ensures ws gs c.args.how.width c.loop-k.k a b ∙ ap (wanted_at c.args.how.width ws gs c.loop-k.k) again)
                 (subst (λ v. c.args.how.alpha ≤ alpha_of v) pixel above) nearest entry
                 (subst (λ m. IsMiss true (numbers p) (numbers q) m) (sym w.left-is) w.missed-left.ensures));
-            same = w.matcher-is ∙ w.nearest-index.ensures.same ∙ c.loop-k.invariant.same;
+            same = subst (λ m. g.N.NearestSearch.finds m entries) (sym w.search-is) (w.nearest_entry-index.ensures.same entries c.loop-k.invariant.same);
             column = column;
           }
     ]

@@ -1,10 +1,10 @@
--- Of `set_pixels`: the clause `stopped`, and that the invariant of its loop over `i` stays.
+-- Of `set_pixels`: the clause `stopped`, and that the invariant of its loop over `i` holds at first and stays.
 use Rattle.std.specs.Prelude.{IfSome}
 use Rattle.std.proofs.Common.{◌≡◌, ℕ, ◌+◌, ◌<◌, List, [], ◌∷◌, ◌++◌, length, map, take, get_or, Some, Option, None, refl, sym, ap, ◌∙◌, subst, arith, length-append}
 use Rattle.std.proofs.lemmas.List.{length-map, get_or-map}
 use Rattle.pix_table.specs.Nearest.{numbers}
 use Rattle.pix_table.specs.declared.color.Color.{Color}
-use Rattle.pix_table.proofs.IndexingSets.{one_set, stopped, take_snoc, take_written}
+use Rattle.pix_table.proofs.IndexingSets.{none_set, one_set, stopped, take_snoc, take_written}
 use Rattle.pix_table.proofs.index.set_pixels.Goals as goal
 
 -- the color at a place, as its numbers
@@ -30,6 +30,19 @@ returns-in_default-2-clause-stopped c = λ _.
     stopped _ _ _ _ _ c.loop-i.i _ _ _ _ c.loop-i.invariant.set (omega (arith, length-map c.args.pixels.now numbers))
     (at_place c.args.pixels.now c.loop-i.i (record { red = 0; green = 0; blue = 0 }) c.loop-i-test.true)
     (get_or c.args.pixels.now c.loop-i.i (record { red = 0; green = 0; blue = 0 }), c.set_kept-answer.result.0, refl, s, none_above _ c.in_default.is)
+
+pub loop-i-init : goal.loop-i-init
+loop-i-init c = record {
+  all = [];
+  many = refl;
+  set = none_set _ _ _ _ _ _;
+  written = λ w. refl;
+  unwritten = λ w. refl;
+  long = refl;
+  right = c.new-beside.ensures _ _;
+  within = c.requires.within;
+  room = refl;
+}
 
 pub loop-i-preserved : goal.loop-i-preserved
 loop-i-preserved c =

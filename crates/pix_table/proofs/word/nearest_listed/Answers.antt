@@ -38,5 +38,5 @@ returns c = λ entries h enough.
     let s = c.args.known.start in
     let n = (c.args.known.count + 3) / 4 * 4 in
     let bytes : (i : ℕ) → get_or c.args.lists.now i 0 < 256 = (λ i. omega (arith, c.type_inv.lists i)) in
-    nearest_of_keys entries (numbers c.args.clr) (listed entries (numbers c.args.clr) ws ls s n h bytes) n (4 * c.loop-q.q) c.loop-q.least (omega arith)
+    nearest_of_keys entries (numbers c.args.clr) (listed entries (numbers c.args.clr) ws ls s n h bytes) n (4 * c.loop-q.q) c.loop-q.least h.few (omega arith)
     (enough_words entries (numbers c.args.clr) ws ls s n h bytes c.args.known.count (omega arith) enough) (λ p. omega arith) (c.loop-q.invariant entries h)

@@ -2,13 +2,12 @@
 use Rattle.std.specs.Prelude.{IfSome}
 use Rattle.std.proofs.Common.{◌≡◌, ◌<◌, Some, refl, ◌∙◌, arith, rules}
 use Rattle.pix_palette.specs.Indexing.{values}
-use Rattle.pix_table.proofs.KeptColors.{none_right}
 use Rattle.pix_table.proofs.IndexingSets.{none_set, one_set, stopped, before_less}
 use Rattle.pix_palette.proofs.IndexingSets.{color_at, value_more, many_colors, gray_more}
 use Rattle.pix_palette.proofs.palette.lent.index_in.Goals as goal
 
 pub loop-i-init : goal.loop-i-init
-loop-i-init g c = record { set = none_set _ _ _ _ _ _; gray = refl; right = none_right _ _ _ c.new-cache.ensures; near = c.color-near.ensures; within = c.requires.within; more = omega arith; room = refl; before = refl }
+loop-i-init g c = record { set = none_set _ _ _ _ _ _; gray = refl; right = c.new-beside.ensures _ _; near = c.color-near.ensures; within = c.requires.within; more = omega arith; room = refl; before = refl }
 
 pub returns-in_default-clause-indexed : goal.returns-in_default-clause-indexed
 returns-in_default-clause-indexed g c =

@@ -13,4 +13,4 @@ returns-in-Ok-clause-mapped g c =
     let wide : made.width ≡ c.args.raster.now.width = c.in-Ok.ensures.ok.0 ∙ c.width.ensures.value in
     let high : made.height ≡ c.args.raster.now.height = c.in-Ok.ensures.ok.1 ∙ c.height.ensures.value in
     rw (refilled made.pixels indices long) (mapped _ _ _ _ _ _ _ _ (record { width = made.width; height = made.height; pixels = indices }) wide high
-    c.pixels.ensures.pixels (c.in-Some.ensures ∙ ap (map numbers) c.colors.ensures) c.map_pixels.ensures.gray c.map_pixels.ensures.nearest)
+    c.pixels.ensures.pixels (ap (map numbers) c.colors-colors.ensures) c.map_pixels.ensures.gray c.map_pixels.ensures.nearest)

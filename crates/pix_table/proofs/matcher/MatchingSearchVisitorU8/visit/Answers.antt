@@ -1,0 +1,31 @@
+-- Of `visit` of `Matching`: that the invariant of its loop over `i` holds after each turn, and that all pixels are matched.
+use Rattle.std.proofs.Common.{◌≡◌, [], map, get_or, sym, subst, arith}
+use Rattle.std.proofs.lemmas.List.{length-map, get_or-map}
+use Rattle.pix_table.specs.Nearest.{IsMatched}
+use Rattle.pix_table.proofs.Writes.{set_more}
+use Rattle.pix_table.proofs.matcher.MatchingSearchVisitorU8.visit.Goals as goal
+
+pub loop-i-preserved : goal.loop-i-preserved
+loop-i-preserved g c =
+    let m = c.args.self.now in
+    let values = g.P.TablePixel.values in
+    let pixels = c.args.self.now.pixels.now in
+    let item = c.index-self-i.result in
+    let pixel : values (get_or pixels c.loop-i.i item) ≡ get_or (map values pixels) c.loop-i.i [] =
+    sym (get_or-map values pixels c.loop-i.i item [] (omega (arith, c.requires.2))) in
+    record {
+      matched = λ entries finds.
+          set_more (λ k i. IsMatched entries m.alpha m.kept (get_or (map values pixels) k []) i) c.loop-i.items c.loop-i.i c.matched.result (omega arith)
+          (c.loop-i.invariant.matched entries finds)
+          (subst (λ p. IsMatched entries m.alpha m.kept p c.matched.result) pixel (c.matched.ensures.matched entries (c.loop-i.invariant.same entries finds)));
+      same = λ entries finds. c.matched.ensures.same entries (c.loop-i.invariant.same entries finds);
+    }
+
+pub returns : goal.returns
+returns g c = λ entries finds.
+    let values = g.P.TablePixel.values in
+    let pixels = c.args.self.now.pixels.now in
+    record {
+      many = omega (arith, c.requires.2, length-map pixels values);
+      each = λ k below. c.loop-i.invariant.matched entries finds k (omega (arith, c.requires.2, length-map pixels values));
+    }

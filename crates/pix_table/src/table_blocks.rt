@@ -1,0 +1,112 @@
+//! Blocks of the entries of a small table, by which the match of a color is found.
+ghost use Rattle.std.specs.Prelude.{◌≡◌, ◌≤◌, ◌<◌, ◌+◌, ◌*◌, ℕ, List, length, map};
+ghost use Rattle.pix_table.specs.Nearest.{numbers};
+ghost use Rattle.pix_table.specs.ColorBlocks.{IsBlock};
+ghost use Rattle.pix_table.specs.Setting.{Always, StandsFor};
+ghost use Rattle.pix_table.specs.Kept.{AreRight};
+ghost use Rattle.pix_table.specs.TableBlocks.{HasBlocks, IsBeside};
+
+use crate::block_spans::BlockSpans;
+use crate::chosen::ENTRIES;
+use crate::color::{Color, TableColor};
+use crate::color_block::{ColorBlock, SIZE};
+use crate::in_blocks::standing_in;
+use crate::kept::Cache;
+use crate::threshold::standing;
+
+/// How many entries there are at least where blocks save more time than they take.
+const MANY: usize = 64;
+
+/// How many blocks there are at most.
+const BLOCKS: usize = 16;
+
+/// Blocks of the first entries of a table, as far as it has no more than 256, and the spans of those blocks.
+#[derive(Drop)]
+pub struct TableBlocks {
+    pub(crate) spans: [BlockSpans; 1],
+    pub(crate) blocks: [ColorBlock; BLOCKS],
+    pub(crate) len: usize,
+}
+
+/// What is kept beside a table while colors are set in it: colors with the entries that stand for them, and blocks of the entries.
+#[derive(Drop)]
+pub struct Beside {
+    pub(crate) cache: Cache,
+    pub(crate) blocks: TableBlocks,
+}
+
+impl TableBlocks {
+    /// Makes no block.
+    fn new() -> TableBlocks
+        ensures { (entries : List (List ℕ)) → HasBlocks entries result }
+    {
+        TableBlocks {
+            spans: [BlockSpans::new()],
+            blocks: [ColorBlock::black(); BLOCKS],
+            len: 0,
+        }
+    }
+
+    /// Adds the next block.
+    fn add(&mut self, block: ColorBlock)
+        requires { self.old.len < 16 }
+        ensures added { (entries : List (List ℕ)) → HasBlocks entries self.old
+            → IsBlock entries (16 * self.old.len) block → HasBlocks entries self.new }
+        ensures len { self.new.len ≡ self.old.len + 1 }
+    {
+        let mut spans = self.spans[0];
+        spans.set(self.len, &block);
+        self.spans[0] = spans;
+        self.blocks[self.len] = block;
+        self.len += 1;
+    }
+
+    /// Adds blocks of the entries that came after those of which it has some.
+    fn follow<C: TableColor>(&mut self, colors: &[C])
+        requires few { length colors.now ≤ 256 }
+        requires has { HasBlocks (map C.channels colors.now) self.old }
+        ensures { HasBlocks (map C.channels colors.now) self.new }
+    {
+        for k in self.len..colors.len() / SIZE {
+            self.add(ColorBlock::new(colors, SIZE * k));
+        }
+    }
+
+    /// Returns the entry that stands for a color, as [`standing`] does.
+    pub(crate) fn standing<C: TableColor>(
+        &mut self,
+        colors: &[C],
+        clr: Color,
+        threshold: Color,
+    ) -> Option<usize>
+        requires { HasBlocks (map C.channels colors.now) self.old }
+        ensures standing { StandsFor (Always (numbers threshold)) (map C.channels colors.now)
+            (numbers clr) result }
+        ensures has { HasBlocks (map C.channels colors.now) self.new }
+    {
+        if colors.len() < MANY || colors.len() > ENTRIES {
+            return standing(colors, clr, threshold);
+        }
+        self.follow(colors);
+        standing_in(
+            &self.spans,
+            &self.blocks[..self.len],
+            colors,
+            clr,
+            threshold,
+        )
+    }
+}
+
+impl Beside {
+    /// Makes what is kept beside a table, of which nothing is known yet.
+    pub fn new() -> Beside
+        ensures { (threshold : List ℕ) (entries : List (List ℕ))
+            → IsBeside threshold entries result }
+    {
+        Beside {
+            cache: Cache::new(),
+            blocks: TableBlocks::new(),
+        }
+    }
+}
