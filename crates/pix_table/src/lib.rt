@@ -4,6 +4,7 @@
 #![tactic(auto)]
 
 mod block_spans;
+mod box_place;
 mod boxes;
 mod chosen;
 mod color;

@@ -4,7 +4,7 @@ use Rattle.std.proofs.lemmas.Bool.{ltb-true}
 use Rattle.pix_table.specs.Nearest.{numbers}
 use Rattle.pix_table.specs.declared.color.Color.{Color}
 use Rattle.pix_table.proofs.Corners.{nearer_inside}
-use Rattle.pix_table.proofs.boxes.is_nearer.Goals as goal
+use Rattle.pix_table.proofs.box_place.is_nearer.Goals as goal
 
 pub returns : goal.returns
 returns c = λ yes color inside.
