@@ -12,9 +12,10 @@ import time
 import types
 import typing
 import unittest
+from contextlib import contextmanager
 
 import pix
-from pix import _memory
+from pix._turns import turns
 
 try:
     import numpy
@@ -344,6 +345,21 @@ class Borders(unittest.TestCase):
                 self.assertIn("return", typing.get_type_hints(item.__init__), item)
 
 
+@contextmanager
+def another_call(written, read):
+    """Lets another thread be in a long call that writes and reads this memory."""
+    begun, go = threading.Event(), threading.Event()
+    call = lambda: (begun.set(), go.wait())
+    thread = threading.Thread(target=turns.take, args=(True, call, (), written, read))
+    thread.start()
+    begun.wait()
+    try:
+        yield
+    finally:
+        go.set()
+        thread.join()
+
+
 class Threads(unittest.TestCase):
     def long_list(self, image):
         """Returns a list that runs for a fifth of a second at least, by the shortest of five runs, since a busy machine halts some."""
@@ -386,7 +402,7 @@ class Threads(unittest.TestCase):
         for thread in threads:
             thread.start()
         while len(done) < len(images):
-            most = max(most, len(_memory.calls.running))
+            most = max(most, len(turns.running))
         for thread in threads:
             thread.join()
         return most
@@ -418,28 +434,40 @@ class Threads(unittest.TestCase):
 
     def test_one_waits_for_what_another_writes(self):
         image, source = pix.Image.new(4, 4), pix.Image.new(4, 4)
-        for written, read in ((image, []), (source, []), (pix.Image.new(1, 1), [image._rows.memory])):
+        painted, read = image._rows.memory, source._rows.memory
+        for others in (([painted], []), ([read], []), ([], [painted])):
             done = threading.Event()
             thread = threading.Thread(target=lambda: (image.run(pix.copy_image(WHOLE, source)), done.set()))
-            with _memory.calls.turn(written._rows.memory, read):
+            with another_call(*others):
                 thread.start()
                 self.assertFalse(done.wait(0.05))
             self.assertTrue(done.wait(10))
             thread.join()
-        self.assertEqual(_memory.calls.running, [])
-        with _memory.calls.turn(image._rows.memory, []):
-            self.assertRaises(RuntimeError, image.run)
-        image.run()
+        self.assertFalse(turns.running)
+        with another_call([], [read]):
+            image.run(pix.copy_image(WHOLE, source))
+
+    def test_one_that_begins_inside_another_runs_at_once(self):
+        # As in the handler of a signal, which comes before or after what the library does.
+        image = pix.Image.new(4, 4)
+        inner = lambda: image.run(pix.copy_color(WHOLE, COLOR)) or 0
+        for is_long in (False, True):
+            turns.take(is_long, inner, (), [image._rows.memory], [])
+        self.assertEqual(set(image.pixels), {9})
+        self.assertFalse(turns.running)
 
     def test_an_interrupt_leaves_no_turn(self):
-        with self.assertRaises(KeyboardInterrupt), _memory.calls.turn(pix.Image.new(1, 1)._rows.memory, []):
+        def interrupted():
             raise KeyboardInterrupt
-        self.assertEqual(_memory.calls.running, [])
+
+        for is_long in (False, True):
+            self.assertRaises(KeyboardInterrupt, turns.take, is_long, interrupted, (), [pix.Image.new(1, 1)._rows.memory], [])
+        self.assertFalse(turns.running)
 
     @unittest.skipIf(not hasattr(os, "fork"), "no fork")
     def test_a_child_process_has_no_turns(self):
         image = pix.Image.new(4, 4)
-        with _memory.calls.turn(image._rows.memory, []):
+        with another_call([image._rows.memory], []):
             child = os.fork()
             if child == 0:
                 image.run(pix.clear())
@@ -457,7 +485,7 @@ class Threads(unittest.TestCase):
         for thread in threads:
             thread.join()
         self.assertEqual(set(image.pixels[::4]), {24})
-        self.assertEqual(_memory.calls.running, [])
+        self.assertFalse(turns.running)
 
 
 class Paintings(unittest.TestCase):

@@ -4,12 +4,19 @@ from __future__ import annotations
 
 import ctypes
 import importlib
-from typing import Any, Optional, Tuple
+from typing import TYPE_CHECKING, Any, Optional, SupportsIndex, Tuple
 
-from pix._library import LONG, libraries
-from pix._memory import Memory, calls
+from pix._calls import Call, Copy
+from pix._memory import Memory
 from pix._values import Format, PixError, Status, u32
-from pix._views import Rows
+
+if TYPE_CHECKING:
+    from pix._views import Rows
+
+_convert_rows = Call("pix_convert_rows")
+
+# The greatest width and height of a picture.
+_MOST = 2**31 - 1
 
 # What Pillow calls the formats that it has: sRGB and not premultiplied.
 MODES = {"RGBA": Format.SRGBA8, "RGB": Format.SRGB8, "L": Format.SGRAY8, "LA": Format.SGRAYA8}
@@ -22,17 +29,20 @@ class Bitmap:
     are bytes, or words of 16 bits where the format has 16 bits.
     """
 
-    def __init__(self, buffer: Any, format: Format, width: Optional[int] = None, height: Optional[int] = None) -> None:
+    def __init__(
+        self, buffer: Any, format: Format, width: Optional[SupportsIndex] = None, height: Optional[SupportsIndex] = None
+    ) -> None:  # fmt: skip
         self.format = Format(format)
+        given = None if width is None or height is None else (u32(width, "width"), u32(height, "height"))
         memory = Memory(buffer, self.format.bits == 16, turned=True)
         shape, size = memory.shape, self.format.size
-        if width is None or height is None:
+        if given is None:
             wide = memory.row
             count = shape[1] * shape[2] if len(shape) > 2 else 0
             if len(shape) < 2 or wide % size or (count and wide // count * shape[2] != size):
                 raise TypeError(f"a buffer of shape {shape} has no rows of {self.format.name}: pass width and height")
-            width, height = wide // size, shape[0]
-        self.width, self.height = u32(width, "width"), u32(height, "height")
+            given = u32(wide // size, "width"), u32(shape[0], "height")
+        self.width, self.height = given
         if memory.step != memory.row or len(shape) > 1:
             if (memory.rows, memory.row) != (self.height, self.width * size):
                 raise ValueError(f"{memory.rows} rows of {memory.row} bytes are not {self.height} of {self.width * size}")
@@ -49,6 +59,25 @@ class Bitmap:
         it.stride = rows.stride * format.size
         return it
 
+    @property
+    def pixels(self) -> int:
+        """How many pixels it has."""
+        return self.width * self.height
+
+    @property
+    def is_held(self) -> bool:
+        """Whether its memory holds the rows, and they share no byte."""
+        wide, apart = self.width * self.format.size, abs(self.stride)
+        if self.width > _MOST or self.height > _MOST or wide > apart:
+            return False
+        room = self.memory.length - wide
+        return self.height == 0 or room >= 0 and apart * (self.height - 1) <= room
+
+    def refuse_unheld(self, status: Status) -> None:
+        """Raises a PixError where its memory doesn't hold it; before any other memory is made."""
+        if not self.is_held:
+            raise PixError(status)
+
 
 def write(target: Bitmap, source: Bitmap) -> None:
     """Writes each pixel of a bitmap from that of another at its point, in its format."""
@@ -58,14 +87,13 @@ def write(target: Bitmap, source: Bitmap) -> None:
         raise TypeError("the buffer is read-only")
     if not target.memory.is_apart(source.memory):
         raise ValueError("the two buffers share memory")
-    with calls.turn(target.memory, [source.memory]):
-        call = libraries[target.width * target.height > LONG].pix_convert_rows
-        status = call(
-            source.format, target.format, source.memory.address, source.memory.length, target.memory.address,
-            target.memory.length, source.stride, target.stride, target.width, target.height,
+    target.refuse_unheld(Status.BAD_SIZE)
+    source.refuse_unheld(Status.BAD_SOURCE)
+    if target.pixels:
+        _convert_rows(
+            target.pixels, source.format, target.format, source.memory, target.memory, source.stride, target.stride,
+            target.width, target.height,
         )  # fmt: skip
-    if status:
-        raise PixError(Status(status))
 
 
 def write_in_place(image: Bitmap, to: Format) -> None:
@@ -74,21 +102,33 @@ def write_in_place(image: Bitmap, to: Format) -> None:
         raise PixError(Status.BAD_FORMAT)
     if image.memory.is_readonly and image.memory.length:
         raise TypeError("the buffer is read-only")
+    image.refuse_unheld(Status.BAD_SIZE)
     memory = image.memory
-    copy = ctypes.create_string_buffer(memory.length or 1)
-    with calls.turn(memory, []):
-        ctypes.memmove(copy, memory.address, memory.length)
-        call = libraries[image.width * image.height > LONG].pix_convert_rows
-        status = call(
-            image.format, to, ctypes.addressof(copy), memory.length, memory.address, memory.length, image.stride,
-            image.stride, image.width, image.height,
+    if image.pixels:
+        copy = Copy(memory, (ctypes.c_ubyte * memory.length)(), memory.length)
+        _convert_rows(
+            image.pixels, image.format, to, copy, memory, image.stride, image.stride, image.width, image.height
         )  # fmt: skip
-    if status:
-        raise PixError(Status(status))
+
+
+# The formats that a copy of a view's elements goes through, unchanged: by their bytes, and whether they are pixels.
+_SAME = {
+    (4, True): Format.RGBA8, (8, True): Format.RGBA16, (2, True): Format.GRAYA8, (1, False): Format.GRAY8,
+    (2, False): Format.GRAY16,
+}  # fmt: skip
+
+
+def copy_of(rows: Rows) -> bytearray:
+    """A copy of rows, without what lies between them. Raises PixError where their memory is too short."""
+    source = Bitmap.of_rows(rows, _SAME[ctypes.sizeof(rows.element), rows.type is not None])
+    source.refuse_unheld(Status.BAD_SIZE)
+    copy = bytearray(source.pixels * source.format.size)
+    write(Bitmap(copy, source.format, source.width, source.height), source)
+    return copy
 
 
 def convert_bitmap(
-    from_: Format, src: Any, to: Format, dst: Any = None, size: Optional[Tuple[int, int]] = None
+    from_: Format, src: Any, to: Format, dst: Any = None, size: Optional[Tuple[SupportsIndex, SupportsIndex]] = None
 ) -> Any:
     """Converts the picture in the buffer `src` to the format of `dst`, and returns `dst`.
 
@@ -99,14 +139,17 @@ def convert_bitmap(
     Between sRGB formats of 8 bits and linear ones of 16 bits a pixel goes through light, so that it comes back as it was
     where its alpha is 0 with all of its colors, or 13 or more; all others are converted as by convert().
     """
-    width, height = size if size is not None else (None, None)
+    from_, to = Format(from_), Format(to)
+    width, height = (None, None) if size is None else size
     if dst is src and src is not None:
-        write_in_place(Bitmap(src, from_, width, height), Format(to))
+        write_in_place(Bitmap(src, from_, width, height), to)
         return src
     source = Bitmap(src, from_, width, height)
-    if dst is None:
-        dst = bytearray(source.width * source.height * Format(to).size)
+    if size is not None or dst is None:
         width, height = source.width, source.height
+    if dst is None:
+        source.refuse_unheld(Status.BAD_SOURCE)
+        dst = bytearray(source.pixels * to.size)
     write(Bitmap(dst, to, width, height), source)
     return dst
 

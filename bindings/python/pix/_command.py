@@ -2,10 +2,10 @@
 
 from __future__ import annotations
 
-from operator import index
 from typing import Any, Iterable, List, Optional, SupportsIndex, Tuple
 
 from pix._memory import NOWHERE, Memory
+from pix._numbers import index
 from pix._pixels import PixelType, RegionRecord
 from pix._values import Op, Region, region_of, u32
 from pix._views import Rows, View

@@ -4,9 +4,11 @@ from __future__ import annotations
 
 from typing import Any, TypeVar, overload
 
-from pix._library import LONG, libraries
-from pix._memory import Buffer, Memory, calls
+from pix._calls import Call
+from pix._memory import Buffer, Memory
 from pix._values import Format, PixError, Status
+
+_convert = Call("pix_convert_bytes")
 
 Target = TypeVar("Target", bound=Buffer)
 
@@ -30,6 +32,8 @@ def convert(from_: Format, src: Any, to: Format, dst: Any = None) -> Any:
     from_, to = Format(from_), Format(to)
     source = Memory(src)
     count = source.length // from_.size
+    if source.length != count * from_.size:
+        raise PixError(Status.BAD_LENGTH)
     if dst is None:
         dst = bytearray(count * to.size)
     target = Memory(dst)
@@ -39,11 +43,7 @@ def convert(from_: Format, src: Any, to: Format, dst: Any = None) -> Any:
         raise TypeError("the buffer is read-only")
     if not target.is_apart(source):
         raise ValueError("the two buffers share memory")
-    if source.length != count * from_.size or target.length != count * to.size:
+    if target.length != count * to.size:
         raise PixError(Status.BAD_LENGTH)
-    with calls.turn(target, [source]):
-        call = libraries[count > LONG].pix_convert_bytes
-        status = call(from_, to, source.address, source.length, target.address, target.length, count)
-    if status:
-        raise PixError(Status(status))
+    _convert(count, from_, to, source, target, count)
     return dst

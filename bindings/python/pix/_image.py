@@ -4,15 +4,16 @@ from __future__ import annotations
 
 import ctypes
 from array import array
-from operator import index
 from typing import Any, Iterable, Optional, SupportsIndex, Tuple, Union
 
 from pix._bitmap import MODES, Bitmap, new_array, write
 from pix._command import Command
 from pix._library import LONG
 from pix._list import CommandList, Listed
-from pix._memory import Buffer, calls
+from pix._memory import Buffer
+from pix._numbers import index
 from pix._pixels import RGBA8, RGBA16, PixelType, kind_of
+from pix._turns import turns
 from pix._values import Format, PixError, Status, origin_of, u32
 from pix._views import View, rows_of
 
@@ -54,6 +55,7 @@ class Image(View):
         """
         width, height = (None, None) if size is None else size
         source = Bitmap(array, format, width, height)
+        source.refuse_unheld(Status.BAD_SOURCE)
         image = cls.new(source.width, source.height, type)
         write(image._bitmap(), source)
         return image
@@ -61,8 +63,10 @@ class Image(View):
     def to_array(self, format: Format) -> Any:
         """The picture in a format: a new numpy array of (height, width, samples), or (height, width) where a pixel has one
         sample; a bytearray where numpy is missing."""
-        array = new_array(self.width, self.height, Format(format))
-        write(Bitmap(array, format, self.width, self.height), self._bitmap())
+        source, format = self._bitmap(), Format(format)
+        source.refuse_unheld(Status.BAD_SOURCE)
+        array = new_array(source.width, source.height, format)
+        write(Bitmap(array, format, source.width, source.height), source)
         return array
 
     @classmethod
@@ -89,7 +93,8 @@ class Image(View):
 
     def _bitmap(self) -> Bitmap:
         """The rows as a bitmap."""
-        return Bitmap.of_rows(self._rows, Format[f"{self.type}P"])
+        rows = self._rows
+        return Bitmap.of_rows(rows, Format[f"{rows.type}P"])
 
     @property
     def type(self) -> PixelType:
@@ -134,13 +139,8 @@ class Image(View):
         listed.refuse_shared(memory)
         done, size = ctypes.c_size_t(), len(listed.commands)
         arguments = memory.address, count, left, top, width, height, stride, listed.address, size, done
-        if width * height * size > LONG:
-            with calls.turn(memory, listed.sources):
-                status = type._calls[1](*arguments)
-        else:
-            with calls.short_turn:
-                calls.wait(memory, listed.sources)
-                status = type._calls[0](*arguments)
+        is_long = width * height * size > LONG
+        status = turns.take(is_long, type._calls[is_long], arguments, [memory], listed.sources)
         if status == Status.BAD_SIZE:
             raise PixError(Status.BAD_SIZE)
         if status:

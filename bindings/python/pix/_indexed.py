@@ -3,12 +3,19 @@
 from __future__ import annotations
 
 import ctypes
-from operator import index
 from typing import Any, List, Optional, SupportsIndex, Tuple
 
-from pix._library import LONG, libraries
-from pix._memory import Buffer, Memory, calls
+from pix._calls import ENTRIES, Call, padded
+from pix._memory import Buffer, Memory
+from pix._numbers import index
 from pix._values import Format, PixError, Status
+
+_match, _match_alpha = Call("pix_table_match"), Call("pix_table_match_alpha")
+_from, _from_alpha = Call("pix_table_from"), Call("pix_table_from_alpha")
+_diffuse, _diffuse_alpha = Call("pix_table_diffuse"), Call("pix_table_diffuse_alpha")
+_index, _look_up, _count_all = Call("pix_table_index"), Call("pix_table_look_up"), Call("pix_table_count")
+_pack, _unpack = Call("pix_table_pack"), Call("pix_table_unpack")
+_COUNTS = ctypes.c_size_t * ENTRIES
 
 # The formats of pixels that a table of colors is beside: sRGB, and not multiplied by an alpha.
 _PIXELS = {Format.SRGB8: 3, Format.SRGBA8: 4}
@@ -48,10 +55,30 @@ def _byte(number: SupportsIndex, what: str) -> int:
     return taken
 
 
-def _done(status: int) -> None:
-    """Raises what a status says."""
-    if status:
-        raise PixError(Status(status))
+def _pixel_size(format: Any) -> int:
+    """How many bytes a pixel takes that a table of colors is beside."""
+    size = _PIXELS.get(Format(format))
+    if size is None:
+        raise PixError(Status.BAD_FORMAT)
+    return size
+
+
+def _table(buffer: Any) -> Memory:
+    """The memory of a table of colors, of which there are enough and not too many."""
+    memory = _read(buffer)
+    if not 0 < _count(memory, 3) <= ENTRIES:
+        raise PixError(Status.BAD_TABLE)
+    return memory
+
+
+def _indices(indices: Any, count: int, *read: Memory) -> Tuple[Any, Memory]:
+    """The buffer that as many indices are written to, which is made where there is none, and its memory."""
+    if indices is None:
+        indices = bytearray(count)
+    target = _written(indices, *read)
+    if target.length != count:
+        raise PixError(Status.BAD_LENGTH)
+    return indices, target
 
 
 def map_indexed(
@@ -70,22 +97,15 @@ def map_indexed(
 
     Raises PixError where the table or the lengths don't fit, and leaves `indices` as they were.
     """
-    size = _PIXELS.get(Format(format))
-    if size is None:
-        raise PixError(Status.BAD_FORMAT)
+    size = _pixel_size(format)
     alpha, kept = _byte(alpha, "alpha"), _byte(kept, "index")
-    entries, source = _read(table), _read(pixels)
-    entry_count, count = _count(entries, 3), _count(source, size)
-    if indices is None:
-        indices = bytearray(count)
-    target = _written(indices, entries, source)
-    with calls.turn(target, [entries, source]):
-        library = libraries[count > LONG]
-        read = (entries.address, entry_count, source.address, count)
-        if size == 3:
-            _done(library.pix_table_match(*read, target.address, target.length))
-        else:
-            _done(library.pix_table_match_alpha(*read, alpha, kept, target.address, target.length))
+    entries, source = _table(table), _read(pixels)
+    count = _count(source, size)
+    indices, target = _indices(indices, count, entries, source)
+    if size == 3:
+        _match(count, entries, source, target)
+    else:
+        _match_alpha(count, entries, source, alpha, kept, target)
     return indices
 
 
@@ -103,23 +123,19 @@ def table_from(
 
     Raises PixError where `length` is not from 1 to 256, or the pixels don't fit.
     """
-    size = _PIXELS.get(Format(format))
-    if size is None:
-        raise PixError(Status.BAD_FORMAT)
+    size = _pixel_size(format)
     alpha, most = _byte(alpha, "alpha"), index(length)
     source = _read(pixels)
     count = _count(source, size)
-    if not 0 < most <= 256:
+    if not 0 < most <= ENTRIES:
         raise PixError(Status.BAD_TABLE)
     entries, made = bytearray(3 * most), ctypes.c_size_t()
-    target, room = _read(entries), _read(bytearray(3 * count))
-    with calls.turn(target, [source]):
-        library = libraries[count > LONG]
-        written = (room.address, count, target.address, most, ctypes.byref(made))
-        if size == 3:
-            _done(library.pix_table_from(source.address, count, *written))
-        else:
-            _done(library.pix_table_from_alpha(source.address, count, alpha, *written))
+    target, room = Memory(entries), Memory(bytearray(3 * count))
+    own = room.address, count, target.address, most, made
+    if size == 3:
+        _from(count, source, *own)
+    else:
+        _from_alpha(count, source, alpha, *own)
     return entries[: 3 * made.value]
 
 
@@ -140,27 +156,20 @@ def diffuse_indexed(
 
     Raises PixError where the table, the width or the lengths don't fit, and leaves `indices` as they were.
     """
-    size = _PIXELS.get(Format(format))
-    if size is None:
-        raise PixError(Status.BAD_FORMAT)
+    size = _pixel_size(format)
     alpha, kept, across = _byte(alpha, "alpha"), _byte(kept, "index"), index(width)
-    entries, source = _read(table), _read(pixels)
-    entry_count, count = _count(entries, 3), _count(source, size)
+    entries, source = _table(table), _read(pixels)
+    count = _count(source, size)
     if across < 1 or count % across:
         raise PixError(Status.BAD_LENGTH)
-    if indices is None:
-        indices = bytearray(count)
-    target = _written(indices, entries, source)
+    indices, target = _indices(indices, count, entries, source)
     across = min(across, count) or 1  # a picture of no pixels may have rows of any width
-    room = _read(bytearray(3 * 4 * across))
-    with calls.turn(target, [entries, source]):
-        library = libraries[count > LONG]
-        read = (entries.address, entry_count, source.address, count, across)
-        written = (room.address, 4 * across, target.address, target.length)
-        if size == 3:
-            _done(library.pix_table_diffuse(*read, *written))
-        else:
-            _done(library.pix_table_diffuse_alpha(*read, alpha, kept, *written))
+    room = Memory(bytearray(3 * 4 * across))
+    own = room.address, 4 * across
+    if size == 3:
+        _diffuse(count, entries, source, across, *own, target)
+    else:
+        _diffuse_alpha(count, entries, source, across, alpha, kept, *own, target)
     return indices
 
 
@@ -180,23 +189,20 @@ def index_pixels(
     Raises PixError with FULL_TABLE where a color has no room among `length` entries, and also where `length` is not from 1 to 256 or
     the lengths don't fit.
     """
-    near = bytes(_byte(channel, "threshold") for channel in threshold)
-    if len(near) != 3:
+    limits = bytes([_byte(channel, "threshold") for channel in threshold])
+    if len(limits) != 3:
         raise ValueError("a threshold has three numbers")
-    entries, source, most = _read(table), _read(pixels), index(length)
+    most = index(length)
+    entries, source = _read(table), _read(pixels)
     used, count = ctypes.c_size_t(_count(entries, 3)), _count(source, 3)
-    if not 0 < most <= 256:
+    if not 0 < most <= ENTRIES:
         raise PixError(Status.BAD_TABLE)
     if used.value > most:
         raise PixError(Status.BAD_LENGTH)
-    made, indices = bytearray(3 * most), bytearray(count)
-    made[: entries.length] = bytes(table) if isinstance(table, (bytes, bytearray)) else memoryview(table).cast("B")
-    target, written, limit = _read(made), _read(indices), _read(near)
-    with calls.turn(target, [source]):
-        library = libraries[count > LONG]
-        room = (target.address, most, ctypes.byref(used), limit.address)
-        _done(library.pix_table_index(*room, source.address, count, written.address, count))
-    return made[: 3 * used.value], indices
+    made, indices = padded(entries, 3 * most), bytearray(count)
+    near, written = Memory(limits), Memory(indices)
+    _index(count, made, used, near.address, source, written.address, count)
+    return bytearray(made.room)[: 3 * used.value], indices
 
 
 def look_up(table: Buffer, indices: Buffer, pixels: Any = None) -> Any:
@@ -205,31 +211,40 @@ def look_up(table: Buffer, indices: Buffer, pixels: Any = None) -> Any:
     Raises PixError where an index is past the end of the table, or the lengths don't fit, and leaves `pixels` as they were.
     """
     entries, source = _read(table), _read(indices)
-    entry_count = _count(entries, 3)
+    entry_count = min(_count(entries, 3), ENTRIES)
     if pixels is None:
         pixels = bytearray(3 * source.length)
     target = _written(pixels, entries, source)
-    count = _count(target, 3)
-    with calls.turn(target, [entries, source]):
-        library = libraries[count > LONG]
-        _done(library.pix_table_look_up(entries.address, entry_count, source.address, source.length, target.address, count))
+    if _count(target, 3) != source.length:
+        raise PixError(Status.BAD_LENGTH)
+    _look_up(source.length, padded(entries, 3 * entry_count), source, target)
     return pixels
 
 
 def count_indices(indices: Buffer, length: SupportsIndex = 256) -> List[int]:
     """How often each number below `length` stands among the indices. Raises PixError where an index is not below it."""
-    source = _read(indices)
-    counts = (ctypes.c_size_t * index(length))()
-    target = ctypes.addressof(counts)
-    _done(libraries[source.length > LONG].pix_table_count(source.address, source.length, target, len(counts)))
-    return list(counts)
+    size = index(length)
+    if size < 0:
+        raise ValueError(f"length {size} is below 0")
+    source, counts = _read(indices), _COUNTS()
+    _count_all(source.length, source, ctypes.addressof(counts), min(size, ENTRIES))
+    return counts[:size] + [0] * (size - ENTRIES)
+
+
+def _bits(bits: SupportsIndex) -> int:
+    """The number of bits that an index takes."""
+    taken = index(bits)
+    if taken not in (1, 2, 4, 8):
+        raise PixError(Status.BAD_DEPTH)
+    return taken
 
 
 def row_size(bits: SupportsIndex, count: SupportsIndex) -> int:
-    """How many bytes a row of `count` indices of 1, 2, 4 or 8 bits takes."""
-    if index(bits) not in (1, 2, 4, 8):
-        raise PixError(Status.BAD_DEPTH)
-    return -(-index(count) * index(bits) // 8)
+    """How many bytes a row of `count` indices of 1, 2, 4 or 8 bits takes. Raises ValueError where there are less than 0."""
+    depth, many = _bits(bits), index(count)
+    if many < 0:
+        raise ValueError(f"count {many} is below 0")
+    return -(-many * depth // 8)
 
 
 def pack_row(bits: SupportsIndex, indices: Buffer, row: Any = None) -> Any:
@@ -238,14 +253,12 @@ def pack_row(bits: SupportsIndex, indices: Buffer, row: Any = None) -> Any:
     The indices are in order, those of a byte from its most significant bits on, and the bits that are left over in the last byte
     are 0. Raises PixError where an index takes more bits or the lengths don't fit, and leaves `row` as it was.
     """
+    depth = _bits(bits)
     source = _read(indices)
-    size = row_size(bits, source.length)
     if row is None:
-        row = bytearray(size)
+        row = bytearray(row_size(depth, source.length))
     target = _written(row, source)
-    with calls.turn(target, [source]):
-        library = libraries[source.length > LONG]
-        _done(library.pix_table_pack(index(bits), source.address, source.length, target.address, target.length))
+    _pack(source.length, depth, source, target)
     return row
 
 
@@ -254,12 +267,13 @@ def unpack_row(bits: SupportsIndex, row: Buffer, indices: Any = None, count: Opt
 
     Raises PixError where the row has not just as many bytes as they take, and leaves `indices` as they were.
     """
-    row_size(bits, 0)
+    depth, many = _bits(bits), None if count is None else index(count)
     source = _read(row)
     if indices is None:
-        indices = bytearray(source.length * 8 // index(bits) if count is None else index(count))
+        many = source.length * 8 // depth if many is None else many
+        if row_size(depth, many) != source.length:
+            raise PixError(Status.BAD_LENGTH)
+        indices = bytearray(many)
     target = _written(indices, source)
-    with calls.turn(target, [source]):
-        library = libraries[target.length > LONG]
-        _done(library.pix_table_unpack(index(bits), source.address, source.length, target.address, target.length))
+    _unpack(target.length, depth, source, target)
     return indices

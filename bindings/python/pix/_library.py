@@ -1,14 +1,55 @@
-"""The shared object: the processor that it needs, where it is, and its functions."""
+"""The shared object: the processor that it needs, where it is, and the table of its functions."""
 
 from __future__ import annotations
 
 import ctypes
 import os
 import platform
-from typing import Any, Optional, Set
+from typing import Any, List, Optional, Set
 
-# How many pixels a long call is about, which takes some hundred microseconds.
+# How much a long call does, in units of the table: some hundred microseconds.
 LONG = 500_000
+
+# What the library's functions take, in order, and what a pixel costs, in nanoseconds or so. A word says how a caller's memory
+# is used, which is an address and a count of elements of so many bytes: a call takes its turn by just that.
+#
+#   read:n, write:n   read, or written
+#   table:3           read in a copy that has room for 256 colors
+#   image:n           written by commands, which read their sources
+#
+# The others are numbers; `own` is memory that nobody else knows, and `count` a number there.
+_RUN = "u32 u32 u32 u32 u32 own size count"
+CALLS = {
+    "pix_layout": (0, "size"),
+    "pix_pixel_size": (0, "u32"),
+    "pix_run_window": (1, f"image:4 {_RUN}"),
+    "pix_run_window_rgba16": (1, f"image:8 {_RUN}"),
+    "pix_run_window_graya8": (1, f"image:2 {_RUN}"),
+    "pix_convert_bytes": (4, "u32 u32 read:1 write:1 size"),
+    "pix_convert_rows": (4, "u32 u32 read:1 write:1 i64 i64 u32 u32"),
+    "pix_table_match": (32, "table:3 read:3 write:1"),
+    "pix_table_match_alpha": (32, "table:3 read:4 u8 u8 write:1"),
+    "pix_table_from": (64, "read:3 own size own size count"),
+    "pix_table_from_alpha": (64, "read:4 u8 own size own size count"),
+    "pix_table_diffuse": (64, "table:3 read:3 size own size write:1"),
+    "pix_table_diffuse_alpha": (64, "table:3 read:4 size u8 u8 own size write:1"),
+    "pix_table_index": (32, "table:3 count own read:3 own size"),
+    "pix_table_look_up": (1, "table:3 read:1 write:3"),
+    "pix_table_count": (1, "read:1 own size"),
+    "pix_table_pack": (1, "u32 read:1 write:1"),
+    "pix_table_unpack": (1, "u32 read:1 write:1"),
+}
+
+_TYPES = {"size": ctypes.c_size_t, "u8": ctypes.c_uint8, "u32": ctypes.c_uint32, "i64": ctypes.c_int64}
+_TYPES.update(own=ctypes.c_void_p, count=ctypes.POINTER(ctypes.c_size_t))
+
+
+def types_of(takes: str) -> List[Any]:
+    """The types of the arguments that a function takes."""
+    types: List[Any] = []
+    for word in takes.split():
+        types += [ctypes.c_void_p, ctypes.c_size_t] if ":" in word else [_TYPES[word]]
+    return types
 
 
 # What Linux calls, in /proc/cpuinfo, the instructions that x86-64-v3 has beyond those of x86-64-v2.
@@ -72,35 +113,16 @@ def why_not(path: str) -> str:
 def load(kind: Any) -> Any:
     """Loads the shared object, and declares its functions."""
     path = path_of_library(flags() if machine() == "x86-64" else None)
-    pointer, size, u32 = ctypes.c_void_p, ctypes.c_size_t, ctypes.c_uint32
-    run = [pointer, size, u32, u32, u32, u32, u32, pointer, size, ctypes.POINTER(size)]
-    calls = {"pix_layout": [size], "pix_convert_bytes": [u32, u32, pointer, size, pointer, size, size]}
-    i64 = ctypes.c_int64
-    calls["pix_convert_rows"] = [u32, u32, pointer, size, pointer, size, i64, i64, u32, u32]
-    calls["pix_pixel_size"] = [u32]
-    calls.update((f"pix_run_window{kind}", run) for kind in ("", "_rgba16", "_graya8"))
-    buffer = [pointer, size]
-    calls["pix_table_match"] = buffer * 3
-    calls["pix_table_match_alpha"] = [*buffer * 2, ctypes.c_uint8, ctypes.c_uint8, *buffer]
-    calls["pix_table_look_up"] = buffer * 3
-    calls["pix_table_count"] = buffer * 2
-    byte = ctypes.c_uint8
-    calls["pix_table_from"] = [*buffer * 3, ctypes.POINTER(size)]
-    calls["pix_table_from_alpha"] = [*buffer, byte, *buffer * 2, ctypes.POINTER(size)]
-    calls["pix_table_diffuse"] = [*buffer * 2, size, *buffer * 2]
-    calls["pix_table_diffuse_alpha"] = [*buffer * 2, size, byte, byte, *buffer * 2]
-    calls["pix_table_index"] = [*buffer, ctypes.POINTER(size), pointer, *buffer * 2]
-    calls["pix_table_pack"] = calls["pix_table_unpack"] = [u32, *buffer * 2]
     try:
         library = kind(path)
     except OSError as fault:
         raise ImportError(f"pix: {why_not(path)}") from fault
-    for name, types in calls.items():
+    for name, (_, takes) in CALLS.items():
         try:
             call = getattr(library, name)
         except AttributeError as fault:
             raise ImportError(f"pix: {path} has another version than this package: it lacks {name}") from fault
-        call.restype, call.argtypes = u32, types
+        call.restype, call.argtypes = ctypes.c_uint32, types_of(takes)
     return library
 
 

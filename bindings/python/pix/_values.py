@@ -3,8 +3,9 @@
 from __future__ import annotations
 
 from enum import IntEnum
-from operator import index
 from typing import Iterable, Optional, SupportsIndex, Tuple
+
+from pix._numbers import index
 
 # (x, y, width, height) in pixels; x grows to the right and y downwards.
 Region = Tuple[int, int, int, int]

@@ -25,13 +25,17 @@ class Rows(NamedTuple):
 def rows_of(buffer: Any, width: Any, height: Any, stride: Any, element: Any, type: Optional[PixelType] = None) -> Rows:
     """Finds rows of elements in a buffer, and tests what the library can't."""
     size = ctypes.sizeof(element)
+    width, height, stride = (
+        None if number is None else u32(number, what)
+        for number, what in ((width, "width"), (height, "height"), (stride, "stride"))
+    )
     memory = Memory(buffer, ctypes.alignment(element) == 2)
     if width is None and height is None and len(memory.shape) > 1 and memory.row == memory.shape[1] * size:
         width, height = memory.shape[1], memory.shape[0]
     if width is None or height is None:
         raise TypeError("width and height are missing, and the shape of the buffer doesn't tell them")
     width, height = u32(width, "width"), u32(height, "height")
-    taken = width if stride is None else u32(stride, "stride")
+    taken = width if stride is None else stride
     if memory.has_gaps:
         if (memory.rows, memory.row) != (height, width * size):
             raise ValueError(f"{memory.rows} rows of {memory.row} bytes are not {height} of {width * size}")
@@ -70,13 +74,9 @@ class View:
 
     def _value(self) -> bytearray:
         """A copy of the rows without what lies between them."""
-        memory, element, _, width, height, stride, _ = self._rows
-        if not memory.length or not width:
-            return bytearray()
-        size = ctypes.sizeof(element)
-        view = memoryview((ctypes.c_char * memory.length).from_address(memory.address)).cast("B")
-        starts = range(0, height * stride * size, stride * size) if stride else range(0)
-        return bytearray(b"".join(view[start : start + width * size] for start in starts))
+        from pix._bitmap import copy_of
+
+        return copy_of(self._rows)
 
 
 class Matte(View):

@@ -1,0 +1,85 @@
+"""The calls of the library: each takes its turn by what it reads and writes, as the table of them says."""
+
+from __future__ import annotations
+
+import ctypes
+from typing import Any, List
+
+from pix._library import CALLS, LONG, libraries
+from pix._memory import Memory
+from pix._turns import turns
+from pix._values import PixError, Status
+
+# How many colors a table has at most, and how many bytes they take.
+ENTRIES = 256
+_TABLE = ctypes.c_ubyte * (3 * ENTRIES)
+
+# Copies bytes, and keeps the interpreter's lock or lets it go.
+_moves = [kind(None).memmove for kind in (ctypes.PyDLL, ctypes.CDLL)]
+for _move in _moves:
+    _move.argtypes, _move.restype = [ctypes.c_void_p, ctypes.c_void_p, ctypes.c_size_t], None
+
+
+class Copy:
+    """A copy of a caller's memory in a room of its own, which a call makes in its turn and reads in its stead.
+
+    The call is told that it has `length` bytes.
+    """
+
+    __slots__ = ("source", "room", "address", "length")
+
+    def __init__(self, source: Memory, room: Any, length: int) -> None:
+        self.source, self.room, self.length = source, room, length
+        self.address = ctypes.addressof(room)
+
+    def make(self, is_long: bool) -> None:
+        """Copies the bytes that the room has place for."""
+        _moves[is_long](self.address, self.source.address, min(self.source.length, ctypes.sizeof(self.room)))
+
+
+def padded(table: Memory, length: int) -> Copy:
+    """A copy of a table with room for each entry that an index can be, of which a call is told `length` bytes.
+
+    So an index that changes under a call, after the library has tested it, is that of a wrong color, and of no other
+    memory.
+    """
+    return Copy(table, _TABLE(), length)
+
+
+class Call:
+    """A function of the library, in its turn.
+
+    It is called with the number of pixels that it is about, and with what its row of CALLS says: for memory a Memory,
+    or a Copy of one that is read.
+    """
+
+    __slots__ = ("name", "both", "takes", "cost")
+
+    def __init__(self, name: str) -> None:
+        self.name = name
+        self.cost, takes = CALLS[name]
+        self.both = tuple(getattr(library, name) for library in libraries)
+        self.takes = [(role, int(size or 0)) for role, _, size in (word.partition(":") for word in takes.split())]
+
+    def __call__(self, pixels: int, *given: Any) -> None:
+        """Calls it; raises PixError where it refuses."""
+        arguments: List[Any] = []
+        read: List[Memory] = []
+        written: List[Memory] = []
+        copies: List[Copy] = []
+        for (role, size), one in zip(self.takes, given):
+            if not size:
+                arguments.append(one)
+                continue
+            if role == "table" and type(one) is Memory:
+                one = padded(one, one.length)
+            if type(one) is Copy:
+                copies.append(one)
+                read.append(one.source)
+            else:
+                (written if role == "write" else read).append(one)
+            arguments += (one.address, one.length // size)
+        is_long = pixels * self.cost > LONG
+        status = turns.take(is_long, self.both[is_long], arguments, written, read, copies)
+        if status:
+            raise PixError(Status(status))
