@@ -512,7 +512,7 @@ class Paintings(unittest.TestCase):
         self.assertEqual(parts, whole)
 
     def test_windows_of_the_other_kinds(self):
-        for type, far in ((pix.RGBA16, (9, 8, 7, 6)), (pix.GRAYA8, (9, 8))):
+        for type, far in ((pix.RGBA16, (900, 800, 700, 1000)), (pix.GRAYA8, (8, 9))):
             image = pix.Image.new(2, 2, type)
             image.run(pix.copy_color((7, 3, 1, 1), far), origin=(6, 2))
             wanted = pix.Image.new(2, 2, type)
@@ -590,7 +590,7 @@ class Paintings(unittest.TestCase):
     def test_views_of_three_dimensions(self):
         pixels = bytearray(4 * 6 * 4)
         view = memoryview(pixels).cast("B", (4, 6, 4))
-        pix.Image(view, 6, 4).run(pix.copy_color((1, 1, 2, 2), COLOR))
+        pix.Image(view, 6, 4, type=pix.RGBA8).run(pix.copy_color((1, 1, 2, 2), COLOR))
         self.assertEqual(sum(pixels), 4 * sum(COLOR))
 
     def test_a_buffer_is_let_go(self):
@@ -602,28 +602,28 @@ class Paintings(unittest.TestCase):
     @unittest.skipIf(numpy is None, "no numpy")
     def test_numpy(self):
         pixels = numpy.zeros((4, 6, 4), numpy.uint8)
-        pix.Image(pixels, 6, 4).run(pix.copy_color((numpy.int64(1), 1, 2, 2), COLOR))
+        pix.Image(pixels, 6, 4, type=pix.RGBA8).run(pix.copy_color((numpy.int64(1), 1, 2, 2), COLOR))
         self.assertEqual(pixels.sum(), 4 * sum(COLOR))
-        pix.Image(pixels, 5, 4, 6).run(pix.clear())
+        pix.Image(pixels, 5, 4, 6, pix.RGBA8).run(pix.clear())
         self.assertEqual(pixels.sum(), 0)
 
     @unittest.skipIf(numpy is None, "no numpy")
     def test_windows(self):
         pixels = numpy.zeros((6, 8, 4), numpy.uint8)
-        window = pix.Image(pixels[1:5, 2:7])
+        window = pix.Image(pixels[1:5, 2:7], type=pix.RGBA8)
         self.assertEqual((window.width, window.height, window.stride), (5, 4, 8))
         window.run(pix.copy_color((-9, -9, 99, 99), COLOR))
         wanted = numpy.zeros((6, 8, 4), numpy.uint8)
         wanted[1:5, 2:7] = COLOR
         self.assertTrue((pixels == wanted).all())
-        pix.Image(pixels[::2], 8, 3).run(pix.clear())
+        pix.Image(pixels[::2], 8, 3, type=pix.RGBA8).run(pix.clear())
         wanted[::2] = 0
         self.assertTrue((pixels == wanted).all())
         mask = numpy.full((6, 8), 255, numpy.uint8)[1:4, 1:3]
-        pix.Image(pixels).run(pix.composite_matte((0, 0, 2, 3), pix.Matte(mask), (1, 2, 3, 255), op=pix.Op.SRC))
+        pix.Image(pixels, type=pix.RGBA8).run(pix.composite_matte((0, 0, 2, 3), pix.Matte(mask), (1, 2, 3, 255), op=pix.Op.SRC))
         wanted[:3, :2] = (1, 2, 3, 255)
         self.assertTrue((pixels == wanted).all())
-        self.assertEqual(pickle.loads(pickle.dumps(pix.Image(pixels[:, 1:]))).pixels, pixels[:, 1:].tobytes())
+        self.assertEqual(pickle.loads(pickle.dumps(pix.Image(pixels[:, 1:], type=pix.RGBA8))).pixels, pixels[:, 1:].tobytes())
         with self.assertRaisesRegex(ValueError, "inside its rows"):
             pix.Image(pixels[:, ::2], 4, 6)
         with self.assertRaisesRegex(ValueError, "backwards"):

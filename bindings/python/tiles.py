@@ -39,7 +39,7 @@ def paint(path, side, left, top, tile, commands):
     picture = numpy.memmap(path, numpy.uint8, "r+", shape=(side, side, 4))
     there = picture[top : top + tile, left : left + tile]
     own = numpy.array(there)
-    pix.Image(own).run(commands, origin=(left, top))
+    pix.Image(own, type=pix.RGBA8).run(commands, origin=(left, top))
     there[:] = own
     picture.flush()
 
@@ -59,7 +59,7 @@ if __name__ == "__main__":
     print(f"tiles: {main(side, tile, path)} tiles are painted")
     if sys.argv[4:] == ["--compare"]:
         whole = numpy.zeros((side, side, 4), numpy.uint8)
-        pix.Image(whole).run(make_commands(side))
+        pix.Image(whole, type=pix.RGBA8).run(make_commands(side))
         if not numpy.array_equal(whole, numpy.memmap(path, numpy.uint8, "r", shape=(side, side, 4))):
             sys.exit("tiles: the tiles are not the picture painted whole")
         print("tiles: they are the picture painted whole")

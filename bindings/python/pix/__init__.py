@@ -12,11 +12,16 @@ writable memoryview or a numpy array. The pixels are changed in place; nothing i
         pix.composite_color((50, -8, 20, 20), (90, 40, 0, 128), pix.Op.SRC_OVER),
     )
 
-Pixels are premultiplied and linear: the color channels are multiplied by the alpha and proportional to light.
-Image.from_array() and Image.from_pillow() make them of what image files hold, and to_array() and to_pillow() turn them
-back: in 16 bits a channel nothing is lost. convert() does it in 8 bits, and convert_bitmap() between any two formats. A region is a tuple (x, y, width, height) in pixels and lies anywhere;
-what is outside an image is neither read nor written. A list is tested as a whole before its first command runs: where
-an exception is raised, no pixel was changed.
+Pixels are premultiplied and linear: the color channels are multiplied by the alpha and proportional to light. Colors as
+people write them are made by srgb(): srgb("#c87828") goes with all images. A tuple that may be of another kind, as one of
+8 bits on an image of 16, is refused.
+
+Image.open() reads picture files and save() writes them. Image.from_array() and Image.from_pillow() make images of what
+other packages have, and to_array() and to_pillow() turn them back: in 16 bits a channel nothing is lost. np.asarray(image)
+is the pixels themselves. convert() does it in 8 bits, and convert_bitmap() between any two formats.
+
+A region is a tuple (x, y, width, height) in pixels and lies anywhere; what is outside an image is neither read nor written.
+A list is tested as a whole before its first command runs: where an exception is raised, no pixel was changed.
 
 A list that is run often is made a CommandList, which is tested once: image.run(list) then takes a third of the time that
 as many commands take one by one.
@@ -40,9 +45,10 @@ a library of another version or layout, raises ImportError.
 """
 
 from pix._bitmap import convert_bitmap
+from pix._colors import Color, Srgb, color_of, srgb
 from pix._command import Command
 from pix._convert import convert
-from pix._image import Image, color_of
+from pix._image import Image
 from pix._indexed import (
     count_indices, diffuse_indexed, index_pixels, look_up, map_indexed, pack_row, row_size, table_from, unpack_row,
 )  # fmt: skip
@@ -58,7 +64,7 @@ from pix._views import Matte
 __version__ = "0.2.0"
 __all__ = [
     "Op", "Format", "Status", "PixError", "PixelType", "RGBA8", "RGBA16", "GRAYA8", "Region", "Image", "Matte",
-    "Command", "CommandList", "clear", "copy_color", "copy_image", "composite_color", "composite_image", "composite_matte",
+    "Command", "CommandList", "Color", "Srgb", "srgb", "clear", "copy_color", "copy_image", "composite_color", "composite_image", "composite_matte",
     "composite_image_matte", "composite_image_alpha", "repeat_image", "convert", "convert_bitmap", "color_of",
     "table_from", "map_indexed", "diffuse_indexed", "index_pixels", "look_up", "count_indices", "row_size", "pack_row",
     "unpack_row",
@@ -71,7 +77,9 @@ SRGB8, SBGR8, SGRAY8, SGRAYA8 = Format.SRGB8, Format.SBGR8, Format.SGRAY8, Forma
 SRGBX8, SBGRX8 = Format.SRGBX8, Format.SBGRX8
 
 # Users and pickles name them by this package, wherever they are defined.
-for _public in (Op, Format, Status, PixError, PixelType, Image, Matte, Command, CommandList, convert, convert_bitmap, color_of):
+for _public in (Op, Format, Status, PixError, PixelType, Image, Matte, Command, CommandList, convert, convert_bitmap):
+    _public.__module__ = __name__
+for _public in (Color, Srgb, srgb, color_of):
     _public.__module__ = __name__
 for _public in (table_from, map_indexed, diffuse_indexed, index_pixels, look_up, count_indices, row_size, pack_row, unpack_row):
     _public.__module__ = __name__

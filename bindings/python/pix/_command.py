@@ -2,8 +2,9 @@
 
 from __future__ import annotations
 
-from typing import Any, Iterable, List, Optional, SupportsIndex, Tuple
+from typing import Any, Iterable, List, Optional, SupportsIndex, Tuple, Union
 
+from pix._colors import AnyColor, Color, Srgb, fitted, taken
 from pix._memory import NOWHERE, Memory
 from pix._numbers import index
 from pix._pixels import PixelType, RegionRecord
@@ -20,7 +21,7 @@ class Command:
     __slots__ = ("_kind", "_op", "_to", "_color", "_source", "_from", "_mask", "_mask_from", "_alpha")
 
     def __init__(
-        self, kind: SupportsIndex, to: Iterable[SupportsIndex] = (0, 0, 0, 0), color: Optional[Iterable[SupportsIndex]] = None,
+        self, kind: SupportsIndex, to: Iterable[SupportsIndex] = (0, 0, 0, 0), color: Optional[AnyColor] = None,
         op: SupportsIndex = Op.SRC, source: Optional[View] = None, from_: Optional[Iterable[SupportsIndex]] = None,
         mask: Optional[View] = None, mask_from: Optional[Iterable[SupportsIndex]] = None, alpha: SupportsIndex = 0,
     ) -> None:  # fmt: skip
@@ -30,7 +31,7 @@ class Command:
         self._kind = u32(kind, "kind")
         self._op = u32(op, "operator")
         self._to = region_of(to)
-        self._color = None if color is None else tuple(map(index, color))
+        self._color = taken(color)
         self._source = source
         self._from = _all_of(source) if from_ is None else region_of(from_)
         self._mask = mask
@@ -53,8 +54,8 @@ class Command:
         return self._to
 
     @property
-    def color(self) -> Optional[Tuple[int, ...]]:
-        """The color, where there is one: a number for each channel of a pixel."""
+    def color(self) -> Union[Tuple[int, ...], Color, Srgb, None]:
+        """The color as it was given, where there is one: a number for each channel of a pixel, or what pix.srgb() made."""
         return self._color
 
     @property
@@ -111,16 +112,14 @@ def made(command: Command, type: PixelType) -> Tuple[Any, List[Memory]]:
     record.to, record.from_ = RegionRecord(*command._to), RegionRecord(*command._from)
     record.pixels = record.mattes = NOWHERE
     color, source = command._color, command._source
-    if color is not None:
-        if len(color) != type.channels or not all(0 <= channel <= type.max for channel in color):
-            raise ValueError(f"{color} is not a color of {type}")
-        record.color = type._color(*color)
     read = [] if source is None else [note(record, source._rows, type)]
     if command._mask is not None:
         read.append(note_mask(record, command._mask._rows, command._mask_from, type))
     if not 0 <= command._alpha <= type.max:
         raise ValueError(f"{command._alpha} is no opacity of {type}")
     record.alpha = command._alpha
+    if color is not None:
+        record.color = type._color(*fitted(color, type))
     return record, read
 
 

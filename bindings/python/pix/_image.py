@@ -3,7 +3,6 @@
 from __future__ import annotations
 
 import ctypes
-from array import array
 from typing import Any, Iterable, Optional, SupportsIndex, Tuple, Union
 
 from pix._bitmap import MODES, Bitmap, new_array, write
@@ -18,6 +17,16 @@ from pix._values import Format, PixError, Status, origin_of, u32
 from pix._views import View, rows_of
 
 
+class _Untold:
+    """What stands for a kind of pixels that isn't told, which is RGBA8."""
+
+    def __repr__(self) -> str:
+        return "RGBA8"
+
+
+_UNTOLD: Any = _Untold()
+
+
 class Image(View):
     """A view of a buffer as rows of pixels, from top to bottom.
 
@@ -27,14 +36,33 @@ class Image(View):
     apart, as in a window of a numpy array, and then the stride is theirs. Channels of 16 bits have the machine's byte
     order. While the view lives, a bytearray can't be resized.
 
+    `type` is RGBA8 where it is left out. For a buffer of three dimensions it has to be said, since such arrays mostly have
+    sRGB with a straight alpha, which from_array() takes.
+
+    np.asarray(image) is the pixels, without a copy.
+
+    >>> pixels = bytearray(4 * 3 * 2)
+    >>> image = pix.Image(pixels, 3, 2)
+    >>> image.run(pix.copy_color((0, 0, 2, 2), pix.srgb(255, 255, 255)))
+    >>> pixels.hex(" ", 4)
+    'ffffffff ffffffff 00000000 ffffffff ffffffff 00000000'
+
     A pickle or a copy of it has pixels of its own, without what lies between the rows.
     """
 
     def __init__(
         self, pixels: Buffer, width: Optional[SupportsIndex] = None, height: Optional[SupportsIndex] = None,
-        stride: Optional[SupportsIndex] = None, type: PixelType = RGBA8,
+        stride: Optional[SupportsIndex] = None, type: PixelType = _UNTOLD,
     ) -> None:  # fmt: skip
-        super().__init__(rows_of(pixels, width, height, stride, kind_of(type)._color, type))
+        kind = RGBA8 if type is _UNTOLD else kind_of(type)
+        rows = rows_of(pixels, width, height, stride, kind._color, kind)
+        if type is _UNTOLD and len(rows.memory.shape) > 2:
+            raise TypeError(
+                f"an array of shape {rows.memory.shape} may have straight alpha, or colors of sRGB, and an Image has neither: "
+                "write pix.Image.from_array(array, pix.SRGBA8) for a picture as files have it, "
+                "or pix.Image(array, type=pix.RGBA8) for pixels that are premultiplied and linear"
+            )
+        super().__init__(rows)
 
     @classmethod
     def new(cls, width: SupportsIndex, height: SupportsIndex, type: PixelType = RGBA8) -> Image:
@@ -145,13 +173,3 @@ class Image(View):
             raise PixError(Status.BAD_SIZE)
         if status:
             raise PixError(Status(status), done.value)
-
-
-def color_of(format: Format, pixel: Iterable[SupportsIndex], type: PixelType = RGBA16) -> Tuple[int, ...]:
-    """A pixel in a format, given by its numbers, as a color to paint with: color_of(pix.SRGBA8, (200, 120, 40, 255)) is the light
-    of a color of sRGB."""
-    format, given = Format(format), tuple(map(index, pixel))
-    if len(given) != format.samples or not all(0 <= number < 1 << format.bits for number in given):
-        raise ValueError(f"{given} are not {format.samples} numbers of {format.bits} bits")
-    image = Image.from_array(array("H" if format.bits == 16 else "B", given), format, type, (1, 1))
-    return tuple(image.pixels.cast("H" if type.max > 255 else "B"))

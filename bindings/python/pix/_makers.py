@@ -2,15 +2,17 @@
 
 from __future__ import annotations
 
+from operator import index
 from typing import Any, Iterable, List, Optional, SupportsIndex
 
+from pix._colors import AnyColor, fraction_of
 from pix._command import Command
 from pix._image import Image
 from pix._values import Op, region_of
 from pix._views import Matte
 
 _Region = Iterable[SupportsIndex]
-_Color = Iterable[SupportsIndex]
+_Color = AnyColor
 
 
 def _source(source: Any, wanted: Any) -> Any:
@@ -26,9 +28,15 @@ def clear() -> Command:
 
 
 def copy_color(to: _Region, color: _Color) -> Command:
-    """Replaces the pixels of the region `to` by a color: a tuple of as many channels as the image's pixels have.
+    """Replaces the pixels of the region `to` by a color: one of pix.srgb(), or a tuple of as many channels as the image's pixels have,
+    premultiplied and linear.
 
-    A region is (x, y, width, height) in pixels. A channel is from 0 to 255, or to 65535 in RGBA16.
+    A region is (x, y, width, height) in pixels. A channel is from 0 to 255, or to 65535 in RGBA16. A tuple that may be of another kind
+    is refused when the command runs: one on RGBA16 with no channel above 255, and one with a channel above its alpha.
+
+    >>> image = pix.Image.new(2, 1, pix.RGBA16)
+    >>> image.run(pix.copy_color((0, 0, 1, 1), pix.srgb("#c87828")))
+    >>> image.run(pix.copy_color((1, 0, 1, 1), (37852, 12282, 1390, 65535)))  # the same
     """
     return Command(1, to, color)
 
@@ -70,13 +78,33 @@ def composite_image_matte(
 
 
 def composite_image_alpha(
-    to: _Region, source: Image, alpha: SupportsIndex, from_: Optional[_Region] = None, op: Op = Op.SRC_OVER
-) -> Command:
-    """Composites the pixels of `from_` in another image, multiplied by `alpha`, with those of `to`: a fade.
+    to: _Region, source: Image, alpha: Optional[SupportsIndex] = None, from_: Optional[_Region] = None, op: Op = Op.SRC_OVER, *,
+    opacity: Optional[float] = None, alpha8: Optional[SupportsIndex] = None,
+) -> Command:  # fmt: skip
+    """Composites the pixels of `from_` in another image, multiplied by an opacity, with those of `to`: a fade.
 
-    The opacity is from 0 to 255, or to 65535 in RGBA16, at which it is composite_image.
+    The opacity has three names, of which one is given: `opacity` is a fraction from 0 to 1, and `alpha8` a byte from 0 to 255, for
+    images of all kinds; `alpha` is a channel of the image: from 0 to 255, or to 65535 in RGBA16. At the greatest one it is
+    composite_image.
+
+    >>> pix.composite_image_alpha((0, 0, 9, 9), pix.Image.new(9, 9, pix.RGBA16), opacity=0.5).alpha
+    32768
     """
-    return Command(7, to, op=op, source=_source(source, Image), from_=from_, alpha=alpha)
+    _source(source, Image)
+    given = [name for name in (alpha, opacity, alpha8) if name is not None]
+    if len(given) != 1:
+        raise TypeError("give one opacity: opacity=0.5, a fraction, or alpha8=128, a byte, or alpha, a channel of the image")
+    if isinstance(alpha, float):
+        raise TypeError(f"alpha {alpha} is no whole number: write opacity={alpha} for a fraction")
+    if opacity is not None:
+        if opacity > 1:
+            raise ValueError(f"opacity {opacity} is above 1: write alpha8={opacity} for a byte")
+        alpha = round(fraction_of(opacity) * source.type.max)
+    elif alpha8 is not None:
+        if not 0 <= index(alpha8) <= 255:
+            raise ValueError(f"alpha8 {alpha8} is not from 0 to 255")
+        alpha = index(alpha8) * (source.type.max // 255)
+    return Command(7, to, op=op, source=source, from_=from_, alpha=alpha)
 
 
 def repeat_image(to: _Region, source: Image, from_: Optional[_Region] = None, op: Op = Op.SRC_OVER) -> List[Command]:

@@ -7,6 +7,7 @@ from enum import Enum
 from typing import Any, List
 
 from pix._library import libraries
+from pix._values import Format
 
 
 class RegionRecord(ctypes.Structure):
@@ -63,9 +64,14 @@ RGBA8, RGBA16, GRAYA8 = PixelType
 
 def kind_of(type: Any) -> PixelType:
     """The kind of pixels, if it is one."""
-    if not isinstance(type, PixelType):
-        raise TypeError(f"{type!r} is none of RGBA8, RGBA16 and GRAYA8")
-    return type
+    if isinstance(type, PixelType):
+        return type
+    if isinstance(type, str) and type.upper() in PixelType.__members__:
+        raise TypeError(f"{type!r} is a text: write pix.{type.upper()}")
+    if isinstance(type, Format):
+        instead = f"pix.Image.from_array(pixels, pix.Format.{type.name})"
+        raise TypeError(f"{type.name} is a format, as files have pictures: write {instead}, or type=pix.RGBA8")
+    raise TypeError(f"{type!r} is no kind of pixels: write pix.RGBA8, pix.RGBA16 or pix.GRAYA8")
 
 
 # The version of the binary interface, and the fields whose offsets the library answers, in its order.

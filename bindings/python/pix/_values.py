@@ -124,6 +124,16 @@ class Format(IntEnum):
     RGBX8 = 79
     BGRX8 = 80
 
+    @classmethod
+    def _missing_(cls, value: object) -> None:
+        """Says what to write for what is no format."""
+        if isinstance(value, str) and value.upper() in cls.__members__:
+            raise TypeError(f"{value!r} is a text: write pix.Format.{value.upper()}")
+        if type(value).__name__ == "PixelType":
+            straight = f"pix.Format.{value}"
+            raise TypeError(f"{value} is a kind of pixels: write {straight}P, or {straight} where the alpha is straight")
+        raise ValueError(f"{value!r} is no format: write one as pix.SRGBA8 or pix.Format.RGBA16P")
+
     @property
     def bits(self) -> int:
         """How many bits a channel has: 8 or 16."""

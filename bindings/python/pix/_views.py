@@ -3,11 +3,12 @@
 from __future__ import annotations
 
 import ctypes
-from typing import Any, NamedTuple, Optional, SupportsIndex
+import sys
+from typing import Any, Dict, NamedTuple, Optional, SupportsIndex
 
 from pix._memory import Buffer, Memory
 from pix._pixels import PixelType
-from pix._values import u32
+from pix._values import PixError, Status, u32
 
 
 class Rows(NamedTuple):
@@ -42,6 +43,10 @@ def rows_of(buffer: Any, width: Any, height: Any, stride: Any, element: Any, typ
         if memory.step % size or stride is not None and taken != memory.step // size:
             raise ValueError(f"rows that start {memory.step} bytes apart have no such stride")
         taken = u32(memory.step // size, "stride")
+    elif len(memory.shape) > 2 and memory.row == memory.shape[1] * size:
+        high, wide = memory.shape[:2]
+        if height > high or width > wide or (height > 1 and taken != wide):
+            raise ValueError(f"an array of {wide} x {high} pixels is not one of {width} x {height}, {taken} apart")
     if memory.address % ctypes.alignment(element):
         raise ValueError("the buffer is not aligned to channels of 16 bits")
     return Rows(memory, element, memory.length // size, width, height, taken, type)
@@ -71,6 +76,26 @@ class View:
     def stride(self) -> int:
         """The distance from a row to the next, in pixels or values."""
         return self._rows.stride
+
+    @property
+    def __array_interface__(self) -> Dict[str, Any]:
+        """What numpy asks for: np.asarray(image) is the image's own memory, of (height, width, channels) elements, or (height, width)
+        for a matte. It may be written where the buffer may, and pins the buffer as the view does.
+
+        Raises PixError where the buffer is too short for the size.
+        """
+        memory, element, elements, width, height, stride, type = self._rows
+        if width and height and (stride < width or (height - 1) * stride + width > elements):
+            raise PixError(Status.BAD_SIZE)
+        size = ctypes.sizeof(element)
+        channel = size if type is None else size // type.channels
+        step = stride * size
+        shape, strides = (height, width), (step, size)
+        if type is not None:
+            shape, strides = (*shape, type.channels), (*strides, channel)
+        order = "|" if channel == 1 else {"little": "<", "big": ">"}[sys.byteorder]
+        data = memory.address, memory.is_readonly
+        return {"version": 3, "shape": shape, "typestr": f"{order}u{channel}", "data": data, "strides": strides}
 
     def _value(self) -> bytearray:
         """A copy of the rows without what lies between them."""
