@@ -18,9 +18,6 @@ _convert_rows = Call("pix_convert_rows")
 # The greatest width and height of a picture.
 _MOST = 2**31 - 1
 
-# What Pillow calls the formats that it has: sRGB and not premultiplied.
-MODES = {"RGBA": Format.SRGBA8, "RGB": Format.SRGB8, "L": Format.SGRAY8, "LA": Format.SGRAYA8}
-
 
 class Bitmap:
     """Rows of pixels of a format in a buffer: of (height, width * samples) or (height, width, samples) elements, or of bytes.

@@ -5,10 +5,10 @@ from __future__ import annotations
 import ctypes
 from array import array
 from functools import lru_cache
-from operator import index
 from typing import Any, Iterable, Optional, SupportsIndex, Tuple, Union
 
 from pix._bitmap import Bitmap, write
+from pix._numbers import index
 from pix._pixels import RGBA16, PixelType, kind_of
 from pix._values import Format
 
@@ -226,3 +226,15 @@ def refuse_mistaken(color: Tuple[int, ...], kind: PixelType) -> None:
         instead = f"pix.color_of(pix.Format.RGBA16, {color}) for one with a straight alpha"
     meant = f"pix.Color({color}, pix.{kind}) where just this is meant"
     raise ValueError(f"{color} {why}: write {instead}, or {meant}")
+
+
+def table_of(table: Any) -> bytes:
+    """The bytes of a table of at most 256 colors: a buffer of three bytes each, or texts and tuples as srgb() takes them."""
+    try:
+        entries = memoryview(table).tobytes()
+    except TypeError:
+        colors = [color if type(color) is Srgb else srgb(color) for color in table]
+        entries = b"".join(color._bytes[:3] for color in colors)
+    if not entries or len(entries) % 3 or len(entries) > 768:
+        raise ValueError(f"{len(entries)} bytes are no table of 1 to 256 colors of three bytes")
+    return entries

@@ -5,12 +5,13 @@ from __future__ import annotations
 import ctypes
 from typing import Any, Iterable, Optional, SupportsIndex, Tuple, Union
 
-from pix._bitmap import MODES, Bitmap, new_array, write
+from pix._bitmap import Bitmap, new_array, write
 from pix._command import Command
+from pix._fresh import zeros
 from pix._library import LONG
 from pix._list import CommandList, Listed
 from pix._memory import Buffer
-from pix._numbers import index
+from pix._pillow import facts_of, image_of, picture_of
 from pix._pixels import RGBA8, RGBA16, PixelType, kind_of
 from pix._turns import turns
 from pix._values import Format, PixError, Status, origin_of, u32
@@ -68,7 +69,7 @@ class Image(View):
     def new(cls, width: SupportsIndex, height: SupportsIndex, type: PixelType = RGBA8) -> Image:
         """Makes a transparent image of so many pixels; its buffer is its `pixels`, of bytes."""
         columns, rows = u32(width, "width"), u32(height, "height")
-        return cls(bytearray(columns * rows * ctypes.sizeof(kind_of(type)._color)), columns, rows, type=type)
+        return cls(zeros(columns * rows * ctypes.sizeof(kind_of(type)._color)), columns, rows, type=type)
 
     @classmethod
     def from_array(
@@ -98,26 +99,33 @@ class Image(View):
         return array
 
     @classmethod
-    def from_pillow(cls, picture: Any, type: PixelType = RGBA16) -> Image:
-        """Makes an image of a picture of Pillow: one of the modes RGBA, RGB, L and LA as it is, and others by way of RGBA."""
-        if picture.mode not in MODES:
-            picture = picture.convert("RGBA")
-        width, height = picture.size
-        source = Bitmap(picture.tobytes(), MODES[picture.mode], width, height)
-        image = cls.new(width, height, type)
-        write(image._bitmap(), source)
-        return image
+    def from_pillow(cls, picture: Any, type: PixelType = RGBA16, white: Optional[float] = None) -> Image:
+        """Makes an image of a picture of Pillow, of any mode that Pillow converts to RGBA.
 
-    def to_pillow(self, mode: str = "RGBA") -> Any:
-        """The picture as one of Pillow, of the mode RGBA, RGB, L or LA."""
-        from PIL import Image as pillow
+        Gray of 16 bits, the modes I;16 and I, keeps all of its levels. `white` is the number that is white in a picture of the mode I
+        or F: it has to be told, but for PNG and PPM files, in which it is 65535. A color that the picture calls transparent is clear.
+        The picture isn't turned as its EXIF says, which open() does.
 
-        if mode not in MODES:
-            raise ValueError(f"mode {mode!r} is none of {', '.join(MODES)}")
-        data = bytearray(self.width * self.height * MODES[mode].size)
-        write(Bitmap(data, MODES[mode], self.width, self.height), self._bitmap())
-        size = self.width, self.height
-        return pillow.frombytes(mode, size, bytes(data)) if data else pillow.new(mode, size)
+        >>> from PIL import Image as pillow
+        >>> pix.Image.from_pillow(pillow.new("RGB", (3, 2), "#c87828"))
+        <pix.Image 3 x 2, RGBA16>
+        """
+        kind = kind_of(type)
+        return image_of(picture, facts_of(picture, white), lambda width, height: cls.new(width, height, kind))
+
+    def to_pillow(self, mode: str = "RGBA", table: Any = None, diffuse: bool = False) -> Any:
+        """The picture as one of Pillow, of the mode RGBA, RGB, L or LA; or of P: of indices into a table of colors.
+
+        `table` is a buffer of three bytes for each color, or has texts and tuples as srgb() takes them; without it one of the
+        picture's own colors is made. With `diffuse` the error of each pixel is handed on to those beside it. Pixels whose alpha is
+        below 128 become an entry of their own, which is transparent.
+
+        >>> image = pix.Image.new(2, 1)
+        >>> image.run(pix.copy_color((0, 0, 2, 1), pix.srgb("#c87828")))
+        >>> image.to_pillow("P", ["#000", "#c80"]).getpixel((0, 0))
+        1
+        """
+        return picture_of(self, mode, table, diffuse)
 
     def _bitmap(self) -> Bitmap:
         """The rows as a bitmap."""

@@ -2,12 +2,12 @@
 
 from __future__ import annotations
 
-from operator import index
 from typing import Any, Iterable, List, Optional, SupportsIndex
 
 from pix._colors import AnyColor, fraction_of
 from pix._command import Command
 from pix._image import Image
+from pix._numbers import index
 from pix._values import Op, region_of
 from pix._views import Matte
 

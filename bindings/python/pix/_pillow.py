@@ -1,0 +1,177 @@
+"""Pictures of Pillow: from them strip by strip, and to them over memory that is theirs from then on."""
+
+from __future__ import annotations
+
+import sys
+from array import array
+from typing import Any, Callable, NamedTuple, Optional, Tuple
+
+from pix._bitmap import Bitmap, write
+from pix._colors import table_of
+from pix._fresh import lit, looked_up, scaled, zeros
+from pix._indexed import diffuse_indexed, map_indexed, table_from
+from pix._values import Format
+
+# How many bytes of a picture are read at once: they stay in a core's own cache, and malloc keeps such blocks.
+STRIP = 96 << 10
+
+# The modes that are read as they are: how Pillow packs them, and the format that this is.
+_PACKED = {
+    "RGBA": ("RGBA", Format.SRGBA8), "RGB": ("RGBX", Format.SRGBX8), "RGBX": ("RGBX", Format.SRGBX8),
+    "L": ("L", Format.SGRAY8), "LA": ("LA", Format.SGRAYA8),
+}  # fmt: skip
+
+# The modes that to_pillow() makes.
+_MADE = {"RGBA": Format.SRGBA8, "RGB": Format.SRGBX8, "L": Format.SGRAY8, "LA": Format.SGRAYA8}
+
+# Pixels whose alpha is below this are clear in a picture of indices.
+CLEAR = 128
+
+
+class Facts(NamedTuple):
+    """What a picture's pixels don't tell: which number is white in gray of many bits, and which level or color is clear."""
+
+    white: Optional[float]
+    clear: Any
+
+
+def facts_of(picture: Any, white: Optional[float]) -> Facts:
+    """What there is to know of a picture, before its pixels are loaded."""
+    mode, clear = picture.mode, picture.info.get("transparency")
+    # How a file packs its pixels. Pillow makes them 8 bits, but not what the file says of a clear one.
+    tiles = getattr(picture, "tile", None)
+    packed = str(tiles[0][3]) if tiles else ""
+    if mode == "L" and isinstance(clear, int):
+        clear *= {"L;2": 85, "L;4": 17}.get(packed, 1)
+    elif mode == "1" and isinstance(clear, int):
+        clear = 255 if clear else 0
+    elif mode == "RGB" and isinstance(clear, tuple) and (max(clear) > 255 or packed == "RGB;16B"):
+        clear = tuple(level >> 8 for level in clear)
+    if white is not None and not 0 < white < float("inf"):
+        raise ValueError(f"white {white} is not above 0")
+    if white is None and (mode.startswith("I;16") or mode == "I" and picture.format in ("PNG", "PPM")):
+        white = 65535
+    if white is None and mode in ("I", "F"):
+        raise ValueError(
+            f"a picture of mode {mode} doesn't tell which number is white: write white=65535 for gray of 16 bits, "
+            f"white=255 for numbers of 8 bits, or white=1 for fractions"
+        )
+    return Facts(white, clear)
+
+
+def image_of(picture: Any, facts: Facts, new: Callable[[int, int], Any]) -> Any:
+    """An image, which `new` makes, of a picture: strip by strip, so that no second copy of all of it is made."""
+    width, height = picture.size
+    picture.load()
+    image = new(width, height)
+    target, target_format = image.pixels, image._bitmap().format
+    row = width * target_format.size
+    rows = max(1, STRIP // (4 * width)) if width else 1
+    for top in range(0, height if width else 0, rows):
+        end = min(height, top + rows)
+        strip = picture.crop((0, top, width, end))
+        data, format = read_strip(strip, facts)
+        band = Bitmap(target[top * row : end * row], target_format, width, end - top)
+        write(band, Bitmap(data, format, width, end - top))
+    return image
+
+
+def read_strip(strip: Any, facts: Facts) -> Tuple[Any, Format]:
+    """The pixels of a few rows, and their format."""
+    mode, clear = strip.mode, facts.clear
+    if mode[:1] in "IF":
+        return read_levels(strip, facts)
+    if mode in ("1", "L") and isinstance(clear, int):
+        from PIL import Image as pillow
+
+        gray = strip.convert("L")
+        alpha = gray.point([0 if level == clear else 255 for level in range(256)])
+        strip = pillow.merge("LA", (gray, alpha))
+    elif mode == "RGB" and clear is not None:
+        strip.info["transparency"] = clear
+        strip = strip.convert("RGBA")
+    elif mode not in _PACKED:
+        try:
+            strip = strip.convert("RGBA")
+        except ValueError as fault:
+            raise ValueError(f"Pillow converts no mode {mode} to RGBA: convert the picture first") from fault
+    packed, format = _PACKED[strip.mode]
+    return strip.tobytes("raw", packed), format
+
+
+def read_levels(strip: Any, facts: Facts) -> Tuple[Any, Format]:
+    """The light of gray of more than 8 bits, and its format."""
+    white, mode = facts.white or 65535, strip.mode
+    if mode == "I" and white == 65535:
+        strip, mode = strip.convert("I;16"), "I;16"
+    order = "big" if mode == "I;16B" else sys.byteorder if mode == "I;16N" else "little"
+    numbers = array({"I": "i", "F": "f"}.get(mode, "H"))
+    numbers.frombytes(strip.tobytes())
+    if mode.startswith("I;16") and order != sys.byteorder:
+        numbers.byteswap()
+    levels = numbers if numbers.typecode == "H" and white == 65535 else scaled(numbers, white)
+    if not isinstance(facts.clear, int) or not 0 <= facts.clear <= 65535:
+        return lit(levels), Format.GRAY16
+    alphas = array("H", [65535]) * 65536
+    alphas[facts.clear] = 0
+    both = array("H", bytes(4 * len(levels)))
+    both[::2] = array("H", bytes(lit(levels)))
+    both[1::2] = array("H", bytes(looked_up(alphas, levels)))
+    return both, Format.GRAYA16
+
+
+def picture_of(image: Any, mode: str, table: Any, diffuse: bool) -> Any:
+    """A picture of Pillow of an image."""
+    from PIL import Image as pillow
+
+    if mode == "P":
+        return indexed(image, table, diffuse)
+    if mode not in _MADE:
+        raise ValueError(f"mode {mode!r} is none of {', '.join(_MADE)} and P: make RGB, and convert that by Pillow")
+    if table is not None:
+        raise ValueError(f"a picture of mode {mode} has no table: write to_pillow('P', table)")
+    size, format = (image.width, image.height), _MADE[mode]
+    if not image.width or not image.height:
+        return pillow.new(mode, size)
+    data = zeros(image.width * image.height * format.size)
+    write(Bitmap(data, format, *size), image._bitmap())
+    if mode == "LA":
+        return pillow.frombytes(mode, size, bytes(data))
+    if mode == "RGB":
+        return mapped_rgb(size, data)
+    return pillow.frombuffer(mode, size, data, "raw", mode, 0, 1)
+
+
+def mapped_rgb(size: Tuple[int, int], data: Any) -> Any:
+    """A picture RGB over memory of four bytes a pixel, as Pillow itself keeps them."""
+    from PIL import Image as pillow
+
+    return pillow.frombuffer("RGBX", size, data, "raw", "RGBX", 0, 1).convert("RGB")
+
+
+def indexed(image: Any, table: Any, diffuse: bool) -> Any:
+    """A picture of indices into a table of colors, which is made where none is given; one more entry is for clear pixels."""
+    from PIL import Image as pillow
+
+    size = image.width, image.height
+    pixels = zeros(image.width * image.height * 4)
+    write(Bitmap(pixels, Format.SRGBA8, *size), image._bitmap())
+    alphas = bytes(memoryview(pixels)[3::4])
+    has_clear = any(alphas.count(alpha) for alpha in range(CLEAR))
+    if table is None:
+        entries = bytes(table_from(pixels, 255 if has_clear else 256, Format.SRGBA8, CLEAR))
+    else:
+        entries = table_of(table)
+    kept = len(entries) // 3
+    if has_clear and kept == 256:
+        raise ValueError("a table of 256 colors has no room for clear pixels, which this image has: pass 255 at most")
+    how = {"format": Format.SRGBA8, "alpha": CLEAR, "kept": kept if has_clear else 0}
+    if not image.width or not image.height:
+        return pillow.new("P", size)
+    known = entries or bytes(3)
+    indices = diffuse_indexed(known, pixels, image.width, **how) if diffuse else map_indexed(known, pixels, **how)
+    picture = pillow.frombuffer("P", size, indices, "raw", "P", 0, 1)
+    picture.putpalette(entries + bytes(3) if has_clear else entries)
+    if has_clear:
+        picture.info["transparency"] = kept
+    return picture
