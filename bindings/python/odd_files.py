@@ -323,7 +323,8 @@ def make_others(folder: pathlib.Path) -> Iterator[OddFile]:
         except (KeyError, OSError):  # this Pillow has no such format
             (folder / name).unlink(missing_ok=True)
             continue
-        yield OddFile(folder / name, what, picture.size)
+        rgba = picture.convert("RGBA").tobytes() if name.endswith(".png") else None
+        yield OddFile(folder / name, what, picture.size, rgba)
 
 
 def make(folder: pathlib.Path) -> List[OddFile]:

@@ -7,6 +7,7 @@ from typing import Any, Iterable, Optional, SupportsIndex, Tuple, Union
 
 from pix._bitmap import Bitmap, new_array, write
 from pix._command import Command
+from pix._files import opened, saved, shown
 from pix._fresh import zeros
 from pix._library import LONG
 from pix._list import CommandList, Listed
@@ -97,6 +98,42 @@ class Image(View):
         array = new_array(source.width, source.height, format)
         write(Bitmap(array, format, source.width, source.height), source)
         return array
+
+    @classmethod
+    def open(cls, file: Any, type: PixelType = RGBA16, white: Optional[float] = None) -> Image:
+        """Makes an image of a picture file, given by its path or open for reading bytes: of the first picture in it, turned as its
+        EXIF says.
+
+        Pillow reads it where that is there, as from_pillow() says; and else PNG, PPM and PGM files are read. Levels of 16 bits are
+        kept, but for colors of 16 bits that Pillow reads, of which it keeps the upper bytes. Profiles of colors aren't looked at:
+        the numbers are taken as sRGB, and four inks (CMYK) are converted as Pillow does, by their products.
+
+        Raises OSError where there is no such file or no whole picture in it, and ValueError where a file of numbers of 32 bits
+        doesn't tell which is `white`.
+        """
+        kind = kind_of(type)
+        return opened(file, white, lambda width, height: cls.new(width, height, kind))
+
+    def save(self, file: Any, format: Optional[str] = None, **options: Any) -> None:
+        """Writes the picture into a file, given by its path or open for writing bytes, of the kind that its name ends in, or that
+        `format` names as Pillow does: .png, .ppm and .pgm, and with Pillow all that it writes, with its options.
+
+        Its colors are sRGB of 8 bits. Where all pixels are opaque, no alpha is written.
+
+        Raises ValueError where the file can't have an alpha and the image has one, or is of a kind that can't be written.
+
+        >>> import io
+        >>> file = io.BytesIO()
+        >>> image = pix.Image.new(3, 2)
+        >>> image.save(file, "PNG")
+        >>> pix.Image.open(file, pix.RGBA8)
+        <pix.Image 3 x 2, RGBA8>
+        """
+        saved(self, file, format, options)
+
+    def _repr_png_(self) -> Optional[bytes]:
+        """What a notebook shows: a PNG file."""
+        return shown(self)
 
     @classmethod
     def from_pillow(cls, picture: Any, type: PixelType = RGBA16, white: Optional[float] = None) -> Image:

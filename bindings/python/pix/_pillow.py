@@ -10,7 +10,7 @@ from pix._bitmap import Bitmap, write
 from pix._colors import table_of
 from pix._fresh import lit, looked_up, scaled, zeros
 from pix._indexed import diffuse_indexed, map_indexed, table_from
-from pix._values import Format
+from pix._values import Format, Status
 
 # How many bytes of a picture are read at once: they stay in a core's own cache, and malloc keeps such blocks.
 STRIP = 96 << 10
@@ -133,13 +133,21 @@ def picture_of(image: Any, mode: str, table: Any, diffuse: bool) -> Any:
     size, format = (image.width, image.height), _MADE[mode]
     if not image.width or not image.height:
         return pillow.new(mode, size)
-    data = zeros(image.width * image.height * format.size)
-    write(Bitmap(data, format, *size), image._bitmap())
+    data = pixels_of(image, format)
     if mode == "LA":
         return pillow.frombytes(mode, size, bytes(data))
     if mode == "RGB":
         return mapped_rgb(size, data)
     return pillow.frombuffer(mode, size, data, "raw", mode, 0, 1)
+
+
+def pixels_of(image: Any, format: Format) -> Any:
+    """The pixels of an image in a format, in new memory of bytes."""
+    source = image._bitmap()
+    source.refuse_unheld(Status.BAD_SOURCE)
+    data = zeros(source.pixels * format.size)
+    write(Bitmap(data, format, source.width, source.height), source)
+    return data
 
 
 def mapped_rgb(size: Tuple[int, int], data: Any) -> Any:
@@ -153,9 +161,7 @@ def indexed(image: Any, table: Any, diffuse: bool) -> Any:
     """A picture of indices into a table of colors, which is made where none is given; one more entry is for clear pixels."""
     from PIL import Image as pillow
 
-    size = image.width, image.height
-    pixels = zeros(image.width * image.height * 4)
-    write(Bitmap(pixels, Format.SRGBA8, *size), image._bitmap())
+    size, pixels = (image.width, image.height), pixels_of(image, Format.SRGBA8)
     alphas = bytes(memoryview(pixels)[3::4])
     has_clear = any(alphas.count(alpha) for alpha in range(CLEAR))
     if table is None:

@@ -1,0 +1,261 @@
+"""Picture files: each odd one is what Pillow makes of it, with Pillow and without; what is saved comes back; refusals say why."""
+
+import doctest
+import io
+import os
+import pathlib
+import struct
+import sys
+import tempfile
+import unittest
+import zlib
+from unittest import mock
+
+import odd_files
+import pix
+from pix import Format, _image, _png
+
+try:
+    from PIL import Image as pillow
+except ImportError:
+    pillow = None
+
+# What Pillow can be asked for without it being there.
+ALONE = mock.patch.dict(sys.modules, {"PIL": None})
+
+
+def straight(image):
+    """The picture of an image as bytes of red, green, blue and alpha."""
+    return bytes(image.to_array(pix.SRGBA8))
+
+
+def fan(size=(40, 30), kind=pix.RGBA16, opacity=1.0):
+    """An image of colors that differ from place to place, over a ground."""
+    image = pix.Image.new(*size, kind)
+    image.run(pix.copy_color((0, 0, *size), pix.srgb("#203040", opacity=opacity)))
+    for i in range(0, size[0], 4):
+        image.run(pix.composite_color((i, i // 2, 9, 9), pix.srgb(i * 6 % 256, 255 - i % 256, i * 37 % 256, 200)))
+    return image
+
+
+class Trial(unittest.TestCase):
+    def setUp(self):
+        folder = tempfile.TemporaryDirectory()
+        self.addCleanup(folder.cleanup)
+        self.folder = pathlib.Path(folder.name)
+
+    def alike(self, one, other, most=0):
+        """Two pictures of bytes differ by `most` at most, but where their pixels are nearly clear."""
+        self.assertEqual(len(one), len(other))
+        for i in range(0, len(one), 4):
+            a, b = one[i : i + 4], other[i : i + 4]
+            if a != b and max(a[3], b[3]) > 13:
+                self.assertLessEqual(max(abs(x - y) for x, y in zip(a, b)), most, (i // 4, a, b))
+
+
+class OddFiles(Trial):
+    """Files that programs stumble over."""
+
+    @classmethod
+    def setUpClass(cls):
+        folder = tempfile.TemporaryDirectory()
+        cls.addClassCleanup(folder.cleanup)
+        cls.files = odd_files.make(pathlib.Path(folder.name))
+
+    def refused(self, file):
+        """The file is refused by an OSError with a sentence that names it."""
+        with self.assertRaises(OSError) as caught:
+            pix.Image.open(file.path)
+        self.assertIn(file.path.name, str(caught.exception))
+        self.assertGreater(len(str(caught.exception)), len(str(file.path)) + 10)
+
+    def test_there_are_many(self):
+        self.assertGreaterEqual(len(self.files), 40)
+
+    @unittest.skipIf(pillow is None, "Pillow is not there")
+    def test_each_is_what_pillow_makes_of_it(self):
+        for file in self.files:
+            with self.subTest(file.path.name):
+                if file.size is None:
+                    self.refused(file)
+                    continue
+                image, wanted = pix.Image.open(file.path), odd_files.pillow_picture(file.path)
+                self.assertEqual((image.width, image.height), file.size)
+                self.alike(straight(image), wanted.tobytes(), 1 if file.path.suffix == ".pgm" else 0)
+                if file.rgba:
+                    self.alike(straight(image), file.rgba, 1)
+
+    def test_each_without_pillow(self):
+        for file in self.files:
+            with self.subTest(file.path.name), ALONE:
+                if file.rgba is None:
+                    self.refused(file)
+                    continue
+                image = pix.Image.open(file.path)
+                self.assertEqual((image.width, image.height), file.size)
+                self.alike(straight(image), file.rgba, 1 if "16" in file.path.name else 0)
+
+    @unittest.skipIf(pillow is None, "Pillow is not there")
+    def test_eight_ways_to_turn_a_photograph(self):
+        """Its EXIF was not looked at."""
+        files = [file for file in self.files if file.path.name.startswith("exif-")]
+        self.assertEqual(len(files), 9)
+        for file in files:
+            image = pix.Image.open(file.path, pix.RGBA8)
+            self.assertEqual((image.width, image.height), (48, 32))
+            self.alike(straight(image), odd_files.blocks().convert("RGBA").tobytes(), 12)
+
+    def test_what_else_is_no_picture(self):
+        good = next(file.path for file in self.files if file.path.name == "color8.png").read_bytes()
+        head = good[16:29]
+        for name, data in {
+            "no-pixels": b"\x89PNG\r\n\x1a\n" + odd_files.chunk(b"IHDR", head) + odd_files.chunk(b"IEND", b""),
+            "no-head": b"\x89PNG\r\n\x1a\n" + odd_files.chunk(b"IEND", b""),
+            "huge": b"\x89PNG\r\n\x1a\n" + odd_files.chunk(b"IHDR", struct.pack(">II", 2**31 - 1, 2**31 - 1) + head[8:])
+            + odd_files.chunk(b"IDAT", zlib.compress(bytes(100))) + odd_files.chunk(b"IEND", b""),
+            "no-bits": good.replace(head, head[:8] + b"\3" + head[9:]),
+            "no-palette": odd_files.png((3, 3), odd_files.PALETTE, 8, lambda x, y: [x]),
+            "unknown": odd_files.png((3, 3), odd_files.GRAY, 8, lambda x, y: [x], odd_files.chunk(b"ABCD", b"")),
+            "filter": odd_files.png((1, 1), odd_files.GRAY, 8, lambda x, y: [x]).replace(
+                odd_files.chunk(b"IDAT", zlib.compress(b"\0\0")), odd_files.chunk(b"IDAT", zlib.compress(b"\5\0"))),
+            "ppm-white": b"P6 1 1 0\n" + bytes(6),
+            "ppm-size": b"P6 99999999999 1 255\n" + bytes(6),
+            "ppm-huge": b"P5 2147483647 2147483647 65535\n" + bytes(6),
+        }.items():  # fmt: skip
+            with self.subTest(name), ALONE:
+                self.assertRaises(OSError, pix.Image.open, io.BytesIO(data))
+
+
+class Saved(Trial):
+    def comes_back(self, image, name, **options):
+        path = self.folder / name
+        image.save(path, **options)
+        again = pix.Image.open(path)
+        self.assertEqual(straight(again), straight(image), name)
+        if pillow is not None:
+            with pillow.open(path) as picture:
+                self.assertEqual(picture.convert("RGBA").tobytes(), straight(image))
+            with ALONE:
+                self.assertEqual(straight(pix.Image.open(path)), straight(image))
+
+    def test_a_picture_comes_back(self):
+        opaque = [fan(), fan((1, 1)), fan((301, 7), pix.RGBA8)]
+        for image in opaque:
+            for name in ("a.png", "a.ppm", "A.PNG"):
+                self.comes_back(image, name)
+                with ALONE:
+                    self.comes_back(image, name)
+        gray = fan(kind=pix.GRAYA8)
+        for image, name in ((gray, "gray.pgm"), (gray, "gray.png"), (fan(kind=pix.GRAYA8, opacity=0.4), "alpha.png"),
+                            (fan(opacity=0.4), "alpha.png")):  # fmt: skip
+            self.comes_back(image, name)
+            with ALONE:
+                self.comes_back(image, name)
+
+    def test_the_kind_of_png(self):
+        for image, color in ((fan(), 2), (fan(opacity=0.5), 6), (fan(kind=pix.GRAYA8), 0), (fan(kind=pix.GRAYA8, opacity=0.5), 4)):
+            for alone in (True, False):
+                file = io.BytesIO()
+                with ALONE if alone else mock.MagicMock():
+                    image.save(file, "PNG")
+                self.assertEqual(file.getvalue()[24:26], bytes((8, color)))
+
+    def test_by_a_path_a_text_and_an_open_file(self):
+        image, path = fan(), self.folder / "a.png"
+        for name in (path, str(path), os.fsencode(path)):
+            for alone in (True, False):
+                with ALONE if alone else mock.MagicMock():
+                    image.save(name)
+                    self.assertEqual(straight(pix.Image.open(name)), straight(image))
+                    path.unlink()
+        for alone in (True, False):
+            with ALONE if alone else mock.MagicMock(), open(path, "w+b") as file:
+                image.save(file, format="png")
+                file.seek(0)
+                self.assertEqual(straight(pix.Image.open(file)), straight(image))
+
+    @unittest.skipIf(pillow is None, "Pillow is not there")
+    def test_what_pillow_writes(self):
+        for name, options, most in (("a.jpg", {"quality": 95, "subsampling": 0}, 40), ("a.bmp", {}, 0), ("a.tif", {}, 0), ("a.gif", {}, 255)):
+            image = fan()
+            image.save(self.folder / name, **options)
+            self.alike(straight(pix.Image.open(self.folder / name)), straight(image), most)
+
+    def test_a_file_without_an_alpha(self):
+        """It is refused with what to write, which does it."""
+        for name in ("a.jpg", "a.ppm", "a.pgm")[pillow is None :]:
+            image = fan(opacity=0.5)
+            with self.assertRaisesRegex(ValueError, "has no alpha.*paint a ground behind it first") as caught:
+                image.save(self.folder / name)
+            exec(str(caught.exception).split(", as ")[-1], {"pix": pix, "image": image})
+            image.save(self.folder / name)
+
+    def test_refusals(self):
+        image = fan()
+        self.assertRaisesRegex(ValueError, "0 x 3 pixels is no file", pix.Image.new(0, 3).save, self.folder / "a.png")
+        self.assertRaises(ValueError, image.save, self.folder / "a.nothing")
+        self.assertRaises(OSError, image.save, self.folder / "none" / "a.png")
+        self.assertRaises(TypeError, image.save, self.folder / "a.ppm", quality=3)
+        self.assertRaises(TypeError, pix.Image.open, self.folder / "a.png", "RGBA8")
+        for wrong in (None, 3.5, {}):
+            self.assertRaises((TypeError, ValueError, AttributeError, OSError), pix.Image.open, wrong)
+        with ALONE:
+            self.assertRaisesRegex(ValueError, "write format='PNG'", image.save, io.BytesIO())
+            self.assertRaisesRegex(ValueError, "without Pillow", image.save, self.folder / "a.jpg")
+        self.assertEqual(sorted(path.name for path in self.folder.iterdir()), [])
+
+    @unittest.skipIf(pillow is None, "Pillow is not there")
+    def test_numbers_whose_white_is_not_told(self):
+        path = self.folder / "wide.tif"
+        pillow.new("F", (3, 2), 0.5).save(path)
+        self.assertRaisesRegex(ValueError, "write white=65535", pix.Image.open, path)
+        self.assertEqual(straight(pix.Image.open(path, white=1.0))[:4], bytes((128, 128, 128, 255)))
+
+    def test_notebooks(self):
+        for alone in (True, False):
+            with ALONE if alone else mock.MagicMock():
+                shown = fan()._repr_png_()
+                self.assertEqual(straight(pix.Image.open(io.BytesIO(shown))), straight(fan()))
+                self.assertIsNone(pix.Image.new(0, 4)._repr_png_())
+
+
+class Png(Trial):
+    """The reader of this package."""
+
+    def test_all_filters_of_all_widths(self):
+        for width in (1, 2, 3, 7, 8, 9, 17):
+            for interlaced in (False, True):
+                def at(x, y):
+                    return (x * 67 + y * 3) & 255, (y * 129 + x) & 255, (x * y) & 255, 255 - x - y
+
+                data = odd_files.png((width, 11), odd_files.COLOR_ALPHA, 8, at, b"", interlaced)
+                wanted = b"".join(bytes(at(x, y)) for y in range(11) for x in range(width))
+                read = _png.read_png(data)
+                self.assertEqual((read.width, read.height, read.format, read.data.tobytes()), (width, 11, Format.SRGBA8, wanted))
+
+    def test_each_turn(self):
+        pixels = list("abcdef")
+        codes = [ord(letter) for letter in pixels]
+        for how, rows in ((1, ["abc", "def"]), (2, ["cba", "fed"]), (3, ["fed", "cba"]), (4, ["def", "abc"]),
+                          (5, ["ad", "be", "cf"]), (6, ["da", "eb", "fc"]), (7, ["fc", "eb", "da"]), (8, ["cf", "be", "ad"])):  # fmt: skip
+            width, height, turned = _png.turned(3, 2, _png.array("I", codes), how)
+            self.assertEqual((width, height), (len(rows[0]), len(rows)))
+            self.assertEqual("".join(map(chr, turned)), "".join(rows), how)
+
+    def test_an_exif_that_is_cut(self):
+        exif = b"II*\0\x08\0\0\0\1\0\x12\1\3\0\1\0\0\0\6\0\0\0"
+        self.assertEqual(_png.orientation(exif), 6)
+        for end in range(len(exif) - 2):
+            self.assertEqual(_png.orientation(exif[:end]), 1)
+        self.assertEqual(_png.orientation(exif.replace(b"\6", b"\x09")), 1)
+
+
+def load_tests(loader, tests, pattern):
+    """The examples of the docstrings, too, some of which need Pillow."""
+    if pillow is not None:
+        tests.addTests(doctest.DocTestSuite(_image, {"pix": pix}))
+    return tests
+
+
+if __name__ == "__main__":
+    unittest.main()
