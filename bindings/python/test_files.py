@@ -20,8 +20,10 @@ try:
 except ImportError:
     pillow = None
 
-# What Pillow can be asked for without it being there.
-ALONE = mock.patch.dict(sys.modules, {"PIL": None})
+
+def alone(is_alone=True):
+    """A context in which Pillow isn't there, or in which all is as it is."""
+    return mock.patch.dict(sys.modules, {"PIL": None} if is_alone else {})
 
 
 def straight(image):
@@ -87,7 +89,7 @@ class OddFiles(Trial):
 
     def test_each_without_pillow(self):
         for file in self.files:
-            with self.subTest(file.path.name), ALONE:
+            with self.subTest(file.path.name), alone():
                 if file.rgba is None:
                     self.refused(file)
                     continue
@@ -122,7 +124,7 @@ class OddFiles(Trial):
             "ppm-size": b"P6 99999999999 1 255\n" + bytes(6),
             "ppm-huge": b"P5 2147483647 2147483647 65535\n" + bytes(6),
         }.items():  # fmt: skip
-            with self.subTest(name), ALONE:
+            with self.subTest(name), alone():
                 self.assertRaises(OSError, pix.Image.open, io.BytesIO(data))
 
 
@@ -135,7 +137,7 @@ class Saved(Trial):
         if pillow is not None:
             with pillow.open(path) as picture:
                 self.assertEqual(picture.convert("RGBA").tobytes(), straight(image))
-            with ALONE:
+            with alone():
                 self.assertEqual(straight(pix.Image.open(path)), straight(image))
 
     def test_a_picture_comes_back(self):
@@ -143,33 +145,33 @@ class Saved(Trial):
         for image in opaque:
             for name in ("a.png", "a.ppm", "A.PNG"):
                 self.comes_back(image, name)
-                with ALONE:
+                with alone():
                     self.comes_back(image, name)
         gray = fan(kind=pix.GRAYA8)
         for image, name in ((gray, "gray.pgm"), (gray, "gray.png"), (fan(kind=pix.GRAYA8, opacity=0.4), "alpha.png"),
                             (fan(opacity=0.4), "alpha.png")):  # fmt: skip
             self.comes_back(image, name)
-            with ALONE:
+            with alone():
                 self.comes_back(image, name)
 
     def test_the_kind_of_png(self):
         for image, color in ((fan(), 2), (fan(opacity=0.5), 6), (fan(kind=pix.GRAYA8), 0), (fan(kind=pix.GRAYA8, opacity=0.5), 4)):
-            for alone in (True, False):
+            for is_alone in (True, False):
                 file = io.BytesIO()
-                with ALONE if alone else mock.MagicMock():
+                with alone(is_alone):
                     image.save(file, "PNG")
                 self.assertEqual(file.getvalue()[24:26], bytes((8, color)))
 
     def test_by_a_path_a_text_and_an_open_file(self):
         image, path = fan(), self.folder / "a.png"
         for name in (path, str(path), os.fsencode(path)):
-            for alone in (True, False):
-                with ALONE if alone else mock.MagicMock():
+            for is_alone in (True, False):
+                with alone(is_alone):
                     image.save(name)
                     self.assertEqual(straight(pix.Image.open(name)), straight(image))
                     path.unlink()
-        for alone in (True, False):
-            with ALONE if alone else mock.MagicMock(), open(path, "w+b") as file:
+        for is_alone in (True, False):
+            with alone(is_alone), open(path, "w+b") as file:
                 image.save(file, format="png")
                 file.seek(0)
                 self.assertEqual(straight(pix.Image.open(file)), straight(image))
@@ -199,7 +201,7 @@ class Saved(Trial):
         self.assertRaises(TypeError, pix.Image.open, self.folder / "a.png", "RGBA8")
         for wrong in (None, 3.5, {}):
             self.assertRaises((TypeError, ValueError, AttributeError, OSError), pix.Image.open, wrong)
-        with ALONE:
+        with alone():
             self.assertRaisesRegex(ValueError, "write format='PNG'", image.save, io.BytesIO())
             self.assertRaisesRegex(ValueError, "without Pillow", image.save, self.folder / "a.jpg")
         self.assertEqual(sorted(path.name for path in self.folder.iterdir()), [])
@@ -212,8 +214,8 @@ class Saved(Trial):
         self.assertEqual(straight(pix.Image.open(path, white=1.0))[:4], bytes((128, 128, 128, 255)))
 
     def test_notebooks(self):
-        for alone in (True, False):
-            with ALONE if alone else mock.MagicMock():
+        for is_alone in (True, False):
+            with alone(is_alone):
                 shown = fan()._repr_png_()
                 self.assertEqual(straight(pix.Image.open(io.BytesIO(shown))), straight(fan()))
                 self.assertIsNone(pix.Image.new(0, 4)._repr_png_())
