@@ -137,7 +137,7 @@ uint32_t pix_convert_rows(uint32_t from, uint32_t to, const uint8_t *src, size_t
         return PIX_BAD_SIZE;
     if (!is_held(width, height, (uint64_t)width * size, src_stride, src_len))
         return PIX_BAD_SOURCE;
-    for (uint32_t y = 0; y < height; y++)
+    for (uint32_t y = 0; width && y < height; y++)
         for (uint32_t x = 0; x < width; x++)
             plain_cross(&source, &target, row_at(src, src_stride, height, y) + x * size,
                         (uint8_t *)(uintptr_t)row_at(dst, dst_stride, height, y) + x * to_size);

@@ -83,8 +83,9 @@ impl<'a> BitmapMut<'a> {
 
     /// Writes each pixel from that of a picture of the same size at its point, in this format.
     ///
-    /// Between sRGB of 8 bits and linear channels of 16 bits a pixel goes through light, and comes back as it was, but for those
-    /// whose alpha is from 1 to 12; all others are converted as [`convert`](crate::convert) does.
+    /// Between sRGB of 8 bits and linear channels of 16 bits a pixel goes through light. One whose alpha is 13 or more comes back
+    /// as it was. Below that the alpha comes back, and the colors may be others: at alpha 0 they are 0. All other pairs of
+    /// formats are converted as [`convert`](crate::convert) does.
     ///
     /// ```
     /// use pix::{Bitmap, BitmapMut, Command, Format, ImageMut, Op, Region, Rgba16};
@@ -100,10 +101,15 @@ impl<'a> BitmapMut<'a> {
     /// assert_eq!(shown[4..], photo[4..]);
     /// # Ok::<(), pix::Error>(())
     /// ```
+    ///
+    /// # Errors
+    ///
+    /// `OtherSize` where the pictures have different sizes, `Size` where this one has a bad size or stride or too few bytes, and
+    /// `Picture` where `src` has. The pixels are unchanged.
     pub fn convert_from(&mut self, src: Bitmap<'_>) -> Result<(), Error> {
         pix_sys::check_library()?;
         if (src.width, src.height) != (self.width, self.height) {
-            return Err(Error::Source { index: 0 });
+            return Err(Error::OtherSize);
         }
         // SAFETY: pointers and lengths are those of two slices, and the exclusive one shares no byte with the other.
         let answer = unsafe {
@@ -120,10 +126,10 @@ impl<'a> BitmapMut<'a> {
                 self.height,
             )
         };
-        if answer == status::OK {
-            Ok(())
-        } else {
-            Err(Error::of(answer, 0))
+        match answer {
+            status::OK => Ok(()),
+            status::BAD_SOURCE => Err(Error::Picture),
+            _ => Err(Error::of(answer, 0)),
         }
     }
 
@@ -138,10 +144,15 @@ impl<'a> BitmapMut<'a> {
     /// assert_eq!(picture, [100, 50, 25, 128]);
     /// # Ok::<(), pix::Error>(())
     /// ```
+    ///
+    /// # Errors
+    ///
+    /// `Larger` where a pixel of `to` is larger, and `Size` where the picture has a bad size or stride or too few bytes. The
+    /// pixels are unchanged.
     pub fn convert_in_place(self, to: Format) -> Result<(), Error> {
         let (size, to_size) = (self.format.size(), to.size());
         if to_size > size {
-            return Err(Error::Format);
+            return Err(Error::Larger);
         }
         let (width, height) = (self.width as usize, self.height as usize);
         let (wide, apart) = (width * size, self.stride.unsigned_abs());
@@ -152,6 +163,10 @@ impl<'a> BitmapMut<'a> {
         let is_too_large = self.width > i32::MAX as u32 || self.height > i32::MAX as u32;
         if is_too_large || wide > apart || is_high && end > self.bytes.len() {
             return Err(Error::Size);
+        }
+        if width == 0 {
+            // Rows without pixels may be many.
+            return Ok(());
         }
         // A block of pixels is copied, and written from the copy.
         let mut block = [0; 64 * 8];

@@ -182,7 +182,7 @@ impl<'a, P: Pixel> Command<'a, P> {
         let bottom = to.height.min(to.y.abs_diff(i32::MAX).saturating_add(1));
         let columns = right.div_ceil(from.width.max(1));
         let rows = bottom.div_ceil(from.height.max(1));
-        let is_empty = from.width == 0 || from.height == 0;
+        let is_empty = to.width == 0 || from.width == 0 || from.height == 0;
         (0..if is_empty { 0 } else { rows }).flat_map(move |row| {
             (0..columns).map(move |column| {
                 let (x, y) = (column * from.width, row * from.height);

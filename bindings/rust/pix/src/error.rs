@@ -15,9 +15,16 @@ pub enum Error {
     Region { index: usize },
     /// The source or the mask has a side above 2147483647, a stride below its width, or too few pixels.
     Source { index: usize },
-    /// There is no such conversion: in place, a pixel would be larger.
+    /// The picture that is to be converted has a side above 2147483647, a stride below its width, or too few bytes.
+    Picture,
+    /// The picture that is to be converted has another size than the one that is to be written.
+    OtherSize,
+    /// [`convert`](crate::convert) takes no such format: a [`BitmapMut`](crate::BitmapMut) takes all.
     Format,
-    /// The bytes to convert, or those to write, are not those of so many whole pixels.
+    /// In place, a pixel would be larger.
+    Larger,
+    /// Lengths don't go together: bytes that are not those of so many whole pixels, more or fewer indices than pixels, or
+    /// work memory of another length.
     Length,
     /// A table of colors has no entry, or more than 256.
     Table,
@@ -72,8 +79,17 @@ impl fmt::Display for Error {
                     "command {index}: its source has a bad size or stride, or too few pixels"
                 )
             }
-            Error::Format => f.write_str("in place, a pixel would be larger"),
-            Error::Length => f.write_str("the bytes are not those of so many pixels"),
+            Error::Picture => f.write_str(
+                "the picture to be converted has a bad size or stride, or too few bytes",
+            ),
+            Error::OtherSize => f.write_str(
+                "the picture to be converted has another size than the one to be written",
+            ),
+            Error::Format => {
+                f.write_str("`convert` takes formats up to SGray8; a BitmapMut takes all")
+            }
+            Error::Larger => f.write_str("in place, a pixel would be larger"),
+            Error::Length => f.write_str("the lengths do not go together"),
             Error::Table => f.write_str("a table has no entry, or more than 256"),
             Error::Index => {
                 f.write_str("an index is past the end, or takes more bits than it is to have")

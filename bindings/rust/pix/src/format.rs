@@ -115,6 +115,11 @@ impl Format {
 ///
 /// An alpha that `from` lacks is 255. One that `to` lacks is dropped, and colors that were multiplied by it stay so
 /// from `Rgba8p` and `SRgba8p` to `Rgb8` and `SRgb8`; to all others they are divided by it.
+///
+/// # Errors
+///
+/// `Length` where the bytes are not those of whole pixels, as many of both, and `Format` where a format stands after `SGray8`:
+/// a [`BitmapMut`](crate::BitmapMut) takes those too. The bytes are unchanged.
 pub fn convert(from: Format, src: &[u8], to: Format, dst: &mut [u8]) -> Result<(), Error> {
     pix_sys::check_library()?;
     let count = src.len() / from.size();

@@ -159,7 +159,7 @@ impl<'a, P: Pixel> ImageMut<'a, P> {
     }
 
     /// Returns the bands of so many rows, at least one, from top to bottom: each with the row of the image where it begins.
-    /// The last one may have fewer.
+    /// The last one may have fewer. An image without pixels has none.
     ///
     /// They borrow parts of the image that share nothing, so that threads may paint them at once.
     ///
@@ -187,7 +187,8 @@ impl<'a, P: Pixel> ImageMut<'a, P> {
         Bands {
             pixels: self.pixels,
             width: self.width,
-            height: self.height,
+            // Rows without pixels may be many.
+            height: if self.width == 0 { 0 } else { self.height },
             stride: self.stride,
             rows: rows.max(1),
             top: 0,

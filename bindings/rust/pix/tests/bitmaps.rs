@@ -107,7 +107,7 @@ fn in_place() {
     image.convert_in_place(Format::Rgba8p).expect("multiplied");
     assert_eq!(bytes, [100, 50, 25, 128, 0, 0, 0, 0]);
     let image = BitmapMut::new(&mut bytes, 2, 1, Format::Rgba8);
-    assert_eq!(image.convert_in_place(Format::Rgba16), Err(Error::Format));
+    assert_eq!(image.convert_in_place(Format::Rgba16), Err(Error::Larger));
     let image = BitmapMut::new(&mut bytes, 2, 1, Format::Rgbx8);
     image.convert_in_place(Format::Rgb8).expect("smaller");
     assert_eq!(bytes, [100, 50, 25, 0, 0, 0, 0, 0]);
@@ -120,7 +120,7 @@ fn colors() {
     assert_eq!(Rgba16::of(Format::SRgb8, &[188, 0, 0]), Ok(Rgba16::new(32957, 0, 0, 65535)));
     assert_eq!(Rgba8::of(Format::Rgba8, &[200, 100, 50, 128]), Ok(Rgba8::new(100, 50, 25, 128)));
     let few = Rgba8::of(Format::Rgba8, &[200, 100, 50]);
-    assert_eq!(few, Err(Error::Source { index: 0 }));
+    assert_eq!(few, Err(Error::Picture));
 }
 
 #[test]
@@ -135,10 +135,13 @@ fn refusals() {
         Bitmap::new(&photo[..15], 2, 2, Format::SRgba8),
         Bitmap::with_stride(&photo, 2, 2, 7, Format::SRgba8),
         Bitmap::with_stride(&photo, 2, 2, -7, Format::SRgba8),
-        Bitmap::new(&photo, 2, 1, Format::SRgba8),
         Bitmap::with_stride(&photo, 2, 2, isize::MIN, Format::SRgba8),
     ] {
-        assert_eq!(shown.convert_from(source), Err(Error::Source { index: 0 }));
+        assert_eq!(shown.convert_from(source), Err(Error::Picture));
+    }
+    for (width, height) in [(2, 1), (1, 2), (0, 0), (0, u32::MAX)] {
+        let source = Bitmap::new(&photo, width, height, Format::SRgba8);
+        assert_eq!(shown.convert_from(source), Err(Error::OtherSize));
     }
     assert_eq!(back, [7; 16]);
 }

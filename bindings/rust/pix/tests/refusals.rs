@@ -2,8 +2,8 @@
 #![forbid(unsafe_code)]
 
 use pix::{
-    Command, Error, Format, Graya8, Image, ImageMut, Op, Region, Rgba8, Rgba16, bytes, bytes_mut,
-    convert,
+    Bitmap, BitmapMut, Command, Error, Format, Graya8, Image, ImageMut, Op, Region, Rgba8, Rgba16,
+    bytes, bytes_mut, convert,
 };
 use std::thread;
 
@@ -106,6 +106,31 @@ fn sources_are_tested() {
 fn errors_have_texts() {
     let text = Error::Region { index: 3 }.to_string();
     assert_eq!(text, "command 3: a region has a side above 2147483647");
+    let mut dst = [7; 8];
+    let wide = convert(Format::Rgba16, &[1; 8], Format::Rgba8, &mut dst[..4]).unwrap_err();
+    assert_eq!(
+        wide.to_string(),
+        "`convert` takes formats up to SGray8; a BitmapMut takes all"
+    );
+    assert_eq!(
+        convert(Format::Rgba8, &[1; 4], Format::Rgba16, &mut dst),
+        Err(wide)
+    );
+    let image = BitmapMut::new(&mut dst, 2, 1, Format::Rgba8);
+    let larger = image.convert_in_place(Format::Rgba16).unwrap_err();
+    assert_eq!(larger.to_string(), "in place, a pixel would be larger");
+    let mut image = BitmapMut::new(&mut dst, 2, 1, Format::Rgba8);
+    let sizes = image
+        .convert_from(Bitmap::new(&[1; 8], 1, 2, Format::Rgba8))
+        .unwrap_err();
+    let other_size = "the picture to be converted has another size than the one to be written";
+    assert_eq!(sizes.to_string(), other_size);
+    let few = image
+        .convert_from(Bitmap::new(&[1; 7], 2, 1, Format::Rgba8))
+        .unwrap_err();
+    let picture = "the picture to be converted has a bad size or stride, or too few bytes";
+    assert_eq!(few.to_string(), picture);
+    assert_eq!(dst, [7; 8]);
 }
 
 #[test]
@@ -229,8 +254,7 @@ fn masks_and_opacities() {
     assert_eq!(ImageMut::new(&mut pixels, 3, 1).run(&list), Ok(()));
     assert_eq!(pixels, [faded, below, kept]);
     let short = Image::new(&[255; 5], 3, 2);
-    let command =
-        Command::composite_image_matte(whole, source, whole, short, whole, Op::SrcOver);
+    let command = Command::composite_image_matte(whole, source, whole, short, whole, Op::SrcOver);
     assert_eq!(
         ImageMut::new(&mut pixels, 3, 1).run(&[command]),
         Err(Error::Source { index: 0 })
