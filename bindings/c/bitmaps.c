@@ -187,6 +187,26 @@ static void comes_back(pix_format format, int channels) {
     free(light);
 }
 
+/* Pixels of each alpha: from 13 on they come back, and below that only their alpha does; clear ones come back as 0. */
+static void alphas(void) {
+    static uint8_t bytes[256 * 256 * 4], back[256 * 256 * 4];
+    static pix_rgba16 light[256 * 256];
+    pix_bitmap wide = pix_bitmap_of_image_rgba16(pix_image_of_rgba16(light, 256, 256));
+    for (size_t i = 0; i < sizeof bytes; i++)
+        bytes[i] = (uint8_t)(i % 4 == 3 ? i / 1024 : i % 4 * 70 + i / 4 % 256);
+    insist(pix_convert_bitmap(pix_bitmap_source_of(bytes, 256, 256, PIX_FORMAT_SRGBA8), wide) == PIX_OK
+               && pix_convert_bitmap(pix_bitmap_source_of_bitmap(wide), pix_bitmap_of(back, 256, 256, PIX_FORMAT_SRGBA8)) == PIX_OK,
+           "pixels of each alpha are refused");
+    for (int alpha = 0; alpha < 256; alpha++) {
+        const uint8_t *row = bytes + alpha * 1024, *same = back + alpha * 1024;
+        for (int x = 0; x < 1024; x++)
+            insist(x % 4 < 3 ? alpha < 13 || same[x] == row[x] : same[x] == alpha, "a pixel or an alpha does not come back");
+        for (int x = 0; x < 1024 && alpha == 0; x++)
+            insist(same[x] == 0, "a clear pixel has a color");
+        insist(alpha > 12 || memcmp(row, same, 1024), "all colors of a small alpha come back");
+    }
+}
+
 static void parts(void) {
     static uint8_t bytes[12 * 10 * 3];
     pix_bitmap image = pix_bitmap_of(bytes, 12, 10, PIX_FORMAT_SRGB8), part = pix_part_of_bitmap(image, pix_region_of(-2, 3, 6, 99));
@@ -264,6 +284,7 @@ int main(int argc, char **argv) {
     comes_back(PIX_FORMAT_SBGRA8, 4);
     comes_back(PIX_FORMAT_SRGB8, 3);
     comes_back(PIX_FORMAT_SBGR8, 3);
+    alphas();
     compare_each_pair();
     for (unsigned long i = 0; i < count; i++)
         compare_with_the_model();

@@ -27,15 +27,22 @@
  * Statuses. A call that answers PIX_OK has done all that was asked for. A call that answers anything else has changed
  * no pixel: all commands of a list are tested before the first one is run.
  *
- * Duties of the caller, which no function can test. Breaking one is undefined behavior:
+ * Duties of the caller, which no function can test. They are all here; breaking one is undefined behavior:
  *
  *   - A pointer is valid for as many elements as the sizes beside it say, and aligned for its type. An image has
  *     (height - 1) * stride + width pixels, from its first to its last one, and none where its height is 0.
- *   - While an image is written, all of these pixels belong to the call, those between its rows too: no other thread
- *     reads or writes them. What is only read may be read by others, and is written by none.
+ *   - What a call writes belongs to it until it returns: an image with what lies between its rows, a table, work memory,
+ *     indices, counts. No other thread, signal handler, process or device reads or writes it meanwhile.
+ *   - What a call only reads may be read by others meanwhile, and is written by none. A call looks at commands and at
+ *     indices twice: it tests all of them, and then trusts them. One that changes in between makes it read or write
+ *     memory that nobody handed over.
+ *   - Memory with two addresses, as of a file that is mapped twice, is handed to a call by one of them, unless the call only
+ *     reads it. The test of overlaps compares addresses.
  *   - Commands are made by the functions of this header. What they point to lives until they have run.
+ *   - The thread has the stack that the call needs: see below.
  *
- * Calls on images that share no memory may run at once in different threads, also with sources in common.
+ * Calls may run at once in different threads where none of them writes what another one reads or writes. They may have
+ * sources, tables and lists of commands in common.
  *
  * A source must not share memory with the image that is written. That is tested: see PIX_OVERLAP.
  *
@@ -179,7 +186,8 @@ typedef enum {
     PIX_BAD_OP = 4,     /* no such operator */
     PIX_BAD_SOURCE = 5, /* the source, the matte or the mask of a command: as PIX_BAD_SIZE */
     PIX_BAD_FORMAT = 6, /* no such format */
-    PIX_BAD_LENGTH = 7, /* more pixels to convert than a quarter of PTRDIFF_MAX, or more commands than memory holds */
+    PIX_BAD_LENGTH = 7, /* more pixels to convert than a quarter of PTRDIFF_MAX, more beside a table than an eighth, more
+                         * commands than memory holds, or lengths that do not go together */
     PIX_NULL = 8,       /* a pointer is null, and what it points to is not empty */
     PIX_OVERLAP = 9,    /* a source, a matte, the list of commands or `done` shares memory with what is written */
     PIX_BAD_LIBRARY = 10, /* the archive that is linked has another version or another layout than this header */
@@ -344,9 +352,9 @@ static inline pix_status pix_convert(pix_format from, pix_format to, const void 
 /* Writes each pixel of `dst` from that of `src` at its point, in the format of `dst`; both have one size. Between sRGB of 8
  * bits and linear channels of 16 bits a pixel goes through light: each color is decoded by the sRGB curve to 16 bits and
  * then multiplied by the alpha, or divided and then encoded. So a picture in SRGBA8 that is taken to RGBA16P, painted on
- * and taken back is, where nothing was painted, the picture it was, but for pixels whose alpha is from 1 to 12. All other
- * pairs are converted as pix_convert does: to premultiply and no more, pass the formats without S, also for bytes that are
- * sRGB. The two must not share memory.
+ * and taken back is the picture it was, where nothing was painted and the alpha is 13 or more. Below that the alpha is as it
+ * was, and the colors may be others: at alpha 0 they are 0. All other pairs are converted as pix_convert does: to
+ * premultiply and no more, pass the formats without S, also for bytes that are sRGB. The two must not share memory.
  *
  * Answers PIX_OK, PIX_BAD_FORMAT, PIX_BAD_SIZE (dst), PIX_BAD_SOURCE (src, also where its size is another), PIX_NULL or
  * PIX_OVERLAP. */
@@ -407,11 +415,12 @@ static inline pix_table pix_table_of(const pix_srgb8 *entries, size_t len);
 static inline pix_status pix_nearest(pix_table table, pix_srgb8 color, uint8_t *index);
 
 /* Writes the index of the nearest entry of each of `count` pixels. Answers PIX_OK, PIX_BAD_TABLE, PIX_BAD_LENGTH (more pixels
- * than a quarter of PTRDIFF_MAX), PIX_NULL or PIX_OVERLAP. */
+ * than an eighth of PTRDIFF_MAX), PIX_NULL or PIX_OVERLAP. */
 static inline pix_status pix_map_indexed(pix_table table, const pix_srgb8 *pixels, size_t count, uint8_t *indices);
 
 /* The same of pixels with an alpha. One whose alpha is below `alpha` has the index `kept`, which may be that of a transparent entry;
- * of the others the alpha is not looked at. */
+ * of the others the alpha is not looked at. Where all pixels are below `alpha` a table of no entry serves too: it is what
+ * pix_make_table_alpha makes of them. */
 static inline pix_status pix_map_indexed_alpha(pix_table table, const pix_srgba8 *pixels, size_t count, uint8_t alpha,
                                                uint8_t kept, uint8_t *indices);
 
@@ -427,19 +436,22 @@ static inline size_t pix_diffusion_work(size_t width);
 static inline pix_status pix_make_table(const pix_srgb8 *pixels, size_t count, pix_srgb8 *work, pix_srgb8 *entries, size_t len,
                                         size_t *made);
 
-/* The same of pixels with an alpha: those whose alpha is below `alpha` do not count. */
+/* The same of pixels with an alpha: those whose alpha is below `alpha` do not count. Where none counts, `made` is 0. */
 static inline pix_status pix_make_table_alpha(const pix_srgba8 *pixels, size_t count, uint8_t alpha, pix_srgb8 *work,
                                               pix_srgb8 *entries, size_t len, size_t *made);
 
 /* Writes the index of each of `count` pixels, in rows of `width`, by error diffusion: that of the entry nearest to the pixel and
  * what it gets of the errors before it. A pixel's error is what was wanted there less the entry that was found; 7 sixteenths of it
  * go to the pixel on the right, 3 to the one below on the left, 5 to the one below, and 1 to the one below on the right (Floyd and
- * Steinberg). `work` has pix_diffusion_work(width) colors. Answers what pix_map_indexed does; PIX_BAD_LENGTH too where `width`
+ * Steinberg). What would go past the sides of a row is lost. What is wanted is, in each channel, the pixel's number and the sum of
+ * the sixteenths that it gets, rounded to the nearest, a half up, and kept from 0 to 255: errors are of that number, and whole.
+ * `work` has pix_diffusion_work(width) colors. Answers what pix_map_indexed does; PIX_BAD_LENGTH too where `width`
  * is 0 or more than memory holds. */
 static inline pix_status pix_diffuse_indexed(pix_table table, const pix_srgb8 *pixels, size_t count, size_t width, pix_srgb8 *work,
                                              uint8_t *indices);
 
-/* The same of pixels with an alpha: one whose alpha is below `alpha` has the index `kept`, and hands on no error. */
+/* The same of pixels with an alpha: one whose alpha is below `alpha` has the index `kept`, and hands on no error. Where all are, a
+ * table of no entry serves too. */
 static inline pix_status pix_diffuse_indexed_alpha(pix_table table, const pix_srgba8 *pixels, size_t count, size_t width,
                                                    uint8_t alpha, uint8_t kept, pix_srgb8 *work, uint8_t *indices);
 
@@ -662,7 +674,7 @@ static inline const char *pix_status_text(pix_status status) {
     case PIX_BAD_OP: return "no such operator";
     case PIX_BAD_SOURCE: return "a source has a side above 2147483647, a stride below its width, or too many pixels";
     case PIX_BAD_FORMAT: return "no such format";
-    case PIX_BAD_LENGTH: return "too many pixels to convert, or too many commands";
+    case PIX_BAD_LENGTH: return "too many pixels or commands, or lengths that do not go together";
     case PIX_NULL: return "a pointer is null";
     case PIX_OVERLAP: return "a source, a matte, the list or `done` shares memory with what is written";
     case PIX_BAD_LIBRARY: return "the library has another version or layout than this header";
@@ -1044,15 +1056,28 @@ static inline pix_status pix_map_indexed(pix_table table, const pix_srgb8 *pixel
     return (pix_status)pix_table_match(table.entries, table.len, pixels, count, indices, count);
 }
 
+/* Writes the index of each pixel where there is no entry: all of them are below `alpha`. */
+static inline pix_status pix_keep_all_(const pix_srgba8 *pixels, size_t count, uint8_t alpha, uint8_t kept, uint8_t *indices) {
+    size_t i;
+    for (i = 0; i < count; i++)
+        if (pixels[i].a >= alpha)
+            return PIX_BAD_TABLE;
+    memset(indices, kept, count);
+    return PIX_OK;
+}
+
 static inline pix_status pix_map_indexed_alpha(pix_table table, const pix_srgba8 *pixels, size_t count, uint8_t alpha,
                                                uint8_t kept, uint8_t *indices) {
     const pix_srgba8 none = {0, 0, 0, 0};
+    const pix_srgb8 no_entry = {0, 0, 0};
     uint8_t nothing = 0;
     pix_status status;
-    if (!table.len || table.len > 256)
+    if (table.len > 256)
         return PIX_BAD_TABLE;
     if (pix_too_many_(count))
         return PIX_BAD_LENGTH;
+    if (!table.len)
+        table.entries = &no_entry;
     if (!count) {
         pixels = &none;
         indices = &nothing;
@@ -1062,6 +1087,8 @@ static inline pix_status pix_map_indexed_alpha(pix_table table, const pix_srgba8
         status = pix_apart_(indices, count, pixels, count * sizeof *pixels);
     if (status != PIX_OK)
         return status;
+    if (!table.len)
+        return pix_keep_all_(pixels, count, alpha, kept, indices);
     return (pix_status)pix_table_match_alpha(table.entries, table.len, pixels, count, alpha, kept, indices, count);
 }
 
@@ -1168,13 +1195,16 @@ static inline pix_status pix_diffuse_indexed(pix_table table, const pix_srgb8 *p
 static inline pix_status pix_diffuse_indexed_alpha(pix_table table, const pix_srgba8 *pixels, size_t count, size_t width,
                                                    uint8_t alpha, uint8_t kept, pix_srgb8 *work, uint8_t *indices) {
     const pix_srgba8 none = {0, 0, 0, 0};
+    const pix_srgb8 no_entry = {0, 0, 0};
     uint8_t nothing = 0;
     size_t work_len = pix_diffusion_work(width);
     pix_status status;
-    if (!table.len || table.len > 256)
+    if (table.len > 256)
         return PIX_BAD_TABLE;
     if (pix_too_many_(count) || !work_len || work_len == SIZE_MAX)
         return PIX_BAD_LENGTH;
+    if (!table.len)
+        table.entries = &no_entry;
     if (!count) {
         pixels = &none;
         indices = &nothing;
@@ -1182,6 +1212,8 @@ static inline pix_status pix_diffuse_indexed_alpha(pix_table table, const pix_sr
     status = pix_diffuses_(table, pixels, count * sizeof *pixels, work, work_len, indices, count);
     if (status != PIX_OK)
         return status;
+    if (!table.len)
+        return pix_keep_all_(pixels, count, alpha, kept, indices);
     return (pix_status)pix_table_diffuse_alpha(table.entries, table.len, pixels, count, width, alpha, kept, work, work_len,
                                                indices, count);
 }

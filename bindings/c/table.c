@@ -189,6 +189,31 @@ static void made_refused(void) {
     check(index[0] == 9 && index[1] == 9 && entries[0].r == 1 && some[1].g == 1 && room[0].r == 5, "what is refused stays");
 }
 
+/* A clear picture makes a table of no entry, and that serves it; a pixel that counts has no entry there. */
+static void cleared(void) {
+    pix_srgba8 clear[3] = {{1, 2, 3, 0}, {4, 5, 6, 127}, {7, 8, 9, 99}};
+    pix_srgb8 entries[4], room[12];
+    uint8_t index[4] = {9, 9, 9, 9};
+    size_t made = 77;
+    pix_table none;
+    check(pix_make_table_alpha(clear, 3, 128, room, entries, 4, &made) == PIX_OK && made == 0, "a table of a clear picture");
+    none = pix_table_of(entries, made);
+    check(pix_map_indexed_alpha(none, clear, 3, 128, 5, index) == PIX_OK, "a clear picture is mapped");
+    check(index[0] == 5 && index[1] == 5 && index[2] == 5 && index[3] == 9, "indices of a clear picture");
+    check(pix_diffuse_indexed_alpha(none, clear, 3, 3, 128, 6, room, index) == PIX_OK, "a clear picture is diffused");
+    check(index[0] == 6 && index[1] == 6 && index[2] == 6 && index[3] == 9, "diffused indices of a clear picture");
+    check(pix_map_indexed_alpha(pix_table_of(NULL, 0), clear, 3, 128, 6, index) == PIX_OK, "no table");
+    check(pix_map_indexed_alpha(none, NULL, 0, 128, 5, NULL) == PIX_OK, "a picture of no pixels");
+    check(pix_map_indexed_alpha(none, clear, 3, 127, 5, index) == PIX_BAD_TABLE, "a pixel that counts");
+    check(pix_diffuse_indexed_alpha(none, clear, 3, 3, 99, 5, room, index) == PIX_BAD_TABLE, "a pixel to diffuse that counts");
+    check(pix_map_indexed_alpha(pix_table_of(entries, 257), clear, 3, 128, 5, index) == PIX_BAD_TABLE, "257 entries");
+    check(pix_map_indexed_alpha(none, clear, 3, 128, 5, &clear[1].g) == PIX_OVERLAP, "indices in a clear picture");
+    check(pix_map_indexed_alpha(none, NULL, 3, 128, 5, index) == PIX_NULL, "no clear picture");
+    check(pix_diffuse_indexed_alpha(none, clear, 3, 0, 128, 5, room, index) == PIX_BAD_LENGTH, "clear rows of no pixel");
+    check(pix_diffuse_indexed_alpha(none, clear, 3, 3, 128, 5, NULL, index) == PIX_NULL, "no work memory for a clear picture");
+    check(index[0] == 6 && index[2] == 6 && clear[1].g == 5, "what is refused stays as it was");
+}
+
 /* Two pictures, one after the other in one table: one of all colors, and one of colors near to each other. */
 static void indexed(size_t len, unsigned levels, unsigned near) {
     static pix_srgb8 entries[256], plain[256], before[256];
@@ -274,6 +299,7 @@ static void refused(void) {
     }
     check(pix_pack_row(1, &past, 1, &past) == PIX_OVERLAP, "a row over itself");
     made_refused();
+    cleared();
     indexed_refused();
     /* The calls themselves test lengths. */
     check(pix_table_match(entries, 1, &pixel, 1, &index, 0) == PIX_BAD_LENGTH, "fewer indices than pixels");
