@@ -2,6 +2,17 @@
 //!
 //! `bindings/c/pix.h` documents it. Programs in Rust use the crate `pix` above this one, which is safe. One that calls
 //! these functions asks [`check_library`] first whether the processor and the archive are the right ones.
+//!
+//! # Duties
+//!
+//! What a caller of these functions sees to, and none of them can test. Breaking one is undefined behavior:
+//!
+//! - Pointers are valid for the counts beside them, aligned and not null, also where a count is 0; those in commands too.
+//! - What a call writes shares no byte with anything else that is passed, nor with what commands point to. It belongs to
+//!   the call until that returns: no other thread, signal handler, process or device reads or writes it meanwhile.
+//! - What a call only reads may be read by others meanwhile, and is written by none. A call tests commands and indices,
+//!   and then trusts them: one that changes in between makes it read or write memory that nobody handed over.
+//! - The thread has the stack that the call needs, as `bindings/c/pix.h` says it.
 #![no_std]
 
 mod library;
@@ -191,9 +202,7 @@ unsafe extern "C" {
     ///
     /// # Safety
     ///
-    /// The pointers are valid for their counts, aligned and not null, those of the commands too. The pixels and `done`
-    /// share no byte with each other, the commands or what those point to, and nothing else reads or writes the two
-    /// during the call.
+    /// The [duties](crate#duties) are met.
     pub fn pix_run_commands(
         pixels: *mut Rgba8,
         pixel_count: usize,
@@ -209,7 +218,7 @@ unsafe extern "C" {
     ///
     /// # Safety
     ///
-    /// As `pix_run_commands`.
+    /// The [duties](crate#duties) are met.
     pub fn pix_run_commands_rgba16(
         pixels: *mut Rgba16,
         pixel_count: usize,
@@ -225,7 +234,7 @@ unsafe extern "C" {
     ///
     /// # Safety
     ///
-    /// As `pix_run_commands`.
+    /// The [duties](crate#duties) are met.
     pub fn pix_run_commands_graya8(
         pixels: *mut Graya8,
         pixel_count: usize,
@@ -241,7 +250,7 @@ unsafe extern "C" {
     ///
     /// # Safety
     ///
-    /// As `pix_run_commands`.
+    /// The [duties](crate#duties) are met.
     pub fn pix_run_window(
         pixels: *mut Rgba8,
         pixel_count: usize,
@@ -259,7 +268,7 @@ unsafe extern "C" {
     ///
     /// # Safety
     ///
-    /// As `pix_run_commands`.
+    /// The [duties](crate#duties) are met.
     pub fn pix_run_window_rgba16(
         pixels: *mut Rgba16,
         pixel_count: usize,
@@ -277,7 +286,7 @@ unsafe extern "C" {
     ///
     /// # Safety
     ///
-    /// As `pix_run_commands`.
+    /// The [duties](crate#duties) are met.
     pub fn pix_run_window_graya8(
         pixels: *mut Graya8,
         pixel_count: usize,
@@ -295,8 +304,7 @@ unsafe extern "C" {
     ///
     /// # Safety
     ///
-    /// The pointers are valid for their counts and not null. What is written shares no byte with what is read, and nothing
-    /// else reads or writes it during the call.
+    /// The [duties](crate#duties) are met.
     pub fn pix_table_nearest(
         entries: *const Srgb8,
         len: usize,
@@ -308,7 +316,7 @@ unsafe extern "C" {
     ///
     /// # Safety
     ///
-    /// As `pix_table_nearest`.
+    /// The [duties](crate#duties) are met.
     pub fn pix_table_match(
         entries: *const Srgb8,
         len: usize,
@@ -322,7 +330,7 @@ unsafe extern "C" {
     ///
     /// # Safety
     ///
-    /// As `pix_table_nearest`.
+    /// The [duties](crate#duties) are met.
     pub fn pix_table_match_alpha(
         entries: *const Srgb8,
         len: usize,
@@ -338,7 +346,7 @@ unsafe extern "C" {
     ///
     /// # Safety
     ///
-    /// As `pix_table_nearest`.
+    /// The [duties](crate#duties) are met.
     pub fn pix_table_from(
         pixels: *const Srgb8,
         pixel_count: usize,
@@ -353,7 +361,7 @@ unsafe extern "C" {
     ///
     /// # Safety
     ///
-    /// As `pix_table_nearest`.
+    /// The [duties](crate#duties) are met.
     pub fn pix_table_from_alpha(
         pixels: *const Srgba8,
         pixel_count: usize,
@@ -369,7 +377,7 @@ unsafe extern "C" {
     ///
     /// # Safety
     ///
-    /// As `pix_table_nearest`.
+    /// The [duties](crate#duties) are met.
     pub fn pix_table_diffuse(
         entries: *const Srgb8,
         len: usize,
@@ -386,7 +394,7 @@ unsafe extern "C" {
     ///
     /// # Safety
     ///
-    /// As `pix_table_nearest`.
+    /// The [duties](crate#duties) are met.
     pub fn pix_table_diffuse_alpha(
         entries: *const Srgb8,
         len: usize,
@@ -405,7 +413,7 @@ unsafe extern "C" {
     ///
     /// # Safety
     ///
-    /// As `pix_table_nearest`.
+    /// The [duties](crate#duties) are met.
     pub fn pix_table_index(
         entries: *mut Srgb8,
         len: usize,
@@ -421,7 +429,7 @@ unsafe extern "C" {
     ///
     /// # Safety
     ///
-    /// As `pix_table_nearest`.
+    /// The [duties](crate#duties) are met.
     pub fn pix_table_look_up(
         entries: *const Srgb8,
         len: usize,
@@ -435,7 +443,7 @@ unsafe extern "C" {
     ///
     /// # Safety
     ///
-    /// As `pix_table_nearest`.
+    /// The [duties](crate#duties) are met.
     pub fn pix_table_count(
         indices: *const u8,
         index_count: usize,
@@ -447,7 +455,7 @@ unsafe extern "C" {
     ///
     /// # Safety
     ///
-    /// As `pix_table_nearest`.
+    /// The [duties](crate#duties) are met.
     pub fn pix_table_pack(
         bits: u32,
         indices: *const u8,
@@ -460,7 +468,7 @@ unsafe extern "C" {
     ///
     /// # Safety
     ///
-    /// As `pix_table_nearest`.
+    /// The [duties](crate#duties) are met.
     pub fn pix_table_unpack(
         bits: u32,
         bytes: *const u8,
@@ -473,8 +481,7 @@ unsafe extern "C" {
     ///
     /// # Safety
     ///
-    /// The pointers are valid for their lengths and not null. What is written shares no byte with what is read, and
-    /// nothing else reads or writes it during the call.
+    /// The [duties](crate#duties) are met.
     pub fn pix_convert_bytes(
         from: u32,
         to: u32,
@@ -490,7 +497,7 @@ unsafe extern "C" {
     ///
     /// # Safety
     ///
-    /// As `pix_convert_bytes`.
+    /// The [duties](crate#duties) are met.
     pub fn pix_convert_rows(
         from: u32,
         to: u32,

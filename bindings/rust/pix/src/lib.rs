@@ -18,13 +18,21 @@
 //! ```
 //!
 //! Pixels are premultiplied and linear: the color channels are multiplied by the alpha and proportional to light.
-//! A [`BitmapMut`] is made of what image files hold, and back: in 16 bits a channel nothing is lost. [`convert`] does it in 8 bits. Regions lie anywhere; what is outside an image is
+//! A [`BitmapMut`] is made of what image files hold, and back: in 16 bits a channel pixels come back as they were where
+//! their alpha is 13 or more. [`convert`] does it in 8 bits. Regions lie anywhere; what is outside an image is
 //! neither read nor written. A list is tested as a whole before its first command runs, so that an [`Error`] means that
 //! no pixel was changed. The archive runs on processors of x86-64 with SSE4.1 and of aarch64, under Linux: another one,
 //! and an archive of another version or layout, is refused at the first call.
 //!
 //! A picture may be painted tile by tile, by [`ImageMut::run_in`], and one image by several threads, in
 //! [`bands`](ImageMut::bands) of rows: the outcome is the picture painted whole.
+//!
+//! # What is left to a caller
+//!
+//! Borrows see to all that the library can't test, so that a program without `unsafe` has no duty. Whoever makes a slice by
+//! `unsafe`, of a file that is mapped or of memory that another process or another language has too, sees to it as for any
+//! slice: nobody else writes it while it is borrowed, nor reads it while it is borrowed to be written, by this address or
+//! by another. Threads of small stacks need what [`pix_sys`] says of it.
 #![no_std]
 
 mod bitmap;

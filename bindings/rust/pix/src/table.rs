@@ -130,7 +130,8 @@ impl<'a> Table<'a> {
     /// Sets the index of each pixel of rows of `width` by error diffusion: to that of the entry that is nearest to the pixel and
     /// what it gets of the errors before it. An error is what was wanted less the entry that was found: 7 sixteenths of it go
     /// to the pixel on the right, 3 to the one below on the left, 5 to the one below, and 1 to the one below on the right.
-    /// `work` has [`diffusion_work`] colors.
+    /// What would go past the sides of a row is lost. What is wanted is, in each channel, the pixel's number and the sum of the
+    /// sixteenths that it gets, rounded to the nearest, a half up, and kept from 0 to 255. `work` has [`diffusion_work`] colors.
     ///
     /// # Errors
     ///
@@ -257,7 +258,21 @@ pub fn make_table<'a>(
     Ok(&entries[..made])
 }
 
-/// Does what [`make_table`] does, on pixels with an alpha. Those whose alpha is below `alpha` do not count.
+/// Does what [`make_table`] does, on pixels with an alpha. Those whose alpha is below `alpha` do not count. Where none counts there
+/// is no entry, and so no [`Table`]: the index of each pixel is the one that is kept.
+///
+/// ```
+/// use pix::{Srgb8, Srgba8, Table, make_table_alpha};
+///
+/// let clear = [Srgba8::new(1, 2, 3, 0), Srgba8::new(4, 5, 6, 99)];
+/// let (mut work, mut entries, mut indices) = ([Srgb8::default(); 2], [Srgb8::default(); 255], [0; 2]);
+/// match make_table_alpha(&clear, 128, &mut work, &mut entries)? {
+///     [] => indices.fill(255),
+///     made => Table::new(made)?.map_indexed_alpha(&clear, 128, 255, &mut indices)?,
+/// }
+/// assert_eq!(indices, [255, 255]);
+/// # Ok::<(), pix::Error>(())
+/// ```
 ///
 /// # Errors
 ///

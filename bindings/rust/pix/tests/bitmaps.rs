@@ -66,6 +66,25 @@ fn photographs_come_back() {
     }
 }
 
+/// Pixels come back where their alpha is 13 or more; below that their alpha does, and a clear one comes back as 0.
+#[test]
+fn pixels_of_each_alpha() {
+    for alpha in 0..=255 {
+        let (photo, mut back) = ([188, 90, 7, alpha], [9; 4]);
+        let mut pixels = [Rgba16::default()];
+        let mut light = ImageMut::new(&mut pixels, 1, 1);
+        let source = Bitmap::new(&photo, 1, 1, Format::SRgba8);
+        light.as_bitmap_mut().convert_from(source).expect("decoded");
+        let mut shown = BitmapMut::new(&mut back, 1, 1, Format::SRgba8);
+        shown.convert_from(light.as_bitmap()).expect("encoded");
+        match alpha {
+            0 => assert_eq!(back, [0; 4]),
+            13.. => assert_eq!(back, photo),
+            _ => assert_eq!(back[3], alpha),
+        }
+    }
+}
+
 #[test]
 fn rows_from_bottom_to_top() {
     // two rows of one pixel, and a byte between them that stays

@@ -102,6 +102,8 @@ fn tables_of_pixels() {
     let clear = [Srgba8::new(1, 2, 3, 128), Srgba8::new(4, 5, 6, 127)];
     let made = make_table_alpha(&clear, 128, &mut work, &mut entries).unwrap();
     assert_eq!(made, [Srgb8::new(1, 2, 3)]);
+    let made = make_table_alpha(&clear, 129, &mut work, &mut entries).unwrap();
+    assert_eq!(made, []);
     let before = (work, entries);
     let mut none: [Srgb8; 0] = [];
     let mut large = [gray(5); 257];
