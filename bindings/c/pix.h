@@ -13,8 +13,8 @@
  *
  * Pixels. Compositing works on premultiplied, linear pixels: the color channels are multiplied by the alpha, and they
  * are proportional to light. Images as files hold them are mostly sRGB and not premultiplied; pix_convert_bitmap turns
- * one into the other, and loses nothing to images of 16 bits a channel. There are three kinds of images, and each
- * function on them stands three times:
+ * one into the other, and to images of 16 bits a channel it loses nothing of pixels whose alpha is 13 or more. There are
+ * three kinds of images, and each function on them stands three times:
  *
  *     pix_image          pix_rgba8    8 bits a channel: red, green, blue, alpha
  *     pix_image_rgba16   pix_rgba16   16 bits a channel; its functions and types end in _rgba16

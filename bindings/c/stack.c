@@ -1,5 +1,5 @@
-/* How much stack each kind of call needs: each runs in a thread of that stack, in a process of its own, since a thread
- * that needs more ends its process. With the words `least` the least stack of each is looked for, and printed. */
+/* How much stack each call needs: each runs in a thread of the stack that pix.h says, in a process of its own, since a
+ * thread that needs more ends its process. With the word `least` the least stack of each is looked for, and printed. */
 #define _DEFAULT_SOURCE
 #include "pix.h"
 #include <pthread.h>
@@ -8,16 +8,18 @@
 #include <sys/wait.h>
 #include <unistd.h>
 
-enum { SIDE = 96, COUNT = SIDE * SIDE, ENTRIES = 256 };
+enum { SIDE = 96, COUNT = SIDE * SIDE, ENTRIES = 256, OPERATORS = 13, FORMATS = 81 };
 
-static pix_rgba8 image[COUNT], source[COUNT];
-static pix_rgba16 wide[COUNT];
-static uint8_t mattes[COUNT], indices[COUNT], packed[COUNT];
-static pix_srgb8 colors[COUNT], entries[ENTRIES], work[4 * COUNT];
+static pix_rgba8 pixels[COUNT], source[COUNT];
+static pix_rgba16 pixels_rgba16[COUNT], source_rgba16[COUNT];
+static pix_graya8 pixels_graya8[COUNT], source_graya8[COUNT];
+static uint8_t mattes[COUNT], indices[COUNT], packed[COUNT], bytes[COUNT * 8], more_bytes[COUNT * 8];
+static uint16_t mattes16[COUNT];
+static pix_srgb8 colors[COUNT], noise[ENTRIES], grays[ENTRIES], equals[ENTRIES], work[4 * COUNT];
 static pix_srgba8 shades[COUNT];
 static size_t counts[ENTRIES];
 
-/* Any colors, so that each asks for a list of its own. */
+/* Any colors, so that each asks for a list of its own; and tables of any colors, of grays, and of few that differ. */
 static void fill(void) {
     uint32_t random = 1;
     for (int i = 0; i < COUNT; i++) {
@@ -26,78 +28,147 @@ static void fill(void) {
         colors[i] = (pix_srgb8){r, g, b};
         shades[i] = (pix_srgba8){r, g, b, (uint8_t)(r ^ b)};
         source[i] = pix_rgba8_of(r / 2, g / 2, b / 2, 128);
+        source_rgba16[i] = pix_rgba16_of(r, g, b, 30000);
+        source_graya8[i] = pix_graya8_of(r / 2, 128);
         mattes[i] = g;
+        mattes16[i] = (uint16_t)(g * 257);
+        memcpy(bytes + 8 * i, &random, 4);
+        memcpy(bytes + 8 * i + 4, &random, 4);
     }
-    for (int i = 0; i < ENTRIES; i++)
-        entries[i] = colors[COUNT - 1 - i];
+    for (int i = 0; i < ENTRIES; i++) {
+        noise[i] = colors[COUNT - 1 - i];
+        grays[i] = (pix_srgb8){(uint8_t)i, (uint8_t)i, (uint8_t)i};
+        equals[i] = colors[i < 16 ? i : 0];
+    }
 }
 
-static pix_table table(void) {
-    return pix_table_of(entries, ENTRIES);
+/* One command of each kind by an operator, run on an image and on a window. */
+#define RUN_(S, MATTE, VALUES)                                                                                         \
+    static pix_status run##S(void) {                                                                                   \
+        const pix_region whole = pix_region_of(0, 0, SIDE, SIDE);                                                      \
+        const pix_image##S image = pix_image_of##S(pixels##S, SIDE, SIDE);                                             \
+        const pix_source##S from = pix_source_of##S(source##S, SIDE, SIDE);                                            \
+        const MATTE mask = MATTE##_of(VALUES, SIDE, SIDE);                                                             \
+        pix_status status = PIX_OK;                                                                                    \
+        for (int i = 0; i < OPERATORS && status == PIX_OK; i++) {                                                      \
+            const pix_op op = (pix_op)i;                                                                               \
+            pix_command##S list[8];                                                                                    \
+            list[0] = pix_clear##S();                                                                                  \
+            list[1] = pix_copy_color##S(whole, source##S[i]);                                                          \
+            list[2] = pix_copy_image##S(whole, from, whole);                                                           \
+            list[3] = pix_composite_color##S(whole, source##S[0], op);                                                 \
+            list[4] = pix_composite_image##S(whole, from, whole, op);                                                  \
+            list[5] = pix_composite_matte##S(whole, mask, whole, source##S[0], op);                                    \
+            list[6] = pix_composite_image_matte##S(whole, from, whole, mask, whole, op);                               \
+            list[7] = pix_composite_image_alpha##S(whole, from, whole, 99, op);                                        \
+            status = pix_run##S(image, list, 8, NULL);                                                                 \
+            if (status == PIX_OK)                                                                                      \
+                status = pix_run_in##S(image, 7, 9, list, 8, NULL);                                                    \
+            for (int k = 0; k < 8 && status == PIX_OK; k++)                                                            \
+                status = pix_do##S(image, list[k]);                                                                    \
+        }                                                                                                              \
+        return status;                                                                                                 \
+    }
+RUN_(, pix_matte, mattes)
+RUN_(_rgba16, pix_matte16, mattes16)
+RUN_(_graya8, pix_matte, mattes)
+
+static pix_status repeat(void) {
+    static pix_command list[16];
+    const pix_source tile = pix_source_of(source, SIDE, SIDE);
+    const uint64_t count =
+        pix_repeat_image(list, 16, pix_region_of(0, 0, SIDE, SIDE), tile, pix_region_of(0, 0, 24, 24), PIX_OP_SRC_OVER);
+    return pix_run(pix_image_of(pixels, SIDE, SIDE), list, (size_t)count, NULL);
 }
 
-static pix_status run_all(void) {
-    const pix_region whole = pix_region_of(0, 0, SIDE, SIDE);
-    for (int op = 0; op < 13; op++) {
-        pix_command list[6];
-        list[0] = pix_copy_image(whole, pix_source_of(source, SIDE, SIDE), whole);
-        list[1] = pix_composite_color(whole, pix_rgba8_of(9, 9, 9, 99), (pix_op)op);
-        list[2] = pix_composite_image(whole, pix_source_of(source, SIDE, SIDE), whole, (pix_op)op);
-        list[3] = pix_composite_matte(whole, pix_matte_of(mattes, SIDE, SIDE), whole, pix_rgba8_of(0, 9, 0, 99), (pix_op)op);
-        list[4] = pix_composite_image_matte(whole, pix_source_of(source, SIDE, SIDE), whole, pix_matte_of(mattes, SIDE, SIDE), whole,
-                                            (pix_op)op);
-        list[5] = pix_composite_image_alpha(whole, pix_source_of(source, SIDE, SIDE), whole, 99, (pix_op)op);
-        const pix_status status = pix_run(pix_image_of(image, SIDE, SIDE), list, 6, NULL);
-        if (status != PIX_OK)
-            return status;
+/* Each pair of formats. */
+static pix_status convert(void) {
+    pix_status status = PIX_OK;
+    for (int from = 0; from <= PIX_FORMAT_SGRAY8; from++)
+        for (int to = 0; to <= PIX_FORMAT_SGRAY8 && status == PIX_OK; to++)
+            status = pix_convert((pix_format)from, (pix_format)to, bytes, more_bytes, SIDE);
+    return status;
+}
+
+static pix_status convert_bitmap(void) {
+    pix_status status = PIX_OK;
+    for (int from = 0; from < FORMATS; from++)
+        for (int to = 0; to < FORMATS && status == PIX_OK; to++)
+            status = pix_convert_bitmap(pix_bitmap_source_of(bytes, SIDE, 2, (pix_format)from),
+                                        pix_bitmap_of(more_bytes, SIDE, 2, (pix_format)to));
+    return status;
+}
+
+static pix_status convert_in_place(void) {
+    pix_status status = PIX_OK;
+    for (int from = 0; from < FORMATS; from++)
+        for (int to = 0; to < FORMATS && status == PIX_OK; to++)
+            if (pix_format_size((pix_format)to) <= pix_format_size((pix_format)from))
+                status = pix_convert_in_place(pix_bitmap_of(more_bytes, SIDE, 2, (pix_format)from), (pix_format)to);
+    return status;
+}
+
+static pix_status colors_of(void) {
+    for (int format = 0; format < FORMATS; format++) {
+        pixels[format] = pix_color_of((pix_format)format, bytes);
+        pixels_rgba16[format] = pix_color_of_rgba16((pix_format)format, bytes);
+        pixels_graya8[format] = pix_color_of_graya8((pix_format)format, bytes);
     }
     return PIX_OK;
 }
 
-static pix_status convert_all(void) {
-    pix_status status = pix_convert(PIX_FORMAT_RGBA8P, PIX_FORMAT_RGBA16, source, wide, COUNT);
-    if (status == PIX_OK)
-        status = pix_convert(PIX_FORMAT_SRGBA8, PIX_FORMAT_RGBA16P, shades, wide, COUNT);
-    if (status == PIX_OK)
-        status = pix_convert(PIX_FORMAT_RGBA16P, PIX_FORMAT_SRGBA8, wide, shades, COUNT);
-    return status;
-}
+/* A call with each kind of table, on few pixels and on many. */
+#define EACH_TABLE_(NAME, CALL)                                                                                        \
+    static pix_status NAME(void) {                                                                                     \
+        static const size_t pixel_counts[] = {1, 64, 1024, COUNT}, lens[] = {1, 16, ENTRIES};                          \
+        const pix_srgb8 *const kinds[] = {noise, grays, equals};                                                       \
+        pix_status status = PIX_OK;                                                                                    \
+        for (int i = 0; i < 3 * 3 * 4 && status == PIX_OK; i++) {                                                      \
+            const pix_table table = pix_table_of(kinds[i % 3], lens[i / 3 % 3]);                                       \
+            const size_t count = pixel_counts[i / 9];                                                                  \
+            status = CALL;                                                                                             \
+        }                                                                                                              \
+        return status;                                                                                                 \
+    }
+EACH_TABLE_(find, pix_nearest(table, colors[count - 1], indices))
+EACH_TABLE_(map, pix_map_indexed(table, colors, count, indices))
+EACH_TABLE_(map_alpha, pix_map_indexed_alpha(table, shades, count, 128, 255, indices))
+EACH_TABLE_(diffuse, pix_diffuse_indexed(table, colors, count, SIDE, work, indices))
+EACH_TABLE_(diffuse_alpha, pix_diffuse_indexed_alpha(table, shades, count, SIDE, 128, 255, work, indices))
 
-static pix_status find(void) {
-    return pix_nearest(table(), colors[0], indices);
-}
-
-static pix_status match(void) {
-    return pix_map_indexed(table(), colors, COUNT, indices);
-}
-
-static pix_status match_alpha(void) {
-    return pix_map_indexed_alpha(table(), shades, COUNT, 128, 255, indices);
-}
-
-static pix_status diffuse(void) {
-    return pix_diffuse_indexed(table(), colors, COUNT, SIDE, work, indices);
-}
-
-static pix_status diffuse_alpha(void) {
-    return pix_diffuse_indexed_alpha(table(), shades, COUNT, SIDE, 128, 255, work, indices);
+static pix_status look_up(void) {
+    static pix_srgb8 found[COUNT];
+    memset(indices, 7, sizeof indices);
+    return pix_look_up(pix_table_of(noise, ENTRIES), indices, COUNT, found);
 }
 
 static pix_status make(void) {
     static pix_srgb8 made[ENTRIES];
     size_t len = 0;
-    return pix_make_table(colors, COUNT, work, made, ENTRIES, &len);
+    const pix_status status = pix_make_table(grays, ENTRIES, work, made, ENTRIES, &len);
+    return status == PIX_OK ? pix_make_table(colors, COUNT, work, made, ENTRIES, &len) : status;
 }
 
-static pix_status index_all(void) {
+static pix_status make_alpha(void) {
+    static pix_srgb8 made[ENTRIES];
+    size_t len = 0;
+    return pix_make_table_alpha(shades, COUNT, 128, work, made, ENTRIES, &len);
+}
+
+/* Colors that a table of each length has room for, and such as it has none for. */
+static pix_status set(void) {
     static pix_srgb8 slots[ENTRIES];
-    size_t used = 0;
-    return pix_index_pixels(slots, ENTRIES, &used, (pix_srgb8){90, 90, 90}, colors, COUNT, indices);
-}
-
-static pix_status look_up(void) {
-    memset(indices, 7, sizeof indices);
-    return pix_look_up(table(), indices, COUNT, colors);
+    for (size_t len = 1; len <= ENTRIES; len++)
+        for (int threshold = 0; threshold < 256; threshold += 85) {
+            const uint8_t level = (uint8_t)threshold;
+            size_t used = 0;
+            pix_status status = pix_index_pixels(slots, len, &used, (pix_srgb8){0, 0, 0}, noise, len, indices);
+            if (status == PIX_OK)
+                status = pix_index_pixels(slots, len, &used, (pix_srgb8){level, level, level}, colors, 999, indices);
+            if (status != PIX_OK && status != PIX_FULL_TABLE)
+                return status;
+        }
+    return PIX_OK;
 }
 
 static pix_status count_all(void) {
@@ -106,25 +177,44 @@ static pix_status count_all(void) {
 }
 
 static pix_status pack(void) {
+    pix_status status = PIX_OK;
     memset(indices, 1, sizeof indices);
-    const pix_status status = pix_pack_row(2, indices, SIDE, packed);
-    return status == PIX_OK ? pix_unpack_row(2, packed, SIDE, indices) : status;
+    for (uint32_t bits = 1; bits <= 8 && status == PIX_OK; bits *= 2)
+        status = pix_pack_row(bits, indices, COUNT, packed);
+    return status;
+}
+
+static pix_status unpack(void) {
+    pix_status status = PIX_OK;
+    for (uint32_t bits = 1; bits <= 8 && status == PIX_OK; bits *= 2)
+        status = pix_unpack_row(bits, packed, COUNT, indices);
+    return status;
 }
 
 /* The calls, and the kibibytes of stack that pix.h says they need. */
+enum { FEW = 32, SETTING = 48, MATCHING = 256 };
 static const struct { const char *name; size_t kibibytes; pix_status (*call)(void); } calls[] = {
-    {"pix_run", 32, run_all},
-    {"pix_convert", 32, convert_all},
-    {"pix_nearest", 32, find},
-    {"pix_make_table", 32, make},
-    {"pix_index_pixels", 48, index_all},
-    {"pix_look_up", 32, look_up},
-    {"pix_count_indices", 32, count_all},
-    {"pix_pack_row", 32, pack},
-    {"pix_map_indexed", 256, match},
-    {"pix_map_indexed_alpha", 256, match_alpha},
-    {"pix_diffuse_indexed", 256, diffuse},
-    {"pix_diffuse_indexed_alpha", 256, diffuse_alpha},
+    {"pix_check_library", FEW, pix_check_library},
+    {"pix_run", FEW, run},
+    {"pix_run_rgba16", FEW, run_rgba16},
+    {"pix_run_graya8", FEW, run_graya8},
+    {"pix_repeat_image", FEW, repeat},
+    {"pix_convert", FEW, convert},
+    {"pix_convert_bitmap", FEW, convert_bitmap},
+    {"pix_convert_in_place", FEW, convert_in_place},
+    {"pix_color_of", FEW, colors_of},
+    {"pix_nearest", FEW, find},
+    {"pix_make_table", FEW, make},
+    {"pix_make_table_alpha", FEW, make_alpha},
+    {"pix_look_up", FEW, look_up},
+    {"pix_count_indices", FEW, count_all},
+    {"pix_pack_row", FEW, pack},
+    {"pix_unpack_row", FEW, unpack},
+    {"pix_index_pixels", SETTING, set},
+    {"pix_map_indexed", MATCHING, map},
+    {"pix_map_indexed_alpha", MATCHING, map_alpha},
+    {"pix_diffuse_indexed", MATCHING, diffuse},
+    {"pix_diffuse_indexed_alpha", MATCHING, diffuse_alpha},
 };
 
 static void *run_call(void *call) {
