@@ -1,133 +1,123 @@
-#include "files.h"
-#include <stdio.h> /* before jpeglib.h, which needs it */
+#include "readers.h"
 
 #include <errno.h>
-#include <jpeglib.h>
-#include <png.h>
-#include <setjmp.h>
 #include <stdlib.h>
 #include <string.h>
 
-static int refuse(char sentence[FILE_SENTENCE], const char *name, const char *what) {
+#ifdef HAS_GIF
+#define OF_GIF file_read_gif
+#else
+#define OF_GIF NULL
+#endif
+#ifdef HAS_WEBP
+#define OF_WEBP file_read_webp
+#else
+#define OF_WEBP NULL
+#endif
+
+/* A kind of file: how it begins, where a point stands for any byte, how names of it end, and who reads it: nobody where
+ * the library was not there. */
+typedef struct {
+    const char *start, *ends[2], *lacks;
+    size_t length;
+    file_reader *reader;
+} kind;
+
+enum { KINDS = 4, LONGEST = 12 };
+
+static const kind kinds[KINDS] = {
+    {"\x89PN", {".png", ".png"}, "", 3, file_read_png},
+    {"\xff\xd8\xff", {".jpg", ".jpeg"}, "", 3, file_read_jpeg},
+    {"GIF8", {".gif", ".gif"}, "this is a GIF file, and no libgif was there to build with", 4, OF_GIF},
+    {"RIFF....WEBP", {".webp", ".webp"}, "this is a WebP file, and no libwebp was there to build with", 12, OF_WEBP},
+};
+
+const char *file_kinds(void) {
+    static const char *const texts[] = {"PNG and JPEG", "PNG, JPEG and GIF", "PNG, JPEG and WebP",
+                                        "PNG, JPEG, GIF and WebP"};
+    return texts[(kinds[2].reader ? 1 : 0) + (kinds[3].reader ? 2 : 0)];
+}
+
+int file_refuse(char sentence[FILE_SENTENCE], const char *name, const char *what) {
     snprintf(sentence, FILE_SENTENCE, "%s: %s", name, what);
     return 0;
 }
 
-/* libpng's simplified interface answers sRGB with a straight alpha, whatever the file has. */
-static int read_png(FILE *file, const char *name, file_picture *picture, char sentence[FILE_SENTENCE]) {
-    png_image png;
-    memset(&png, 0, sizeof png);
-    png.version = PNG_IMAGE_VERSION;
-    if (!png_image_begin_read_from_stdio(&png, file))
-        return refuse(sentence, name, png.message);
-    png.format = PNG_FORMAT_RGBA;
-    picture->width = png.width;
-    picture->height = png.height;
-    picture->bytes = malloc(PNG_IMAGE_SIZE(png));
-    if (!picture->bytes) {
-        png_image_free(&png);
-        return refuse(sentence, name, "there is no memory for a picture of this size");
-    }
-    if (!png_image_finish_read(&png, NULL, picture->bytes, 0, NULL) || PNG_IMAGE_FAILED(png)) {
-        free(picture->bytes);
-        picture->bytes = NULL;
-        return refuse(sentence, name, png.message);
-    }
-    return 1;
-}
-
-/* What libjpeg does at an error: it jumps back, with the sentence. A warning, as of a file that ends early, is one too.
- */
-typedef struct {
-    struct jpeg_error_mgr base;
-    jmp_buf back;
-    char text[JMSG_LENGTH_MAX];
-} jpeg_errors;
-
-static void jpeg_failed(j_common_ptr jpeg) {
-    jpeg_errors *errors = (jpeg_errors *)jpeg->err;
-    jpeg->err->format_message(jpeg, errors->text);
-    longjmp(errors->back, 1);
-}
-
-static void jpeg_warned(j_common_ptr jpeg, int level) {
-    if (level < 0)
-        jpeg_failed(jpeg);
-}
-
-/* Decodes the rows, with an alpha of 255, into memory that stands in `picture` whatever happens. */
-static int decode_jpeg(struct jpeg_decompress_struct *jpeg, file_picture *picture) {
-    jpeg_read_header(jpeg, TRUE);
-    jpeg->out_color_space = JCS_EXT_RGBA;
-    jpeg_start_decompress(jpeg);
-    picture->width = jpeg->output_width;
-    picture->height = jpeg->output_height;
-    picture->bytes = malloc((size_t)4 * picture->width * picture->height);
-    if (!picture->bytes)
+/* Whether a name ends with this, which is in small letters. */
+static int ends_with(const char *name, const char *end) {
+    const size_t length = strlen(name), count = strlen(end);
+    if (length < count)
         return 0;
-    while (jpeg->output_scanline < jpeg->output_height) {
-        JSAMPROW row = picture->bytes + (size_t)4 * picture->width * jpeg->output_scanline;
-        jpeg_read_scanlines(jpeg, &row, 1);
+    for (size_t i = 0; i < count; i++) {
+        const char letter = name[length - count + i];
+        if ((letter >= 'A' && letter <= 'Z' ? letter - 'A' + 'a' : letter) != end[i])
+            return 0;
     }
-    jpeg_finish_decompress(jpeg);
     return 1;
 }
 
-static int read_jpeg(FILE *file, const char *name, file_picture *picture, char sentence[FILE_SENTENCE]) {
-    struct jpeg_decompress_struct jpeg;
-    jpeg_errors errors;
-    jpeg.err = jpeg_std_error(&errors.base);
-    errors.base.error_exit = jpeg_failed;
-    errors.base.emit_message = jpeg_warned;
-    strcpy(errors.text, "there is no memory for a picture of this size");
-    if (!setjmp(errors.back)) {
-        jpeg_create_decompress(&jpeg);
-        jpeg_stdio_src(&jpeg, file);
-        if (decode_jpeg(&jpeg, picture)) {
-            jpeg_destroy_decompress(&jpeg);
+int file_is_named_so(const char *name) {
+    for (int i = 0; i < KINDS; i++)
+        if (kinds[i].reader && (ends_with(name, kinds[i].ends[0]) || ends_with(name, kinds[i].ends[1])))
             return 1;
-        }
+    return 0;
+}
+
+/* The kind that begins with these bytes, or null. */
+static const kind *kind_of(const uint8_t *bytes, size_t count) {
+    for (int i = 0; i < KINDS; i++) {
+        size_t same = 0;
+        while (same < kinds[i].length && same < count &&
+               (kinds[i].start[same] == '.' || (uint8_t)kinds[i].start[same] == bytes[same]))
+            same++;
+        if (same == kinds[i].length)
+            return &kinds[i];
     }
-    jpeg_destroy_decompress(&jpeg);
-    free(picture->bytes);
-    picture->bytes = NULL;
-    return refuse(sentence, name, errors.text);
+    return NULL;
+}
+
+/* Turns a picture upright that lies as EXIF says, and answers whether there was memory for it. */
+static int set_upright(file_picture *picture, int orientation) {
+    const file_picture lying = *picture;
+    if (orientation == 1)
+        return 1;
+    picture->bytes = malloc((size_t)4 * lying.width * lying.height);
+    if (picture->bytes)
+        file_turn(lying.bytes, lying.width, lying.height, 4, orientation, picture->bytes);
+    if (orientation > 4) {
+        picture->width = lying.height;
+        picture->height = lying.width;
+    }
+    free(lying.bytes);
+    return picture->bytes != NULL;
+}
+
+/* Reads an open file whose first bytes are these. */
+static int read_open(FILE *file, const char *name, const uint8_t *first, size_t count, file_picture *picture,
+                     char sentence[FILE_SENTENCE]) {
+    const kind *of = kind_of(first, count);
+    int orientation = 1;
+    if (!of)
+        return file_refuse(sentence, name, count ? "this is neither a PNG nor a JPEG, GIF or WebP file"
+                                                 : "this file is empty: it is neither a PNG nor a JPEG");
+    if (!of->reader)
+        return file_refuse(sentence, name, of->lacks);
+    if (fseek(file, 0, SEEK_SET))
+        return file_refuse(sentence, name, strerror(errno));
+    if (!of->reader(file, name, picture, &orientation, sentence))
+        return 0;
+    return set_upright(picture, orientation) || file_refuse(sentence, name, NO_MEMORY);
 }
 
 int file_read(const char *name, file_picture *picture, char sentence[FILE_SENTENCE]) {
-    unsigned char first[3] = {0};
+    uint8_t first[LONGEST] = {0};
     picture->bytes = NULL;
     FILE *file = fopen(name, "rb");
     if (!file)
-        return refuse(sentence, name, strerror(errno));
-    size_t count = fread(first, 1, sizeof first, file);
-    int is_read = 0;
-    if (ferror(file))
-        refuse(sentence, name, strerror(errno));
-    else if (count == 3 && !memcmp(first, "\x89PN", 3) && !fseek(file, 0, SEEK_SET))
-        is_read = read_png(file, name, picture, sentence);
-    else if (count == 3 && !memcmp(first, "\xff\xd8\xff", 3) && !fseek(file, 0, SEEK_SET))
-        is_read = read_jpeg(file, name, picture, sentence);
-    else
-        refuse(sentence, name, "this is neither a PNG nor a JPEG file");
+        return file_refuse(sentence, name, strerror(errno));
+    const size_t count = fread(first, 1, sizeof first, file);
+    const int is_read = ferror(file) ? file_refuse(sentence, name, strerror(errno))
+                                     : read_open(file, name, first, count, picture, sentence);
     fclose(file);
     return is_read;
-}
-
-/* What is written goes through a file of our own: libpng's own way by a name deletes what it could not write, be it a
- * device. */
-int file_write_png(const char *name, const file_picture *picture, char sentence[FILE_SENTENCE]) {
-    png_image png;
-    memset(&png, 0, sizeof png);
-    png.version = PNG_IMAGE_VERSION;
-    png.width = picture->width;
-    png.height = picture->height;
-    png.format = PNG_FORMAT_RGBA;
-    FILE *file = fopen(name, "wb");
-    if (!file)
-        return refuse(sentence, name, strerror(errno));
-    int is_written = png_image_write_to_stdio(&png, file, 0, picture->bytes, 0, NULL);
-    if (fclose(file) && is_written)
-        return refuse(sentence, name, strerror(errno));
-    return is_written ? 1 : refuse(sentence, name, png.message);
 }
