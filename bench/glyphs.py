@@ -6,8 +6,13 @@
 """
 
 import os
+import sys
 
-import freetype
+if sys.argv[1:]:
+    print(__doc__.strip(), file=sys.stdout if sys.argv[1:] == ["--help"] else sys.stderr)
+    sys.exit(0 if sys.argv[1:] == ["--help"] else 2)
+
+import freetype  # noqa: E402
 
 FONT = "/usr/share/fonts/truetype/dejavu/DejaVuSans.ttf"
 HERE = os.path.dirname(os.path.abspath(__file__))

@@ -1,11 +1,12 @@
 #!/usr/bin/env python3
 """Makes the pictures of docs/GALLERY.md again, each by the command beside it, and compares them with those that stand there.
 
-    gallery.py [--pictures]
+    apps/common/gallery.py [--pictures]
 
 A picture is followed by its command, as an indented block: it writes a file of the picture's name into out/gallery. With --pictures what is made is put
 in the place of what stands there. A picture has to be the same, but where fonts or JPEG files were read: another version of FreeType, HarfBuzz, the font or
-libjpeg may draw it a little otherwise, and then it has to be near. The status is 1 where one is another.
+libjpeg may draw it a little otherwise, and then it has to be near. Needs Pillow, and the programs in apps/out, which tools/apps builds. The status is 1 where
+one is another.
 """
 
 import os
@@ -15,8 +16,9 @@ import shutil
 import subprocess
 import sys
 
-from PIL import ImageSequence
-from trial import TOP, Image, ImageChops
+from trial import TOP, Image, ImageChops  # before Pillow, which may not be there
+
+from PIL import ImageSequence  # isort: skip
 
 PAGE = TOP / "docs/GALLERY.md"
 MADE = TOP / "out/gallery"
@@ -69,6 +71,9 @@ def trouble(picture, command):
 
 def main():
     """Prints a line for each picture that is another or is not made."""
+    if sys.argv[1:] not in ([], ["--pictures"]):
+        print(__doc__.strip(), file=sys.stderr)
+        return 2
     shutil.rmtree(MADE, ignore_errors=True)
     MADE.mkdir(parents=True)
     count, troubles = 0, 0

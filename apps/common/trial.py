@@ -1,6 +1,6 @@
 """What the tests of the programs share: they run a program, and look at the pictures that it writes.
 
-APPS in the environment names the folder with the programs.
+APPS in the environment names the folder with the programs. With --help a script that imports this prints the text at its head.
 """
 
 import os
@@ -10,7 +10,16 @@ import sys
 import tempfile
 import unittest
 
-from PIL import Image, ImageChops
+# What a script says of itself comes first: the machine may lack what it stands on.
+if "--help" in sys.argv[1:]:
+    print(sys.modules["__main__"].__doc__.strip())
+    sys.exit()
+
+try:
+    from PIL import Image, ImageChops
+except ImportError:
+    print(f"{sys.argv[0]}: MISSING Pillow for {sys.executable}: python3-pil", file=sys.stderr)
+    sys.exit(2)
 
 TOP = pathlib.Path(__file__).resolve().parent.parent.parent
 PICTURES = TOP / "apps/pictures"

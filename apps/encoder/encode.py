@@ -10,8 +10,9 @@ Writes pictures that Pillow reads as indexed ones: each as a PNG, or all as the 
   --delay MS       how long the GIF shows each frame, in steps of 10 (100)
   --help           print this
 
-On a terminal a bar shows how many pictures are done. No picture is written over one that is read. The
-status is 0, 1 after a file that can't be read or written, or 2 after another use.
+On a terminal a bar shows how many pictures are done. No picture is written over one that is read. It
+needs pix and Pillow. The status is 0, 1 after a file that can't be read or written, or 2 after another
+use, or where something is missing.
 """
 
 import os
@@ -22,7 +23,11 @@ try:
     import files
     import table
 except ImportError as error:
-    sys.exit(f"encode.py: {error}: it stands on pix and Pillow")
+    if "--help" in sys.argv[1:]:
+        print(__doc__, end="", flush=True)
+        sys.exit()
+    print(f"encode.py: {error}: it stands on pix and Pillow", file=sys.stderr)
+    sys.exit(2)
 
 NUMBERS = {"--colors": (2, 256), "--delay": (10, 655350)}
 

@@ -1,5 +1,11 @@
 #!/usr/bin/env python3
-"""Tries the encoder: what its files have when they are read back, the bar, and what it refuses."""
+"""Tries the encoder: what its files have when they are read back, the bar, and what it refuses.
+
+    apps/encoder/test.py [TEST..]
+
+Needs pix and Pillow. A TEST is a name, as
+Encoder.test_help; without one all are tried.
+"""
 
 import itertools
 import os

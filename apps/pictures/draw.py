@@ -1,5 +1,7 @@
 #!/usr/bin/env python3
-"""Draws the pictures that the programs are shown with, into a folder: draw.py FOLDER
+"""Draws the pictures that the programs are shown with, into a folder.
+
+    apps/pictures/draw.py FOLDER
 
 lake.jpg is as a photograph is, with grain and soft gradients; leaf.png is a drawing with a soft, transparent ground; and
 atlas.png has eight sprites of 32 by 32 pixels side by side. None of them is anybody else's. Needs Pillow.
@@ -10,7 +12,11 @@ import pathlib
 import random
 import sys
 
-from PIL import Image, ImageChops, ImageDraw, ImageFilter, ImageOps
+if len(sys.argv) != 2 or sys.argv[1].startswith("-"):
+    print(__doc__.strip(), file=sys.stdout if sys.argv[1:] == ["--help"] else sys.stderr)
+    sys.exit(0 if sys.argv[1:] == ["--help"] else 2)
+
+from PIL import Image, ImageChops, ImageDraw, ImageFilter, ImageOps  # noqa: E402
 
 WIDTH, HEIGHT, SHORE, SPRITE, SPRITES = 640, 400, 250, 32, 8
 
@@ -151,7 +157,7 @@ def atlas():
 
 
 def main():
-    folder = pathlib.Path(sys.argv[1] if len(sys.argv) == 2 else sys.exit(__doc__))
+    folder = pathlib.Path(sys.argv[1])
     lake().save(folder / "lake.jpg", quality=90)
     leaf().save(folder / "leaf.png", optimize=True)
     atlas().save(folder / "atlas.png", optimize=True)

@@ -1,5 +1,12 @@
 #!/usr/bin/env python3
-"""Tries the sprites: where they are painted, that they move, that bands by threads are the whole, and what is refused."""
+"""Tries the sprites: where they are painted, that they move, that bands by threads are the whole, and what is refused.
+
+    apps/sprites/test.py [TEST..]
+
+Needs Pillow and apps/out/sprites: tools/apps builds it. APPS in the environment
+names another folder than apps/out. A TEST is a name, as
+Sprites.test_help; without one all are tried.
+"""
 
 import pathlib
 import re

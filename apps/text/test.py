@@ -1,5 +1,12 @@
 #!/usr/bin/env python3
-"""Tries the text: kerning, shaping, the atlas, what each way does to thin letters, and what is refused."""
+"""Tries the text: kerning, shaping, the atlas, what each way does to thin letters, and what is refused.
+
+    apps/text/test.py [TEST..]
+
+Needs Pillow, DejaVu's fonts and apps/out/text: tools/apps builds it. APPS in the environment
+names another folder than apps/out. A TEST is a name, as
+Text.test_help; without one all are tried.
+"""
 
 import pathlib
 import re

@@ -1,5 +1,12 @@
 #!/usr/bin/env python3
-"""Tries the viewer: what it shows, how much of it is painted, and what it refuses."""
+"""Tries the viewer: what it shows, how much of it is painted, and what it refuses.
+
+    apps/viewer/test.py [TEST..]
+
+Needs Pillow, Xvfb and apps/out/viewer: tools/apps builds it. APPS in the environment
+names another folder than apps/out. A TEST is a name, as
+Viewer.test_help; without one all are tried.
+"""
 
 import contextlib
 import itertools
