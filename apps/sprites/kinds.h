@@ -16,20 +16,18 @@ inline pix_status convert(const pix_bitmap &from, const pix_bitmap &to) {
     return pix_convert_bitmap(pix_bitmap_source_of_bitmap(from), to);
 }
 
-// The bytes of the file, taken as if they were light: what browsers do. `straight` is what they are called then.
+// The bytes of the file, taken as if they were light: what browsers do. `straight` is what they are called then, and
+// `opaque` where they have no alpha.
 struct Bytes {
     using pixel = pix_rgba8;
     using command = pix_command;
     using source = pix_source;
 
-    static constexpr pix_format straight = PIX_FORMAT_RGBA8, shown = PIX_FORMAT_BGRA8;
+    static constexpr pix_format straight = PIX_FORMAT_RGBA8, opaque = PIX_FORMAT_RGB8, shown = PIX_FORMAT_BGRA8;
     static constexpr auto image_of = pix_image_of;
     static constexpr auto source_of = pix_source_of;
     static constexpr auto bitmap_of = pix_bitmap_of_image;
-    static constexpr auto color_of = pix_color_of;
-    static constexpr auto copy_color = pix_copy_color;
     static constexpr auto copy_image = pix_copy_image;
-    static constexpr auto composite_color = pix_composite_color;
     static constexpr auto composite_image = pix_composite_image;
     static constexpr auto run_in = pix_run_in;
 };
@@ -40,14 +38,11 @@ struct Light {
     using command = pix_command_rgba16;
     using source = pix_source_rgba16;
 
-    static constexpr pix_format straight = PIX_FORMAT_SRGBA8, shown = PIX_FORMAT_SBGRA8;
+    static constexpr pix_format straight = PIX_FORMAT_SRGBA8, opaque = PIX_FORMAT_SRGB8, shown = PIX_FORMAT_SBGRA8;
     static constexpr auto image_of = pix_image_of_rgba16;
     static constexpr auto source_of = pix_source_of_rgba16;
     static constexpr auto bitmap_of = pix_bitmap_of_image_rgba16;
-    static constexpr auto color_of = pix_color_of_rgba16;
-    static constexpr auto copy_color = pix_copy_color_rgba16;
     static constexpr auto copy_image = pix_copy_image_rgba16;
-    static constexpr auto composite_color = pix_composite_color_rgba16;
     static constexpr auto composite_image = pix_composite_image_rgba16;
     static constexpr auto run_in = pix_run_in_rgba16;
 };

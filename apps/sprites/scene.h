@@ -4,9 +4,9 @@
 
 #include "../common/files.h"
 #include "kinds.h"
+#include "sky.h"
 
 #include <algorithm>
-#include <array>
 #include <functional>
 #include <random>
 #include <thread>
@@ -18,7 +18,7 @@ template <typename Kind> class Scene {
     // The atlas has square sprites, as high as it is.
     Scene(const file_picture &atlas, int width, int height, int count, int threads)
         : width(width), height(height), threads(threads), side(static_cast<int>(atlas.height)),
-          frame(std::size_t(width) * height), sky(frame), cells(std::size_t(atlas.width) * atlas.height) {
+          frame(std::size_t(width) * height), ground(frame), cells(std::size_t(atlas.width) * atlas.height) {
         insist(convert(pix_bitmap_of(atlas.bytes, atlas.width, atlas.height, Kind::straight),
                        Kind::bitmap_of(Kind::image_of(cells.data(), atlas.width, atlas.height))));
         source = Kind::source_of(cells.data(), atlas.width, atlas.height);
@@ -49,7 +49,7 @@ template <typename Kind> class Scene {
         const std::uint32_t cell = static_cast<std::uint32_t>(side);
         const pix_region all = {0, 0, static_cast<std::uint32_t>(width), static_cast<std::uint32_t>(height)};
         std::vector<typename Kind::command> list = {
-            Kind::copy_image(all, Kind::source_of(sky.data(), width, height), all)};
+            Kind::copy_image(all, Kind::source_of(ground.data(), width, height), all)};
         for (const Sprite &it : sprites)
             list.push_back(Kind::composite_image({it.x, it.y, cell, cell}, source, {it.cell * side, 0, cell, cell},
                                                  PIX_OP_SRC_OVER));
@@ -75,24 +75,15 @@ template <typename Kind> class Scene {
     };
 
     int width, height, threads, side;
-    std::vector<typename Kind::pixel> frame, sky, cells;
+    std::vector<typename Kind::pixel> frame, ground, cells;
     typename Kind::source source;
     std::vector<Sprite> sprites;
 
-    // A color of the file's kind, which is not premultiplied.
-    static typename Kind::pixel color_of(const std::array<std::uint8_t, 4> &color) {
-        return Kind::color_of(Kind::straight, color.data());
-    }
-
-    // Paints a sky that grows lighter to the bottom, by layers of a faint color.
+    // Takes the sky as a picture of a file is taken.
     void paint_sky() {
-        const std::uint32_t columns = width, rows = height;
-        std::vector<typename Kind::command> list = {
-            Kind::copy_color({0, 0, columns, rows}, color_of({40, 48, 96, 255}))};
-        const auto haze = color_of({232, 200, 176, 9});
-        for (int y = 0; y < height; y += std::max(1, height / 40))
-            list.push_back(Kind::composite_color({0, y, columns, rows}, haze, PIX_OP_SRC_OVER));
-        insist(Kind::run_in(Kind::image_of(sky.data(), columns, rows), 0, 0, list.data(), list.size(), nullptr));
+        std::vector<pix_srgb8> pixels = sky::paint(width, height);
+        insist(convert(pix_bitmap_of(pixels.data(), width, height, Kind::opaque),
+                       Kind::bitmap_of(Kind::image_of(ground.data(), width, height))));
     }
 
     // Calls a function for each band of rows, from `top` to `bottom`, each but the first in a thread of its own.

@@ -86,6 +86,25 @@ class Sprites(Trial):
         for light, byte in zip(in_light.getdata(), in_bytes.getdata()):
             self.assertEqual(light == (255, 255, 255, 255), byte == (255, 255, 255, 255))
 
+    def sky(self, *way, size):
+        """Returns the rows of the sky alone, each as its points."""
+        picture = self.frame(self.cells((0, 0, 0, 0)), 1, 1, *way, size=size)[0].convert("RGB")
+        points = list(picture.getdata())
+        return [points[at : at + size[0]] for at in range(0, len(points), size[0])]
+
+    def test_the_sky_has_no_bands(self):
+        """No row changes all its points at once, no row is far from the one above it, and points of a row are near each other."""
+        for way in WAYS:
+            for size in ((240, 540), (100, 1600), (150, 400)):
+                rows = self.sky(*way, size=size)
+                edges = sum(len(set(above)) == len(set(row)) == 1 and above != row for above, row in zip(rows, rows[1:]))
+                means = [[sum(channel) / len(row) for channel in zip(*row)] for row in rows]
+                bands = sum(max(abs(a - b) for a, b in zip(*pair)) > 2 for pair in zip(means, means[1:]))
+                spread = max(max(channel) - min(channel) for row in rows for channel in zip(*row))
+                self.assertEqual((edges, bands), (0, 0), f"{way} {size}: rows that end a color, and rows far from the one above")
+                self.assertLessEqual(spread, 8)
+                self.assertGreater(means[-1][0] - means[0][0], 100)
+
     def test_help(self):
         self.has_help()
 
