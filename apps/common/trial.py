@@ -44,13 +44,13 @@ class Trial(unittest.TestCase):
         self.addCleanup(folder.cleanup)
         self.folder = pathlib.Path(folder.name)
 
-    def run_program(self, *words, status=0, **more):
-        """Runs the program, which has to end with this status, and returns what it printed."""
+    def run_program(self, *words, status=0, warns=False, **more):
+        """Runs the program, which has to end with this status, and returns what it printed. It may print no error then, unless it warns."""
         words = [str(word) for word in (*self.program, *words)]
         environment = {"SDL_VIDEODRIVER": "dummy", **os.environ, **more.pop("env", {})}
         ran = subprocess.run(words, capture_output=True, text=True, timeout=600, env=environment, stdin=subprocess.DEVNULL, **more)
         self.assertEqual(ran.returncode, status, f"{words}: {ran.stdout}{ran.stderr}")
-        if status == 0:
+        if status == 0 and not warns:
             self.assertEqual(ran.stderr, "")
         return ran
 

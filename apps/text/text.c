@@ -1,6 +1,8 @@
 /* Text over a photograph: see --help. */
 #include "../common/files.h"
-#include "font.h"
+#include "direction.h"
+#include "fallback.h"
+#include "layout.h"
 #include <stdio.h>
 #include <stdlib.h>
 
@@ -8,17 +10,21 @@ static const char usage[] =
     "usage: text [OPTION].. --photo FILE --save PNG LINE..\n"
     "Writes lines over the middle of a PNG or JPEG file, twice side by side: composited in the bytes of\n"
     "the file on the left, and in linear light on the right. Each line is in a color of its own and smaller\n"
-    "than the one before it.\n"
+    "than the one before it, is broken into rows where it is too long, and goes from right to left where its\n"
+    "letters do. What the font lacks is taken from other fonts of the machine.\n"
     "\n"
     "  --font FILE     a font file with outlines (DejaVu Serif of Debian)\n"
     "  --size N        the size of the first line, in pixels, from 4 to 400 (44)\n"
     "  --no-kerning    set all pairs of letters at their plain distance\n"
     "  --atlas PNG     write the masks of all glyphs, too\n"
-    "  --report        print how wide each line is, and how many masks and commands there are\n"
+    "  --report        print how wide each line is, in how many rows, and how many masks and fonts there are\n"
     "  --help          print this\n"
     "\n"
-    "Shaping is HarfBuzz's, and masks are FreeType's. The status is 0, 1 after a file that can't be read or\n"
-    "written, or 2 after another use.\n";
+    "Shaping is HarfBuzz's, and masks are FreeType's. Characters that no font has, and rows that the picture is\n"
+    "too low for, are named on standard error. The status is 0, 1 after a file that can't be read or written, or\n"
+    "2 after another use.\n";
+
+static const char default_font[] = "/usr/share/fonts/truetype/dejavu/DejaVuSerif.ttf";
 
 enum { MARGIN = 14 };
 
@@ -30,8 +36,7 @@ typedef struct {
 
 /* A line of text, and its color in the bytes of a file. */
 typedef struct {
-    placed_mask *masks;
-    size_t count;
+    layout_line set;
     uint8_t color[4];
 } line;
 
@@ -73,7 +78,7 @@ static int set_option(options *it, const char *word, const char *value) {
 }
 
 static options read_options(int argc, char **argv) {
-    options it = {NULL, NULL, "/usr/share/fonts/truetype/dejavu/DejaVuSerif.ttf", NULL, argv, 0, 44, 1, 0};
+    options it = {NULL, NULL, default_font, NULL, argv, 0, 44, 1, 0};
     int has_options = 1;
     for (int i = 1; i < argc; i++) {
         if (!has_options || strncmp(argv[i], "--", 2)) {
@@ -82,6 +87,9 @@ static options read_options(int argc, char **argv) {
             has_options = 0;
         } else if (!strcmp(argv[i], "--help")) {
             fputs(usage, stdout);
+            printf("This program was built %s FriBidi, which puts directions in order, and %s fontconfig, which\n"
+                   "finds other fonts.\n",
+                   direction_is_there() ? "with" : "without", fallback_is_there() ? "with" : "without");
             exit(fflush(stdout) ? 1 : 0);
         } else if (!strcmp(argv[i], "--no-kerning")) {
             it.has_kerning = 0;
@@ -100,28 +108,70 @@ static options read_options(int argc, char **argv) {
     return it;
 }
 
-/* Shapes all lines, one below the other. */
-static line *shape(font *letters, const options *chosen) {
+/* Says on standard error what a user would else have to find in the picture. */
+static void warn(const char *about, const char *what) {
+    fprintf(stderr, "text: %s: %s\n", about, what);
+}
+
+/* Names the characters that no font has, up to eight of them. */
+static void warn_of_lacking(const font *letters, const options *chosen) {
+    char named[8 * 16 + 32] = "";
+    size_t count = letters->lacking_count, shown = count < 8 ? count : 8, at = 0;
+    for (size_t i = 0; i < shown; i++)
+        at += (size_t)sprintf(named + at, "%sU+%04lX", i ? ", " : "", (unsigned long)letters->lacking[i]);
+    if (count > shown)
+        sprintf(named + at, " and %lu more", (unsigned long)(count - shown));
+    if (count && fallback_is_there())
+        warn(named, "no font of this machine has this, and a box stands for it: install one that does");
+    else if (count)
+        fprintf(stderr, "text: %s: %s has no glyph for this, and a box stands for it: name a font that has one by --font, "
+                "since this program was built without fontconfig, which finds other fonts\n", named, chosen->font);
+}
+
+/* Says what a line is, with its newlines as spaces: how many masks it has, and how wide and high it is. */
+static void report(const char *text, const layout_line *set, int size) {
+    for (; *text; text++)
+        putchar(*text == '\n' ? ' ' : *text);
+    printf(": %lu masks, %d pixels wide at a size of %d", (unsigned long)set->list.count, set->width, size);
+    if (set->rows > 1)
+        printf(", in %d rows", set->rows);
+    putchar('\n');
+}
+
+/* Sets all lines, one below the other, in a column that is so wide, and answers where the last one stands. */
+static int set_lines(font *letters, const options *chosen, int width, line *lines) {
     static const uint8_t colors[][4] = {{255, 255, 255, 255}, {255, 216, 60, 255},  {0, 0, 0, 255},
                                         {210, 30, 40, 255},   {120, 240, 255, 255}, {255, 255, 255, 150}};
-    line *lines = insist_memory(calloc((size_t)chosen->count, sizeof *lines));
+    const int right = width - MARGIN / 2;
+    const layout_frame frame = {MARGIN, right > MARGIN ? right : MARGIN, chosen->has_kerning};
     int size = chosen->size, baseline = 0;
     for (int i = 0; i < chosen->count; i++) {
-        baseline += size + size / 4;
-        const char *sentence = font_shape(letters, chosen->lines[i], size, chosen->has_kerning, MARGIN, baseline,
-                                          &lines[i].masks, &lines[i].count);
+        const char *sentence = layout_text(letters, chosen->lines[i], size, frame, &baseline, &lines[i].set);
         if (sentence)
             fail(1, chosen->font, sentence);
         memcpy(lines[i].color, colors[(size_t)i % (sizeof colors / sizeof *colors)], 4);
-        if (chosen->report && lines[i].count) {
-            const pix_region *first = &lines[i].masks[0].to, *last = &lines[i].masks[lines[i].count - 1].to;
-            printf("%s: %zu masks, %d pixels wide at a size of %d\n", chosen->lines[i], lines[i].count,
-                   last->x + (int)last->width - first->x, size);
-        }
+        if (lines[i].set.is_mixed)
+            warn(chosen->lines[i], "its parts stand in one direction, since this program was built without FriBidi");
+        if (chosen->report && lines[i].set.list.count)
+            report(chosen->lines[i], &lines[i].set, size);
         if (size > 12)
             size -= size / 4;
     }
-    return lines;
+    return baseline;
+}
+
+/* Opens the font, or where the default one is not there one that is like it. */
+static void open_font(font *letters, const options *chosen) {
+    const char *sentence = font_open(letters, chosen->font);
+    char *other;
+    int index;
+    if (sentence && chosen->font == default_font && fallback_find("serif", 'A', &other, &index)) {
+        font_close(letters);
+        sentence = font_open(letters, other);
+        free(other);
+    }
+    if (sentence)
+        fail(1, chosen->font, sentence);
 }
 
 /* Converts a picture: both are of one size. */
@@ -133,13 +183,14 @@ static void convert(pix_bitmap from, pix_bitmap to) {
 static void draw(pix_image_rgba16 image, pix_format as, const line *lines, int line_count, pix_matte16 atlas) {
     size_t count = 0, all = 1;
     for (int i = 0; i < line_count; i++)
-        all += lines[i].count;
+        all += lines[i].set.list.count;
     pix_command_rgba16 *list = insist_memory(malloc(all * sizeof *list));
     for (int i = 0; i < line_count; i++) {
         const pix_rgba16 color = pix_color_of_rgba16(as, lines[i].color);
-        for (size_t j = 0; j < lines[i].count; j++)
-            list[count++] =
-                pix_composite_matte_rgba16(lines[i].masks[j].to, atlas, lines[i].masks[j].from, color, PIX_OP_SRC_OVER);
+        for (size_t j = 0; j < lines[i].set.list.count; j++) {
+            const placed_mask *placed = &lines[i].set.list.masks[j];
+            list[count++] = pix_composite_matte_rgba16(placed->to, atlas, placed->from, color, PIX_OP_SRC_OVER);
+        }
     }
     insist(pix_run_rgba16(image, list, count, NULL));
     free(list);
@@ -199,19 +250,22 @@ int main(int argc, char **argv) {
     insist(pix_check_library());
     if (!file_read(chosen.photo, &photo, read))
         fail(1, "", read);
-    const char *sentence = font_open(&letters, chosen.font);
-    if (sentence)
-        fail(1, chosen.font, sentence);
-    line *lines = shape(&letters, &chosen);
+    open_font(&letters, &chosen);
+    line *lines = insist_memory(calloc((size_t)chosen.count, sizeof *lines));
+    int bottom = set_lines(&letters, &chosen, (int)photo.width / 2, lines);
+    warn_of_lacking(&letters, &chosen);
+    if (bottom > (int)photo.height)
+        warn(chosen.photo, "it is too low for the text, whose last rows are not seen");
     pix_matte atlas = font_atlas(&letters);
     file_picture drawn = draw_halves(&photo, lines, chosen.count, atlas);
     if (chosen.report)
-        printf("%zu masks in an atlas of %u x %u\n", letters.count, atlas.width, atlas.height);
+        printf("%lu masks of %lu font%s in an atlas of %u x %u\n", (unsigned long)letters.count,
+               (unsigned long)letters.face_count, letters.face_count > 1 ? "s" : "", atlas.width, atlas.height);
     if (chosen.atlas)
         save_atlas(chosen.atlas, atlas);
     save(chosen.save, drawn);
     for (int i = 0; i < chosen.count; i++)
-        free(lines[i].masks);
+        free(lines[i].set.list.masks);
     free(lines);
     free(photo.bytes);
     font_close(&letters);
