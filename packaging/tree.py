@@ -1,6 +1,7 @@
 """Makes the packages for C and C++: a tarball to unpack anywhere, and for Debian libpix and libpix-dev; and the tarball of the program."""
 
 import os
+import re
 import shutil
 
 from common import CALLS, TOP, call, copy, environment, files_below, fill, link, pack, provenance, put, read
@@ -8,6 +9,7 @@ from common import CALLS, TOP, call, copy, environment, files_below, fill, link,
 # The documents, by the paths by which they name each other.
 DOCUMENTS = ["README.md", "CALLING.md", "CHANGELOG.md", "LICENSE", "VERSION", "bindings/README.md"]
 DOCUMENTS += sorted(str(path.relative_to(TOP)) for folder in ("docs", "pictures") for path in (TOP / folder).iterdir() if path.is_file())
+MANUAL = ["pixpaint.1", "pix-picture.1"]
 PATTERNS = {"x86_64": "x86_64|AMD64|amd64", "aarch64": "aarch64|arm64"}
 SUMMARY = "compositing of raster images, every function of it proved"
 
@@ -48,9 +50,19 @@ def put_for_compilers(release, processor, lib, include):
         put(lib / "cmake/pix" / name, fill(f"{name}.in", **values))
 
 
-def put_documents(root):
-    """Puts the documents into a folder."""
-    for name in DOCUMENTS:
+def pictures_of(documents):
+    """Returns the paths of the pictures that documents show."""
+    found = set()
+    for name in documents:
+        if name.endswith(".md"):
+            shown = re.findall(r"!\[[^\]]*\]\((?!https?:)([^)\s]+)\)", read(name))
+            found |= {os.path.normpath(os.path.join(os.path.dirname(name), path)) for path in shown}
+    return sorted(found)
+
+
+def put_documents(root, documents):
+    """Puts documents into a folder, with the pictures that they show."""
+    for name in {**dict.fromkeys(documents), **dict.fromkeys(pictures_of(documents))}:
         copy(TOP / name, root / name)
 
 
@@ -59,17 +71,25 @@ def tarball(release, processor):
     root = release.dist / f"pix-{release.version}-{processor.triple}"
     put_library(release, processor, root / "lib")
     put_for_compilers(release, processor, root / "lib", "../include")
-    put_documents(root / "share/doc/pix")
+    put_documents(root / "share/doc/pix", DOCUMENTS)
     put(root / "share/doc/pix/PROVENANCE", provenance(release, root))
     pack(release, root)
 
 
+def operators():
+    """Returns the names of the operators, as a page of manual lists them."""
+    names = re.findall(r"^row (\w+) =", read("crates/pix_ops/specs/Operators.antt"), re.M)
+    return f"{', '.join(names[:-1])} and {names[-1]}"
+
+
 def program(release, processor):
-    """Makes the tarball of the program."""
+    """Makes the tarball of the program: beside it pix-picture, which is tools/picture, and a page of manual of each, where man looks for a command."""
     root = release.dist / f"pixpaint-{release.version}-{processor.triple}"
     copy(release.built / processor.name / "pixpaint", root / "pixpaint", 0o755)
-    for name in ["LICENSE", "docs/SCRIPTS.md", *[f"examples/{path.name}" for path in sorted((TOP / "examples").iterdir())]]:
-        copy(TOP / name, root / name)
+    copy(TOP / "tools/picture", root / "pix-picture", 0o755)
+    for name in MANUAL:
+        put(root / "share/man/man1" / name, fill(f"man/{name}.in", VERSION=release.version, OPERATORS=operators()))
+    put_documents(root, ["LICENSE", "docs/SCRIPTS.md", *[f"examples/{path.name}" for path in sorted((TOP / "examples").iterdir())]])
     more = ["linked with packaging/kit.c, which is not proved, in the place of the kit's libraries, which are for x86-64 alone"]
     put(root / "PROVENANCE", provenance(release, root, more if processor.name == "aarch64" else ()))
     pack(release, root)
@@ -104,7 +124,7 @@ def debian(release, processor):
             put_library(release, processor, lib)
         else:
             put_for_compilers(release, processor, lib, "../../include")
-            put_documents(root / "usr/share/doc/libpix-dev")
+            put_documents(root / "usr/share/doc/libpix-dev", DOCUMENTS)
         debian_files(release, processor, root, package, depends)
         for path in [root, *root.rglob("*")]:
             if path.is_dir():

@@ -1,11 +1,11 @@
 # Debian's packages: a part of tools/try-release.
 # shellcheck shell=bash disable=SC2016,SC2154
 
-# Runs a script as root in a layer over this system, in a folder there that has the files of another one; nothing of this system is changed. What
-# the script leaves in its folder is copied to a folder of ours.
+# Runs a script as root in a layer over this system, without a network, in a folder there that has the files of another one; nothing of this system is
+# changed. What the script leaves in its folder is copied to a folder of ours.
 in_layer() {
     local folder=$1 script=$2 left=$3
-    unshare --mount bash -ec '
+    unshare --mount --net bash -ec '
         mkdir -p "$1/layer" "$4" && mount -t tmpfs tmpfs "$1/layer" && mkdir "$1/layer/upper" "$1/layer/work" "$1/layer/root"
         mount -t overlay overlay -o "lowerdir=/,upperdir=$1/layer/upper,workdir=$1/layer/work" "$1/layer/root"
         for at in proc dev; do mount --rbind "/$at" "$1/layer/root/$at"; done

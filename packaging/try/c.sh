@@ -12,6 +12,17 @@ pix() {
     PKG_CONFIG_PATH=$work/$1/lib/pkgconfig pkg-config "${@:2}" pix
 }
 
+# Each picture that a document of the package shows is in it. Blocks of code aside, every line with ![..](PATH) shows one.
+documents() {
+    local page path count=0
+    cd "$work/$1/share/doc/pix" || return
+    while IFS=: read -r page path; do
+        count=$((count + 1))
+        [ -f "$(dirname "$page")/$path" ] || { echo "$page shows $path, which is not packed"; return 1; }
+    done < <(grep -rohP --include='*.md' --with-filename '!\[[^\]]*\]\(\K(?!https?:)[^)\s]+' .)
+    echo "$count pictures are shown" && [ "$count" -gt 20 ]
+}
+
 # Compiles a program of src against a prefix: its name, the processor, shared or static, the source, the compiler.
 compile() {
     local name=$1 processor=$2 how=$3 source=$4
@@ -105,6 +116,7 @@ another_processor() {
 
 try_lines docs/INSTALL.md sums
 if have 'the tarball for x86-64' cc pkg-config nm readelf && step 'x86-64: the tarball has the files of its PROVENANCE' unpack x86_64; then
+    step 'the documents: each picture that they show is packed' documents x86_64
     step 'x86-64: C, static: demo' c c-static static demo.c
     step 'x86-64: C, static: refusals' c refusals-static static refusals.c
     step 'x86-64: C, shared: demo' c c-shared shared demo.c && step 'its picture' same c-shared

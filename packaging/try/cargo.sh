@@ -1,12 +1,14 @@
 # The Rust crates: a part of tools/try-release.
 # shellcheck shell=bash disable=SC2016,SC2154
 
-# cargo's lines of a page, in a new program whose code is the example of bindings/README.md.
+# cargo's lines of a page, in a new program whose code is the example of bindings/README.md, without a network and by a user who never had one: no index
+# of a registry is kept. Then cargo alone does, without --offline.
 cargo_lines() {
     local folder=$work/cargo-${1//\//-}
     ran+=("$1 cargo")
     cargo init --quiet --vcs none --name demo "$folder" && cp "$dist"/*.crate "$folder" && cp "$work/main.rs" "$folder/src" \
-        && CARGO_NET_OFFLINE=true run_lines "$1" cargo "$folder"
+        && CARGO_HOME=$work/cargo-home run_lines "$1" cargo "$folder" \
+        && (cd "$folder" && touch src/main.rs && CARGO_HOME=$work/cargo-home "${alone[@]}" cargo run)
 }
 
 # Runs cargo in the program of the lines of README.md.
