@@ -25,8 +25,9 @@ examples() {
 manual() {
     local page said
     for page in pixpaint pix-picture; do
-        said=$(groff -man -Tutf8 -ww -P-cbou "$work/pixpaint-x86_64/share/man/man1/$page.1" 2>&1) || return
-        ! grep -E 'warning|error|@' <<<"$said" && grep -q "^ *$page - " <<<"$said" && grep -qF "pix $version" <<<"$said" || return
+        said=$(groff -man -Tascii -ww -P-cbou "$work/pixpaint-x86_64/share/man/man1/$page.1" 2>"$work/warnings") || return
+        echo "$said" && cat "$work/warnings" && [ ! -s "$work/warnings" ] || return
+        grep -q "^ *$page - " <<<"$said" && grep -qF "pix $version" <<<"$said" && ! grep -F '@' <<<"$said" || return
     done
     ! command -v man >/dev/null || PATH=$work/pixpaint-x86_64:$PATH MANPATH='' man -w pix-picture | grep -F "$work/pixpaint-x86_64/share/man/man1/pix-picture.1"
 }
