@@ -112,6 +112,13 @@ class Text(Trial):
         self.assertEqual((first[0], second[0]), ("\u05d2\u05d2" + "\u05d1\u05d0" * 5, "\u05d2\u05d2" * 4))
         self.assertEqual(first[2], second[2])
 
+    def test_spaces_at_the_end_of_a_row(self):
+        """A space at which a row is broken isn't seen, and stands in no place: not between letters of two directions either."""
+        self.built_with("FriBidi")
+        first, second = self.boxes("aaaa " + "\u05d0" * 4 + " " + "\u05d0" * 12)
+        self.assertEqual(first, ("aaaa" + "\u05d0" * 4, MARGIN, MARGIN + 9 * STEP - 4))
+        self.assertEqual(second[1], MARGIN)
+
     def test_without_directions(self):
         """A program that can't put directions in order says so where they are mixed."""
         self.built_without("FriBidi")
