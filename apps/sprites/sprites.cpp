@@ -16,7 +16,7 @@ namespace {
 
 const char usage[] =
     "usage: sprites [OPTION].. ATLAS\n"
-    "Moves sprites over a sky; ATLAS is a PNG or JPEG file with square sprites side by side.\n"
+    "Moves sprites over a sky; ATLAS is a picture with square sprites side by side.\n"
     "\n"
     "  --count N     how many sprites (3000)\n"
     "  --size WxH    the size of the window (960x540)\n"
@@ -77,7 +77,7 @@ Options read_options(int argc, char **argv) {
     for (int i = 1; i < argc; i++) {
         const std::string word = argv[i];
         if (word == "--help") {
-            std::cout << usage << std::flush;
+            std::cout << usage << "It was built to read " << file_kinds() << ".\n" << std::flush;
             std::exit(std::cout ? EXIT_SUCCESS : EXIT_FAILURE);
         } else if (word == "--light")
             options.in_light = true;
@@ -91,7 +91,7 @@ Options read_options(int argc, char **argv) {
             throw UsageError(word + ": there is one atlas");
     }
     if (options.atlas.empty())
-        throw UsageError("name an atlas: a PNG or JPEG file");
+        throw UsageError("name an atlas: a file with a picture");
     return options;
 }
 

@@ -28,27 +28,48 @@ static FcPattern *pattern_of(const char *family, uint32_t character) {
     return pattern;
 }
 
-int fallback_find(const char *family, uint32_t character, char **file, int *index) {
+/* The font that is nearest to what is asked for. The caller destroys it. */
+static FcPattern *nearest(const char *family, uint32_t character) {
     FcPattern *pattern = pattern_of(family, character);
     FcResult result;
     FcPattern *found = pattern ? FcFontMatch(NULL, pattern, &result) : NULL;
-    FcChar8 *name;
-    FcCharSet *has;
-    int is_found = found && FcPatternGetCharSet(found, FC_CHARSET, 0, &has) == FcResultMatch &&
-                   FcCharSetHasChar(has, character) &&
-                   FcPatternGetString(found, FC_FILE, 0, &name) == FcResultMatch;
-    if (is_found) {
-        *file = malloc(strlen((const char *)name) + 1);
-        is_found = *file != NULL;
-        if (is_found)
-            strcpy(*file, (const char *)name);
-        if (FcPatternGetInteger(found, FC_INDEX, 0, index) != FcResultMatch)
-            *index = 0;
-    }
-    if (found)
-        FcPatternDestroy(found);
     if (pattern)
         FcPatternDestroy(pattern);
+    return found;
+}
+
+/* Copies the name of a font's file, and answers whether there is one. */
+static int file_of(const FcPattern *found, char **file, int *index) {
+    FcChar8 *name;
+    if (FcPatternGetString(found, FC_FILE, 0, &name) != FcResultMatch)
+        return 0;
+    if (FcPatternGetInteger(found, FC_INDEX, 0, index) != FcResultMatch)
+        *index = 0;
+    *file = malloc(strlen((const char *)name) + 1);
+    if (*file)
+        strcpy(*file, (const char *)name);
+    return *file != NULL;
+}
+
+int fallback_find(const char *family, uint32_t character, char **file, int *index) {
+    FcPattern *found = nearest(family, character);
+    FcCharSet *has;
+    if (!found)
+        return 0;
+    int is_found = FcPatternGetCharSet(found, FC_CHARSET, 0, &has) == FcResultMatch &&
+                   FcCharSetHasChar(has, character) && file_of(found, file, index);
+    FcPatternDestroy(found);
+    return is_found;
+}
+
+int fallback_named(const char *family, char **file, int *index) {
+    FcPattern *found = nearest(family, ' ');
+    FcChar8 *name;
+    int is_found = 0;
+    for (int i = 0; found && !is_found && FcPatternGetString(found, FC_FAMILY, i, &name) == FcResultMatch; i++)
+        is_found = !FcStrCmpIgnoreCase(name, (const FcChar8 *)family) && file_of(found, file, index);
+    if (found)
+        FcPatternDestroy(found);
     return is_found;
 }
 
@@ -60,6 +81,11 @@ int fallback_is_there(void) {
 
 int fallback_find(const char *family, uint32_t character, char **file, int *index) {
     (void)family, (void)character, (void)file, (void)index;
+    return 0;
+}
+
+int fallback_named(const char *family, char **file, int *index) {
+    (void)family, (void)file, (void)index;
     return 0;
 }
 

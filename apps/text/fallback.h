@@ -11,4 +11,7 @@ int fallback_is_there(void);
  * and then its file, which the caller frees, and its number in that. */
 int fallback_find(const char *family, uint32_t character, char **file, int *index);
 
+/* Finds a font of a family, and answers as fallback_find. */
+int fallback_named(const char *family, char **file, int *index);
+
 #endif

@@ -13,7 +13,7 @@ static const char no_memory[] = "there is not enough memory";
 static const char *what_is_wrong(const char *name) {
     FILE *file = fopen(name, "rb");
     if (!file)
-        return "there is no such font file: name one by --font, or install Debian's fonts-dejavu-core";
+        return "there is no such font: name a file or a family by --font, or install Debian's fonts-dejavu-core";
     fclose(file);
     return "this is no font file that can be read: name another one by --font";
 }
@@ -36,11 +36,11 @@ static const char *add_face(font *it, const char *name, int index) {
     return NULL;
 }
 
-const char *font_open(font *it, const char *name) {
+const char *font_open(font *it, const char *name, int index) {
     memset(it, 0, sizeof *it);
     if (FT_Init_FreeType(&it->library))
         return "FreeType doesn't start";
-    return add_face(it, name, 0);
+    return add_face(it, name, index);
 }
 
 void font_close(font *it) {

@@ -54,8 +54,8 @@ typedef struct {
     size_t count;
 } placed_masks;
 
-/* Answers null, or a sentence that says why the file is no font. */
-const char *font_open(font *it, const char *name);
+/* Opens a font by its number in a file, mostly 0. Answers null, or a sentence that says why the file is no font. */
+const char *font_open(font *it, const char *name, int index);
 void font_close(font *it);
 
 /* Sets the size of all faces, in pixels. Answers null, or a sentence. */

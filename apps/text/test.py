@@ -163,6 +163,14 @@ class Text(Trial):
         self.boxes("ab", font=font, env=known)
         self.assertEqual(self.fonts, 1)
 
+    def test_a_family(self):
+        """A font is named by its family too, and one that is not there is named."""
+        self.built_with("fontconfig")
+        known = self.fonts_of(("Hebrew", "\u05d0\u05d1"))
+        self.assertEqual(self.seen("\u05d0", font="hebrew", env=known), ["\u05d0"])
+        self.assertEqual(self.fonts, 1)
+        self.refuses(1, "Hebrews: there is no such font: name a file or a family", "--photo", LAKE, "--save", self.folder / "out.png", "--font", "Hebrews", "a")
+
     def test_the_default_font_and_others(self):
         """Letters of Hebrew and Arabic, which the default font lacks, are no boxes, and Arabic's are joined."""
         self.built_with("fontconfig")
@@ -256,7 +264,7 @@ class Text(Trial):
         out = self.folder / "out.png"
         for file, *use in [
             (f"{words}: this is no font file", "--photo", LAKE, "--save", out, "--font", words),
-            (f"{self.folder / 'none'}: there is no such font file", "--photo", LAKE, "--save", out, "--font", self.folder / "none"),
+            (f"{self.folder / 'none'}: there is no such font:", "--photo", LAKE, "--save", out, "--font", self.folder / "none"),
             (words, "--photo", words, "--save", out), (self.folder / "none", "--photo", self.folder / "none", "--save", out),
             (self.folder, "--photo", LAKE, "--save", self.folder), ("/dev/full", "--photo", LAKE, "--save", "/dev/full"),
             ("/dev/full", "--photo", LAKE, "--save", out, "--atlas", "/dev/full"),

@@ -8,12 +8,12 @@
 
 static const char usage[] =
     "usage: text [OPTION].. --photo FILE --save PNG LINE..\n"
-    "Writes lines over the middle of a PNG or JPEG file, twice side by side: composited in the bytes of\n"
-    "the file on the left, and in linear light on the right. Each line is in a color of its own and smaller\n"
-    "than the one before it, is broken into rows where it is too long, and goes from right to left where its\n"
-    "letters do. What the font lacks is taken from other fonts of the machine.\n"
+    "Writes lines over the middle of a picture, twice side by side: composited in the bytes of the file on\n"
+    "the left, and in linear light on the right. Each line is in a color of its own and smaller than the one\n"
+    "before it. It is broken into rows where it is too long, and goes from right to left where its letters\n"
+    "do. What the font lacks is taken from other fonts of the machine.\n"
     "\n"
-    "  --font FILE     a font file with outlines (DejaVu Serif of Debian)\n"
+    "  --font FONT     a font file with outlines, or the name of a family (DejaVu Serif of Debian)\n"
     "  --size N        the size of the first line, in pixels, from 4 to 400 (44)\n"
     "  --no-kerning    set all pairs of letters at their plain distance\n"
     "  --atlas PNG     write the masks of all glyphs, too\n"
@@ -87,9 +87,9 @@ static options read_options(int argc, char **argv) {
             has_options = 0;
         } else if (!strcmp(argv[i], "--help")) {
             fputs(usage, stdout);
-            printf("This program was built %s FriBidi, which puts directions in order, and %s fontconfig, which\n"
-                   "finds other fonts.\n",
-                   direction_is_there() ? "with" : "without", fallback_is_there() ? "with" : "without");
+            printf("It was built to read %s; %s FriBidi, which puts directions in\n"
+                   "order; and %s fontconfig, which finds other fonts.\n",
+                   file_kinds(), direction_is_there() ? "with" : "without", fallback_is_there() ? "with" : "without");
             exit(fflush(stdout) ? 1 : 0);
         } else if (!strcmp(argv[i], "--no-kerning")) {
             it.has_kerning = 0;
@@ -160,14 +160,15 @@ static int set_lines(font *letters, const options *chosen, int width, line *line
     return baseline;
 }
 
-/* Opens the font, or where the default one is not there one that is like it. */
+/* Opens the font: a file, or a family, or where the default one is not there one that is like it. */
 static void open_font(font *letters, const options *chosen) {
-    const char *sentence = font_open(letters, chosen->font);
+    const char *sentence = font_open(letters, chosen->font, 0);
     char *other;
     int index;
-    if (sentence && chosen->font == default_font && fallback_find("serif", 'A', &other, &index)) {
+    if (sentence && (chosen->font == default_font ? fallback_find("serif", 'A', &other, &index)
+                                                  : fallback_named(chosen->font, &other, &index))) {
         font_close(letters);
-        sentence = font_open(letters, other);
+        sentence = font_open(letters, other, index);
         free(other);
     }
     if (sentence)
