@@ -3,11 +3,13 @@
 
     odd_files.py FOLDER
 
-writes them into the folder, and prints a line for each: its name, its size or "no picture", and what is odd. PNG and PPM files are
-written by this script itself, from pixels that it knows; JPEG, GIF, WebP and TIFF need Pillow, and are left out without it.
+writes them into the folder, and prints a line for each: its name, its size or "no picture", and
+what is odd. PNG and PPM files are written by this script itself, from pixels that it knows; JPEG,
+GIF, WebP and TIFF need Pillow, and are left out without it.
 
-A test calls make(folder), which answers an OddFile for each, and compares what a program shows with `rgba`, where that is known, or
-with pillow_picture(path), which is what Pillow makes of the file.
+A test calls make(folder), which answers an OddFile for each, and compares what a program shows
+with `rgba`, where that is known, or with pillow_picture(path), which is what Pillow makes of the
+file.
 """
 
 import pathlib
@@ -29,9 +31,10 @@ MOST = 65535
 class OddFile(NamedTuple):
     """A file: where it is, what is odd, and what it shows.
 
-    `size` is the width and the height of its picture, turned as it is to be shown, and None where it has none and is to be refused.
-    `rgba` is the picture in bytes of red, green, blue and straight alpha, in sRGB, where it is known without a decoder; a pixel of 16
-    bits is rounded, so that a reader that keeps the upper byte of each differs by 1.
+    `size` is the width and the height of its picture, turned as it is to be shown, and None where
+    it has none and is to be refused. `rgba` is the picture in bytes of red, green, blue and
+    straight alpha, in sRGB, where it is known without a decoder; a pixel of 16 bits is rounded, so
+    that a reader that keeps the upper byte of each differs by 1.
     """
 
     path: pathlib.Path
@@ -44,7 +47,15 @@ class OddFile(NamedTuple):
 GRAY, COLOR, PALETTE, GRAY_ALPHA, COLOR_ALPHA = 0, 2, 3, 4, 6
 SAMPLES = {GRAY: 1, COLOR: 3, PALETTE: 1, GRAY_ALPHA: 2, COLOR_ALPHA: 4}
 # The passes of an interlaced PNG: the first column and row, and the steps.
-PASSES = ((0, 0, 8, 8), (4, 0, 8, 8), (0, 4, 4, 8), (2, 0, 4, 4), (0, 2, 2, 4), (1, 0, 2, 2), (0, 1, 1, 2))
+PASSES = (
+    (0, 0, 8, 8),
+    (4, 0, 8, 8),
+    (0, 4, 4, 8),
+    (2, 0, 4, 4),
+    (0, 2, 2, 4),
+    (1, 0, 2, 2),
+    (0, 1, 1, 2),
+)
 
 
 def chunk(kind: bytes, data: bytes) -> bytes:
@@ -85,15 +96,23 @@ def filtered(rows: Sequence[bytes], step: int) -> bytes:
 
 
 def png(
-    size: Tuple[int, int], color: int, bits: int, samples_at: Callable[[int, int], Sequence[int]],
-    more: bytes = b"", interlaced: bool = False,
-) -> bytes:  # fmt: skip
+    size: Tuple[int, int],
+    color: int,
+    bits: int,
+    samples_at: Callable[[int, int], Sequence[int]],
+    more: bytes = b"",
+    interlaced: bool = False,
+) -> bytes:
     """The bytes of a PNG whose samples a function tells; `more` are chunks before its pixels."""
     width, height = size
     data, step = b"", max(1, SAMPLES[color] * bits // 8)
     for left, top, right, down in PASSES if interlaced else [(0, 0, 1, 1)]:
         columns, lines = range(left, width, right), range(top, height, down)
-        rows = [packed([s for x in columns for s in samples_at(x, y)], bits) for y in lines] if columns else []
+        rows = (
+            [packed([s for x in columns for s in samples_at(x, y)], bits) for y in lines]
+            if columns
+            else []
+        )
         data += filtered(rows, step)
     head = struct.pack(">IIBBBBB", width, height, bits, color, 0, 0, int(interlaced))
     parts = [chunk(b"IHDR", head), more, chunk(b"IDAT", zlib.compress(data)), chunk(b"IEND", b"")]
@@ -137,19 +156,44 @@ KINDS = [
     Kind("interlaced-gray1.png", "gray of 1 bit, interlaced", GRAY, 1, True),
     Kind("interlaced-gray16.png", "gray of 16 bits, interlaced", GRAY, 16, True),
     Kind("interlaced-color8.png", "color of 8 bits, interlaced", COLOR, 8, True),
-    Kind("interlaced-color-alpha16.png", "color and alpha of 16 bits, interlaced", COLOR_ALPHA, 16, True),
+    Kind(
+        "interlaced-color-alpha16.png",
+        "color and alpha of 16 bits, interlaced",
+        COLOR_ALPHA,
+        16,
+        True,
+    ),
     Kind("clear-gray8.png", "gray of 8 bits, one of which is clear", GRAY, 8, False, (113,)),
     Kind("clear-gray2.png", "gray of 2 bits, one of which is clear", GRAY, 2, False, (1,)),
     Kind("clear-gray16.png", "gray of 16 bits, one of which is clear", GRAY, 16, False, (29126,)),
-    Kind("clear-color8.png", "color of 8 bits, one of which is clear", COLOR, 8, False, (113, 170, 4)),
-    Kind("clear-color16.png", "color of 16 bits, one of which is clear", COLOR, 16, False, (29126, 43690, 1024)),
+    Kind(
+        "clear-color8.png",
+        "color of 8 bits, one of which is clear",
+        COLOR,
+        8,
+        False,
+        (113, 170, 4),
+    ),
+    Kind(
+        "clear-color16.png",
+        "color of 16 bits, one of which is clear",
+        COLOR,
+        16,
+        False,
+        (29126, 43690, 1024),
+    ),
 ]
 
 
 def samples_of(kind: Kind, pixel: Pixel) -> List[int]:
     """The samples of a pixel in a PNG of a kind."""
     red, green, blue, alpha = pixel
-    by_color = {GRAY: [red], COLOR: [red, green, blue], GRAY_ALPHA: [red, alpha], COLOR_ALPHA: [*pixel]}
+    by_color = {
+        GRAY: [red],
+        COLOR: [red, green, blue],
+        GRAY_ALPHA: [red, alpha],
+        COLOR_ALPHA: [*pixel],
+    }
     return [sample >> 16 - kind.bits for sample in by_color[kind.color]]
 
 
@@ -166,10 +210,15 @@ def make_kinds(folder: pathlib.Path) -> Iterator[OddFile]:
     """A PNG of each kind."""
     width, height = size = 19, 13
     for kind in KINDS:
+
         def at(x: int, y: int, kind: Kind = kind) -> List[int]:
             return samples_of(kind, pixel_at(x, y, width, height))
 
-        more = b"" if kind.clear is None else chunk(b"tRNS", struct.pack(f">{len(kind.clear)}H", *kind.clear))
+        more = (
+            b""
+            if kind.clear is None
+            else chunk(b"tRNS", struct.pack(f">{len(kind.clear)}H", *kind.clear))
+        )
         path = folder / kind.name
         path.write_bytes(png(size, kind.color, kind.bits, at, more, kind.interlaced))
         rgba = b"".join(shown(kind, at(x, y)) for y in range(height) for x in range(width))
@@ -184,6 +233,7 @@ def make_palettes(folder: pathlib.Path) -> Iterator[OddFile]:
         colors = [bytes((i * 67 % 256, i * 131 % 256, 255 - i * 29 % 256)) for i in range(count)]
         alphas = bytes((0, 128, 255, 77)[i % 4] for i in range(count))[: max(1, count - 3)]
         for interlaced in (False, True) if bits == 4 else (False,):
+
             def at(x: int, y: int) -> List[int]:
                 return [(x + width * y) % count]
 
@@ -192,15 +242,23 @@ def make_palettes(folder: pathlib.Path) -> Iterator[OddFile]:
             path.write_bytes(png(size, PALETTE, bits, at, more, interlaced))
             entries = [color + (alphas[i : i + 1] or b"\xff") for i, color in enumerate(colors)]
             rgba = b"".join(entries[at(x, y)[0]] for y in range(height) for x in range(width))
-            yield OddFile(path, f"a palette of {bits} bits with alphas{', interlaced' * interlaced}", size, rgba)
+            yield OddFile(
+                path,
+                f"a palette of {bits} bits with alphas{', interlaced' * interlaced}",
+                size,
+                rgba,
+            )
 
 
 def make_sizes(folder: pathlib.Path) -> Iterator[OddFile]:
-    """PNGs of odd sizes, and the ramp of 16 bits whose rows are known: row y is y * 65535 / 399."""
+    """PNGs of odd sizes, and the ramp of 16 bits whose rows are known: row y is y * 65535 /
+    399."""
     for name, width, height in (("wide.png", 20000, 2), ("tall.png", 2, 20000), ("one.png", 1, 1)):
         kind = Kind(name, f"{width} by {height}", COLOR, 8)
 
-        def at(x: int, y: int, kind: Kind = kind, width: int = width, height: int = height) -> List[int]:
+        def at(
+            x: int, y: int, kind: Kind = kind, width: int = width, height: int = height
+        ) -> List[int]:
             return samples_of(kind, pixel_at(x, y, width, height))
 
         path = folder / name
@@ -210,7 +268,9 @@ def make_sizes(folder: pathlib.Path) -> Iterator[OddFile]:
     ramp = Kind("ramp16.png", "a ramp of gray from black, of 16 bits", GRAY, 16)
     path = folder / ramp.name
     path.write_bytes(png((5, 400), GRAY, 16, lambda x, y: [y * MOST // 399]))
-    yield OddFile(path, ramp.what, (5, 400), b"".join(shown(ramp, [y * MOST // 399]) * 5 for y in range(400)))
+    yield OddFile(
+        path, ramp.what, (5, 400), b"".join(shown(ramp, [y * MOST // 399]) * 5 for y in range(400))
+    )
 
 
 def make_plain(folder: pathlib.Path) -> Iterator[OddFile]:
@@ -225,7 +285,10 @@ def make_plain(folder: pathlib.Path) -> Iterator[OddFile]:
         data, rgba = bytearray(), bytearray()
         for y in range(8):
             for x in range(11):
-                levels = [level * most // MOST for level in pixel_at(x, y, 11, 8)[: 3 if kind == b"P6" else 1]]
+                levels = [
+                    level * most // MOST
+                    for level in pixel_at(x, y, 11, 8)[: 3 if kind == b"P6" else 1]
+                ]
                 data += b"".join(level.to_bytes(2 if most > 255 else 1, "big") for level in levels)
                 rgba += bytes(rounded(level, most) for level in (levels * 3)[:3]) + b"\xff"
         path = folder / name
@@ -255,18 +318,23 @@ def make_no_pictures(folder: pathlib.Path) -> Iterator[OddFile]:
 
 
 def blocks() -> "Image.Image":
-    """A picture whose four quarters differ, in blocks of 8 pixels, so that a JPEG loses little: 48 by 32."""
+    """A picture whose four quarters differ, in blocks of 8 pixels, so that a JPEG loses little:
+    48 by 32."""
     picture = Image.new("RGB", (48, 32), (230, 230, 230))
     for left, top, width, height, color in (
-        (0, 0, 24, 16, (200, 40, 40)), (24, 0, 24, 16, (40, 160, 60)), (0, 16, 24, 16, (40, 60, 190)), (8, 0, 8, 8, (20, 20, 20)),
+        (0, 0, 24, 16, (200, 40, 40)),
+        (24, 0, 24, 16, (40, 160, 60)),
+        (0, 16, 24, 16, (40, 60, 190)),
+        (8, 0, 8, 8, (20, 20, 20)),
         (40, 24, 8, 8, (250, 220, 30)),
-    ):  # fmt: skip
+    ):
         picture.paste(color, (left, top, left + width, top + height))
     return picture
 
 
 def make_turned(folder: pathlib.Path) -> Iterator[OddFile]:
-    """The same picture turned in eight ways, whose EXIF says so: all are shown upright; and one in a PNG."""
+    """The same picture turned in eight ways, whose EXIF says so: all are shown upright; and one
+    in a PNG."""
     upright, back = blocks(), (None, None, 0, 3, 1, 5, 2, 6, 4)
     for orientation in range(1, 9):
         turn = back[orientation]
@@ -279,7 +347,12 @@ def make_turned(folder: pathlib.Path) -> Iterator[OddFile]:
     exif[0x0112] = 6
     path = folder / "exif-6.png"
     upright.transpose(back[6]).save(path, exif=exif)
-    yield OddFile(path, "a PNG whose EXIF has the orientation 6", upright.size, upright.convert("RGBA").tobytes())
+    yield OddFile(
+        path,
+        "a PNG whose EXIF has the orientation 6",
+        upright.size,
+        upright.convert("RGBA").tobytes(),
+    )
 
 
 def make_jpegs(folder: pathlib.Path) -> Iterator[OddFile]:
@@ -338,16 +411,23 @@ def make(folder: pathlib.Path) -> List[OddFile]:
 
 
 def scale_of_clear(file: "Image.Image") -> Callable[[int], int]:
-    """How a level of a PNG's tRNS becomes one of Pillow's pixels: Pillow gives it as the file has it, of other bits than those."""
+    """How a level of a PNG's tRNS becomes one of Pillow's pixels: Pillow gives it as the file
+    has it, of other bits than those."""
     raw = str(file.tile[0][3]) if file.format == "PNG" and file.tile else ""
-    scales = {"L;2": lambda level: level * 85, "L;4": lambda level: level * 17, "RGB;16B": lambda level: level >> 8}
+    scales = {
+        "L;2": lambda level: level * 85,
+        "L;4": lambda level: level * 17,
+        "RGB;16B": lambda level: level >> 8,
+    }
     return scales.get(raw, lambda level: level)
 
 
 def pillow_picture(path: pathlib.Path) -> "Image.Image":
-    """What Pillow makes of a file, as a picture of the mode RGBA: its first picture, turned as its EXIF says, with 16 bits made 8.
+    """What Pillow makes of a file, as a picture of the mode RGBA: its first picture, turned as its
+    EXIF says, with 16 bits made 8.
 
-    Pillow has no kind of pixels of 16 bits but a gray one, which it would convert by cutting off what is above 255.
+    Pillow has no kind of pixels of 16 bits but a gray one, which it would convert by cutting off
+    what is above 255.
     """
     with Image.open(path) as file:
         scale = scale_of_clear(file)
@@ -355,7 +435,9 @@ def pillow_picture(path: pathlib.Path) -> "Image.Image":
     clear = picture.info.get("transparency")
     if not picture.mode.startswith("I"):
         if picture.mode in ("L", "RGB") and clear is not None:
-            picture.info["transparency"] = tuple(map(scale, clear)) if isinstance(clear, tuple) else scale(clear)
+            picture.info["transparency"] = (
+                tuple(map(scale, clear)) if isinstance(clear, tuple) else scale(clear)
+            )
         return picture.convert("RGBA")
     levels = picture.convert("I").getdata()
     alphas = bytes(0 if level == clear else 255 for level in levels)

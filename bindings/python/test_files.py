@@ -1,4 +1,5 @@
-"""Picture files: each odd one is what Pillow makes of it, with Pillow and without; what is saved comes back; refusals say why."""
+"""Picture files: each odd one is what Pillow makes of it, with Pillow and without; what is
+saved comes back; refusals say why."""
 
 import doctest
 import io
@@ -36,7 +37,11 @@ def fan(size=(40, 30), kind=pix.RGBA16, opacity=1.0):
     image = pix.Image.new(*size, kind)
     image.run(pix.copy_color((0, 0, *size), pix.srgb("#203040", opacity=opacity)))
     for i in range(0, size[0], 4):
-        image.run(pix.composite_color((i, i // 2, 9, 9), pix.srgb(i * 6 % 256, 255 - i % 256, i * 37 % 256, 200)))
+        image.run(
+            pix.composite_color(
+                (i, i // 2, 9, 9), pix.srgb(i * 6 % 256, 255 - i % 256, i * 37 % 256, 200)
+            )
+        )
     return image
 
 
@@ -47,8 +52,11 @@ class Trial(unittest.TestCase):
         self.folder = pathlib.Path(folder.name)
 
     def alike(self, one, other, most=0):
-        """Two pictures of bytes differ by `most` at most, but where their pixels are nearly clear."""
+        """Two pictures of bytes differ by `most` at most, but where their pixels are nearly
+        clear."""
         self.assertEqual(len(one), len(other))
+        if one == other:
+            return
         for i in range(0, len(one), 4):
             a, b = one[i : i + 4], other[i : i + 4]
             if a != b and max(a[3], b[3]) > 13:
@@ -83,7 +91,9 @@ class OddFiles(Trial):
                     continue
                 image, wanted = pix.Image.open(file.path), odd_files.pillow_picture(file.path)
                 self.assertEqual((image.width, image.height), file.size)
-                self.alike(straight(image), wanted.tobytes(), 1 if file.path.suffix == ".pgm" else 0)
+                self.alike(
+                    straight(image), wanted.tobytes(), 1 if file.path.suffix == ".pgm" else 0
+                )
                 if file.rgba:
                     self.alike(straight(image), file.rgba, 1)
 
@@ -108,22 +118,36 @@ class OddFiles(Trial):
             self.alike(straight(image), odd_files.blocks().convert("RGBA").tobytes(), 12)
 
     def test_what_else_is_no_picture(self):
-        good = next(file.path for file in self.files if file.path.name == "color8.png").read_bytes()
+        good = next(
+            file.path for file in self.files if file.path.name == "color8.png"
+        ).read_bytes()
         head = good[16:29]
         for name, data in {
-            "no-pixels": b"\x89PNG\r\n\x1a\n" + odd_files.chunk(b"IHDR", head) + odd_files.chunk(b"IEND", b""),
+            "no-pixels": (
+                b"\x89PNG\r\n\x1a\n"
+                + odd_files.chunk(b"IHDR", head)
+                + odd_files.chunk(b"IEND", b"")
+            ),
             "no-head": b"\x89PNG\r\n\x1a\n" + odd_files.chunk(b"IEND", b""),
-            "huge": b"\x89PNG\r\n\x1a\n" + odd_files.chunk(b"IHDR", struct.pack(">II", 2**31 - 1, 2**31 - 1) + head[8:])
-            + odd_files.chunk(b"IDAT", zlib.compress(bytes(100))) + odd_files.chunk(b"IEND", b""),
+            "huge": (
+                b"\x89PNG\r\n\x1a\n"
+                + odd_files.chunk(b"IHDR", struct.pack(">II", 2**31 - 1, 2**31 - 1) + head[8:])
+                + odd_files.chunk(b"IDAT", zlib.compress(bytes(100)))
+                + odd_files.chunk(b"IEND", b"")
+            ),
             "no-bits": good.replace(head, head[:8] + b"\3" + head[9:]),
             "no-palette": odd_files.png((3, 3), odd_files.PALETTE, 8, lambda x, y: [x]),
-            "unknown": odd_files.png((3, 3), odd_files.GRAY, 8, lambda x, y: [x], odd_files.chunk(b"ABCD", b"")),
+            "unknown": odd_files.png(
+                (3, 3), odd_files.GRAY, 8, lambda x, y: [x], odd_files.chunk(b"ABCD", b"")
+            ),
             "filter": odd_files.png((1, 1), odd_files.GRAY, 8, lambda x, y: [x]).replace(
-                odd_files.chunk(b"IDAT", zlib.compress(b"\0\0")), odd_files.chunk(b"IDAT", zlib.compress(b"\5\0"))),
+                odd_files.chunk(b"IDAT", zlib.compress(b"\0\0")),
+                odd_files.chunk(b"IDAT", zlib.compress(b"\5\0")),
+            ),
             "ppm-white": b"P6 1 1 0\n" + bytes(6),
             "ppm-size": b"P6 99999999999 1 255\n" + bytes(6),
             "ppm-huge": b"P5 2147483647 2147483647 65535\n" + bytes(6),
-        }.items():  # fmt: skip
+        }.items():
             with self.subTest(name), alone():
                 self.assertRaises(OSError, pix.Image.open, io.BytesIO(data))
 
@@ -148,14 +172,23 @@ class Saved(Trial):
                 with alone():
                     self.comes_back(image, name)
         gray = fan(kind=pix.GRAYA8)
-        for image, name in ((gray, "gray.pgm"), (gray, "gray.png"), (fan(kind=pix.GRAYA8, opacity=0.4), "alpha.png"),
-                            (fan(opacity=0.4), "alpha.png")):  # fmt: skip
+        for image, name in (
+            (gray, "gray.pgm"),
+            (gray, "gray.png"),
+            (fan(kind=pix.GRAYA8, opacity=0.4), "alpha.png"),
+            (fan(opacity=0.4), "alpha.png"),
+        ):
             self.comes_back(image, name)
             with alone():
                 self.comes_back(image, name)
 
     def test_the_kind_of_png(self):
-        for image, color in ((fan(), 2), (fan(opacity=0.5), 6), (fan(kind=pix.GRAYA8), 0), (fan(kind=pix.GRAYA8, opacity=0.5), 4)):
+        for image, color in (
+            (fan(), 2),
+            (fan(opacity=0.5), 6),
+            (fan(kind=pix.GRAYA8), 0),
+            (fan(kind=pix.GRAYA8, opacity=0.5), 4),
+        ):
             for is_alone in (True, False):
                 file = io.BytesIO()
                 with alone(is_alone):
@@ -178,7 +211,12 @@ class Saved(Trial):
 
     @unittest.skipIf(pillow is None, "Pillow is not there")
     def test_what_pillow_writes(self):
-        for name, options, most in (("a.jpg", {"quality": 95, "subsampling": 0}, 40), ("a.bmp", {}, 0), ("a.tif", {}, 0), ("a.gif", {}, 255)):
+        for name, options, most in (
+            ("a.jpg", {"quality": 95, "subsampling": 0}, 40),
+            ("a.bmp", {}, 0),
+            ("a.tif", {}, 0),
+            ("a.gif", {}, 255),
+        ):
             image = fan()
             image.save(self.folder / name, **options)
             self.alike(straight(pix.Image.open(self.folder / name)), straight(image), most)
@@ -187,20 +225,26 @@ class Saved(Trial):
         """It is refused with what to write, which does it."""
         for name in ("a.jpg", "a.ppm", "a.pgm")[pillow is None :]:
             image = fan(opacity=0.5)
-            with self.assertRaisesRegex(ValueError, "has no alpha.*paint a ground behind it first") as caught:
+            with self.assertRaisesRegex(
+                ValueError, "has no alpha.*paint a ground behind it first"
+            ) as caught:
                 image.save(self.folder / name)
             exec(str(caught.exception).split(", as ")[-1], {"pix": pix, "image": image})
             image.save(self.folder / name)
 
     def test_refusals(self):
         image = fan()
-        self.assertRaisesRegex(ValueError, "0 x 3 pixels is no file", pix.Image.new(0, 3).save, self.folder / "a.png")
+        self.assertRaisesRegex(
+            ValueError, "0 x 3 pixels is no file", pix.Image.new(0, 3).save, self.folder / "a.png"
+        )
         self.assertRaises(ValueError, image.save, self.folder / "a.nothing")
         self.assertRaises(OSError, image.save, self.folder / "none" / "a.png")
         self.assertRaises(TypeError, image.save, self.folder / "a.ppm", quality=3)
         self.assertRaises(TypeError, pix.Image.open, self.folder / "a.png", "RGBA8")
         for wrong in (None, 3.5, {}):
-            self.assertRaises((TypeError, ValueError, AttributeError, OSError), pix.Image.open, wrong)
+            self.assertRaises(
+                (TypeError, ValueError, AttributeError, OSError), pix.Image.open, wrong
+            )
         with alone():
             self.assertRaisesRegex(ValueError, "write format='PNG'", image.save, io.BytesIO())
             self.assertRaisesRegex(ValueError, "without Pillow", image.save, self.folder / "a.jpg")
@@ -211,7 +255,9 @@ class Saved(Trial):
         path = self.folder / "wide.tif"
         pillow.new("F", (3, 2), 0.5).save(path)
         self.assertRaisesRegex(ValueError, "write white=65535", pix.Image.open, path)
-        self.assertEqual(straight(pix.Image.open(path, white=1.0))[:4], bytes((128, 128, 128, 255)))
+        self.assertEqual(
+            straight(pix.Image.open(path, white=1.0))[:4], bytes((128, 128, 128, 255))
+        )
 
     def test_notebooks(self):
         for is_alone in (True, False):
@@ -227,19 +273,31 @@ class Png(Trial):
     def test_all_filters_of_all_widths(self):
         for width in (1, 2, 3, 7, 8, 9, 17):
             for interlaced in (False, True):
+
                 def at(x, y):
                     return (x * 67 + y * 3) & 255, (y * 129 + x) & 255, (x * y) & 255, 255 - x - y
 
                 data = odd_files.png((width, 11), odd_files.COLOR_ALPHA, 8, at, b"", interlaced)
                 wanted = b"".join(bytes(at(x, y)) for y in range(11) for x in range(width))
                 read = _png.read_png(data)
-                self.assertEqual((read.width, read.height, read.format, read.data.tobytes()), (width, 11, Format.SRGBA8, wanted))
+                self.assertEqual(
+                    (read.width, read.height, read.format, read.data.tobytes()),
+                    (width, 11, Format.SRGBA8, wanted),
+                )
 
     def test_each_turn(self):
         pixels = list("abcdef")
         codes = [ord(letter) for letter in pixels]
-        for how, rows in ((1, ["abc", "def"]), (2, ["cba", "fed"]), (3, ["fed", "cba"]), (4, ["def", "abc"]),
-                          (5, ["ad", "be", "cf"]), (6, ["da", "eb", "fc"]), (7, ["fc", "eb", "da"]), (8, ["cf", "be", "ad"])):  # fmt: skip
+        for how, rows in (
+            (1, ["abc", "def"]),
+            (2, ["cba", "fed"]),
+            (3, ["fed", "cba"]),
+            (4, ["def", "abc"]),
+            (5, ["ad", "be", "cf"]),
+            (6, ["da", "eb", "fc"]),
+            (7, ["fc", "eb", "da"]),
+            (8, ["cf", "be", "ad"]),
+        ):
             width, height, turned = _png.turned(3, 2, _png.array("I", codes), how)
             self.assertEqual((width, height), (len(rows[0]), len(rows)))
             self.assertEqual("".join(map(chr, turned)), "".join(rows), how)

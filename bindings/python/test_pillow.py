@@ -27,7 +27,9 @@ def gradient(mode):
     """A picture of a mode in which colors, levels and alphas differ from pixel to pixel."""
     width, height = SIZE
     places = [(x, y) for y in range(height) for x in range(width)]
-    data = bytes(part for x, y in places for part in (x * 11, y * 15, (x * y * 3) & 255, 255 - (x * 5 + y)))
+    data = bytes(
+        part for x, y in places for part in (x * 11, y * 15, (x * y * 3) & 255, 255 - (x * 5 + y))
+    )
     return pillow.frombytes("RGBA", SIZE, data).convert(mode)
 
 
@@ -45,7 +47,8 @@ def light(image):
 @unittest.skipIf(pillow is None, "Pillow is not there")
 class Modes(unittest.TestCase):
     def same(self, picture, other, most=0):
-        """The two pictures differ by `most` at most in each channel, but for the colors of pixels that are nearly clear."""
+        """The two pictures differ by `most` at most in each channel, but for the colors of
+        pixels that are nearly clear."""
         self.assertEqual((picture.mode, picture.size), (other.mode, other.size))
         for one, two in zip(picture.getdata(), other.getdata()):
             if picture.mode == "RGBA" and one[3] == two[3] < 13:
@@ -59,18 +62,34 @@ class Modes(unittest.TestCase):
                 picture = gradient(mode)
             except ValueError:
                 continue  # this Pillow doesn't make one
-            wanted = picture.convert("RGBA") if mode != "RGBX" else picture.convert("RGB").convert("RGBA")
+            wanted = (
+                picture.convert("RGBA")
+                if mode != "RGBX"
+                else picture.convert("RGB").convert("RGBA")
+            )
             self.same(pix.Image.from_pillow(picture).to_pillow(), wanted)
             self.assertEqual(pix.Image.from_pillow(picture, pix.GRAYA8).type, pix.GRAYA8)
-        self.same(pix.Image.from_pillow(gradient("RGBA").convert("RGBa")).to_pillow(), gradient("RGBA"), 20)
-        with mock.patch.object(pillow.Image, "convert", side_effect=ValueError("no such conversion")):
-            with self.assertRaisesRegex(ValueError, "no mode HSV to RGBA: convert the picture first"):
+        self.same(
+            pix.Image.from_pillow(gradient("RGBA").convert("RGBa")).to_pillow(),
+            gradient("RGBA"),
+            20,
+        )
+        with mock.patch.object(
+            pillow.Image, "convert", side_effect=ValueError("no such conversion")
+        ):
+            with self.assertRaisesRegex(
+                ValueError, "no mode HSV to RGBA: convert the picture first"
+            ):
                 pix.Image.from_pillow(pillow.new("HSV", (2, 2)))
 
     def test_a_ramp_of_sixteen_bits(self):
         """It was white but for the first row."""
         with tempfile.TemporaryDirectory() as folder:
-            ramp = next(file for file in odd_files.make_sizes(odd_files.pathlib.Path(folder)) if file.path.name == "ramp16.png")
+            ramp = next(
+                file
+                for file in odd_files.make_sizes(odd_files.pathlib.Path(folder))
+                if file.path.name == "ramp16.png"
+            )
             with pillow.open(ramp.path) as picture:
                 shown = pix.Image.from_pillow(picture).to_pillow("L")
         self.assertEqual([shown.getpixel((0, y)) for y in (0, 100, 200, 399)], [0, 64, 128, 255])
@@ -84,7 +103,9 @@ class Modes(unittest.TestCase):
                 picture = words(mode, levels, order)
             except (KeyError, ValueError):
                 continue  # this Pillow has no such mode
-            self.assertEqual(light(pix.Image.from_pillow(picture)), (wanted, [65535] * len(levels)), mode)
+            self.assertEqual(
+                light(pix.Image.from_pillow(picture)), (wanted, [65535] * len(levels)), mode
+            )
         wide = pillow.frombytes("I", (len(levels), 1), struct.pack(f"={len(levels)}i", *levels))
         self.assertEqual(light(pix.Image.from_pillow(wide, white=65535))[0], wanted)
         self.assertGreater(len(set(wanted)), 200)
@@ -101,12 +122,21 @@ class Modes(unittest.TestCase):
             with self.assertRaisesRegex(ValueError, "write white=65535"):
                 pix.Image.from_pillow(pillow.new(mode, (2, 2)))
             for white in (0, -1, float("inf"), float("nan")):
-                self.assertRaises(ValueError, pix.Image.from_pillow, pillow.new(mode, (2, 2)), white=white)
+                self.assertRaises(
+                    ValueError, pix.Image.from_pillow, pillow.new(mode, (2, 2)), white=white
+                )
         gray = gradient("L")
-        for mode, factor, white in (("I", 1, 255), ("F", 1, 255), ("F", 1 / 255, 1.0), ("I", 1000, 255000)):
+        for mode, factor, white in (
+            ("I", 1, 255),
+            ("F", 1, 255),
+            ("F", 1 / 255, 1.0),
+            ("I", 1000, 255000),
+        ):
             picture = gray.convert(mode).point(lambda level: level * factor + 0)
             self.same(pix.Image.from_pillow(picture, white=white).to_pillow("L"), gray)
-        odd = pillow.frombytes("F", (5, 1), struct.pack("=5f", float("nan"), float("inf"), -float("inf"), 2, -1))
+        odd = pillow.frombytes(
+            "F", (5, 1), struct.pack("=5f", float("nan"), float("inf"), -float("inf"), 2, -1)
+        )
         self.assertEqual(light(pix.Image.from_pillow(odd, white=1))[0], [0, 65535, 0, 65535, 0])
         odd = pillow.frombytes("I", (3, 1), struct.pack("=3i", -5, 70000, 2**31 - 1))
         self.assertEqual(light(pix.Image.from_pillow(odd, white=65535))[0], [0, 65535, 65535])
@@ -115,15 +145,21 @@ class Modes(unittest.TestCase):
         """What a PNG calls transparent was opaque."""
         for mode, clear in (("RGB", (121, 60, 132)), ("L", None), ("1", 1), ("P", None)):
             picture = gradient("RGB").convert(mode)
-            picture.info["transparency"] = clear = picture.getpixel((11, 4)) if clear is None else clear
+            picture.info["transparency"] = clear = (
+                picture.getpixel((11, 4)) if clear is None else clear
+            )
             alphas = pix.Image.from_pillow(picture).to_pillow().getchannel("A")
             level = (clear, 255)[mode == "1"]
             wanted = [0 if pixel == level else 255 for pixel in picture.getdata()]
             self.assertEqual(list(alphas.getdata()), wanted, mode)
             self.assertIn(0, wanted)
         picture = gradient("RGB")
-        picture.info["transparency"] = tuple(257 * level for level in picture.getpixel((11, 4)))  # of a file of 16 bits
-        self.assertEqual(pix.Image.from_pillow(picture).to_pillow().getpixel((11, 4)), (0, 0, 0, 0))
+        picture.info["transparency"] = tuple(
+            257 * level for level in picture.getpixel((11, 4))
+        )  # of a file of 16 bits
+        self.assertEqual(
+            pix.Image.from_pillow(picture).to_pillow().getpixel((11, 4)), (0, 0, 0, 0)
+        )
         for mode in ("I;16", "I"):
             picture = words("I;16", [7, 30000, 7, 65535]).convert(mode)
             picture.info["transparency"] = 7
@@ -131,7 +167,9 @@ class Modes(unittest.TestCase):
             self.assertEqual(light(image)[1], [0, 65535, 0, 65535])
             for wrong in (-1, 65536, "x", (1, 2)):
                 picture.info["transparency"] = wrong
-                self.assertEqual(set(light(pix.Image.from_pillow(picture, white=65535))[1]), {65535})
+                self.assertEqual(
+                    set(light(pix.Image.from_pillow(picture, white=65535))[1]), {65535}
+                )
 
     def test_many_strips_are_one_picture(self):
         for size in ((50001, 3), (3, 4001), (300, 1000)):
@@ -142,10 +180,13 @@ class Modes(unittest.TestCase):
         for size in ((0, 3), (3, 0), (0, 0)):
             for mode in ("RGBA", "RGB", "L", "LA", "P"):
                 image = pix.Image.from_pillow(pillow.new(mode, size))
-                self.assertEqual((image.to_pillow(mode).size, image.to_pillow(mode).mode), (size, mode))
+                self.assertEqual(
+                    (image.to_pillow(mode).size, image.to_pillow(mode).mode), (size, mode)
+                )
 
     def test_a_picture_is_its_own(self):
-        """What is painted afterwards is not in a picture that was made, nor the other way round."""
+        """What is painted afterwards is not in a picture that was made, nor the other way
+        round."""
         image = pix.Image.from_pillow(gradient("RGB"))
         for mode in ("RGBA", "RGB", "L", "LA", "P"):
             picture = image.to_pillow(mode)
@@ -158,7 +199,10 @@ class Modes(unittest.TestCase):
             self.assertNotEqual(picture.tobytes(), before)
             self.assertEqual(picture.copy().tobytes(), picture.tobytes())
             self.assertEqual(bytes(image.pixels), painted)
-            image.run(pix.clear(), pix.copy_image((0, 0, *SIZE), pix.Image(pixels, *SIZE, type=pix.RGBA16)))
+            image.run(
+                pix.clear(),
+                pix.copy_image((0, 0, *SIZE), pix.Image(pixels, *SIZE, type=pix.RGBA16)),
+            )
 
     def test_a_size_that_malloc_does_not_keep(self):
         """Memory of large pages is as any other: writable, zero at first, and let go."""
@@ -172,7 +216,10 @@ class Modes(unittest.TestCase):
     def test_two_threads(self):
         """Pictures are read in several threads at once."""
         picture, made = gradient("P").resize((900, 700)), []
-        threads = [threading.Thread(target=lambda: made.append(pix.Image.from_pillow(picture))) for _ in range(4)]
+        threads = [
+            threading.Thread(target=lambda: made.append(pix.Image.from_pillow(picture)))
+            for _ in range(4)
+        ]
         for thread in threads:
             thread.start()
         for thread in threads:
@@ -199,12 +246,22 @@ class Indexed(unittest.TestCase):
         image = pix.Image.from_pillow(gradient("RGB"))
         table = bytes((0, 0, 0, 255, 255, 255, 200, 30, 90))
         indices = pix.map_indexed(table, gradient("RGB").tobytes())
-        for colors in (table, [(0, 0, 0), "#fff", pix.srgb(200, 30, 90)], memoryview(table).cast("B", (3, 3))):
+        for colors in (
+            table,
+            [(0, 0, 0), "#fff", pix.srgb(200, 30, 90)],
+            memoryview(table).cast("B", (3, 3)),
+        ):
             picture = image.to_pillow("P", colors)
-            self.assertEqual((picture.mode, picture.tobytes(), "transparency" in picture.info), ("P", bytes(indices), False))
+            self.assertEqual(
+                (picture.mode, picture.tobytes(), "transparency" in picture.info),
+                ("P", bytes(indices), False),
+            )
             self.assertEqual(picture.convert("RGB").tobytes(), bytes(pix.look_up(table, indices)))
         diffused = image.to_pillow("P", table, diffuse=True)
-        self.assertEqual(diffused.tobytes(), bytes(pix.diffuse_indexed(table, gradient("RGB").tobytes(), SIZE[0])))
+        self.assertEqual(
+            diffused.tobytes(),
+            bytes(pix.diffuse_indexed(table, gradient("RGB").tobytes(), SIZE[0])),
+        )
 
     def test_a_table_of_its_own(self):
         few = gradient("RGB").quantize(40).convert("RGB")
@@ -220,12 +277,18 @@ class Indexed(unittest.TestCase):
         shown = picture.convert("RGBA")
         self.assertEqual(shown.getchannel("A").tobytes(), source.getchannel("A").tobytes())
         back = pix.Image.from_pillow(picture)
-        self.assertEqual(back.to_pillow().getchannel("A").tobytes(), source.getchannel("A").tobytes())
+        self.assertEqual(
+            back.to_pillow().getchannel("A").tobytes(), source.getchannel("A").tobytes()
+        )
         for color, level in zip(shown.getdata(), source.getdata()):
             self.assertTrue(level[3] == 0 or color == level)
         clear = pix.Image.new(3, 2)
-        self.assertEqual(list(clear.to_pillow("P").convert("RGBA").getchannel("A").getdata()), [0] * 6)
-        self.assertRaisesRegex(ValueError, "no room for clear pixels", clear.to_pillow, "P", bytes(768))
+        self.assertEqual(
+            list(clear.to_pillow("P").convert("RGBA").getchannel("A").getdata()), [0] * 6
+        )
+        self.assertRaisesRegex(
+            ValueError, "no room for clear pixels", clear.to_pillow, "P", bytes(768)
+        )
 
     def test_what_is_refused(self):
         image = pix.Image.new(2, 2)

@@ -16,8 +16,9 @@ from pix._values import Format
 class Color(tuple):
     """A color of one kind of pixels: its channels, premultiplied and linear, the alpha last.
 
-    It goes with images of its `type` alone, so that no channels of 8 bits are taken for ones of 16. A command takes it as it is,
-    where it would refuse a plain tuple that may be of another kind.
+    It goes with images of its `type` alone, so that no channels of 8 bits are taken for ones of
+    16. A command takes it as it is, where it would refuse a plain tuple that may be of another
+    kind.
 
     >>> pix.Color((0, 0, 64, 255), pix.RGBA8)
     pix.Color((0, 0, 64, 255), pix.RGBA8)
@@ -46,14 +47,21 @@ class Color(tuple):
 
 
 class Srgb:
-    """A color of sRGB with a straight alpha, as pix.srgb() makes it; it goes with images of all kinds.
+    """A color of sRGB with a straight alpha, as pix.srgb() makes it; it goes with images of all
+    kinds.
 
     `red`, `green`, `blue` and `alpha` are from 0 to 255.
     """
 
     __slots__ = ("_bytes",)
 
-    def __init__(self, red: SupportsIndex, green: SupportsIndex, blue: SupportsIndex, alpha: SupportsIndex = 255) -> None:
+    def __init__(
+        self,
+        red: SupportsIndex,
+        green: SupportsIndex,
+        blue: SupportsIndex,
+        alpha: SupportsIndex = 255,
+    ) -> None:
         channels = tuple(map(index, (red, green, blue, alpha)))
         if not all(0 <= channel <= 255 for channel in channels):
             raise ValueError(f"{channels} are not four channels from 0 to 255")
@@ -101,12 +109,14 @@ class Srgb:
 AnyColor = Union[Iterable[SupportsIndex], Color, Srgb]
 
 
-def srgb(*color: Any, alpha: Optional[SupportsIndex] = None, opacity: Optional[float] = None) -> Srgb:
-    """A color of sRGB to paint with, on images of all kinds: by a text "#c87828", "#c8782880", "#fa0" or "#fa08", by three or four
-    numbers from 0 to 255, or by a tuple of them.
+def srgb(
+    *color: Any, alpha: Optional[SupportsIndex] = None, opacity: Optional[float] = None
+) -> Srgb:
+    """A color of sRGB to paint with, on images of all kinds: by a text "#c87828", "#c8782880",
+    "#fa0" or "#fa08", by three or four numbers from 0 to 255, or by a tuple of them.
 
-    The alpha is straight: the colors aren't multiplied by it. It is the fourth number, or `alpha`, from 0 to 255, or `opacity`, from
-    0 to 1; without them it is opaque.
+    The alpha is straight: the colors aren't multiplied by it. It is the fourth number, or `alpha`,
+    from 0 to 255, or `opacity`, from 0 to 1; without them it is opaque.
 
     >>> pix.srgb("#c87828") == pix.srgb(200, 120, 40) == pix.srgb((200, 120, 40, 255))
     True
@@ -120,7 +130,9 @@ def srgb(*color: Any, alpha: Optional[SupportsIndex] = None, opacity: Optional[f
     else:
         channels = color
     if len(channels) not in (3, 4):
-        raise ValueError(f'{channels} are no color of sRGB: write srgb(200, 120, 40) or srgb("#c87828")')
+        raise ValueError(
+            f'{channels} are no color of sRGB: write srgb(200, 120, 40) or srgb("#c87828")'
+        )
     if opacity is not None:
         if alpha is not None:
             raise TypeError("alpha and opacity are two names of one thing: give one")
@@ -130,7 +142,10 @@ def srgb(*color: Any, alpha: Optional[SupportsIndex] = None, opacity: Optional[f
             raise TypeError("the color has an alpha already")
         channels = (*channels, alpha)
     if any(isinstance(channel, float) for channel in channels):
-        raise TypeError(f"{channels} has fractions: a channel is a whole number from 0 to 255, and opacity=0.5 a fraction")
+        raise TypeError(
+            f"{channels} has fractions: a channel is a whole number from 0 to 255, and opacity=0.5"
+            " a fraction"
+        )
     return Srgb(*channels)
 
 
@@ -140,9 +155,13 @@ def _of_text(text: str) -> Tuple[int, ...]:
     try:
         if text[:1] != "#" or len(digits) not in (3, 4, 6, 8) or not digits.isalnum():
             raise ValueError
-        return tuple(bytes.fromhex("".join(2 * digit for digit in digits) if len(digits) < 5 else digits))
+        return tuple(
+            bytes.fromhex("".join(2 * digit for digit in digits) if len(digits) < 5 else digits)
+        )
     except ValueError:
-        raise ValueError(f'{text!r} is no color of sRGB: write one as "#c87828", or "#c8782880" with an alpha') from None
+        raise ValueError(
+            f'{text!r} is no color of sRGB: write one as "#c87828", or "#c8782880" with an alpha'
+        ) from None
 
 
 def fraction_of(opacity: Any) -> float:
@@ -169,7 +188,10 @@ def _light(format: Format, given: Tuple[int, ...], type: PixelType) -> Color:
     """A pixel in a format as a color of a kind of pixels."""
     source = Bitmap(array("H" if format.bits == 16 else "B", given), format, 1, 1)
     made = bytearray(ctypes.sizeof(type._color))
-    write(Bitmap(memoryview(made).cast("H") if type.max > 255 else made, Format[f"{type}P"], 1, 1), source)
+    write(
+        Bitmap(memoryview(made).cast("H") if type.max > 255 else made, Format[f"{type}P"], 1, 1),
+        source,
+    )
     return Color(memoryview(made).cast("H" if type.max > 255 else "B"), type)
 
 
@@ -181,7 +203,9 @@ def taken(color: Any) -> Any:
         raise TypeError(f"{color!r} is a text: write pix.srgb({color!r})")
     channels = tuple(color)
     if any(isinstance(channel, float) for channel in channels):
-        raise TypeError(f"{channels} has fractions: write whole numbers, as pix.srgb(200, 120, 40)")
+        raise TypeError(
+            f"{channels} has fractions: write whole numbers, as pix.srgb(200, 120, 40)"
+        )
     return tuple(map(index, channels))
 
 
@@ -211,7 +235,8 @@ def fitted(color: Any, kind: PixelType) -> Tuple[int, ...]:
 
 
 def refuse_mistaken(color: Tuple[int, ...], kind: PixelType) -> None:
-    """Raises where plain numbers may be of 8 bits on an image of 16, or not multiplied by their alpha."""
+    """Raises where plain numbers may be of 8 bits on an image of 16, or not multiplied by their
+    alpha."""
     most, alpha = max(color), color[-1]
     if kind.max > 255 and 0 < most <= 255:
         why = f"may be of 8 bits, and is hardly seen where channels go to {kind.max}"
@@ -229,7 +254,8 @@ def refuse_mistaken(color: Tuple[int, ...], kind: PixelType) -> None:
 
 
 def table_of(table: Any) -> bytes:
-    """The bytes of a table of at most 256 colors: a buffer of three bytes each, or texts and tuples as srgb() takes them."""
+    """The bytes of a table of at most 256 colors: a buffer of three bytes each, or texts and
+    tuples as srgb() takes them."""
     try:
         entries = memoryview(table).tobytes()
     except TypeError:

@@ -55,7 +55,9 @@ def opened(file: Any, white: Optional[float], new: Callable[[int, int], Any]) ->
     except (OSError, SyntaxError, EOFError) as fault:
         if isinstance(fault, OSError) and fault.errno is not None:
             raise
-        raise OSError(f"{name_of(file)}: {fault or 'the file ends before its picture does'}") from fault
+        raise OSError(
+            f"{name_of(file)}: {fault or 'the file ends before its picture does'}"
+        ) from fault
 
 
 def upright(picture: Any) -> Any:
@@ -80,7 +82,10 @@ def opened_alone(file: Any, white: Optional[float], new: Callable[[int, int], An
         elif data[:2] in (b"P5", b"P6"):
             pixels = read_pnm(data)
         else:
-            raise Fault("it is neither PNG nor PPM nor PGM, and what else there is needs Pillow: install that")
+            raise Fault(
+                "it is neither PNG nor PPM nor PGM, and what else there is needs Pillow: install"
+                " that"
+            )
     except Fault as fault:
         raise OSError(f"{name_of(file)}: {fault}") from None
     source = Bitmap(memoryview(pixels.data).cast("B"), pixels.format, pixels.width, pixels.height)
@@ -92,7 +97,10 @@ def opened_alone(file: Any, white: Optional[float], new: Callable[[int, int], An
 def read_pnm(file: bytes) -> Pixels:
     """The picture of a PPM or PGM file of bytes or of words."""
     space = rb"(?:\s|#[^\n]*\n)+"
-    found = re.match(rb"P([56])" + space + rb"(\d{1,10})" + space + rb"(\d{1,10})" + space + rb"(\d{1,5})\s", file)
+    found = re.match(
+        rb"P([56])" + space + rb"(\d{1,10})" + space + rb"(\d{1,10})" + space + rb"(\d{1,5})\s",
+        file,
+    )
     if found is None:
         raise Fault("the head of the file is none that a PPM or PGM may have")
     kind, width, height, white = map(int, found.groups())
@@ -125,7 +133,9 @@ def saved(image: Any, file: Any, format: Optional[str], options: Any) -> None:
         if kind is None and not suffix:
             raise ValueError("the file has no name that tells its kind: write format='PNG'")
         if kind not in _OWN.values():
-            raise ValueError(f"without Pillow, files are PNG, PPM or PGM, and not {kind or suffix}")
+            raise ValueError(
+                f"without Pillow, files are PNG, PPM or PGM, and not {kind or suffix}"
+            )
         if options:
             raise TypeError(f"{kind} takes no options: {', '.join(options)}")
         put(file, encoded(image, str(kind)))
@@ -137,7 +147,9 @@ def saved(image: Any, file: Any, format: Optional[str], options: Any) -> None:
     except OSError as fault:
         if fault.errno is not None or "A" not in picture.mode:
             raise
-        raise ValueError(f"{name_of(file)}: {no_alpha(suffix[1:].upper() or str(kind))}") from fault
+        raise ValueError(
+            f"{name_of(file)}: {no_alpha(suffix[1:].upper() or str(kind))}"
+        ) from fault
 
 
 def plain(image: Any, picture: Any, is_opaque: bool) -> Any:
@@ -149,8 +161,14 @@ def plain(image: Any, picture: Any, is_opaque: bool) -> Any:
 
 def no_alpha(kind: str) -> str:
     """The sentence for a picture with an alpha in a file that has none."""
-    ground = "image.run(pix.composite_color((0, 0, image.width, image.height), pix.srgb('#fff'), pix.Op.DEST_OVER))"
-    return f"{kind} has no alpha, and not all of this image is opaque: paint a ground behind it first, as {ground}"
+    ground = (
+        "image.run(pix.composite_color((0, 0, image.width, image.height), pix.srgb('#fff'),"
+        " pix.Op.DEST_OVER))"
+    )
+    return (
+        f"{kind} has no alpha, and not all of this image is opaque: paint a ground behind it"
+        f" first, as {ground}"
+    )
 
 
 def put(file: Any, data: bytes) -> None:
@@ -168,7 +186,9 @@ def encoded(image: Any, kind: str) -> bytes:
     alphas = bytes(memoryview(pixels)[3::4])
     is_opaque = alphas.count(255) == len(alphas)
     if kind == "PNG":
-        gray, color = (Format.SGRAY8, Format.SRGB8) if is_opaque else (Format.SGRAYA8, Format.SRGBA8)
+        gray, color = (
+            (Format.SGRAY8, Format.SRGB8) if is_opaque else (Format.SGRAYA8, Format.SRGBA8)
+        )
         format = gray if image.type is GRAYA8 else color
         return png(image.width, image.height, format, pixels_of(image, format))
     if not is_opaque:

@@ -8,7 +8,8 @@ from array import array
 from functools import lru_cache
 from typing import Any, Union
 
-# From how many bytes on memory is asked of the system in large pages, which takes a third of the time to be written first.
+# From how many bytes on memory is asked of the system in large pages, which takes a third of the
+# time to be written first.
 LARGE = 4 << 20
 
 
@@ -32,12 +33,15 @@ def light_table() -> array[int]:
     """The light, from 0 to 65535, of each level of sRGB from 0 to 65535."""
     most, low = 65535, int(65535 * 0.04045)
     dark = [round(level / 12.92) for level in range(low + 1)]
-    bright = [round(most * ((level / most + 0.055) / 1.055) ** 2.4) for level in range(low + 1, most + 1)]
+    bright = [
+        round(most * ((level / most + 0.055) / 1.055) ** 2.4) for level in range(low + 1, most + 1)
+    ]
     return array("H", dark + bright)
 
 
 def looked_up(table: array[int], levels: array[int]) -> Any:
-    """The entry of a table of 65536 words for each level: an array, or one of numpy where that is there."""
+    """The entry of a table of 65536 words for each level: an array, or one of numpy where that
+    is there."""
     try:
         numpy = importlib.import_module("numpy")
     except ImportError:
@@ -51,6 +55,13 @@ def lit(levels: array[int]) -> Any:
 
 
 def scaled(numbers: Any, white: float) -> array[int]:
-    """Numbers of 0 to `white` as levels of 0 to 65535; what is beyond, or no number, is the nearer end, or 0."""
+    """Numbers of 0 to `white` as levels of 0 to 65535; what is beyond, or no number, is the
+    nearer end, or 0."""
     factor = 65535 / white
-    return array("H", [0 if not number > 0 else 65535 if number >= white else int(number * factor + 0.5) for number in numbers])
+    return array(
+        "H",
+        [
+            0 if not number > 0 else 65535 if number >= white else int(number * factor + 0.5)
+            for number in numbers
+        ],
+    )

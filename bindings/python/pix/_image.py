@@ -32,14 +32,15 @@ _UNTOLD: Any = _Untold()
 class Image(View):
     """A view of a buffer as rows of pixels, from top to bottom.
 
-    `pixels` is a buffer of (height - 1) * stride + width pixels at least. It may be read-only where the image is only a
-    source. `stride` is the distance from a row to the next, counted in pixels; what lies between the rows is not
-    changed. Width and height may be left out where the buffer's shape is (height, width, channels); its rows may lie
-    apart, as in a window of a numpy array, and then the stride is theirs. Channels of 16 bits have the machine's byte
-    order. While the view lives, a bytearray can't be resized.
+    `pixels` is a buffer of (height - 1) * stride + width pixels at least. It may be read-only
+    where the image is only a source. `stride` is the distance from a row to the next, counted in
+    pixels; what lies between the rows is not changed. Width and height may be left out where the
+    buffer's shape is (height, width, channels); its rows may lie apart, as in a window of a numpy
+    array, and then the stride is theirs. Channels of 16 bits have the machine's byte order. While
+    the view lives, a bytearray can't be resized.
 
-    `type` is RGBA8 where it is left out. For a buffer of three dimensions it has to be said, since such arrays mostly have
-    sRGB with a straight alpha, which from_array() takes.
+    `type` is RGBA8 where it is left out. For a buffer of three dimensions it has to be said, since
+    such arrays mostly have sRGB with a straight alpha, which from_array() takes.
 
     np.asarray(image) is the pixels, without a copy.
 
@@ -60,9 +61,10 @@ class Image(View):
         rows = rows_of(pixels, width, height, stride, kind._color, kind)
         if type is _UNTOLD and len(rows.memory.shape) > 2:
             raise TypeError(
-                f"an array of shape {rows.memory.shape} may have straight alpha, or colors of sRGB, and an Image has neither: "
-                "write pix.Image.from_array(array, pix.SRGBA8) for a picture as files have it, "
-                "or pix.Image(array, type=pix.RGBA8) for pixels that are premultiplied and linear"
+                f"an array of shape {rows.memory.shape} may have straight alpha, or colors of sRGB, "
+                "and an Image has neither: write pix.Image.from_array(array, pix.SRGBA8) for a picture "
+                "as files have it, or pix.Image(array, type=pix.RGBA8) for pixels that are "
+                "premultiplied and linear"
             )
         super().__init__(rows)
 
@@ -70,18 +72,20 @@ class Image(View):
     def new(cls, width: SupportsIndex, height: SupportsIndex, type: PixelType = RGBA8) -> Image:
         """Makes a transparent image of so many pixels; its buffer is its `pixels`, of bytes."""
         columns, rows = u32(width, "width"), u32(height, "height")
-        return cls(zeros(columns * rows * ctypes.sizeof(kind_of(type)._color)), columns, rows, type=type)
+        size = ctypes.sizeof(kind_of(type)._color)
+        return cls(zeros(columns * rows * size), columns, rows, type=type)
 
     @classmethod
     def from_array(
         cls, array: Buffer, format: Format, type: PixelType = RGBA16, size: Optional[Tuple[SupportsIndex, SupportsIndex]] = None
     ) -> Image:
-        """Makes an image of the picture in an array, or another buffer, of (height, width, samples) or (height, width * samples)
-        elements in a format; rows may lie apart, and from bottom to top. Of a buffer of one dimension, such as bytes, `size` is
-        the width and the height.
+        """Makes an image of the picture in an array, or another buffer, of (height, width,
+        samples) or (height, width * samples) elements in a format; rows may lie apart, and from
+        bottom to top. Of a buffer of one dimension, such as bytes, `size` is the width and the
+        height.
 
-        An sRGB picture in an image of RGBA16 is in light: to_array() in the same format gives it back as it was where
-        nothing was painted, but for pixels whose alpha is from 1 to 12.
+        An sRGB picture in an image of RGBA16 is in light: to_array() in the same format gives it
+        back as it was where nothing was painted, but for pixels whose alpha is from 1 to 12.
         """
         width, height = (None, None) if size is None else size
         source = Bitmap(array, format, width, height)
@@ -91,8 +95,8 @@ class Image(View):
         return image
 
     def to_array(self, format: Format) -> Any:
-        """The picture in a format: a new numpy array of (height, width, samples), or (height, width) where a pixel has one
-        sample; a bytearray where numpy is missing."""
+        """The picture in a format: a new numpy array of (height, width, samples), or (height,
+        width) where a pixel has one sample; a bytearray where numpy is missing."""
         source, format = self._bitmap(), Format(format)
         source.refuse_unheld(Status.BAD_SOURCE)
         array = new_array(source.width, source.height, format)
@@ -101,26 +105,29 @@ class Image(View):
 
     @classmethod
     def open(cls, file: Any, type: PixelType = RGBA16, white: Optional[float] = None) -> Image:
-        """Makes an image of a picture file, given by its path or open for reading bytes: of the first picture in it, turned as its
-        EXIF says.
+        """Makes an image of a picture file, given by its path or open for reading bytes: of the
+        first picture in it, turned as its EXIF says.
 
-        Pillow reads it where that is there, as from_pillow() says; and else PNG, PPM and PGM files are read. Levels of 16 bits are
-        kept, but for colors of 16 bits that Pillow reads, of which it keeps the upper bytes. Profiles of colors aren't looked at:
-        the numbers are taken as sRGB, and four inks (CMYK) are converted as Pillow does, by their products.
+        Pillow reads it where that is there, as from_pillow() says; and else PNG, PPM and PGM files
+        are read. Levels of 16 bits are kept, but for colors of 16 bits that Pillow reads, of which
+        it keeps the upper bytes. Profiles of colors aren't looked at: the numbers are taken as
+        sRGB, and four inks (CMYK) are converted as Pillow does, by their products.
 
-        Raises OSError where there is no such file or no whole picture in it, and ValueError where a file of numbers of 32 bits
-        doesn't tell which is `white`.
+        Raises OSError where there is no such file or no whole picture in it, and ValueError where
+        a file of numbers of 32 bits doesn't tell which is `white`.
         """
         kind = kind_of(type)
         return opened(file, white, lambda width, height: cls.new(width, height, kind))
 
     def save(self, file: Any, format: Optional[str] = None, **options: Any) -> None:
-        """Writes the picture into a file, given by its path or open for writing bytes, of the kind that its name ends in, or that
-        `format` names as Pillow does: .png, .ppm and .pgm, and with Pillow all that it writes, with its options.
+        """Writes the picture into a file, given by its path or open for writing bytes, of the kind
+        that its name ends in, or that `format` names as Pillow does: .png, .ppm and .pgm, and with
+        Pillow all that it writes, with its options.
 
         Its colors are sRGB of 8 bits. Where all pixels are opaque, no alpha is written.
 
-        Raises ValueError where the file can't have an alpha and the image has one, or is of a kind that can't be written.
+        Raises ValueError where the file can't have an alpha and the image has one, or is of a kind
+        that can't be written.
 
         >>> import io
         >>> file = io.BytesIO()
@@ -136,26 +143,31 @@ class Image(View):
         return shown(self)
 
     @classmethod
-    def from_pillow(cls, picture: Any, type: PixelType = RGBA16, white: Optional[float] = None) -> Image:
+    def from_pillow(
+        cls, picture: Any, type: PixelType = RGBA16, white: Optional[float] = None
+    ) -> Image:
         """Makes an image of a picture of Pillow, of any mode that Pillow converts to RGBA.
 
-        Gray of 16 bits, the modes I;16 and I, keeps all of its levels. `white` is the number that is white in a picture of the mode I
-        or F: it has to be told, but for PNG and PPM files, in which it is 65535. A color that the picture calls transparent is clear.
-        The picture isn't turned as its EXIF says, which open() does.
+        Gray of 16 bits, the modes I;16 and I, keeps all of its levels. `white` is the number that
+        is white in a picture of the mode I or F: it has to be told, but for PNG and PPM files, in
+        which it is 65535. A color that the picture calls transparent is clear. The picture isn't
+        turned as its EXIF says, which open() does.
 
         >>> from PIL import Image as pillow
         >>> pix.Image.from_pillow(pillow.new("RGB", (3, 2), "#c87828"))
         <pix.Image 3 x 2, RGBA16>
         """
-        kind = kind_of(type)
-        return image_of(picture, facts_of(picture, white), lambda width, height: cls.new(width, height, kind))
+        kind, facts = kind_of(type), facts_of(picture, white)
+        return image_of(picture, facts, lambda width, height: cls.new(width, height, kind))
 
     def to_pillow(self, mode: str = "RGBA", table: Any = None, diffuse: bool = False) -> Any:
-        """The picture as one of Pillow, of the mode RGBA, RGB, L or LA; or of P: of indices into a table of colors.
+        """The picture as one of Pillow, of the mode RGBA, RGB, L or LA; or of P: of indices into a
+        table of colors.
 
-        `table` is a buffer of three bytes for each color, or has texts and tuples as srgb() takes them; without it one of the
-        picture's own colors is made. With `diffuse` the error of each pixel is handed on to those beside it. Pixels whose alpha is
-        below 128 become an entry of their own, which is transparent.
+        `table` is a buffer of three bytes for each color, or has texts and tuples as srgb() takes
+        them; without it one of the picture's own colors is made. With `diffuse` the error of each
+        pixel is handed on to those beside it. Pixels whose alpha is below 128 become an entry of
+        their own, which is transparent.
 
         >>> image = pix.Image.new(2, 1)
         >>> image.run(pix.copy_color((0, 0, 2, 1), pix.srgb("#c87828")))
@@ -176,7 +188,8 @@ class Image(View):
 
     @property
     def pixels(self) -> memoryview:
-        """A new view of the buffer: of its bytes, or of the buffer as it is where its rows lie apart."""
+        """A new view of the buffer: of its bytes, or of the buffer as it is where its rows lie
+        apart."""
         return self._rows.memory.view()
 
     def __repr__(self) -> str:
@@ -186,18 +199,21 @@ class Image(View):
         return Image, (self._value(), self.width, self.height, None, self.type)
 
     def run(self, *commands: Union[Command, CommandList], origin: Iterable[SupportsIndex] = (0, 0)) -> None:
-        """Runs the commands in order, or none of them; or those of one CommandList, which is checked already.
+        """Runs the commands in order, or none of them; or those of one CommandList, which is
+        checked already.
 
-        Where an `origin` is given, this image is a window of a picture: its first pixel is the point (left, top) of the
-        picture, and the regions of the commands are those of the picture. Each pixel becomes what a run on the whole
-        picture would make of it. So pictures painted tile by tile are the picture painted whole, in any order: tiles
-        that are never in memory together, or bands of rows of one buffer, each an image of its own over a slice of a
-        memoryview or an array, by several threads at once. Windows side by side in one buffer share the memory between
-        their rows, and wait for each other.
+        Where an `origin` is given, this image is a window of a picture: its first pixel is the
+        point (left, top) of the picture, and the regions of the commands are those of the picture.
+        Each pixel becomes what a run on the whole picture would make of it. So pictures painted
+        tile by tile are the picture painted whole, in any order: tiles that are never in memory
+        together, or bands of rows of one buffer, each an image of its own over a slice of a
+        memoryview or an array, by several threads at once. Windows side by side in one buffer
+        share the memory between their rows, and wait for each other.
 
-        Raises PixError where the library refuses one, or where the window ends past 2147483647; TypeError where the buffer is read-only, where something is no
-        Command, or where a source has another type of pixels; ValueError where a source or a matte shares memory with
-        this image, or where a color is none of its type.
+        Raises PixError where the library refuses one, or where the window ends past 2147483647;
+        TypeError where the buffer is read-only, where something is no Command, or where a source
+        has another type of pixels; ValueError where a source or a matte shares memory with this
+        image, or where a color is none of its type.
         """
         memory, _, count, width, height, stride, type = self._rows
         left, top = origin_of(origin)

@@ -28,11 +28,12 @@ def clear() -> Command:
 
 
 def copy_color(to: _Region, color: _Color) -> Command:
-    """Replaces the pixels of the region `to` by a color: one of pix.srgb(), or a tuple of as many channels as the image's pixels have,
-    premultiplied and linear.
+    """Replaces the pixels of the region `to` by a color: one of pix.srgb(), or a tuple of as many
+    channels as the image's pixels have, premultiplied and linear.
 
-    A region is (x, y, width, height) in pixels. A channel is from 0 to 255, or to 65535 in RGBA16. A tuple that may be of another kind
-    is refused when the command runs: one on RGBA16 with no channel above 255, and one with a channel above its alpha.
+    A region is (x, y, width, height) in pixels. A channel is from 0 to 255, or to 65535 in RGBA16.
+    A tuple that may be of another kind is refused when the command runs: one on RGBA16 with no
+    channel above 255, and one with a channel above its alpha.
 
     >>> image = pix.Image.new(2, 1, pix.RGBA16)
     >>> image.run(pix.copy_color((0, 0, 1, 1), pix.srgb("#c87828")))
@@ -42,9 +43,11 @@ def copy_color(to: _Region, color: _Color) -> Command:
 
 
 def copy_image(to: _Region, source: Image, from_: Optional[_Region] = None) -> Command:
-    """Replaces the pixels of `to` by those of the region `from_` of another image; None is all of it.
+    """Replaces the pixels of `to` by those of the region `from_` of another image; None is all of
+    it.
 
-    The point of `from_` that is as far from its upper left corner as a point of `to` is from its own goes there.
+    The point of `from_` that is as far from its upper left corner as a point of `to` is from its
+    own goes there.
     """
     return Command(2, to, source=_source(source, Image), from_=from_)
 
@@ -62,7 +65,8 @@ def composite_image(to: _Region, source: Image, from_: Optional[_Region] = None,
 def composite_matte(
     to: _Region, matte: Matte, color: _Color, from_: Optional[_Region] = None, op: Op = Op.SRC_OVER
 ) -> Command:
-    """Composites a color, multiplied by the values of `from_` in a matte, with the pixels of `to`: a glyph."""
+    """Composites a color, multiplied by the values of `from_` in a matte, with the pixels of
+    `to`: a glyph."""
     return Command(5, to, color, op, _source(matte, Matte), from_)
 
 
@@ -70,22 +74,26 @@ def composite_image_matte(
     to: _Region, source: Image, mask: Matte, from_: Optional[_Region] = None, mask_from: Optional[_Region] = None,
     op: Op = Op.SRC_OVER,
 ) -> Command:  # fmt: skip
-    """Composites the pixels of `from_` in another image, multiplied by the values of `mask_from` in a matte, with those of `to`: soft edges.
+    """Composites the pixels of `from_` in another image, multiplied by the values of `mask_from`
+    in a matte, with those of `to`: soft edges.
 
-    All three corners are paired, and a point is changed where all three regions and all of image, source and mask have it.
+    All three corners are paired, and a point is changed where all three regions and all of image,
+    source and mask have it.
     """
     return Command(6, to, None, op, _source(source, Image), from_, _source(mask, Matte), mask_from)
 
 
 def composite_image_alpha(
-    to: _Region, source: Image, alpha: Optional[SupportsIndex] = None, from_: Optional[_Region] = None, op: Op = Op.SRC_OVER, *,
+    to: _Region, source: Image, alpha: Optional[SupportsIndex] = None,
+    from_: Optional[_Region] = None, op: Op = Op.SRC_OVER, *,
     opacity: Optional[float] = None, alpha8: Optional[SupportsIndex] = None,
 ) -> Command:  # fmt: skip
-    """Composites the pixels of `from_` in another image, multiplied by an opacity, with those of `to`: a fade.
+    """Composites the pixels of `from_` in another image, multiplied by an opacity, with those of
+    `to`: a fade.
 
-    The opacity has three names, of which one is given: `opacity` is a fraction from 0 to 1, and `alpha8` a byte from 0 to 255, for
-    images of all kinds; `alpha` is a channel of the image: from 0 to 255, or to 65535 in RGBA16. At the greatest one it is
-    composite_image.
+    The opacity has three names, of which one is given: `opacity` is a fraction from 0 to 1, and
+    `alpha8` a byte from 0 to 255, for images of all kinds; `alpha` is a channel of the image: from
+    0 to 255, or to 65535 in RGBA16. At the greatest one it is composite_image.
 
     >>> pix.composite_image_alpha((0, 0, 9, 9), pix.Image.new(9, 9, pix.RGBA16), opacity=0.5).alpha
     32768
@@ -93,7 +101,8 @@ def composite_image_alpha(
     _source(source, Image)
     given = [name for name in (alpha, opacity, alpha8) if name is not None]
     if len(given) != 1:
-        raise TypeError("give one opacity: opacity=0.5, a fraction, or alpha8=128, a byte, or alpha, a channel of the image")
+        names = "opacity=0.5, a fraction, or alpha8=128, a byte, or alpha, a channel of the image"
+        raise TypeError(f"give one opacity: {names}")
     if isinstance(alpha, float):
         raise TypeError(f"alpha {alpha} is no whole number: write opacity={alpha} for a fraction")
     if opacity is not None:
@@ -108,8 +117,9 @@ def composite_image_alpha(
 
 
 def repeat_image(to: _Region, source: Image, from_: Optional[_Region] = None, op: Op = Op.SRC_OVER) -> List[Command]:
-    """The commands that composite `from_` in another image over all of `to`, side by side from its upper left corner on and cut at
-    its other sides, row by row: a pattern. image.run(*repeat_image(..)) paints it.
+    """The commands that composite `from_` in another image over all of `to`, side by side from its
+    upper left corner on and cut at its other sides, row by row: a pattern.
+    image.run(*repeat_image(..)) paints it.
 
     A copy that begins past 2147483647 is in no image, and left out.
     """

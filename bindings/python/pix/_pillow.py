@@ -1,4 +1,5 @@
-"""Pictures of Pillow: from them strip by strip, and to them over memory that is theirs from then on."""
+"""Pictures of Pillow: from them strip by strip, and to them over memory that is theirs from
+then on."""
 
 from __future__ import annotations
 
@@ -12,14 +13,18 @@ from pix._fresh import lit, looked_up, scaled, zeros
 from pix._indexed import diffuse_indexed, map_indexed, table_from
 from pix._values import Format, Status
 
-# How many bytes of a picture are read at once: they stay in a core's own cache, and malloc keeps such blocks.
+# How many bytes of a picture are read at once: they stay in a core's own cache, and malloc keeps
+# such blocks.
 STRIP = 96 << 10
 
 # The modes that are read as they are: how Pillow packs them, and the format that this is.
 _PACKED = {
-    "RGBA": ("RGBA", Format.SRGBA8), "RGB": ("RGBX", Format.SRGBX8), "RGBX": ("RGBX", Format.SRGBX8),
-    "L": ("L", Format.SGRAY8), "LA": ("LA", Format.SGRAYA8),
-}  # fmt: skip
+    "RGBA": ("RGBA", Format.SRGBA8),
+    "RGB": ("RGBX", Format.SRGBX8),
+    "RGBX": ("RGBX", Format.SRGBX8),
+    "L": ("L", Format.SGRAY8),
+    "LA": ("LA", Format.SGRAYA8),
+}
 
 # The modes that to_pillow() makes.
 _MADE = {"RGBA": Format.SRGBA8, "RGB": Format.SRGBX8, "L": Format.SGRAY8, "LA": Format.SGRAYA8}
@@ -29,7 +34,8 @@ CLEAR = 128
 
 
 class Facts(NamedTuple):
-    """What a picture's pixels don't tell: which number is white in gray of many bits, and which level or color is clear."""
+    """What a picture's pixels don't tell: which number is white in gray of many bits, and which
+    level or color is clear."""
 
     white: Optional[float]
     clear: Any
@@ -38,7 +44,8 @@ class Facts(NamedTuple):
 def facts_of(picture: Any, white: Optional[float]) -> Facts:
     """What there is to know of a picture, before its pixels are loaded."""
     mode, clear = picture.mode, picture.info.get("transparency")
-    # How a file packs its pixels. Pillow makes them 8 bits, but not what the file says of a clear one.
+    # How a file packs its pixels. Pillow makes them 8 bits, but not what the file says of a clear
+    # one.
     tiles = getattr(picture, "tile", None)
     packed = str(tiles[0][3]) if tiles else ""
     if mode == "L" and isinstance(clear, int):
@@ -49,18 +56,21 @@ def facts_of(picture: Any, white: Optional[float]) -> Facts:
         clear = tuple(level >> 8 for level in clear)
     if white is not None and not 0 < white < float("inf"):
         raise ValueError(f"white {white} is not above 0")
-    if white is None and (mode.startswith("I;16") or mode == "I" and picture.format in ("PNG", "PPM")):
+    if white is None and (
+        mode.startswith("I;16") or mode == "I" and picture.format in ("PNG", "PPM")
+    ):
         white = 65535
     if white is None and mode in ("I", "F"):
         raise ValueError(
-            f"a picture of mode {mode} doesn't tell which number is white: write white=65535 for gray of 16 bits, "
-            f"white=255 for numbers of 8 bits, or white=1 for fractions"
+            f"a picture of mode {mode} doesn't tell which number is white: write white=65535 for"
+            " gray of 16 bits, white=255 for numbers of 8 bits, or white=1 for fractions"
         )
     return Facts(white, clear)
 
 
 def image_of(picture: Any, facts: Facts, new: Callable[[int, int], Any]) -> Any:
-    """An image, which `new` makes, of a picture: strip by strip, so that no second copy of all of it is made."""
+    """An image, which `new` makes, of a picture: strip by strip, so that no second copy of all
+    of it is made."""
     width, height = picture.size
     picture.load()
     image = new(width, height)
@@ -94,7 +104,9 @@ def read_strip(strip: Any, facts: Facts) -> Tuple[Any, Format]:
         try:
             strip = strip.convert("RGBA")
         except ValueError as fault:
-            raise ValueError(f"Pillow converts no mode {mode} to RGBA: convert the picture first") from fault
+            raise ValueError(
+                f"Pillow converts no mode {mode} to RGBA: convert the picture first"
+            ) from fault
     packed, format = _PACKED[strip.mode]
     return strip.tobytes("raw", packed), format
 
@@ -127,7 +139,10 @@ def picture_of(image: Any, mode: str, table: Any, diffuse: bool) -> Any:
     if mode == "P":
         return indexed(image, table, diffuse)
     if mode not in _MADE:
-        raise ValueError(f"mode {mode!r} is none of {', '.join(_MADE)} and P: make RGB, and convert that by Pillow")
+        raise ValueError(
+            f"mode {mode!r} is none of {', '.join(_MADE)} and P: make RGB, and convert that by"
+            " Pillow"
+        )
     if table is not None:
         raise ValueError(f"a picture of mode {mode} has no table: write to_pillow('P', table)")
     size, format = (image.width, image.height), _MADE[mode]
@@ -158,7 +173,8 @@ def mapped_rgb(size: Tuple[int, int], data: Any) -> Any:
 
 
 def indexed(image: Any, table: Any, diffuse: bool) -> Any:
-    """A picture of indices into a table of colors, which is made where none is given; one more entry is for clear pixels."""
+    """A picture of indices into a table of colors, which is made where none is given; one more
+    entry is for clear pixels."""
     from PIL import Image as pillow
 
     size, pixels = (image.width, image.height), pixels_of(image, Format.SRGBA8)
@@ -170,12 +186,19 @@ def indexed(image: Any, table: Any, diffuse: bool) -> Any:
         entries = table_of(table)
     kept = len(entries) // 3
     if has_clear and kept == 256:
-        raise ValueError("a table of 256 colors has no room for clear pixels, which this image has: pass 255 at most")
+        raise ValueError(
+            "a table of 256 colors has no room for clear pixels, which this image has: pass 255 at"
+            " most"
+        )
     how = {"format": Format.SRGBA8, "alpha": CLEAR, "kept": kept if has_clear else 0}
     if not image.width or not image.height:
         return pillow.new("P", size)
     known = entries or bytes(3)
-    indices = diffuse_indexed(known, pixels, image.width, **how) if diffuse else map_indexed(known, pixels, **how)
+    indices = (
+        diffuse_indexed(known, pixels, image.width, **how)
+        if diffuse
+        else map_indexed(known, pixels, **how)
+    )
     picture = pillow.frombuffer("P", size, indices, "raw", "P", 0, 1)
     picture.putpalette(entries + bytes(3) if has_clear else entries)
     if has_clear:

@@ -17,10 +17,24 @@ SIGNATURE = b"\x89PNG\r\n\x1a\n"
 # The kinds of color: how many samples a pixel has, and of how many bits they may be.
 _GRAY, _COLOR, _PALETTE, _GRAY_ALPHA, _COLOR_ALPHA = 0, 2, 3, 4, 6
 _SAMPLES = {_GRAY: 1, _COLOR: 3, _PALETTE: 1, _GRAY_ALPHA: 2, _COLOR_ALPHA: 4}
-_BITS = {_GRAY: (1, 2, 4, 8, 16), _COLOR: (8, 16), _PALETTE: (1, 2, 4, 8), _GRAY_ALPHA: (8, 16), _COLOR_ALPHA: (8, 16)}
+_BITS = {
+    _GRAY: (1, 2, 4, 8, 16),
+    _COLOR: (8, 16),
+    _PALETTE: (1, 2, 4, 8),
+    _GRAY_ALPHA: (8, 16),
+    _COLOR_ALPHA: (8, 16),
+}
 
 # The passes of an interlaced file: the first column and row, and the steps.
-_PASSES = ((0, 0, 8, 8), (4, 0, 8, 8), (0, 4, 4, 8), (2, 0, 4, 4), (0, 2, 2, 4), (1, 0, 2, 2), (0, 1, 1, 2))
+_PASSES = (
+    (0, 0, 8, 8),
+    (4, 0, 8, 8),
+    (0, 4, 4, 8),
+    (2, 0, 4, 4),
+    (0, 2, 2, 4),
+    (1, 0, 2, 2),
+    (0, 1, 1, 2),
+)
 
 
 class Pixels(NamedTuple):
@@ -49,7 +63,10 @@ class _Head(NamedTuple):
     def passes(self) -> List[Tuple[range, range]]:
         """The columns and the rows of each pass that has pixels."""
         steps = _PASSES if self.is_interlaced else ((0, 0, 1, 1),)
-        passes = [(range(x, self.width, right), range(y, self.height, down)) for x, y, right, down in steps]
+        passes = [
+            (range(x, self.width, right), range(y, self.height, down))
+            for x, y, right, down in steps
+        ]
         return [(columns, rows) for columns, rows in passes if columns and rows]
 
     def row(self, columns: int) -> int:
@@ -60,12 +77,22 @@ class _Head(NamedTuple):
 
 def chunk(kind: bytes, data: bytes) -> bytes:
     """A chunk: its length, its kind, what is in it, and a checksum."""
-    return struct.pack(">I", len(data)) + kind + data + struct.pack(">I", zlib.crc32(data, zlib.crc32(kind)))
+    return (
+        struct.pack(">I", len(data))
+        + kind
+        + data
+        + struct.pack(">I", zlib.crc32(data, zlib.crc32(kind)))
+    )
 
 
 def png(width: int, height: int, format: Format, data: Any) -> bytes:
     """The bytes of a file of these pixels, which are SRGB8, SRGBA8, SGRAY8 or SGRAYA8."""
-    color = {Format.SGRAY8: _GRAY, Format.SRGB8: _COLOR, Format.SGRAYA8: _GRAY_ALPHA, Format.SRGBA8: _COLOR_ALPHA}[format]
+    color = {
+        Format.SGRAY8: _GRAY,
+        Format.SRGB8: _COLOR,
+        Format.SGRAYA8: _GRAY_ALPHA,
+        Format.SRGBA8: _COLOR_ALPHA,
+    }[format]
     row, pack = width * format.size, zlib.compressobj(6)
     parts = []
     with memoryview(data) as view:
@@ -86,7 +113,10 @@ def chunks(file: bytes) -> Iterator[Tuple[bytes, bytes]]:
         data = file[at + 8 : at + 8 + length]
         if at + 12 + length > len(file):
             raise Fault("the file ends before its picture does")
-        if struct.pack(">I", zlib.crc32(data, zlib.crc32(kind))) != file[at + 8 + length : at + 12 + length]:
+        if (
+            struct.pack(">I", zlib.crc32(data, zlib.crc32(kind)))
+            != file[at + 8 + length : at + 12 + length]
+        ):
             raise Fault("a checksum is wrong")
         yield kind, data
         at += 12 + length
@@ -116,7 +146,9 @@ def read_png(file: bytes) -> Pixels:
             line = array(code, bytes(painted(head, next(rows), len(columns), found)))
             pixels[y * head.width + columns.start : (y + 1) * head.width : columns.step] = line
     format = Format.SRGBA8 if code == "I" else Format.RGBA16
-    width, height, pixels = turned(head.width, head.height, pixels, orientation(found.get(b"eXIf", b"")))
+    width, height, pixels = turned(
+        head.width, head.height, pixels, orientation(found.get(b"eXIf", b""))
+    )
     return Pixels(width, height, format, pixels)
 
 
@@ -124,7 +156,9 @@ def head_of(found: Dict[bytes, bytes]) -> _Head:
     """What the file says of its pixels, if it is one that there may be."""
     if len(found.get(b"IHDR", b"")) != 13:
         raise Fault("the file has no head")
-    width, height, bits, color, packing, filters, interlaced = struct.unpack(">IIBBBBB", found[b"IHDR"])
+    width, height, bits, color, packing, filters, interlaced = struct.unpack(
+        ">IIBBBBB", found[b"IHDR"]
+    )
     if not 0 < width < 2**31 or not 0 < height < 2**31:
         raise Fault(f"a picture of {width} x {height} pixels is none")
     if bits not in _BITS.get(color, ()) or packing or filters or interlaced > 1:
@@ -155,7 +189,8 @@ def rows_of(head: _Head, packed: bytes) -> Iterator[bytearray]:
 
 
 def unfiltered(kind: int, line: bytearray, above: bytearray, step: int) -> bytearray:
-    """A row, of which each byte is a difference from what a filter expects; a pixel has `step` bytes."""
+    """A row, of which each byte is a difference from what a filter expects; a pixel has `step`
+    bytes."""
     if kind > 4:
         raise Fault("a row has a filter that is none")
     if kind == 1:
@@ -193,7 +228,9 @@ def painted(head: _Head, row: bytearray, width: int, found: Dict[bytes, bytes]) 
     alpha = planes.pop() if count in (2, 4) else alpha_of(head, planes, clear)
     if head.bits < 8:
         most = (1 << head.bits) - 1
-        planes = [planes[0].translate(bytes(min(level, most) * 255 // most for level in range(256)))]
+        planes = [
+            planes[0].translate(bytes(min(level, most) * 255 // most for level in range(256)))
+        ]
     if head.bits == 16:
         planes = [array("H", bytes(lit(plane))) for plane in planes]
     return woven([*(planes * 3)[:3], alpha])
@@ -202,7 +239,11 @@ def painted(head: _Head, row: bytearray, width: int, found: Dict[bytes, bytes]) 
 def woven(planes: Sequence[Any]) -> Any:
     """The samples of four planes side by side."""
     first = planes[0]
-    pixels = array("H", bytes(8 * len(first))) if isinstance(first, array) else bytearray(4 * len(first))
+    pixels = (
+        array("H", bytes(8 * len(first)))
+        if isinstance(first, array)
+        else bytearray(4 * len(first))
+    )
     for i, plane in enumerate(planes):
         pixels[i::4] = plane
     return pixels
@@ -210,12 +251,15 @@ def woven(planes: Sequence[Any]) -> Any:
 
 def with_colors(indices: bytearray, palette: bytes, alphas: bytes) -> Any:
     """The pixels of indices into a palette; one past its end is black, as most readers have it."""
-    entries = [palette[i::3].ljust(256, b"\0") for i in range(3)] + [alphas.ljust(256, b"\xff")[:256]]
+    entries = [palette[i::3].ljust(256, b"\0") for i in range(3)] + [
+        alphas.ljust(256, b"\xff")[:256]
+    ]
     return woven([indices.translate(entry) for entry in entries])
 
 
 def alpha_of(head: _Head, planes: Sequence[Any], clear: bytes) -> Any:
-    """The alphas of pixels that have none: all are opaque, but for those of the color that the file says is clear."""
+    """The alphas of pixels that have none: all are opaque, but for those of the color that the
+    file says is clear."""
     opaque = array("H", [65535]) if head.bits == 16 else bytearray(b"\xff")
     alpha = opaque * len(planes[0])
     if len(clear) == 2 * len(planes):

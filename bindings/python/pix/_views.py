@@ -46,14 +46,16 @@ def rows_of(buffer: Any, width: Any, height: Any, stride: Any, element: Any, typ
     elif len(memory.shape) > 2 and memory.row == memory.shape[1] * size:
         high, wide = memory.shape[:2]
         if height > high or width > wide or (height > 1 and taken != wide):
-            raise ValueError(f"an array of {wide} x {high} pixels is not one of {width} x {height}, {taken} apart")
+            said = f"{width} x {height}, {taken} apart"
+            raise ValueError(f"an array of {wide} x {high} pixels is not one of {said}")
     if memory.address % ctypes.alignment(element):
         raise ValueError("the buffer is not aligned to channels of 16 bits")
     return Rows(memory, element, memory.length // size, width, height, taken, type)
 
 
 class View:
-    """Rows of elements in a buffer: `width` and `height` in elements, and `stride` from a row to the next."""
+    """Rows of elements in a buffer: `width` and `height` in elements, and `stride` from a row
+    to the next."""
 
     _rows: Rows
 
@@ -79,8 +81,9 @@ class View:
 
     @property
     def __array_interface__(self) -> Dict[str, Any]:
-        """What numpy asks for: np.asarray(image) is the image's own memory, of (height, width, channels) elements, or (height, width)
-        for a matte. It may be written where the buffer may, and pins the buffer as the view does.
+        """What numpy asks for: np.asarray(image) is the image's own memory, of (height, width,
+        channels) elements, or (height, width) for a matte. It may be written where the buffer may,
+        and pins the buffer as the view does.
 
         Raises PixError where the buffer is too short for the size.
         """
@@ -95,7 +98,8 @@ class View:
             shape, strides = (*shape, type.channels), (*strides, channel)
         order = "|" if channel == 1 else {"little": "<", "big": ">"}[sys.byteorder]
         data = memory.address, memory.is_readonly
-        return {"version": 3, "shape": shape, "typestr": f"{order}u{channel}", "data": data, "strides": strides}
+        kind = f"{order}u{channel}"
+        return {"version": 3, "shape": shape, "typestr": kind, "data": data, "strides": strides}
 
     def _value(self) -> bytearray:
         """A copy of the rows without what lies between them."""
@@ -105,11 +109,13 @@ class View:
 
 
 class Matte(View):
-    """A mask: the fraction of a color that is composited at each point, from 0 (none) to 255 (all).
+    """A mask: the fraction of a color that is composited at each point, from 0 (none) to 255
+    (all).
 
-    It goes with images of 8 bits a channel; with `bits` 16, from 0 to 65535, with RGBA16. `values` is any buffer of
-    (height - 1) * stride + width values, and may be read-only; `stride` is counted in values. Width and height may be
-    left out where the buffer's shape is (height, width); its rows may lie apart, as in a window of a numpy array.
+    It goes with images of 8 bits a channel; with `bits` 16, from 0 to 65535, with RGBA16. `values`
+    is any buffer of (height - 1) * stride + width values, and may be read-only; `stride` is
+    counted in values. Width and height may be left out where the buffer's shape is (height,
+    width); its rows may lie apart, as in a window of a numpy array.
 
     A pickle or a copy of it has values of its own, without what lies between the rows.
     """
