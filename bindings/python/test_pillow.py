@@ -44,6 +44,13 @@ def light(image):
     return channels[::4], channels[3::4]
 
 
+def strip(packer, picture, raw):
+    """What Pillow's tobytes() answers."""
+    encoder = packer(picture.mode, "raw", raw)
+    encoder.setimage(picture.im)
+    return encoder.encode(1 << 20)[2]
+
+
 @unittest.skipIf(pillow is None, "Pillow is not there")
 class Modes(unittest.TestCase):
     def same(self, picture, other, most=0):
@@ -203,6 +210,39 @@ class Modes(unittest.TestCase):
                 pix.clear(),
                 pix.copy_image((0, 0, *SIZE), pix.Image(pixels, *SIZE, type=pix.RGBA16)),
             )
+
+    def test_a_picture_that_lies(self):
+        """Pillow itself would read four bytes a pixel of a picture that has one."""
+        picture = gradient("L")
+        wanted = pix.Image.from_pillow(picture).pixels
+        try:
+            picture.mode = "RGBA"
+        except AttributeError:
+            picture._mode = "RGBA"
+        self.assertEqual(pix.Image.from_pillow(picture).pixels, wanted)
+        for size in ((23, 18), (24, 17), (1, 1000)):
+            lying = gradient("RGB")
+            lying._size = size
+            self.assertRaises((ValueError, SystemError), pix.Image.from_pillow, lying)
+
+    def test_another_pillow(self):
+        """Where Pillow has other names inside, the pictures are the same."""
+        image = pix.Image.from_pillow(gradient("RGB"))
+        with mock.patch.object(
+            pillow.core, "map_buffer", side_effect=[TypeError, mock.DEFAULT]
+        ) as f:
+            f.return_value = pillow.new("RGBX", SIZE).im
+            self.assertEqual(image.to_pillow("RGB").mode, "RGB")
+            self.assertEqual(f.call_count, 2)
+        packer = pillow._getencoder
+        with mock.patch.object(pillow, "_getencoder"):
+            del pillow._getencoder
+            again = None
+            with mock.patch.object(
+                pillow.Image, "tobytes", lambda self, _, raw: strip(packer, self, raw)
+            ):
+                again = pix.Image.from_pillow(gradient("RGB"))
+        self.assertEqual(again.pixels, image.pixels)
 
     def test_a_size_that_malloc_does_not_keep(self):
         """Memory of large pages is as any other: writable, zero at first, and let go."""

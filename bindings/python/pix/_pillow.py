@@ -15,7 +15,7 @@ from pix._values import Format, Status
 
 # How many bytes of a picture are read at once: they stay in a core's own cache, and malloc keeps
 # such blocks.
-STRIP = 96 << 10
+STRIP = 192 << 10
 
 # The modes that are read as they are: how Pillow packs them, and the format that this is.
 _PACKED = {
@@ -47,12 +47,12 @@ def facts_of(picture: Any, white: Optional[float]) -> Facts:
     # How a file packs its pixels. Pillow makes them 8 bits, but not what the file says of a clear
     # one.
     tiles = getattr(picture, "tile", None)
-    packed = str(tiles[0][3]) if tiles else ""
+    kept = str(tiles[0][3]) if tiles else ""
     if mode == "L" and isinstance(clear, int):
-        clear *= {"L;2": 85, "L;4": 17}.get(packed, 1)
+        clear *= {"L;2": 85, "L;4": 17}.get(kept, 1)
     elif mode == "1" and isinstance(clear, int):
         clear = 255 if clear else 0
-    elif mode == "RGB" and isinstance(clear, tuple) and (max(clear) > 255 or packed == "RGB;16B"):
+    elif mode == "RGB" and isinstance(clear, tuple) and (max(clear) > 255 or kept == "RGB;16B"):
         clear = tuple(level >> 8 for level in clear)
     if white is not None and not 0 < white < float("inf"):
         raise ValueError(f"white {white} is not above 0")
@@ -77,13 +77,40 @@ def image_of(picture: Any, facts: Facts, new: Callable[[int, int], Any]) -> Any:
     target, target_format = image.pixels, image._bitmap().format
     row = width * target_format.size
     rows = max(1, STRIP // (4 * width)) if width else 1
+    core = plain_core(picture, facts)
     for top in range(0, height if width else 0, rows):
         end = min(height, top + rows)
-        strip = picture.crop((0, top, width, end))
-        data, format = read_strip(strip, facts)
+        box = 0, top, width, end
+        data, format = read_strip(picture.crop(box), facts) if core is None else packed(core, box)
         band = Bitmap(target[top * row : end * row], target_format, width, end - top)
         write(band, Bitmap(data, format, width, end - top))
     return image
+
+
+def plain_core(picture: Any, facts: Facts) -> Any:
+    """What a picture has inside, if Pillow's own packer makes bytes of some of its rows."""
+    from PIL import Image as pillow
+
+    core = picture.im
+    # Its own mode counts: a packer would read four bytes a pixel where a picture says so and has one.
+    is_plain = core.mode == picture.mode and core.mode in _PACKED and facts.clear is None
+    return core if is_plain and hasattr(pillow, "_getencoder") else None
+
+
+def packed(core: Any, box: Tuple[int, int, int, int]) -> Tuple[Any, Format]:
+    """The pixels of some rows of a picture of a mode that is packed as it is, and their format."""
+    from PIL import Image as pillow
+
+    raw, format = _PACKED[core.mode]
+    packer = pillow._getencoder(core.mode, "raw", raw)
+    packer.setimage(core, box)
+    size, parts, status = (box[2] - box[0]) * (box[3] - box[1]) * format.size, [], 0
+    while not status:
+        _, status, part = packer.encode(max(size, 1 << 16))
+        parts.append(part)
+    if status < 0:
+        raise OSError(f"Pillow packs no rows of mode {core.mode}: status {status}")
+    return parts[0] if len(parts) == 1 else b"".join(parts), format
 
 
 def read_strip(strip: Any, facts: Facts) -> Tuple[Any, Format]:
@@ -107,8 +134,8 @@ def read_strip(strip: Any, facts: Facts) -> Tuple[Any, Format]:
             raise ValueError(
                 f"Pillow converts no mode {mode} to RGBA: convert the picture first"
             ) from fault
-    packed, format = _PACKED[strip.mode]
-    return strip.tobytes("raw", packed), format
+    raw, format = _PACKED[strip.mode]
+    return strip.tobytes("raw", raw), format
 
 
 def read_levels(strip: Any, facts: Facts) -> Tuple[Any, Format]:
@@ -166,9 +193,21 @@ def pixels_of(image: Any, format: Format) -> Any:
 
 
 def mapped_rgb(size: Tuple[int, int], data: Any) -> Any:
-    """A picture RGB over memory of four bytes a pixel, as Pillow itself keeps them."""
+    """A picture RGB over memory of four bytes a pixel, as Pillow itself keeps them.
+
+    Pillow's frombuffer() makes none of this mode, so it is asked as that function asks; and where
+    another Pillow has other names, it makes a copy.
+    """
     from PIL import Image as pillow
 
+    try:
+        core = pillow.core.map_buffer(data, size, "raw", 0, ("RGB", 0, 1))
+        picture = pillow.new("RGB", (1, 1))._new(core)
+        if (picture.mode, picture.size) == ("RGB", size):
+            picture.readonly = 1
+            return picture
+    except (AttributeError, TypeError, ValueError):
+        pass
     return pillow.frombuffer("RGBX", size, data, "raw", "RGBX", 0, 1).convert("RGB")
 
 
