@@ -63,6 +63,16 @@ class Tables(unittest.TestCase):
         self.assertEqual(found, b"\x09\0")
         self.assertEqual(pix.diffuse_indexed(grays, b"", 5), b"")
 
+    def test_tables_of_clear_pictures(self):
+        clear = joined((9, 9, 9, i) for i in range(20))
+        for make in (lambda *words: pix.map_indexed(*words), lambda table, pixels, *more: pix.diffuse_indexed(table, pixels, 4, *more)):
+            table, kept = pix.table_from(clear, format=pix.Format.SRGBA8, alpha=20), bytearray(20)
+            self.assertEqual(make(table, clear, kept, pix.Format.SRGBA8, 20, 7), b"\7" * 20)
+            for alpha in (0, 19):
+                self.refused(pix.Status.BAD_TABLE, make, table, clear, kept, pix.Format.SRGBA8, alpha, 3)
+            self.assertEqual(kept, b"\7" * 20)
+            self.assertEqual(make(b"", b"", None, pix.Format.SRGBA8), b"")
+
     def test_indexed(self):
         gray = lambda *values: joined((v, v, v) for v in values)
         table, indices = pix.index_pixels(b"", gray(10, 200, 13, 14), threshold=(3, 3, 3))

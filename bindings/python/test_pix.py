@@ -464,6 +464,18 @@ class Threads(unittest.TestCase):
             self.assertRaises(KeyboardInterrupt, turns.take, is_long, interrupted, (), [pix.Image.new(1, 1)._rows.memory], [])
         self.assertFalse(turns.running)
 
+    def test_a_turn_whose_end_was_left_out(self):
+        # As where an interrupt came before the last line of a call: what tells that it is over is its lock alone.
+        image, left = pix.Image.new(4, 4), []
+        with another_call([image._rows.memory], []):
+            left += turns.running
+        turns.running.update(left)
+        done = threading.Thread(target=image.run, args=[pix.clear()], daemon=True)
+        done.start()
+        done.join(10)
+        self.assertFalse(done.is_alive())
+        self.assertFalse(turns.running)
+
     @unittest.skipIf(not hasattr(os, "fork"), "no fork")
     def test_a_child_process_has_no_turns(self):
         image = pix.Image.new(4, 4)

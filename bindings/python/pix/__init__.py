@@ -17,8 +17,8 @@ people write them are made by srgb(): srgb("#c87828") goes with all images. A tu
 8 bits on an image of 16, is refused.
 
 Image.open() reads picture files and save() writes them. Image.from_array() and Image.from_pillow() make images of what
-other packages have, and to_array() and to_pillow() turn them back: in 16 bits a channel nothing is lost. np.asarray(image)
-is the pixels themselves. convert() does it in 8 bits, and convert_bitmap() between any two formats.
+other packages have, and to_array() and to_pillow() turn them back: in 16 bits a channel nothing is lost of pixels whose
+alpha is 13 or more. np.asarray(image) is the pixels themselves. convert() does it in 8 bits, and convert_bitmap() between any two formats.
 
 A region is a tuple (x, y, width, height) in pixels and lies anywhere; what is outside an image is neither read nor written.
 A list is tested as a whole before its first command runs: where an exception is raised, no pixel was changed.
@@ -33,10 +33,15 @@ A picture may be painted tile by tile, each an Image of its own that runs the sa
 tile.run(*commands, origin=(left, top)); that is the picture painted whole. Several threads may paint bands of rows of
 one buffer at once.
 
-A buffer has bytes, or, for pixels of 16 bits a channel, words of 16 bits in the machine's byte order. It is pinned as
-long as a view of it lives: a bytearray can't be resized meanwhile. A long run lets the interpreter's lock go, so that
-two threads paint at once; one that needs memory that another is writing waits. Other code of the program, such as an
-assignment to the bytearray, must keep from the buffers of a run in another thread.
+A buffer has bytes, or, for pixels of 16 bits a channel, words of 16 bits in the machine's byte order. It is asked for its
+memory once, and pinned as long as a view of it lives: a bytearray can't be resized meanwhile. A long call lets the
+interpreter's lock go, so that two threads work at once; a call that needs memory which another one is writing waits for
+it. The handler of a signal may paint, and an interrupt leaves nothing behind.
+
+What is left to the program is to keep other code from the buffers of a call in another thread: assignments to a
+bytearray, and memory that has two addresses, such as a file that is mapped twice, which no test of overlaps sees. Where
+it does not, pixels come out wrong, and nothing else is touched. Memory must not move under a view: ctypes.resize() and
+numpy's resize(refcheck=False) move it although it is pinned.
 
 The shared object libpix_c.so is looked for at the path PIX_LIBRARY of the environment, and else in the folder of this
 package and in the one above; on a processor of x86-64-v3, libpix_c-v3.so of this package comes first, which a release

@@ -16,7 +16,7 @@ if TYPE_CHECKING:
 _convert_rows = Call("pix_convert_rows")
 
 # The greatest width and height of a picture.
-_MOST = 2**31 - 1
+MOST = 2**31 - 1
 
 
 class Bitmap:
@@ -65,7 +65,7 @@ class Bitmap:
     def is_held(self) -> bool:
         """Whether its memory holds the rows, and they share no byte."""
         wide, apart = self.width * self.format.size, abs(self.stride)
-        if self.width > _MOST or self.height > _MOST or wide > apart:
+        if self.width > MOST or self.height > MOST or wide > apart:
             return False
         room = self.memory.length - wide
         return self.height == 0 or room >= 0 and apart * (self.height - 1) <= room
@@ -133,8 +133,9 @@ def convert_bitmap(
     height), where a buffer has one dimension. Rows may lie apart and from bottom to top. Without `dst` a new bytearray is
     returned; where `dst` is `src` itself, the pixels are converted in place.
 
-    Between sRGB formats of 8 bits and linear ones of 16 bits a pixel goes through light, so that it comes back as it was
-    where its alpha is 0 with all of its colors, or 13 or more; all others are converted as by convert().
+    Between sRGB formats of 8 bits and linear ones of 16 bits a pixel goes through light, and comes back as it was where its
+    alpha is 13 or more. Below that, colors that are multiplied by it may come back as others: at an alpha of 0 they are 0.
+    All other pairs are converted as by convert().
     """
     from_, to = Format(from_), Format(to)
     width, height = (None, None) if size is None else size

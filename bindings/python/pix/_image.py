@@ -5,7 +5,7 @@ from __future__ import annotations
 import ctypes
 from typing import Any, Iterable, Optional, SupportsIndex, Tuple, Union
 
-from pix._bitmap import Bitmap, new_array, write
+from pix._bitmap import MOST, Bitmap, new_array, write
 from pix._command import Command
 from pix._files import opened, saved, shown
 from pix._fresh import zeros
@@ -85,7 +85,8 @@ class Image(View):
         height.
 
         An sRGB picture in an image of RGBA16 is in light: to_array() in the same format gives it
-        back as it was where nothing was painted, but for pixels whose alpha is from 1 to 12.
+        back as it was where nothing was painted and the alpha is 13 or more. Below that the alpha
+        comes back, and the colors may be others: at an alpha of 0 they are 0.
         """
         width, height = (None, None) if size is None else size
         source = Bitmap(array, format, width, height)
@@ -227,6 +228,11 @@ class Image(View):
             raise TypeError("the buffer is read-only")
         listed.refuse_shared(memory)
         done, size = ctypes.c_size_t(), len(listed.commands)
+        if not width or not height:  # no row is gone through: only its size and the commands are tested
+            bitmap = self._bitmap()
+            if not bitmap.is_held or max(left + width, top + height) > MOST:
+                raise PixError(Status.BAD_SIZE)
+            count = left = top = width = height = stride = 0
         arguments = memory.address, count, left, top, width, height, stride, listed.address, size, done
         is_long = width * height * size > LONG
         status = turns.take(is_long, type._calls[is_long], arguments, [memory], listed.sources)

@@ -63,12 +63,30 @@ def _pixel_size(format: Any) -> int:
     return size
 
 
-def _table(buffer: Any) -> Memory:
-    """The memory of a table of colors, of which there are enough and not too many."""
+def _table(buffer: Any, size: int) -> Memory:
+    """The memory of a table of colors, which may have none where pixels have an alpha: all of them may be below it."""
     memory = _read(buffer)
-    if not 0 < _count(memory, 3) <= ENTRIES:
+    if not (size == 3) <= _count(memory, 3) <= ENTRIES:
         raise PixError(Status.BAD_TABLE)
     return memory
+
+
+def _kept_by(match: Any) -> Any:
+    """What a function that matches does where there is no entry: it takes pixels that are all below the alpha."""
+
+    def keep(table: int, _: int, pixels: int, count: int, alpha: int, kept: int, indices: int, size: int) -> int:
+        seen = (ctypes.c_ubyte * count)()
+        match(table, 1, pixels, count, alpha, 1, ctypes.addressof(seen), count)
+        if 0 in bytes(seen):
+            return Status.BAD_TABLE
+        ctypes.memset(indices, kept, size)
+        return 0
+
+    return keep
+
+
+_keep = Call("pix_table_match_alpha")
+_keep.both = tuple(map(_kept_by, _keep.both))
 
 
 def _indices(indices: Any, count: int, *read: Memory) -> Tuple[Any, Memory]:
@@ -93,19 +111,20 @@ def map_indexed(
 
     The table has from 1 to 256 colors of three bytes: red, green and blue in sRGB. The pixels are of the format SRGB8, or of
     SRGBA8. The nearest entry, the first of equals, is the one with the least sum of the squares of the differences in red, green
-    and blue. A pixel whose alpha is below `alpha` has the index `kept`; of the others the alpha is not looked at.
+    and blue. A pixel whose alpha is below `alpha` has the index `kept`; of the others the alpha is not looked at. Where all pixels
+    are below it, the table may be empty, as table_from() makes it of them.
 
     Raises PixError where the table or the lengths don't fit, and leaves `indices` as they were.
     """
     size = _pixel_size(format)
     alpha, kept = _byte(alpha, "alpha"), _byte(kept, "index")
-    entries, source = _table(table), _read(pixels)
+    entries, source = _table(table, size), _read(pixels)
     count = _count(source, size)
     indices, target = _indices(indices, count, entries, source)
     if size == 3:
         _match(count, entries, source, target)
     else:
-        _match_alpha(count, entries, source, alpha, kept, target)
+        (_match_alpha if entries.length else _keep)(count, entries, source, alpha, kept, target)
     return indices
 
 
@@ -121,7 +140,7 @@ def table_from(
     distinct colors the table is just those, in order of first place. Else it is made by median cut. It takes work memory of three
     bytes a pixel; of a large picture pass a sample, as each tenth pixel.
 
-    Raises PixError where `length` is not from 1 to 256, or the pixels don't fit.
+    It is empty where no pixel counts. Raises PixError where `length` is not from 1 to 256, or the pixels don't fit.
     """
     size = _pixel_size(format)
     alpha, most = _byte(alpha, "alpha"), index(length)
@@ -151,18 +170,21 @@ def diffuse_indexed(
     """Does what `map_indexed` does, for a picture of rows of `width` pixels, by error diffusion.
 
     What a pixel's entry leaves of the color that was wanted there is handed on: 7 sixteenths to the pixel on the right, 3 to the
-    one below on the left, 5 to the one below, and 1 to the one below on the right (Floyd and Steinberg). A pixel whose alpha is
-    below `alpha` hands on none.
+    one below on the left, 5 to the one below, and 1 to the one below on the right (Floyd and Steinberg). What is wanted is a whole
+    number in each channel: a half is rounded up, and it is kept from 0 to 255. A pixel whose alpha is below `alpha` hands on none.
 
     Raises PixError where the table, the width or the lengths don't fit, and leaves `indices` as they were.
     """
     size = _pixel_size(format)
     alpha, kept, across = _byte(alpha, "alpha"), _byte(kept, "index"), index(width)
-    entries, source = _table(table), _read(pixels)
+    entries, source = _table(table, size), _read(pixels)
     count = _count(source, size)
     if across < 1 or count % across:
         raise PixError(Status.BAD_LENGTH)
     indices, target = _indices(indices, count, entries, source)
+    if not entries.length:
+        _keep(count, entries, source, alpha, kept, target)
+        return indices
     across = min(across, count) or 1  # a picture of no pixels may have rows of any width
     room = Memory(bytearray(3 * 4 * across))
     own = room.address, 4 * across

@@ -126,7 +126,7 @@ def repeat_image(to: _Region, source: Image, from_: Optional[_Region] = None, op
     x, y, width, height = region_of(to)
     _source(source, Image)
     left, top, wide, high = (0, 0, source.width, source.height) if from_ is None else region_of(from_)
-    if not wide or not high:
+    if not (wide and high and width and height):
         return []
     return [
         composite_image(
