@@ -99,7 +99,7 @@ def image_of(buffer, type=pix.RGBA8):
 
 
 def painted(buffer, type):
-    image_of(buffer, type).run(pix.copy_color((0, 0, 999, 999), (1,) * type.channels))
+    image_of(buffer, type).run(pix.clear())
 
 
 def read_by(buffer, type):
@@ -259,7 +259,7 @@ class Turns(unittest.TestCase):
             go.set()
             for thread in [at_work, *threads]:
                 thread.join(30)
-        self.assertEqual(len(done), len(others), "a call failed, or waits for ever")
+        self.assertEqual(len(done), len(others), f"{others} has a call that fails, or waits for ever")
         return waited
 
     def test_each_waits_for_each(self):
