@@ -39,9 +39,9 @@ void *insist_memory(void *memory) {
     return memory;
 }
 
-static pix_region line_at(pix_image_rgba16 image, lines way, uint32_t at) {
-    return way == COLUMNS ? pix_region_of((int32_t)at, 0, 1, image.height)
-                          : pix_region_of(0, (int32_t)at, image.width, 1);
+/* A line of a picture that has this many pixels along it. */
+static pix_region line_at(lines way, uint32_t at, uint32_t length) {
+    return way == COLUMNS ? pix_region_of((int32_t)at, 0, 1, length) : pix_region_of(0, (int32_t)at, length, 1);
 }
 
 /* Copies a line of the source to each line of the image: number first + i / times * step to number i. The last line
@@ -49,11 +49,12 @@ static pix_region line_at(pix_image_rgba16 image, lines way, uint32_t at) {
 static void copy_lines(pix_image_rgba16 image, pix_source_rgba16 source, lines way, uint32_t first, uint32_t times,
                        uint32_t step) {
     uint32_t count = way == COLUMNS ? image.width : image.height, all = way == COLUMNS ? source.width : source.height;
+    uint32_t length = way == COLUMNS ? image.height : image.width;
     pix_command_rgba16 *list = insist_memory(malloc((count + 1) * sizeof *list));
     for (uint32_t i = 0; i < count; i++) {
         uint32_t from = first + i / times * step;
-        list[i] =
-            pix_copy_image_rgba16(line_at(image, way, i), source, line_at(image, way, from < all ? from : all - 1));
+        list[i] = pix_copy_image_rgba16(line_at(way, i, length), source,
+                                        line_at(way, from < all ? from : all - 1, length));
     }
     insist(pix_run_rgba16(image, list, count, NULL));
     free(list);
@@ -87,6 +88,38 @@ canvas scale_down(pix_source_rgba16 source, uint32_t by) {
     canvas flat = canvas_of(source.width, height), both = canvas_of(width, height);
     mean_of_lines(canvas_image(&flat), source, ROWS, by);
     mean_of_lines(canvas_image(&both), canvas_source(&flat), COLUMNS, by);
+    canvas_free(&flat);
+    return both;
+}
+
+/* Adds up lines of the source in each line of a clear image, each at the share that it has of it: line i reaches over
+ * the i-th of the equal parts of the source. */
+static void share_lines(pix_image_rgba16 image, pix_source_rgba16 source, lines way) {
+    const uint64_t count = way == COLUMNS ? image.width : image.height;
+    const uint64_t all = way == COLUMNS ? source.width : source.height;
+    const uint32_t length = way == COLUMNS ? image.height : image.width;
+    pix_command_rgba16 *list = insist_memory(malloc((count + all + 1) * sizeof *list));
+    size_t used = 0;
+    for (uint64_t i = 0; i < count; i++) {
+        /* In parts of which a line of the source has `count`, and one of the image `all`. */
+        const uint64_t start = i * all, end = start + all;
+        for (uint64_t at = start, next; at < end; at = next) {
+            const uint64_t line = at / count;
+            next = (line + 1) * count < end ? (line + 1) * count : end;
+            const uint64_t share = 65535 * (next - start) / all - 65535 * (at - start) / all;
+            list[used++] = pix_composite_image_alpha_rgba16(
+                line_at(way, (uint32_t)i, length), source, line_at(way, (uint32_t)line, length), (uint16_t)share,
+                PIX_OP_PLUS);
+        }
+    }
+    insist(pix_run_rgba16(image, list, used, NULL));
+    free(list);
+}
+
+canvas scale_to(pix_source_rgba16 source, uint32_t width, uint32_t height) {
+    canvas flat = canvas_of(source.width, height), both = canvas_of(width, height);
+    share_lines(canvas_image(&flat), source, ROWS);
+    share_lines(canvas_image(&both), canvas_source(&flat), COLUMNS);
     canvas_free(&flat);
     return both;
 }

@@ -27,4 +27,8 @@ canvas scale_up(pix_source_rgba16 source, uint32_t times);
  * its last pixels stand for those that are missing, too. */
 canvas scale_down(pix_source_rgba16 source, uint32_t by);
 
+/* Makes a picture of this size: each of its pixels is the mean of the part of the source that it covers, of parts of
+ * pixels too. */
+canvas scale_to(pix_source_rgba16 source, uint32_t width, uint32_t height);
+
 #endif

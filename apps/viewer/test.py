@@ -24,7 +24,7 @@ from trial import PICTURES, PROGRAMS, Image, Trial, main, open_picture  # noqa: 
 
 GROUND, LIGHT, DARK, CELL = (40, 40, 44, 255), (204, 204, 204, 255), (153, 153, 153, 255), 16
 LEAF, LAKE = PICTURES / "leaf.png", PICTURES / "lake.jpg"
-REPORT = re.compile(r"(\d+) x (\d+), zoom (1/)?(\d+), at (-?\d+),(-?\d+): painted (\d+) of (\d+) pixels")
+REPORT = re.compile(r"(\d+) x (\d+), zoom (1/)?(\d+|exact), at (-?\d+),(-?\d+): painted (\d+) of (\d+) pixels")
 
 
 def board(width, height):
@@ -42,6 +42,25 @@ def light_of(level):
     return level / 255 / 12.92 if level <= 10 else ((level / 255 + 0.055) / 1.055) ** 2.4
 
 
+def covered(count, all_of):
+    """Returns for each of `count` equal parts of a line of `all_of` pixels the pixels that it covers, and how much of each."""
+    for number in range(count):
+        start, end = number * all_of / count, (number + 1) * all_of / count
+        pixels = range(int(start), min(all_of, int(end) + 1))
+        yield [(at, (min(at + 1, end) - max(at, start)) * count / all_of) for at in pixels if min(at + 1, end) > max(at, start)]
+
+
+def mean_picture(picture, size):
+    """Returns an opaque picture at another size: each pixel has the mean light of what it covers."""
+    made = Image.new("RGBA", size)
+    columns, rows = list(covered(size[0], picture.width)), list(covered(size[1], picture.height))
+    light = [[[light_of(level) for level in picture.getpixel((x, y))[:3]] for x in range(picture.width)] for y in range(picture.height)]
+    for (i, column), (j, row) in itertools.product(enumerate(columns), enumerate(rows)):
+        parts = [(light[y][x], part * share) for x, part in column for y, share in row]
+        made.putpixel((i, j), (*(level_of(sum(color[n] * part for color, part in parts)) for n in range(3)), 255))
+    return made
+
+
 def level_of(light):
     """Returns the level of sRGB that is nearest to a light."""
     return round(255 * (12.92 * light if light <= 0.0031308 else 1.055 * light ** (1 / 2.4) - 0.055))
@@ -52,13 +71,14 @@ class Viewer(Trial):
 
     program = (PROGRAMS / "viewer",)
 
-    def shown(self, file, size, words="", **more):
+    def shown(self, file, size, words="", options=(), **more):
         """Returns what the window shows after these words, and the lines of the report."""
         saved = self.folder / "shown.png"
-        ran = self.run_program("--size", "%dx%d" % size, "--report", "--play", words, "--save", saved, file, **more)
+        ran = self.run_program("--size", "%dx%d" % size, "--report", "--play", words, "--save", saved, *options, file, **more)
         lines = [REPORT.fullmatch(line) for line in ran.stdout.splitlines()]
         self.assertTrue(all(lines), ran.stdout)
-        places = [([int(n) for n in line.group(1, 2, 5, 6, 7)], (-1 if line[3] else 1) * int(line[4])) for line in lines]
+        zooms = [0 if line[4] == "exact" else (-1 if line[3] else 1) * int(line[4]) for line in lines]
+        places = [([int(n) for n in line.group(1, 2, 5, 6, 7)], zoom) for line, zoom in zip(lines, zooms)]
         return open_picture(saved), places
 
     def noisy(self, width, height, alpha=255):
@@ -79,13 +99,11 @@ class Viewer(Trial):
     def test_all_kinds_of_files(self):
         noisy = self.noisy(40, 30)
         gray = noisy.convert("L")
-        for name, kind in [("gray.png", gray), ("wide.png", gray.convert("I")), ("table.png", noisy.convert("P")), ("gray.jpg", gray)]:
+        wide = gray.convert("I").point(lambda level: level * 257)
+        for name, kind in [("gray.png", gray), ("wide.png", wide), ("table.png", noisy.convert("P")), ("gray.jpg", gray)]:
             path = self.picture(name, kind)
             wanted = gray.convert("RGBA") if name == "wide.png" else open_picture(path)
-            if name != "wide.png":
-                self.assert_same(self.shown(path, (40, 30))[0], wanted, most=2)
-            else:
-                self.shown(path, (40, 30))
+            self.assert_same(self.shown(path, (40, 30))[0], wanted, most=2)
 
     def test_over_the_checkerboard(self):
         """Where a picture is clear the board is seen, and around it the ground."""
@@ -119,6 +137,116 @@ class Viewer(Trial):
                     means = [sum(map(light_of, channel)) / zoom**2 for channel in colors]
                     wanted.putpixel((x, y), (*map(level_of, means), 255))
             self.assert_same(picture, wanted, most=1)
+
+    def test_fitted_exactly(self):
+        """A picture is as large as the window in one direction, and each pixel is the mean light of what it covers."""
+        for size, window, fitted in (((24, 15), (31, 40), (31, 19)), ((50, 31), (23, 9), (15, 9)), ((3, 2), (20, 20), (20, 13)), ((9, 9), (9, 9), (9, 9))):
+            noisy = self.noisy(*size)
+            picture, places = self.shown(self.picture("noisy.png", noisy), window, "e")
+            left, top = (window[0] - fitted[0]) // 2, (window[1] - fitted[1]) // 2
+            self.assertEqual(places[-1][0][2:4], [left, top])
+            wanted = Image.new("RGBA", window, GROUND)
+            wanted.paste(mean_picture(noisy, fitted), (left, top))
+            self.assert_same(picture, wanted, most=1)
+
+    def test_a_fit_follows_the_window(self):
+        """What fits exactly goes on to fit, and zooming goes on to the whole factors beside it."""
+        path = self.picture("noisy.png", self.noisy(20, 10))
+        _, places = self.shown(path, (50, 50), "e 30x30 +")
+        self.assertEqual([(place[:4], zoom) for place, zoom in places[-3:]], [([50, 50, 0, 12], 0), ([30, 30, 0, 7], 0), ([30, 30, -5, 5], 2)])
+        _, places = self.shown(path, (50, 50), "e -")
+        self.assertEqual(places[-1][1], 2)
+        picture, places = self.shown(path, (50, 50), "e Left Up + -")
+        self.assertEqual([zoom for _, zoom in places], [1, 0, 3, 2])
+        again, _ = self.shown(path, (50, 50), "", options=["--exact"])
+        self.assert_same(again, self.shown(path, (50, 50), "e")[0])
+
+    def test_turned_by_keys(self):
+        noisy = self.noisy(20, 15)
+        path = self.picture("noisy.png", noisy)
+        for words, ways in (
+            ("r", [Image.ROTATE_270]), ("l", [Image.ROTATE_90]), ("m", [Image.FLIP_LEFT_RIGHT]), ("r r", [Image.ROTATE_180]), ("r l", []),
+            ("r m", [Image.ROTATE_270, Image.FLIP_LEFT_RIGHT]), ("m r", [Image.FLIP_LEFT_RIGHT, Image.ROTATE_270]),
+        ):  # fmt: skip
+            wanted = noisy
+            for way in ways:
+                wanted = wanted.transpose(way)
+            with self.subTest(words=words):
+                self.assert_same(self.shown(path, (20, 15), words + " %dx%d" % wanted.size)[0], wanted)
+        # A turn keeps the zoom, or the fit, and the middle.
+        self.assertEqual(self.shown(path, (50, 50), "f r")[1][-1][0][2:4], [10, 5])
+        self.assertEqual(self.shown(path, (50, 50), "e r")[1][-1], ([50, 50, 6, 0, 2500], 0))
+        self.assertEqual(self.shown(path, (20, 20), "+ + r")[1][-1], ([20, 20, -12, -20, 400], 3))
+
+    def plain(self, name, color):
+        """Returns the path of a picture of one color, as large as the window of the tests below."""
+        return self.picture(name, Image.new("RGBA", (8, 8), color), format="PNG")
+
+    def color_after(self, words, *files, said=""):
+        """Returns the color that the window shows after these words."""
+        saved = self.folder / "shown.out"
+        command = [*self.program, "--size", "8x8", "--play", words, "--save", saved, *files]
+        environment = {"SDL_VIDEODRIVER": "dummy", **os.environ}
+        ran = subprocess.run(list(map(str, command)), capture_output=True, text=True, env=environment)
+        self.assertEqual((ran.returncode, ran.stdout), (0, ""), ran.stderr)
+        self.assertEqual([line for line in ran.stderr.splitlines() if line.startswith("viewer: ") and not said], [])
+        self.assertIn(said, ran.stderr)
+        return open_picture(saved).getpixel((4, 4))
+
+    def test_the_next_picture(self):
+        """Next and previous go round the pictures of the folder, in the order of numbers, and past what can't be read."""
+        colors = [(250, 10, 20, 255), (30, 240, 50, 255), (60, 70, 230, 255)]
+        first, second, third = map(self.plain, ("a1.png", "a2.png", "a10.PNG"), colors)
+        self.file("a.txt", b"no picture")
+        (self.folder / "a5.png").mkdir()
+        self.addCleanup(os.chdir, os.getcwd())
+        os.chdir(self.folder)
+        for words, start, number in (
+            ("n", first, 1), ("Space", second, 2), ("PageDown", third, 0), ("p", first, 2), ("Backspace", second, 0), ("PageUp", third, 1),
+            ("Home", third, 0), ("End", first, 2), ("n n n", second, 1), ("n p", second, 1), ("", second, 1), ("n", second.name, 2),
+            ("n r n l", first, 2), ("Home", first, 0), ("n", "./a2.png", 2),
+        ):  # fmt: skip
+            with self.subTest(words=words, start=start):
+                self.assertEqual(self.color_after(words, start), colors[number])
+        self.file("a3.png", b"no picture")
+        self.assertEqual(self.color_after("n", second, said="a3.png: this is neither"), colors[2])
+        self.assertEqual(self.color_after("p", third, said="a3.png: this is neither"), colors[1])
+
+    def test_named_pictures(self):
+        """Files that are named are the only ones, in their order; and of a folder all are shown, from the first one."""
+        colors = [(250, 10, 20, 255), (30, 240, 50, 255), (60, 70, 230, 255)]
+        first, second, third = map(self.plain, ("a1.png", "a2.png", "other"), colors)
+        for words, files, number in (
+            ("", [third, first], 2), ("n", [third, first], 0), ("n n", [third, first], 2), ("", [self.folder], 0), ("End", [self.folder], 1),
+            ("n n", [self.folder], 0), ("n", [third, self.folder], 0), ("p", [third, self.folder], 1), ("n", [third], 0), ("p", [third], 1),
+        ):  # fmt: skip
+            with self.subTest(words=words, files=files):
+                self.assertEqual(self.color_after(words, *files), colors[number])
+        (self.folder / "empty").mkdir()
+        self.refuses(1, "there is no picture in this folder", self.folder / "empty")
+        self.file("a0.png", b"no picture")
+        self.assertEqual(self.color_after("", self.folder, said="a0.png: this is neither"), colors[0])
+
+    def test_the_next_picture_fits(self):
+        """Where a picture fitted the next one does, and else it is shown as one is that is opened."""
+        self.picture("1.png", self.noisy(20, 10))
+        self.picture("2.png", self.noisy(10, 30))
+        for words, zooms in (("n", [1, 1]), ("f n", [1, 2, 1]), ("e n", [1, 0, 0]), ("+ + + n", [1, 2, 3, 4, 1]), ("e n p", [1, 0, 0, 0])):
+            with self.subTest(words=words):
+                self.assertEqual([zoom for _, zoom in self.shown(self.folder / "1.png", (40, 40), words)[1]], zooms)
+
+    def test_full_screen(self):
+        """The window is as large as the screen, and then as before; Escape goes back, and ends the program from there."""
+        path = self.picture("noisy.png", self.noisy(20, 10))
+        with self.x_server(24) as environment:
+            for words, options, sizes in (
+                ("F11", [], [(50, 40), (400, 300)]), ("F11 Return", [], [(50, 40), (400, 300), (50, 40)]),
+                ("F11 Escape Left e", [], [(50, 40), (400, 300), (50, 40), (50, 40)]), ("Escape F11", [], [(50, 40)]),
+                ("Escape", ["--full"], [(400, 300), (50, 40)]),
+            ):  # fmt: skip
+                with self.subTest(words=words, options=options):
+                    _, places = self.shown(path, (50, 40), words, options=options, env=environment)
+                    self.assertEqual([tuple(place[:2]) for place, _ in places], sizes)
 
     def test_half_over_the_board(self):
         """What is half transparent lets half of the board's light through."""
@@ -219,7 +347,7 @@ class Viewer(Trial):
 
     def test_wrong_uses(self):
         for sentence, *words in [
-            ("name a PNG or JPEG file",), ("one file is shown at a time", LEAF, LEAF), ("--wide: there is no such option", "--wide", LEAF),
+            ("name a PNG or JPEG file",), ("--wide: there is no such option", "--wide", LEAF),
             ("--size: a value is missing", LEAF, "--size"), ("a size is WxH", "--size", "0x4", LEAF), ("a size is WxH", "--size", "9", LEAF),
             ("a size is WxH", "--size", "9x9x9", LEAF), ("a size is WxH", "--size", "16385x9", LEAF),
             ("no key has this name", "--play", "Hop", LEAF), ("no key has this name", "--play", "wait=-1", LEAF),
@@ -229,15 +357,15 @@ class Viewer(Trial):
 
     def test_files_that_cannot_be_shown(self):
         leaf, lake = LEAF.read_bytes(), LAKE.read_bytes()
-        ink = self.picture("ink.jpg", Image.new("CMYK", (9, 9)))
         huge = bytearray(leaf)
+        (self.folder / "empty").mkdir()
         huge[16:24] = struct.pack(">II", 999999, 999999)
         for sentence, file in [
-            ("No such file", self.folder / "none.png"), ("Is a directory", self.folder),
+            ("No such file", self.folder / "none.png"), ("there is no picture", self.folder / "empty"),
             ("neither a PNG nor a JPEG", self.file("empty.png", b"")), ("neither a PNG nor a JPEG", self.file("words.png", b"words and words")),
             ("cut.png", self.file("cut.png", leaf[:2000])), ("cut.jpg", self.file("cut.jpg", lake[:2000])),
             ("bare.png", self.file("bare.png", leaf[:8])), ("bare.jpg", self.file("bare.jpg", lake[:4])),
-            ("ink.jpg", ink), ("huge.png", self.file("huge.png", bytes(huge))),
+            ("huge.png", self.file("huge.png", bytes(huge))),
         ]:  # fmt: skip
             self.refuses(1, sentence, "--play", "", file)
 

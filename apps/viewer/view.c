@@ -27,17 +27,53 @@ pix_bitmap view_bitmap(SDL_Surface *screen) {
 
 static void settle(view *it) {
     place *to = &it->wanted;
-    to->x = settled(to->x, scaled(it->picture.width, to->zoom), to->width);
-    to->y = settled(to->y, scaled(it->picture.height, to->zoom), to->height);
+    to->x = settled(to->x, to->wide, to->width);
+    to->y = settled(to->y, to->high, to->height);
+}
+
+/* The side of a picture beside one that is `fitted`: at least 1. */
+static uint32_t beside(uint32_t side, uint32_t other, uint32_t fitted) {
+    const uint64_t exact = ((uint64_t)side * fitted + other / 2) / other;
+    return exact ? (uint32_t)exact : 1;
+}
+
+/* Sets a zoom, and how large the picture is by it. */
+static void set_zoom(view *it, int zoom) {
+    place *to = &it->wanted;
+    const uint32_t width = it->picture.width, height = it->picture.height;
+    const int is_wider = (uint64_t)width * to->height >= (uint64_t)height * to->width;
+    to->zoom = zoom;
+    to->wide = zoom ? scaled(width, zoom) : is_wider ? to->width : beside(width, height, to->height);
+    to->high = zoom ? scaled(height, zoom) : is_wider ? beside(height, width, to->width) : to->height;
+}
+
+/* Forgets what was painted and made of a picture. */
+static void set_picture(view *it, pix_source_rgba16 picture) {
+    canvas_free(&it->shrunk);
+    memset(&it->painted, 0, sizeof it->painted);
+    it->picture = picture;
+}
+
+void view_show(view *it, pix_source_rgba16 picture) {
+    set_picture(it, picture);
+    view_fit(it, it->fits ? it->fits : 1);
+}
+
+void view_show_turned(view *it, pix_source_rgba16 picture) {
+    place *to = &it->wanted;
+    set_picture(it, picture);
+    set_zoom(it, to->zoom);
+    to->x = ((int32_t)to->width - (int32_t)to->wide) / 2;
+    to->y = ((int32_t)to->height - (int32_t)to->high) / 2;
+    if (it->fits)
+        view_fit(it, it->fits);
 }
 
 void view_open(view *it, pix_source_rgba16 picture, uint32_t width, uint32_t height) {
     memset(it, 0, sizeof *it);
-    it->picture = picture;
-    it->wanted.zoom = 1;
     it->wanted.width = width;
     it->wanted.height = height;
-    view_fit(it, 1);
+    view_show(it, picture);
 }
 
 void view_close(view *it) {
@@ -61,8 +97,20 @@ void view_pan(view *it, int32_t dx, int32_t dy) {
     settle(it);
 }
 
+/* The greatest zoom up to `most` at which the picture is no larger than this. */
+static int zoom_within(const view *it, int most, uint32_t width, uint32_t height) {
+    int zoom = most;
+    while (zoom > LEAST_ZOOM && (scaled(it->picture.width, zoom) > width || scaled(it->picture.height, zoom) > height))
+        zoom = zoom == 1 ? -2 : zoom - 1;
+    return zoom;
+}
+
 int view_next_zoom(const view *it, int steps) {
-    int zoom = it->wanted.zoom;
+    const place *from = &it->wanted;
+    int zoom = from->zoom ? from->zoom : zoom_within(it, MOST_ZOOM, from->wide, from->high);
+    /* What fits exactly lies between two whole factors. */
+    if (steps < 0 && (scaled(it->picture.width, zoom) < from->wide || scaled(it->picture.height, zoom) < from->high))
+        steps++;
     for (; steps > 0 && zoom < MOST_ZOOM; steps--)
         zoom = zoom == -2 ? 1 : zoom + 1;
     for (; steps < 0 && zoom > LEAST_ZOOM; steps++)
@@ -71,12 +119,8 @@ int view_next_zoom(const view *it, int steps) {
 }
 
 void view_fit(view *it, int most) {
-    place *to = &it->wanted;
-    int zoom = most;
-    while (zoom > LEAST_ZOOM &&
-           (scaled(it->picture.width, zoom) > to->width || scaled(it->picture.height, zoom) > to->height))
-        zoom = zoom == 1 ? -2 : zoom - 1;
-    view_zoom(it, zoom, 0, 0);
+    const place *to = &it->wanted;
+    view_zoom(it, most == EXACTLY ? 0 : zoom_within(it, most, to->width, to->height), 0, 0);
     it->fits = most;
 }
 
@@ -87,10 +131,10 @@ static int32_t about(int32_t fixed, int32_t at, uint32_t before, uint32_t after)
 
 void view_zoom(view *it, int zoom, int32_t x, int32_t y) {
     place *to = &it->wanted;
-    pix_source_rgba16 picture = it->picture;
-    to->x = about(x, to->x, scaled(picture.width, to->zoom), scaled(picture.width, zoom));
-    to->y = about(y, to->y, scaled(picture.height, to->zoom), scaled(picture.height, zoom));
-    to->zoom = zoom;
+    const place before = *to;
+    set_zoom(it, zoom);
+    to->x = about(x, before.x, before.wide, to->wide);
+    to->y = about(y, before.y, before.high, to->high);
     it->fits = 0;
     settle(it);
 }
@@ -105,6 +149,12 @@ static uint32_t seen(int32_t at, int zoom, uint32_t side, int32_t from, uint32_t
     return (uint32_t)first;
 }
 
+/* Whether the picture at the wanted size was made before. */
+static int is_shrunk(const view *it) {
+    return it->shrunk.pixels && it->shrunk_at == it->wanted.zoom && it->shrunk.width == it->wanted.wide &&
+           it->shrunk.height == it->wanted.high;
+}
+
 /* The picture as it is seen in a part of the window, with where it lies there; `made` is to be freed after its use. */
 static pix_source_rgba16 shown(view *it, pix_region part, pix_region *to, canvas *made) {
     const place *at = &it->wanted;
@@ -113,13 +163,13 @@ static pix_source_rgba16 shown(view *it, pix_region part, pix_region *to, canvas
         *to = pix_region_of(at->x, at->y, source.width, source.height);
         return source;
     }
-    if (at->zoom < 0) {
-        if (it->shrunk_at != at->zoom) {
+    if (at->zoom <= 0) {
+        if (!is_shrunk(it)) {
             canvas_free(&it->shrunk);
-            it->shrunk = scale_down(source, (uint32_t)-at->zoom);
+            it->shrunk = at->zoom ? scale_down(source, (uint32_t)-at->zoom) : scale_to(source, at->wide, at->high);
             it->shrunk_at = at->zoom;
         }
-        *to = pix_region_of(at->x, at->y, it->shrunk.width, it->shrunk.height);
+        *to = pix_region_of(at->x, at->y, at->wide, at->high);
         return canvas_source(&it->shrunk);
     }
     uint32_t width, height, left = seen(at->x, at->zoom, source.width, part.x, part.width, &width);
@@ -164,8 +214,7 @@ static void paint_part(view *it, pix_region part) {
     canvas tile = canvas_of(part.width, part.height), made = {NULL, 0, 0};
     pix_region frame;
     pix_source_rgba16 source = shown(it, part, &frame, &made);
-    pix_region picture =
-        pix_region_of(at->x, at->y, scaled(it->picture.width, at->zoom), scaled(it->picture.height, at->zoom));
+    pix_region picture = pix_region_of(at->x, at->y, at->wide, at->high);
     size_t most = (size_t)(part.width / CELL + 2) * (part.height / CELL + 2) + 3, count = 0;
     pix_command_rgba16 *list = insist_memory(malloc(most * sizeof *list));
     list[count++] = pix_copy_color_rgba16(part, pix_color_of_rgba16(PIX_FORMAT_SRGB8, GROUND));
@@ -190,7 +239,8 @@ static pix_image rows_of(SDL_Surface *screen) {
 /* Moves what was painted to where it is wanted on a new screen, and answers the part of the window that it covers. */
 static SDL_Rect move_screen(view *it, SDL_Surface *screen) {
     SDL_Rect covered = {0, 0, 0, 0};
-    if (it->screen && it->painted.zoom == it->wanted.zoom) {
+    if (it->screen && it->painted.zoom == it->wanted.zoom && it->painted.wide == it->wanted.wide &&
+        it->painted.high == it->wanted.high) {
         SDL_Rect old = {it->wanted.x - it->painted.x, it->wanted.y - it->painted.y, it->screen->w, it->screen->h};
         SDL_Rect all = {0, 0, screen->w, screen->h};
         SDL_IntersectRect(&old, &all, &covered);
