@@ -2,6 +2,7 @@
 
 #include <errno.h>
 #include <png.h>
+#include <setjmp.h>
 #include <stdlib.h>
 #include <string.h>
 
@@ -20,30 +21,68 @@ static int png_orientation(FILE *file) {
     return 1;
 }
 
-/* libpng's simplified interface answers sRGB with a straight alpha, whatever the file has. Values of 16 bits are sRGB
- * too, where the file says nothing else: without the flag they would be taken as light, and shown far too bright. */
+/* What libpng does at an error: it jumps back, with the sentence. */
+typedef struct {
+    jmp_buf back;
+    char text[FILE_SENTENCE];
+} png_errors;
+
+static void png_failed(png_structp png, png_const_charp what) {
+    png_errors *errors = png_get_error_ptr(png);
+    snprintf(errors->text, sizeof errors->text, "%s", what);
+    longjmp(errors->back, 1);
+}
+
+static void png_warned(png_structp png, png_const_charp what) {
+    (void)png;
+    (void)what;
+}
+
+/* Asks for sRGB of 8 bits with a straight alpha, whatever the file has. Its values are sRGB too, those of 16 bits among
+ * them, where it says nothing else. */
+static void ask_for_bytes(png_structp png) {
+    png_set_alpha_mode(png, PNG_ALPHA_PNG, PNG_DEFAULT_sRGB);
+    png_set_expand(png);
+    png_set_scale_16(png);
+    png_set_gray_to_rgb(png);
+    png_set_add_alpha(png, 255, PNG_FILLER_AFTER);
+}
+
+/* Decodes into memory that stands in `picture` whatever happens. libpng's simplified interface is of no use here: some
+ * versions of it mix up the rows of interlaced files of 16 bits. */
+static int decode_png(png_structp png, png_infop info, file_picture *picture) {
+    png_read_info(png, info);
+    ask_for_bytes(png);
+    const int passes = png_set_interlace_handling(png);
+    png_read_update_info(png, info);
+    const size_t width = picture->width = png_get_image_width(png, info);
+    picture->height = png_get_image_height(png, info);
+    if (png_get_rowbytes(png, info) != 4 * width || picture->height > UINT32_MAX / (4 * width))
+        return 0;
+    picture->bytes = malloc(4 * width * picture->height);
+    for (int pass = 0; picture->bytes && pass < passes; pass++)
+        for (uint32_t y = 0; y < picture->height; y++)
+            png_read_row(png, picture->bytes + 4 * width * y, NULL);
+    return picture->bytes != NULL;
+}
+
 int file_read_png(FILE *file, const char *name, file_picture *picture, int *orientation, char sentence[FILE_SENTENCE]) {
-    png_image png;
-    memset(&png, 0, sizeof png);
-    png.version = PNG_IMAGE_VERSION;
-    if (!png_image_begin_read_from_stdio(&png, file))
-        return file_refuse(sentence, name, png.message);
-    png.format = PNG_FORMAT_RGBA;
-    png.flags |= PNG_IMAGE_FLAG_16BIT_sRGB;
-    picture->width = png.width;
-    picture->height = png.height;
-    picture->bytes = malloc(PNG_IMAGE_SIZE(png));
-    if (!picture->bytes) {
-        png_image_free(&png);
-        return file_refuse(sentence, name, NO_MEMORY);
+    png_errors errors = {.text = NO_MEMORY};
+    volatile int is_read = 0;
+    png_structp png = png_create_read_struct(PNG_LIBPNG_VER_STRING, &errors, png_failed, png_warned);
+    png_infop info = png ? png_create_info_struct(png) : NULL;
+    if (info && !setjmp(errors.back)) {
+        png_init_io(png, file);
+        is_read = decode_png(png, info, picture);
     }
-    if (!png_image_finish_read(&png, NULL, picture->bytes, 0, NULL) || PNG_IMAGE_FAILED(png)) {
-        free(picture->bytes);
-        picture->bytes = NULL;
-        return file_refuse(sentence, name, png.message);
+    png_destroy_read_struct(&png, &info, NULL);
+    if (is_read) {
+        *orientation = png_orientation(file);
+        return 1;
     }
-    *orientation = png_orientation(file);
-    return 1;
+    free(picture->bytes);
+    picture->bytes = NULL;
+    return file_refuse(sentence, name, errors.text);
 }
 
 /* What is written goes through a file of our own: libpng's own way by a name deletes what it could not write, be it a

@@ -28,10 +28,36 @@ class Picture:
         return (0, 0, *self.size)
 
 
-def pixels_of(picture):
-    """Returns the bytes of a picture of Pillow. Of a gray of 16 bits, which Pillow would cut off at 255, the upper eight count."""
+# How a level of a color that a PNG makes clear becomes one of Pillow's pixels, by their kind in the file: Pillow tells it in the
+# file's own bits, and widens or cuts the pixels.
+CLEAR_LEVELS = {"L;2": lambda level: level * 85, "L;4": lambda level: level * 17, "RGB;16B": lambda level: level >> 8}
+
+
+def clear_color(file):
+    """Returns the color that a picture has for clear pixels, as those have it, or None."""
+    clear = file.info.get("transparency")
+    kind = file.tile[0][3] if file.format == "PNG" and file.tile else None
+    change = CLEAR_LEVELS.get(kind) if isinstance(kind, str) else None
+    if clear is None or change is None:
+        return clear
+    return tuple(map(change, clear)) if isinstance(clear, tuple) else change(clear)
+
+
+def gray_pixels(picture, clear):
+    """Returns the bytes of a gray of 16 bits, which Pillow would cut off at 255; pixels of the level `clear` are clear."""
+    levels = picture.convert("I;16").tobytes()
+    pixels = bytearray(pix.convert_bitmap(pix.Format.GRAY16, levels, pix.Format.RGBA8, size=picture.size))
+    if clear is not None:
+        pixels[3::4] = bytes(0 if level == clear else 255 for level, in struct.iter_unpack("=H", levels))
+    return pixels
+
+
+def pixels_of(picture, clear):
+    """Returns the bytes of a picture of Pillow, of which pixels of the color `clear` are clear."""
     if picture.mode == "I" or picture.mode.startswith("I;16"):
-        return pix.convert_bitmap(pix.Format.GRAY16, picture.convert("I;16").tobytes(), pix.Format.RGBA8, size=picture.size)
+        return gray_pixels(picture, clear)
+    if picture.mode in ("L", "RGB") and clear is not None:
+        picture.info["transparency"] = clear
     return picture.convert("RGBA").tobytes()
 
 
@@ -39,8 +65,9 @@ def read(name, ground=None):
     """Returns the picture of a file, the first one of several, the right way up; over a color of sRGB where one is given."""
     try:
         with PIL.Image.open(name) as file:
+            clear = clear_color(file)
             upright = PIL.ImageOps.exif_transpose(file)
-            picture = Picture(upright.size, bytes(pixels_of(upright)))
+            picture = Picture(upright.size, bytes(pixels_of(upright, clear)))
     except PIL.UnidentifiedImageError:
         raise PictureError(f"{name}: Pillow knows no such picture") from None
     except OSError as error:

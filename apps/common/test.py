@@ -1,0 +1,158 @@
+#!/usr/bin/env python3
+"""Tries all programs on odd files: each draws of a file what it draws of a plain PNG of the picture that Pillow makes of it.
+
+    test.py [TEST..]
+
+It needs Pillow, and the programs in the folder that APPS names: tools/apps builds them and runs this.
+"""
+
+import os
+import pathlib
+import subprocess
+import sys
+import time
+
+sys.path.insert(0, str(pathlib.Path(__file__).resolve().parent))
+from trial import PROGRAMS, TOP, Image, Trial, main, open_picture  # noqa: E402
+
+sys.path.insert(0, str(TOP / "bindings/python"))
+import odd_files  # noqa: E402
+
+# What the programs in C read, by the names of the odd files, and what they say of the others.
+READ = {".png": "PNG", ".jpg": "JPEG", ".gif": "GIF", ".webp": "WebP"}
+ENCODER = (sys.executable, TOP / "apps/encoder/encode.py")
+HELPS = [
+    *((PROGRAMS / name,) for name in ("viewer", "sprites", "text")), ENCODER,
+    *((sys.executable, TOP / "apps" / name) for name in ("common/gallery.py", "pictures/draw.py")),
+    *((sys.executable, TOP / "apps" / name / "test.py") for name in ("common", "viewer", "sprites", "text", "encoder")),
+]  # fmt: skip
+
+
+def nearness(name):
+    """Returns by how much a channel may differ: decoders of JPEG and WebP do, and Pillow cuts 16 bits where others round them."""
+    return 3 if name.endswith((".jpg", ".webp")) else 2 if "alpha16" in name else 1
+
+
+class OddFiles(Trial):
+    """Each program reads each file as Pillow does, or refuses it by a sentence where Pillow refuses it."""
+
+    def setUp(self):
+        super().setUp()
+        self.files = odd_files.make(self.folder / "odd")
+        (self.folder / "made").mkdir()
+        self.kinds = subprocess.run([PROGRAMS / "viewer", "--help"], capture_output=True, text=True).stdout
+
+    def plain(self, file):
+        """Returns the path of a PNG of 8 bits with what Pillow makes of a file."""
+        return self.picture("plain-" + file.path.stem + ".png", odd_files.pillow_picture(file.path))
+
+    def is_read(self, file):
+        """Whether the programs in C are to read a file."""
+        return bool(file.size) and READ.get(file.path.suffix, "no such") in self.kinds
+
+    def compare(self, command):
+        """The command, which takes a file and answers a picture, answers the same for a file and for the plain one."""
+        read = 0
+        for file in self.files:
+            with self.subTest(file=file.path.name, what=file.what):
+                if self.is_read(file):
+                    wanted, seen = command(self.plain(file), file.size), command(file.path, file.size)
+                    self.assert_same(seen, wanted, nearness(file.path.name))
+                    read += 1
+                else:
+                    self.refuses(1, file.path.name + ": ", *self.words(file.path, file.size))
+        self.assertGreater(read, 40)
+
+    def words(self, file, size):
+        """The words by which the program reads a file, of a class below."""
+        raise NotImplementedError
+
+    def drawn(self, file, size):
+        """Returns the picture that the program makes of a file."""
+        self.run_program(*self.words(file, size))
+        return open_picture(self.folder / "made.png")
+
+
+class OfViewer(OddFiles):
+    """In a window as large as the picture, which an opaque one fills."""
+
+    program = (PROGRAMS / "viewer",)
+
+    def words(self, file, size):
+        sides = "%dx%d" % (min(16384, size[0]), min(16384, size[1])) if size else "9x9"
+        return ("--size", sides, "--play", "1", "--save", self.folder / "made.png", file)
+
+    def test_odd_files(self):
+        self.compare(self.drawn)
+
+    def test_what_is_known(self):
+        """Opaque pictures whose pixels are known without a decoder are shown by just these."""
+        known = [file for file in self.files if file.rgba and set(file.rgba[3::4]) == {255} and self.is_read(file)]
+        for file in known:
+            if max(file.size) <= 16384:
+                with self.subTest(file=file.path.name):
+                    self.assert_same(self.drawn(file.path, file.size), Image.frombytes("RGBA", file.size, file.rgba), 1)
+        self.assertGreater(len(known), 10)
+
+
+class OfSprites(OddFiles):
+    """As an atlas: a few sprites over the sky."""
+
+    program = (PROGRAMS / "sprites",)
+
+    def words(self, file, size):
+        return ("--count", 9, "--size", "90x60", "--frames", 1, "--save", self.folder / "made.png", file)
+
+    def test_odd_files(self):
+        self.compare(self.drawn)
+
+
+class OfText(OddFiles):
+    """As a photograph under a word."""
+
+    program = (PROGRAMS / "text",)
+
+    def words(self, file, size):
+        return ("--size", 8, "--photo", file, "--save", self.folder / "made.png", "i")
+
+    def test_odd_files(self):
+        self.compare(self.drawn)
+
+
+class OfEncoder(OddFiles):
+    """Which reads by Pillow, and so all of them."""
+
+    program = ENCODER
+
+    def is_read(self, file):
+        return bool(file.size)
+
+    def words(self, file, size):
+        return ("--into", self.folder / "made", file)
+
+    def drawn(self, file, size):
+        self.run_program(*self.words(file, size))
+        return open_picture(self.folder / "made" / (file.stem + ".png"))
+
+    def test_odd_files(self):
+        self.compare(self.drawn)
+
+
+class Helps(Trial):
+    """--help of every program and script answers in a second what it does, needs and takes, and does nothing else."""
+
+    def test_help(self):
+        bare = {**os.environ, "PYTHONPATH": "", "PIX_LIBRARY": "/none", "DISPLAY": "", "APPS": "/none"}
+        for command in HELPS:
+            with self.subTest(command=command[-1]):
+                start = time.monotonic()
+                ran = subprocess.run([*command, "--help"], capture_output=True, text=True, cwd=self.folder, env=bare)
+                self.assertLess(time.monotonic() - start, 1)
+                self.assertEqual((ran.returncode, ran.stderr), (0, ""))
+                self.assertRegex(ran.stdout.lower(), "needs")
+                self.assertGreater(len(ran.stdout.splitlines()), 3)
+                self.assertEqual(list(self.folder.iterdir()), [])
+
+
+if __name__ == "__main__":
+    main()
