@@ -7,7 +7,7 @@ import re
 from fractions import Fraction
 
 MAX = 255
-WIDTH, HEIGHT, SIDE, RADIUS, SQUARE = 120, 90, 56, 12, 8
+WIDTH, SIDE, RADIUS, SQUARE = 120, 56, 12, 8
 GRAYS = {"light": (255, 226), "dark": (64, 44)}
 
 
@@ -84,44 +84,62 @@ def premultiplied(color, is_light):
     return tuple(product(decoded(channel) if is_light else channel, color[3]) for channel in color[:3]) + (color[3],)
 
 
+def whole(number):
+    """Returns a number, to the nearest whole one; a half is rounded up."""
+    return math.floor(number + 0.5)
+
+
 @functools.lru_cache(maxsize=None)
-def covered(is_inside, x, y):
-    """Returns how much of a pixel of a shape is covered, by sixteen points."""
-    points = [(x + (2 * i + 1) / 8, y + (2 * j + 1) / 8) for i in range(4) for j in range(4)]
-    return math.floor(MAX * sum(is_inside(*point) for point in points) / 16 + 0.5)
+def covers(is_inside, scale):
+    """Returns how much of each pixel of a shape is covered, by sixteen points in each, where a step is so many pixels: its rows."""
+    side, radius = whole(SIDE * scale), whole(RADIUS * scale)
+    points = [(2 * i + 1) / 8 for i in range(4)]
+    return [
+        [whole(MAX * sum(is_inside(x + i, y + j, side, radius) for i in points for j in points) / 16) for x in range(side)]
+        for y in range(side)
+    ]  # fmt: skip
 
 
-def in_disc(x, y):
+def in_disc(x, y, side, _):
     """Returns whether a point lies in the destination's shape."""
-    return math.hypot(x - SIDE / 2, y - SIDE / 2) < SIDE / 2
+    return math.hypot(x - side / 2, y - side / 2) < side / 2
 
 
-def in_square(x, y):
+def in_square(x, y, side, radius):
     """Returns whether a point lies in the source's shape: its corners are round."""
-    beyond = [max(RADIUS - t, t - (SIDE - RADIUS), 0) for t in (x, y)]
-    return math.hypot(*beyond) < RADIUS
+    beyond = [max(radius - t, t - (side - radius), 0) for t in (x, y)]
+    return math.hypot(*beyond) < radius
 
 
-def shape(is_inside, place, color, is_light):
-    """Returns a picture with one shape: its rows of pixels."""
+def shape(is_inside, place, color, is_light, size):
+    """Returns a picture of so many pixels with one shape at a place in steps: its rows of pixels."""
+    (width, height), scale = size, size[0] / WIDTH
     full = premultiplied(color, is_light)
-    rows = [[(0, 0, 0, 0)] * WIDTH for _ in range(HEIGHT)]
-    for y in range(max(0, place[1]), min(HEIGHT, place[1] + SIDE)):
-        for x in range(max(0, place[0]), min(WIDTH, place[0] + SIDE)):
-            cover = covered(is_inside, x - place[0], y - place[1])
-            rows[y][x] = tuple(product(channel, cover) for channel in full)
+    colors = [tuple(product(channel, cover) for channel in full) for cover in range(MAX + 1)]
+    left, top = (whole(step * scale) for step in place)
+    rows = [[(0, 0, 0, 0)] * width for _ in range(height)]
+    for y, row in enumerate(covers(is_inside, scale), top):
+        if 0 <= y < height:
+            for x in range(max(0, left), min(width, left + len(row))):
+                rows[y][x] = colors[row[x - left]]
     return rows
 
 
-def shown(rows, scheme, is_light, over):
+def square_of(width):
+    """Returns how many pixels the squares of a checkerboard are wide on a picture so wide."""
+    return max(1, whole(SQUARE * width / WIDTH))
+
+
+def shown(rows, scheme, is_light, over, square=SQUARE):
     """Returns the bytes of a canvas that shows a picture over a checkerboard, by the operator SrcOver."""
     grays = [premultiplied((gray, gray, gray, MAX), is_light) for gray in GRAYS[scheme]]
-    made = bytearray()
-    for y, row in enumerate(rows):
-        for x, pixel in enumerate(row):
-            color = composite(over, pixel, grays[(x // SQUARE + y // SQUARE) % 2])
-            made += bytes([*[encoded(channel) if is_light else channel for channel in color[:3]], color[3]])
-    return bytes(made)
+
+    @functools.lru_cache(maxsize=None)
+    def on(pixel, gray):
+        color = composite(over, pixel, gray)
+        return bytes([*[encoded(channel) if is_light else channel for channel in color[:3]], color[3]])
+
+    return b"".join(on(pixel, grays[(x // square + y // square) % 2]) for y, row in enumerate(rows) for x, pixel in enumerate(row))
 
 
 def parsed(text):

@@ -55,27 +55,37 @@ def middle(browser, id_):
     return browser.run(code)
 
 
-def shapes(browser):
-    """Returns the picture of source and destination, as the fields say it."""
+def shapes(browser, size):
+    """Returns the picture of source and destination on a canvas of so many pixels, as the fields say it."""
     made = []
     for side, is_inside in [("source", model.in_square), ("dest", model.in_disc)]:
         x, y, alpha = (int(of(browser, f"{side}-{field}", "value")) for field in ("x", "y", "alpha"))
         color = bytes.fromhex(of(browser, f"{side}-color", "value")[1:])
-        made.append(model.shape(is_inside, (x, y), [*color, alpha], of(browser, "is-light", "checked")))
+        made.append(model.shape(is_inside, (x, y), [*color, alpha], of(browser, "is-light", "checked"), size))
     return made
+
+
+def see_operator(browser, id_, name, scheme):
+    """Compares a canvas with the picture of an operator, which is made of as many pixels as the screen has there."""
+    size, covered, is_light = browser.run(f"""{{ const it = document.getElementById({json.dumps(id_)}), box = it.getBoundingClientRect();
+        [[it.width, it.height], [box.width, box.height].map((side) => side * devicePixelRatio), document.getElementById('is-light').checked] }}""")
+    wants(f"whether {id_} has {size} pixels where the screen has {covered}", all(abs(a - b) <= 1 for a, b in zip(size, covered)), True)
+    rows = [[model.composite(OPERATORS[name], s, d) for s, d in zip(*pair)] for pair in zip(*shapes(browser, size))]
+    wanted = model.shown(rows, scheme, is_light, OPERATORS["SrcOver"], model.square_of(size[0]))
+    made = canvas(browser, id_)
+    if made != wanted:
+        at = next(index for index in range(0, len(wanted), 4) if made[index : index + 4] != wanted[index : index + 4])
+        wants(f"the pixel {at // 4 % size[0], at // 4 // size[0]} of {id_}, {name}", made[at : at + 4].hex(), wanted[at : at + 4].hex())
 
 
 def see_operators(browser, scheme="light"):
     """Compares each of the thirteen pictures, and the large one, with those that the fields ask for."""
-    source, dest = shapes(browser)
-    is_light = of(browser, "is-light", "checked")
     wants("the operators", len(ORDER), len(OPERATORS))
+    browser.wait_for("document.getElementById('operators').dataset.drawn === 'all'")
     for number, name in enumerate(ORDER):
-        rows = [[model.composite(OPERATORS[name], s, d) for s, d in zip(*pair)] for pair in zip(source, dest)]
-        bytes_ = model.shown(rows, scheme, is_light, OPERATORS["SrcOver"])
-        wants(f"the picture of {name}", canvas(browser, f"operator-{number}").hex(), bytes_.hex())
-        if browser.run(f"document.querySelector('input[name=operator]:checked').value === '{number}'"):
-            wants("the large picture", canvas(browser, "stage").hex(), bytes_.hex())
+        see_operator(browser, f"operator-{number}", name, scheme)
+    chosen = int(browser.run("document.querySelector('input[name=operator]:checked').value"))
+    see_operator(browser, "stage", ORDER[chosen], scheme)
 
 
 def try_operators(browser):

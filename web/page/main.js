@@ -3,7 +3,7 @@ import { hasMemory64, Library } from './library.js';
 import { showOperators } from './operators.js';
 import { showScripts } from './scripts.js';
 import { showText } from './text.js';
-import { element } from './view.js';
+import { element, fetched } from './view.js';
 
 // Says that the page can't run, and why.
 function refuse(reason) {
@@ -23,14 +23,15 @@ async function start() {
             + 'Chrome and Edge have them from version 133 on, and Firefox from 134 on.');
         return;
     }
-    const [file, built] = await Promise.all([fetch('pix_c.wasm'), fetch('built.json')]);
+    const [file, built] = await Promise.all([fetched('pix_c.wasm'), fetched('built.json')]);
     const module = await WebAssembly.compile(await file.arrayBuffer());
     tell(await built.json());
     showOperators(await Library.of(module));
     showText(await Library.of(module));
+    const scripts = showScripts(await Library.of(module));
     element('parts').hidden = false;
-    await showScripts(await Library.of(module));
     element('state').textContent = 'The library is loaded.';
+    await scripts.catch((error) => { element('state').textContent += ` Its examples are not: ${error.message}`; });
     document.documentElement.dataset.ready = 'yes';
 }
 

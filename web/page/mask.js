@@ -33,6 +33,6 @@ export function textMask(text, width, height, font) {
     context.font = font;
     context.textAlign = 'center';
     context.textBaseline = 'middle';
-    context.fillText(text, width / 2, height / 2, width - 16);
+    context.fillText(text, width / 2, height / 2, width * 0.95);
     return context.getImageData(0, 0, width, height).data.filter((_, index) => index % 4 === 3);
 }

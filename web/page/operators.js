@@ -3,11 +3,19 @@
 import { OPERATORS } from './facts.js';
 import { compositeImage, compositeMask, copyColor, copyImage, whole } from './library.js';
 import { disc, roundSquare } from './mask.js';
-import { channelsOf, checkerboard, element, formula, onTheme, onceAFrame, premultiplied, show, SRC } from './view.js';
+import {
+    channelsOf, checkerboard, element, formula, onSize, onTheme, onceAFrame, premultiplied, show, sizeOf, SRC,
+} from './view.js';
 
-export const WIDTH = 120, HEIGHT = 90;
-const SIDE = 56;
-const SHAPES = { source: roundSquare(SIDE, 12), dest: disc(SIDE) };
+// The picture in steps, by which shapes are placed: each is a part of the picture, and so many pixels as the screen has.
+const WIDTH = 120, HEIGHT = 90;
+const SIDE = 56, RADIUS = 12, SQUARE = 8;
+const SHAPES = {
+    source: (scale) => roundSquare(Math.round(SIDE * scale), Math.round(RADIUS * scale)),
+    dest: (scale) => disc(Math.round(SIDE * scale)),
+};
+// How long all pictures may take for the small ones to be drawn in each frame, and after how long they are drawn else.
+const QUICK = 40, PAUSE = 120;
 const STEPS = { ArrowLeft: [-1, 0], ArrowRight: [1, 0], ArrowUp: [0, -1], ArrowDown: [0, 1] };
 
 // The number of a shape's field, within its ends.
@@ -26,31 +34,80 @@ const shapeOf = (side) => ({
 
 const chosen = () => Number(document.querySelector('input[name=operator]:checked').value);
 
-// An image with one shape on it.
-function imageOf(library, side, isLight) {
+// The masks of the shapes that were made last, by the pixels of a step: few, since a window has few sizes.
+const masks = new Map();
+
+function maskOf(side, scale) {
+    const name = `${side} ${scale}`;
+    if (!masks.has(name)) {
+        if (masks.size >= 16) masks.clear();
+        masks.set(name, SHAPES[side](scale));
+    }
+    return masks.get(name);
+}
+
+// An image of so many pixels with one shape on it.
+function imageOf(library, side, { width, height }, isLight) {
+    const scale = width / WIDTH;
     const { x, y, color } = shapeOf(side);
-    const image = library.image(WIDTH, HEIGHT);
-    const mask = library.mask(SIDE, SIDE, SHAPES[side]);
+    const image = library.image(width, height);
+    const values = maskOf(side, scale), wide = Math.sqrt(values.length);
+    const mask = library.mask(wide, wide, values);
     const full = premultiplied(library, color, isLight);
-    library.run(image, [compositeMask(SRC, [x, y, SIDE, SIDE], mask, whole(mask), full)]);
+    const to = [Math.round(x * scale), Math.round(y * scale), wide, wide];
+    library.run(image, [compositeMask(SRC, to, mask, whole(mask), full)]);
     return image;
 }
 
-// Draws the picture of each operator, and that of the chosen one once more, large.
-function draw(library) {
+// What the pictures of one size are made of: both shapes, the ground, and an image to composite in.
+function sceneOf(library, size, isLight) {
+    const [source, dest] = ['source', 'dest'].map((side) => imageOf(library, side, size, isLight));
+    const square = Math.max(1, Math.round((SQUARE * size.width) / WIDTH));
+    const board = checkerboard(library, size.width, size.height, isLight, square);
+    return { source, dest, board, made: library.image(size.width, size.height) };
+}
+
+// Draws the picture of an operator on each canvas, at the pixels that the screen has there.
+function drawOn(library, pairs, isLight) {
+    const scenes = new Map();
     library.reset();
-    const isLight = element('is-light').checked;
-    const [source, dest] = ['source', 'dest'].map((side) => imageOf(library, side, isLight));
-    const board = checkerboard(library, WIDTH, HEIGHT, isLight);
-    const made = library.image(WIDTH, HEIGHT);
-    const all = whole(made);
-    OPERATORS.forEach((_, op) => {
+    for (const [canvas, op] of pairs) {
+        const size = sizeOf(canvas);
+        if (!size) continue;
+        const name = `${size.width} ${size.height}`;
+        if (!scenes.has(name)) scenes.set(name, sceneOf(library, size, isLight));
+        const { source, dest, board, made } = scenes.get(name);
+        const all = whole(made);
         library.run(made, [copyImage(all, dest, all), compositeImage(op, all, source, all)]);
-        show(library, made, board, element(`operator-${op}`), isLight);
-        if (op === chosen()) show(library, made, board, element('stage'), isLight);
-    });
-    say(library, isLight);
-    placeHandles();
+        show(library, made, board, canvas, isLight);
+    }
+}
+
+// Answers what draws the pictures: the large one at once, and the small ones with it where all of that is quick, else
+// when nothing has changed for a while.
+function painter(library) {
+    const small = OPERATORS.map((_, op) => [element(`operator-${op}`), op]);
+    const state = element('operators').dataset;
+    let took = 0, timer = 0;
+    const timed = (work) => {
+        const start = performance.now();
+        work();
+        return performance.now() - start;
+    };
+    const drawSmall = (large) => {
+        took = large + timed(() => drawOn(library, small, element('is-light').checked));
+        state.drawn = 'all';
+    };
+    return () => {
+        clearTimeout(timer);
+        state.drawn = 'large';
+        const isLight = element('is-light').checked;
+        const large = timed(() => drawOn(library, [[element('stage'), chosen()]], isLight));
+        say(library, isLight);
+        placeHandles();
+        if (took < QUICK) drawSmall(large);
+        else timer = setTimeout(drawSmall, PAUSE, large);
+    };
 }
 
 // Says in words what the chosen operator makes where the whole of both shapes lies on one another.
@@ -131,12 +188,14 @@ function choices() {
 // Shows the operators, by an instance of the library of their own.
 export function showOperators(library) {
     element('choices').append(...choices());
-    const redraw = onceAFrame(() => draw(library));
+    const draw = painter(library);
+    const redraw = onceAFrame(draw);
     element('operators').addEventListener('input', (event) => {
         const field = event.target.id;
         if (field.endsWith('-alpha')) element(`${field}-said`).textContent = event.target.value;
         redraw();
     });
     for (const side of ['source', 'dest']) listen(side, redraw);
-    onTheme(() => draw(library));
+    onTheme(draw);
+    onSize([element('stage'), ...element('choices').querySelectorAll('canvas')], draw);
 }

@@ -2,15 +2,21 @@
 import { decimal, distance } from './exact.js';
 import { historyOf } from './history.js';
 import { paint, printed } from './painting.js';
-import { checkerboard, element, onTheme, onceAFrame, show } from './view.js';
+import { checkerboard, element, fetched, onTheme, onceAFrame, show } from './view.js';
 
 const CHANNELS = ['red', 'green', 'blue', 'alpha'];
 const STEPS = { ArrowLeft: [-1, 0], ArrowRight: [1, 0], ArrowUp: [0, -1], ArrowDown: [0, 1] };
 const MOST = 1000;
 const SHOWN = 200;
+const SQUARE = 8;
 // What the page shows: a painting, or null where the script has a fault or makes no picture; and the image of a script
 // without a fault, or null.
 let painting = null, image = null;
+
+// How often the script was changed, by the visitor or an example: what was asked for before the last change comes late.
+let turn = 0;
+// The script that the visitor wrote last.
+let own = '';
 
 const node = (name, text) => Object.assign(document.createElement(name), { textContent: text });
 
@@ -59,7 +65,7 @@ function showPicture(library) {
     for (const part of ['picture', 'pixel', 'steps']) element(part).hidden = !painting;
     if (!painting) return;
     const top = library.top;
-    show(library, image, checkerboard(library, image.width, image.height, false), element('painted'), false);
+    show(library, image, checkerboard(library, image.width, image.height, false, SQUARE), element('painted'), false);
     library.top = top;
     const factor = Math.max(1, Math.floor(576 / Math.max(image.width, image.height)));
     element('frame').style.width = `${image.width * factor}px`;
@@ -166,21 +172,59 @@ function listen(redraw) {
     }
 }
 
-// Loads an example into the field.
-async function load(library, file) {
-    element('script').value = await (await fetch(file)).text();
+// Puts a script into the field.
+function put(library, text) {
+    element('script').value = text;
     repaint(library);
 }
 
-// Shows scripts, by an instance of the library of their own.
-export async function showScripts(library) {
-    const examples = await (await fetch('examples/list.json')).json();
-    const options = examples.map((name) => Object.assign(node('option', name), { value: `examples/${name}.paint` }));
+// Loads an example into the field, unless the visitor writes or chooses another one before it comes.
+async function load(library, file) {
+    const mine = ++turn;
+    try {
+        const text = await (await fetched(file)).text();
+        if (mine === turn) put(library, text);
+    } catch (error) {
+        if (mine === turn) element('fault').textContent = `The example could not be loaded: ${error.message}`;
+    }
+}
+
+// Keeps the script of the field as the visitor's own, which the list has from then on.
+function keepOwn() {
+    turn++;
+    own = element('script').value;
+    const list = element('example');
+    if (list.options[0].value) list.prepend(Object.assign(node('option', 'your own'), { value: '' }));
+    list.value = '';
+}
+
+// Adds the examples to the list.
+async function listExamples() {
+    const names = await (await fetched('examples/list.json')).json();
+    const options = names.map((name) => Object.assign(node('option', name), { value: `examples/${name}.paint` }));
     element('example').append(...options);
-    element('example').addEventListener('change', (event) => load(library, event.target.value));
-    element('script').addEventListener('input', onceAFrame(() => repaint(library)));
+}
+
+// Shows scripts, by an instance of the library of their own: what is in the field already, where a browser kept it, or
+// else the first example. Answers when that and the list have come.
+export function showScripts(library) {
+    const field = element('script'), list = element('example');
+    const redraw = onceAFrame(() => repaint(library));
+    field.addEventListener('input', () => { keepOwn(); redraw(); });
+    list.addEventListener('change', () => {
+        if (list.value) {
+            load(library, list.value);
+        } else {
+            turn++;
+            put(library, own);
+        }
+    });
     element('print').addEventListener('toggle', () => print(library));
     listen(onceAFrame(() => { if (painting) showPixel(library); }));
-    await load(library, element('example').value);
     onTheme(() => showPicture(library));
+    if (field.value) {
+        keepOwn();
+        repaint(library);
+    }
+    return Promise.all([field.value ? null : load(library, list.value), listExamples()]);
 }

@@ -1,24 +1,32 @@
 // A line of text through a mask, over bars from dark to bright: in linear light, and on the bytes as they are.
 import { compositeMask, copyColor, whole } from './library.js';
 import { textMask } from './mask.js';
-import { channelsOf, element, onTheme, onceAFrame, premultiplied, put, SRC_OVER } from './view.js';
+import {
+    channelsOf, element, onSize, onTheme, onceAFrame, premultiplied, put, sizeOf, SRC_OVER,
+} from './view.js';
 
-const WIDTH = 360, HEIGHT = 96;
-const FONT = '600 56px system-ui, sans-serif';
+// How much of the height the letters take, and the font.
+const SIZE = 56 / 96;
+const font = (pixels) => `600 ${pixels}px system-ui, sans-serif`;
 const BARS = 12;
 
 // A bar's straight color: from a dark blue to a bright yellow.
 const barColor = (index) => [20, 24, 60, 255].map((channel, place) =>
     Math.round(channel + ((([255, 236, 150, 255][place] - channel) * index) / (BARS - 1))));
 
-// Draws the text on a canvas, in linear light or not.
+// Draws the text on a canvas, at the pixels that the screen has there, in linear light or not.
 function drawOn(library, canvas, isLight) {
+    const size = sizeOf(canvas);
+    if (!size) return;
+    const { width, height } = size;
     library.reset();
-    const image = library.image(WIDTH, HEIGHT);
-    const bar = WIDTH / BARS;
+    const image = library.image(width, height);
+    const edge = (index) => Math.round((index * width) / BARS);
     const bars = Array.from({ length: BARS }, (_, index) =>
-        copyColor([index * bar, 0, bar, HEIGHT], premultiplied(library, barColor(index), isLight)));
-    const mask = library.mask(WIDTH, HEIGHT, textMask(element('words').value, WIDTH, HEIGHT, FONT));
+        copyColor([edge(index), 0, edge(index + 1) - edge(index), height],
+            premultiplied(library, barColor(index), isLight)));
+    const letters = textMask(element('words').value, width, height, font(Math.round(SIZE * height)));
+    const mask = library.mask(width, height, letters);
     const color = [...channelsOf(element('words-color')), Number(element('words-alpha').value)];
     const text = compositeMask(SRC_OVER, whole(image), mask, whole(mask), premultiplied(library, color, isLight));
     library.run(image, [...bars, text]);
@@ -37,4 +45,5 @@ export function showText(library) {
     };
     element('text').addEventListener('input', onceAFrame(draw));
     onTheme(draw);
+    onSize([element('words-linear'), element('words-bytes')], draw);
 }

@@ -6,13 +6,54 @@ export const element = (id) => document.getElementById(id);
 export const SRC = OPERATORS.findIndex(({ name }) => name === 'Src');
 export const SRC_OVER = OPERATORS.findIndex(({ name }) => name === 'SrcOver');
 
-const SQUARE = 8;
 const darkness = matchMedia('(prefers-color-scheme: dark)');
+
+// A file of the page, or an error with its name where it does not come.
+export async function fetched(file) {
+    const answer = await fetch(file);
+    if (!answer.ok) throw new Error(`${file}: ${answer.status} ${answer.statusText}`);
+    return answer;
+}
 
 // Calls a function now and whenever the page turns light or dark.
 export function onTheme(draw) {
     darkness.addEventListener('change', draw);
     draw();
+}
+
+// How many of the screen's pixels each canvas covers, as the browser said last.
+const sizes = new WeakMap();
+
+// The screen's pixels under a canvas. The browser says how a fraction of one is rounded there, if it knows; some don't,
+// and some leave out the scale of a screen that they only play.
+function pixelsOf({ contentRect, devicePixelContentBoxSize }) {
+    const sides = [contentRect.width * devicePixelRatio, contentRect.height * devicePixelRatio];
+    const [box] = devicePixelContentBoxSize ?? [];
+    const said = box ? [box.inlineSize, box.blockSize] : sides;
+    const isNear = said.every((side, index) => Math.abs(side - sides[index]) <= 1);
+    const [width, height] = (isNear ? said : sides).map(Math.round);
+    return { width, height };
+}
+
+// Calls a function whenever a canvas of these covers another number of the screen's pixels: first when it is shown.
+export function onSize(canvases, draw) {
+    const observer = new ResizeObserver((entries) => {
+        for (const entry of entries) sizes.set(entry.target, pixelsOf(entry));
+        draw();
+    });
+    for (const canvas of canvases) {
+        try {
+            observer.observe(canvas, { box: 'device-pixel-content-box' });
+        } catch {
+            observer.observe(canvas);
+        }
+    }
+}
+
+// How many of the screen's pixels a canvas is wide and high, or nothing while it isn't shown.
+export function sizeOf(canvas) {
+    const size = sizes.get(canvas);
+    return size && size.width > 0 && size.height > 0 ? size : null;
 }
 
 // The red, green and blue of a color field.
@@ -24,15 +65,15 @@ export function premultiplied(library, color, isLight) {
     return Array.from(library.pixels(library.converted(straight, isLight ? 'SRGBA8' : 'RGBA8', 'RGBA8P')));
 }
 
-// A checkerboard of two grays, on which transparent pixels are shown.
-export function checkerboard(library, width, height, isLight) {
+// A checkerboard of two grays, on which transparent pixels are shown: its squares are so many pixels wide.
+export function checkerboard(library, width, height, isLight, square) {
     const [even, odd] = (darkness.matches ? [64, 44] : [255, 226]).map((gray) =>
         premultiplied(library, [gray, gray, gray, 255], isLight));
     const board = library.image(width, height);
     const commands = [copyColor(whole(board), even)];
-    for (let y = 0; y < height; y += SQUARE) {
-        for (let x = y % (2 * SQUARE) ? 0 : SQUARE; x < width; x += 2 * SQUARE) {
-            commands.push(copyColor([x, y, SQUARE, SQUARE], odd));
+    for (let y = 0; y < height; y += square) {
+        for (let x = y % (2 * square) ? 0 : square; x < width; x += 2 * square) {
+            commands.push(copyColor([x, y, square, square], odd));
         }
     }
     library.run(board, commands);
@@ -51,7 +92,7 @@ export function show(library, image, board, canvas, isLight) {
 
 // Puts an opaque image on a canvas: encoded from linear light, or its bytes as they are.
 export function put(library, image, canvas, isLight) {
-    const encoded = library.converted(image, 'RGBA8P', isLight ? 'SRGBA8' : 'RGBA8');
+    const encoded = isLight ? library.converted(image, 'RGBA8P', 'SRGBA8') : image;
     const { width, height } = image;
     if (canvas.width !== width || canvas.height !== height) Object.assign(canvas, { width, height });
     canvas.getContext('2d').putImageData(new ImageData(library.pixels(encoded).slice(), width, height), 0, 0);
