@@ -59,9 +59,10 @@ def on_pipes(reads, writes):
 
 
 class Browser:
-    """A headless Chromium with one page, and what that page said of its own faults."""
+    """A headless Chromium with one page, and what that page said of its own faults. The page stands in a folder of this machine."""
 
-    def __init__(self, program):
+    def __init__(self, program, folder):
+        self.folder = folder
         self.profile = tempfile.mkdtemp(prefix="pix-web-")
         theirs, self.writes = os.pipe()
         self.reads, also_theirs = os.pipe()
@@ -77,7 +78,7 @@ class Browser:
         self.rest, self.number, self.session, self.faults = b"", 0, None, []
         target = next(it for it in self.ask("Target.getTargets")["targetInfos"] if it["type"] == "page")
         self.session = self.ask("Target.attachToTarget", targetId=target["targetId"], flatten=True)["sessionId"]
-        for domain in ("Page", "Runtime", "Log"):
+        for domain in ("Page", "Runtime", "Log", "Network"):
             self.ask(f"{domain}.enable")
 
     def __enter__(self):
@@ -162,11 +163,26 @@ class Browser:
         """Waits until what was asked for is drawn."""
         self.run("new Promise((done) => requestAnimationFrame(() => requestAnimationFrame(() => done(0))))")
 
-    def look(self, width, scheme="light"):
-        """Makes the window so wide, and the page light or dark."""
-        self.ask("Emulation.setDeviceMetricsOverride", width=width, height=900, deviceScaleFactor=1, mobile=False)
+    def touch(self, x, y):
+        """Touches a point of the window with a finger."""
+        self.ask("Input.dispatchTouchEvent", type="touchStart", touchPoints=[{"x": x, "y": y}])
+        self.ask("Input.dispatchTouchEvent", type="touchEnd", touchPoints=[])
+        self.frames()
+
+    def look(self, width, scheme="light", height=900, scale=1, is_telephone=False):
+        """Makes the window so wide and high, with so many of the screen's pixels for each of its own, and the page light or dark."""
+        self.ask("Emulation.setDeviceMetricsOverride", width=width, height=height, deviceScaleFactor=scale, mobile=is_telephone)
+        self.ask("Emulation.setTouchEmulationEnabled", enabled=is_telephone)
         self.ask("Emulation.setEmulatedMedia", features=[{"name": "prefers-color-scheme", "value": scheme}])
         self.frames()
+
+    def link(self, wait=0):
+        """Makes each answer of the server come so many milliseconds late."""
+        self.ask("Network.emulateNetworkConditions", offline=False, latency=wait, downloadThroughput=-1, uploadThroughput=-1)
+
+    def lose(self, *files):
+        """Makes files that end so never come."""
+        self.ask("Network.setBlockedURLs", urls=[f"*{file}" for file in files])
 
     def picture(self, first, last):
         """Returns a picture of the page as the bytes of a PNG file: from the top of one element to the bottom of another."""

@@ -101,6 +101,86 @@ def try_operators(browser):
     wants("a place beyond the picture", "at 120, 8" in of(browser, "dest-handle", "ariaLabel"), True)
 
 
+def try_screens(browser):
+    """The pictures have the pixels of the screen: where a pixel of the window is one and a half of those, and after the window was made another one."""
+    for width, scale in [(900, 1.5), (700, 1), (320, 2)]:
+        browser.look(width, scale=scale)
+        see_operators(browser)
+        for id_, aspect in [("words-linear", 4), ("words-bytes", 4)]:
+            width_, box, ratio = browser.run(f"""{{ const it = document.getElementById('{id_}'), box = it.getBoundingClientRect();
+                [it.width, box.width * devicePixelRatio, it.width / it.height] }}""")
+            wants(f"whether {id_} has {width_} pixels where the screen has {box}", abs(width_ - box) <= 1 and 3.5 < ratio < aspect, True)
+
+
+def try_telephone(browser):
+    """On a telephone, held upright or lying, the large picture and all operators are on the screen at once, and one that is touched changes the picture.
+    The picture stays where sliders are reached, and is dragged by a finger."""
+    for width, height in [(390, 844), (320, 568), (844, 390)]:
+        browser.look(width, height=height, scale=2, is_telephone=True)
+        places = browser.run("""{ const places = () => [document.getElementById('stage'), ...document.querySelectorAll('#choices label')]
+                .map((it) => it.getBoundingClientRect()).map((box) => [box.left, box.top, box.right, box.bottom]);
+            document.getElementById('stage').scrollIntoView({ block: 'start', behavior: 'instant' });
+            places() }""")
+        for place in places:
+            is_seen = place[0] >= 0 and place[1] >= 0 and place[2] <= width and place[3] <= height
+            wants(f"whether what lies at {place} is seen on {width} by {height}", is_seen, True)
+        name = ("Xor", "SrcIn", "DestAtop")[width % 3]
+        left, top, right, bottom = places[1 + ORDER.index(name)]
+        browser.touch((left + right) / 2, (top + bottom) / 2)
+        wants("the operator that was touched", name in of(browser, "overlap", "textContent"), True)
+        browser.wait_for("document.getElementById('operators').dataset.drawn === 'all'")
+        see_operator(browser, "stage", name, "light")
+    browser.look(390, height=844, scale=2, is_telephone=True)
+    browser.run("document.getElementById('is-light').scrollIntoView({ block: 'end', behavior: 'instant' })")
+    top = of(browser, "stage", "getBoundingClientRect().top")
+    wants("whether the picture is seen beside the sliders", -2 <= top < 400, True)
+
+
+def try_slow_link(browser):
+    """What is typed while the page loads stays, as does what is typed while an example comes; the visitor's own script is in the list; the last example that
+    was chosen is the one that is shown."""
+    mine = "image 2 1\nfill 0 0 2 1 0a0b0c0d\n"
+    url = browser.run("location.href")
+    browser.link(500)
+    browser.open(url, "document.getElementById('parts')?.hidden === false")
+    type_script(browser, mine)
+    browser.wait_for(READY)
+    wants("what was typed while the page loaded", [of(browser, "script", "value"), of(browser, "example", "selectedOptions[0].text")], [mine, "your own"])
+    browser.run("document.querySelector('#print summary').click()")
+    browser.wait_for("document.getElementById('printed').textContent === '0a0b0c0d 0a0b0c0d\\n'")
+    enter(browser, "example", "examples/two-pixels.paint")
+    browser.wait_for("document.getElementById('printed').textContent === '40806080 00000000\\n'")
+    enter(browser, "example", "examples/operators.paint")
+    type_script(browser, "clear\n", at_end=True)
+    typed = of(browser, "script", "value")
+    browser.run("new Promise((done) => setTimeout(done, 1500))")
+    wants("what was typed while an example came", [of(browser, "script", "value"), typed.endswith("clear\n")], [typed, True])
+    enter(browser, "example", "examples/operators.paint")
+    enter(browser, "example", "examples/two-pixels.paint")
+    browser.run("new Promise((done) => setTimeout(done, 1500))")
+    wants("the example that was chosen last", of(browser, "printed", "textContent"), "40806080 00000000\n")
+    enter(browser, "example", "")
+    wants("the visitor's own script", of(browser, "script", "value"), typed)
+
+
+def type_script(browser, text, at_end=False):
+    """Types into the field of the script, in the place of what is there or after it."""
+    browser.run(f"""{{ const field = document.getElementById('script'); field.focus();
+        if ({json.dumps(at_end)}) field.setSelectionRange(field.value.length, field.value.length); else field.select(); 0 }}""")
+    browser.ask("Input.insertText", text=text)
+    browser.frames()
+
+
+def try_again(browser):
+    """What was typed is there after the page is loaded again."""
+    type_script(browser, "image 1 1\n")
+    browser.run("document.documentElement.dataset.ready = 'old'")
+    browser.ask("Page.reload")
+    browser.wait_for(READY)
+    wants("the script after the page was loaded again", of(browser, "script", "value"), "image 1 1\n")
+    wants("what the list says then", of(browser, "example", "selectedOptions[0].text"), "your own")
+
+
 def try_sliders(browser):
     """The sliders, by their keys: each tells its number, and the pictures follow."""
     for side in ("source", "dest"):
@@ -332,9 +412,13 @@ def try_library(browser):
 def try_looks(browser):
     """Nothing is wider than the window, in light and in dark, and all text stands out from its ground."""
     for scheme in ("dark", "light"):
-        for width in (1280, 700, 320):
+        for width in (1280, 900, 700, 320):
             browser.look(width, scheme)
             wants(f"the width of the page in {width}", browser.run("document.documentElement.scrollWidth") <= width, True)
+            crossed = browser.run("""[...document.querySelectorAll('legend')].filter((it) => it.getClientRects().length !== 1
+                || it.offsetHeight > 1.8 * parseFloat(getComputedStyle(it).fontSize)
+                || it.getBoundingClientRect().right > it.parentElement.getBoundingClientRect().right).map((it) => it.textContent)""")
+            wants(f"the legends that cross their border in {width}", crossed, [])
         colors = browser.run("""['ink', 'soft', 'accent', 'bad', 'ground', 'paper'].map((name) =>
             getComputedStyle(document.documentElement).getPropertyValue(`--${name}`).trim())""")
         *inks, ground, paper = [brightness(color) for color in colors]
@@ -405,6 +489,32 @@ def try_a_module_that_is_missing(browser):
     browser.open(url, "document.getElementById('state')?.className === 'bad'")
     browser.ask("Page.removeScriptToEvaluateOnNewDocument", identifier=made["identifier"])
     wants("what is said", of(browser, "state", "textContent").startswith("The library could not be loaded"), True)
+    browser.faults.clear()
+
+
+def try_as_a_file(browser):
+    """Where the page is opened as a file, which loads no module, it says so, with the folder that has to be served."""
+    browser.open((browser.folder / "index.html").as_uri(), "document.getElementById('state')?.className === 'bad'")
+    said = of(browser, "state", "textContent")
+    wants("whether it says what to do", "opened as a file" in said and f"python3 -m http.server -d '{browser.folder}/'" in said, True)
+    wants("whether it is an alert", of(browser, "state", "role"), "alert")
+    for part, is_shown in [("parts", False), ("proof", True)]:
+        wants(f"whether {part} is shown", of(browser, part, "checkVisibility()"), is_shown)
+    browser.faults.clear()
+
+
+def try_a_part_that_is_missing(browser):
+    """Where a script of the page doesn't come, the page says so; where an example doesn't, that, and what was typed stays."""
+    url = browser.run("location.href")
+    browser.lose("history.js")
+    browser.open(url, "document.getElementById('state')?.className === 'bad'")
+    wants("what is said", of(browser, "state", "textContent").startswith("A part of the page could not be loaded"), True)
+    browser.lose("two-pixels.paint")
+    browser.open(url, READY)
+    script = of(browser, "script", "value")
+    enter(browser, "example", "examples/two-pixels.paint")
+    browser.wait_for("document.getElementById('fault').textContent.startsWith('The example could not be loaded')")
+    wants("the script after an example that is missing", of(browser, "script", "value"), script)
     browser.faults.clear()
 
 
