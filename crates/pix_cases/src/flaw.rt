@@ -1,38 +1,31 @@
 //! What can be wrong with a case, other than its answer.
 use std::alloc::{AllocError, AllocFailed};
-use std::fmt;
+use thiserror::Error;
 
 /// Why a line has no answer.
-#[derive(Drop)]
+#[derive(Debug, Drop, Error)]
 pub(crate) enum Flaw {
     /// It isn't `class: words -> answer`.
+    #[error("no case")]
     Line,
     /// No class has that name.
+    #[error("no such class")]
     Class,
     /// There are too many words or too few.
+    #[error("another count of words")]
     Count,
     /// A word isn't a number, or one that doesn't fit.
+    #[error("no such number")]
     Number,
     /// A word isn't a name that the class knows, as of an operator or a format.
+    #[error("no such name")]
     Name,
     /// The library refuses what the line asks.
+    #[error("refused")]
     Refused,
     /// An allocation failed.
+    #[error("out of memory")]
     Memory,
-}
-
-impl fmt::Display for Flaw {
-    fn fmt<W: fmt::Write>(&self, f: &mut fmt::Formatter<W>) -> fmt::Result {
-        f.write_str(match self {
-            Flaw::Line => "no case",
-            Flaw::Class => "no such class",
-            Flaw::Count => "another count of words",
-            Flaw::Number => "no such number",
-            Flaw::Name => "no such name",
-            Flaw::Refused => "refused",
-            Flaw::Memory => "out of memory",
-        })
-    }
 }
 
 impl From<AllocError> for Flaw {

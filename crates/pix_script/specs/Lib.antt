@@ -10,5 +10,6 @@ pub mod Fault
 pub mod Script
 pub mod Reading
 pub mod Stop
+pub mod ReportLine
 pub mod Run
 pub mod Rows

@@ -4,12 +4,12 @@ ghost use Rattle.pix_script.specs.Fault.{problem_number, problem_text, fault_num
 ghost use Rattle.pix_script.specs.declared.fault.PaintFault.TheVariants.{OutOfMemory};
 
 use std::alloc::AllocError;
-use std::error::Error;
 use std::fmt;
+use thiserror::Error;
 
 /// The problem of a faulty line, by number. A line is tested in another order: for `UnknownWord`, `WrongCount`, `NoImage` or
 /// `SecondImage`, and then for the others as they stand here.
-#[derive(Clone, Copy, Debug, PartialEq, Eq)]
+#[derive(Clone, Copy, Debug, PartialEq, Eq, Error)]
 pub enum Problem {
     /// Another command comes before `image`.
     NoImage,
@@ -30,7 +30,7 @@ pub enum Problem {
 }
 
 /// Why a script gives no image.
-#[derive(Clone, Copy, Debug, PartialEq, Eq)]
+#[derive(Clone, Copy, Debug, PartialEq, Eq, Error)]
 pub enum PaintFault {
     /// The number of the first faulty line, counted from 1, and its problem.
     Line(usize, Problem),
@@ -86,10 +86,6 @@ impl fmt::Display for PaintFault {
         }
     }
 }
-
-impl Error for Problem {}
-
-impl Error for PaintFault {}
 
 impl PaintFault {
     /// Returns the fault's number: 1 to 8 for the problem of a line, 9 for an allocation failure, 10 for a script that is too long.

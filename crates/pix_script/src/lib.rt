@@ -33,6 +33,7 @@ mod parse;
 mod picture;
 mod pixel;
 mod program;
+mod report_line;
 mod script;
 mod stop;
 mod text;

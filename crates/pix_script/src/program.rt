@@ -3,14 +3,11 @@ ghost use Rattle.std.specs.Prelude.{◌≡◌};
 ghost use Rattle.pix_script.specs.Run.{AppendsOrPart, Ends, status_of, stop_line};
 
 use crate::fault::PaintFault;
+use crate::report_line::ReportLine;
 use crate::stop::{PaintStop, paint_io};
-use arrayvec::ArrayVec;
 use std::alloc::Global;
 use std::io;
 use std::io::{ErrorKind, Read, Write};
-
-/// More bytes than any report has.
-const MAX_REPORT: usize = 64;
 
 /// Renders the script of an input to an output by [`paint_io`], reports a stop by one line on an error output, and returns the exit
 /// status: 0 after an image, 1 after a fault of the script, 2 after an allocation failure, and 3 after a failed read or write.
@@ -38,9 +35,9 @@ pub fn run<R: Read, W: Write, E: Write>(
 fn report<E: Write>(errors: &mut E, stop: PaintStop) -> io::Result<()>
     ensures { AppendsOrPart (E.contents errors.old) (E.contents errors.new) (stop_line stop) result }
 {
-    let mut line = ArrayVec::<u8, MAX_REPORT>::new();
+    let mut line = ReportLine::new();
     writeln!(line, "{stop}")?;
-    write_part(errors, &line)?;
+    write_part(errors, line.bytes())?;
     errors.flush()
 }
 

@@ -7,12 +7,12 @@ ghost use Rattle.pix_script.specs.declared.fault.PaintFault.TheVariants.{OutOfMe
 use crate::fault::PaintFault;
 use crate::script::{MAX_SCRIPT, paint_text};
 use std::alloc::{AllocError, Global};
-use std::error::Error;
 use std::fmt;
 use std::io::{Read, Write};
+use thiserror::Error;
 
 /// Why no text was written.
-#[derive(Clone, Copy, Debug, PartialEq, Eq)]
+#[derive(Clone, Copy, Debug, PartialEq, Eq, Error)]
 pub enum PaintStop {
     /// The script has this fault, or an allocation failed.
     Script(PaintFault),
@@ -33,8 +33,6 @@ impl fmt::Display for PaintStop {
         }
     }
 }
-
-impl Error for PaintStop {}
 
 impl From<AllocError> for PaintStop {
     ghost from_gives = { λ _ stop. stop ≡ Script OutOfMemory };

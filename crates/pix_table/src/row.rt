@@ -6,6 +6,7 @@ ghost use Rattle.pix_table.specs.Packing.{ArePacked, AreUnpacked};
 ghost use Rattle.pix_table.specs.declared.row.IndexDepth.TheVariants.{One, Two, Four};
 
 use crate::look::are_below;
+use thiserror::Error;
 
 /// How many bits an index takes in a row of bytes.
 #[derive(Clone, Copy, Debug, PartialEq, Eq)]
@@ -21,11 +22,13 @@ pub enum IndexDepth {
 }
 
 /// Why a row was not packed, or not unpacked.
-#[derive(Clone, Copy, Debug, PartialEq, Eq)]
+#[derive(Clone, Copy, Debug, PartialEq, Eq, Error)]
 pub enum RowFault {
     /// There are not as many bytes as the row takes.
+    #[error("Row has wrong length")]
     Length,
     /// An index takes more bits than it is to have.
+    #[error("Row index too big")]
     Index,
 }
 

@@ -7,6 +7,6 @@ use Rattle.pix_script.proofs.program.report.Goals as goal
 
 pub returns : goal.returns
 returns g c =
-    let line : c.deref.result.now ≡ stop_line c.args.stop =
-    c.deref.ensures.0 ∙ c.in_ok-writeln.ensures.bytes ∙ ap (λ (l : List ℕ). l ++ (stop_text c.args.stop ++ (10 ∷ []))) c.new-line.ensures in
-    report_done _ _ _ (stop_line c.args.stop) c.deref.result.now c.flush.result line c.in_ok-write_part.ensures c.flush.ensures.bytes
+    let line : c.bytes.result.now ≡ stop_line c.args.stop =
+    c.bytes.ensures ∙ c.in_ok-writeln.ensures.bytes ∙ ap (λ (l : List ℕ). l ++ (stop_text c.args.stop ++ (10 ∷ []))) c.new-line.ensures in
+    report_done _ _ _ (stop_line c.args.stop) c.bytes.result.now c.flush.result line c.in_ok-write_part.ensures c.flush.ensures.bytes
