@@ -2,7 +2,7 @@
 use crate::flaw::Flaw;
 use crate::{
     buffers, channels, composites, conversions, drawings, formats, grays, hexcones, images,
-    lengths, models, palettes, regions, scripts,
+    indices, lengths, models, palettes, regions, scripts,
 };
 use std::alloc::Global;
 
@@ -34,6 +34,8 @@ pub(crate) fn answer(class: &str, words: &[&str], alloc: Global) -> Result<Strin
         "pixels" => buffers::of_pixels(words, alloc),
         "palette" => palettes::palette(words, alloc),
         "indexed" => palettes::indexed(words, alloc),
+        "pack" => indices::pack(words, alloc),
+        "unpack" => indices::unpack(words, alloc),
         "row" => lengths::row(words, alloc),
         "table" => lengths::table(words, alloc),
         "drawings" => lengths::drawings(words, alloc),
