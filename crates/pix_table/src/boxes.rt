@@ -11,8 +11,10 @@ ghost use Rattle.pix_table.specs.EntryLanes.{AreLanes};
 ghost use Rattle.pix_table.specs.Boxes.{IsLow, AreEnough, AreListed, AreWords};
 ghost use Rattle.pix_table.specs.Boxes.{AreBoxes, HasLists, IsListFor};
 
-use crate::box_place::{is_nearer, low_of, middle, place_of, reach_of};
-use crate::box_place::{sixteen_around, sixty_four_around, thirty_two_around};
+use crate::box_place::{
+    is_nearer, low_of, middle, place_of, reach_of, sixteen_around, sixty_four_around,
+    thirty_two_around,
+};
 use crate::chosen::ENTRIES;
 use crate::color::Color;
 use crate::entry_lanes::EntryLanes;

@@ -1,5 +1,5 @@
 -- Of `EntryLanes::distinct`: that the invariant of its loop stays, and that an entry is chosen.
-use Rattle.std.proofs.Common.{arith, ◌<◌, ◌+◌, [], ◌≢◌, ◌∙◌, sym, ap, map, length, subst}
+use Rattle.std.proofs.Common.{arith, ◌<◌, ◌+◌, [], ◌∙◌, sym, ap, map, length, subst}
 use Rattle.std.proofs.lemmas.List.{get_or-map, length-map}
 use Rattle.pix_table.specs.declared.chosen.Chosen.{Chosen}
 use Rattle.pix_table.proofs.LaneEntries.{AreChosenBelow, one_chosen, one_passed}
