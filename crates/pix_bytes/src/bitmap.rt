@@ -75,6 +75,10 @@ pub fn convert_bitmap(
     if !src_lines.is_held(width, height, wide, src.len()) {
         return BAD_SOURCE;
     }
+    if width == 0 {
+        // Rows without pixels may be many.
+        return DONE;
+    }
     let (width, height) = (width as usize, height as usize);
     cross_rows(from, to, src, dst, src_lines, dst_lines, width, height);
     DONE
