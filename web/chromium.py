@@ -141,7 +141,8 @@ class Browser:
             time.sleep(0.05)
 
     def open(self, url, ready):
-        """Opens a page anew, and waits until an expression there is true."""
+        """Opens a page anew, as one who never saw it, and waits until an expression there is true."""
+        self.run("try { sessionStorage.clear() } catch { 0 }")
         self.ask("Page.navigate", url="about:blank")
         self.wait_for("location.href === 'about:blank'")
         self.faults.clear()

@@ -94,10 +94,14 @@ def covers(is_inside, scale):
     """Returns how much of each pixel of a shape is covered, by sixteen points in each, where a step is so many pixels: its rows."""
     side, radius = whole(SIDE * scale), whole(RADIUS * scale)
     points = [(2 * i + 1) / 8 for i in range(4)]
-    return [
-        [whole(MAX * sum(is_inside(x + i, y + j, side, radius) for i in points for j in points) / 16) for x in range(side)]
-        for y in range(side)
-    ]  # fmt: skip
+
+    def cover(x, y):
+        # Both shapes bulge everywhere: one that has a pixel's corners has all of it.
+        if all(is_inside(x + i, y + j, side, radius) for i in (0, 1) for j in (0, 1)):
+            return MAX
+        return whole(MAX * sum(is_inside(x + i, y + j, side, radius) for i in points for j in points) / 16)
+
+    return [[cover(x, y) for x in range(side)] for y in range(side)]
 
 
 def in_disc(x, y, side, _):

@@ -103,9 +103,12 @@ def try_operators(browser):
 
 def try_screens(browser):
     """The pictures have the pixels of the screen: where a pixel of the window is one and a half of those, and after the window was made another one."""
-    for width, scale in [(900, 1.5), (700, 1), (320, 2)]:
+    for width, scale in [(900, 1.5), (320, 1), (320, 2)]:
         browser.look(width, scale=scale)
-        see_operators(browser)
+        if width == 320:
+            see_operators(browser)
+        else:
+            see_operator(browser, "operator-3", ORDER[3], "light")
         for id_, aspect in [("words-linear", 4), ("words-bytes", 4)]:
             width_, box, ratio = browser.run(f"""{{ const it = document.getElementById('{id_}'), box = it.getBoundingClientRect();
                 [it.width, box.width * devicePixelRatio, it.width / it.height] }}""")
@@ -129,7 +132,7 @@ def try_telephone(browser):
         browser.touch((left + right) / 2, (top + bottom) / 2)
         wants("the operator that was touched", name in of(browser, "overlap", "textContent"), True)
         browser.wait_for("document.getElementById('operators').dataset.drawn === 'all'")
-        see_operator(browser, "stage", name, "light")
+        see_operator(browser, f"operator-{ORDER.index(name)}", name, "light")
     browser.look(390, height=844, scale=2, is_telephone=True)
     browser.run("document.getElementById('is-light').scrollIntoView({ block: 'end', behavior: 'instant' })")
     top = of(browser, "stage", "getBoundingClientRect().top")

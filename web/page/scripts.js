@@ -15,7 +15,9 @@ let painting = null, image = null;
 
 // How often the script was changed, by the visitor or an example: what was asked for before the last change comes late.
 let turn = 0;
-// The script that the visitor wrote last.
+// The script that the visitor wrote last. The browser keeps it while the page's tab is open, so that it is there after the
+// page was loaded again; where it keeps nothing, it is kept here alone.
+const KEPT = 'pix-script';
 let own = '';
 
 const node = (name, text) => Object.assign(document.createElement(name), { textContent: text });
@@ -189,10 +191,22 @@ async function load(library, file) {
     }
 }
 
+// The script that the browser kept, or none.
+function kept() {
+    try {
+        return sessionStorage.getItem(KEPT) ?? '';
+    } catch {
+        return '';
+    }
+}
+
 // Keeps the script of the field as the visitor's own, which the list has from then on.
 function keepOwn() {
     turn++;
     own = element('script').value;
+    try {
+        sessionStorage.setItem(KEPT, own);
+    } catch { /* It is kept here. */ }
     const list = element('example');
     if (list.options[0].value) list.prepend(Object.assign(node('option', 'your own'), { value: '' }));
     list.value = '';
@@ -205,8 +219,8 @@ async function listExamples() {
     element('example').append(...options);
 }
 
-// Shows scripts, by an instance of the library of their own: what is in the field already, where a browser kept it, or
-// else the first example. Answers when that and the list have come.
+// Shows scripts, by an instance of the library of their own: that which the browser kept, or else the first example.
+// Answers when that and the list have come.
 export function showScripts(library) {
     const field = element('script'), list = element('example');
     const redraw = onceAFrame(() => repaint(library));
@@ -222,6 +236,7 @@ export function showScripts(library) {
     element('print').addEventListener('toggle', () => print(library));
     listen(onceAFrame(() => { if (painting) showPixel(library); }));
     onTheme(() => showPicture(library));
+    field.value ||= kept();
     if (field.value) {
         keepOwn();
         repaint(library);

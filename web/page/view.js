@@ -41,13 +41,19 @@ export function onSize(canvases, draw) {
         for (const entry of entries) sizes.set(entry.target, pixelsOf(entry));
         draw();
     });
-    for (const canvas of canvases) {
-        try {
-            observer.observe(canvas, { box: 'device-pixel-content-box' });
-        } catch {
-            observer.observe(canvas);
+    const observe = () => {
+        observer.disconnect();
+        for (const canvas of canvases) {
+            try {
+                observer.observe(canvas, { box: 'device-pixel-content-box' });
+            } catch {
+                observer.observe(canvas);
+            }
         }
-    }
+        // A window that is moved to another screen may be as large as before, by other pixels.
+        matchMedia(`(resolution: ${devicePixelRatio}dppx)`).addEventListener('change', observe, { once: true });
+    };
+    observe();
 }
 
 // How many of the screen's pixels a canvas is wide and high, or nothing while it isn't shown.
