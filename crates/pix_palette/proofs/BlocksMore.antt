@@ -25,20 +25,13 @@ blocks_more entries blocks block h is = λ k d below. elim (cases_lt k (length b
       subst (IsBlock entries (16 * k)) (sym (last_there blocks block d k same)) (subst (λ j. IsBlock entries (16 * j) block) same is)
 ]
 
--- one group of spans more leaves the spans
-pub spans_stay : (blocks : List ColorBlock) (spans : List BlockSpans) (new : BlockSpans) → AreSpans blocks spans → AreSpans blocks (spans ++ new ∷ [])
-spans_stay blocks spans new h = record {
-  enough = λ k below.
-      let n : length (spans ++ new ∷ []) ≡ length spans + 1 = length-append spans (new ∷ []) in
-      omega (arith, h.enough k below);
-  each = λ k b s below.
-      subst (λ g. Covers g (k % 16) (get_or blocks k b)) (sym (get_or_append_left spans (new ∷ []) s (k / 16) (h.enough k below))) (h.each k b s below);
-}
+-- no block is one of the first entries, and needs no span
+pub no_blocks : (entries : List (List ℕ)) (blocks : List ColorBlock) → blocks ≡ [] → AreBlocks entries blocks
+no_blocks entries blocks e = subst (AreBlocks entries) (sym e) (λ k d below. absurd (omega arith))
 
--- there are spans for one block more, or one group of them is wanted
-pub spans_enough : (blocks : List ColorBlock) (spans : List BlockSpans) → AreSpans blocks spans → length blocks / 16 ≤ length spans
-spans_enough [] spans h = omega arith
-spans_enough (block ∷ blocks) spans h = (let one : length blocks / 16 < length spans = h.enough (length blocks) (omega arith) in omega arith)
+pub no_spans : (blocks : List ColorBlock) (spans : List BlockSpans) → blocks ≡ [] → AreSpans blocks spans
+no_spans blocks spans e =
+    subst (λ b. AreSpans b spans) (sym e) (record { enough = λ k below. absurd (omega arith); each = λ k b s below. absurd (omega arith) })
 
 -- the span of the block after the last, of number k, is set, and the others stay
 pub span_set : (blocks : List ColorBlock) (spans : List BlockSpans) (k : ℕ) (old new : BlockSpans) → AreSpans blocks spans → k ≡ length blocks

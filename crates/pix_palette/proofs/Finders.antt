@@ -105,23 +105,17 @@ module _ (colors : List (List ℕ)) (color : List ℕ) where
 none_yet : (colors : List (List ℕ)) (h n : ℕ) → n ≡ 0 → IsLatest colors h n 0
 none_yet colors h n e = record { within = omega arith; placed = λ some. absurd (omega arith); none = λ i from below. absurd (omega arith) }
 
-no_earlier : (latest earlier : List ℕ) → length latest ≡ 0 → (length latest ≡ 16384) ⊎ ((length latest ≡ 0) × (length earlier ≡ 0)) → length earlier ≡ 0
-no_earlier latest earlier none (inl e) = absurd (omega arith)
-no_earlier latest earlier none (inr both) = both.1
-
 -- places that are made have no entry
-pub places_made : (colors : List (List ℕ)) (latest made earlier : List ℕ) → length latest ≡ 0 → made ≡ replicate 16384 0 → IsFinder colors latest earlier
-    → IsFinder colors made earlier
-places_made colors latest made earlier none e h =
-    let empty : length earlier ≡ 0 = no_earlier latest earlier none h.made in
+pub places_made : (colors : List (List ℕ)) (made earlier : List ℕ) → made ≡ replicate 16384 0 → length earlier ≡ 0 → IsFinder colors made earlier
+places_made colors made earlier e none =
     let long : length made ≡ 16384 = ap length e ∙ length-replicate {A = ℕ} 16384 0 in
     record {
       made = inl long;
-      within = h.within;
+      within = omega arith;
       last = λ g d below.
           let zero_there : get_or made g d ≡ 0 = ap (λ l. get_or l g d) e ∙ get_or-replicate 16384 g 0 d (omega (arith, long)) in
-          subst (IsLatest colors g (length earlier)) (sym zero_there) (none_yet colors g (length earlier) empty);
-      before = h.before;
+          subst (IsLatest colors g (length earlier)) (sym zero_there) (none_yet colors g (length earlier) none);
+      before = λ i d below. absurd (omega arith);
     }
 
 -- one more color leaves the latest of another place

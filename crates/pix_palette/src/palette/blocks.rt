@@ -1,7 +1,7 @@
 //! Blocks of the entries of a palette, by which the match of a color is found.
 //!
-//! Where a request for memory is refused, there are fewer blocks than entries: no answer depends on how many there are.
-ghost use Rattle.std.specs.Prelude.{◌≡◌, ◌/◌, ◌<◌, ℕ, List, [], ◌∷◌, ◌++◌, length, map, true, false};
+//! Their memory is asked for once. Where that is refused there are none: no answer depends on how many there are.
+ghost use Rattle.std.specs.Prelude.{◌≡◌, ℕ, List, [], ◌∷◌, ◌++◌, map, true, false};
 ghost use Rattle.pix_table.specs.Spans.{AreSpans};
 ghost use Rattle.pix_palette.specs.Finder.{HasBlocks};
 ghost use Rattle.pix_palette.specs.Palette.{numbers};
@@ -10,42 +10,52 @@ use pix_el::rgb::SRgb8;
 use pix_table::{BlockSpans, ColorBlock};
 use std::alloc::Global;
 
+/// How many entries a block has, and how many blocks the spans of one group.
+const SIZE: usize = 16;
+
 /// Blocks of the first entries, sixteen each, and the spans of those blocks.
 #[derive(Drop)]
 pub(super) struct Blocks {
     pub(super) spans: Vec<BlockSpans>,
     pub(super) blocks: Vec<ColorBlock>,
+    room: usize,
+    asked: bool,
 }
 
 impl Blocks {
-    /// Makes no blocks, which takes no memory.
-    pub(super) fn new(alloc: Global) -> Blocks
+    /// Makes no blocks, which takes no memory. They may come to be of `room` entries.
+    pub(super) fn new(alloc: Global, room: usize) -> Blocks
         ensures { (colors : List (List ℕ)) → HasBlocks colors result }
     {
         Blocks {
             spans: Vec::new(alloc),
             blocks: Vec::new(alloc),
+            room,
+            asked: false,
         }
     }
 
-    /// Makes room for the span of one block more; returns whether there is.
-    fn make_room(&mut self) -> bool
-        requires { AreSpans self.old.blocks.items self.old.spans.items }
-        ensures spans { AreSpans self.new.blocks.items self.new.spans.items }
-        ensures room { result ≡ true
-            → length self.new.blocks.items / 16 < length self.new.spans.items }
-        ensures blocks { self.new.blocks ≡ self.old.blocks }
+    /// Asks for the memory of as many blocks as there may be and of their spans, once.
+    fn take_memory(&mut self, alloc: Global)
+        ensures { (colors : List (List ℕ)) → HasBlocks colors self.old
+            → HasBlocks colors self.new }
     {
-        if self.blocks.len() / 16 < self.spans.len() {
-            return true;
+        if self.asked {
+            return;
         }
-        if self.spans.push(BlockSpans::new()).is_err() {
-            return false;
-        }
-        true
+        self.asked = true;
+        let count = self.room / SIZE;
+        let Ok(blocks) = Vec::with_capacity(alloc, count) else {
+            return;
+        };
+        let Ok(spans) = Vec::from_elem(alloc, BlockSpans::new(), count / SIZE + 1) else {
+            return;
+        };
+        self.spans = spans;
+        self.blocks = blocks;
     }
 
-    /// Adds a block with its span; returns whether memory was given for both.
+    /// Adds a block with its span; returns whether there is room for both.
     fn add(&mut self, block: ColorBlock) -> bool
         requires { AreSpans self.old.blocks.items self.old.spans.items }
         ensures spans { AreSpans self.new.blocks.items self.new.spans.items }
@@ -53,24 +63,23 @@ impl Blocks {
             → self.new.blocks.items ≡ self.old.blocks.items ++ block ∷ [] }
         ensures refused { result ≡ false → self.new.blocks.items ≡ self.old.blocks.items }
     {
-        if !self.make_room() {
-            return false;
-        }
         let k = self.blocks.len();
-        self.spans[k / 16].set(k % 16, &block);
-        if self.blocks.push(block).is_err() {
+        if k >= self.blocks.capacity() || k / SIZE >= self.spans.len() {
             return false;
         }
+        self.spans[k / SIZE].set(k % SIZE, &block);
+        self.blocks.push_reserved(block);
         true
     }
 
-    /// Adds blocks of the entries that came after those of which it has some, as far as memory is given.
-    pub(super) fn follow(&mut self, colors: &[SRgb8])
+    /// Adds blocks of the entries that came after those of which it has some, as far as there is room.
+    pub(super) fn follow(&mut self, alloc: Global, colors: &[SRgb8])
         requires { HasBlocks (map numbers colors.now) self.old }
         ensures { HasBlocks (map numbers colors.now) self.new }
     {
-        for k in self.blocks.len()..colors.len() / 16 {
-            if !self.add(ColorBlock::new(colors, 16 * k)) {
+        self.take_memory(alloc);
+        for k in self.blocks.len()..colors.len() / SIZE {
+            if !self.add(ColorBlock::new(colors, SIZE * k)) {
                 return;
             }
         }

@@ -1,8 +1,8 @@
 //! A finder of the entries of a palette that are a color, by which no other entry is looked at but those of the same place.
 //!
 //! Each color has one of so many places, by multiplicative hashing (D. E. Knuth, *The Art of Computer Programming*, 6.4), and the entries
-//! of a place are linked from the latest to the first. Where a request for memory is refused, the finder stays behind the palette,
-//! and all entries are looked at: no answer depends on it.
+//! of a place are linked from the latest to the first. Its memory is asked for once; where that is refused, all entries are looked at:
+//! no answer depends on it.
 ghost use Rattle.std.specs.Prelude.{◌≡◌, ◌+◌, ◌<◌, ◌≤◌, ℕ, List, [], length, map, MatchOption, slice_index_or, true};
 ghost use Rattle.pix_table.specs.PaletteMatch.{IsFirstOf};
 ghost use Rattle.pix_palette.specs.Palette.{numbers};
@@ -19,8 +19,11 @@ const PLACES: usize = 16384;
 /// With fewer entries than these all are looked at.
 const FEW: usize = 128;
 
-/// How many colors are looked for among all entries before the places are made, which takes no longer than they did.
-const EARLY: usize = 8;
+/// How often each entry, and so many more, are compared with colors before the places are made, which takes no longer than that did.
+const TIMES: usize = 4;
+
+/// How many more entries.
+const MORE: usize = 2048;
 
 /// The greatest number of entries.
 const MOST: usize = 4294967295;
@@ -31,7 +34,9 @@ pub(super) struct Finder {
     latest: Vec<u32>,
     earlier: Vec<u32>,
     pub(super) blocks: Blocks,
-    asked: usize,
+    room: usize,
+    compared: usize,
+    asked: bool,
 }
 
 /// Returns the place of a color.
@@ -47,19 +52,44 @@ fn place_of(clr: SRgb8) -> usize
 }
 
 impl Finder {
-    /// Makes a finder of no entries, which takes no memory.
-    pub(super) fn new(alloc: Global) -> Finder
+    /// Makes a finder of no entries, which takes no memory. It may come to have `room` entries.
+    pub(super) fn new(alloc: Global, room: usize) -> Finder
         ensures { (colors : List (List ℕ)) → Follows colors result }
     {
         Finder {
             latest: Vec::new(alloc),
             earlier: Vec::new(alloc),
-            blocks: Blocks::new(alloc),
-            asked: 0,
+            blocks: Blocks::new(alloc, room),
+            room,
+            compared: 0,
+            asked: false,
         }
     }
 
-    /// Makes the places, if there are none, there are enough entries, and enough colors were looked for; returns whether they are made.
+    /// Asks for the memory of all places and of as many entries as there may be, once; returns whether it was given.
+    fn take_memory(&mut self, alloc: Global) -> bool
+        ensures finder { (colors : List (List ℕ))
+            → IsFinder colors self.old.latest.items self.old.earlier.items
+            → IsFinder colors self.new.latest.items self.new.earlier.items }
+        ensures made { result ≡ true → length self.new.latest.items ≡ 16384 }
+        ensures blocks { self.new.blocks ≡ self.old.blocks }
+    {
+        if self.asked {
+            return false;
+        }
+        self.asked = true;
+        let Ok(latest) = Vec::from_elem(alloc, 0, PLACES) else {
+            return false;
+        };
+        let Ok(earlier) = Vec::with_capacity(alloc, self.room) else {
+            return false;
+        };
+        self.latest = latest;
+        self.earlier = earlier;
+        true
+    }
+
+    /// Makes the places, if there are none, there are enough entries, and enough of them were compared with colors; returns whether they are made.
     fn make(&mut self, alloc: Global, count: usize) -> bool
         ensures finder { (colors : List (List ℕ))
             → IsFinder colors self.old.latest.items self.old.earlier.items
@@ -67,26 +97,22 @@ impl Finder {
         ensures made { (colors : List (List ℕ))
             → IsFinder colors self.old.latest.items self.old.earlier.items
             → result ≡ true → length self.new.latest.items ≡ 16384 }
-        ensures same { self.new.earlier ≡ self.old.earlier }
         ensures blocks { self.new.blocks ≡ self.old.blocks }
     {
-        if self.latest.len() == 0 {
-            if count < FEW {
-                return false;
-            }
-            if self.asked < EARLY {
-                self.asked += 1;
-                return false;
-            }
-            match Vec::from_elem(alloc, 0, PLACES) {
-                Ok(latest) => self.latest = latest,
-                Err(_) => return false,
-            }
+        if self.latest.len() > 0 {
+            return true;
         }
-        true
+        if count < FEW {
+            return false;
+        }
+        if (self.compared / TIMES).saturating_sub(count) < MORE {
+            self.compared = self.compared.saturating_add(count);
+            return false;
+        }
+        self.take_memory(alloc)
     }
 
-    /// Adds the color of the next entry; returns whether it could.
+    /// Adds the color of the next entry; returns whether there is room for it.
     fn add(&mut self, clr: SRgb8) -> bool
         requires made { length self.old.latest.items ≡ 16384 }
         ensures made { length self.new.latest.items ≡ 16384 }
@@ -100,14 +126,12 @@ impl Finder {
         ensures blocks { self.new.blocks ≡ self.old.blocks }
     {
         let count = self.earlier.len();
-        if count >= MOST {
+        if count >= MOST || count >= self.earlier.capacity() {
             return false;
         }
         let place = place_of(clr);
         let before = self.latest[place];
-        if self.earlier.push(before).is_err() {
-            return false;
-        }
+        self.earlier.push_reserved(before);
         self.latest[place] = count as u32 + 1;
         true
     }

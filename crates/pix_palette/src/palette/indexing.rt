@@ -154,7 +154,7 @@ impl Palette {
         ensures threshold { self.new.threshold ≡ self.old.threshold }
     {
         let mut cache = Cache::new();
-        let mut finder = Finder::new(alloc);
+        let mut finder = self.finder_of(alloc, pixels.len());
         for i in 0..pixels.len() {
             let clr = pixels[i].convert::<SRgb8>();
             match self.set_index(alloc, &mut cache, &mut finder, clr, P::GREATEST) {

@@ -1,5 +1,5 @@
 //! Colors that are kept beside a palette while an image is indexed.
-ghost use Rattle.std.specs.Prelude.{◌≡◌, [], ◌∷◌, map, true};
+ghost use Rattle.std.specs.Prelude.{◌≡◌, ℕ, List, [], ◌∷◌, map, true};
 ghost use Rattle.std.specs.Option.{option_map};
 ghost use Rattle.pix_table.specs.Kept.{AreRight};
 ghost use Rattle.pix_table.specs.Nearest.{numbers as color_numbers};
@@ -25,7 +25,7 @@ impl Palette {
     /// Returns the entry that stands for a color: the first that is the color, which the finder knows, or else one within the threshold.
     ///
     /// Condition: the finder has all entries.
-    fn standing_found(&self, finder: &mut Finder, clr: SRgb8) -> Option<usize>
+    fn standing_found(&self, alloc: Global, finder: &mut Finder, clr: SRgb8) -> Option<usize>
         requires finder { Follows (map numbers self.now.colors.items) finder.old }
         requires whole { IsWhole (map numbers self.now.colors.items)
             finder.old.latest.items finder.old.earlier.items }
@@ -36,12 +36,12 @@ impl Palette {
     {
         match finder.first(&self.colors, clr) {
             Some(first) => Some(first),
-            None => self.standing_near(&mut finder.blocks, clr),
+            None => self.standing_near(alloc, &mut finder.blocks, clr),
         }
     }
 
     /// Returns the entry that stands for a color which no entry is: there is none where the threshold is 0, and then no blocks are made.
-    fn standing_near(&self, blocks: &mut Blocks, clr: SRgb8) -> Option<usize>
+    fn standing_near(&self, alloc: Global, blocks: &mut Blocks, clr: SRgb8) -> Option<usize>
         requires nowhere { IsNowhere (map numbers self.now.colors.items) (numbers clr) }
         requires blocks { HasBlocks (map numbers self.now.colors.items) blocks.old }
         ensures standing { StandsFor
@@ -53,7 +53,7 @@ impl Palette {
         if is_zero(threshold) {
             return None;
         }
-        blocks.follow(&self.colors);
+        blocks.follow(alloc, &self.colors);
         standing_in(
             &blocks.spans,
             &blocks.blocks,
@@ -72,10 +72,18 @@ impl Palette {
         ensures finder { Follows (map numbers self.now.colors.items) finder.new }
     {
         if finder.follow(alloc, &self.colors) {
-            self.standing_found(finder, clr)
+            self.standing_found(alloc, finder, clr)
         } else {
             self.standing(clr)
         }
+    }
+
+    /// Makes a finder of no entries for so many colors that are set one after the other.
+    pub(super) fn finder_of(&self, alloc: Global, count: usize) -> Finder
+        ensures { (colors : List (List ℕ)) → Follows colors result }
+    {
+        let most = self.colors.len().saturating_add(count);
+        Finder::new(alloc, most.min(self.limit))
     }
 
     /// Sets a color as `set_entry` does; a color that is kept takes no search.

@@ -1,9 +1,12 @@
--- Of `Blocks::follow`: that the blocks stay where memory is refused, and that the invariant of its loop over `k` holds after each turn.
+-- Of `Blocks::follow`: that the blocks stay where there is no room, and that the invariant of its loop over `k` holds at first and after each turn.
 use Rattle.std.proofs.Common.{◌≡◌, ◌+◌, ◌*◌, ◌∷◌, ◌++◌, [], length, map, refl, sym, subst, arith, length-append}
 use Rattle.pix_table.specs.ColorBlocks.{AreBlocks, IsBlock}
 use Rattle.pix_palette.specs.Palette.{numbers}
 use Rattle.pix_palette.proofs.BlocksMore.{blocks_more}
 use Rattle.pix_palette.proofs.palette.blocks.Blocks.follow.Goals as goal
+
+pub loop-k-init : goal.loop-k-init
+loop-k-init c = record { has = c.take_memory.ensures (map numbers c.args.colors.now) c.requires; count = omega (arith, c.len-k.ensures) }
 
 pub returns-then-not-add : goal.returns-then-not-add
 returns-then-not-add c = record {
