@@ -57,6 +57,7 @@ pub use Rattle.pix_table.specs.From
 pub use Rattle.pix_table.specs.Diffusion
 pub use Rattle.pix_table.specs.LookUp
 pub use Rattle.pix_palette.specs.Palette
+pub use Rattle.pix_palette.specs.Entries
 pub use Rattle.pix_palette.specs.Histogram
 pub use Rattle.pix_palette.specs.Indexing
 pub use Rattle.pix_palette.specs.ColorTable

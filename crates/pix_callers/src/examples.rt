@@ -83,6 +83,7 @@ fn examples_of_rasters(rt: HostRuntime) -> Result<(), Fail> {
 fn examples_of_palettes(rt: HostRuntime) -> Result<(), Fail> {
     let blue = SRgb8::new::<u8>(0, 0, 200);
     assert_eq!(rt; palettes::entries(rt.alloc())?, (2, Some(blue)));
+    assert_eq!(rt; palettes::many_entries(rt.alloc())?, (2, Some(0)));
     let counts = palettes::counted(rt.alloc())?;
     assert!(rt; counts.is_some_and(|counts| counts.as_slice() == [3usize].as_slice()));
     Ok(())

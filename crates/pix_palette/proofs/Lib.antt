@@ -6,3 +6,4 @@ pub mod Thresholds
 pub mod Mapped
 pub mod Finders
 pub mod BlocksMore
+pub mod Entries

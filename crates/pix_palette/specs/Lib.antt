@@ -3,3 +3,4 @@ pub mod Histogram
 pub mod Indexing
 pub mod ColorTable
 pub mod Finder
+pub mod Entries

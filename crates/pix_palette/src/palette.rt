@@ -9,6 +9,7 @@ ghost use Rattle.pix_raster.specs.declared.fault.RasterFault.{RasterFault};
 
 mod blocks;
 mod color_table;
+mod entries;
 mod finder;
 mod index;
 mod indexing;

@@ -19,6 +19,15 @@ pub fn entries(alloc: Global) -> Result<(usize, Option<SRgb8>), RasterFault> {
     Ok((size, second.or(none)))
 }
 
+/// Sets many colors at once, and answers how many entries there are then, and which the last color is.
+pub fn many_entries(alloc: Global) -> Result<(usize, Option<usize>), RasterFault> {
+    let (red, blue) = (SRgb8::new::<u8>(200, 0, 0), SRgb8::new::<u8>(0, 0, 200));
+    let mut palette = Palette::new(alloc, 16)?;
+    let mut answers = [None; 3];
+    palette.set_entries(alloc, &[red, blue, red], &mut answers); // Some(0), Some(1) and Some(0)
+    Ok((palette.len(), answers[2]))
+}
+
 /// Counts indices.
 pub fn counted(alloc: Global) -> Result<Option<Vec<usize>>, RasterFault> {
     let mut palette = Palette::new(alloc, 16)?;
