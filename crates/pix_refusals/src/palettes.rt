@@ -146,3 +146,45 @@ pub(crate) fn make_indexed_of_many(alloc: Global) -> bool {
         Err((fault, _)) => fault == RasterFault::Memory && palette.is_empty(),
     }
 }
+
+/// How far a color may be from the one that stands for it: in green alone.
+fn near(_entries: usize) -> SRgb8 {
+    SRgb8::new(0u8, 1u8, 0u8)
+}
+
+/// Colors within a threshold are found by blocks, and where a request for those is refused, among all entries: the answer is the same.
+pub(crate) fn make_indexed_near(alloc: Global) -> bool {
+    let (Ok(mut palette), Some(mut raster)) = (Palette::new(alloc, 200), many_colors(alloc)) else {
+        return true;
+    };
+    palette.set_threshold_fn(near);
+    if let Some(last) = raster.pixels_mut().last_mut() {
+        *last = SRgb8::new(5u8, 10u8, 7u8);
+    }
+    match palette.make_indexed(alloc, raster) {
+        Ok(Some(image)) => {
+            palette.len() == 200
+                && image.pixels().get(199) == Some(&Gray8::new(199u8))
+                && image.pixels().last() == Some(&Gray8::new(5u8))
+        }
+        Ok(None) => false,
+        Err((fault, _)) => fault == RasterFault::Memory && palette.is_empty(),
+    }
+}
+
+/// Nothing is answered but what the colors have one by one, whatever is refused.
+pub(crate) fn set_entries(alloc: Global) -> bool {
+    let (Ok(mut palette), Some(raster)) = (Palette::new(alloc, 199), many_colors(alloc)) else {
+        return true;
+    };
+    palette.set_threshold_fn(near);
+    let mut answers = [Some(7); 201];
+    if raster.pixels().len() != answers.len() {
+        return false;
+    }
+    palette.set_entries(alloc, raster.pixels(), &mut answers);
+    palette.len() == 199
+        && answers[198] == Some(198)
+        && answers[199].is_none()
+        && answers[200] == Some(0)
+}
