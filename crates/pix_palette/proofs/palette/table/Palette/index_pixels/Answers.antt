@@ -8,7 +8,7 @@ use Rattle.pix_palette.proofs.IndexingSets.{color_at, value_more, many_colors, m
 use Rattle.pix_palette.proofs.palette.table.Palette.index_pixels.Goals as goal
 
 pub loop-i-init : goal.loop-i-init
-loop-i-init g c = record { set = none_set _ _ _ _ _ _; gray = refl; right = none_right _ (map numbers c.args.self.now.colors.items) _ c.new-cache.ensures; finder = c.new-finder.ensures (map numbers c.args.self.now.colors.items); limit = refl; threshold = refl }
+loop-i-init g c = record { set = none_set _ _ _ _ _ _; gray = refl; right = none_right _ (map numbers c.args.self.now.colors.items) _ c.new-cache.ensures; finder = c.finder_of-finder.ensures (map numbers c.args.self.now.colors.items); limit = refl; threshold = refl }
 
 pub returns-in-None-clause-indexed : goal.returns-in-None-clause-indexed
 returns-in-None-clause-indexed g c =
