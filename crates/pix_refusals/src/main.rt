@@ -42,7 +42,6 @@ fn main(rt: HostRuntime) -> ExitCode {
             "make_indexed_of_many",
             palettes::make_indexed_of_many(alloc),
         ),
-        ("make_indexed_near", palettes::make_indexed_near(alloc)),
         ("set_entries", palettes::set_entries(alloc)),
     ] {
         if !right {

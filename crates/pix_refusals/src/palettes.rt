@@ -131,29 +131,14 @@ fn many_colors(alloc: Global) -> Option<Raster<SRgb8>> {
     Some(raster)
 }
 
-/// Colors are found by places, and where a request for those is refused, among all entries: the answer is the same.
-pub(crate) fn make_indexed_of_many(alloc: Global) -> bool {
-    let (Ok(mut palette), Some(raster)) = (Palette::new(alloc, 200), many_colors(alloc)) else {
-        return true;
-    };
-    match palette.make_indexed(alloc, raster) {
-        Ok(Some(image)) => {
-            palette.len() == 200
-                && image.pixels().get(199) == Some(&Gray8::new(199u8))
-                && image.pixels().last() == Some(&Gray8::new(0u8))
-        }
-        Ok(None) => false,
-        Err((fault, _)) => fault == RasterFault::Memory && palette.is_empty(),
-    }
-}
-
 /// How far a color may be from the one that stands for it: in green alone.
 fn near(_entries: usize) -> SRgb8 {
     SRgb8::new(0u8, 1u8, 0u8)
 }
 
-/// Colors within a threshold are found by blocks, and where a request for those is refused, among all entries: the answer is the same.
-pub(crate) fn make_indexed_near(alloc: Global) -> bool {
+/// Colors are found by places, and those within a threshold by blocks. Where a request for those is refused, all entries are looked at:
+/// the answer is the same.
+pub(crate) fn make_indexed_of_many(alloc: Global) -> bool {
     let (Ok(mut palette), Some(mut raster)) = (Palette::new(alloc, 200), many_colors(alloc)) else {
         return true;
     };
@@ -177,7 +162,6 @@ pub(crate) fn set_entries(alloc: Global) -> bool {
     let (Ok(mut palette), Some(raster)) = (Palette::new(alloc, 199), many_colors(alloc)) else {
         return true;
     };
-    palette.set_threshold_fn(near);
     let mut answers = [Some(7); 201];
     if raster.pixels().len() != answers.len() {
         return false;
