@@ -6,6 +6,7 @@ import io
 import os
 import pathlib
 import struct
+import subprocess
 import sys
 import tempfile
 import unittest
@@ -265,6 +266,29 @@ class Saved(Trial):
                 shown = fan()._repr_png_()
                 self.assertEqual(straight(pix.Image.open(io.BytesIO(shown))), straight(fan()))
                 self.assertIsNone(pix.Image.new(0, 4)._repr_png_())
+
+
+class Readme(Trial):
+    """What bindings/README.md shows."""
+
+    @unittest.skipIf(pillow is None, "Pillow is not there")
+    def test_the_example_of_files(self):
+        text = (pathlib.Path(__file__).resolve().parent.parent / "README.md").read_text()
+        code = next(part for part in text.split("```python\n") if "Image.open" in part).split(
+            "```"
+        )[0]
+        pillow.effect_noise((90, 60), 60).convert("RGB").save(self.folder / "photo.jpg")
+        ran = subprocess.run(
+            [sys.executable, "-c", code],
+            cwd=self.folder,
+            capture_output=True,
+            text=True,
+            env={**os.environ, "PYTHONPATH": str(pathlib.Path(pix.__file__).parent.parent)},
+        )
+        self.assertEqual((ran.returncode, ran.stderr), (0, ""))
+        with pillow.open(self.folder / "badged.png") as made:
+            self.assertEqual((made.size, made.mode), ((90, 60), "RGB"))
+            self.assertNotEqual(made.getpixel((20, 20)), made.getpixel((80, 50)))
 
 
 class Png(Trial):
