@@ -236,10 +236,26 @@ class Arrays(unittest.TestCase):
     def test_a_size_that_is_not_the_arrays(self):
         shaped = memoryview(bytearray(6 * 10 * 4)).cast("B", (6, 10, 4))
         for sizes in ((6, 10), (10, 7), (11, 6), (9, 6), (9, 6, 9)):
-            with self.assertRaisesRegex(ValueError, "an array of 10 x 6 pixels is not one of"):
+            with self.assertRaisesRegex(ValueError, "an array of 10 x 6 elements is not one of"):
                 pix.Image(shaped, *sizes, type=pix.RGBA8)
         for sizes in ((10, 6), (10, 3), (9, 6, 10), (4, 1)):
             self.assertEqual(pix.Image(shaped, *sizes, type=pix.RGBA8).width, sizes[0])
+
+        values = memoryview(bytes(60)).cast("B", (6, 10))
+        self.assertRaisesRegex(ValueError, "10 x 6 elements", pix.Matte, values, 6, 10)
+        self.assertEqual(pix.Matte(values, 10, 6).width, 10)
+
+    def test_an_array_of_other_pixels(self):
+        for shape, format in (((2, 3, 3), "SRGB8"), ((2, 9), "SGRAY8"), ((2, 3, 2), "SGRAYA8")):
+            array = memoryview(bytes(18 if shape != (2, 3, 2) else 12)).cast("B", shape)
+            with self.assertRaises(TypeError) as caught:
+                pix.Image(array)
+            code = str(caught.exception).split(": write ")[1].split(" for ")[0]
+            self.assertIn(format, code)
+            self.assertEqual(eval(code, {"pix": pix, "array": array}).height, 2)
+        for shape in ((18,), (2, 3, 1, 3), (1, 2, 9)):
+            with self.assertRaisesRegex(TypeError, "the shape of the buffer doesn't tell them"):
+                pix.Image(memoryview(bytes(18)).cast("B", shape))
 
     @unittest.skipIf(numpy is None, "no numpy")
     def test_the_pixels_themselves(self):

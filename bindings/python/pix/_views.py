@@ -4,7 +4,7 @@ from __future__ import annotations
 
 import ctypes
 import sys
-from typing import Any, Dict, NamedTuple, Optional, SupportsIndex
+from typing import Any, Dict, NamedTuple, Optional, SupportsIndex, Tuple
 
 from pix._memory import Buffer, Memory
 from pix._pixels import PixelType
@@ -34,7 +34,7 @@ def rows_of(buffer: Any, width: Any, height: Any, stride: Any, element: Any, typ
     if width is None and height is None and len(memory.shape) > 1 and memory.row == memory.shape[1] * size:
         width, height = memory.shape[1], memory.shape[0]
     if width is None or height is None:
-        raise TypeError("width and height are missing, and the shape of the buffer doesn't tell them")
+        raise TypeError(f"width and height are missing, and {untold(memory.shape, type)}")
     width, height = u32(width, "width"), u32(height, "height")
     taken = width if stride is None else stride
     if memory.has_gaps:
@@ -43,14 +43,24 @@ def rows_of(buffer: Any, width: Any, height: Any, stride: Any, element: Any, typ
         if memory.step % size or stride is not None and taken != memory.step // size:
             raise ValueError(f"rows that start {memory.step} bytes apart have no such stride")
         taken = u32(memory.step // size, "stride")
-    elif len(memory.shape) > 2 and memory.row == memory.shape[1] * size:
+    elif len(memory.shape) > 1 and memory.row == memory.shape[1] * size:
         high, wide = memory.shape[:2]
         if height > high or width > wide or (height > 1 and taken != wide):
             said = f"{width} x {height}, {taken} apart"
-            raise ValueError(f"an array of {wide} x {high} pixels is not one of {said}")
+            raise ValueError(f"an array of {wide} x {high} elements is not one of {said}")
     if memory.address % ctypes.alignment(element):
         raise ValueError("the buffer is not aligned to channels of 16 bits")
     return Rows(memory, element, memory.length // size, width, height, taken, type)
+
+
+def untold(shape: Tuple[int, ...], type: Optional[PixelType]) -> str:
+    """Why the shape of a buffer doesn't tell the width and the height, and what to write."""
+    formats = {1: "pix.SGRAY8", 2: "pix.SGRAYA8", 3: "pix.SRGB8", 4: "pix.SRGBA8"}
+    samples = 1 if len(shape) == 2 else shape[-1] if len(shape) == 3 else 0
+    if type is None or samples not in formats:
+        return "the shape of the buffer doesn't tell them"
+    instead = f"pix.Image.from_array(array, {formats[samples]})"
+    return f"an array of shape {shape} has no pixels of {type}: write {instead} for one of sRGB"
 
 
 class View:
