@@ -190,8 +190,29 @@ class OneWayIn(unittest.TestCase):
                 self.assertTrue(caller.are_free or name == "Image.run", f"{name} asks for a number with a buffer in its hands")
 
     def test_each_function_that_takes_a_buffer_is_among_them(self):
-        names = [name for name in pix.__all__ if callable(getattr(pix, name)) and "Buffer" in str(getattr(getattr(pix, name), "__annotations__", ""))]
-        self.assertLessEqual(set(names), {name for name, _ in TAKEN})
+        names = set()
+        for name in pix.__all__:
+            item = getattr(pix, name)
+            members = {f"{name}.{key}": getattr(member, "__func__", member) for key, member in vars(item).items()} if isinstance(item, type) else {}
+            for key, member in {name: item, **members}.items():
+                if "Buffer" in str(getattr(member, "__annotations__", "")):
+                    names.add(key.replace(".__init__", ""))
+        self.assertLessEqual({"Image", "Image.from_array", "Matte", "table_from", "look_up"}, names)
+        self.assertLessEqual(names, {name for name, _ in TAKEN})
+
+    def test_objects_that_say_they_are_others(self):
+        asked, image = [], pix.Image.new(4, 4)
+        for kind in (pix.Command, pix.CommandList, pix.Image, pix.Matte, pix.PixelType):
+            class_of = property(lambda self, kind=kind: asked.append(kind) or kind)
+            given = type("Lying", (), {"__class__": class_of, "__getattr__": lambda self, name: asked.append(name)})()
+            for call in (lambda: image.run(given), lambda: image.run(given, given), lambda: pix.copy_image((0, 0, 1, 1), given),
+                         lambda: pix.composite_matte((0, 0, 1, 1), given, (9, 9, 9, 9)), lambda: pix.Command(4, source=given),
+                         lambda: pix.Image.new(1, 1, given), lambda: pix.CommandList(given)):  # fmt: skip
+                self.assertRaises(TypeError, call)
+        self.assertEqual([name for name in asked if isinstance(name, str)], [])
+        registered = type("Registered", (), {"_listed": None})
+        pix.CommandList.register(registered)
+        self.assertRaises(TypeError, image.run, registered())
 
     def test_a_table_that_answers_twice(self):
         class Table(bytes):
@@ -440,12 +461,16 @@ class Interrupts(unittest.TestCase):
         self.assertGreater(interrupts, 20)
 
     def test_a_handler_may_paint(self):
-        image, other, painted = pix.Image.new(64, 64), pix.Image.new(64, 64), []
+        image, other, painted, inside = pix.Image.new(64, 64), pix.Image.new(64, 64), [], []
 
         def paint(*_):
+            if inside:
+                raise Interrupted("a handler waits for itself")
+            inside.append(1)
+            signal.setitimer(signal.ITIMER_REAL, 20)
             for each in (image, other):
                 each.run(*[pix.copy_color((0, 0, 64, 64), (1, 2, 3, 4))] * (1 if len(painted) % 2 else 200))
-            painted.append(1)
+            painted.append(inside.pop())
             signal.setitimer(signal.ITIMER_REAL, 100e-6)
 
         self.handled(paint)

@@ -5,7 +5,7 @@ from __future__ import annotations
 from typing import Any, Iterable, List, Optional, SupportsIndex, Tuple, Union
 
 from pix._colors import AnyColor, Color, Srgb, fitted, taken
-from pix._memory import NOWHERE, Memory
+from pix._memory import NOWHERE, Memory, is_a, name_of
 from pix._numbers import index
 from pix._pixels import PixelType, RegionRecord
 from pix._values import Op, Region, region_of, u32
@@ -26,7 +26,7 @@ class Command:
         mask: Optional[View] = None, mask_from: Optional[Iterable[SupportsIndex]] = None, alpha: SupportsIndex = 0,
     ) -> None:  # fmt: skip
         for view in (source, mask):
-            if view is not None and not isinstance(view, View):
+            if view is not None and not is_a(view, View):
                 raise TypeError(f"{type(view).__name__} is neither an Image nor a Matte")
         self._kind = u32(kind, "kind")
         self._op = u32(op, "operator")
@@ -105,9 +105,8 @@ def made(command: Command, type: PixelType) -> Tuple[Any, List[Memory]]:
 
     It runs no code of the caller: all numbers and buffers were taken when the command was made.
     """
-    if not isinstance(command, Command):
-        what = command.__class__.__name__
-        raise TypeError(f"{what} is not a Command: pass commands one by one, as in run(*commands)")
+    if not is_a(command, Command):
+        raise TypeError(f"{name_of(command)} is not a Command: pass commands one by one, as in run(*commands)")
     record = type._command(kind=command._kind, op=command._op)
     record.to, record.from_ = RegionRecord(*command._to), RegionRecord(*command._from)
     record.pixels = record.mattes = NOWHERE

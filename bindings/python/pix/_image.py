@@ -11,7 +11,7 @@ from pix._files import opened, saved, shown
 from pix._fresh import zeros
 from pix._library import LONG
 from pix._list import CommandList, Listed
-from pix._memory import Buffer
+from pix._memory import Buffer, is_a
 from pix._pillow import facts_of, image_of, picture_of
 from pix._pixels import RGBA8, RGBA16, PixelType, kind_of
 from pix._turns import turns
@@ -218,7 +218,7 @@ class Image(View):
         """
         memory, _, count, width, height, stride, type = self._rows
         left, top = origin_of(origin)
-        if len(commands) == 1 and isinstance(commands[0], CommandList):
+        if len(commands) == 1 and is_a(commands[0], CommandList):
             listed = commands[0]._listed
             if listed.type is not type:
                 raise TypeError(f"a list for {listed.type} doesn't go with {type}")

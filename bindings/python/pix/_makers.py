@@ -7,6 +7,7 @@ from typing import Any, Iterable, List, Optional, SupportsIndex
 from pix._colors import AnyColor, fraction_of
 from pix._command import Command
 from pix._image import Image
+from pix._memory import is_a
 from pix._numbers import index
 from pix._values import Op, region_of
 from pix._views import Matte
@@ -17,7 +18,7 @@ _Color = AnyColor
 
 def _source(source: Any, wanted: Any) -> Any:
     """The source, if it is of the wanted class."""
-    if not isinstance(source, wanted):
+    if not is_a(source, wanted):
         raise TypeError(f"{type(source).__name__} is not {'an Image' if wanted is Image else 'a Matte'}")
     return source
 

@@ -30,6 +30,16 @@ _BYTES, _WORD = ("B", "c"), "H"
 _ORDER = "@=" + {"little": "<", "big": ">"}[sys.byteorder]
 
 
+def is_a(given: Any, kind: type) -> bool:
+    """Whether an object is of a class: by what it is, and not by what its `__class__` or a registry says."""
+    return type(given) is kind or type.__subclasscheck__(kind, type(given))
+
+
+def name_of(given: Any) -> str:
+    """The name of an object's class."""
+    return type(given).__name__
+
+
 class Memory:
     """The memory of a buffer: `rows` stretches of `row` bytes, `step` bytes apart.
 

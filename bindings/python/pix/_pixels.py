@@ -7,6 +7,7 @@ from enum import Enum
 from typing import Any, List
 
 from pix._library import libraries
+from pix._memory import is_a
 from pix._values import Format
 
 
@@ -64,7 +65,7 @@ RGBA8, RGBA16, GRAYA8 = PixelType
 
 def kind_of(type: Any) -> PixelType:
     """The kind of pixels, if it is one."""
-    if isinstance(type, PixelType):
+    if is_a(type, PixelType):
         return type
     if isinstance(type, str) and type.upper() in PixelType.__members__:
         raise TypeError(f"{type!r} is a text: write pix.{type.upper()}")
