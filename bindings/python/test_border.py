@@ -458,6 +458,8 @@ class Interrupts(unittest.TestCase):
             pixels.pop()
         self.another_paints(pix.Image(pixels, 64, 64))
         self.another_paints(sprite)
+        if "PIX_INTERRUPT_SECONDS" in os.environ:
+            print(f"{interrupts} interrupts of {number} rounds")
         self.assertGreater(interrupts, 20)
 
     def test_a_handler_may_paint(self):
