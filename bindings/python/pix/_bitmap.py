@@ -4,19 +4,14 @@ from __future__ import annotations
 
 import ctypes
 import importlib
-from typing import TYPE_CHECKING, Any, Optional, SupportsIndex, Tuple
+from typing import Any, Optional, SupportsIndex, Tuple
 
 from pix._calls import Call, Copy
-from pix._memory import Memory
+from pix._memory import Memory, is_held
 from pix._values import Format, PixError, Status, u32
-
-if TYPE_CHECKING:
-    from pix._views import Rows
+from pix._views import Rows
 
 _convert_rows = Call("pix_convert_rows")
-
-# The greatest width and height of a picture.
-MOST = 2**31 - 1
 
 
 class Bitmap:
@@ -64,11 +59,7 @@ class Bitmap:
     @property
     def is_held(self) -> bool:
         """Whether its memory holds the rows, and they share no byte."""
-        wide, apart = self.width * self.format.size, abs(self.stride)
-        if self.width > MOST or self.height > MOST or wide > apart:
-            return False
-        room = self.memory.length - wide
-        return self.height == 0 or room >= 0 and apart * (self.height - 1) <= room
+        return is_held(self.memory.length, self.width, self.height, abs(self.stride), self.format.size)
 
     def refuse_unheld(self, status: Status) -> None:
         """Raises a PixError where its memory doesn't hold it; before any other memory is made."""
@@ -106,22 +97,6 @@ def write_in_place(image: Bitmap, to: Format) -> None:
         _convert_rows(
             image.pixels, image.format, to, copy, memory, image.stride, image.stride, image.width, image.height
         )  # fmt: skip
-
-
-# The formats that a copy of a view's elements goes through, unchanged: by their bytes, and whether they are pixels.
-_SAME = {
-    (4, True): Format.RGBA8, (8, True): Format.RGBA16, (2, True): Format.GRAYA8, (1, False): Format.GRAY8,
-    (2, False): Format.GRAY16,
-}  # fmt: skip
-
-
-def copy_of(rows: Rows) -> bytearray:
-    """A copy of rows, without what lies between them. Raises PixError where their memory is too short."""
-    source = Bitmap.of_rows(rows, _SAME[ctypes.sizeof(rows.element), rows.type is not None])
-    source.refuse_unheld(Status.BAD_SIZE)
-    copy = bytearray(source.pixels * source.format.size)
-    write(Bitmap(copy, source.format, source.width, source.height), source)
-    return copy
 
 
 def convert_bitmap(

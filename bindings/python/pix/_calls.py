@@ -15,8 +15,8 @@ ENTRIES = 256
 _TABLE = ctypes.c_ubyte * (3 * ENTRIES)
 
 # Copies bytes, and keeps the interpreter's lock or lets it go.
-_moves = [kind(None).memmove for kind in (ctypes.PyDLL, ctypes.CDLL)]
-for _move in _moves:
+_MOVES = [kind(None).memmove for kind in (ctypes.PyDLL, ctypes.CDLL)]
+for _move in _MOVES:
     _move.argtypes, _move.restype = [ctypes.c_void_p, ctypes.c_void_p, ctypes.c_size_t], None
 
 
@@ -34,7 +34,7 @@ class Copy:
 
     def make(self, is_long: bool) -> None:
         """Copies the bytes that the room has place for."""
-        _moves[is_long](self.address, self.source.address, min(self.source.length, ctypes.sizeof(self.room)))
+        _MOVES[is_long](self.address, self.source.address, min(self.source.length, ctypes.sizeof(self.room)))
 
 
 def padded(table: Memory, length: int) -> Copy:
@@ -44,6 +44,25 @@ def padded(table: Memory, length: int) -> Copy:
     memory.
     """
     return Copy(table, _TABLE(), length)
+
+
+def copied_rows(memory: Memory, wide: int, apart: int, rows: int) -> bytearray:
+    """A copy of rows of `wide` bytes, which lie `apart`, without what lies between them; it takes its turn."""
+    copy = bytearray(wide * rows)
+    if not copy:
+        return copy
+    if wide == apart:
+        wide, rows = wide * rows, 1
+    is_long = len(copy) > LONG
+    move, target = _MOVES[is_long], Memory(copy).address
+
+    def move_rows() -> int:
+        for row in range(rows):
+            move(target + row * wide, memory.address + row * apart, wide)
+        return 0
+
+    turns.take(is_long, move_rows, (), [], [memory])
+    return copy
 
 
 class Call:

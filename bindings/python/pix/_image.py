@@ -5,13 +5,13 @@ from __future__ import annotations
 import ctypes
 from typing import Any, Iterable, Optional, SupportsIndex, Tuple, Union
 
-from pix._bitmap import MOST, Bitmap, new_array, write
+from pix._bitmap import Bitmap, new_array, write
 from pix._command import Command
 from pix._files import opened, saved, shown
 from pix._fresh import zeros
 from pix._library import LONG
 from pix._list import CommandList, Listed
-from pix._memory import Buffer, is_a
+from pix._memory import MOST, Buffer, is_a
 from pix._pillow import facts_of, image_of, picture_of
 from pix._pixels import RGBA8, RGBA16, PixelType, kind_of
 from pix._turns import turns

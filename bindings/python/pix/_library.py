@@ -7,10 +7,10 @@ import os
 import platform
 from typing import Any, List, Optional, Set
 
-# How much a long call does, in units of the table: some hundred microseconds.
+# From how many nanoseconds on, by the table, a call is long: it lets the interpreter's lock go.
 LONG = 500_000
 
-# What the library's functions take, in order, and what a pixel costs, in nanoseconds or so. A word says how a caller's memory
+# What a pixel costs, in nanoseconds or so, and what the library's functions take, in order. A word says how a caller's memory
 # is used, which is an address and a count of elements of so many bytes: a call takes its turn by just that.
 #
 #   read:n, write:n   read, or written
@@ -26,14 +26,14 @@ CALLS = {
     "pix_run_window_rgba16": (1, f"image:8 {_RUN}"),
     "pix_run_window_graya8": (1, f"image:2 {_RUN}"),
     "pix_convert_bytes": (4, "u32 u32 read:1 write:1 size"),
-    "pix_convert_rows": (4, "u32 u32 read:1 write:1 i64 i64 u32 u32"),
-    "pix_table_match": (32, "table:3 read:3 write:1"),
-    "pix_table_match_alpha": (32, "table:3 read:4 u8 u8 write:1"),
-    "pix_table_from": (64, "read:3 own size own size count"),
-    "pix_table_from_alpha": (64, "read:4 u8 own size own size count"),
-    "pix_table_diffuse": (64, "table:3 read:3 size own size write:1"),
-    "pix_table_diffuse_alpha": (64, "table:3 read:4 size u8 u8 own size write:1"),
-    "pix_table_index": (32, "table:3 count own read:3 own size"),
+    "pix_convert_rows": (24, "u32 u32 read:1 write:1 i64 i64 u32 u32"),
+    "pix_table_match": (16, "table:3 read:3 write:1"),
+    "pix_table_match_alpha": (16, "table:3 read:4 u8 u8 write:1"),
+    "pix_table_from": (32, "read:3 own size own size count"),
+    "pix_table_from_alpha": (32, "read:4 u8 own size own size count"),
+    "pix_table_diffuse": (48, "table:3 read:3 size own size write:1"),
+    "pix_table_diffuse_alpha": (48, "table:3 read:4 size u8 u8 own size write:1"),
+    "pix_table_index": (16, "table:3 count own read:3 own size"),
     "pix_table_look_up": (1, "table:3 read:1 write:3"),
     "pix_table_count": (1, "read:1 own size"),
     "pix_table_pack": (1, "u32 read:1 write:1"),

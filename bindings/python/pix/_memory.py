@@ -30,6 +30,18 @@ _BYTES, _WORD = ("B", "c"), "H"
 _ORDER = "@=" + {"little": "<", "big": ">"}[sys.byteorder]
 
 
+# The greatest width and height of a picture.
+MOST = 2**31 - 1
+
+
+def is_held(length: int, width: int, height: int, apart: int, size: int = 1) -> bool:
+    """Whether so many elements hold rows of `width` pixels of `size` each, `apart` from one to the next, that share none."""
+    wide = width * size
+    if width > MOST or height > MOST or wide > apart:
+        return False
+    return height == 0 or wide <= length and apart * (height - 1) <= length - wide
+
+
 def is_a(given: Any, kind: type) -> bool:
     """Whether an object is of a class: by what it is, and not by what its `__class__` or a registry says."""
     return type(given) is kind or type.__subclasscheck__(kind, type(given))

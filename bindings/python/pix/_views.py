@@ -6,7 +6,8 @@ import ctypes
 import sys
 from typing import Any, Dict, NamedTuple, Optional, SupportsIndex, Tuple
 
-from pix._memory import Buffer, Memory
+from pix._calls import copied_rows
+from pix._memory import Buffer, Memory, is_held
 from pix._pixels import PixelType
 from pix._values import PixError, Status, u32
 
@@ -98,7 +99,7 @@ class View:
         Raises PixError where the buffer is too short for the size.
         """
         memory, element, elements, width, height, stride, type = self._rows
-        if width and height and (stride < width or (height - 1) * stride + width > elements):
+        if width and height and not is_held(elements, width, height, stride):
             raise PixError(Status.BAD_SIZE)
         size = ctypes.sizeof(element)
         channel = size if type is None else size // type.channels
@@ -113,9 +114,11 @@ class View:
 
     def _value(self) -> bytearray:
         """A copy of the rows without what lies between them."""
-        from pix._bitmap import copy_of
-
-        return copy_of(self._rows)
+        memory, element, elements, width, height, stride, _ = self._rows
+        if not is_held(elements, width, height, stride):
+            raise PixError(Status.BAD_SIZE)
+        size = ctypes.sizeof(element)
+        return copied_rows(memory, width * size, stride * size, height)
 
 
 class Matte(View):
