@@ -41,6 +41,16 @@
  *   - Commands are made by the functions of this header. What they point to lives until they have run.
  *   - The thread has the stack that the call needs: see below.
  *
+ * Stack. Since a call takes no memory, what it works with is on the stack of its thread. A thread whose stack has so many
+ * KiB, its own frames among them, can make these calls:
+ *
+ *     256   pix_map_indexed, pix_diffuse_indexed, and both with _alpha
+ *      32   pix_index_pixels
+ *      16   all others
+ *
+ * Main threads have much more, and so have new threads under glibc; under musl a new thread has 128 KiB unless it asks for
+ * more (pthread_attr_setstacksize), which the first two calls need.
+ *
  * Calls may run at once in different threads where none of them writes what another one reads or writes. They may have
  * sources, tables and lists of commands in common.
  *

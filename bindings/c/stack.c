@@ -192,7 +192,7 @@ static pix_status unpack(void) {
 }
 
 /* The calls, and the kibibytes of stack that pix.h says they need. */
-enum { FEW = 32, SETTING = 48, MATCHING = 256 };
+enum { FEW = 16, SETTING = 32, MATCHING = 256 };
 static const struct { const char *name; size_t kibibytes; pix_status (*call)(void); } calls[] = {
     {"pix_check_library", FEW, pix_check_library},
     {"pix_run", FEW, run},
@@ -222,15 +222,17 @@ static void *run_call(void *call) {
     return (*(pix_status (**)(void))call)() == PIX_OK ? NULL : &failed;
 }
 
-/* Returns whether a call succeeds in a thread of so much stack. */
+/* Returns whether a call succeeds in a thread of so much stack, or of the least that a thread has here. */
 static int fits(pix_status (*call)(void), size_t kibibytes) {
     fflush(NULL);
     const pid_t child = fork();
     if (child == 0) {
+        const long least = sysconf(_SC_THREAD_STACK_MIN);
+        const size_t asked = kibibytes * 1024, size = least > 0 && (size_t)least > asked ? (size_t)least : asked;
         pthread_attr_t attributes;
         pthread_t thread;
         void *failed = NULL;
-        if (pthread_attr_init(&attributes) || pthread_attr_setstacksize(&attributes, kibibytes * 1024)
+        if (pthread_attr_init(&attributes) || pthread_attr_setstacksize(&attributes, size)
             || pthread_create(&thread, &attributes, run_call, &call) || pthread_join(thread, &failed))
             _exit(2);
         _exit(failed ? 1 : 0);

@@ -12,7 +12,19 @@
 //!   the call until that returns: no other thread, signal handler, process or device reads or writes it meanwhile.
 //! - What a call only reads may be read by others meanwhile, and is written by none. A call tests commands and indices,
 //!   and then trusts them: one that changes in between makes it read or write memory that nobody handed over.
-//! - The thread has the stack that the call needs, as `bindings/c/pix.h` says it.
+//! - The thread has the stack that the call needs.
+//!
+//! # Stack
+//!
+//! What a call works with is on the stack of its thread, which is to have so many KiB, the caller's frames among them:
+//!
+//! | KiB | calls |
+//! |--:|---|
+//! | 256 | `pix_table_match`, `pix_table_diffuse`, and both with `_alpha` |
+//! | 32 | `pix_table_index` |
+//! | 16 | all others |
+//!
+//! Threads of `std` have 2 MiB.
 #![no_std]
 
 mod library;

@@ -32,7 +32,8 @@
 //! Borrows see to all that the library can't test, so that a program without `unsafe` has no duty. Whoever makes a slice by
 //! `unsafe`, of a file that is mapped or of memory that another process or another language has too, sees to it as for any
 //! slice: nobody else writes it while it is borrowed, nor reads it while it is borrowed to be written, by this address or
-//! by another. Threads of small stacks need what [`pix_sys`] says of it.
+//! by another. A call takes up to 256 KiB of stack to match pixels to a table ([`Table::map_indexed`],
+//! [`Table::diffuse_indexed`]), 32 for [`index_pixels`] and 16 for all else; threads of `std` have 2 MiB.
 #![no_std]
 
 mod bitmap;
