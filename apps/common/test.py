@@ -1,9 +1,11 @@
 #!/usr/bin/env python3
-"""Tries all programs on odd files: each draws of a file what it draws of a plain PNG of the picture that Pillow makes of it.
+"""Tries all programs on odd files: each draws of one what it draws of a plain PNG of the picture that Pillow makes of it.
 
-    test.py [TEST..]
+    apps/common/test.py [TEST..]
 
-It needs Pillow, and the programs in the folder that APPS names: tools/apps builds them and runs this.
+Needs Pillow, pix for Python, and the programs in apps/out: tools/apps builds them. APPS in
+the environment names another folder than apps/out. A TEST is a name, as OfViewer; without
+one all are tried.
 """
 
 import os
@@ -18,19 +20,20 @@ from trial import PROGRAMS, TOP, Image, Trial, main, open_picture  # noqa: E402
 sys.path.insert(0, str(TOP / "bindings/python"))
 import odd_files  # noqa: E402
 
-# What the programs in C read, by the names of the odd files, and what they say of the others.
+# What the programs in C read, by the names of the odd files; and what they say of those whose library was not there.
 READ = {".png": "PNG", ".jpg": "JPEG", ".gif": "GIF", ".webp": "WebP"}
+LACKS = {".gif": "this is a GIF file, and no libgif was there", ".webp": "this is a WebP file, and no libwebp was there"}
 ENCODER = (sys.executable, TOP / "apps/encoder/encode.py")
-HELPS = [
-    *((PROGRAMS / name,) for name in ("viewer", "sprites", "text")), ENCODER,
-    *((sys.executable, TOP / "apps" / name) for name in ("common/gallery.py", "pictures/draw.py")),
-    *((sys.executable, TOP / "apps" / name / "test.py") for name in ("common", "viewer", "sprites", "text", "encoder")),
-]  # fmt: skip
 
 
 def nearness(name):
     """Returns by how much a channel may differ: decoders of JPEG and WebP do, and Pillow cuts 16 bits where others round them."""
     return 3 if name.endswith((".jpg", ".webp")) else 2 if "alpha16" in name else 1
+
+
+def over_gray(picture):
+    """Returns what is seen of a picture: of colors that are nearly clear not much."""
+    return Image.alpha_composite(Image.new("RGBA", picture.size, (128, 128, 128, 255)), picture)
 
 
 class OddFiles(Trial):
@@ -40,7 +43,8 @@ class OddFiles(Trial):
         super().setUp()
         self.files = odd_files.make(self.folder / "odd")
         (self.folder / "made").mkdir()
-        self.kinds = subprocess.run([PROGRAMS / "viewer", "--help"], capture_output=True, text=True).stdout
+        said = subprocess.run([PROGRAMS / "viewer", "--help"], capture_output=True, text=True).stdout
+        self.kinds = said.splitlines()[1]
 
     def plain(self, file):
         """Returns the path of a PNG of 8 bits with what Pillow makes of a file."""
@@ -57,11 +61,12 @@ class OddFiles(Trial):
             with self.subTest(file=file.path.name, what=file.what):
                 if self.is_read(file):
                     wanted, seen = command(self.plain(file), file.size), command(file.path, file.size)
-                    self.assert_same(seen, wanted, nearness(file.path.name))
+                    self.assert_same(over_gray(seen), over_gray(wanted), nearness(file.path.name))
                     read += 1
                 else:
-                    self.refuses(1, file.path.name + ": ", *self.words(file.path, file.size))
-        self.assertGreater(read, 40)
+                    said = file.path.name + ": " + (LACKS.get(file.path.suffix, "") if file.size else "")
+                    self.refuses(1, said, *self.words(file.path, file.size))
+        self.assertGreater(read, 40 if "GIF" in self.kinds else 35)
 
     def words(self, file, size):
         """The words by which the program reads a file, of a class below."""
@@ -113,7 +118,15 @@ class OfText(OddFiles):
     program = (PROGRAMS / "text",)
 
     def words(self, file, size):
-        return ("--size", 8, "--photo", file, "--save", self.folder / "made.png", "i")
+        return ("--size", 8, "--photo", file, "--save", self.folder / "made.png", " ")
+
+    def drawn(self, file, size):
+        """Text says which pictures it finds too low."""
+        words = list(map(str, (*self.program, *self.words(file, size))))
+        ran = subprocess.run(words, capture_output=True, text=True)
+        self.assertEqual(ran.returncode, 0, ran.stderr)
+        self.assertIn(ran.stderr, ("", f"text: {file}: it is too low for the text, whose last rows are not seen\n"))
+        return open_picture(self.folder / "made.png")
 
     def test_odd_files(self):
         self.compare(self.drawn)
@@ -139,18 +152,17 @@ class OfEncoder(OddFiles):
 
 
 class Helps(Trial):
-    """--help of every program and script answers in a second what it does, needs and takes, and does nothing else."""
+    """--help of every program answers in a second what it does, needs and takes, and does nothing else."""
 
     def test_help(self):
-        bare = {**os.environ, "PYTHONPATH": "", "PIX_LIBRARY": "/none", "DISPLAY": "", "APPS": "/none"}
-        for command in HELPS:
+        bare = {"PATH": os.environ["PATH"]}
+        for command in (*((PROGRAMS / name,) for name in ("viewer", "sprites", "text")), ENCODER):
             with self.subTest(command=command[-1]):
                 start = time.monotonic()
                 ran = subprocess.run([*command, "--help"], capture_output=True, text=True, cwd=self.folder, env=bare)
                 self.assertLess(time.monotonic() - start, 1)
                 self.assertEqual((ran.returncode, ran.stderr), (0, ""))
-                self.assertRegex(ran.stdout.lower(), "needs")
-                self.assertGreater(len(ran.stdout.splitlines()), 3)
+                self.assertRegex(ran.stdout, r"\Ausage: (?s:.*)\b[Nn]eeds?\b(?s:.*)The status is 0")
                 self.assertEqual(list(self.folder.iterdir()), [])
 
 

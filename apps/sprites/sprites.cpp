@@ -27,7 +27,8 @@ const char usage[] =
     "  --help        print this\n"
     "\n"
     "The window's title tells the frames a second, and a line at the end the time that a frame took. Q or\n"
-    "Escape end. The status is 0, 1 after a file that can't be read or written, or 2 after another use.\n";
+    "Escape end. It needs a screen; SDL_VIDEODRIVER=dummy does without one.\n"
+    "The status is 0, 1 after a file that can't be read or written, or 2 after another use.\n";
 
 // What was asked for can't be meant.
 struct UsageError : std::runtime_error {

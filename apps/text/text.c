@@ -20,6 +20,7 @@ static const char usage[] =
     "  --report        print how wide each line is, in how many rows, and how many masks and fonts there are\n"
     "  --help          print this\n"
     "\n"
+    "It needs a font with outlines, and no screen.\n"
     "Shaping is HarfBuzz's, and masks are FreeType's. Characters that no font has, and rows that the picture is\n"
     "too low for, are named on standard error. The status is 0, 1 after a file that can't be read or written, or\n"
     "2 after another use.\n";
