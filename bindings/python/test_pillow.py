@@ -9,7 +9,7 @@ from unittest import mock
 
 import odd_files
 import pix
-from pix import _fresh
+from pix import _fresh, _pillow
 
 try:
     from PIL import Image as pillow
@@ -211,6 +211,15 @@ class Modes(unittest.TestCase):
                 pix.copy_image((0, 0, *SIZE), pix.Image(pixels, *SIZE, type=pix.RGBA16)),
             )
 
+    def test_a_byte_that_is_no_alpha(self):
+        """The fourth byte of RGB and RGBX is whatever it is, with numpy and without."""
+        data, wanted = bytes(range(1, 25)), bytes(255 if i % 4 == 3 else i + 1 for i in range(24))
+        for without in ({}, {"numpy": None}):
+            with mock.patch.dict(sys.modules, without):
+                self.assertEqual(bytes(_pillow.opaque(data)), wanted)
+        picture = pillow.frombytes("RGBX", (3, 2), data)
+        self.assertEqual(pix.Image.from_pillow(picture).to_pillow().tobytes(), wanted)
+
     def test_a_picture_that_lies(self):
         """Pillow itself would read four bytes a pixel of a picture that has one."""
         picture = gradient("L")
@@ -237,9 +246,8 @@ class Modes(unittest.TestCase):
         packer = pillow._getencoder
         with mock.patch.object(pillow, "_getencoder"):
             del pillow._getencoder
-            again = None
             with mock.patch.object(
-                pillow.Image, "tobytes", lambda self, _, raw: strip(packer, self, raw)
+                pillow.Image, "tobytes", lambda self: strip(packer, self, self.mode)
             ):
                 again = pix.Image.from_pillow(gradient("RGB"))
         self.assertEqual(again.pixels, image.pixels)

@@ -13,18 +13,18 @@ from pix._fresh import lit, looked_up, scaled, zeros
 from pix._indexed import diffuse_indexed, map_indexed, table_from
 from pix._values import Format, Status
 
-# How many bytes of a picture are read at once: they stay in a core's own cache, and malloc keeps
-# such blocks.
-STRIP = 192 << 10
+# How many bytes of a picture are read at once: they stay in a core's own cache; and where Pillow
+# copies them first, blocks that malloc keeps.
+STRIP, COPIED = 192 << 10, 96 << 10
 
-# The modes that are read as they are: how Pillow packs them, and the format that this is.
-_PACKED = {
-    "RGBA": ("RGBA", Format.SRGBA8),
-    "RGB": ("RGBX", Format.SRGBX8),
-    "RGBX": ("RGBX", Format.SRGBX8),
-    "L": ("L", Format.SGRAY8),
-    "LA": ("LA", Format.SGRAYA8),
-}
+# The modes of four bytes a pixel, and how Pillow packs them. Those become light the fastest.
+_PACKED = {"RGBA": "RGBA", "RGB": "RGBX", "RGBX": "RGBX"}
+
+# The modes that images of gray are made of without a detour.
+_GRAY = {"L": Format.SGRAY8, "LA": Format.SGRAYA8}
+
+# The last byte of a pixel of four.
+_ALPHA = int.from_bytes(b"\0\0\0\xff", sys.byteorder)
 
 # The modes that to_pillow() makes.
 _MADE = {"RGBA": Format.SRGBA8, "RGB": Format.SRGBX8, "L": Format.SGRAY8, "LA": Format.SGRAYA8}
@@ -76,12 +76,15 @@ def image_of(picture: Any, facts: Facts, new: Callable[[int, int], Any]) -> Any:
     image = new(width, height)
     target, target_format = image.pixels, image._bitmap().format
     row = width * target_format.size
-    rows = max(1, STRIP // (4 * width)) if width else 1
     core = plain_core(picture, facts)
+    rows = max(1, (COPIED if core is None else STRIP) // (4 * width or 1))
     for top in range(0, height if width else 0, rows):
         end = min(height, top + rows)
         box = 0, top, width, end
-        data, format = read_strip(picture.crop(box), facts) if core is None else packed(core, box)
+        if core is None:
+            data, format = read_strip(picture.crop(box), facts, image.type.channels == 2)
+        else:
+            data, format = packed(core, box), Format.SRGBA8
         band = Bitmap(target[top * row : end * row], target_format, width, end - top)
         write(band, Bitmap(data, format, width, end - top))
     return image
@@ -92,29 +95,39 @@ def plain_core(picture: Any, facts: Facts) -> Any:
     from PIL import Image as pillow
 
     core = picture.im
-    # Its own mode counts: a packer would read four bytes a pixel where a picture says so and has one.
+    # Its own mode counts: a packer reads four bytes a pixel, be there one.
     is_plain = core.mode == picture.mode and core.mode in _PACKED and facts.clear is None
     return core if is_plain and hasattr(pillow, "_getencoder") else None
 
 
-def packed(core: Any, box: Tuple[int, int, int, int]) -> Tuple[Any, Format]:
-    """The pixels of some rows of a picture of a mode that is packed as it is, and their format."""
+def packed(core: Any, box: Tuple[int, int, int, int]) -> Any:
+    """The pixels of some rows of a picture of four bytes a pixel, with alphas."""
     from PIL import Image as pillow
 
-    raw, format = _PACKED[core.mode]
-    packer = pillow._getencoder(core.mode, "raw", raw)
+    packer = pillow._getencoder(core.mode, "raw", _PACKED[core.mode])
     packer.setimage(core, box)
-    size, parts, status = (box[2] - box[0]) * (box[3] - box[1]) * format.size, [], 0
+    size, parts, status = 4 * (box[2] - box[0]) * (box[3] - box[1]), [], 0
     while not status:
         _, status, part = packer.encode(max(size, 1 << 16))
         parts.append(part)
     if status < 0:
         raise OSError(f"Pillow packs no rows of mode {core.mode}: status {status}")
-    return parts[0] if len(parts) == 1 else b"".join(parts), format
+    data = parts[0] if len(parts) == 1 else b"".join(parts)
+    return data if core.mode == "RGBA" else opaque(data)
 
 
-def read_strip(strip: Any, facts: Facts) -> Tuple[Any, Format]:
-    """The pixels of a few rows, and their format."""
+def opaque(data: bytes) -> Any:
+    """Pixels of four bytes, the last of which may be any, with an alpha of 255."""
+    numpy = sys.modules.get("numpy")
+    if numpy is not None:
+        return (numpy.frombuffer(data, "u4") | numpy.uint32(_ALPHA)).view("u1")
+    pixels = bytearray(data)
+    pixels[3::4] = b"\xff" * (len(data) // 4)
+    return pixels
+
+
+def read_strip(strip: Any, facts: Facts, is_gray: bool) -> Tuple[Any, Format]:
+    """The pixels of a few rows for an image, of gray or of colors, and their format."""
     mode, clear = strip.mode, facts.clear
     if mode[:1] in "IF":
         return read_levels(strip, facts)
@@ -126,16 +139,14 @@ def read_strip(strip: Any, facts: Facts) -> Tuple[Any, Format]:
         strip = pillow.merge("LA", (gray, alpha))
     elif mode == "RGB" and clear is not None:
         strip.info["transparency"] = clear
-        strip = strip.convert("RGBA")
-    elif mode not in _PACKED:
-        try:
-            strip = strip.convert("RGBA")
-        except ValueError as fault:
-            raise ValueError(
-                f"Pillow converts no mode {mode} to RGBA: convert the picture first"
-            ) from fault
-    raw, format = _PACKED[strip.mode]
-    return strip.tobytes("raw", raw), format
+    if is_gray and strip.mode in _GRAY:
+        return strip.tobytes(), _GRAY[strip.mode]
+    try:
+        pixels = strip.convert("RGBA")
+    except ValueError as fault:
+        said = f"Pillow converts no mode {mode} to RGBA: convert the picture first"
+        raise ValueError(said) from fault
+    return pixels.tobytes(), Format.SRGBA8
 
 
 def read_levels(strip: Any, facts: Facts) -> Tuple[Any, Format]:
