@@ -132,9 +132,9 @@ class Browser:
             raise Failed(f"{code[:80]}: {found['exceptionDetails'].get('exception', {}).get('description')}")
         return found["result"].get("value")
 
-    def wait_for(self, code):
-        """Waits until a JavaScript expression is true."""
-        deadline = time.monotonic() + PATIENCE
+    def wait_for(self, code, seconds=PATIENCE):
+        """Waits until a JavaScript expression is true, for so long."""
+        deadline = time.monotonic() + seconds
         while not self.run(code):
             if time.monotonic() > deadline:
                 raise Failed(f"it does not come to pass: {code}")

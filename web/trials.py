@@ -65,11 +65,17 @@ def shapes(browser, size):
     return made
 
 
+def see_pixels(browser, id_):
+    """Waits until a canvas has as many pixels as the screen has under it, and returns how many it is wide and high."""
+    browser.wait_for(f"""{{ const it = document.getElementById({json.dumps(id_)}), box = it.getBoundingClientRect();
+        [[box.width, it.width], [box.height, it.height]].every(([side, pixels]) => Math.abs(side * devicePixelRatio - pixels) <= 1) }}""", 10)
+    browser.wait_for("document.getElementById('operators').dataset.drawn === 'all'")
+    return [of(browser, id_, side) for side in ("width", "height")]
+
+
 def see_operator(browser, id_, name, scheme):
     """Compares a canvas with the picture of an operator, which is made of as many pixels as the screen has there."""
-    size, covered, is_light = browser.run(f"""{{ const it = document.getElementById({json.dumps(id_)}), box = it.getBoundingClientRect();
-        [[it.width, it.height], [box.width, box.height].map((side) => side * devicePixelRatio), document.getElementById('is-light').checked] }}""")
-    wants(f"whether {id_} has {size} pixels where the screen has {covered}", all(abs(a - b) <= 1 for a, b in zip(size, covered)), True)
+    size, is_light = see_pixels(browser, id_), of(browser, "is-light", "checked")
     rows = [[model.composite(OPERATORS[name], s, d) for s, d in zip(*pair)] for pair in zip(*shapes(browser, size))]
     wanted = model.shown(rows, scheme, is_light, OPERATORS["SrcOver"], model.square_of(size[0]))
     made = canvas(browser, id_)
@@ -81,7 +87,6 @@ def see_operator(browser, id_, name, scheme):
 def see_operators(browser, scheme="light"):
     """Compares each of the thirteen pictures, and the large one, with those that the fields ask for."""
     wants("the operators", len(ORDER), len(OPERATORS))
-    browser.wait_for("document.getElementById('operators').dataset.drawn === 'all'")
     for number, name in enumerate(ORDER):
         see_operator(browser, f"operator-{number}", name, scheme)
     chosen = int(browser.run("document.querySelector('input[name=operator]:checked').value"))
@@ -109,10 +114,9 @@ def try_screens(browser):
             see_operators(browser)
         else:
             see_operator(browser, "operator-3", ORDER[3], "light")
-        for id_, aspect in [("words-linear", 4), ("words-bytes", 4)]:
-            width_, box, ratio = browser.run(f"""{{ const it = document.getElementById('{id_}'), box = it.getBoundingClientRect();
-                [it.width, box.width * devicePixelRatio, it.width / it.height] }}""")
-            wants(f"whether {id_} has {width_} pixels where the screen has {box}", abs(width_ - box) <= 1 and 3.5 < ratio < aspect, True)
+        for id_ in ("words-linear", "words-bytes"):
+            wide, high = see_pixels(browser, id_)
+            wants(f"the shape of {id_}", 3.6 < wide / high < 3.9, True)
 
 
 def try_telephone(browser):
@@ -131,7 +135,6 @@ def try_telephone(browser):
         left, top, right, bottom = places[1 + ORDER.index(name)]
         browser.touch((left + right) / 2, (top + bottom) / 2)
         wants("the operator that was touched", name in of(browser, "overlap", "textContent"), True)
-        browser.wait_for("document.getElementById('operators').dataset.drawn === 'all'")
         see_operator(browser, f"operator-{ORDER.index(name)}", name, "light")
     browser.look(390, height=844, scale=2, is_telephone=True)
     browser.run("document.getElementById('is-light').scrollIntoView({ block: 'end', behavior: 'instant' })")
