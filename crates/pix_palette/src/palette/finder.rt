@@ -19,10 +19,11 @@ const PLACES: usize = 16384;
 /// With fewer entries than these all are looked at.
 const FEW: usize = 128;
 
-/// How often each entry, and so many more, are compared with colors before the places are made, which takes no longer than that did.
+/// Before the places are made, entries are compared with colors: so many times as many as there are then and [`MORE`] besides.
+/// That takes longer than to make the places.
 const TIMES: usize = 4;
 
-/// How many more entries.
+/// How many entries are counted beside those that there are.
 const MORE: usize = 2048;
 
 /// The greatest number of entries.

@@ -1,7 +1,4 @@
 -- Of `Blocks::take_memory`: that there is no block yet in the memory that was given.
-use Rattle.std.proofs.Common.{◌≡◌, [], sym, subst, arith}
-use Rattle.pix_table.specs.ColorBlocks.{AreBlocks}
-use Rattle.pix_table.specs.Spans.{AreSpans}
 use Rattle.pix_palette.proofs.BlocksMore.{no_blocks, no_spans}
 use Rattle.pix_palette.proofs.palette.blocks.Blocks.take_memory.Goals as goal
 
