@@ -217,6 +217,8 @@ class Modes(unittest.TestCase):
         for without in ({}, {"numpy": None}):
             with mock.patch.dict(sys.modules, without):
                 self.assertEqual(bytes(_pillow.opaque(data)), wanted)
+                grays = b"".join(bytes((level, level, level, 255)) for level in data)
+                self.assertEqual(bytes(_pillow.colored(data)), grays)
         picture = pillow.frombytes("RGBX", (3, 2), data)
         self.assertEqual(pix.Image.from_pillow(picture).to_pillow().tobytes(), wanted)
 

@@ -17,8 +17,9 @@ from pix._values import Format, Status
 # copies them first, blocks that malloc keeps.
 STRIP, COPIED = 192 << 10, 96 << 10
 
-# The modes of four bytes a pixel, and how Pillow packs them. Those become light the fastest.
-_PACKED = {"RGBA": "RGBA", "RGB": "RGBX", "RGBX": "RGBX"}
+# The modes that are packed without a copy, and how. Pixels of four bytes become light the fastest,
+# so that gray is made such pixels too.
+_PACKED = {"RGBA": "RGBA", "RGB": "RGBX", "RGBX": "RGBX", "L": "L"}
 
 # The modes that images of gray are made of without a detour.
 _GRAY = {"L": Format.SGRAY8, "LA": Format.SGRAYA8}
@@ -76,15 +77,15 @@ def image_of(picture: Any, facts: Facts, new: Callable[[int, int], Any]) -> Any:
     image = new(width, height)
     target, target_format = image.pixels, image._bitmap().format
     row = width * target_format.size
-    core = plain_core(picture, facts)
+    core, is_gray = plain_core(picture, facts), image.type.channels == 2
     rows = max(1, (COPIED if core is None else STRIP) // (4 * width or 1))
     for top in range(0, height if width else 0, rows):
         end = min(height, top + rows)
         box = 0, top, width, end
         if core is None:
-            data, format = read_strip(picture.crop(box), facts, image.type.channels == 2)
+            data, format = read_strip(picture.crop(box), facts, is_gray)
         else:
-            data, format = packed(core, box), Format.SRGBA8
+            data, format = read_packed(core, box, is_gray)
         band = Bitmap(target[top * row : end * row], target_format, width, end - top)
         write(band, Bitmap(data, format, width, end - top))
     return image
@@ -100,20 +101,23 @@ def plain_core(picture: Any, facts: Facts) -> Any:
     return core if is_plain and hasattr(pillow, "_getencoder") else None
 
 
-def packed(core: Any, box: Tuple[int, int, int, int]) -> Any:
-    """The pixels of some rows of a picture of four bytes a pixel, with alphas."""
+def read_packed(core: Any, box: Tuple[int, int, int, int], is_gray: bool) -> Tuple[Any, Format]:
+    """The pixels of some rows of a core for an image, of gray or of colors, and their format."""
     from PIL import Image as pillow
 
-    packer = pillow._getencoder(core.mode, "raw", _PACKED[core.mode])
+    mode = core.mode
+    packer = pillow._getencoder(mode, "raw", _PACKED[mode])
     packer.setimage(core, box)
     size, parts, status = 4 * (box[2] - box[0]) * (box[3] - box[1]), [], 0
     while not status:
         _, status, part = packer.encode(max(size, 1 << 16))
         parts.append(part)
     if status < 0:
-        raise OSError(f"Pillow packs no rows of mode {core.mode}: status {status}")
+        raise OSError(f"Pillow packs no rows of mode {mode}: status {status}")
     data = parts[0] if len(parts) == 1 else b"".join(parts)
-    return data if core.mode == "RGBA" else opaque(data)
+    if mode == "L":
+        return (data, Format.SGRAY8) if is_gray else (colored(data), Format.SRGBA8)
+    return data if mode == "RGBA" else opaque(data), Format.SRGBA8
 
 
 def opaque(data: bytes) -> Any:
@@ -123,6 +127,18 @@ def opaque(data: bytes) -> Any:
         return (numpy.frombuffer(data, "u4") | numpy.uint32(_ALPHA)).view("u1")
     pixels = bytearray(data)
     pixels[3::4] = b"\xff" * (len(data) // 4)
+    return pixels
+
+
+def colored(data: bytes) -> Any:
+    """Pixels of gray as opaque ones of four bytes."""
+    numpy = sys.modules.get("numpy")
+    if numpy is not None:
+        pixels = numpy.frombuffer(data, "u1").astype("u4") * numpy.uint32(~_ALPHA & 0x1010101)
+        return (pixels | numpy.uint32(_ALPHA)).view("u1")
+    pixels = bytearray(b"\xff") * (4 * len(data))
+    for channel in range(3):
+        pixels[channel::4] = data
     return pixels
 
 
