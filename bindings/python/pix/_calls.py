@@ -1,4 +1,4 @@
-"""The calls of the library: each takes its turn by what it reads and writes, as the table of them says."""
+"""The calls of the library: each takes its turn by what it reads and writes, as the table says."""
 
 from __future__ import annotations
 
@@ -21,7 +21,7 @@ for _move in _MOVES:
 
 
 class Copy:
-    """A copy of a caller's memory in a room of its own, which a call makes in its turn and reads in its stead.
+    """A copy of a caller's memory in a room of its own, which a call makes in its turn and reads.
 
     The call is told that it has `length` bytes.
     """
@@ -34,20 +34,25 @@ class Copy:
 
     def make(self, is_long: bool) -> None:
         """Copies the bytes that the room has place for."""
-        _MOVES[is_long](self.address, self.source.address, min(self.source.length, ctypes.sizeof(self.room)))
+        _MOVES[is_long](
+            self.address, self.source.address, min(self.source.length, ctypes.sizeof(self.room))
+        )
 
 
 def padded(table: Memory, length: int) -> Copy:
-    """A copy of a table with room for each entry that an index can be, of which a call is told `length` bytes.
+    """A copy of a table with room for each entry that an index can be.
 
-    So an index that changes under a call, after the library has tested it, is that of a wrong color, and of no other
-    memory.
+    A call is told that it has `length` bytes. So an index that changes under the call, after the
+    library has tested it, is that of a wrong color, and of no other memory.
     """
     return Copy(table, _TABLE(), length)
 
 
 def copied_rows(memory: Memory, wide: int, apart: int, rows: int) -> bytearray:
-    """A copy of rows of `wide` bytes, which lie `apart`, without what lies between them; it takes its turn."""
+    """A copy of rows of `wide` bytes, which lie `apart`, without what lies between them.
+
+    It is made in a turn of its own.
+    """
     copy = bytearray(wide * rows)
     if not copy:
         return copy
@@ -68,8 +73,8 @@ def copied_rows(memory: Memory, wide: int, apart: int, rows: int) -> bytearray:
 class Call:
     """A function of the library, in its turn.
 
-    It is called with the number of pixels that it is about, and with what its row of CALLS says: for memory a Memory,
-    or a Copy of one that is read.
+    It is called with the number of pixels that it is about, and with what its row of CALLS says:
+    for memory a Memory, or a Copy of one that is read.
     """
 
     __slots__ = ("name", "both", "takes", "cost")
@@ -78,7 +83,10 @@ class Call:
         self.name = name
         self.cost, takes = CALLS[name]
         self.both = tuple(getattr(library, name) for library in libraries)
-        self.takes = [(role, int(size or 0)) for role, _, size in (word.partition(":") for word in takes.split())]
+        self.takes = [
+            (role, int(size or 0))
+            for role, _, size in (word.partition(":") for word in takes.split())
+        ]
 
     def __call__(self, pixels: int, *given: Any) -> None:
         """Calls it; raises PixError where it refuses."""

@@ -1,7 +1,7 @@
 """The one way in: what a caller hands over as a buffer becomes an address, a length and a kind.
 
-A buffer is asked for its memory once, by the buffer protocol. From then on no method, attribute or conversion of the
-caller's object runs: what is read of it is read at the address.
+A buffer is asked for its memory once, by the buffer protocol. From then on no method, attribute or
+conversion of the caller's object runs: what is read of it is read at the address.
 """
 
 from __future__ import annotations
@@ -25,7 +25,7 @@ _record_of = ctypes.pythonapi.PyPickleBuffer_GetBuffer
 _record_of.argtypes = [ctypes.py_object]
 _record_of.restype = ctypes.c_void_p
 
-# The formats of bytes, and of words of 16 bits in the machine's order, without the sign of that order.
+# The formats of bytes, and of words of 16 bits, and the signs of the machine's order.
 _BYTES, _WORD = ("B", "c"), "H"
 _ORDER = "@=" + {"little": "<", "big": ">"}[sys.byteorder]
 
@@ -35,7 +35,10 @@ MOST = 2**31 - 1
 
 
 def is_held(length: int, width: int, height: int, apart: int, size: int = 1) -> bool:
-    """Whether so many elements hold rows of `width` pixels of `size` each, `apart` from one to the next, that share none."""
+    """Whether so many elements hold rows of `width` pixels of `size` each, that share none.
+
+    Rows lie `apart` elements from one to the next.
+    """
     wide = width * size
     if width > MOST or height > MOST or wide > apart:
         return False
@@ -43,7 +46,7 @@ def is_held(length: int, width: int, height: int, apart: int, size: int = 1) -> 
 
 
 def is_a(given: Any, kind: type) -> bool:
-    """Whether an object is of a class: by what it is, and not by what its `__class__` or a registry says."""
+    """Whether an object is of a class: by what it is, and not by what it or a registry says."""
     return type(given) is kind or type.__subclasscheck__(kind, type(given))
 
 
@@ -55,12 +58,23 @@ def name_of(given: Any) -> str:
 class Memory:
     """The memory of a buffer: `rows` stretches of `row` bytes, `step` bytes apart.
 
-    Where `turned` allows it, the first row may be the last one in memory, and then `step` is negative. It is pinned as
-    long as this object lives: who owns it neither moves nor frees it. What pins it is freed by the interpreter itself
-    and not by a line of Python, which an interrupt could leave out.
+    Where `turned` allows it, the first row may be the last one in memory, and then `step` is
+    negative. It is pinned as long as this object lives: who owns it neither moves nor frees it.
+    What pins it is freed by the interpreter itself and not by a line of Python, which an interrupt
+    could leave out.
     """
 
-    __slots__ = ("is_readonly", "shape", "row", "rows", "step", "length", "address", "_view", "_held")
+    __slots__ = (
+        "is_readonly",
+        "shape",
+        "row",
+        "rows",
+        "step",
+        "length",
+        "address",
+        "_view",
+        "_held",
+    )
 
     def __init__(self, buffer: Any, words: bool = False, turned: bool = False) -> None:
         self._view = view = memoryview(buffer)
@@ -86,11 +100,15 @@ class Memory:
         """Takes the rows of a buffer of any shape, which have no gaps inside."""
         shape, strides, held = view.shape, view.strides, view.nbytes
         if any(offset >= 0 for offset in view.suboffsets):
-            raise ValueError("the rows of the buffer are found by pointers: only rows of one stride are taken")
+            raise ValueError(
+                "the rows of the buffer are found by pointers: only rows of one stride are taken"
+            )
         self.row = view.itemsize
         for i in range(len(shape) - 1, 0, -1):
             if shape[i] > 1 and strides[i] != self.row and held:
-                raise ValueError("the buffer has gaps inside its rows: only whole rows may lie apart")
+                raise ValueError(
+                    "the buffer has gaps inside its rows: only whole rows may lie apart"
+                )
             self.row *= shape[i]
         self.rows = shape[0] if shape else 1
         self.step = strides[0] if self.rows > 1 and held else self.row
@@ -108,10 +126,16 @@ class Memory:
         """Whether the two share no byte."""
         if not self.length or not other.length:
             return True
-        return self.address + self.length <= other.address or other.address + other.length <= self.address
+        return (
+            self.address + self.length <= other.address
+            or other.address + other.length <= self.address
+        )
 
     def view(self) -> memoryview:
-        """A view of the buffer, of bytes where it has no gaps; releasing it releases nothing of this object."""
+        """A view of the buffer, of bytes where it has no gaps.
+
+        Releasing it releases nothing of this object.
+        """
         view = memoryview(self._view)
         if self.has_gaps or not self.length:
             return view

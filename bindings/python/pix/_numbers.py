@@ -11,5 +11,5 @@ if sys.version_info >= (3, 10):
 else:
 
     def index(number: SupportsIndex) -> int:
-        """The number as a plain int: one of a class of its own would be asked again at each comparison."""
+        """The number as a plain int: one of another class would be asked at each comparison."""
         return int.__index__(_index(number))

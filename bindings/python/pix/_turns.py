@@ -1,7 +1,7 @@
 """Turns: a call that needs memory which another one is writing waits for it.
 
-Nothing here has to be undone by a line of Python, which an interrupt could leave out: a turn is as long as a lock is
-held, and the interpreter itself gives a lock back at the end of its `with`.
+Nothing here has to be undone by a line of Python, which an interrupt could leave out: a turn is as
+long as a lock is held, and the interpreter itself gives a lock back at the end of its `with`.
 """
 
 from __future__ import annotations
@@ -19,7 +19,9 @@ _WAIT = 0.1
 
 def _spans(memories: Iterable[Memory]) -> List[Tuple[int, int]]:
     """The first address of each memory, and the one after its last."""
-    return [(memory.address, memory.address + memory.length) for memory in memories if memory.length]
+    return [
+        (memory.address, memory.address + memory.length) for memory in memories if memory.length
+    ]
 
 
 def _meet(some: Sequence[Tuple[int, int]], others: Sequence[Tuple[int, int]]) -> bool:
@@ -30,8 +32,9 @@ def _meet(some: Sequence[Tuple[int, int]], others: Sequence[Tuple[int, int]]) ->
 class _Turn:
     """A call that runs: its thread, and the spans that it writes, and that it reads or writes.
 
-    It runs as long as its lock `runs` is held, which nobody else takes; who waits for it takes `over`, which it gives
-    back last. It holds numbers only, so that nothing stays pinned by a turn that is over.
+    It runs as long as its lock `runs` is held, which nobody else takes; who waits for it takes
+    `over`, which it gives back last. It holds numbers only, so that nothing stays pinned by a turn
+    that is over.
     """
 
     __slots__ = ("thread", "written", "touched", "runs", "over")
@@ -58,8 +61,8 @@ class _Turn:
 class Turns:
     """The calls that run now and let go of the interpreter's lock.
 
-    Calls of one thread never clash: one that begins inside another, as in a signal's handler, runs before the outer
-    one has reached the library, or after it has left it.
+    Calls of one thread never clash: one that begins inside another, as in a signal's handler, runs
+    before the outer one has reached the library, or after it has left it.
     """
 
     def __init__(self) -> None:
@@ -69,14 +72,20 @@ class Turns:
 
     def _forget(self) -> None:
         """Starts with no call: a child process has none of its parent's threads."""
-        # Held while a call looks for others and begins, or is short. The thread that holds it may take it again.
+        # Held while a call looks for others and begins, or is short. The thread that holds it may
+        # take it again.
         self._begins = RLock()
         self.running: Set[_Turn] = set()
 
     def take(
-        self, is_long: bool, function: Any, arguments: Sequence[Any], written: Sequence[Memory], read: Sequence[Memory],
+        self,
+        is_long: bool,
+        function: Any,
+        arguments: Sequence[Any],
+        written: Sequence[Memory],
+        read: Sequence[Memory],
         copies: Sequence[Any] = (),
-    ) -> int:  # fmt: skip
+    ) -> int:
         """Calls a function in its turn, after what is to be copied is, and returns its status.
 
         A short function keeps the interpreter's lock, so that none begins before it ends.
@@ -92,7 +101,9 @@ class Turns:
                     return function(*arguments)
             other.wait()
 
-    def _take_long(self, mine: _Turn, function: Any, arguments: Sequence[Any], copies: Sequence[Any]) -> int:
+    def _take_long(
+        self, mine: _Turn, function: Any, arguments: Sequence[Any], copies: Sequence[Any]
+    ) -> int:
         """Calls a function that lets the interpreter's lock go."""
         with mine.over, mine.runs:
             try:

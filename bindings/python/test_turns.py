@@ -1,0 +1,252 @@
+"""Turns: calls beside each other, in threads and in handlers of signals, and interrupts."""
+
+import copy
+import os
+import pickle
+import random
+import signal
+import subprocess
+import sys
+import threading
+import time
+import unittest
+from unittest import mock
+
+import pix
+from border_uses import BGRA8, RGBA8, SIZE, USES, image_of
+from pix._library import CALLS
+from pix._turns import turns
+
+
+class Turns(unittest.TestCase):
+    def test_each_function_of_the_library_is_among_them(self):
+        self.assertEqual(
+            {name for name, _, _ in USES},
+            {name for name, (_, takes) in CALLS.items() if ":" in takes},
+        )
+
+    def waiting(self, first, others):
+        """Returns which of the others wait while the first one is at work, and lets them end."""
+        begun, go, shared = threading.Event(), threading.Event(), bytearray(SIZE)
+        take, done = turns.take, set()
+
+        def held(is_long, function, arguments, *memories):
+            if threading.current_thread() is not at_work:
+                return take(is_long, function, arguments, *memories)
+            stay = lambda *arguments: (begun.set(), go.wait(), function(*arguments))[2]
+            return take(True, stay, arguments, *memories)
+
+        at_work = threading.Thread(target=first, args=[shared])
+        with mock.patch.object(turns, "take", held):
+            at_work.start()
+            self.assertTrue(begun.wait(10))
+            threads = [
+                threading.Thread(target=lambda i=i, use=use: (use(shared), done.add(i)))
+                for i, use in enumerate(others)
+            ]
+            for thread in threads:
+                thread.start()
+            for thread in threads:
+                thread.join(0.002)
+            end = time.monotonic() + 0.02
+            while time.monotonic() < end and len(done) < len(others):
+                time.sleep(0.002)
+            waited = set(range(len(others))) - done
+            go.set()
+            for thread in [at_work, *threads]:
+                thread.join(30)
+        self.assertEqual(
+            len(done), len(others), f"{others} has a call that fails, or waits for ever"
+        )
+        return waited
+
+    def test_each_waits_for_each(self):
+        for name, writes, use in USES:
+            with self.subTest(name, writes=writes):
+                others = [other for other in USES if other[1] or writes]
+                waited = self.waiting(use, [other[2] for other in others])
+                free = [other[0] for i, other in enumerate(others) if i not in waited]
+                self.assertEqual(free, [], f"these didn't wait for {name}")
+
+    def test_those_that_read_wait_for_none(self):
+        readers = [use for _, writes, use in USES if not writes]
+        begun, go, shared = threading.Event(), threading.Event(), bytearray(SIZE)
+        memory = image_of(shared)._rows.memory
+        reading = threading.Thread(
+            target=turns.take, args=(True, lambda: (begun.set(), go.wait()), (), [], [memory])
+        )
+        reading.start()
+        begun.wait()
+        for use in readers:
+            use(shared)
+        go.set()
+        reading.join()
+
+    def race(self, long, short, outcome, before, seconds=0.5):
+        """Runs a long call in another thread and a short one beside it: the outcome is that of one
+        after the other."""
+        wanted = []
+        for calls in ((long, short), (short, long)):
+            shared = before()
+            answers = {call: call(shared) for call in calls}
+            wanted.append(outcome(shared, answers[short]))
+        end = time.monotonic() + seconds
+        while time.monotonic() < end:
+            shared = before()
+            thread = threading.Thread(target=long, args=[shared])
+            thread.start()
+            time.sleep(random.random() * 0.002)
+            answer = short(shared)
+            thread.join()
+            self.assertIn(outcome(shared, answer), wanted)
+
+    def test_counting_beside_mapping(self):
+        pixels = bytes(random.Random(1).randrange(256) for _ in range(3000)) * 200
+        table = bytes(i % 256 for i in range(3 * 64))
+        self.race(
+            lambda it: pix.map_indexed(table, pixels, it),
+            pix.count_indices,
+            lambda it, counts: counts,
+            lambda: bytearray(len(pixels) // 3),
+        )
+
+    def test_copies_beside_a_run(self):
+        paints = [pix.copy_color((0, 0, 999, 999), (value,) * 4) for value in range(40)]
+        for taken in (
+            lambda it: bytes(copy.copy(it).pixels),
+            lambda it: bytes(pickle.loads(pickle.dumps(it)).pixels),
+        ):
+            self.race(
+                lambda it: it.run(*paints),
+                taken,
+                lambda it, seen: seen,
+                lambda: pix.Image.new(400, 400),
+            )
+
+
+class Interrupted(BaseException):
+    """What the handler of a signal raises."""
+
+
+@unittest.skipIf(not hasattr(signal, "setitimer"), "no timers")
+class Interrupts(unittest.TestCase):
+    def handled(self, handler):
+        before = signal.signal(signal.SIGALRM, handler)
+        self.addCleanup(signal.signal, signal.SIGALRM, before)
+        self.addCleanup(signal.setitimer, signal.ITIMER_REAL, 0)
+
+    def another_paints(self, image):
+        """Another thread paints the image, and needn't wait."""
+        thread = threading.Thread(target=image.run, args=[pix.clear()], daemon=True)
+        thread.start()
+        thread.join(10)
+        self.assertFalse(thread.is_alive(), "a turn was left behind")
+        self.assertFalse([turn for turn in turns.running if turn.runs.locked()])
+
+    def one_of_all_lengths(self, pixels, sprite, number):
+        """Makes an image and paints it, or maps it, copies it, and so on."""
+        image = pix.Image(pixels, 64, 64)
+        paint = [
+            pix.copy_color((0, 0, 64, 64), (9, 9, 9, 9)),
+            pix.composite_image((0, 0, 64, 64), sprite),
+        ]
+        image.run(*paint * (1, 4, 80, 200)[number % 4])
+        if number % 3 == 0:
+            pix.map_indexed(bytes(30), pixels, None, pix.SRGBA8)
+            pix.count_indices(pixels)
+        elif number % 3 == 1:
+            pickle.dumps(image)
+            pix.convert_bitmap(RGBA8, pixels, BGRA8, pixels, (64, 64))
+
+    def test_none_leaves_a_turn_or_a_pin(self):
+        def interrupt(*_):
+            raise Interrupted
+
+        self.handled(interrupt)
+        sprite, chance, interrupts, pixels = (
+            pix.Image.new(64, 64),
+            random.Random(3),
+            0,
+            bytearray(4 * 64 * 64),
+        )
+        end, number = time.monotonic() + float(os.environ.get("PIX_INTERRUPT_SECONDS", 3)), 0
+        while time.monotonic() < end:
+            number += 1
+            try:
+                signal.setitimer(
+                    signal.ITIMER_REAL,
+                    chance.choice((20e-6, 200e-6, 2e-3)) * (0.05 + chance.random()),
+                )
+                self.one_of_all_lengths(pixels, sprite, number)
+                signal.setitimer(signal.ITIMER_REAL, 0)
+            except Interrupted:
+                interrupts += 1
+            pixels.append(0)  # a BufferError where it is pinned
+            pixels.pop()
+        self.another_paints(pix.Image(pixels, 64, 64))
+        self.another_paints(sprite)
+        if "PIX_INTERRUPT_SECONDS" in os.environ:
+            print(f"{interrupts} interrupts of {number} rounds")
+        self.assertGreater(interrupts, 20)
+
+    def test_a_handler_may_paint(self):
+        image, other, painted, inside = pix.Image.new(64, 64), pix.Image.new(64, 64), [], []
+
+        def paint(*_):
+            if inside:
+                raise Interrupted("a handler waits for itself")
+            inside.append(1)
+            signal.setitimer(signal.ITIMER_REAL, 20)
+            for each in (image, other):
+                each.run(
+                    *[pix.copy_color((0, 0, 64, 64), (1, 2, 3, 4))]
+                    * (1 if len(painted) % 2 else 200)
+                )
+            painted.append(inside.pop())
+            signal.setitimer(signal.ITIMER_REAL, 100e-6)
+
+        self.handled(paint)
+        signal.setitimer(signal.ITIMER_REAL, 100e-6)
+        end, stop = time.monotonic() + 1, threading.Event()
+        beside = threading.Thread(
+            target=lambda: [other.run(pix.clear()) for _ in iter(stop.is_set, True)]
+        )
+        beside.start()
+        while time.monotonic() < end:
+            image.run(*[pix.copy_image((0, 0, 64, 64), other)] * (1 if len(painted) % 3 else 200))
+        signal.setitimer(signal.ITIMER_REAL, 0)
+        stop.set()
+        beside.join(10)
+        self.assertFalse(beside.is_alive(), "a thread waits for ever")
+        self.assertGreater(len(painted), 2)
+        self.another_paints(image)
+
+    def test_the_end_of_the_interpreter(self):
+        code = """if True:
+            import atexit, threading, pix
+            from pix._turns import turns
+            image, begun = pix.Image.new(4, 4), threading.Event()
+            call = lambda: (begun.set(), threading.Event().wait())
+            arguments = True, call, (), [image._rows.memory], []
+            threading.Thread(target=turns.take, args=arguments, daemon=True).start()
+            begun.wait()
+            class Last:
+                def __del__(self):
+                    try:
+                        image.run(pix.clear())
+                    except RuntimeError as fault:
+                        print(fault)
+            last = Last()
+            last.itself = last
+        """
+        done = subprocess.run(
+            [sys.executable, "-c", code], capture_output=True, text=True, timeout=60
+        )
+        self.assertIn(
+            done.stdout.strip(), ("", "the interpreter ends, and another thread was painting there")
+        )
+        self.assertEqual(done.returncode, 0)
+
+
+if __name__ == "__main__":
+    unittest.main()
