@@ -15,7 +15,7 @@ from pix._values import Format, Status
 
 # How many bytes of a picture are read at once: they stay in a core's own cache; and where Pillow
 # copies them first, blocks that malloc keeps.
-STRIP, COPIED = 192 << 10, 96 << 10
+STRIP, COPIED = 384 << 10, 96 << 10
 
 # The modes that are packed without a copy, and how. Pixels of four bytes become light the fastest,
 # so that gray is made such pixels too.
