@@ -202,17 +202,19 @@ def taken(color: Any) -> Any:
     if isinstance(color, str):
         raise TypeError(f"{color!r} is a text: write pix.srgb({color!r})")
     channels = tuple(color)
-    if any(isinstance(channel, float) for channel in channels):
-        raise TypeError(
-            f"{channels} has fractions: write whole numbers, as pix.srgb(200, 120, 40)"
-        )
-    return tuple(map(index, channels))
+    try:
+        return tuple(map(index, channels))
+    except TypeError:
+        if not any(isinstance(channel, float) for channel in channels):
+            raise
+    raise TypeError(f"{channels} has fractions: write whole numbers, as pix.srgb(200, 120, 40)")
 
 
 def refuse_another(color: Tuple[int, ...], kind: PixelType) -> None:
     """Raises where the numbers aren't channels of a kind of pixels."""
-    if len(color) != kind.channels or not all(0 <= channel <= kind.max for channel in color):
-        what = f"{kind.channels} channels from 0 to {kind.max}"
+    most = kind.max
+    if len(color) != kind.channels or min(color) < 0 or max(color) > most:
+        what = f"{kind.channels} channels from 0 to {most}"
         raise ValueError(
             f"{tuple(color)} is not a color of {kind}, which has {what}: "
             "pix.srgb(200, 120, 40) goes with all images"
