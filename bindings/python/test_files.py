@@ -118,6 +118,15 @@ class OddFiles(Trial):
             self.assertEqual((image.width, image.height), (48, 32))
             self.alike(straight(image), odd_files.blocks().convert("RGBA").tobytes(), 12)
 
+    @unittest.skipIf(pillow is None, "Pillow is not there")
+    def test_an_exif_that_is_none(self):
+        """A picture whose EXIF can't be read is shown as it is stored."""
+        for exif in (b"Exif\0\0", b"Exif\0\0nothing at all", b"Exif\0\0II*\0\xff\xff\xff\xff"):
+            file = io.BytesIO()
+            odd_files.blocks().save(file, "JPEG", quality=95, exif=exif)
+            image = pix.Image.open(file)
+            self.assertEqual((image.width, image.height), (48, 32))
+
     def test_what_else_is_no_picture(self):
         good = next(
             file.path for file in self.files if file.path.name == "color8.png"

@@ -4,7 +4,9 @@ from __future__ import annotations
 
 import os
 import re
+import struct
 import sys
+import zlib
 from array import array
 from typing import Any, Callable, Optional, Tuple
 
@@ -15,8 +17,10 @@ from pix._pixels import GRAYA8
 from pix._png import SIGNATURE, Fault, Pixels, png, read_png
 from pix._values import Format
 
-# The tag of EXIF that tells how a picture is turned.
+# The tag of EXIF that tells how a picture is turned, and what Pillow calls the turn back: to mirror
+# it, by half a turn, upside down, at its diagonals, and by a quarter to the right and to the left.
 _ORIENTATION = 0x0112
+_TURNS = {2: 0, 3: 3, 4: 1, 5: 5, 6: 4, 7: 6, 8: 2}
 
 # The files that are written without Pillow.
 _OWN = {".png": "PNG", ".ppm": "PPM", ".pgm": "PGM"}
@@ -49,10 +53,11 @@ def opened(file: Any, white: Optional[float], new: Callable[[int, int], Any]) ->
     try:
         with pillow.open(file) as picture:
             facts = facts_of(picture, white)
+            picture.load()
             return image_of(upright(picture), facts, new)
     except pillow.UnidentifiedImageError as fault:
         raise OSError(f"{name_of(file)}: it is no picture of a kind that Pillow reads") from fault
-    except (OSError, SyntaxError, EOFError) as fault:
+    except (OSError, SyntaxError, EOFError, IndexError, struct.error, zlib.error) as fault:
         if isinstance(fault, OSError) and fault.errno is not None:
             raise
         raise OSError(
@@ -61,12 +66,12 @@ def opened(file: Any, white: Optional[float], new: Callable[[int, int], Any]) ->
 
 
 def upright(picture: Any) -> Any:
-    """The picture, turned as its EXIF says."""
-    if picture.getexif().get(_ORIENTATION, 1) == 1:
-        return picture
-    from PIL import ImageOps
-
-    return ImageOps.exif_transpose(picture)
+    """The picture, turned as its EXIF says, if that can be read."""
+    try:
+        turn = _TURNS.get(picture.getexif().get(_ORIENTATION))
+    except (OSError, SyntaxError, EOFError, LookupError, TypeError, ValueError, struct.error):
+        turn = None
+    return picture if turn is None else picture.transpose(turn)
 
 
 def opened_alone(file: Any, white: Optional[float], new: Callable[[int, int], Any]) -> Any:
