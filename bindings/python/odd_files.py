@@ -67,6 +67,8 @@ def packed(samples: Sequence[int], bits: int) -> bytes:
     """Samples of a row as bytes, the most significant bits first."""
     if bits == 16:
         return struct.pack(f">{len(samples)}H", *samples)
+    if bits == 8:
+        return bytes(samples)
     word = 0
     for sample in samples:
         word = word << bits | sample
@@ -253,18 +255,16 @@ def make_palettes(folder: pathlib.Path) -> Iterator[OddFile]:
 def make_sizes(folder: pathlib.Path) -> Iterator[OddFile]:
     """PNGs of odd sizes, and the ramp of 16 bits whose rows are known: row y is y * 65535 /
     399."""
+    colors = [(i * 7 & 255, i * 31 & 255, i * 101 & 255) for i in range(509)]
+
+    def at(x: int, y: int) -> Tuple[int, ...]:
+        return colors[(3 * x + 5 * y) % len(colors)]
+
     for name, width, height in (("wide.png", 20000, 2), ("tall.png", 2, 20000), ("one.png", 1, 1)):
-        kind = Kind(name, f"{width} by {height}", COLOR, 8)
-
-        def at(
-            x: int, y: int, kind: Kind = kind, width: int = width, height: int = height
-        ) -> List[int]:
-            return samples_of(kind, pixel_at(x, y, width, height))
-
         path = folder / name
         path.write_bytes(png((width, height), COLOR, 8, at))
-        rgba = b"".join(shown(kind, at(x, y)) for y in range(height) for x in range(width))
-        yield OddFile(path, kind.what, (width, height), rgba)
+        rgba = b"".join(bytes(at(x, y)) + b"\xff" for y in range(height) for x in range(width))
+        yield OddFile(path, f"{width} by {height}", (width, height), rgba)
     ramp = Kind("ramp16.png", "a ramp of gray from black, of 16 bits", GRAY, 16)
     path = folder / ramp.name
     path.write_bytes(png((5, 400), GRAY, 16, lambda x, y: [y * MOST // 399]))

@@ -10,6 +10,7 @@ import subprocess
 import sys
 import tempfile
 import unittest
+import warnings
 import zlib
 from unittest import mock
 
@@ -124,7 +125,9 @@ class OddFiles(Trial):
         for exif in (b"Exif\0\0", b"Exif\0\0nothing at all", b"Exif\0\0II*\0\xff\xff\xff\xff"):
             file = io.BytesIO()
             odd_files.blocks().save(file, "JPEG", quality=95, exif=exif)
-            image = pix.Image.open(file)
+            with warnings.catch_warnings():
+                warnings.simplefilter("ignore")
+                image = pix.Image.open(file)
             self.assertEqual((image.width, image.height), (48, 32))
 
     def test_what_else_is_no_picture(self):
