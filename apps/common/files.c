@@ -76,20 +76,25 @@ static const kind *kind_of(const uint8_t *bytes, size_t count) {
     return NULL;
 }
 
+int file_make(file_picture *picture, uint32_t width, uint32_t height) {
+    picture->width = width;
+    picture->height = height;
+    picture->bytes = (uint64_t)width * height <= UINT32_MAX / 4 ? calloc((size_t)width * height + 1, 4) : NULL;
+    return picture->bytes != NULL;
+}
+
 /* Turns a picture upright that lies as EXIF says, and answers whether there was memory for it. */
 static int set_upright(file_picture *picture, int orientation) {
     const file_picture lying = *picture;
+    const int is_turned = orientation > 4;
     if (orientation == 1)
         return 1;
-    picture->bytes = malloc((size_t)4 * lying.width * lying.height);
-    if (picture->bytes)
+    const int is_made =
+        file_make(picture, is_turned ? lying.height : lying.width, is_turned ? lying.width : lying.height);
+    if (is_made)
         file_turn(lying.bytes, lying.width, lying.height, 4, orientation, picture->bytes);
-    if (orientation > 4) {
-        picture->width = lying.height;
-        picture->height = lying.width;
-    }
     free(lying.bytes);
-    return picture->bytes != NULL;
+    return is_made;
 }
 
 /* Reads an open file whose first bytes are these. */

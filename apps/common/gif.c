@@ -66,10 +66,8 @@ static int decode_lines(GifFileType *gif, int clear, file_picture *picture) {
 /* Makes a clear picture of the size of the screen, or of the frame where that reaches beyond it. */
 static int make_screen(const GifFileType *gif, file_picture *picture) {
     const int right = gif->Image.Left + gif->Image.Width, bottom = gif->Image.Top + gif->Image.Height;
-    picture->width = (uint32_t)(right > gif->SWidth ? right : gif->SWidth);
-    picture->height = (uint32_t)(bottom > gif->SHeight ? bottom : gif->SHeight);
-    picture->bytes = calloc((size_t)picture->width * picture->height + 1, 4);
-    return picture->bytes != NULL;
+    return file_make(picture, (uint32_t)(right > gif->SWidth ? right : gif->SWidth),
+                     (uint32_t)(bottom > gif->SHeight ? bottom : gif->SHeight));
 }
 
 int file_read_gif(FILE *file, const char *name, file_picture *picture, int *orientation, char sentence[FILE_SENTENCE]) {

@@ -45,11 +45,8 @@ static int convert_inks(uint8_t *inks, uint8_t *other, uint8_t *to, uint32_t wid
 /* Decodes the rows, with an alpha of 255, into memory that stands in `picture` whatever happens. */
 static int decode_rows(struct jpeg_decompress_struct *jpeg, jpeg_errors *errors, file_picture *picture) {
     const int is_inks = jpeg->out_color_space == JCS_CMYK;
-    picture->width = jpeg->output_width;
-    picture->height = jpeg->output_height;
-    picture->bytes = malloc((size_t)4 * picture->width * picture->height);
-    errors->row = malloc((size_t)8 * picture->width);
-    if (!picture->bytes || !errors->row)
+    errors->row = malloc((size_t)8 * jpeg->output_width);
+    if (!errors->row || !file_make(picture, jpeg->output_width, jpeg->output_height))
         return 0;
     while (jpeg->output_scanline < jpeg->output_height) {
         uint8_t *to = picture->bytes + (size_t)4 * picture->width * jpeg->output_scanline;

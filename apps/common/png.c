@@ -55,15 +55,14 @@ static int decode_png(png_structp png, png_infop info, file_picture *picture) {
     ask_for_bytes(png);
     const int passes = png_set_interlace_handling(png);
     png_read_update_info(png, info);
-    const size_t width = picture->width = png_get_image_width(png, info);
-    picture->height = png_get_image_height(png, info);
-    if (png_get_rowbytes(png, info) != 4 * width || picture->height > UINT32_MAX / (4 * width))
+    const size_t row = (size_t)4 * png_get_image_width(png, info);
+    if (png_get_rowbytes(png, info) != row ||
+        !file_make(picture, png_get_image_width(png, info), png_get_image_height(png, info)))
         return 0;
-    picture->bytes = malloc(4 * width * picture->height);
-    for (int pass = 0; picture->bytes && pass < passes; pass++)
+    for (int pass = 0; pass < passes; pass++)
         for (uint32_t y = 0; y < picture->height; y++)
-            png_read_row(png, picture->bytes + 4 * width * y, NULL);
-    return picture->bytes != NULL;
+            png_read_row(png, picture->bytes + row * y, NULL);
+    return 1;
 }
 
 int file_read_png(FILE *file, const char *name, file_picture *picture, int *orientation, char sentence[FILE_SENTENCE]) {

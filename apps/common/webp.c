@@ -30,13 +30,9 @@ static const char *decode(WebPAnimDecoder *decoder, file_picture *picture, int *
     int time;
     if (!WebPAnimDecoderGetInfo(decoder, &info) || !WebPAnimDecoderGetNext(decoder, &frame, &time))
         return "this WebP file is cut or broken";
-    const size_t count = (size_t)4 * info.canvas_width * info.canvas_height;
-    picture->width = info.canvas_width;
-    picture->height = info.canvas_height;
-    picture->bytes = malloc(count);
-    if (!picture->bytes)
+    if (!file_make(picture, info.canvas_width, info.canvas_height))
         return NO_MEMORY;
-    memcpy(picture->bytes, frame, count);
+    memcpy(picture->bytes, frame, (size_t)4 * info.canvas_width * info.canvas_height);
     if (WebPDemuxGetChunk(WebPAnimDecoderGetDemuxer(decoder), "EXIF", 1, &exif)) {
         *orientation = exif_orientation(exif.chunk.bytes, exif.chunk.size);
         WebPDemuxReleaseChunkIterator(&exif);
