@@ -15,10 +15,10 @@
 #define OF_WEBP NULL
 #endif
 
-/* A kind of file: how it begins, where a point stands for any byte, how names of it end, and who reads it: nobody where
- * the library was not there. */
+/* A kind of file: its name, how it begins, where a point stands for any byte, how names of it end,
+ * which library it takes, and who reads it: nobody where the library was not there. */
 typedef struct {
-    const char *start, *ends[2], *lacks;
+    const char *name, *start, *end, *other_end, *library;
     size_t length;
     file_reader *reader;
 } kind;
@@ -26,10 +26,10 @@ typedef struct {
 enum { KINDS = 4, LONGEST = 12 };
 
 static const kind kinds[KINDS] = {
-    {"\x89PN", {".png", ".png"}, "", 3, file_read_png},
-    {"\xff\xd8\xff", {".jpg", ".jpeg"}, "", 3, file_read_jpeg},
-    {"GIF8", {".gif", ".gif"}, "this is a GIF file, and no libgif was there to build with", 4, OF_GIF},
-    {"RIFF....WEBP", {".webp", ".webp"}, "this is a WebP file, and no libwebp was there to build with", 12, OF_WEBP},
+    {"PNG", "\x89PN", ".png", ".png", "libpng", 3, file_read_png},
+    {"JPEG", "\xff\xd8\xff", ".jpg", ".jpeg", "libjpeg", 3, file_read_jpeg},
+    {"GIF", "GIF8", ".gif", ".gif", "libgif", 4, OF_GIF},
+    {"WebP", "RIFF....WEBP", ".webp", ".webp", "libwebp", 12, OF_WEBP},
 };
 
 const char *file_kinds(void) {
@@ -58,7 +58,8 @@ static int ends_with(const char *name, const char *end) {
 
 int file_is_named_so(const char *name) {
     for (int i = 0; i < KINDS; i++)
-        if (kinds[i].reader && (ends_with(name, kinds[i].ends[0]) || ends_with(name, kinds[i].ends[1])))
+        if (kinds[i].reader &&
+            (ends_with(name, kinds[i].end) || ends_with(name, kinds[i].other_end)))
             return 1;
     return 0;
 }
@@ -79,7 +80,8 @@ static const kind *kind_of(const uint8_t *bytes, size_t count) {
 int file_make(file_picture *picture, uint32_t width, uint32_t height) {
     picture->width = width;
     picture->height = height;
-    picture->bytes = (uint64_t)width * height <= UINT32_MAX / 4 ? calloc((size_t)width * height + 1, 4) : NULL;
+    picture->bytes =
+        (uint64_t)width * height <= UINT32_MAX / 4 ? calloc((size_t)width * height + 1, 4) : NULL;
     return picture->bytes != NULL;
 }
 
@@ -89,24 +91,33 @@ static int set_upright(file_picture *picture, int orientation) {
     const int is_turned = orientation > 4;
     if (orientation == 1)
         return 1;
-    const int is_made =
-        file_make(picture, is_turned ? lying.height : lying.width, is_turned ? lying.width : lying.height);
+    const int is_made = file_make(picture, is_turned ? lying.height : lying.width,
+                                  is_turned ? lying.width : lying.height);
     if (is_made)
         file_turn(lying.bytes, lying.width, lying.height, 4, orientation, picture->bytes);
     free(lying.bytes);
     return is_made;
 }
 
+/* Says that the library for a kind of file was not there. */
+static int refuse_kind(char sentence[FILE_SENTENCE], const char *name, const kind *of) {
+    char what[80];
+    snprintf(what, sizeof what, "this is a %s file, and no %s was there to build with", of->name,
+             of->library);
+    return file_refuse(sentence, name, what);
+}
+
 /* Reads an open file whose first bytes are these. */
-static int read_open(FILE *file, const char *name, const uint8_t *first, size_t count, file_picture *picture,
-                     char sentence[FILE_SENTENCE]) {
+static int read_open(FILE *file, const char *name, const uint8_t *first, size_t count,
+                     file_picture *picture, char sentence[FILE_SENTENCE]) {
     const kind *of = kind_of(first, count);
     int orientation = 1;
     if (!of)
-        return file_refuse(sentence, name, count ? "this is neither a PNG nor a JPEG, GIF or WebP file"
-                                                 : "this file is empty: it is neither a PNG nor a JPEG");
+        return file_refuse(sentence, name,
+                           count ? "this is neither a PNG nor a JPEG, GIF or WebP file"
+                                 : "this file is empty: it is neither a PNG nor a JPEG");
     if (!of->reader)
-        return file_refuse(sentence, name, of->lacks);
+        return refuse_kind(sentence, name, of);
     if (fseek(file, 0, SEEK_SET))
         return file_refuse(sentence, name, strerror(errno));
     if (!of->reader(file, name, picture, &orientation, sentence))

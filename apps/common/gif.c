@@ -9,7 +9,8 @@ static int read_bytes(GifFileType *gif, GifByteType *bytes, int count) {
     return (int)fread(bytes, 1, (size_t)count, gif->UserData);
 }
 
-/* Goes on to the first frame, and answers whether there is one. `clear` becomes the index of its clear pixels, or -1. */
+/* Goes on to the first frame, and answers whether there is one. `clear` becomes the index of its
+ * clear pixels, or -1. */
 static int find_frame(GifFileType *gif, int *clear) {
     GifRecordType type;
     *clear = NO_TRANSPARENT_COLOR;
@@ -21,7 +22,8 @@ static int find_frame(GifFileType *gif, int *clear) {
             return DGifGetImageDesc(gif) == GIF_OK;
         if (type != EXTENSION_RECORD_TYPE || DGifGetExtension(gif, &code, &bytes) != GIF_OK)
             return 0;
-        if (code == GRAPHICS_EXT_FUNC_CODE && bytes && DGifExtensionToGCB(bytes[0], bytes + 1, &control) == GIF_OK)
+        if (code == GRAPHICS_EXT_FUNC_CODE && bytes &&
+            DGifExtensionToGCB(bytes[0], bytes + 1, &control) == GIF_OK)
             *clear = control.TransparentColor;
         while (bytes)
             if (DGifGetExtensionNext(gif, &bytes) != GIF_OK)
@@ -31,7 +33,8 @@ static int find_frame(GifFileType *gif, int *clear) {
 }
 
 /* Writes a line of indices as pixels; one past the table is clear. */
-static void write_line(const ColorMapObject *table, const GifPixelType *line, int count, int clear, uint8_t *to) {
+static void write_line(const ColorMapObject *table, const GifPixelType *line, int count, int clear,
+                       uint8_t *to) {
     for (int i = 0; i < count; i++, to += 4) {
         if (line[i] == clear || line[i] >= table->ColorCount)
             continue;
@@ -57,20 +60,25 @@ static int decode_lines(GifFileType *gif, int clear, file_picture *picture) {
             is_read = DGifGetLine(gif, line, frame->Width) == GIF_OK;
             if (is_read)
                 write_line(table, line, frame->Width, clear,
-                           picture->bytes + ((size_t)(frame->Top + y) * picture->width + (size_t)frame->Left) * 4);
+                           picture->bytes +
+                               ((size_t)(frame->Top + y) * picture->width + (size_t)frame->Left) *
+                                   4);
         }
     free(line);
     return is_read;
 }
 
-/* Makes a clear picture of the size of the screen, or of the frame where that reaches beyond it. */
+/* Makes a clear picture of the size of the screen, or of the frame where that reaches beyond it.
+ */
 static int make_screen(const GifFileType *gif, file_picture *picture) {
-    const int right = gif->Image.Left + gif->Image.Width, bottom = gif->Image.Top + gif->Image.Height;
+    const int right = gif->Image.Left + gif->Image.Width,
+              bottom = gif->Image.Top + gif->Image.Height;
     return file_make(picture, (uint32_t)(right > gif->SWidth ? right : gif->SWidth),
                      (uint32_t)(bottom > gif->SHeight ? bottom : gif->SHeight));
 }
 
-int file_read_gif(FILE *file, const char *name, file_picture *picture, int *orientation, char sentence[FILE_SENTENCE]) {
+int file_read_gif(FILE *file, const char *name, file_picture *picture, int *orientation,
+                  char sentence[FILE_SENTENCE]) {
     int error = 0, clear, is_read = 0;
     const char *what = "this GIF file has no frame that can be read";
     GifFileType *gif = DGifOpen(file, read_bytes, &error);

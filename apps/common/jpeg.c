@@ -6,8 +6,8 @@
 #include <stdlib.h>
 #include <string.h>
 
-/* What libjpeg does at an error: it jumps back, with the sentence. A warning, as of a file that ends early, is one too.
- * `row` is memory for a row of CMYK, and another one. */
+/* What libjpeg does at an error: it jumps back, with the sentence. A warning, as of a file that
+ * ends early, is one too. `row` is memory for a row of CMYK, and another one. */
 typedef struct {
     struct jpeg_error_mgr base;
     jmp_buf back;
@@ -34,16 +34,19 @@ static int jpeg_orientation(const struct jpeg_decompress_struct *jpeg) {
     return 1;
 }
 
-/* Makes red, green and blue of a row of CMYK, which JPEG files hold as what is left of the paper: 255 - ink. Each color
- * is multiplied by what black leaves, as a straight color is by its alpha; and then the alpha goes. */
+/* Makes red, green and blue of a row of CMYK, which JPEG files hold as what is left of the paper:
+ * 255 - ink. Each color is multiplied by what black leaves, as a straight color is by its alpha;
+ * and then the alpha goes. */
 static int convert_inks(uint8_t *inks, uint8_t *other, uint8_t *to, uint32_t width) {
     return pix_convert(PIX_FORMAT_RGBA8, PIX_FORMAT_RGBA8P, inks, other, width) == PIX_OK &&
            pix_convert(PIX_FORMAT_RGBA8P, PIX_FORMAT_RGB8, other, inks, width) == PIX_OK &&
            pix_convert(PIX_FORMAT_RGB8, PIX_FORMAT_RGBA8, inks, to, width) == PIX_OK;
 }
 
-/* Decodes the rows, with an alpha of 255, into memory that stands in `picture` whatever happens. */
-static int decode_rows(struct jpeg_decompress_struct *jpeg, jpeg_errors *errors, file_picture *picture) {
+/* Decodes the rows, with an alpha of 255, into memory that stands in `picture` whatever happens.
+ */
+static int decode_rows(struct jpeg_decompress_struct *jpeg, jpeg_errors *errors,
+                       file_picture *picture) {
     const int is_inks = jpeg->out_color_space == JCS_CMYK;
     errors->row = malloc((size_t)8 * jpeg->output_width);
     if (!errors->row || !file_make(picture, jpeg->output_width, jpeg->output_height))
@@ -58,8 +61,8 @@ static int decode_rows(struct jpeg_decompress_struct *jpeg, jpeg_errors *errors,
     return 1;
 }
 
-static int decode_jpeg(struct jpeg_decompress_struct *jpeg, jpeg_errors *errors, file_picture *picture,
-                       int *orientation) {
+static int decode_jpeg(struct jpeg_decompress_struct *jpeg, jpeg_errors *errors,
+                       file_picture *picture, int *orientation) {
     jpeg_save_markers(jpeg, JPEG_APP0 + 1, 0xffff);
     jpeg_read_header(jpeg, TRUE);
     *orientation = jpeg_orientation(jpeg);

@@ -6,14 +6,17 @@
 #include <stdlib.h>
 #include <string.h>
 
-/* Looks for EXIF among the chunks of a PNG file: each is a length, a name of four letters, so many bytes and a sum. */
+/* Looks for EXIF among the chunks of a PNG file: each is a length, a name of four letters, so many
+ * bytes and a sum. */
 static int png_orientation(FILE *file) {
     enum { MOST = 1 << 16 };
     uint8_t head[8], bytes[4096];
     for (long at = 8; !fseek(file, at, SEEK_SET) && fread(head, 1, 8, file) == 8;) {
-        const uint32_t length = (uint32_t)head[0] << 24 | (uint32_t)head[1] << 16 | (uint32_t)head[2] << 8 | head[3];
+        const uint32_t length =
+            (uint32_t)head[0] << 24 | (uint32_t)head[1] << 16 | (uint32_t)head[2] << 8 | head[3];
         if (!memcmp(head + 4, "eXIf", 4) && length <= MOST)
-            return exif_orientation(bytes, fread(bytes, 1, length < sizeof bytes ? length : sizeof bytes, file));
+            return exif_orientation(
+                bytes, fread(bytes, 1, length < sizeof bytes ? length : sizeof bytes, file));
         if (!memcmp(head + 4, "IEND", 4) || length > 0x7fffffff - 12)
             break;
         at += (long)length + 12;
@@ -38,8 +41,8 @@ static void png_warned(png_structp png, png_const_charp what) {
     (void)what;
 }
 
-/* Asks for sRGB of 8 bits with a straight alpha, whatever the file has. Its values are sRGB too, those of 16 bits among
- * them, where it says nothing else. */
+/* Asks for sRGB of 8 bits with a straight alpha, whatever the file has. Its values are sRGB too,
+ * those of 16 bits among them, where it says nothing else. */
 static void ask_for_bytes(png_structp png) {
     png_set_alpha_mode(png, PNG_ALPHA_PNG, PNG_DEFAULT_sRGB);
     png_set_expand(png);
@@ -48,8 +51,8 @@ static void ask_for_bytes(png_structp png) {
     png_set_add_alpha(png, 255, PNG_FILLER_AFTER);
 }
 
-/* Decodes into memory that stands in `picture` whatever happens. libpng's simplified interface is of no use here: some
- * versions of it mix up the rows of interlaced files of 16 bits. */
+/* Decodes into memory that stands in `picture` whatever happens. libpng's simplified interface is
+ * of no use here: some versions of it mix up the rows of interlaced files of 16 bits. */
 static int decode_png(png_structp png, png_infop info, file_picture *picture) {
     png_read_info(png, info);
     ask_for_bytes(png);
@@ -65,10 +68,12 @@ static int decode_png(png_structp png, png_infop info, file_picture *picture) {
     return 1;
 }
 
-int file_read_png(FILE *file, const char *name, file_picture *picture, int *orientation, char sentence[FILE_SENTENCE]) {
+int file_read_png(FILE *file, const char *name, file_picture *picture, int *orientation,
+                  char sentence[FILE_SENTENCE]) {
     png_errors errors = {.text = NO_MEMORY};
     volatile int is_read = 0;
-    png_structp png = png_create_read_struct(PNG_LIBPNG_VER_STRING, &errors, png_failed, png_warned);
+    png_structp png =
+        png_create_read_struct(PNG_LIBPNG_VER_STRING, &errors, png_failed, png_warned);
     png_infop info = png ? png_create_info_struct(png) : NULL;
     if (info && !setjmp(errors.back)) {
         png_init_io(png, file);
@@ -84,8 +89,8 @@ int file_read_png(FILE *file, const char *name, file_picture *picture, int *orie
     return file_refuse(sentence, name, errors.text);
 }
 
-/* What is written goes through a file of our own: libpng's own way by a name deletes what it could not write, be it a
- * device. */
+/* What is written goes through a file of our own: libpng's own way by a name deletes what it could
+ * not write, be it a device. */
 int file_write_png(const char *name, const file_picture *picture, char sentence[FILE_SENTENCE]) {
     png_image png;
     memset(&png, 0, sizeof png);

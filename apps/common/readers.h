@@ -1,4 +1,5 @@
-/* readers.h - what the readers of files.c share: one for each kind of file, built where its library is there. */
+/* readers.h - what the readers of files.c share: one for each kind of file, built where its
+ * library is there. */
 #ifndef READERS_H
 #define READERS_H
 
@@ -10,11 +11,12 @@
 /* Writes a sentence about a file, and answers 0. */
 int file_refuse(char sentence[FILE_SENTENCE], const char *name, const char *what);
 
-/* Takes memory for clear pixels of a picture of this size, at most 4 GiB. Answers whether there is any. */
+/* Takes memory for clear pixels of a picture of this size, at most 4 GiB. Answers whether there is
+ * any. */
 int file_make(file_picture *picture, uint32_t width, uint32_t height);
 
-/* Reads an open file from its start, as file_read does, but as the picture lies there; `orientation`, which is 1
- * before, is set where EXIF says another one. */
+/* Reads an open file from its start, as file_read does, but as the picture lies there;
+ * `orientation`, which is 1 before, is set where EXIF says another one. */
 typedef int file_reader(FILE *file, const char *name, file_picture *picture, int *orientation,
                         char sentence[FILE_SENTENCE]);
 

@@ -1,5 +1,7 @@
 #!/usr/bin/env python3
-"""Tries all programs on odd files: each draws of one what it draws of a plain PNG of the picture that Pillow makes of it.
+"""Tries all programs on odd files: what they draw of one is what Pillow makes of it.
+
+Each program is to draw of a file what it draws of a plain PNG of Pillow's picture.
 
     apps/common/test.py [TEST..]
 
@@ -20,14 +22,17 @@ from trial import PROGRAMS, TOP, Image, Trial, main, open_picture  # noqa: E402
 sys.path.insert(0, str(TOP / "bindings/python"))
 import odd_files  # noqa: E402
 
-# What the programs in C read, by the names of the odd files; and what they say of those whose library was not there.
+# What the programs in C read, by the names of the files; and what they say where a library was not there.
 READ = {".png": "PNG", ".jpg": "JPEG", ".gif": "GIF", ".webp": "WebP"}
-LACKS = {".gif": "this is a GIF file, and no libgif was there", ".webp": "this is a WebP file, and no libwebp was there"}
+LACKS = {
+    ".gif": "this is a GIF file, and no libgif was there",
+    ".webp": "this is a WebP file, and no libwebp was there",
+}
 ENCODER = (sys.executable, TOP / "apps/encoder/encode.py")
 
 
 def nearness(name):
-    """Returns by how much a channel may differ: decoders of JPEG and WebP do, and Pillow cuts 16 bits where others round them."""
+    """Returns by how much a channel may differ: decoders do, and Pillow cuts 16 bits off where others round."""
     return 3 if name.endswith((".jpg", ".webp")) else 2 if "alpha16" in name else 1
 
 

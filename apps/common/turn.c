@@ -1,29 +1,35 @@
 #include "readers.h"
 #include <string.h>
 
-/* How a picture is turned: whether its sides change places, and at which ends of the old ones it begins. */
+/* How a picture is turned: whether its sides change places, and at which ends of the old ones it
+ * begins. */
 typedef struct {
     int is_turned, from_right, from_below;
 } turning;
 
 static turning turning_of(int orientation) {
-    const turning it = {orientation >= 5, orientation == 2 || orientation == 3 || orientation == 7 || orientation == 8,
-                        orientation == 3 || orientation == 4 || orientation == 6 || orientation == 7};
+    const turning it = {
+        orientation >= 5,
+        orientation == 2 || orientation == 3 || orientation == 7 || orientation == 8,
+        orientation == 3 || orientation == 4 || orientation == 6 || orientation == 7};
     return it;
 }
 
-void file_turn(const void *from, uint32_t width, uint32_t height, size_t size, int orientation, void *to) {
+void file_turn(const void *from, uint32_t width, uint32_t height, size_t size, int orientation,
+               void *to) {
     /* Square by square, so that what is read by columns stays near. */
     enum { SIDE = 32 };
     const turning by = turning_of(orientation);
     const uint64_t columns = by.is_turned ? height : width, rows = by.is_turned ? width : height;
-    const uint64_t across = (columns + SIDE - 1) / SIDE, squares = across * ((rows + SIDE - 1) / SIDE);
+    const uint64_t across = (columns + SIDE - 1) / SIDE,
+                   squares = across * ((rows + SIDE - 1) / SIDE);
     for (uint64_t square = 0; square < squares; square++) {
         const uint64_t top = square / across * SIDE, left = square % across * SIDE;
         for (uint64_t row = top; row < rows && row < top + SIDE; row++)
             for (uint64_t column = left; column < columns && column < left + SIDE; column++) {
                 const uint64_t x = by.is_turned ? row : column, y = by.is_turned ? column : row;
-                const uint64_t line = by.from_below ? height - 1 - y : y, at = by.from_right ? width - 1 - x : x;
+                const uint64_t line = by.from_below ? height - 1 - y : y,
+                               at = by.from_right ? width - 1 - x : x;
                 memcpy((unsigned char *)to + (row * columns + column) * size,
                        (const unsigned char *)from + (line * width + at) * size, size);
             }

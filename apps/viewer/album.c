@@ -9,11 +9,10 @@
 #include <stdlib.h>
 #include <sys/stat.h>
 
-static int is_digit(char letter) {
-    return letter >= '0' && letter <= '9';
-}
+static int is_digit(char letter) { return letter >= '0' && letter <= '9'; }
 
-/* Takes the digits at the start of a text, without zeros before them, and answers how many there are. */
+/* Takes the digits at the start of a text, without zeros before them, and answers how many there
+ * are. */
 static size_t take_number(const char **text) {
     size_t count = 0;
     while (**text == '0')
@@ -60,8 +59,8 @@ static int is_folder(const char *name) {
     return !stat(name, &found) && S_ISDIR(found.st_mode);
 }
 
-/* Adds the pictures of the folder that the first letters of a text name, in order; and `shown`, whatever its name is.
- * Answers whether the folder could be read. */
+/* Adds the pictures of the folder that the first letters of a text name, in order; and `shown`,
+ * whatever its name is. Answers whether the folder could be read. */
 static int add_folder(album *it, const char *text, size_t length, const char *shown) {
     const size_t first = it->count;
     char *folder = insist_memory(strdup(length ? text : "."));
@@ -84,7 +83,8 @@ static int add_folder(album *it, const char *text, size_t length, const char *sh
     return 1;
 }
 
-/* Adds all of the folder of a file, and finds the file among them; the file alone where the folder can't be read. */
+/* Adds all of the folder of a file, and finds the file among them; the file alone where the folder
+ * can't be read. */
 static void add_around(album *it, const char *file) {
     const char *slash = strrchr(file, '/'), *name = slash ? slash + 1 : file;
     if (!add_folder(it, file, (size_t)(name - file), name))

@@ -13,7 +13,8 @@ static const char usage[] =
     "  --full          begin in full screen\n"
     "  --exact         begin as by E, and not as large as fits by whole factors\n"
     "  --play WORDS    do what these words say, one after the other, and end: the name of a key,\n"
-    "                  wheel=STEPS@X,Y, drag=DX,DY, WxH for another size of the window, or wait=MILLISECONDS\n"
+    "                  wheel=STEPS@X,Y, drag=DX,DY, WxH for another size of the window, or "
+    "wait=MILLISECONDS\n"
     "  --save PNG      write what the window shows at the end\n"
     "  --report        print a line for each painting: how much of the window was painted\n"
     "  --help          print this\n"
@@ -31,8 +32,10 @@ static const char usage[] =
     "  F11, Return             full screen, and back\n"
     "  Q, Escape               end; Escape leaves full screen first\n"
     "\n"
-    "It needs a screen; SDL_VIDEODRIVER=dummy does without one. GIF and WebP files need libgif and libwebp\n"
-    "when the program is built. Pictures are turned upright by their EXIF, of several frames the first one\n"
+    "It needs a screen; SDL_VIDEODRIVER=dummy does without one. GIF and WebP files need libgif "
+    "and libwebp\n"
+    "when the program is built. Pictures are turned upright by their EXIF, of several frames the "
+    "first one\n"
     "is shown, and CMYK becomes (255 - ink) * (255 - black) / 255: no profile of colors is read.\n"
     "The status is 0, 1 after a file that can't be read or written, or 2 after another use.\n";
 
@@ -46,8 +49,8 @@ void fail(int status, const char *about, const char *what) {
 /* Whether a text is a width and a height with an `x` between them, from 1 to 16384. */
 static int read_size(const char *text, int *width, int *height) {
     char rest;
-    return sscanf(text, "%5dx%5d%c", width, height, &rest) == 2 && *width >= 1 && *height >= 1 && *width <= 16384 &&
-           *height <= 16384;
+    return sscanf(text, "%5dx%5d%c", width, height, &rest) == 2 && *width >= 1 && *height >= 1 &&
+           *width <= 16384 && *height <= 16384;
 }
 
 /* Whether a text is a word of --play. */

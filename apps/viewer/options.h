@@ -4,8 +4,8 @@
 
 #include <SDL.h>
 
-/* What a word of --play makes happen: an event, or else another size of the window, or else so many milliseconds of
- * waiting. */
+/* What a word of --play makes happen: an event, or else another size of the window, or else so
+ * many milliseconds of waiting. */
 typedef struct {
     SDL_Event event;
     int width, height, wait;
@@ -19,8 +19,8 @@ typedef struct {
     size_t count;
 } options;
 
-/* Reads the words of the command line. Prints the help, or a sentence about a wrong one, and ends the program then. The
- * caller frees `files` and `actions`. */
+/* Reads the words of the command line. Prints the help, or a sentence about a wrong one, and ends
+ * the program then. The caller frees `files` and `actions`. */
 options options_of(int argc, char **argv);
 
 /* Ends the program with a sentence. */

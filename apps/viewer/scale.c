@@ -16,13 +16,9 @@ void canvas_free(canvas *it) {
     it->pixels = NULL;
 }
 
-pix_image_rgba16 canvas_image(const canvas *it) {
-    return pix_image_of_rgba16(it->pixels, it->width, it->height);
-}
+pix_image_rgba16 canvas_image(const canvas *it) { return pix_image_of_rgba16(it->pixels, it->width, it->height); }
 
-pix_source_rgba16 canvas_source(const canvas *it) {
-    return pix_source_of_rgba16(it->pixels, it->width, it->height);
-}
+pix_source_rgba16 canvas_source(const canvas *it) { return pix_source_of_rgba16(it->pixels, it->width, it->height); }
 
 void insist(pix_status status) {
     if (status != PIX_OK) {
@@ -53,8 +49,8 @@ static void copy_lines(pix_image_rgba16 image, pix_source_rgba16 source, lines w
     pix_command_rgba16 *list = insist_memory(malloc((count + 1) * sizeof *list));
     for (uint32_t i = 0; i < count; i++) {
         uint32_t from = first + i / times * step;
-        list[i] = pix_copy_image_rgba16(line_at(way, i, length), source,
-                                        line_at(way, from < all ? from : all - 1, length));
+        list[i] =
+            pix_copy_image_rgba16(line_at(way, i, length), source, line_at(way, from < all ? from : all - 1, length));
     }
     insist(pix_run_rgba16(image, list, count, NULL));
     free(list);
@@ -107,9 +103,9 @@ static void share_lines(pix_image_rgba16 image, pix_source_rgba16 source, lines 
             const uint64_t line = at / count;
             next = (line + 1) * count < end ? (line + 1) * count : end;
             const uint64_t share = 65535 * (next - start) / all - 65535 * (at - start) / all;
-            list[used++] = pix_composite_image_alpha_rgba16(
-                line_at(way, (uint32_t)i, length), source, line_at(way, (uint32_t)line, length), (uint16_t)share,
-                PIX_OP_PLUS);
+            list[used++] =
+                pix_composite_image_alpha_rgba16(line_at(way, (uint32_t)i, length), source,
+                                                 line_at(way, (uint32_t)line, length), (uint16_t)share, PIX_OP_PLUS);
         }
     }
     insist(pix_run_rgba16(image, list, used, NULL));

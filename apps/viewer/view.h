@@ -5,8 +5,8 @@
 #include "scale.h"
 #include <SDL.h>
 
-/* How a picture lies in a window: `zoom` pixels for each of its own, or one for -zoom where that is negative, or as many
- * as fit where it is 0; and its upper left corner at (x, y). */
+/* How a picture lies in a window: `zoom` pixels for each of its own, or one for -zoom where that is negative, or as
+ * many as fit where it is 0; and its upper left corner at (x, y). */
 typedef struct {
     int zoom;
     int32_t x, y;

@@ -25,8 +25,9 @@ static int decode(const char *name, canvas *picture) {
         return 0;
     }
     *picture = canvas_of(file.width, file.height);
-    insist(pix_convert_bitmap(pix_bitmap_source_of(file.bytes, file.width, file.height, PIX_FORMAT_SRGBA8),
-                              pix_bitmap_of_image_rgba16(canvas_image(picture))));
+    insist(pix_convert_bitmap(
+        pix_bitmap_source_of(file.bytes, file.width, file.height, PIX_FORMAT_SRGBA8),
+        pix_bitmap_of_image_rgba16(canvas_image(picture))));
     free(file.bytes);
     return 1;
 }
@@ -39,7 +40,8 @@ static void set_title(const viewer *it) {
     SDL_SetWindowTitle(it->window, title);
 }
 
-/* Shows the picture `first` steps of the album on, or the one after it by `step` where it can't be read, and so on. */
+/* Shows the picture `first` steps of the album on, or the one after it by `step` where it can't be
+ * read, and so on. */
 static void go(viewer *it, size_t first, int step) {
     const size_t count = it->files.count;
     canvas next;
@@ -60,8 +62,10 @@ static void go(viewer *it, size_t first, int step) {
 static void turn(viewer *it, int orientation) {
     const canvas old = it->picture;
     const int is_turned = orientation > 4;
-    it->picture = canvas_of(is_turned ? old.height : old.width, is_turned ? old.width : old.height);
-    file_turn(old.pixels, old.width, old.height, sizeof *old.pixels, orientation, it->picture.pixels);
+    it->picture =
+        canvas_of(is_turned ? old.height : old.width, is_turned ? old.width : old.height);
+    file_turn(old.pixels, old.width, old.height, sizeof *old.pixels, orientation,
+              it->picture.pixels);
     free(old.pixels);
     view_show_turned(&it->shown, canvas_source(&it->picture));
 }
@@ -81,8 +85,9 @@ static void save(const char *name, SDL_Surface *screen) {
     file_picture file = {NULL, (uint32_t)screen->w, (uint32_t)screen->h};
     char sentence[FILE_SENTENCE];
     file.bytes = insist_memory(malloc((size_t)4 * file.width * file.height));
-    insist(pix_convert_bitmap(pix_bitmap_source_of_bitmap(view_bitmap(screen)),
-                              pix_bitmap_of(file.bytes, file.width, file.height, PIX_FORMAT_SRGBA8)));
+    insist(
+        pix_convert_bitmap(pix_bitmap_source_of_bitmap(view_bitmap(screen)),
+                           pix_bitmap_of(file.bytes, file.width, file.height, PIX_FORMAT_SRGBA8)));
     if (!file_write_png(name, &file, sentence))
         fail(1, "", sentence);
     free(file.bytes);
@@ -94,12 +99,13 @@ static void report(const view *it, long painted) {
     char zoom[16] = "exact";
     if (at->zoom)
         snprintf(zoom, sizeof zoom, "%s%d", at->zoom < 0 ? "1/" : "", abs(at->zoom));
-    printf("%u x %u, zoom %s, at %d,%d: painted %ld of %ld pixels\n", (unsigned)at->width, (unsigned)at->height, zoom,
-           (int)at->x, (int)at->y, painted, (long)at->width * (long)at->height);
+    printf("%u x %u, zoom %s, at %d,%d: painted %ld of %ld pixels\n", (unsigned)at->width,
+           (unsigned)at->height, zoom, (int)at->x, (int)at->y, painted,
+           (long)at->width * (long)at->height);
 }
 
-/* Paints what changed, and shows it; all of the window where it has to be shown anyway, as after another window was
- * over it. */
+/* Paints what changed, and shows it; all of the window where it has to be shown anyway, as after
+ * another window was over it. */
 static void show(viewer *of, int all) {
     view *it = &of->shown;
     painting done = view_paint(it);
@@ -123,7 +129,8 @@ static void show(viewer *of, int all) {
 
 /* Does what a key says of the place of the picture. */
 static void on_place_key(view *it, SDL_Keycode key) {
-    const int32_t step = 32, middle_x = (int32_t)it->wanted.width / 2, middle_y = (int32_t)it->wanted.height / 2;
+    const int32_t step = 32, middle_x = (int32_t)it->wanted.width / 2,
+                  middle_y = (int32_t)it->wanted.height / 2;
     switch (key) {
     case SDLK_LEFT: view_pan(it, step, 0); break;
     case SDLK_RIGHT: view_pan(it, -step, 0); break;
@@ -168,14 +175,16 @@ static int on_key(viewer *it, SDL_Keycode key) {
     return 1;
 }
 
-/* Does what an event says, sets `all` where the window lost what it showed, and answers whether the program goes on. */
+/* Does what an event says, sets `all` where the window lost what it showed, and answers whether
+ * the program goes on. */
 static int on_event(viewer *of, const SDL_Event *event, int *all) {
     view *it = &of->shown;
     switch (event->type) {
     case SDL_QUIT: return 0;
     case SDL_KEYDOWN: return on_key(of, event->key.keysym.sym);
     case SDL_MOUSEWHEEL:
-        view_zoom(it, view_next_zoom(it, event->wheel.y), event->wheel.mouseX, event->wheel.mouseY);
+        view_zoom(it, view_next_zoom(it, event->wheel.y), event->wheel.mouseX,
+                  event->wheel.mouseY);
         break;
     case SDL_MOUSEMOTION:
         if (event->motion.state & SDL_BUTTON_LMASK)
@@ -184,7 +193,8 @@ static int on_event(viewer *of, const SDL_Event *event, int *all) {
     case SDL_WINDOWEVENT:
         if (event->window.event == SDL_WINDOWEVENT_SIZE_CHANGED)
             view_resize(it, (uint32_t)event->window.data1, (uint32_t)event->window.data2);
-        *all |= event->window.event == SDL_WINDOWEVENT_SIZE_CHANGED || event->window.event == SDL_WINDOWEVENT_EXPOSED;
+        *all |= event->window.event == SDL_WINDOWEVENT_SIZE_CHANGED ||
+                event->window.event == SDL_WINDOWEVENT_EXPOSED;
         break;
     }
     return 1;
@@ -235,7 +245,8 @@ static void play(viewer *it, const options *chosen) {
     }
 }
 
-/* Reads the file that was named alone, or else the first one that can be read; or ends the program. */
+/* Reads the file that was named alone, or else the first one that can be read; or ends the
+ * program. */
 static void open_album(viewer *it, const options *chosen) {
     it->files = album_of(chosen->files, chosen->file_count);
     while (!decode(it->files.names[it->files.at], &it->picture))
@@ -248,8 +259,8 @@ static void open_window(viewer *it, const options *chosen) {
     int width = chosen->width, height = chosen->height;
     if (SDL_Init(SDL_INIT_VIDEO))
         fail(1, "the screen", SDL_GetError());
-    it->window = SDL_CreateWindow("viewer", SDL_WINDOWPOS_UNDEFINED, SDL_WINDOWPOS_UNDEFINED, width, height,
-                                  SDL_WINDOW_RESIZABLE);
+    it->window = SDL_CreateWindow("viewer", SDL_WINDOWPOS_UNDEFINED, SDL_WINDOWPOS_UNDEFINED,
+                                  width, height, SDL_WINDOW_RESIZABLE);
     if (!it->window)
         fail(1, "the window", SDL_GetError());
     set_title(it);
