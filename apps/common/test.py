@@ -14,7 +14,6 @@ import os
 import pathlib
 import subprocess
 import sys
-import time
 
 sys.path.insert(0, str(pathlib.Path(__file__).resolve().parent))
 from trial import PROGRAMS, TOP, Image, Trial, main, open_picture  # noqa: E402
@@ -156,6 +155,12 @@ class OfEncoder(OddFiles):
         self.compare(self.drawn)
 
 
+def processor_seconds():
+    """Returns how long programs that ended were at work: a busy machine doesn't count."""
+    times = os.times()
+    return times.children_user + times.children_system
+
+
 class Helps(Trial):
     """--help of every program answers in a second what it does, needs and takes, and does nothing else."""
 
@@ -163,9 +168,12 @@ class Helps(Trial):
         bare = {"PATH": os.environ["PATH"]}
         for command in (*((PROGRAMS / name,) for name in ("viewer", "sprites", "text")), ENCODER):
             with self.subTest(command=command[-1]):
-                start = time.monotonic()
-                ran = subprocess.run([*command, "--help"], capture_output=True, text=True, cwd=self.folder, env=bare)
-                self.assertLess(time.monotonic() - start, 1)
+                start = processor_seconds()
+                words = [*command, "--help"]
+                ran = subprocess.run(
+                    words, capture_output=True, text=True, cwd=self.folder, env=bare, timeout=20
+                )
+                self.assertLess(processor_seconds() - start, 1)
                 self.assertEqual((ran.returncode, ran.stderr), (0, ""))
                 self.assertRegex(ran.stdout, r"\Ausage: (?s:.*)\b[Nn]eeds?\b(?s:.*)The status is 0")
                 self.assertEqual(list(self.folder.iterdir()), [])
