@@ -223,29 +223,35 @@ class Interrupts(unittest.TestCase):
 
     def test_the_end_of_the_interpreter(self):
         code = """if True:
-            import atexit, threading, pix
+            import threading, pix
             from pix._turns import turns
-            image, begun = pix.Image.new(4, 4), threading.Event()
-            call = lambda: (begun.set(), threading.Event().wait())
-            arguments = True, call, (), [image._rows.memory], []
-            threading.Thread(target=turns.take, args=arguments, daemon=True).start()
-            begun.wait()
+            image, other, begun = pix.Image.new(4, 4), pix.Image.new(4, 4), threading.Event()
+            def start(call):
+                begun.clear()
+                threading.Thread(target=call, daemon=True).start()
+                begun.wait()
+            stay = lambda: (begun.set(), threading.Event().wait())
+            def hold():
+                with turns._begins:
+                    stay()
+            start(lambda: turns.take(True, stay, (), [image._rows.memory], []))
+            start(hold)
             class Last:
                 def __del__(self):
+                    other.run(pix.clear())
                     try:
                         image.run(pix.clear())
                     except RuntimeError as fault:
                         print(fault)
             last = Last()
             last.itself = last
+            del last  # which is collected when the interpreter has begun to end
         """
         done = subprocess.run(
-            [sys.executable, "-c", code], capture_output=True, text=True, timeout=60
+            [sys.executable, "-c", code], capture_output=True, text=True, timeout=30
         )
-        self.assertIn(
-            done.stdout.strip(), ("", "the interpreter ends, and another thread was painting there")
-        )
-        self.assertEqual(done.returncode, 0)
+        said = "the interpreter ends, and another thread was painting there"
+        self.assertEqual((done.returncode, done.stdout.strip(), done.stderr), (0, said, ""))
 
 
 if __name__ == "__main__":

@@ -90,6 +90,8 @@ class Turns:
 
         A short function keeps the interpreter's lock, so that none begins before it ends.
         """
+        if sys.is_finalizing():
+            self._begins = RLock()  # a thread that runs no more may hold the other one
         if is_long:
             return self._take_long(_Turn(written, read), function, arguments, copies)
         while True:
