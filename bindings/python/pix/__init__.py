@@ -18,7 +18,8 @@ people write them are made by srgb(): srgb("#c87828") goes with all images. A tu
 
 Image.open() reads picture files and save() writes them. Image.from_array() and Image.from_pillow() make images of what
 other packages have, and to_array() and to_pillow() turn them back: in 16 bits a channel nothing is lost of pixels whose
-alpha is 13 or more. np.asarray(image) is the pixels themselves. convert() does it in 8 bits, and convert_bitmap() between any two formats.
+alpha is 13 or more. np.asarray(image) is the pixels themselves. convert() does it in 8 bits, and convert_bitmap() between
+any two formats.
 
 A region is a tuple (x, y, width, height) in pixels and lies anywhere; what is outside an image is neither read nor written.
 A list is tested as a whole before its first command runs: where an exception is raised, no pixel was changed.
@@ -40,8 +41,8 @@ it. The handler of a signal may paint, and an interrupt leaves nothing behind.
 
 What is left to the program is to keep other code from the buffers of a call in another thread: assignments to a
 bytearray, and memory that has two addresses, such as a file that is mapped twice, which no test of overlaps sees. Where
-it does not, pixels come out wrong, and nothing else is touched. Memory must not move under a view: ctypes.resize() and
-numpy's resize(refcheck=False) move it although it is pinned.
+it does not, pixels come out wrong, and nothing else is touched. Memory must not move or end under a view: ctypes.resize()
+and numpy's resize(refcheck=False) move it although it is pinned, and a file that is mapped must not be made shorter.
 
 The shared object libpix_c.so is looked for at the path PIX_LIBRARY of the environment, and else in the folder of this
 package and in the one above; on a processor of x86-64-v3, libpix_c-v3.so of this package comes first, which a release
