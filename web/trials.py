@@ -44,7 +44,8 @@ def canvas(browser, id_):
     """Returns the bytes of a canvas, four a pixel."""
     code = f"""{{ const canvas = document.getElementById({json.dumps(id_)});
         const {{ data }} = canvas.getContext('2d').getImageData(0, 0, canvas.width, canvas.height);
-        let text = ''; for (const byte of data) text += String.fromCharCode(byte); btoa(text) }}"""
+        let text = ''; for (let at = 0; at < data.length; at += 8192) text += String.fromCharCode(...data.subarray(at, at + 8192));
+        btoa(text) }}"""
     return base64.b64decode(browser.run(code))
 
 
