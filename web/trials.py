@@ -519,9 +519,12 @@ def try_a_part_that_is_missing(browser):
     browser.lose("two-pixels.paint")
     browser.open(url, READY)
     script = of(browser, "script", "value")
-    enter(browser, "example", "examples/two-pixels.paint")
-    browser.wait_for("document.getElementById('fault').textContent.startsWith('The example could not be loaded')")
-    wants("the script after an example that is missing", of(browser, "script", "value"), script)
+    browser.run("document.getElementById('example').add(new Option('none', 'examples/none.paint'))")
+    for name in ("two-pixels", "none"):
+        browser.run("document.getElementById('fault').textContent = ''")
+        enter(browser, "example", f"examples/{name}.paint")
+        browser.wait_for("document.getElementById('fault').textContent.startsWith('The example could not be loaded')", 20)
+        wants("the script after an example that is missing", of(browser, "script", "value"), script)
     browser.faults.clear()
 
 
