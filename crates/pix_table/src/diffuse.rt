@@ -90,6 +90,8 @@ impl<C: TableColor, P: TablePixel> SearchVisitor<u8> for Diffusing<'_, C, P> {
         → AreDiffused entries diffusing.how.alpha diffusing.how.kept diffusing.how.width
         (map P.values diffusing.pixels.now) new };
 
+    // Out of line: where it is inlined, a matcher is put together on the stack beside its place.
+    #[inline(never)]
     fn visit<N: NearestSearch>(&self, search: &mut N, items: &mut [u8], work: &mut [Color]) {
         let (wanted, rest) = work.split_at_mut(self.how.width);
         let (found, _) = rest.split_at_mut(self.how.width);

@@ -202,6 +202,8 @@ impl<P: TablePixel> SearchVisitor<u8> for Matching<'_, P> {
     ghost visits = { λ matching entries old new.
         AreMatched entries matching.alpha matching.kept (map P.values matching.pixels.now) new };
 
+    // Out of line: where it is inlined, a matcher is put together on the stack beside its place.
+    #[inline(never)]
     fn visit<N: NearestSearch>(&self, search: &mut N, items: &mut [u8], _work: &mut [Color]) {
         for i in 0..items.len() {
             items[i] = matched(search, self.pixels[i], self.alpha, self.kept);

@@ -123,6 +123,8 @@ where
         (slice_index_or (colors_of S.format ⟦<S::Gamma as Gamma<Ch8>>⟧.mode S.numbers mapping.pixels.now)
         k []) (slice_index (values P.numbers new) k)) × AreGray P.numbers new };
 
+    // Out of line: where it is inlined, a matcher is put together on the stack beside its place.
+    #[inline(never)]
     fn visit<N: NearestSearch>(&self, search: &mut N, items: &mut [P], _work: &mut [Color]) {
         for i in 0..items.len() {
             let clr = self.pixels[i].convert::<SRgb8>();
