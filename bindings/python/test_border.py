@@ -252,7 +252,7 @@ class NoPixels(unittest.TestCase):
                     pix.composite_matte((0, 0, most, most), pix.Matte(b"", *size), (9, 9, 9, 9))
                 )
             )
-        for width, height in ((0, 2**32 - 1), (2**32 - 1, 0)):
+        for width, height in ((0, 3 * 10**7), (0, 2**32 - 1), (2**32 - 1, 0)):
             self.soon(
                 lambda: self.assertEqual(
                     pix.repeat_image((0, 0, width, height), pix.Image.new(1, 1)), []
