@@ -263,7 +263,8 @@ class NoPixels(unittest.TestCase):
         """Tests that a call is refused before it takes memory or time."""
         tracemalloc.start()
         try:
-            with self.assertRaises(pix.PixError) as refused:
+            made = mock.patch.object(pix.Image, "new", side_effect=AssertionError("memory is made"))
+            with made, self.assertRaises(pix.PixError) as refused:
                 self.soon(call)
             self.assertEqual(refused.exception.status, status)
             self.assertLess(tracemalloc.get_traced_memory()[1], 1_000_000)
