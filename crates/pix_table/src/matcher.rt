@@ -19,6 +19,8 @@ const FEW_COLORS: usize = 4096;
 const FEW_ENTRIES: usize = 32;
 
 /// Returns the numbers of the entries, and behind them that of the first.
+// Out of line, as `colors_of` is: where they are inlined, LLVM puts a matcher together on the stack beside its place.
+#[inline(never)]
 fn words_of(entries: &[Color]) -> [u32; ENTRIES]
     requires some { 0 < length entries.now }
     requires few { length entries.now ≤ 256 }
@@ -77,6 +79,7 @@ impl NearestSearch for EntryLanes {
 }
 
 /// Returns the colors of the entries, and behind them others.
+#[inline(never)]
 fn colors_of<C: TableColor>(colors: &[C]) -> [Color; ENTRIES]
     requires { length colors.now ≤ 256 }
     ensures long { length result ≡ 256 }
