@@ -1,34 +1,32 @@
 //! Commands on rasters: clears, copies and composites, in single calls and in lists.
-ghost use Rattle.std.specs.Prelude.{◌≡◌, ◌+◌, ⊤};
+ghost use Rattle.std.specs.Prelude.{⊤};
 
 use crate::flaw::Flaw;
 use crate::images::{image, picture, pixel};
 use crate::regions::region;
 use crate::words::operator;
-use pix::chan::{Ch8, Linear, Premultiplied};
 use pix::el::Pixel;
-use pix::gray::Graya8p;
 use pix::matte::Matte8;
 use pix::ops::{Blend, Op, OpVisitor};
 use pix::rgb::Rgba8p;
-use pix::{ColorModel, Command, Raster, Region};
+use pix::{Command, Raster, Region};
 use std::alloc::{AllocError, Global};
 
 /// A command, without the images that it may read.
 #[derive(Drop)]
-enum Order<P> {
+enum Order {
     /// Clears the raster.
     Clear,
     /// Copies a color.
-    Fill(Region, P),
+    Fill(Region, Rgba8p),
     /// Copies the source.
     Copy(Region, Region),
     /// Composites a color.
-    Paint(Op, Region, P),
+    Paint(Op, Region, Rgba8p),
     /// Composites the source.
     Comp(Op, Region, Region),
     /// Composites a color through the mattes.
-    Matte(Op, Region, Region, P),
+    Matte(Op, Region, Region, Rgba8p),
     /// Composites the source through the mattes.
     Mask(Op, Region, Region, Region),
     /// Composites the source at an opacity.
@@ -37,8 +35,8 @@ enum Order<P> {
 
 /// The images that commands read.
 #[derive(Drop)]
-struct Images<P> {
-    source: Raster<P>,
+struct Images {
+    source: Raster<Rgba8p>,
     mattes: Raster<Matte8>,
 }
 
@@ -59,31 +57,14 @@ struct Images<P> {
 ///
 /// The answer is the size and the pixels of the raster after them.
 pub(crate) fn draw(words: &[&str], alloc: Global) -> Result<String, Flaw> {
-    drawn::<Rgba8p>(words, alloc)
-}
-
-/// `list 2x1 - ; paint SrcOver 0,0,1,1 4080`: as [`draw`], on a raster of premultiplied gray and
-/// alpha.
-pub(crate) fn draw_gray(words: &[&str], alloc: Global) -> Result<String, Flaw> {
-    drawn::<Graya8p>(words, alloc)
-}
-
-/// The answer of [`draw`] for a format, which has an alpha channel.
-fn drawn<P>(words: &[&str], alloc: Global) -> Result<String, Flaw>
-where
-    P: Pixel<Chan = Ch8, Alpha = Premultiplied, Gamma = Linear>,
-{
     let [way, size, pixels, words @ ..] = words else {
         return Err(Flaw::Count);
     };
-    if P::default().channels().len() != <P::Model as ColorModel>::ALPHA + 1 {
-        return Err(Flaw::Refused);
-    }
-    let mut raster: Raster<P> = image(size, pixels, alloc)?;
+    let mut raster = image(size, pixels, alloc)?;
     let source = named_image("source", words, alloc)?;
     let mattes = named_image("mattes", words, alloc)?;
     let images = Images { source, mattes };
-    let orders = orders::<P>(words, alloc)?;
+    let orders = orders(words, alloc)?;
     match *way {
         "list" => run_list(&mut raster, &images, &orders, alloc)?,
         "calls" => {
@@ -113,7 +94,7 @@ fn named_image<P: Pixel>(name: &str, words: &[&str], alloc: Global) -> Result<Ra
 }
 
 /// The commands among the words.
-fn orders<P: Pixel>(words: &[&str], alloc: Global) -> Result<Vec<Order<P>>, Flaw> {
+fn orders(words: &[&str], alloc: Global) -> Result<Vec<Order>, Flaw> {
     let mut all = Vec::new(alloc);
     for part in words.split(|word| *word == ";") {
         if !matches!(part, [] | ["source", ..] | ["mattes", ..]) {
@@ -124,7 +105,7 @@ fn orders<P: Pixel>(words: &[&str], alloc: Global) -> Result<Vec<Order<P>>, Flaw
 }
 
 /// The command of these words.
-fn order_of<P: Pixel>(words: &[&str], alloc: Global) -> Result<Order<P>, Flaw> {
+fn order_of(words: &[&str], alloc: Global) -> Result<Order, Flaw> {
     match words {
         ["clear"] => Ok(Order::Clear),
         ["fill", reg, clr] => Ok(Order::Fill(region(reg, alloc)?, pixel(clr, alloc)?)),
@@ -154,27 +135,23 @@ fn order_of<P: Pixel>(words: &[&str], alloc: Global) -> Result<Order<P>, Flaw> {
 }
 
 /// Does the commands as one list.
-fn run_list<P>(
-    raster: &mut Raster<P>,
-    images: &Images<P>,
-    orders: &[Order<P>],
+fn run_list(
+    raster: &mut Raster<Rgba8p>,
+    images: &Images,
+    orders: &[Order],
     alloc: Global,
-) -> Result<(), AllocError>
-where
-    P: Pixel<Chan = Ch8, Alpha = Premultiplied, Gamma = Linear>,
-    requires { P.layout.count ≡ P.layout.alpha + 1 }
-{
+) -> Result<(), AllocError> {
     let commands = commands_of(images, orders, alloc)?;
     raster.run(&commands);
     Ok(())
 }
 
 /// The commands with the images that they read.
-fn commands_of<'a, P: Pixel>(
-    images: &'a Images<P>,
-    orders: &[Order<P>],
+fn commands_of<'a>(
+    images: &'a Images,
+    orders: &[Order],
     alloc: Global,
-) -> Result<Vec<Command<'a, P, Matte8>>, AllocError> {
+) -> Result<Vec<Command<'a, Rgba8p, Matte8>>, AllocError> {
     orders
         .iter()
         .map(|order| command(images, order))
@@ -182,7 +159,7 @@ fn commands_of<'a, P: Pixel>(
 }
 
 /// A command with the image that it reads.
-fn command<'a, P: Pixel>(images: &'a Images<P>, order: &Order<P>) -> Command<'a, P, Matte8> {
+fn command<'a>(images: &'a Images, order: &Order) -> Command<'a, Rgba8p, Matte8> {
     match *order {
         Order::Clear => Command::Clear,
         Order::Fill(reg, clr) => Command::CopyColor { reg, clr },
@@ -211,13 +188,13 @@ fn command<'a, P: Pixel>(images: &'a Images<P>, order: &Order<P>) -> Command<'a,
 }
 
 /// A composite of the source through the mattes.
-fn masked<'a, P: Pixel>(
-    images: &'a Images<P>,
+fn masked<'a>(
+    images: &'a Images,
     op: Op,
     to: Region,
     from: Region,
     mask_from: Region,
-) -> Command<'a, P, Matte8> {
+) -> Command<'a, Rgba8p, Matte8> {
     let (src, mask) = (&images.source, &images.mattes);
     Command::RasterMatte {
         to,
@@ -230,13 +207,13 @@ fn masked<'a, P: Pixel>(
 }
 
 /// A composite of the source at an opacity.
-fn faded<'a, P: Pixel>(
-    images: &'a Images<P>,
+fn faded<'a>(
+    images: &'a Images,
     op: Op,
     to: Region,
     from: Region,
     alpha: Matte8,
-) -> Command<'a, P, Matte8> {
+) -> Command<'a, Rgba8p, Matte8> {
     let src = &images.source;
     Command::RasterAlpha {
         to,
@@ -248,11 +225,7 @@ fn faded<'a, P: Pixel>(
 }
 
 /// Does a command by a call of its own.
-fn call<P>(raster: &mut Raster<P>, images: &Images<P>, order: &Order<P>)
-where
-    P: Pixel<Chan = Ch8, Alpha = Premultiplied, Gamma = Linear>,
-    requires { P.layout.count ≡ P.layout.alpha + 1 }
-{
+fn call(raster: &mut Raster<Rgba8p>, images: &Images, order: &Order) {
     match *order {
         Order::Clear => raster.clear(),
         Order::Fill(reg, clr) => raster.copy_color(reg, clr),
@@ -267,20 +240,17 @@ where
 
 /// A command that composites, as a call by an operator that is a type.
 #[derive(Drop)]
-struct Composite<'a, P> {
-    images: &'a Images<P>,
-    order: &'a Order<P>,
+struct Composite<'a> {
+    images: &'a Images,
+    order: &'a Order,
 }
 
-impl<P> OpVisitor<Raster<P>> for Composite<'_, P>
-where
-    P: Pixel<Chan = Ch8, Alpha = Premultiplied, Gamma = Linear>,
-{
-    ghost can_visit = { λ _ _. P.layout.count ≡ P.layout.alpha + 1 };
+impl OpVisitor<Raster<Rgba8p>> for Composite<'_> {
+    ghost can_visit = { λ _ _. ⊤ };
 
     ghost visits = { λ _ _ _ _. ⊤ };
 
-    fn visit<O: Blend>(&self, raster: &mut Raster<P>, op: O) {
+    fn visit<O: Blend>(&self, raster: &mut Raster<Rgba8p>, op: O) {
         match *self.order {
             Order::Paint(_, reg, clr) => raster.composite_color(reg, clr, op),
             Order::Comp(_, to, from) => raster.composite_raster(to, &self.images.source, from, op),

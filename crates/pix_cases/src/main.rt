@@ -19,7 +19,6 @@ mod formats;
 mod grays;
 mod hexcones;
 mod images;
-mod indices;
 mod lengths;
 mod models;
 mod palettes;
