@@ -9,8 +9,10 @@ pub mod Slices
 pub mod Planes
 pub mod Sixteen
 pub mod Pairs
+pub mod Words
 pub mod ByTable
 pub mod Quotient
+pub mod Reciprocals16
 pub mod Entries
 pub mod SrgbTables
 pub mod SrgbOnce

@@ -14,6 +14,7 @@ ghost use Rattle.pix_chan.specs.Runs.{over};
 ghost use Rattle.pix_chan.specs.Seal.{Seal};
 ghost use Rattle.pix_chan.specs.Planes.{in_turn, both_in_turn, last_of_four};
 
+use std::fmt::Debug;
 use std::ops::{Add, Div, Mul, Sub};
 
 mod bits16;
@@ -41,6 +42,7 @@ pub use modes::{Alpha, Gamma, Linear, Premultiplied, Srgb, Straight};
 /// let none = half - whole; // 0: a difference stops at 0
 /// ```
 pub trait Channel: Copy
+    + Debug
     + Default
     + Ord
     + Add<Output = Self>

@@ -3,4 +3,6 @@
 
 pub mod chan;
 #[doc(hidden)]
+pub mod quotients;
+#[doc(hidden)]
 pub mod reciprocals;

@@ -2,3 +2,5 @@
 #![tactic(auto)]
 
 pub mod ops;
+#[doc(hidden)]
+pub mod sums;

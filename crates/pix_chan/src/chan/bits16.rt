@@ -10,6 +10,7 @@ ghost use Rattle.pix_chan.specs.Planes.{in_turn, both_in_turn, last_of_four};
 ghost use Rattle.pix_chan.specs.Seal.{seal};
 
 use crate::chan::{Ch8, Channel, whole};
+use crate::quotients::quotient;
 use std::ops::{Add, Div, Mul, Sub};
 
 mod lanes;
@@ -135,14 +136,11 @@ where
     ghost div_gives = { AnswersFrom
         ⟦<Ch16 as From<R>>⟧.from_gives (λ c. c.value) (channel_quotient 65535) };
 
+    #[inline(always)]
     fn div(self, rhs: R) -> Ch16 {
         let rhs = Ch16::from(rhs);
-        if rhs.value == 0 {
-            return Ch16 { value: 0 };
-        }
-        let ratio = (u32::from(self.value) << 16) / u32::from(rhs.value);
         Ch16 {
-            value: ratio.min(65535) as u16,
+            value: quotient(self.value, rhs.value),
         }
     }
 }
@@ -290,9 +288,7 @@ impl Channel for Ch16 {
     fn alphas4(pixels: [Ch16; 16]) -> [Ch16; 16]
         ensures { map (λ x. x.value) result ≡ last_of_four (map (λ x. x.value) pixels) }
     {
-        let p = &pixels[..];
-        let (a, b, c, d) = (p[3], p[7], p[11], p[15]);
-        [a, a, a, a, b, b, b, b, c, c, c, c, d, d, d, d]
+        lanes::channels(lanes::spread(lanes::units(&pixels)))
     }
 
     #[inline(always)]
@@ -300,12 +296,13 @@ impl Channel for Ch16 {
         ensures { map (λ x. x.value) result ≡ last_of_four (map (λ x. x.value) pixels) }
     {
         let p = &pixels[..];
-        let (a, b, c, d) = (p[3], p[7], p[11], p[15]);
-        let (e, f, g, h) = (p[19], p[23], p[27], p[31]);
-        [
-            a, a, a, a, b, b, b, b, c, c, c, c, d, d, d, d, e, e, e, e, f, f, f, f, g, g, g, g, h,
-            h, h, h,
-        ]
+        let first = lanes::channels(lanes::spread(lanes::units(&p[..16])));
+        let second = lanes::channels(lanes::spread(lanes::units(&p[16..32])));
+        let mut own = pixels;
+        let to = &mut own[..];
+        lanes::store(&mut to[..16], first);
+        lanes::store(&mut to[16..32], second);
+        own
     }
 
     #[inline(always)]

@@ -18,7 +18,7 @@ use crate::chan::{Ch8, Channel};
 /// let stored = Premultiplied::encode(same, light); // 64
 /// let straight = Premultiplied::decode(stored, light); // 128
 /// ```
-pub trait Alpha {
+pub trait Alpha: Default + PartialEq {
     /// The mode as a row of the table of alpha modes.
     ghost mode: { AlphaMode };
 
@@ -54,7 +54,7 @@ pub trait Alpha {
 /// let stored = Premultiplied::encode(same, light); // 64
 /// let straight = Premultiplied::decode(stored, light); // 128
 /// ```
-pub trait Gamma<C: Channel> {
+pub trait Gamma<C: Channel>: Default + PartialEq {
     /// The mode as a row of the table of gamma modes.
     ghost mode: { GammaMode };
 

@@ -3,6 +3,7 @@ ghost use Rattle.std.specs.Prelude.{◌≡◌, map, length};
 ghost use Rattle.std.specs.Simd.Lanes.{zip2};
 ghost use Rattle.pix_chan.specs.Number.{saturating_sum};
 ghost use Rattle.pix_chan.specs.Product.{channel_product};
+ghost use Rattle.pix_chan.specs.Planes.{last_of_four};
 ghost use Rattle.pix_chan.specs.Lanes.{high_sum, carried};
 
 use crate::chan::bits16::Ch16;
@@ -52,11 +53,24 @@ fn sum_lanes(x: u16x16, y: u16x16) -> u16x16
     x.saturating_add(y)
 }
 
+/// Returns, for four pixels of four channels, at each lane the last channel of its pixel.
+///
+/// The shift of words reads all lanes: of a bare shuffle LLVM sees that it needs the last channels alone, and where nothing else needs the
+/// others it loads them one by one, and puts each four times.
+#[inline(always)]
+pub(super) fn spread(pixels: u16x16) -> u16x16
+    ensures { result ≡ last_of_four pixels }
+{
+    let words = u64x4::from_le_bytes(pixels.to_le_bytes()) >> u64x4::splat(48);
+    let last = u16x16::from_le_bytes(words.to_le_bytes());
+    last.shuffle(last, [0, 0, 0, 0, 4, 4, 4, 4, 8, 8, 8, 8, 12, 12, 12, 12])
+}
+
 /// Returns the numbers of sixteen channels.
 ///
 /// LLVM makes one copy of the loop.
 #[inline(always)]
-fn units(c: &[Ch16]) -> u16x16
+pub(super) fn units(c: &[Ch16]) -> u16x16
     requires { length c.now ≡ 16 }
     ensures { result ≡ map (λ x. x.value) c.now }
 {
@@ -69,7 +83,7 @@ fn units(c: &[Ch16]) -> u16x16
 
 /// Returns the channels of sixteen numbers, by a loop as well.
 #[inline(always)]
-fn channels(v: u16x16) -> [Ch16; 16]
+pub(super) fn channels(v: u16x16) -> [Ch16; 16]
     ensures { map (λ x. x.value) result ≡ v }
 {
     let from = v.to_array();
@@ -82,7 +96,7 @@ fn channels(v: u16x16) -> [Ch16; 16]
 
 /// Writes sixteen channels to a slice of sixteen.
 #[inline(always)]
-fn store(to: &mut [Ch16], c: [Ch16; 16])
+pub(super) fn store(to: &mut [Ch16], c: [Ch16; 16])
     requires { length to.old ≡ 16 }
     ensures { to.new ≡ c }
 {

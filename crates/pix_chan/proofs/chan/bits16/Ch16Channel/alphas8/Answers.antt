@@ -1,11 +1,17 @@
 -- Of `Ch16Channel::alphas8`: that it meets its contract.
-use Rattle.std.proofs.Common.{arith, ap}
+use Rattle.std.proofs.Common.{◌≡◌, ◌∙◌, ap, arith, length, map, ℕ}
 use Rattle.pix_chan.specs.declared.chan.bits16.Ch16.{Ch16}
-use Rattle.pix_chan.proofs.Pairs.{alphas_are}
+use Rattle.pix_chan.specs.Planes.{last_of_four}
+use Rattle.pix_chan.proofs.Words.{both_spread}
 use Rattle.pix_chan.proofs.chan.bits16.Ch16Channel.alphas8.Goals as goal
 
 pub returns : goal.returns
 returns c =
-    let v = λ (x : Ch16). x.value in
-    alphas_are v c.args.pixels c.index-p-3.result c.index-p-7.result c.index-p-11.result c.index-p-15.result c.index-p-19.result c.index-p-23.result c.index-p-27.result c.index-p-31.result (omega arith)
-    (ap v c.index-p-3.is) (ap v c.index-p-7.is) (ap v c.index-p-11.is) (ap v c.index-p-15.is) (ap v c.index-p-19.is) (ap v c.index-p-23.is) (ap v c.index-p-27.is) (ap v c.index-p-31.is)
+    let v : Ch16 → ℕ = λ x. x.value in
+    let first = c.store.ensures in
+    let second = c.store-2.ensures in
+    let one : length c.store.new.to ≡ 16 = omega (arith, ap length first) in
+    let two : length c.store-2.new.to ≡ 16 = omega (arith, ap length second) in
+    both_spread v c.args.pixels c.store.new.to c.store-2.new.to (omega arith) one two
+    (ap (map v) first ∙ c.channels-first.ensures ∙ c.spread.ensures ∙ ap last_of_four c.units.ensures)
+    (ap (map v) second ∙ c.channels-second.ensures ∙ c.spread-2.ensures ∙ ap last_of_four c.units-2.ensures)

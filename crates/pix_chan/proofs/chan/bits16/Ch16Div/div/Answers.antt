@@ -2,8 +2,5 @@
 use Rattle.std.proofs.Common.{rules}
 use Rattle.pix_chan.proofs.chan.bits16.Ch16Div.div.Goals as goal
 
-pub returns-then-rhs-eq0 : goal.returns-then-rhs-eq0
-returns-then-rhs-eq0 g c = (_, c.from-rhs.ensures, search rules)
-
 pub returns : goal.returns
-returns g c = (_, c.from-rhs.ensures, search rules)
+returns g c = (_, c.from-rhs.ensures, search (rules, c.quotient.ensures))
