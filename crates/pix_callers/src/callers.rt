@@ -1,11 +1,12 @@
 //! Each caller of `pix_uses` on a small picture.
-use pix::chan::{Ch8, Ch16, Channel};
+use pix::chan::{Ch8, Ch16, Channel, Premultiplied};
 use pix::gray::Gray8;
 use pix::lent::Shape;
 use pix::matte::{Matte8, Matte16};
 use pix::ops::Op;
 use pix::rgb::{Rgb8, Rgba8p, Rgba16p, SRgb8, SRgba8};
 use pix::{Command, Raster, RasterFault, Region};
+use pix_uses::bounds::{beside_default, shown};
 use pix_uses::bytes::tint_bytes;
 use pix_uses::channels::{fade, mean, raised, restored, there_and_back};
 use pix_uses::colors::{glazed, sunrise, tint_top};
@@ -334,4 +335,17 @@ fn parts_restored(rt: HostRuntime) {
     assert_eq!(rt; restored(Ch8::new(131), Ch8::new(138)), Ch8::new(132));
     assert_eq!(rt; restored(Ch16::MIN, Ch16::MIN), Ch16::MIN);
     assert_eq!(rt; there_and_back(Ch8::new(171)), Ch8::new(171));
+}
+
+#[test]
+fn a_pixel_as_text(rt: HostRuntime) -> Result<(), Fail> {
+    let text = shown(rt.alloc(), Gray8::new(7))?;
+    let channels = "Pix { channels: [Ch8 { value: 7 }], _model: PhantomData<_>, ";
+    assert!(rt; text.as_str().starts_with(channels), "{text}");
+    Ok(())
+}
+
+#[test]
+fn a_mode_beside_the_default_one(rt: HostRuntime) {
+    assert_eq!(rt; beside_default(Premultiplied), (Premultiplied, true));
 }

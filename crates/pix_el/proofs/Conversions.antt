@@ -4,7 +4,7 @@ use Rattle.std.specs.Prelude.{nat_eq, true, false, ◌≢◌}
 use Rattle.std.specs.List.{range_with_len}
 use Rattle.std.proofs.lemmas.List.FromFn.{take-map-range_with_len}
 use Rattle.pix_chan.specs.Runs.{over}
-use Rattle.pix_chan.specs.Modes.{AlphaMode, Straight, Premultiplied, alpha_kind, GammaMode, Linear, Srgb, gamma_kind}
+use Rattle.pix_chan.specs.Modes.{AlphaMode, Straight, Premultiplied, alpha_kind, GammaMode, Linear, Srgb, gamma_kind, to_linear}
 use Rattle.pix_el.specs.Pixel.{Layout, channel}
 use Rattle.pix_el.specs.Color.{rgba_of, of_rgba}
 use Rattle.pix_el.specs.Conversion.{Format, at_depth, reencoded, of_depth, channel_reencoded, within_model, rgba_format, across_models, converted}
@@ -96,11 +96,11 @@ pub told_is : (format to : Format) (gamma to_gamma : GammaMode) (r g b a r' g' b
 told_is format to gamma to_gamma r g b a r' g' b' a' ea er eg eb = rw (er, eg, eb, ea) refl
 
 -- modes by their numbers
-straight_is : (mode : AlphaMode) → alpha_kind mode ≡ 0 → mode ≡ Straight
+pub straight_is : (mode : AlphaMode) → alpha_kind mode ≡ 0 → mode ≡ Straight
 straight_is Straight e = refl
 straight_is Premultiplied e = absurd (omega (arith, e))
 
-premultiplied_is : (mode : AlphaMode) → alpha_kind mode ≡ 1 → mode ≡ Premultiplied
+pub premultiplied_is : (mode : AlphaMode) → alpha_kind mode ≡ 1 → mode ≡ Premultiplied
 premultiplied_is Straight e = absurd (omega (arith, e))
 premultiplied_is Premultiplied e = refl
 
@@ -112,7 +112,7 @@ linear_is Srgb e = absurd (omega (arith, e))
 within_premultiplied : (format to : Format) (gamma to_gamma : GammaMode) (pixel : List ℕ)
     → alpha_kind format.alpha_mode ≡ 0 → alpha_kind to.alpha_mode ≡ 1 → gamma_kind to_gamma ≡ 0
     → to.layout.count ≡ 4 → to.layout.alpha ≡ 3 → to.colors.start ≡ 0 → to.colors.end ≡ 3
-    → within_model format gamma to to_gamma pixel ≡ premultiplied_four to.layout.max (linear_four format.layout.max to.layout.max gamma pixel)
+    → within_model format gamma to to_gamma pixel ≡ premultiplied_four to.layout.max (linear_four format.layout.max to.layout.max (λ x. to_linear gamma (at_depth format.layout.max to.layout.max x)) pixel)
 within_premultiplied format to gamma to_gamma pixel s p l count alpha start end =
     rw (straight_is format.alpha_mode s, premultiplied_is to.alpha_mode p, linear_is to_gamma l, count, alpha, start, end) refl
 
@@ -120,7 +120,7 @@ pub converted_premultiplied : (format to stated to_stated : Format) (gamma to_ga
     → format ≡ stated → to ≡ to_stated → stated.kind ≡ to_stated.kind
     → alpha_kind stated.alpha_mode ≡ 0 → alpha_kind to_stated.alpha_mode ≡ 1 → gamma_kind to_gamma ≡ 0
     → to_stated.layout.count ≡ 4 → to_stated.layout.alpha ≡ 3 → to_stated.colors.start ≡ 0 → to_stated.colors.end ≡ 3
-    → converted format gamma to to_gamma pixel ≡ premultiplied_four to_stated.layout.max (linear_four stated.layout.max to_stated.layout.max gamma pixel)
+    → converted format gamma to to_gamma pixel ≡ premultiplied_four to_stated.layout.max (linear_four stated.layout.max to_stated.layout.max (λ x. to_linear gamma (at_depth stated.layout.max to_stated.layout.max x)) pixel)
 converted_premultiplied format to stated to_stated gamma to_gamma pixel ef et same s p l count alpha start end =
     ap (λ (f : Format). converted f gamma to to_gamma pixel) ef
     ∙ ap (λ (t : Format). converted stated gamma t to_gamma pixel) et

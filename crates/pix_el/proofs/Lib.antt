@@ -15,3 +15,4 @@ pub mod EightPixels
 pub mod Blocks
 pub mod Kept
 pub mod Masked
+pub mod MaskedPlanes

@@ -1,6 +1,5 @@
 -- Linear pixels as sRGB, four at a time.
-use Rattle.std.proofs.Common.{◌≡◌, ℕ, ◌≤◌, ◌<◌, List, [], ◌∷◌, length, map, refl, ap, sym, subst, ◌∙◌, get_or, set, zero, suc, Fits, true, false}
-use Rattle.std.proofs.lemmas.List.{get_or-map}
+use Rattle.std.proofs.Common.{◌≡◌, ℕ, ◌≤◌, List, [], ◌∷◌, length, map, refl, ap, sym, subst, ◌∙◌, get_or, set, zero, suc, Fits, true, false}
 use mir.Syntax.{w8, w16}
 use lib.Lanes.{Each1}
 use Rattle.pix_chan.specs.Modes.{AlphaMode}
@@ -12,8 +11,8 @@ use Rattle.std.proofs.lemmas.Simd.{map-map}
 use Rattle.pix_el.specs.Pixel.{channel, lies_in}
 use Rattle.pix_el.specs.Planes.{by_fours}
 use Rattle.pix_el.specs.Conversion.{Format, at_depth}
-use Rattle.pix_el.specs.Light.{channel_as_srgb}
-use Rattle.pix_el.specs.LightBlocks.{IsKept, AreLevels}
+use Rattle.pix_el.specs.Light.{mode_changed, channel_as_srgb}
+use Rattle.pix_el.specs.LightBlocks.{IsKept, AreKept, AreLevels, changed_four}
 
 -- what is made of each of sixteen
 pub mapped16 : {A B : Type 0} (f : A → B) (xs : List A) (d0 d1 d2 d3 d4 d5 d6 d7 d8 d9 d10 d11 d12 d13 d14 d15 : A) {r0 r1 r2 r3 r4 r5 r6 r7 r8 r9 r10 r11 r12 r13 r14 r15 : B} → length xs ≡ 16
@@ -77,21 +76,15 @@ fours_mapped f xs h = rw (← (is_sixteen xs h).1) refl
 -- a color of a pixel as sRGB, by its level
 pub shown_color : (format to : Format) (pixel : List ℕ) (ch max alpha level : ℕ) (mode to_mode : AlphaMode)
     → format.layout.max ≡ max → format.alpha_mode ≡ mode → to.alpha_mode ≡ to_mode → to.layout.alpha ≡ alpha → lies_in to.colors ch ≡ true
-    → IsKept max mode to_mode (channel max pixel alpha) → channel max pixel ch ≤ max → level ≡ srgb_encoded8 (channel max pixel ch)
+    → level ≡ srgb_encoded8 (mode_changed max mode to_mode (channel max pixel alpha) (channel max pixel ch))
     → level ≡ channel_as_srgb format to pixel ch
-shown_color format to pixel ch max alpha level mode to_mode em ef et ea inside kept fits is =
-    rw (inside, em, ef, et, ea) (is ∙ ap srgb_encoded8 (sym (kept (channel max pixel ch) fits)))
+shown_color format to pixel ch max alpha level mode to_mode em ef et ea inside is =
+    rw (inside, em, ef, et, ea) is
 
 -- any other channel
 pub shown_rest : (format to : Format) (pixel : List ℕ) (ch max to_max level : ℕ) → format.layout.max ≡ max → to.layout.max ≡ to_max → lies_in to.colors ch ≡ false
     → level ≡ at_depth max to_max (channel max pixel ch) → level ≡ channel_as_srgb format to pixel ch
 shown_rest format to pixel ch max to_max level em et outside is = rw (outside, em, et) is
-
--- what holds of the alpha of a pixel of a list
-pub kept_at : {P : Type 0} (max alpha : ℕ) (mode to_mode : AlphaMode) (n : P → List ℕ) (ps : List P) (k : ℕ) (p : P) → k < length ps → p ≡ get_or ps k p
-    → IsKept max mode to_mode (channel max (get_or (map n ps) k []) alpha) → IsKept max mode to_mode (channel max (n p) alpha)
-kept_at max alpha mode to_mode n ps k p lt is kept =
-    subst (λ (l : List ℕ). IsKept max mode to_mode (channel max l alpha)) (get_or-map n ps k p [] lt ∙ ap n (sym is)) kept
 
 -- the levels of a pixel by another name
 pub levels_at : {P : Type 0} (max : ℕ) (n : P → List ℕ) (p q : P) (one two three : ℕ) → p ≡ q → AreLevels max (n q) one two three → AreLevels max (n p) one two three
@@ -106,3 +99,47 @@ four_made {D = D} {P = P} v n made ds ps a b c d w x y z h k ew ex ey ez ia ib i
     ap (map v) (all_set ds a b c d h)
     ∙ mapped4 f ps w x y z k (ia ∙ ap f ew) (ib ∙ ap f ex) (ic ∙ ap f ey) (id ∙ ap f ez)
     ∙ sym (map-map made n ps)
+
+-- the channels of four pixels whose colors are the same in both alpha modes
+module _ {C P : Type 0} (max : ℕ) (mode to_mode : AlphaMode) (v : C → ℕ) (n : P → List ℕ) (fits : (c : C) → v c ≤ max) where
+  kept_pixel : (pixel : List ℕ) (a b c d : C) → v a ∷ v b ∷ v c ∷ v d ∷ [] ≡ pixel → IsKept max mode to_mode (channel max pixel 3)
+      → pixel ≡ changed_four max mode to_mode pixel
+  kept_pixel pixel a b c d same kept =
+      subst (λ (p : List ℕ). IsKept max mode to_mode (channel max p 3) → p ≡ changed_four max mode to_mode p) same
+      (λ (k : IsKept max mode to_mode (v d)).
+      sym (ap (λ (x : ℕ). x ∷ mode_changed max mode to_mode (v d) (v b) ∷ mode_changed max mode to_mode (v d) (v c) ∷ v d ∷ []) (k (v a) (fits a))
+      ∙ ap (λ (x : ℕ). v a ∷ x ∷ mode_changed max mode to_mode (v d) (v c) ∷ v d ∷ []) (k (v b) (fits b))
+      ∙ ap (λ (x : ℕ). v a ∷ v b ∷ x ∷ v d ∷ []) (k (v c) (fits c))))
+      kept
+
+  -- the channels are those of the pixels
+  abbrev pub Same : List C → List P → Type 0
+  Same cs ps = by_fours (map v cs) ≡ map n ps
+
+  -- and those of the pixels in the other mode
+  abbrev pub Changed : List C → List P → Type 0
+  Changed cs ps = by_fours (map v cs) ≡ map (λ p. changed_four max mode to_mode (n p)) ps
+
+  kept_of : (a b c d e f g h i j k l m o q r : C) (s t u w : P) → AreKept max mode to_mode 3 (map n (s ∷ t ∷ u ∷ w ∷ []))
+      → Same (a ∷ b ∷ c ∷ d ∷ e ∷ f ∷ g ∷ h ∷ i ∷ j ∷ k ∷ l ∷ m ∷ o ∷ q ∷ r ∷ []) (s ∷ t ∷ u ∷ w ∷ [])
+      → Changed (a ∷ b ∷ c ∷ d ∷ e ∷ f ∷ g ∷ h ∷ i ∷ j ∷ k ∷ l ∷ m ∷ o ∷ q ∷ r ∷ []) (s ∷ t ∷ u ∷ w ∷ [])
+  kept_of a b c d e f g h i j k l m o q r s t u w kept same =
+      let at : ℕ → List (List ℕ) → List ℕ = λ i x. get_or x i [] in
+      let made : List ℕ → List ℕ = changed_four max mode to_mode in
+      let one : n s ≡ made (n s) = kept_pixel (n s) a b c d (ap (at 0) same) kept.first in
+      let two : n t ≡ made (n t) = kept_pixel (n t) e f g h (ap (at 1) same) kept.second in
+      let three : n u ≡ made (n u) = kept_pixel (n u) i j k l (ap (at 2) same) kept.third in
+      let four : n w ≡ made (n w) = kept_pixel (n w) m o q r (ap (at 3) same) kept.fourth in
+      same
+      ∙ ap (λ (x : List ℕ). x ∷ n t ∷ n u ∷ n w ∷ []) one
+      ∙ ap (λ (x : List ℕ). made (n s) ∷ x ∷ n u ∷ n w ∷ []) two
+      ∙ ap (λ (x : List ℕ). made (n s) ∷ made (n t) ∷ x ∷ n w ∷ []) three
+      ∙ ap (λ (x : List ℕ). made (n s) ∷ made (n t) ∷ made (n u) ∷ x ∷ []) four
+
+  pub kept_changed : (cs : List C) (ps : List P) → length cs ≡ 16 → length ps ≡ 4 → AreKept max mode to_mode 3 (map n ps) → Same cs ps → Changed cs ps
+  kept_changed cs ps h k =
+      subst (λ (ps : List P). AreKept max mode to_mode 3 (map n ps) → Same cs ps → Changed cs ps) (is_four ps k).1
+      (subst (λ (cs : List C). AreKept max mode to_mode 3 (map n ((is_four ps k).0.0 ∷ (is_four ps k).0.1 ∷ (is_four ps k).0.2 ∷ (is_four ps k).0.3 ∷ []))
+      → Same cs ((is_four ps k).0.0 ∷ (is_four ps k).0.1 ∷ (is_four ps k).0.2 ∷ (is_four ps k).0.3 ∷ [])
+      → Changed cs ((is_four ps k).0.0 ∷ (is_four ps k).0.1 ∷ (is_four ps k).0.2 ∷ (is_four ps k).0.3 ∷ [])) (is_sixteen cs h).1
+      (kept_of _ _ _ _ _ _ _ _ _ _ _ _ _ _ _ _ _ _ _ _))

@@ -14,7 +14,7 @@ module _ {A B : Type 0} where
   zip-nil [] = refl
   zip-nil (x ∷ xs) = refl
 
-  drop-zip : (n : ℕ) (xs : List A) (ys : List B) → drop n (zip xs ys) ≡ zip (drop n xs) (drop n ys)
+  pub drop-zip : (n : ℕ) (xs : List A) (ys : List B) → drop n (zip xs ys) ≡ zip (drop n xs) (drop n ys)
   drop-zip zero xs ys = refl
   drop-zip (suc n) [] ys = refl
   drop-zip (suc n) (x ∷ xs) [] = sym (zip-nil (drop n xs))

@@ -1,5 +1,5 @@
 -- Linear pixels as sRGB by blocks. No public clause cites this file.
-use Rattle.std.specs.Prelude.{◌≡◌, ◌≤◌, ℕ, List, [], get_or}
+use Rattle.std.specs.Prelude.{◌≡◌, ◌≤◌, ℕ, List, [], ◌∷◌, get_or}
 use Rattle.pix_chan.specs.Modes.{AlphaMode}
 use Rattle.pix_chan.specs.Srgb16.{srgb_encoded8}
 use Rattle.pix_el.specs.Pixel.{channel}
@@ -15,6 +15,12 @@ pub record AreKept (max : ℕ) (mode to_mode : AlphaMode) (alpha : ℕ) (pixels 
   pub second : IsKept max mode to_mode (channel max (get_or pixels 1 []) alpha)
   pub third : IsKept max mode to_mode (channel max (get_or pixels 2 []) alpha)
   pub fourth : IsKept max mode to_mode (channel max (get_or pixels 3 []) alpha)
+
+-- a linear pixel of four channels, its colors in another alpha mode
+abbrev pub changed_four : ℕ → AlphaMode → AlphaMode → List ℕ → List ℕ
+changed_four max mode to_mode pixel =
+    mode_changed max mode to_mode (channel max pixel 3) (channel max pixel 0) ∷ mode_changed max mode to_mode (channel max pixel 3) (channel max pixel 1)
+    ∷ mode_changed max mode to_mode (channel max pixel 3) (channel max pixel 2) ∷ channel max pixel 3 ∷ []
 
 -- three levels of a pixel
 pub record AreLevels (max : ℕ) (pixel : List ℕ) (one two three : ℕ) : Type 0 where

@@ -5,7 +5,6 @@ use Rattle.pix_ops.specs.declared.ops.Op.{Op}
 use Rattle.pix_chan.specs.Product.{channel_product}
 use Rattle.pix_ops.specs.Hue.{hue_composite, hue_weight}
 use Rattle.pix_ops.specs.Composite.{channel_composite, run_composite}
-use Rattle.pix_chan.specs.Modes.{GammaMode, to_linear}
 use Rattle.pix_el.specs.Pixel.{lies_in, channel}
 use Rattle.pix_el.specs.Conversion.{at_depth}
 
@@ -69,8 +68,7 @@ premultiplied_four max pixel =
     channel_product max (channel max pixel 0) (channel max pixel 3) ∷ channel_product max (channel max pixel 1) (channel max pixel 3)
     ∷ channel_product max (channel max pixel 2) (channel max pixel 3) ∷ channel max pixel 3 ∷ []
 
--- a pixel of four channels at another depth, its colors linear
-abbrev pub linear_four : ℕ → ℕ → GammaMode → List ℕ → List ℕ
-linear_four max to_max gamma pixel =
-    to_linear gamma (at_depth max to_max (channel max pixel 0)) ∷ to_linear gamma (at_depth max to_max (channel max pixel 1))
-    ∷ to_linear gamma (at_depth max to_max (channel max pixel 2)) ∷ at_depth max to_max (channel max pixel 3) ∷ []
+-- a pixel of four channels at another depth, its colors linear by a curve
+abbrev pub linear_four : ℕ → ℕ → (ℕ → ℕ) → List ℕ → List ℕ
+linear_four max to_max curve pixel =
+    curve (channel max pixel 0) ∷ curve (channel max pixel 1) ∷ curve (channel max pixel 2) ∷ at_depth max to_max (channel max pixel 3) ∷ []

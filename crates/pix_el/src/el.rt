@@ -24,6 +24,7 @@ use crate::planes::{color_runs, composite_runs, matte_runs};
 use crate::rgb::Rgb;
 use pix_chan::chan::{Alpha, Channel, Gamma, Linear, Premultiplied};
 use pix_ops::ops::Blend;
+use std::fmt::Debug;
 use std::marker::PhantomData;
 
 mod array;
@@ -34,7 +35,6 @@ mod new;
 pub type PixRgba<P> = Pix<4, <P as Pixel>::Chan, Rgb, <P as Pixel>::Alpha, <P as Pixel>::Gamma>;
 
 /// A pixel of `N` channels of type `C`, in the color model `M`, the alpha mode `A` and the gamma mode `G`.
-#[derive(Debug)]
 pub struct Pix<const N: usize, C, M, A, G> {
     pub(crate) channels: [C; N],
     _model: PhantomData<M>,
@@ -54,7 +54,7 @@ impl<const N: usize, C: Copy, M, A, G> Copy for Pix<N, C, M, A, G> {}
 /// let alpha = color.alpha(); // 40
 /// let absent = Rgb8::new(10, 20, 30).alpha(); // 255, since the format has none
 /// ```
-pub trait Pixel: Copy + Default + PartialEq {
+pub trait Pixel: Copy + Debug + Default + PartialEq {
     /// The type of its channels.
     type Chan: Channel;
 

@@ -9,7 +9,7 @@ ghost use Rattle.pix_el.specs.Light.{mode_changed, channel_in_light, channel_as_
 
 use crate::conversion::channel_at_depth;
 use crate::el::Pixel;
-use crate::light::blocks::{encode_blocks, srgb_levels};
+use crate::light::blocks::{decode_blocks, encode_blocks, srgb_levels};
 use crate::model::ColorModel;
 use pix_chan::chan::{Alpha, Ch8, Ch16, Channel, Linear, Srgb};
 
@@ -256,7 +256,7 @@ pub trait Light: Pixel {
             (map Self.numbers src.now) (map D.numbers dst.old) }
     {
         let count = dst.len().min(src.len());
-        for i in 0..count {
+        for i in decode_blocks::<Self, D>(dst, src, count)..count {
             dst[i] = src[i].decode_srgb::<D>();
         }
     }

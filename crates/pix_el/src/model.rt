@@ -10,7 +10,7 @@ use crate::el::{Pix, PixRgba, Pixel};
 use std::ops::Range;
 
 /// A color model: which channels a pixel has, and what they mean. This trait is sealed.
-pub trait ColorModel {
+pub trait ColorModel: Default + PartialEq {
     /// The model as a row of the table of models.
     ghost model: { Model };
 

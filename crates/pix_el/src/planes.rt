@@ -2,8 +2,8 @@
 //!
 //! Each way to go is a `Block`. Pixels of four channels without a hue go eight at a time and then four, interleaved, as they lie. Pixels of
 //! four channels with a hue at the first go by planes, arrays of sixteen channels of one number, and so do pixels of two channels without a
-//! hue and a color through sixteen mattes. A pixel of one channel is its own alpha, so that mattes go as they lie. Pixels through mattes go
-//! eight at a time as well (`masked.rt`).
+//! hue and a color of 8 bits through sixteen mattes. A pixel of one channel is its own alpha, so that mattes go as they lie. Pixels through
+//! mattes go by the same blocks (`masked.rt`).
 //!
 //! Nothing of this is in a contract above, so another way to cut a slice into blocks changes this file and its folder alone.
 ghost use Rattle.std.specs.Prelude.{◌≡◌, ◌≤◌, ◌+◌, ◌-◌, length, map, take, true, replicate};
@@ -171,6 +171,40 @@ fn scale_first<M: ColorModel, C: Channel>(channels: &mut [C], mattes: &[C])
     }
 }
 
+/// Returns whether channels have more than 8 bits. Planes of those are put together one element after the other.
+#[inline(always)]
+fn is_wide<C: Channel>() -> bool {
+    C::MAX.to_u32() > 255
+}
+
+/// Composites `clr` through mattes with as many of the first `count` pixels as go by the largest blocks of pixels that go interleaved, and
+/// returns how many these are.
+///
+/// Condition: the alpha is the last of four channels, none is a hue, and both slices have `count` elements.
+#[inline(always)]
+fn largest_coverage<O: Blend, P: Pixel, S: Coverage<P::Chan>>(
+    dst: &mut [P],
+    src: &[S],
+    clr: &P,
+    count: usize,
+) -> usize
+    requires has_alpha { P.layout.count ≡ P.layout.alpha + 1 }
+    requires alpha { P.layout.alpha ≡ 3 }
+    requires no_hue { P.layout.hues.end ≡ 0 }
+    requires dst_has { count ≤ length dst.old }
+    requires src_has { count ≤ length src.now }
+    ensures some { result ≤ count }
+    ensures composite { map P.numbers dst.new ≡
+        over (λ m. matted_composite P.layout O.op m (P.numbers clr.now))
+        (take result (map S.value src.now)) (map P.numbers dst.old) }
+{
+    if is_wide::<P::Chan>() {
+        matte_blocks::<O, P, S, Eight>(dst, src, clr, count)
+    } else {
+        matte_blocks::<O, P, S, Four>(dst, src, clr, count)
+    }
+}
+
 /// Composites `clr` through mattes with as many of the first `count` pixels as go by blocks, and returns how many these are.
 ///
 /// Condition: the format has an alpha channel, and both slices have `count` elements.
@@ -190,7 +224,7 @@ fn coverage_runs<O: Blend, P: Pixel, S: Coverage<P::Chan>>(
         (take result (map S.value src.now)) (map P.numbers dst.old) }
 {
     if is_interleaved::<P>() {
-        let start = matte_blocks::<O, P, S, Four>(dst, src, clr, count);
+        let start = largest_coverage::<O, P, S>(dst, src, clr, count);
         let (rest, mattes) = (&mut dst[start..], &src[start..]);
         start + matte_blocks::<O, P, S, Interleaved>(rest, mattes, clr, count - start)
     } else if has_four::<P>() {

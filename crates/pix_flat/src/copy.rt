@@ -8,7 +8,10 @@ use pix_el::el::Pixel;
 use pix_raster::lent::{Blit, Fill};
 use std::marker::PhantomData;
 
-/// How many columns a region has at most whose image is copied under `Src`. Longer rows go by blocks, which takes less time than to copy them.
+/// The most columns of a region whose image is copied under `Src`. Longer rows go by blocks, which
+/// takes less time than to copy them.
+// For v2, 64 by 64 pixels took 0.79 to 0.82 of pixman's time as copies, and 1.03 to 1.05 by blocks.
+// Copies of 1024 by 1024 took a tenth to a fifth longer than blocks.
 pub(crate) const SHORT: u32 = 256;
 
 /// Copies a color.

@@ -3,16 +3,18 @@
 //! A block goes twice: first each color is looked up, one pixel after the other, and then the products are made, four pixels at a time.
 //! It is short enough to stay in the nearest cache meanwhile.
 ghost use Rattle.std.specs.Prelude.{◌≡◌, ◌≤◌, ◌+◌, ℕ, List, length, map, take, true};
+ghost use Rattle.pix_chan.specs.Modes.{to_linear};
 ghost use Rattle.pix_chan.specs.Runs.{over};
 ghost use Rattle.pix_el.specs.Planes.{linear_four, premultiplied_four};
-ghost use Rattle.pix_el.specs.Conversion.{converted};
+ghost use Rattle.pix_el.specs.Conversion.{at_depth, converted};
 
-use crate::conversion::channel_at_depth;
+use crate::conversion::{at_depth, channel_at_depth};
 use crate::el::Pixel;
 use crate::model::ColorModel;
 use crate::planes::interleaved::premultiply_four;
 use crate::planes::is_interleaved;
-use pix_chan::chan::{Alpha, Gamma, Linear, Premultiplied, Straight};
+use pix_chan::chan::{Alpha, Channel, Gamma, Linear, Premultiplied, Straight};
+use std::marker::PhantomData;
 
 /// How many pixels a block has.
 const BLOCK: usize = 64;
@@ -28,7 +30,7 @@ fn has_four_channels<P: Pixel>() -> bool
 /// Returns whether a conversion from `P` to `D` stays in one color model of four channels without a hue, and multiplies linear colors by the
 /// alpha.
 #[inline(always)]
-fn premultiplies<P: Pixel, D: Pixel>() -> bool
+pub(crate) fn premultiplies<P: Pixel, D: Pixel>() -> bool
     ensures model { result ≡ true → P.Model.KIND ≡ D.Model.KIND }
     ensures straight { result ≡ true → P.Alpha.KIND ≡ 0 }
     ensures premultiplied { result ≡ true → D.Alpha.KIND ≡ 1 }
@@ -46,38 +48,63 @@ fn premultiplies<P: Pixel, D: Pixel>() -> bool
         && has_four_channels::<D>()
 }
 
+/// A way to make a straight color linear, in channels of another type.
+pub(crate) trait Curve<C: Channel, D: Channel> {
+    /// The number that is made of one.
+    ghost curve: { ℕ → ℕ };
+
+    /// Returns the linear channel of a color.
+    fn linear(c: C) -> D
+        ensures { D.number result ≡ curve (C.number c) };
+}
+
+/// The way of a conversion: to the other depth, and then by the gamma mode `G`.
+struct ByGamma<G> {
+    _gamma: PhantomData<G>,
+}
+
+impl<C: Channel, D: Channel, G: Gamma<D>> Curve<C, D> for ByGamma<G> {
+    ghost curve = { λ x. to_linear G.mode (at_depth C.max D.max x) };
+
+    #[inline(always)]
+    fn linear(c: C) -> D {
+        G::to_linear(at_depth::<C, D>(c))
+    }
+}
+
 /// Returns a pixel at the depth of `D`, its colors linear and the alpha mode as it is.
 #[inline(always)]
-fn linear_pixel<P, D>(p: &P) -> D
+fn linear_pixel<K, P, D>(p: &P) -> D
 where
     P: Pixel,
     D: Pixel,
-    P::Gamma: Gamma<D::Chan>,
+    K: Curve<P::Chan, D::Chan>,
     requires { D.layout.count ≡ 4 }
-    ensures { D.numbers result ≡ linear_four P.Chan.max D.Chan.max
-        ⟦<P::Gamma as Gamma<D::Chan>>⟧.mode (P.numbers p.now) }
+    ensures { D.numbers result ≡ linear_four P.Chan.max D.Chan.max K.curve (P.numbers p.now) }
 {
-    let one = <P::Gamma as Gamma<D::Chan>>::to_linear(channel_at_depth::<P, D::Chan>(p, 0));
-    let two = <P::Gamma as Gamma<D::Chan>>::to_linear(channel_at_depth::<P, D::Chan>(p, 1));
-    let three = <P::Gamma as Gamma<D::Chan>>::to_linear(channel_at_depth::<P, D::Chan>(p, 2));
+    let (one, two, three) = (
+        K::linear(p.get(0)),
+        K::linear(p.get(1)),
+        K::linear(p.get(2)),
+    );
     D::from_four(one, two, three, channel_at_depth::<P, D::Chan>(p, 3))
 }
 
 /// Writes each pixel of `src`, its colors linear, to the same index of `dst`. Condition: there are as many of both.
 #[inline(always)]
-fn linear_pixels<P, D>(dst: &mut [D], src: &[P])
+fn linear_pixels<K, P, D>(dst: &mut [D], src: &[P])
 where
     P: Pixel,
     D: Pixel,
-    P::Gamma: Gamma<D::Chan>,
+    K: Curve<P::Chan, D::Chan>,
     requires count { D.layout.count ≡ 4 }
     requires as_many { length dst.old ≡ length src.now }
     ensures size { length dst.new ≡ length dst.old }
-    ensures pixels { map D.numbers dst.new ≡ map (linear_four P.Chan.max D.Chan.max
-        ⟦<P::Gamma as Gamma<D::Chan>>⟧.mode) (map P.numbers src.now) }
+    ensures pixels { map D.numbers dst.new ≡
+        map (linear_four P.Chan.max D.Chan.max K.curve) (map P.numbers src.now) }
 {
     for i in 0..dst.len() {
-        dst[i] = linear_pixel::<P, D>(&src[i]);
+        dst[i] = linear_pixel::<K, P, D>(&src[i]);
     }
 }
 
@@ -92,6 +119,31 @@ fn premultiply_block<P: Pixel>(p: &mut [P])
     for k in 0..BLOCK / 4 {
         premultiply_four(&mut p[4 * k..4 * k + 4]);
     }
+}
+
+/// Makes as many of the first `count` pixels linear and premultiplied as go by blocks, and returns how many these are.
+///
+/// Condition: both slices have `count` pixels.
+#[inline(always)]
+pub(crate) fn premultiply_blocks<K, P, D>(dst: &mut [D], src: &[P], count: usize) -> usize
+where
+    P: Pixel,
+    D: Pixel,
+    K: Curve<P::Chan, D::Chan>,
+    requires four { D.layout.count ≡ 4 }
+    requires dst_has { count ≤ length dst.old }
+    requires src_has { count ≤ length src.now }
+    ensures some { result ≤ count }
+    ensures pixels { map D.numbers dst.new ≡ over (λ p d. premultiplied_four D.Chan.max
+        (linear_four P.Chan.max D.Chan.max K.curve p))
+        (take result (map P.numbers src.now)) (map D.numbers dst.old) }
+{
+    for k in 0..count / BLOCK {
+        let block = &mut dst[BLOCK * k..BLOCK * k + BLOCK];
+        linear_pixels::<K, P, D>(block, &src[BLOCK * k..BLOCK * k + BLOCK]);
+        premultiply_block(block);
+    }
+    count / BLOCK * BLOCK
 }
 
 /// Converts as many of the first `count` pixels as go by blocks, and returns how many these are.
@@ -113,10 +165,5 @@ where
     if !premultiplies::<P, D>() {
         return 0;
     }
-    for k in 0..count / BLOCK {
-        let block = &mut dst[BLOCK * k..BLOCK * k + BLOCK];
-        linear_pixels::<P, D>(block, &src[BLOCK * k..BLOCK * k + BLOCK]);
-        premultiply_block(block);
-    }
-    count / BLOCK * BLOCK
+    premultiply_blocks::<ByGamma<P::Gamma>, P, D>(dst, src, count)
 }

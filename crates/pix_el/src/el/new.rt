@@ -6,6 +6,7 @@ ghost use Rattle.std.specs.Cmp.Lexicographic.{pointwise, lists_per, lists_equiv}
 use crate::el::Pix;
 use pix_chan::chan::Channel;
 use std::alloc::AllocError;
+use std::fmt;
 use std::marker::PhantomData;
 
 impl<const N: usize, C, M, A, G> Pix<N, C, M, A, G> {
@@ -27,6 +28,17 @@ impl<const N: usize, C, M, A, G> Pix<N, C, M, A, G> {
             _alpha: PhantomData,
             _gamma: PhantomData,
         }
+    }
+}
+
+impl<const N: usize, C: fmt::Debug, M, A, G> fmt::Debug for Pix<N, C, M, A, G> {
+    fn fmt<W: fmt::Write>(&self, f: &mut fmt::Formatter<W>) -> fmt::Result {
+        f.debug_struct("Pix")
+            .field("channels", &self.channels)
+            .field("_model", &self._model)
+            .field("_alpha", &self._alpha)
+            .field("_gamma", &self._gamma)
+            .finish()
     }
 }
 

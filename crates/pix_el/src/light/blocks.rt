@@ -1,22 +1,23 @@
-//! Linear pixels of four channels as sRGB, four at a time.
+//! Pixels of four channels between sRGB and light by blocks.
 //!
-//! Where the alpha modes leave the colors of all four as they are, their sixteen channels are encoded by one call; else the pixels go one
-//! by one.
-ghost use Rattle.std.specs.Prelude.{◌≡◌, ◌≤◌, ◌+◌, length, map, take, true};
+//! Linear pixels go four at a time: their colors are taken to the other alpha mode, and then their sixteen channels are encoded by one call.
+ghost use Rattle.std.specs.Prelude.{◌≡◌, ◌≤◌, ◌+◌, [], ◌∷◌, length, map, take, true};
 ghost use Rattle.pix_chan.specs.Runs.{over};
-ghost use Rattle.pix_chan.specs.Srgb16.{srgb_encoded8};
+ghost use Rattle.pix_chan.specs.Srgb16.{srgb_decoded16, srgb_encoded8};
 ghost use Rattle.pix_el.specs.Pixel.{channel};
 ghost use Rattle.pix_el.specs.Conversion.{at_depth};
-ghost use Rattle.pix_el.specs.Light.{as_srgb};
-ghost use Rattle.pix_el.specs.LightBlocks.{IsKept, AreKept, AreLevels};
+ghost use Rattle.pix_el.specs.Light.{in_light, as_srgb};
+ghost use Rattle.pix_el.specs.LightBlocks.{IsKept, AreKept, AreLevels, changed_four};
 ghost use Rattle.pix_el.specs.Planes.{by_fours};
 
+use crate::conversion::blocks::{Curve, premultiplies, premultiply_blocks};
 use crate::conversion::channel_at_depth;
 use crate::el::Pixel;
-use crate::light::{Light, Transfer};
+use crate::light::{Transfer, mode_changed};
 use crate::model::ColorModel;
 use crate::planes::interleaved::four_pixels;
 use pix_chan::chan::{Alpha, Ch8, Ch16, Channel, Linear};
+use std::marker::PhantomData;
 use std::simd::prelude::*;
 
 /// Returns the numbers of sixteen channels.
@@ -123,9 +124,9 @@ fn are_kept<P: Pixel, D: Pixel>(p: &[P]) -> bool
         && is_kept::<P, D>(&p[3])
 }
 
-/// Returns a linear pixel as sRGB, by the levels of its colors.
+/// Returns a linear pixel as sRGB, by the levels of its colors in the alpha mode of `D`.
 ///
-/// Condition: the colors are the same in the alpha mode of `D`, which has no more channels than its model.
+/// Condition: `D` has no more channels than its model.
 #[inline(always)]
 fn shown<P, D>(p: &P, one: D::Chan, two: D::Chan, three: D::Chan) -> D
 where
@@ -135,18 +136,17 @@ where
     requires start { P.Model.LINEAR.start ≡ 0 }
     requires end { P.Model.LINEAR.end ≡ 3 }
     requires alpha { P.Model.ALPHA ≡ 3 }
-    requires kept { IsKept P.Chan.max P.Alpha.mode D.Alpha.mode
-        (channel P.Chan.max (P.numbers p.now) P.Model.ALPHA) }
-    requires levels { AreLevels P.Chan.max (P.numbers p.now)
+    requires levels { AreLevels P.Chan.max
+        (changed_four P.Chan.max P.Alpha.mode D.Alpha.mode (P.numbers p.now))
         (D.Chan.number one) (D.Chan.number two) (D.Chan.number three) }
     ensures { D.numbers result ≡ as_srgb P.format D.format (P.numbers p.now) }
 {
     D::from_four(one, two, three, channel_at_depth::<P, D::Chan>(p, 3))
 }
 
-/// Writes four linear pixels as sRGB, by the levels of their channels.
+/// Writes four linear pixels as sRGB, by the levels of their channels in the alpha mode of `D`.
 ///
-/// Condition: the colors are the same in the alpha mode of `D`, which has no more channels than its model.
+/// Condition: `D` has no more channels than its model.
 #[inline(always)]
 fn put_shown<P, D>(dst: &mut [D], src: &[P], c: [D::Chan; 16])
 where
@@ -158,10 +158,8 @@ where
     requires alpha { P.Model.ALPHA ≡ 3 }
     requires size { length dst.old ≡ 4 }
     requires src_size { length src.now ≡ 4 }
-    requires kept { AreKept P.Chan.max P.Alpha.mode D.Alpha.mode
-        P.Model.ALPHA (map P.numbers src.now) }
-    requires levels { by_fours (map D.Chan.number c) ≡
-        map (map srgb_encoded8) (map P.numbers src.now) }
+    requires levels { by_fours (map D.Chan.number c) ≡ map (map srgb_encoded8)
+        (map (λ p. changed_four P.Chan.max P.Alpha.mode D.Alpha.mode (P.numbers p)) src.now) }
     ensures { map D.numbers dst.new ≡
         map (as_srgb P.format D.format) (map P.numbers src.now) }
 {
@@ -171,28 +169,55 @@ where
     dst[3] = shown::<P, D>(&src[3], c[12], c[13], c[14]);
 }
 
-/// Encodes each of four linear pixels by itself.
-///
-/// Condition: that format has no more channels than its model.
+/// Returns the channels of a linear pixel, its colors in the alpha mode of `D`.
 #[inline(always)]
-fn encode_each<P, D>(dst: &mut [D], src: &[P])
-where
-    P: Pixel<Gamma = Linear>,
-    D: Pixel<Model = P::Model>,
-    D::Gamma: Transfer<D::Chan, P::Chan>,
-    requires few { D.layout.count ≤ D.layout.alpha + 1 }
-    requires size { length dst.old ≡ 4 }
-    requires src_size { length src.now ≡ 4 }
-    ensures { map D.numbers dst.new ≡
-        map (as_srgb P.format D.format) (map P.numbers src.now) }
+fn changed<P: Pixel, D: Pixel>(p: &P) -> (P::Chan, P::Chan, P::Chan, P::Chan)
+    ensures { P.Chan.number result.0 ∷ P.Chan.number result.1
+        ∷ P.Chan.number result.2 ∷ P.Chan.number result.3 ∷ []
+        ≡ changed_four P.Chan.max P.Alpha.mode D.Alpha.mode (P.numbers p.now) }
 {
-    dst[0] = src[0].encode_srgb::<D>();
-    dst[1] = src[1].encode_srgb::<D>();
-    dst[2] = src[2].encode_srgb::<D>();
-    dst[3] = src[3].encode_srgb::<D>();
+    let alpha = p.get(3);
+    let one = mode_changed::<P::Chan, P::Alpha, D::Alpha>(p.get(0), alpha);
+    let two = mode_changed::<P::Chan, P::Alpha, D::Alpha>(p.get(1), alpha);
+    let three = mode_changed::<P::Chan, P::Alpha, D::Alpha>(p.get(2), alpha);
+    (one, two, three, alpha)
 }
 
-/// Returns the levels of the channels of four linear pixels.
+/// Returns the channels of four linear pixels, their colors in the alpha mode of `D`.
+#[inline(always)]
+fn four_changed<P: Pixel, D: Pixel>(p: &[P]) -> [P::Chan; 16]
+    requires { length p.now ≡ 4 }
+    ensures { by_fours (map P.Chan.number result) ≡
+        map (λ p. changed_four P.Chan.max P.Alpha.mode D.Alpha.mode (P.numbers p)) p.now }
+{
+    let (a, b, c, d) = changed::<P, D>(&p[0]);
+    let (e, f, g, h) = changed::<P, D>(&p[1]);
+    let (i, j, k, l) = changed::<P, D>(&p[2]);
+    let (m, n, o, q) = changed::<P, D>(&p[3]);
+    [a, b, c, d, e, f, g, h, i, j, k, l, m, n, o, q]
+}
+
+/// Does what [`four_changed`] does: at once where the colors are the same in both alpha modes.
+///
+/// Condition: there are three colors and then an alpha.
+#[inline(always)]
+fn four_in_mode<P: Pixel, D: Pixel>(p: &[P]) -> [P::Chan; 16]
+    requires count { P.layout.count ≡ 4 }
+    requires alpha { P.Model.ALPHA ≡ 3 }
+    requires size { length p.now ≡ 4 }
+    ensures { by_fours (map P.Chan.number result) ≡
+        map (λ p. changed_four P.Chan.max P.Alpha.mode D.Alpha.mode (P.numbers p)) p.now }
+{
+    if are_kept::<P, D>(p) {
+        four_pixels(p)
+    } else {
+        four_changed::<P, D>(p)
+    }
+}
+
+/// Returns the levels of the channels of four linear pixels, their colors in the alpha mode of `D`.
+///
+/// Condition: there are three colors and then an alpha.
 #[inline(always)]
 fn four_levels<P, D>(src: &[P]) -> [D::Chan; 16]
 where
@@ -200,11 +225,12 @@ where
     D: Pixel,
     D::Gamma: Transfer<D::Chan, P::Chan>,
     requires count { P.layout.count ≡ 4 }
+    requires alpha { P.Model.ALPHA ≡ 3 }
     requires size { length src.now ≡ 4 }
-    ensures { by_fours (map D.Chan.number result) ≡
-        map (map srgb_encoded8) (map P.numbers src.now) }
+    ensures { by_fours (map D.Chan.number result) ≡ map (map srgb_encoded8)
+        (map (λ p. changed_four P.Chan.max P.Alpha.mode D.Alpha.mode (P.numbers p)) src.now) }
 {
-    <D::Gamma as Transfer<D::Chan, P::Chan>>::from_light16(four_pixels(src))
+    <D::Gamma as Transfer<D::Chan, P::Chan>>::from_light16(four_in_mode::<P, D>(src))
 }
 
 /// Encodes four linear pixels.
@@ -226,11 +252,7 @@ where
     ensures { map D.numbers dst.new ≡
         map (as_srgb P.format D.format) (map P.numbers src.now) }
 {
-    if are_kept::<P, D>(src) {
-        put_shown::<P, D>(dst, src, four_levels::<P, D>(src));
-    } else {
-        encode_each::<P, D>(dst, src);
-    }
+    put_shown::<P, D>(dst, src, four_levels::<P, D>(src));
 }
 
 /// Encodes as many of the first `count` pixels as go by fours, and returns how many these are.
@@ -256,4 +278,39 @@ where
         encode_four::<P, D>(&mut dst[4 * k..4 * k + 4], &src[4 * k..4 * k + 4]);
     }
     count / 4 * 4
+}
+
+/// The way of sRGB colors into light.
+struct ByTransfer<G> {
+    _gamma: PhantomData<G>,
+}
+
+impl<C: Channel, D: Channel, G: Transfer<C, D>> Curve<C, D> for ByTransfer<G> {
+    ghost curve = { srgb_decoded16 };
+
+    #[inline(always)]
+    fn linear(c: C) -> D {
+        G::to_light(c)
+    }
+}
+
+/// Decodes as many of the first `count` pixels as go by blocks, and returns how many these are.
+///
+/// Condition: both slices have `count` pixels.
+#[inline(always)]
+pub(super) fn decode_blocks<P, D>(dst: &mut [D], src: &[P], count: usize) -> usize
+where
+    P: Pixel,
+    D: Pixel<Model = P::Model, Gamma = Linear>,
+    P::Gamma: Transfer<P::Chan, D::Chan>,
+    requires dst_has { count ≤ length dst.old }
+    requires src_has { count ≤ length src.now }
+    ensures some { result ≤ count }
+    ensures pixels { map D.numbers dst.new ≡ over (λ p d. in_light P.format D.format p)
+        (take result (map P.numbers src.now)) (map D.numbers dst.old) }
+{
+    if !premultiplies::<P, D>() {
+        return 0;
+    }
+    premultiply_blocks::<ByTransfer<P::Gamma>, P, D>(dst, src, count)
 }

@@ -1,5 +1,6 @@
 //! Blocks of pixels: each way composites so many pixels at a time, and one loop serves all ways.
 ghost use Rattle.std.specs.Prelude.{◌≡◌, ◌≤◌, ◌+◌, ℕ, length, map, take, replicate};
+ghost use Rattle.std.specs.List.{zip};
 ghost use Rattle.pix_chan.specs.Runs.{over};
 ghost use Rattle.pix_el.specs.PixelComposite.{pixel_composite, matted_composite};
 
@@ -48,6 +49,25 @@ pub(super) trait Block<P: Pixel> {
         ensures { map P.numbers dst.new ≡
             over (λ m. matted_composite P.layout O.op m (P.numbers clr.now))
             (map S.value src.now) (map P.numbers dst.old) };
+
+    /// Composites the pixels of a block with those of another, each through the matte of the same index.
+    fn masked<O: Blend, S: Coverage<P::Chan>>(dst: &mut [P], src: &[P], mattes: &[S])
+        requires suits { suits }
+        requires size { length dst.old ≡ SIZE }
+        requires src_size { length src.now ≡ SIZE }
+        requires mattes_size { length mattes.now ≡ SIZE }
+        ensures { map P.numbers dst.new ≡
+            over (λ t. matted_composite P.layout O.op t.0 t.1)
+            (zip (map S.value mattes.now) (map P.numbers src.now)) (map P.numbers dst.old) };
+
+    /// Composites the pixels of a block with those of another, each through the same matte value.
+    fn faded<O: Blend>(dst: &mut [P], src: &[P], alpha: P::Chan)
+        requires suits { suits }
+        requires size { length dst.old ≡ SIZE }
+        requires src_size { length src.now ≡ SIZE }
+        ensures { map P.numbers dst.new ≡
+            over (matted_composite P.layout O.op (P.Chan.number alpha))
+            (map P.numbers src.now) (map P.numbers dst.old) };
 }
 
 /// Composites as many of the first `count` pixels as go by whole blocks, and returns how many these are.
@@ -143,6 +163,61 @@ pub(super) fn matte_blocks<O: Blend, P: Pixel, S: Coverage<P::Chan>, B: Block<P>
     for i in 0..count / size {
         let at = size * i;
         matted_block::<O, P, S, B>(&mut dst[at..at + size], &src[at..at + size], &color);
+    }
+    count / size * size
+}
+
+/// Composites as many of the first `count` pixels as go by whole blocks, each through the matte of the same index, and returns how many
+/// these are.
+///
+/// Condition: all three slices have `count` elements.
+#[inline(always)]
+pub(super) fn masked_blocks<O: Blend, P: Pixel, S: Coverage<P::Chan>, B: Block<P>>(
+    dst: &mut [P],
+    src: &[P],
+    mattes: &[S],
+    count: usize,
+) -> usize
+    requires suits { B.suits }
+    requires dst_has { count ≤ length dst.old }
+    requires src_has { count ≤ length src.now }
+    requires mattes_have { count ≤ length mattes.now }
+    ensures some { result ≤ count }
+    ensures composite { map P.numbers dst.new ≡ over (λ t. matted_composite P.layout O.op t.0 t.1)
+        (take result (zip (map S.value mattes.now) (map P.numbers src.now)))
+        (map P.numbers dst.old) }
+{
+    let size = B::SIZE;
+    for i in 0..count / size {
+        let at = size * i;
+        let end = at + size;
+        B::masked::<O, S>(&mut dst[at..end], &src[at..end], &mattes[at..end]);
+    }
+    count / size * size
+}
+
+/// Composites as many of the first `count` pixels as go by whole blocks, each through the same matte value, and returns how many these are.
+///
+/// Condition: both slices have `count` pixels.
+#[inline(always)]
+pub(super) fn faded_blocks<O: Blend, P: Pixel, B: Block<P>>(
+    dst: &mut [P],
+    src: &[P],
+    alpha: P::Chan,
+    count: usize,
+) -> usize
+    requires suits { B.suits }
+    requires dst_has { count ≤ length dst.old }
+    requires src_has { count ≤ length src.now }
+    ensures some { result ≤ count }
+    ensures composite { map P.numbers dst.new ≡
+        over (matted_composite P.layout O.op (P.Chan.number alpha))
+        (take result (map P.numbers src.now)) (map P.numbers dst.old) }
+{
+    let size = B::SIZE;
+    for i in 0..count / size {
+        let at = size * i;
+        B::faded::<O>(&mut dst[at..at + size], &src[at..at + size], alpha);
     }
     count / size * size
 }

@@ -9,6 +9,7 @@ use crate::el::Pixel;
 use crate::planes::block::Block;
 use crate::planes::coverage::{Coverage, eight_values};
 use crate::planes::interleaved::{four_channels, put_channels};
+use crate::planes::masked::{composite_eight_covered, composite_eight_faded};
 use pix_chan::chan::Channel;
 use pix_ops::ops::Blend;
 
@@ -160,5 +161,15 @@ impl<P: Pixel> Block<P> for Eight {
     fn matted<O: Blend, S: Coverage<P::Chan>>(dst: &mut [P], src: &[S], clr: &P) {
         let colors = covered::<P, 2>(eight_times(clr), &eight_values(src));
         composite_eight::<O, P, 2>(dst, colors);
+    }
+
+    #[inline(always)]
+    fn masked<O: Blend, S: Coverage<P::Chan>>(dst: &mut [P], src: &[P], mattes: &[S]) {
+        composite_eight_covered::<O, P, S>(dst, src, mattes);
+    }
+
+    #[inline(always)]
+    fn faded<O: Blend>(dst: &mut [P], src: &[P], alpha: P::Chan) {
+        composite_eight_faded::<O, P>(dst, src, alpha);
     }
 }

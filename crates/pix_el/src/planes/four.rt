@@ -1,5 +1,6 @@
 //! Pixels of four channels by planes, sixteen at a time.
 ghost use Rattle.std.specs.Prelude.{◌≡◌, ◌≤◌, ℕ, List, [], ◌∷◌, length, map, refl};
+ghost use Rattle.std.specs.List.{zip};
 ghost use Rattle.pix_chan.specs.Planes.{in_turn};
 ghost use Rattle.pix_chan.specs.Runs.{over};
 ghost use Rattle.pix_el.specs.Planes.{by_fours, ArePlanes};
@@ -111,6 +112,32 @@ fn composite_matted<O: Blend, P: Pixel, const CALLER: usize>(
     composite_sixteen::<O, P, CALLER>(dst, one, two, three, four);
 }
 
+/// Composites sixteen pixels with those of `dst`, each through the matte value of the same index.
+///
+/// Condition: the alpha is the last channel, and only the first may be a hue.
+#[inline(always)]
+fn composite_masked<O: Blend, P: Pixel, const CALLER: usize>(
+    dst: &mut [P],
+    src: &[P],
+    mattes: &[P::Chan],
+)
+    requires count { P.layout.count ≡ 4 }
+    requires alpha { P.layout.alpha ≡ 3 }
+    requires hue { P.layout.hues.end ≤ 1 }
+    requires size { length dst.old ≡ 16 }
+    requires src_size { length src.now ≡ 16 }
+    requires whole { length mattes.now ≡ 16 }
+    ensures { map P.numbers dst.new ≡ over (λ t. matted_composite P.layout O.op t.0 t.1)
+        (zip (map P.Chan.number mattes.now) (map P.numbers src.now)) (map P.numbers dst.old) }
+{
+    let (mut one, mut two, mut three, mut four) = planes::<P, CALLER>(src);
+    scale_first::<P::Model, P::Chan>(&mut one, mattes);
+    P::Chan::mul_run(&mut two, mattes);
+    P::Chan::mul_run(&mut three, mattes);
+    P::Chan::mul_run(&mut four, mattes);
+    composite_sixteen::<O, P, CALLER>(dst, one, two, three, four);
+}
+
 /// Pixels of four channels of which only the first may be a hue, sixteen at a time.
 pub(super) struct Four {}
 
@@ -141,5 +168,15 @@ impl<P: Pixel> Block<P> for Four {
     fn matted<O: Blend, S: Coverage<P::Chan>>(dst: &mut [P], src: &[S], clr: &P) {
         let (a, b, c, d) = four_channels(clr);
         composite_matted::<O, P, 3>(dst, &matte_values(src), a, b, c, d);
+    }
+
+    #[inline(always)]
+    fn masked<O: Blend, S: Coverage<P::Chan>>(dst: &mut [P], src: &[P], mattes: &[S]) {
+        composite_masked::<O, P, 4>(dst, src, &matte_values(mattes));
+    }
+
+    #[inline(always)]
+    fn faded<O: Blend>(dst: &mut [P], src: &[P], alpha: P::Chan) {
+        composite_masked::<O, P, 5>(dst, src, &[alpha; 16]);
     }
 }

@@ -8,6 +8,7 @@ ghost use Rattle.pix_el.specs.PixelComposite.{pixel_composite, matted_composite}
 use crate::el::Pixel;
 use crate::planes::block::Block;
 use crate::planes::coverage::Coverage;
+use crate::planes::masked::{composite_covered, composite_masked};
 use pix_chan::chan::Channel;
 use pix_ops::ops::Blend;
 
@@ -183,6 +184,16 @@ impl<P: Pixel> Block<P> for Interleaved {
     #[inline(always)]
     fn matted<O: Blend, S: Coverage<P::Chan>>(dst: &mut [P], src: &[S], clr: &P) {
         composite_matted::<O, P, S>(dst, src, clr);
+    }
+
+    #[inline(always)]
+    fn masked<O: Blend, S: Coverage<P::Chan>>(dst: &mut [P], src: &[P], mattes: &[S]) {
+        composite_covered::<O, P, S>(dst, src, mattes);
+    }
+
+    #[inline(always)]
+    fn faded<O: Blend>(dst: &mut [P], src: &[P], alpha: P::Chan) {
+        composite_masked::<O, P>(dst, src, alpha, alpha, alpha, alpha);
     }
 }
 

@@ -1,4 +1,5 @@
-//! Pixels through mattes or at one opacity, eight at a time and then four: each pixel's channels are multiplied by its matte and composited as they lie.
+//! Pixels through mattes or at one opacity: each block's channels are multiplied by the mattes of their own pixels, and composited as those of any
+//! other block. Here are those of four channels that lie as they are, and the choice of blocks.
 ghost use Rattle.std.specs.Prelude.{◌≡◌, ◌≤◌, ◌+◌, [], ◌∷◌, length, map, take};
 ghost use Rattle.std.specs.List.{zip};
 ghost use Rattle.pix_chan.specs.Runs.{over};
@@ -6,10 +7,14 @@ ghost use Rattle.pix_el.specs.PixelComposite.{matted_composite, matte_numbers, m
 
 use crate::el::{Pix, Pixel};
 use crate::matte::Matte;
+use crate::planes::block::{faded_blocks, masked_blocks};
 use crate::planes::coverage::{Coverage, eight_values};
-use crate::planes::eight::{composite_eight, covered, eight_pixels};
-use crate::planes::interleaved::{composite_four, four_pixels};
-use crate::planes::is_interleaved;
+use crate::planes::eight::{Eight, composite_eight, covered, eight_pixels};
+use crate::planes::four::Four;
+use crate::planes::interleaved::{Interleaved, composite_four, four_pixels};
+use crate::planes::one::One;
+use crate::planes::two::Two;
+use crate::planes::{has_four, has_one, has_two, is_interleaved};
 use pix_chan::chan::{Alpha, Channel, Linear};
 use pix_ops::ops::Blend;
 
@@ -17,7 +22,7 @@ use pix_ops::ops::Blend;
 ///
 /// Condition: the alpha is the last channel, and none is a hue.
 #[inline(always)]
-fn composite_masked<O: Blend, P: Pixel>(
+pub(super) fn composite_masked<O: Blend, P: Pixel>(
     dst: &mut [P],
     src: &[P],
     a: P::Chan,
@@ -44,7 +49,7 @@ fn composite_masked<O: Blend, P: Pixel>(
 ///
 /// Condition: the alpha is the last channel, and none is a hue.
 #[inline(always)]
-fn composite_covered<O: Blend, P: Pixel, S: Coverage<P::Chan>>(
+pub(super) fn composite_covered<O: Blend, P: Pixel, S: Coverage<P::Chan>>(
     dst: &mut [P],
     src: &[P],
     mattes: &[S],
@@ -67,7 +72,7 @@ fn composite_covered<O: Blend, P: Pixel, S: Coverage<P::Chan>>(
 ///
 /// Condition: the alpha is the last channel, and none is a hue.
 #[inline(always)]
-fn composite_eight_covered<O: Blend, P: Pixel, S: Coverage<P::Chan>>(
+pub(super) fn composite_eight_covered<O: Blend, P: Pixel, S: Coverage<P::Chan>>(
     dst: &mut [P],
     src: &[P],
     mattes: &[S],
@@ -89,7 +94,7 @@ fn composite_eight_covered<O: Blend, P: Pixel, S: Coverage<P::Chan>>(
 ///
 /// Condition: the alpha is the last channel, and none is a hue.
 #[inline(always)]
-fn composite_eight_faded<O: Blend, P: Pixel>(dst: &mut [P], src: &[P], alpha: P::Chan)
+pub(super) fn composite_eight_faded<O: Blend, P: Pixel>(dst: &mut [P], src: &[P], alpha: P::Chan)
     requires count { P.layout.count ≡ 4 }
     requires last { P.layout.alpha ≡ 3 }
     requires no_hue { P.layout.hues.end ≡ 0 }
@@ -123,22 +128,20 @@ fn covered_runs<O: Blend, P: Pixel, S: Coverage<P::Chan>>(
         (take result (zip (map S.value mattes.now) (map P.numbers src.now)))
         (map P.numbers dst.old) }
 {
-    if !is_interleaved::<P>() {
-        return 0;
+    if is_interleaved::<P>() {
+        let start = masked_blocks::<O, P, S, Eight>(dst, src, mattes, count);
+        let (rest, sources) = (&mut dst[start..], &src[start..]);
+        start
+            + masked_blocks::<O, P, S, Interleaved>(rest, sources, &mattes[start..], count - start)
+    } else if has_four::<P>() {
+        masked_blocks::<O, P, S, Four>(dst, src, mattes, count)
+    } else if has_two::<P>() {
+        masked_blocks::<O, P, S, Two>(dst, src, mattes, count)
+    } else if has_one::<P>() {
+        masked_blocks::<O, P, S, One>(dst, src, mattes, count)
+    } else {
+        0
     }
-    for k in 0..count / 8 {
-        let at = 8 * k;
-        composite_eight_covered::<O, P, S>(
-            &mut dst[at..at + 8],
-            &src[at..at + 8],
-            &mattes[at..at + 8],
-        );
-    }
-    for i in count / 8 * 2..count / 4 {
-        let at = 4 * i;
-        composite_covered::<O, P, S>(&mut dst[at..at + 4], &src[at..at + 4], &mattes[at..at + 4]);
-    }
-    count / 4 * 4
 }
 
 /// Composites as many of the first `count` pixels as go by blocks, each through the matte of the same index, and returns how many
@@ -183,23 +186,17 @@ pub(crate) fn faded_runs<O: Blend, P: Pixel>(
         over (matted_composite P.layout O.op (P.Chan.number alpha))
         (take result (map P.numbers src.now)) (map P.numbers dst.old) }
 {
-    if !is_interleaved::<P>() {
-        return 0;
+    if is_interleaved::<P>() {
+        let start = faded_blocks::<O, P, Eight>(dst, src, alpha, count);
+        let (rest, sources) = (&mut dst[start..], &src[start..]);
+        start + faded_blocks::<O, P, Interleaved>(rest, sources, alpha, count - start)
+    } else if has_four::<P>() {
+        faded_blocks::<O, P, Four>(dst, src, alpha, count)
+    } else if has_two::<P>() {
+        faded_blocks::<O, P, Two>(dst, src, alpha, count)
+    } else if has_one::<P>() {
+        faded_blocks::<O, P, One>(dst, src, alpha, count)
+    } else {
+        0
     }
-    for k in 0..count / 8 {
-        let at = 8 * k;
-        composite_eight_faded::<O, P>(&mut dst[at..at + 8], &src[at..at + 8], alpha);
-    }
-    for i in count / 8 * 2..count / 4 {
-        let at = 4 * i;
-        composite_masked::<O, P>(
-            &mut dst[at..at + 4],
-            &src[at..at + 4],
-            alpha,
-            alpha,
-            alpha,
-            alpha,
-        );
-    }
-    count / 4 * 4
 }

@@ -1,8 +1,9 @@
 //! Pixels of one channel, their alpha, sixteen at a time: a run of channels, of which each is its own alpha.
 ghost use Rattle.std.specs.Prelude.{◌≡◌, [], ◌∷◌, length, map, refl};
+ghost use Rattle.std.specs.List.{zip};
 ghost use Rattle.pix_chan.specs.Runs.{over};
 ghost use Rattle.pix_el.specs.Planes.{by_ones};
-ghost use Rattle.pix_el.specs.PixelComposite.{pixel_composite};
+ghost use Rattle.pix_el.specs.PixelComposite.{pixel_composite, matted_composite};
 
 use crate::el::Pixel;
 use crate::planes::block::Block;
@@ -115,6 +116,25 @@ fn composite_sixteen<O: Blend, P: Pixel>(dst: &mut [P], src: [P::Chan; 16])
     put_sixteen_pixels(dst, to);
 }
 
+/// Composites sixteen pixels with those of `dst`, each through the matte value of the same index.
+///
+/// Condition: the one channel is the alpha.
+#[inline(always)]
+fn composite_masked<O: Blend, P: Pixel>(dst: &mut [P], src: &[P], mattes: &[P::Chan])
+    requires count { P.layout.count ≡ 1 }
+    requires alpha { P.layout.alpha ≡ 0 }
+    requires no_hue { P.layout.hues.end ≡ 0 }
+    requires size { length dst.old ≡ 16 }
+    requires src_size { length src.now ≡ 16 }
+    requires whole { length mattes.now ≡ 16 }
+    ensures { map P.numbers dst.new ≡ over (λ t. matted_composite P.layout O.op t.0 t.1)
+        (zip (map P.Chan.number mattes.now) (map P.numbers src.now)) (map P.numbers dst.old) }
+{
+    let mut colors = sixteen_pixels(src);
+    P::Chan::mul_run(&mut colors, mattes);
+    composite_sixteen::<O, P>(dst, colors);
+}
+
 /// Pixels of an alpha alone, sixteen at a time.
 pub(super) struct One {}
 
@@ -144,5 +164,15 @@ impl<P: Pixel> Block<P> for One {
         let mut colors = [one_channel(clr); 16];
         P::Chan::mul_run(&mut colors, &matte_values(src));
         composite_sixteen::<O, P>(dst, colors);
+    }
+
+    #[inline(always)]
+    fn masked<O: Blend, S: Coverage<P::Chan>>(dst: &mut [P], src: &[P], mattes: &[S]) {
+        composite_masked::<O, P>(dst, src, &matte_values(mattes));
+    }
+
+    #[inline(always)]
+    fn faded<O: Blend>(dst: &mut [P], src: &[P], alpha: P::Chan) {
+        composite_masked::<O, P>(dst, src, &[alpha; 16]);
     }
 }

@@ -1,5 +1,6 @@
 //! Pixels of two channels by planes, sixteen at a time.
 ghost use Rattle.std.specs.Prelude.{◌≡◌, ℕ, List, [], ◌∷◌, length, map, refl};
+ghost use Rattle.std.specs.List.{zip};
 ghost use Rattle.pix_chan.specs.Planes.{both_in_turn};
 ghost use Rattle.pix_chan.specs.Runs.{over};
 ghost use Rattle.pix_el.specs.Planes.{by_twos, AreTwoPlanes};
@@ -165,6 +166,30 @@ fn composite_matted<O: Blend, P: Pixel, const CALLER: usize>(
     composite_sixteen::<O, P, CALLER>(dst, one, two);
 }
 
+/// Composites sixteen pixels with those of `dst`, each through the matte value of the same index.
+///
+/// Condition: the alpha is the second channel, and there is no hue.
+#[inline(always)]
+fn composite_masked<O: Blend, P: Pixel, const CALLER: usize>(
+    dst: &mut [P],
+    src: &[P],
+    mattes: &[P::Chan],
+)
+    requires count { P.layout.count ≡ 2 }
+    requires alpha { P.layout.alpha ≡ 1 }
+    requires no_hue { P.layout.hues.end ≡ 0 }
+    requires size { length dst.old ≡ 16 }
+    requires src_size { length src.now ≡ 16 }
+    requires whole { length mattes.now ≡ 16 }
+    ensures { map P.numbers dst.new ≡ over (λ t. matted_composite P.layout O.op t.0 t.1)
+        (zip (map P.Chan.number mattes.now) (map P.numbers src.now)) (map P.numbers dst.old) }
+{
+    let (mut one, mut two) = planes::<P, CALLER>(src);
+    P::Chan::mul_run(&mut one, mattes);
+    P::Chan::mul_run(&mut two, mattes);
+    composite_sixteen::<O, P, CALLER>(dst, one, two);
+}
+
 /// Pixels of two channels without a hue, sixteen at a time.
 pub(super) struct Two {}
 
@@ -195,5 +220,15 @@ impl<P: Pixel> Block<P> for Two {
     fn matted<O: Blend, S: Coverage<P::Chan>>(dst: &mut [P], src: &[S], clr: &P) {
         let (a, b) = two_channels(clr);
         composite_matted::<O, P, 3>(dst, &matte_values(src), a, b);
+    }
+
+    #[inline(always)]
+    fn masked<O: Blend, S: Coverage<P::Chan>>(dst: &mut [P], src: &[P], mattes: &[S]) {
+        composite_masked::<O, P, 4>(dst, src, &matte_values(mattes));
+    }
+
+    #[inline(always)]
+    fn faded<O: Blend>(dst: &mut [P], src: &[P], alpha: P::Chan) {
+        composite_masked::<O, P, 5>(dst, src, &[alpha; 16]);
     }
 }

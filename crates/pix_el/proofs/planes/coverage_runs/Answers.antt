@@ -8,7 +8,7 @@ use Rattle.pix_el.proofs.planes.coverage_runs.Goals as goal
 pub returns-then-is_interleaved-clause-composite : goal.returns-then-is_interleaved-clause-composite
 returns-then-is_interleaved-clause-composite g c =
     let v = g.P.Pixel.numbers in
-    let first = c.matte_blocks-start in
+    let first = c.largest_coverage-start in
     let second = c.matte_blocks in
     next_run v g.S.Coverage.value (λ m. matted_composite g.P.Pixel.layout g.O.Blend.op m (v c.args.clr.now)) first.result second.result c.args.dst.now first.new.dst second.new.dst c.args.src.now
     first.ensures.composite (omega arith) second.ensures.composite

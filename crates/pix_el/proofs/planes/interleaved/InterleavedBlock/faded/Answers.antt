@@ -1,0 +1,13 @@
+-- Of `faded`: that it meets its contract.
+use Rattle.std.proofs.Common.{◌∙◌, arith, map, List, ℕ}
+use Rattle.std.proofs.lemmas.List.{length-map}
+use Rattle.pix_el.specs.PixelComposite.{matted_composite}
+use Rattle.pix_el.proofs.Masked.{over-one}
+use Rattle.pix_el.proofs.planes.interleaved.InterleavedBlock.faded.Goals as goal
+
+pub returns : goal.returns
+returns g c =
+    let n = g.P.Pixel.numbers in
+    c.composite_masked.ensures
+    ∙ over-one (λ (m : ℕ) (s d : List ℕ). matted_composite g.P.Pixel.layout g.O.Blend.op m s d) 4 (g.P.Chan.Channel.number c.args.alpha) (map n c.args.src.now) (map n c.args.dst.now)
+    (omega (arith, length-map c.args.src.now n, c.requires.src_size))
