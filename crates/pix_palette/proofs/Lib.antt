@@ -7,3 +7,4 @@ pub mod Mapped
 pub mod Finders
 pub mod BlocksMore
 pub mod Entries
+pub mod Cells

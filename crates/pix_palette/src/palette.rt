@@ -8,6 +8,7 @@ ghost use Rattle.pix_palette.specs.Histogram.{IsHistogram};
 ghost use Rattle.pix_raster.specs.declared.fault.RasterFault.{RasterFault};
 
 mod blocks;
+mod cells;
 mod color_table;
 mod entries;
 mod finder;
@@ -15,8 +16,10 @@ mod index;
 mod indexing;
 mod known;
 mod lent;
+mod lists;
 mod made;
 mod mapped;
+mod near;
 mod slots;
 mod table;
 

@@ -209,17 +209,19 @@ not_within_zero x y z other = false_from_ne_true _ (λ e.
     let blue : z ≡ 0 = grind (arith, nat_tests) in
     other (rw (red, green, blue) refl))
 
+-- where no entry is within a threshold of a color, none stands for it by that threshold
+pub none_near_stands : (answers : ℕ → List ℕ → Type 0) (entries : List (List ℕ)) (color threshold : List ℕ)
+    → ((k : ℕ) → k < length entries → is_within (difference_to entries color k) threshold ≡ false) → answers (length entries) threshold
+    → StandsFor answers entries color None
+none_near_stands answers [] color threshold far asked = tt
+none_near_stands answers (entry ∷ entries) color threshold far asked =
+    let h : HasBest (entry ∷ entries) color (length (entry ∷ entries)) = has_best (entry ∷ entries) color (length entries) (length (entry ∷ entries)) (omega arith) in
+    let match : IsMatch (entry ∷ entries) color h.at = best_match (entry ∷ entries) color (length (entry ∷ entries)) h.at h.least refl h.best in
+    (h.at, record { match = match; within = inr (threshold, asked, far h.at h.best.below) })
+
 -- where each entry differs from a color, none stands for it by a threshold of 0
 pub none_stands : (answers : ℕ → List ℕ → Type 0) (entries : List (List ℕ)) (color : List ℕ)
     → ((k : ℕ) → k < length entries → difference_to entries color k ≢ 0 ∷ 0 ∷ 0 ∷ []) → answers (length entries) (0 ∷ 0 ∷ 0 ∷ [])
     → StandsFor answers entries color None
-none_stands answers [] color other zeros = tt
-none_stands answers (entry ∷ entries) color other zeros =
-    let h : HasBest (entry ∷ entries) color (length (entry ∷ entries)) = has_best (entry ∷ entries) color (length entries) (length (entry ∷ entries)) (omega arith) in
-    let match : IsMatch (entry ∷ entries) color h.at = best_match (entry ∷ entries) color (length (entry ∷ entries)) h.at h.least refl h.best in (
-      h.at,
-      record {
-        match = match;
-        within = inr (0 ∷ 0 ∷ 0 ∷ [], zeros, not_within_zero _ _ _ (other h.at h.best.below));
-      },
-    )
+none_stands answers entries color other zeros =
+    none_near_stands answers entries color (0 ∷ 0 ∷ 0 ∷ []) (λ k below. not_within_zero _ _ _ (other k below)) zeros

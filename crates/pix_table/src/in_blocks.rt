@@ -1,6 +1,6 @@
 //! The match of a color by blocks of entries and their spans.
 ghost use Rattle.std.specs.Prelude.{◌≡◌, ◌*◌, ◌<◌, ◌≤◌, ℕ, length, map, slice_index_or, MatchOption};
-ghost use Rattle.pix_table.specs.ColorBlocks.{AreBlocks, IsFar};
+ghost use Rattle.pix_table.specs.ColorBlocks.{AreBlocks, IsBest, IsFar};
 ghost use Rattle.pix_table.specs.Nearest.{numbers};
 ghost use Rattle.pix_table.specs.PaletteMatch.{IsMatch, difference_to};
 ghost use Rattle.pix_table.specs.Setting.{Always, StandsFor};
@@ -11,6 +11,17 @@ use crate::block_spans::{BlockSpans, reach};
 use crate::color::{Color, TableColor};
 use crate::color_block::{ColorBlock, SIZE};
 use crate::threshold::{closest_between, closest_of_one, is_within};
+
+/// The last candidate for a color among so many first entries, and its difference.
+#[derive(Clone, Copy)]
+pub struct Closest {
+    /// How many entries were looked at.
+    pub count: usize,
+    /// The index of the candidate.
+    pub at: usize,
+    /// Its difference.
+    pub least: Color,
+}
 
 /// Returns the first block whose bit is set that has a color no farther from a color than a difference in any channel.
 fn first_near(blocks: &[ColorBlock], bits: u64, clr: Color, least: Color) -> Option<usize>
@@ -66,6 +77,48 @@ fn next_near(
     blocks.len()
 }
 
+/// About how many cells of 8 reds, 8 greens and 16 blues have a color that is no farther from another than a difference in any channel.
+pub fn cells_near(difference: Color) -> usize {
+    let reds = usize::from(difference.red) / 4 + 2;
+    let greens = usize::from(difference.green) / 4 + 2;
+    let blues = usize::from(difference.blue) / 8 + 2;
+    reds * greens * blues
+}
+
+/// Returns the last candidate among the first entries, by blocks of these, with its difference: among all entries that are in blocks, or fewer, where
+/// less than `few` cells are as near. Condition: there is an entry.
+pub fn closest_first<C: TableColor>(
+    spans: &[BlockSpans],
+    blocks: &[ColorBlock],
+    colors: &[C],
+    clr: Color,
+    few: usize,
+) -> Closest
+    requires some { 0 < length colors.now }
+    requires blocks { AreBlocks (map C.channels colors.now) blocks.now }
+    requires spans { AreSpans blocks.now spans.now }
+    ensures best { IsBest (map C.channels colors.now) (numbers clr) result.count result.at
+        (numbers result.least) }
+    ensures within { result.count ≤ length colors.now }
+{
+    let (mut at, mut least) = closest_of_one(colors, clr);
+    let mut k = next_near(spans, blocks, 0, clr, least);
+    while k < blocks.len() {
+        let start = (SIZE * k).max(1);
+        if cells_near(least) < few {
+            return Closest {
+                count: start,
+                at,
+                least,
+            };
+        }
+        (at, least) = closest_between(colors, clr, start, SIZE * k + SIZE, at, least);
+        k = next_near(spans, blocks, k + 1, clr, least);
+    }
+    let count = (SIZE * blocks.len()).max(1);
+    Closest { count, at, least }
+}
+
 /// Returns the match of a color, with its difference, by blocks of the first entries. Condition: there is an entry.
 fn closest_in<C: TableColor>(
     spans: &[BlockSpans],
@@ -80,15 +133,15 @@ fn closest_in<C: TableColor>(
     ensures difference { numbers result.1 ≡
         difference_to (map C.channels colors.now) (numbers clr) result.0 }
 {
-    let (mut at, mut least) = closest_of_one(colors, clr);
-    let mut k = next_near(spans, blocks, 0, clr, least);
-    while k < blocks.len() {
-        let start = (SIZE * k).max(1);
-        (at, least) = closest_between(colors, clr, start, SIZE * k + SIZE, at, least);
-        k = next_near(spans, blocks, k + 1, clr, least);
-    }
-    let start = (SIZE * blocks.len()).max(1);
-    closest_between(colors, clr, start, colors.len(), at, least)
+    let first = closest_first(spans, blocks, colors, clr, 0);
+    closest_between(
+        colors,
+        clr,
+        first.count,
+        colors.len(),
+        first.at,
+        first.least,
+    )
 }
 
 /// Returns the entry that stands for a color, as [`standing`](crate::standing) does, by blocks of the first entries and their spans.

@@ -30,7 +30,7 @@ fn apart(p: Color, q: Color) -> Color
 
 /// Returns whether a difference is no greater than a threshold in any channel.
 #[inline(always)]
-pub(crate) fn is_within(difference: Color, threshold: Color) -> bool
+pub fn is_within(difference: Color, threshold: Color) -> bool
     ensures { result ≡ is_within (numbers difference) (numbers threshold) }
 {
     Rgb::within_threshold(pixel(difference), pixel(threshold))
@@ -52,7 +52,7 @@ pub(crate) fn closest_of_one<C: TableColor>(colors: &[C], clr: Color) -> (usize,
 }
 
 /// Returns the last candidate of the entries before `end`, with its difference, given that of the entries before `start`.
-pub(crate) fn closest_between<C: TableColor>(
+pub fn closest_between<C: TableColor>(
     colors: &[C],
     clr: Color,
     start: usize,

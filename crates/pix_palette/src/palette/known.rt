@@ -5,13 +5,13 @@ ghost use Rattle.pix_table.specs.Kept.{AreRight};
 ghost use Rattle.pix_table.specs.Nearest.{numbers as color_numbers};
 ghost use Rattle.pix_table.specs.Setting.{IsSet, StandsFor};
 ghost use Rattle.pix_palette.specs.Palette.{Answers, numbers};
-ghost use Rattle.pix_palette.specs.Finder.{Follows, HasBlocks, IsNowhere, IsWhole};
+ghost use Rattle.pix_palette.specs.Finder.{Follows, HasNear, IsNowhere, IsWhole};
 
-use super::blocks::Blocks;
 use super::finder::Finder;
+use super::near::Near;
 use super::table::{Palette, Threshold};
 use pix_el::rgb::SRgb8;
-use pix_table::{Cache, Color, TableColor, standing_in};
+use pix_table::{Cache, Color, TableColor};
 use std::alloc::Global;
 
 /// Returns whether all channels of a color are 0.
@@ -28,7 +28,7 @@ impl Palette {
     fn standing_found(&self, alloc: Global, finder: &mut Finder, clr: SRgb8) -> Option<usize>
         requires finder { Follows (map numbers self.now.colors.items) finder.old }
         requires whole { IsWhole (map numbers self.now.colors.items)
-            finder.old.latest.items finder.old.earlier.items }
+            finder.old.lists.latest.items finder.old.lists.earlier.items }
         ensures standing { StandsFor
             (Answers Threshold.post (option_map (λ chosen. chosen.f) self.now.threshold))
             (map numbers self.now.colors.items) (numbers clr) result }
@@ -36,31 +36,24 @@ impl Palette {
     {
         match finder.first(&self.colors, clr) {
             Some(first) => Some(first),
-            None => self.standing_near(alloc, &mut finder.blocks, clr),
+            None => self.standing_near(alloc, &mut finder.near, clr),
         }
     }
 
-    /// Returns the entry that stands for a color which no entry is: there is none where the threshold is 0, and then no blocks are made.
-    fn standing_near(&self, alloc: Global, blocks: &mut Blocks, clr: SRgb8) -> Option<usize>
+    /// Returns the entry that stands for a color which no entry is: there is none where the threshold is 0, and then nothing is made.
+    fn standing_near(&self, alloc: Global, near: &mut Near, clr: SRgb8) -> Option<usize>
         requires nowhere { IsNowhere (map numbers self.now.colors.items) (numbers clr) }
-        requires blocks { HasBlocks (map numbers self.now.colors.items) blocks.old }
+        requires near { HasNear (map numbers self.now.colors.items) near.old }
         ensures standing { StandsFor
             (Answers Threshold.post (option_map (λ chosen. chosen.f) self.now.threshold))
             (map numbers self.now.colors.items) (numbers clr) result }
-        ensures blocks { HasBlocks (map numbers self.now.colors.items) blocks.new }
+        ensures near { HasNear (map numbers self.now.colors.items) near.new }
     {
         let threshold = self.threshold().color();
         if is_zero(threshold) {
             return None;
         }
-        blocks.follow(alloc, &self.colors);
-        standing_in(
-            &blocks.spans,
-            &blocks.blocks,
-            &self.colors,
-            clr.color(),
-            threshold,
-        )
+        near.standing(alloc, &self.colors, clr.color(), threshold)
     }
 
     /// Returns the entry that stands for a color, by a finder that is made and follows the palette where there are enough entries.

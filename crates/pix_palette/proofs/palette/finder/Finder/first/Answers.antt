@@ -6,7 +6,7 @@ use Rattle.pix_table.specs.From.{same_color}
 use Rattle.pix_table.specs.Nearest as nearest
 use Rattle.pix_table.specs.PaletteMatch.{color_difference, difference_to}
 use Rattle.pix_palette.specs.Palette.{numbers}
-use Rattle.pix_palette.specs.Finder.{place_at, IsLatest}
+use Rattle.pix_palette.specs.Finder.{place, place_at, IsLatest}
 use Rattle.pix_palette.proofs.Finders.{IsFoundFrom, found_first, found_here, found_elsewhere, found_of_all, same_difference, other_difference, same_by}
 use Rattle.pix_palette.proofs.palette.finder.Finder.first.Goals as goal
 use Rattle.pix_palette.proofs.palette.finder.Finder.first.Goals.{then-eq, else-eq}
@@ -14,9 +14,9 @@ use Rattle.pix_palette.proofs.palette.finder.Finder.first.Goals.{then-eq, else-e
 -- the entry before number `at`, and the one before that of its place
 pub loop-at-init : goal.loop-at-init
 loop-at-init c =
-    let latest : IsLatest (map numbers c.args.colors.now) c.place_of.result (length c.args.self.now.earlier.items) c.index-at.result.now =
-    subst (IsLatest (map numbers c.args.colors.now) c.place_of.result (length c.args.self.now.earlier.items)) (sym c.index-at.ensures)
-    (c.requires.finder.last c.place_of.result c.index-at.result.now (omega (arith, c.requires.whole.made, c.place_of.ensures.below))) in
+    let latest : IsLatest place (map numbers c.args.colors.now) c.place_of.result (length c.args.self.now.lists.earlier.items) c.index-at.result.now =
+    subst (IsLatest place (map numbers c.args.colors.now) c.place_of.result (length c.args.self.now.lists.earlier.items)) (sym c.index-at.ensures)
+    (c.requires.lists.last c.place_of.result c.index-at.result.now (omega (arith, c.requires.whole.made, c.place_of.ensures.below))) in
     record {
       color = c.color-color.ensures;
       within = omega (arith, latest.within, c.requires.whole.all);
@@ -34,9 +34,9 @@ index-at-requires-in-loop-at c = omega (arith, c.loop-at.invariant.within, c.req
 pub loop-at-smaller : goal.loop-at-smaller
 loop-at-smaller c =
     let i = c.loop-at.at - 1 in
-    let latest : IsLatest (map numbers c.args.colors.now) (place_at (map numbers c.args.colors.now) i) i c.index-at-in-loop-at.result.now =
-    subst (IsLatest (map numbers c.args.colors.now) (place_at (map numbers c.args.colors.now) i) i) (sym c.index-at-in-loop-at.ensures)
-    (c.requires.finder.before i c.index-at-in-loop-at.result.now (omega (arith, c.loop-at.invariant.within, c.requires.whole.all))) in
+    let latest : IsLatest place (map numbers c.args.colors.now) (place_at place (map numbers c.args.colors.now) i) i c.index-at-in-loop-at.result.now =
+    subst (IsLatest place (map numbers c.args.colors.now) (place_at place (map numbers c.args.colors.now) i) i) (sym c.index-at-in-loop-at.ensures)
+    (c.requires.lists.before i c.index-at-in-loop-at.result.now (omega (arith, c.loop-at.invariant.within, c.requires.whole.all))) in
     omega (arith, latest.within, c.loop-at-test.true)
 
 pub loop-at-preserved : goal.loop-at-preserved
@@ -47,9 +47,9 @@ loop-at-preserved c =
     let some = c.loop-at-test.true in
     let within = c.loop-at.invariant.within in
     let placed = c.loop-at.invariant.placed some in
-    let latest : IsLatest colors (place_at colors i) i c.index-at-in-loop-at.result.now =
-    subst (IsLatest colors (place_at colors i) i) (sym c.index-at-in-loop-at.ensures)
-    (c.requires.finder.before i c.index-at-in-loop-at.result.now (omega (arith, c.loop-at.invariant.within, c.requires.whole.all))) in
+    let latest : IsLatest place colors (place_at place colors i) i c.index-at-in-loop-at.result.now =
+    subst (IsLatest place colors (place_at place colors i) i) (sym c.index-at-in-loop-at.ensures)
+    (c.requires.lists.before i c.index-at-in-loop-at.result.now (omega (arith, c.loop-at.invariant.within, c.requires.whole.all))) in
     let entry : nearest.numbers c.color.result ≡ slice_index_or colors i [] =
     c.color.ensures ∙ ap numbers c.index-colors-i.is ∙ sym (get_or-map numbers c.args.colors.now i c.index-colors-i.result []
     (omega (arith, c.loop-at.invariant.within, length-map c.args.colors.now numbers))) in

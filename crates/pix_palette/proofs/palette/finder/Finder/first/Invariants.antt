@@ -11,7 +11,7 @@ abbrev pub invariant-loop-at : goal.invariant-loop-at
 invariant-loop-at l = record {
   color : nearest.numbers l.color ≡ numbers l.fn.clr;
   within : l.at ≤ length (map numbers l.colors);
-  placed : 0 < l.at → place_at (map numbers l.colors) (l.at - 1) ≡ place (numbers l.fn.clr);
+  placed : 0 < l.at → place_at place (map numbers l.colors) (l.at - 1) ≡ place (numbers l.fn.clr);
   found : IsFoundFrom (map numbers l.colors) (numbers l.fn.clr) l.at (length (map numbers l.colors)) l.found;
 }
 

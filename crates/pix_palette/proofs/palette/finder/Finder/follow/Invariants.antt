@@ -8,6 +8,6 @@ use Rattle.pix_palette.proofs.palette.finder.Finder.follow.Given as goal
 abbrev pub invariant-loop-i : goal.invariant-loop-i
 invariant-loop-i l = record {
   finder : Follows (map numbers l.colors) l.self;
-  made : length l.self.latest.items ≡ 16384;
-  count : length l.self.earlier.items ≡ l.i;
+  made : length l.self.lists.latest.items ≡ 16384;
+  count : length l.self.lists.earlier.items ≡ l.i;
 }

@@ -8,15 +8,10 @@ returns-then-is_zero-clause-standing g c =
 
 pub returns-clause-standing : goal.returns-clause-standing
 returns-clause-standing g c =
-    standing_by _ _ _ _ _ c.args.self.now.colors.items _ c.standing_in.result c.deref-4.ensures.value c.color-threshold.ensures c.color.ensures c.threshold.ensures c.standing_in.ensures
+    standing_by _ _ _ _ _ c.args.self.now.colors.items _ c.standing.result c.deref.ensures.value c.color-threshold.ensures c.color.ensures c.threshold.ensures c.standing.ensures.standing
 
-pub returns-clause-blocks : goal.returns-clause-blocks
-returns-clause-blocks g c = rw (c.deref.ensures.value) at c.follow.ensures
+pub returns-clause-near : goal.returns-clause-near
+returns-clause-near g c = rw (c.deref.ensures.value) at c.standing.ensures.near
 
-pub standing_in-requires-clause-blocks : goal.standing_in-requires-clause-blocks
-standing_in-requires-clause-blocks g c =
-    let has = rw (c.deref.ensures.value) at c.follow.ensures in
-    rw (c.deref-3.ensures.value, c.deref-4.ensures.value) has.blocks
-
-pub standing_in-requires-clause-spans : goal.standing_in-requires-clause-spans
-standing_in-requires-clause-spans g c = rw (c.deref-2.ensures.value, c.deref-3.ensures.value) c.follow.ensures.spans
+pub standing-requires : goal.standing-requires
+standing-requires g c = rw (c.deref.ensures.value) c.requires.near

@@ -1,9 +1,9 @@
--- What holds at each turn of the loop in `closest_in`.
+-- What holds at each turn of the loop in `closest_first`.
 use Rattle.std.proofs.Common.{◌*◌, ◌≤◌, ◌-◌, length, map}
 use Rattle.std.specs.Prelude.{max}
 use Rattle.pix_table.specs.ColorBlocks.{IsBest}
 use Rattle.pix_table.specs.Nearest.{numbers}
-use Rattle.pix_table.proofs.in_blocks.closest_in.Given as goal
+use Rattle.pix_table.proofs.in_blocks.closest_first.Given as goal
 
 -- `at` is the last candidate among the entries of the first k blocks, or entry 0, and `least` its difference
 abbrev pub invariant-loop-k : goal.invariant-loop-k
