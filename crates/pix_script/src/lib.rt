@@ -2,7 +2,7 @@
 //!
 //! # Examples
 //!
-//! Of a script in memory:
+//! The text of a script in memory, or that of its fault:
 //!
 //! ```rust
 //! match paint_text(alloc, script) {
@@ -11,16 +11,14 @@
 //! }
 //! ```
 //!
-//! Of one that a reader has, to a writer:
+//! A program that reads a script from standard input, and writes its text to standard output:
 //!
 //! ```rust
-//! match paint_io(alloc, input, output) {
-//!     Ok(()) => 0,
-//!     Err(stop) => {
-//!         // Where this fails too, the status alone tells of the stop.
-//!         let _ = report(errors, stop);
-//!         status(stop)
-//!     }
+//! use pix_script::run;
+//! use std::process::ExitCode;
+//!
+//! fn main(rt: HostRuntime) -> ExitCode {
+//!     ExitCode::from(run(rt.alloc(), &mut rt.stdin(), &mut rt.stdout(), &mut rt.stderr()))
 //! }
 //! ```
 #![tactic(auto)]

@@ -42,6 +42,7 @@ fn report<E: Write>(errors: &mut E, stop: PaintStop) -> io::Result<()>
 }
 
 /// Writes bytes to their end, or up to a failure; an interrupted write is tried again.
+// `write_all` promises nothing of what was written before it failed.
 fn write_part<W: Write>(writer: &mut W, bytes: &[u8]) -> io::Result<()>
     ensures { AppendsOrPart (W.contents writer.old) (W.contents writer.new) bytes.now result }
 {

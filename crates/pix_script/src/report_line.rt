@@ -11,6 +11,7 @@ use std::io::Write;
 const MAX_REPORT: usize = 64;
 
 /// The line of a report, which a writer fills: the first bytes of an array.
+// No writer of std over an array tells which bytes it holds.
 #[derive(Drop)]
 pub(crate) struct ReportLine {
     room: [u8; MAX_REPORT],

@@ -78,6 +78,7 @@ fn write_text<W: Write>(alloc: Global, script: &[u8], writer: &mut W) -> Result<
 }
 
 /// Reads the bytes up to the end, or as many as show that they are too many for a script.
+// The readers of whole streams in std retry an interrupted read.
 fn read_bytes<R: Read>(alloc: Global, reader: &mut R) -> Result<Vec<u8>, PaintStop>
     ensures ok { IfOk result (λ script.
         IsInput (R.remaining reader.old) (R.remaining reader.new) script.items) }

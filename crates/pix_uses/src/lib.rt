@@ -2,6 +2,7 @@
 //! `pix_callers`.
 #![tactic(auto)]
 
+pub mod bounds;
 pub mod bytes;
 pub mod channels;
 pub mod colors;
