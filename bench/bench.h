@@ -2,6 +2,7 @@
 #ifndef BENCH_H
 #define BENCH_H
 
+#include "pix.h"
 #include <stddef.h>
 #include <stdint.h>
 
@@ -12,7 +13,9 @@ typedef enum { RGBA8, RGBA16, GRAYA8, KINDS } kind_t;
  * last three are a copy of an image and of a color, and a clear. */
 typedef enum { IMAGE, COLOR, MASK, MASKED, FADED, COPY, FILL, CLEAR, SOURCES } source_t;
 
-enum { OPERATORS = 13, DEST = 1, MOST = 1024, OPACITY = 160 };
+_Static_assert(SOURCES == PIX_KIND_COUNT, "each kind of commands is timed");
+
+enum { OPERATORS = PIX_OP_COUNT, DEST = PIX_OP_DEST, MOST = 1024, OPACITY = 160 };
 
 /* A command on each tile of an image, whose tiles are all that it has. */
 typedef struct {

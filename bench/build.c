@@ -1,7 +1,6 @@
 /* build.c - the calls of pix.h that are timed, of the archive that this file is linked with, and the plain loops. */
 #include "bench.h"
 #include "loops.h"
-#include "pix.h"
 
 /* Runs a command on each tile, as a program does that draws sprites: a call for each. */
 #define CALLS_(S, PIXEL, MATTE, VALUE)                                                                                 \

@@ -2,10 +2,9 @@
 #include "cases.h"
 #include <string.h>
 
-static const char *const operators[OPERATORS] = {
-    "Src", "Dest", "SrcOver", "DestOver", "SrcOut", "DestOut", "SrcIn", "DestIn", "SrcAtop", "DestAtop", "Xor", "Clear",
-    "Plus",
-};
+#define WORD_(NAME, WORD) #WORD,
+static const char *const operators[OPERATORS] = {PIX_EACH_OP(WORD_)};
+#undef WORD_
 static const char *const source_names[SOURCES] = {"image", "color", "mask", "masked image", "faded image", "copy of an image", "copy of a color", "clear"};
 static const char *const part_names[KINDS] = {"rgba8", "rgba16", "graya8"};
 static const uint32_t sides[COLUMNS] = {1024, 64, 32, 8};
@@ -82,15 +81,17 @@ static void add_copies(table_t *table, const wanted_t *wanted) {
     }
 }
 
+#define PAIR_(FROM, TO) {#FROM " to " #TO, PIX_FORMAT_##FROM, PIX_FORMAT_##TO}
+
 /* Conversions, of random alphas, of runs that are mostly clear or opaque, and of such that are nothing else. */
 static void add_conversions(table_t *table, const wanted_t *wanted) {
     static const struct {
         const char *name;
         uint32_t from, to;
     } pairs[] = {
-        {"SRGBA8 to RGBA8P", 0, 3}, {"SBGRA8 to RGBA8P", 8, 3}, {"SRGB8 to RGBA8P", 10, 3}, {"SGRAY8 to RGBA8P", 11, 3},
-        {"RGBA8P to SRGBA8", 3, 0}, {"RGBA8P to SBGRA8", 3, 8}, {"RGBA8 to RGBA8P", 2, 3}, {"RGBA8P to RGBA8", 3, 2},
-        {"RGBA8 to BGRA8", 2, 4}, {"SRGBA8 to RGBA8", 0, 2}, {"RGBA8 to SRGBA8", 2, 0}, {"SRGBA8 to SGRAY8", 0, 11},
+        PAIR_(SRGBA8, RGBA8P), PAIR_(SBGRA8, RGBA8P), PAIR_(SRGB8, RGBA8P),  PAIR_(SGRAY8, RGBA8P),
+        PAIR_(RGBA8P, SRGBA8), PAIR_(RGBA8P, SBGRA8), PAIR_(RGBA8, RGBA8P),  PAIR_(RGBA8P, RGBA8),
+        PAIR_(RGBA8, BGRA8),   PAIR_(SRGBA8, RGBA8),  PAIR_(RGBA8, SRGBA8), PAIR_(SRGBA8, SGRAY8),
     };
     static const shape_t shapes[] = {RANDOM, SPRITES, FLAT};
     const size_t count = sizeof shapes / sizeof *shapes;

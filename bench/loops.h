@@ -39,21 +39,13 @@ INLINE uint32_t term(uint32_t bits, char by, uint32_t channel, uint32_t alpha) {
         }                                                                                                              \
     }                                                                                                                  \
     INLINE void op##S(source_t source, uint32_t op, T *dst, const T *read, const T *color, const T *mask, size_t count) { \
-        switch (op) {                                                                                                  \
-        case 0: row##S(source, '1', '0', dst, read, color, mask, count); break;                                        \
-        case 1: break;                                                                                                 \
-        case 2: row##S(source, '1', 'm', dst, read, color, mask, count); break;                                        \
-        case 3: row##S(source, 'm', '1', dst, read, color, mask, count); break;                                        \
-        case 4: row##S(source, 'm', '0', dst, read, color, mask, count); break;                                        \
-        case 5: row##S(source, '0', 'm', dst, read, color, mask, count); break;                                        \
-        case 6: row##S(source, 'a', '0', dst, read, color, mask, count); break;                                        \
-        case 7: row##S(source, '0', 'a', dst, read, color, mask, count); break;                                        \
-        case 8: row##S(source, 'a', 'm', dst, read, color, mask, count); break;                                        \
-        case 9: row##S(source, 'm', 'a', dst, read, color, mask, count); break;                                        \
-        case 10: row##S(source, 'm', 'm', dst, read, color, mask, count); break;                                       \
-        case 11: memset(dst, 0, N * count * sizeof(T)); break;                                                         \
-        default: row##S(source, '1', '1', dst, read, color, mask, count);                                              \
+        if (op == PIX_OP_DEST)                                                                                         \
+            return;                                                                                                    \
+        if (op == PIX_OP_CLEAR) {                                                                                      \
+            memset(dst, 0, N * count * sizeof(T));                                                                     \
+            return;                                                                                                    \
         }                                                                                                              \
+        switch (op) { PIX_EACH_OP(OP_##S##_) }                                                                         \
     }                                                                                                                  \
     static void tiles##S(const job_t *job) {                                                                           \
         const size_t across = job->across, side = job->side;                                                           \
@@ -72,6 +64,15 @@ INLINE uint32_t term(uint32_t bits, char by, uint32_t channel, uint32_t alpha) {
                     }                                                                                                  \
                 }                                                                                                      \
     }
+
+/* The row of an operator; the compiler knows its coefficients. */
+#define OP_(S, NAME)                                                                                                   \
+    case PIX_OP_##NAME:                                                                                                \
+        row##S(source, plain_source_by[PIX_OP_##NAME], plain_dest_by[PIX_OP_##NAME], dst, read, color, mask, count);   \
+        break;
+#define OP__rgba8_(NAME, WORD) OP_(_rgba8, NAME)
+#define OP__rgba16_(NAME, WORD) OP_(_rgba16, NAME)
+#define OP__graya8_(NAME, WORD) OP_(_graya8, NAME)
 
 ROW_(_rgba8, uint8_t, 4, 8)
 ROW_(_rgba16, uint16_t, 4, 16)
@@ -151,20 +152,13 @@ INLINE void converted(plain_format from, plain_format to, const uint8_t *src, ui
 
 static int convert_loops(const conversion_t *it) {
 #define PAIR_(FROM, TO)                                                                                                \
-    if (it->from == FROM && it->to == TO) {                                                                            \
-        converted(FORMAT_(FROM), FORMAT_(TO), it->src, it->dst, it->count);                                            \
+    if (it->from == PIX_FORMAT_##FROM && it->to == PIX_FORMAT_##TO) {                                                  \
+        converted(plain_formats[PIX_FORMAT_##FROM], plain_formats[PIX_FORMAT_##TO], it->src, it->dst, it->count);      \
         return 1;                                                                                                      \
     }
-#define FORMAT_(NUMBER) ((plain_format)FORMAT_##NUMBER)
-#define FORMAT_0 {'r', 1, 0, 1}
-#define FORMAT_2 {'r', 1, 0, 0}
-#define FORMAT_3 {'r', 1, 1, 0}
-#define FORMAT_4 {'b', 1, 0, 0}
-#define FORMAT_8 {'b', 1, 0, 1}
-#define FORMAT_10 {'r', 0, 0, 1}
-#define FORMAT_11 {'g', 0, 0, 1}
-    PAIR_(0, 3) PAIR_(3, 0) PAIR_(3, 8) PAIR_(8, 3) PAIR_(2, 3) PAIR_(3, 2) PAIR_(2, 4)
-    PAIR_(0, 2) PAIR_(2, 0) PAIR_(10, 3) PAIR_(11, 3) PAIR_(0, 11)
+    PAIR_(SRGBA8, RGBA8P) PAIR_(RGBA8P, SRGBA8) PAIR_(RGBA8P, SBGRA8) PAIR_(SBGRA8, RGBA8P) PAIR_(RGBA8, RGBA8P)
+    PAIR_(RGBA8P, RGBA8) PAIR_(RGBA8, BGRA8) PAIR_(SRGBA8, RGBA8) PAIR_(RGBA8, SRGBA8) PAIR_(SRGB8, RGBA8P)
+    PAIR_(SGRAY8, RGBA8P) PAIR_(SRGBA8, SGRAY8)
     return 0;
 }
 

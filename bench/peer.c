@@ -6,13 +6,7 @@ int run_pixman(const job_t *job);
 const char *pixman_says(void);
 
 #ifdef WITH_PIXMAN
-#include <pixman.h>
-
-static const pixman_op_t operators[OPERATORS] = {
-    PIXMAN_OP_SRC, PIXMAN_OP_DST, PIXMAN_OP_OVER, PIXMAN_OP_OVER_REVERSE, PIXMAN_OP_OUT, PIXMAN_OP_OUT_REVERSE,
-    PIXMAN_OP_IN, PIXMAN_OP_IN_REVERSE, PIXMAN_OP_ATOP, PIXMAN_OP_ATOP_REVERSE, PIXMAN_OP_XOR, PIXMAN_OP_CLEAR,
-    PIXMAN_OP_ADD,
-};
+#include "pixman_ops.h"
 
 const char *pixman_says(void) {
     return pixman_version_string();

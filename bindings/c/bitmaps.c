@@ -110,9 +110,9 @@ static void refusals(void) {
     pix_bitmap_source source = pix_bitmap_source_of(src, 4, 4, PIX_FORMAT_SRGBA8);
     pix_bitmap target = pix_bitmap_of(dst, 4, 4, PIX_FORMAT_RGBA8P), other;
     insist(pix_convert_bitmap(source, target) == PIX_OK, "a bitmap of four by four is refused");
-    other = target, other.format = (pix_format)81;
-    insist(pix_convert_bitmap(source, other) == PIX_BAD_FORMAT, "no format 81");
-    insist(pix_convert_in_place(target, (pix_format)81) == PIX_BAD_FORMAT, "no format 81 in place");
+    other = target, other.format = (pix_format)PIX_FORMAT_COUNT;
+    insist(pix_convert_bitmap(source, other) == PIX_BAD_FORMAT, "no format past the last");
+    insist(pix_convert_in_place(target, (pix_format)PIX_FORMAT_COUNT) == PIX_BAD_FORMAT, "no format past the last in place");
     insist(pix_convert_in_place(target, PIX_FORMAT_RGBA16) == PIX_BAD_FORMAT, "no larger pixel in place");
     other = target, other.stride = 15;
     insist(pix_convert_bitmap(source, other) == PIX_BAD_SIZE, "rows of 16 bytes are 15 apart");
@@ -226,7 +226,7 @@ static void parts(void) {
 static void colors(void) {
     static const uint8_t white[] = {255, 255, 255, 128}, mixed[] = {200, 100, 50, 128}, red[] = {188, 0, 0};
     pix_rgba16 light = pix_color_of_rgba16(PIX_FORMAT_SRGBA8, white), wide = pix_color_of_rgba16(PIX_FORMAT_SRGB8, red);
-    pix_rgba8 bytes = pix_color_of(PIX_FORMAT_RGBA8, mixed), none = pix_color_of((pix_format)81, mixed);
+    pix_rgba8 bytes = pix_color_of(PIX_FORMAT_RGBA8, mixed), none = pix_color_of((pix_format)PIX_FORMAT_COUNT, mixed);
     pix_graya8 gray = pix_color_of_graya8(PIX_FORMAT_GRAYA8, mixed + 2);
     insist(light.r == 32896 && light.g == 32896 && light.b == 32896 && light.a == 32896, "half a white in light");
     insist(wide.r == 32957 && wide.g == 0 && wide.b == 0 && wide.a == 65535, "half a red in light");

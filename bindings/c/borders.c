@@ -113,15 +113,15 @@ static void conversions(void) {
     static const size_t sizes[] = {4, 4, 4, 4, 4, 4, 3, 1, 4, 4, 3, 1};
     uint8_t bytes[16] = {0};
     int from, to;
-    for (from = 0; from < 12; from++) {
+    for (from = 0; from <= PIX_FORMAT_SGRAY8; from++) {
         CHECK(pix_format_size((pix_format)from) == sizes[from]);
-        for (to = 0; to < 12; to++) {
+        for (to = 0; to <= PIX_FORMAT_SGRAY8; to++) {
             CHECK(pix_convert((pix_format)from, (pix_format)to, bytes, bytes, limit) == PIX_OVERLAP);
             CHECK(pix_convert((pix_format)from, (pix_format)to, bytes, bytes, limit + 1) == PIX_BAD_LENGTH);
             CHECK(pix_convert((pix_format)from, (pix_format)to, NULL, NULL, SIZE_MAX) == PIX_BAD_LENGTH);
         }
     }
-    CHECK(pix_format_size((pix_format)81) == 0 && pix_format_size(PIX_FORMAT_RGBA16) == 8);
+    CHECK(pix_format_size((pix_format)PIX_FORMAT_COUNT) == 0 && pix_format_size(PIX_FORMAT_RGBA16) == 8);
     CHECK(pix_convert(PIX_FORMAT_RGBA8, PIX_FORMAT_RGBA16, bytes, bytes + 8, 1) == PIX_BAD_FORMAT);
     /* Adjacent, and with one byte in common. */
     CHECK(pix_convert(PIX_FORMAT_RGBA8, PIX_FORMAT_SGRAY8, bytes, bytes + 8, 2) == PIX_OK);

@@ -5,7 +5,7 @@
 #include <stdio.h>
 #include <stdlib.h>
 
-enum { WIDTH = 192, HEIGHT = 128, SUN = 48, LETTER = 32, LETTERS = 3, SWATCH = 12, SWATCHES = 13, STEP = 14 };
+enum { WIDTH = 192, HEIGHT = 128, SUN = 48, LETTER = 32, LETTERS = 3, SWATCH = 12, SWATCHES = PIX_OP_COUNT, STEP = 14 };
 
 static void insist(pix_status status, const char *what) {
     if (status != PIX_OK) {

@@ -11,7 +11,7 @@
 
 namespace {
 
-const int width = 192, height = 128, sun_side = 48, letter_side = 32, letters = 3, swatches = 13, step = 14;
+const int width = 192, height = 128, sun_side = 48, letter_side = 32, letters = 3, swatches = PIX_OP_COUNT, step = 14;
 
 void insist(pix_status status) {
     if (status != PIX_OK)

@@ -1,10 +1,10 @@
 /* Pictures, regions and sources without pixels, one side of them as long as can be: each call answers at once. */
-#include "pix.h"
+#include "each.h"
 #include <stdio.h>
 #include <stdlib.h>
 #include <time.h>
 
-enum { LONG = INT32_MAX, SIZES = 3 };
+enum { LONG = INT32_MAX, SIZES = 3, KINDS = PIX_KIND_COUNT };
 
 static const uint32_t sizes[SIZES][2] = {{0, LONG}, {LONG, 0}, {0, 0}};
 static clock_t began;
@@ -25,15 +25,9 @@ static void check(int is_well, const char *what, int size) {
     static void list##S(pix_command##S *list, pix_region to, pix_region from, uint32_t width, uint32_t height) {       \
         const pix_source##S source = pix_source_of##S(NULL, width, height);                                            \
         const MATTE mask = MATTE##_of(NULL, width, height);                                                            \
-        pix_command##S clear = pix_clear##S();                                                                         \
-        list[0] = clear;                                                                                               \
-        list[1] = pix_copy_color##S(to, clear.color);                                                                  \
-        list[2] = pix_copy_image##S(to, source, from);                                                                 \
-        list[3] = pix_composite_color##S(to, clear.color, PIX_OP_SRC_OVER);                                            \
-        list[4] = pix_composite_image##S(to, source, from, PIX_OP_SRC_OVER);                                           \
-        list[5] = pix_composite_matte##S(to, mask, from, clear.color, PIX_OP_SRC_OVER);                                \
-        list[6] = pix_composite_image_matte##S(to, source, from, mask, from, PIX_OP_SRC_OVER);                         \
-        list[7] = pix_composite_image_alpha##S(to, source, from, 99, PIX_OP_SRC_OVER);                                 \
+        const pix_command##S clear = pix_clear##S();                                                                   \
+        for (int i = 0; i < KINDS; i++)                                                                                \
+            list[i] = command_of##S((pix_kind)i, to, source, from, mask, from, clear.color, 99, PIX_OP_SRC_OVER);      \
     }
 LIST_(, pix_matte)
 LIST_(_rgba16, pix_matte16)
@@ -45,14 +39,16 @@ LIST_(_graya8, pix_matte)
         const uint32_t width = sizes[size][0], height = sizes[size][1];                                                \
         const pix_image##S empty = pix_image_of##S(NULL, width, height);                                               \
         PIXEL pixel;                                                                                                   \
-        pix_command##S commands[8];                                                                                    \
+        pix_command##S commands[KINDS];                                                                                \
         size_t done = 0;                                                                                               \
         memset(&pixel, 0, sizeof pixel);                                                                               \
         list##S(commands, to, from, width, height);                                                                    \
-        check(pix_run##S(empty, commands, 8, &done) == PIX_OK && done == 8, "pix_run" #S, size);                       \
-        check(pix_run_in##S(empty, LONG - width, LONG - height, commands, 8, &done) == PIX_OK, "pix_run_in" #S, size); \
-        check(pix_do##S(empty, commands[4]) == PIX_OK, "pix_do" #S, size);                                             \
-        check(pix_run##S(pix_image_of##S(&pixel, 1, 1), commands, 8, &done) == PIX_OK, "pix_run" #S " by none", size); \
+        check(pix_run##S(empty, commands, KINDS, &done) == PIX_OK && done == KINDS, "pix_run" #S, size);               \
+        check(pix_run_in##S(empty, LONG - width, LONG - height, commands, KINDS, &done) == PIX_OK, "pix_run_in" #S,    \
+              size);                                                                                                   \
+        check(pix_do##S(empty, commands[PIX_KIND_COMPOSITE_IMAGE]) == PIX_OK, "pix_do" #S, size);                      \
+        check(pix_run##S(pix_image_of##S(&pixel, 1, 1), commands, KINDS, &done) == PIX_OK, "pix_run" #S " by none",    \
+              size);                                                                                                   \
         check(!pix_part_of##S(empty, to).height || !width, "pix_part_of" #S, size);                                    \
     }
 PAINT_(, pix_rgba8)

@@ -231,9 +231,9 @@ static void conversions(void) {
     enum { RGBA = PIX_FORMAT_RGBA8, RGB = PIX_FORMAT_RGB8, BGRA = PIX_FORMAT_BGRA8 };
     if (convert(RGBA, RGB, 0, 8, 6, 2) || convert(RGB, BGRA, 0, 6, 8, 2) || convert(RGBA, RGB, 1, 4, 3, 1))
         fail("conversion", "all arguments", "refused");
-    if (convert(12, RGB, 0, 8, 6, 2) != PIX_BAD_FORMAT)
+    if (convert(PLAIN_FORMATS, RGB, 0, 8, 6, 2) != PIX_BAD_FORMAT)
         fail("conversion", "from", "not refused");
-    if (convert(RGBA, 12, 0, 8, 6, 2) != PIX_BAD_FORMAT)
+    if (convert(RGBA, PLAIN_FORMATS, 0, 8, 6, 2) != PIX_BAD_FORMAT)
         fail("conversion", "to", "not refused");
     if (convert(RGBA, RGB, 0, 7, 6, 2) != PIX_BAD_LENGTH)
         fail("conversion", "src_len", "not refused");
@@ -243,24 +243,38 @@ static void conversions(void) {
         fail("conversion", "count", "not refused");
 }
 
+/* The name of a kind of commands whose outcome shows its fields, or null where those of another kind are the same. */
+static const char *shown(pix_kind kind) {
+    switch (kind) {
+    case PIX_KIND_COMPOSITE_IMAGE: return "image";
+    case PIX_KIND_COMPOSITE_MATTE: return "matte";
+    case PIX_KIND_COMPOSITE_IMAGE_MATTE: return "mask";
+    case PIX_KIND_COMPOSITE_IMAGE_ALPHA: return "opacity";
+    case PIX_KIND_CLEAR:
+    case PIX_KIND_COPY_COLOR:
+    case PIX_KIND_COPY_IMAGE:
+    case PIX_KIND_COMPOSITE_COLOR: return NULL;
+    }
+    return NULL;
+}
+
 int main(void) {
-    static const plain_kind rgba8 = {255, 1, 4}, rgba16 = {65535, 2, 4}, graya8 = {255, 1, 2};
+    static const struct {
+        const char *name;
+        plain_kind kind;
+        outcome (*run)(const int64_t *);
+    } pixels[] = {{"rgba8", {255, 1, 4}, run}, {"rgba16", {65535, 2, 4}, run_rgba16}, {"graya8", {255, 1, 2}, run_graya8}};
     if (pix_check_library() != PIX_OK)
         fail("layout", "all facts", pix_status_text(PIX_BAD_LIBRARY));
-    for (is_window = 0; is_window < 2; is_window++) {
-        try_fields("rgba8, image", &rgba8, run, PLAIN_SOURCE);
-        try_fields("rgba8, matte", &rgba8, run, PLAIN_MATTE);
-        try_fields("rgba16, image", &rgba16, run_rgba16, PLAIN_SOURCE);
-        try_fields("rgba16, matte", &rgba16, run_rgba16, PLAIN_MATTE);
-        try_fields("graya8, image", &graya8, run_graya8, PLAIN_SOURCE);
-        try_fields("graya8, matte", &graya8, run_graya8, PLAIN_MATTE);
-        try_fields("rgba8, mask", &rgba8, run, PLAIN_MASKED);
-        try_fields("rgba16, mask", &rgba16, run_rgba16, PLAIN_MASKED);
-        try_fields("graya8, mask", &graya8, run_graya8, PLAIN_MASKED);
-        try_fields("rgba8, opacity", &rgba8, run, PLAIN_FADED);
-        try_fields("rgba16, opacity", &rgba16, run_rgba16, PLAIN_FADED);
-        try_fields("graya8, opacity", &graya8, run_graya8, PLAIN_FADED);
-    }
+    for (is_window = 0; is_window < 2; is_window++)
+        for (int i = 0; i < 3 * PIX_KIND_COUNT; i++) {
+            const pix_kind kind = (pix_kind)(i / 3);
+            char name[32];
+            if (!shown(kind))
+                continue;
+            snprintf(name, sizeof name, "%s, %s", pixels[i % 3].name, shown(kind));
+            try_fields(name, &pixels[i % 3].kind, pixels[i % 3].run, kind);
+        }
     conversions();
     printf("fields: %d failures\n", failures);
     return failures != 0;

@@ -8,7 +8,7 @@
  * which must leave all bytes as they were. LISTS is 20000 and SEED 1 where they aren't given.
  */
 #define _DEFAULT_SOURCE
-#include "pix.h"
+#include "each.h"
 #include "plain.h"
 #include <stdio.h>
 #include <stdlib.h>
@@ -100,8 +100,8 @@ static plain_region region(void) {
 static plain_command random_command(const plain_kind *kind, size_t *read) {
     plain_command it;
     memset(&it, 0, sizeof it);
-    it.kind = one_in(12) ? PLAIN_CLEAR : 1 + (uint32_t)below(PLAIN_FADED);
-    it.op = (uint32_t)below(13);
+    it.kind = one_in(12) ? PLAIN_CLEAR : 1 + (uint32_t)below(PLAIN_KINDS - 1);
+    it.op = (uint32_t)below(PLAIN_OPERATORS);
     it.to = region();
     it.from = region();
     it.mask_from = region();
@@ -249,21 +249,12 @@ static list random_list(const plain_kind *kind) {
                                                                    : source.pixels;                                    \
         matte.values = has == SOURCE_NULL ? NULL : has == OVERLAP ? (const VALUE *)(const void *)image.rows.bytes      \
                                                                   : matte.values;                                      \
-        pix_op op = (pix_op)(has == OPERATOR ? 13 + below(9) : it->op);                                                \
-        pix_command##S made = pix_clear##S();                                                                          \
-        switch (it->kind) {                                                                                            \
-        case PLAIN_COPY_COLOR: made = pix_copy_color##S(to, COLOR); break;                                             \
-        case PLAIN_COPY: made = pix_copy_image##S(to, source, from); break;                                            \
-        case PLAIN_COLOR: made = pix_composite_color##S(to, COLOR, op); break;                                         \
-        case PLAIN_SOURCE: made = pix_composite_image##S(to, source, from, op); break;                                 \
-        case PLAIN_MATTE: made = pix_composite_matte##S(to, matte, from, COLOR, op); break;                            \
-        case PLAIN_MASKED: made = pix_composite_image_matte##S(to, source, from, mask, mask_from, op); break;          \
-        case PLAIN_FADED: made = pix_composite_image_alpha##S(to, source, from, (VALUE)it->alpha, op); break;          \
-        default: break;                                                                                                \
-        }                                                                                                              \
+        pix_op op = (pix_op)(has == OPERATOR ? PIX_OP_COUNT + below(9) : it->op);                                      \
+        pix_command##S made = command_of##S((pix_kind)it->kind, to, source, from, it->kind == PLAIN_MATTE ? matte : mask, \
+                                            mask_from, COLOR, (VALUE)it->alpha, op);                                   \
         made.to = to;                                                                                                  \
         made.op = (uint32_t)op;                                                                                        \
-        made.kind = has == KIND ? 8 + (uint32_t)below(9) : made.kind;                                                  \
+        made.kind = has == KIND ? PIX_KIND_COUNT + (uint32_t)below(9) : made.kind;                                     \
         return made;                                                                                                   \
     }                                                                                                                  \
                                                                                                                        \
@@ -335,7 +326,7 @@ static void try_list(uint64_t number) {
 }
 
 static void try_conversion(uint64_t number) {
-    uint32_t from = (uint32_t)below(12), to = (uint32_t)below(12);
+    uint32_t from = (uint32_t)below(PLAIN_FORMATS), to = (uint32_t)below(PLAIN_FORMATS);
     const plain_format *source = &plain_formats[from], *target = &plain_formats[to];
     size_t count = below(200), src_size = plain_size(source), dst_size = plain_size(target);
     lay_rows(&sources[0], 1, 1);

@@ -41,11 +41,11 @@ static plain_region plain(pix_region it) {
 
 #define OTHER_(S, PIXEL, KIND, COLOR)                                                                                  \
     static uint32_t fault##S(const pix_command##S *it) {                                                               \
-        if (it->kind > PLAIN_FADED)                                                                                    \
+        if (it->kind >= PLAIN_KINDS)                                                                                   \
             return PIX_BAD_KIND;                                                                                       \
         if (!is_within(it->to) || !is_within(it->from) || !is_within(it->mask))                                        \
             return PIX_BAD_REGION;                                                                                     \
-        if (it->op > PIX_OP_PLUS)                                                                                      \
+        if (it->op >= PLAIN_OPERATORS)                                                                                 \
             return PIX_BAD_OP;                                                                                         \
         if (it->kind == PLAIN_COPY || it->kind >= PLAIN_SOURCE)                                                        \
             if (!is_sized(it->width, it->height, it->stride,                                                           \
@@ -96,7 +96,7 @@ OTHER_(_graya8, pix_graya8, GRAYA8_, TWO_)
 
 uint32_t pix_convert_bytes(uint32_t from, uint32_t to, const uint8_t *src, size_t src_len, uint8_t *dst, size_t dst_len,
                            size_t count) {
-    if (from > PIX_FORMAT_SGRAY8 || to > PIX_FORMAT_SGRAY8)
+    if (from >= PLAIN_FORMATS || to >= PLAIN_FORMATS)
         return PIX_BAD_FORMAT;
     const plain_format *source = &plain_formats[from], *target = &plain_formats[to];
     size_t src_size = plain_size(source), dst_size = plain_size(target);
@@ -109,12 +109,8 @@ uint32_t pix_convert_bytes(uint32_t from, uint32_t to, const uint8_t *src, size_
 
 /* Bitmaps. */
 uint32_t pix_pixel_size(uint32_t format) {
-    static const uint8_t sizes[] = {
-        4, 4, 4, 4, 4, 4, 3, 1, 4, 4, 3, 1, 8, 8, 6, 8, 8, 6, 3, 3, 2, 2, 2, 2, 2, 4, 4,
-        1, 2, 3, 4, 4, 6, 8, 8, 3, 4, 4, 3, 4, 4, 6, 8, 8, 3, 4, 4, 3, 4, 4, 6, 8, 8, 3,
-        4, 4, 3, 4, 4, 6, 8, 8, 3, 4, 4, 3, 4, 4, 6, 8, 8, 3, 4, 4, 6, 8, 8, 4, 4, 4, 4,
-    };
-    return format < sizeof sizes ? sizes[format] : 0;
+    const plain_stored it = plain_stored_of(format);
+    return it.model ? (uint32_t)plain_stored_size(&it) : 0;
 }
 
 static int is_held(uint64_t width, uint64_t height, uint64_t wide, int64_t stride, uint64_t count) {

@@ -1,8 +1,9 @@
 /* pix.h - compositing of raster images in the caller's own memory.
  *
- * A program makes commands (copy a color, composite an image, composite a color through a mask, ..) and runs a list of
- * them on an image. The library changes the image's pixels in place. It takes no memory, keeps nothing after a call,
- * has no global state, and sets neither errno nor signals, so there is nothing to initialize and nothing to free.
+ * A program makes commands: copy a color or an image, composite an image, composite a color through
+ * a mask, and more. It runs a list of them on an image. The library changes the image's pixels in
+ * place. It takes no memory, keeps nothing after a call and has no global state. It sets neither
+ * errno nor signals. So there is nothing to initialize and nothing to free.
  *
  *     pix_rgba8 pixels[64 * 64];
  *     pix_image image = pix_image_of(pixels, 64, 64);
@@ -11,57 +12,67 @@
  *     list[1] = pix_composite_color(pix_region_of(50, -8, 20, 20), pix_rgba8_of(90, 40, 0, 128), PIX_OP_SRC_OVER);
  *     if (pix_run(image, list, 2, NULL) != PIX_OK) ..
  *
- * Pixels. Compositing works on premultiplied, linear pixels: the color channels are multiplied by the alpha, and they
- * are proportional to light. Images as files hold them are mostly sRGB and not premultiplied; pix_convert_bitmap turns
- * one into the other, and to images of 16 bits a channel it loses nothing of pixels whose alpha is 13 or more. There are
- * three kinds of images, and each function on them stands three times:
+ * Pixels. Compositing works on premultiplied, linear pixels: the colors are multiplied by the
+ * alpha, and they are proportional to light. Images in files are mostly sRGB and not premultiplied.
+ * pix_convert_bitmap turns one into the other. To images of 16 bits a channel it loses nothing of
+ * pixels whose alpha is 13 or more. There are three kinds of images, and each function on them is
+ * there three times:
  *
  *     pix_image          pix_rgba8    8 bits a channel: red, green, blue, alpha
  *     pix_image_rgba16   pix_rgba16   16 bits a channel; its functions and types end in _rgba16
  *     pix_image_graya8   pix_graya8   8 bits a channel: gray, alpha; its functions and types end in _graya8
  *
- * They are documented for the first kind; the others differ in their types alone.
+ * The first kind is documented; the others differ only in their types.
  *
- * Regions lie anywhere, also partly or wholly outside an image: only points inside are read and written.
+ * Regions lie anywhere, also partly or wholly outside an image. Only points inside are read and
+ * written.
  *
- * Statuses. A call that answers PIX_OK has done all that was asked for. A call that answers anything else has changed
- * no pixel: all commands of a list are tested before the first one is run.
+ * Statuses. A call that returns PIX_OK has done all that was asked for. A call that returns
+ * anything else has changed no pixel: all commands of a list are tested before the first one is
+ * run.
  *
- * Duties of the caller, which no function can test. They are all here; breaking one is undefined behavior:
+ * Duties of the caller, which no function can test. They are all here, and breaking one is
+ * undefined behavior:
  *
- *   - A pointer is valid for as many elements as the sizes beside it say, and aligned for its type. An image has
- *     (height - 1) * stride + width pixels, from its first to its last one, and none where its height is 0.
- *   - What a call writes belongs to it until it returns: an image with what lies between its rows, a table, work memory,
- *     indices, counts. No other thread, signal handler, process or device reads or writes it meanwhile.
- *   - What a call only reads may be read by others meanwhile, and is written by none. A call looks at commands and at
- *     indices twice: it tests all of them, and then trusts them. One that changes in between makes it read or write
- *     memory that nobody handed over.
- *   - Memory with two addresses, as of a file that is mapped twice, is handed to a call by one of them, unless the call only
- *     reads it. The test of overlaps compares addresses.
- *   - Commands are made by the functions of this header. What they point to lives until they have run.
+ *   - A pointer is valid for as many elements as the sizes beside it say, and aligned for its type.
+ *     An image has (height - 1) * stride + width pixels, from its first to its last one, and none
+ *     where its height is 0.
+ *   - What a call writes belongs to it until it returns: an image with what lies between its rows,
+ *     a table, work memory, indices, counts. No other thread, signal handler, process or device
+ *     reads or writes it meanwhile.
+ *   - What a call only reads may be read by others meanwhile, and nobody writes it. A call looks at
+ *     commands and at indices twice: it tests all of them, and then trusts them. If one changes in
+ *     between, the call may read or write memory that nobody passed to it.
+ *   - Memory with two addresses, such as a file that is mapped twice, is passed to a call with one
+ *     of them, unless the call only reads it. The test of overlaps compares addresses.
+ *   - Commands are made by the functions of this header. What they point to lives until they have
+ *     run.
  *   - The thread has the stack that the call needs: see below.
  *
- * Stack. Since a call takes no memory, what it works with is on the stack of its thread. A thread whose stack has so many
- * KiB, its own frames among them, can make these calls:
+ * Stack. A call takes no memory, so what it works with is on the stack of its thread. These are the
+ * KiB that a thread's stack needs for each call, the thread's own frames among them:
  *
  *     256   pix_map_indexed, pix_diffuse_indexed, and both with _alpha
  *      32   pix_index_pixels
  *      16   all others
  *
- * Main threads have much more, and so have new threads under glibc; under musl a new thread has 128 KiB unless it asks for
- * more (pthread_attr_setstacksize), which the first two calls need.
+ * Main threads have much more, and so have new threads under glibc. Under musl a new thread has 128
+ * KiB unless it asks for more (pthread_attr_setstacksize), which the calls in the first line need.
  *
- * Calls may run at once in different threads where none of them writes what another one reads or writes. They may have
- * sources, tables and lists of commands in common.
+ * Threads. Calls may run at once in different threads where none of them writes what another one
+ * reads or writes. They may share sources, tables and lists of commands.
  *
  * A source must not share memory with the image that is written. That is tested: see PIX_OVERLAP.
  *
- * The library is built for processors of x86-64 that have SSE4.1, and for those of aarch64, under Linux.
- * pix_check_library tells whether the library that is linked is the one that this header speaks of; a program may ask
- * it once, before all else.
+ * Promises. docs/PROMISES.md in the repository says what each call promises, and what of it is
+ * proved.
  *
- * Needs C99 or C++11. Link the program with libpix_c.a, or with libpix.a or libpix.so of a package, which are the same;
- * it needs memset, memcpy and memmove, and nothing else.
+ * The library is built for processors of x86-64 with SSE4.1, and of aarch64, under Linux.
+ * pix_check_library tells whether the linked library is the one that this header describes. A
+ * program may ask it once, before all else.
+ *
+ * This header needs C99 or C++11. Link the program with libpix_c.a, or with libpix.a or libpix.so
+ * of a package, which are the same. The library needs memset, memcpy and memmove, and nothing else.
  */
 #ifndef PIX_H
 #define PIX_H
@@ -79,7 +90,8 @@ extern "C" {
 
 /* ---- Pixels and regions ---- */
 
-/* A pixel of 8 bits a channel, from 0 (none) to 255 (all). No color channel should exceed the alpha, though any may. */
+/* A pixel of 8 bits a channel, from 0 (none) to 255 (all). No color should exceed the alpha, but
+ * any may. */
 typedef struct { uint8_t r, g, b, a; } pix_rgba8;
 
 /* A pixel of 16 bits a channel, from 0 to 65535, in the byte order of the machine. */
@@ -88,16 +100,22 @@ typedef struct { uint16_t r, g, b, a; } pix_rgba16;
 /* A gray pixel of 8 bits a channel. */
 typedef struct { uint8_t value, a; } pix_graya8;
 
-/* A rectangle of points: x grows to the right, y downwards, and (0, 0) is the upper left point of an image.
- * A side of at most 2147483647 is accepted. */
+/* A rectangle of points. x grows to the right and y grows downwards, and (0, 0) is the upper left
+ * point of an image. A side may be up to 2147483647. */
 typedef struct { int32_t x, y; uint32_t width, height; } pix_region;
 
 /* ---- Formats ---- */
 
-/* Formats, by the channels of a pixel in the order of the name. 8 and 16 are the bits of a channel; one of 16 bits is a word
- * in the byte order of the machine. S: the colors are encoded by the sRGB curve, as in most files; without S they are linear.
- * P at the end: the colors are multiplied by the alpha. pix_convert takes those up to PIX_FORMAT_SGRAY8, and pix_convert_bitmap
- * all of them. */
+/* Formats, named after the channels of a pixel in their order.
+ *
+ *   - 8 and 16 are the bits of a channel. A channel of 16 bits is a word in the byte order of the
+ *     machine.
+ *   - S at the beginning: the colors are encoded by the sRGB curve, as in most files. Without S
+ *     they are linear.
+ *   - P at the end: the colors are multiplied by the alpha.
+ *
+ * pix_convert takes the formats up to PIX_FORMAT_SGRAY8, and pix_convert_bitmap takes all of them.
+ */
 typedef enum {
     PIX_FORMAT_SRGBA8 = 0,
     PIX_FORMAT_SRGBA8P = 1,
@@ -143,8 +161,9 @@ typedef enum {
 
 /* ---- Images: views of the caller's memory, passed by value ---- */
 
-/* Rows of pixels from top to bottom. `stride` is the distance from a row to the next, in pixels and not in bytes. It is
- * at least the width, or 0, which means the width: rows without padding. Pixels between rows are not changed. */
+/* Rows of pixels from top to bottom. `stride` is the distance from a row to the next, in pixels and
+ * not in bytes. It is at least the width. 0 means the width: rows without padding. Pixels between
+ * rows are not changed. */
 typedef struct { pix_rgba8 *pixels; uint32_t width, height, stride; } pix_image;
 typedef struct { pix_rgba16 *pixels; uint32_t width, height, stride; } pix_image_rgba16;
 typedef struct { pix_graya8 *pixels; uint32_t width, height, stride; } pix_image_graya8;
@@ -154,23 +173,25 @@ typedef struct { const pix_rgba8 *pixels; uint32_t width, height, stride; } pix_
 typedef struct { const pix_rgba16 *pixels; uint32_t width, height, stride; } pix_source_rgba16;
 typedef struct { const pix_graya8 *pixels; uint32_t width, height, stride; } pix_source_graya8;
 
-/* An image in any format, as files, windows and other libraries hold them. `stride` is the distance from a row to the next
- * in bytes. A negative one is for rows that lie from bottom to top: `pixels` points to the top row all the same, which is
- * the last one in memory. 0 stands for rows without gaps. What lies between the rows is not changed. */
+/* An image in any format, as files, windows and other libraries have it. `stride` is the distance
+ * from a row to the next, in bytes. 0 means rows without gaps. A negative stride is for rows from
+ * bottom to top: `pixels` still points to the top row, which is the last one in memory. What lies
+ * between the rows is not changed. */
 typedef struct { void *pixels; uint32_t width, height; ptrdiff_t stride; pix_format format; } pix_bitmap;
 typedef struct { const void *pixels; uint32_t width, height; ptrdiff_t stride; pix_format format; } pix_bitmap_source;
 
-/* A mask: the fraction of a color or of a source that is composited at each point, from 0 (none) to 255 (all), or to
- * 65535 in pix_matte16. pix_matte goes with images of 8 bits a channel, pix_matte16 with those of 16. The stride is counted in
- * values. */
+/* A mask: the fraction of a color or of a source that is composited at each point. It goes from 0
+ * (none) to 255 (all), or to 65535 in pix_matte16. pix_matte goes with images of 8 bits a channel,
+ * and pix_matte16 with those of 16. The stride is counted in values. */
 typedef struct { const uint8_t *values; uint32_t width, height, stride; } pix_matte;
 typedef struct { const uint16_t *values; uint32_t width, height, stride; } pix_matte16;
 
 /* ---- Operators, statuses ---- */
 
-/* The operators of Porter and Duff, and the sum. Each channel of the outcome, the alpha too, is that of the term beside
- * it, where s and d are the channels of source and destination and sa and da the alphas as fractions. Products are
- * rounded to the nearest, and a sum saturates at the maximum. */
+/* The operators of Porter and Duff, and the sum. Each channel of the result, the alpha too, is that
+ * of the formula beside it. s and d are the channels of source and destination, and sa and da are
+ * the alphas as fractions. Products are rounded to the nearest, and a sum saturates at the maximum.
+ */
 typedef enum {
     PIX_OP_SRC = 0,        /* s */
     PIX_OP_DEST = 1,       /* d */
@@ -187,7 +208,7 @@ typedef enum {
     PIX_OP_PLUS = 12       /* s + d */
 } pix_op;
 
-/* What a call answers. */
+/* What a call returns. */
 typedef enum {
     PIX_OK = 0,         /* done */
     PIX_BAD_SIZE = 1,   /* the image: a side above 2147483647, a stride below the width, or more than memory can hold */
@@ -196,8 +217,9 @@ typedef enum {
     PIX_BAD_OP = 4,     /* no such operator */
     PIX_BAD_SOURCE = 5, /* the source, the matte or the mask of a command: as PIX_BAD_SIZE */
     PIX_BAD_FORMAT = 6, /* no such format */
-    PIX_BAD_LENGTH = 7, /* more pixels to convert than a quarter of PTRDIFF_MAX, more beside a table than an eighth, more
-                         * commands than memory holds, or lengths that do not go together */
+    PIX_BAD_LENGTH = 7, /* more pixels to convert than a quarter of PTRDIFF_MAX, more pixels beside a
+                         * table than an eighth, more commands than memory holds, or lengths that do
+                         * not go together */
     PIX_NULL = 8,       /* a pointer is null, and what it points to is not empty */
     PIX_OVERLAP = 9,    /* a source, a matte, the list of commands or `done` shares memory with what is written */
     PIX_BAD_LIBRARY = 10, /* the archive that is linked has another version or another layout than this header */
@@ -232,7 +254,7 @@ static inline pix_region pix_region_of(int32_t x, int32_t y, uint32_t width, uin
     return region;
 }
 
-/* Views of rows without padding; set `stride` afterwards where there is some. */
+/* Views of rows without padding. Set `stride` afterwards where there is some. */
 static inline pix_image pix_image_of(pix_rgba8 *pixels, uint32_t width, uint32_t height);
 static inline pix_source pix_source_of(const pix_rgba8 *pixels, uint32_t width, uint32_t height);
 
@@ -251,11 +273,12 @@ static inline pix_source pix_source_of_image(pix_image image);
 
 /* ---- Commands ----
  *
- * A command holds the pointers of its source, and not the pixels. Making one tests nothing; pix_run does.
+ * A command has the pointers of its source, and not the pixels. Making one tests nothing; pix_run
+ * does.
  *
- * Where there are two regions, the point of `from` that is as far from its upper left corner as a point of `to` is from
- * its own goes there. A point is changed where both regions and both images have it: the two corners are always
- * paired, also where one of them lies outside its image. */
+ * Where there are two regions, their upper left corners are paired, even where one lies outside its
+ * image. Each point of `to` gets the point of `from` that is as far from its corner. A point is
+ * changed where both regions and both images have it. */
 
 /* What a command does. */
 typedef enum {
@@ -269,8 +292,8 @@ typedef enum {
     PIX_KIND_COMPOSITE_IMAGE_ALPHA = 7
 } pix_kind;
 
-/* A command, laid out as the library reads it: make it by the functions below, and don't touch its members. The kind is
- * a pix_kind, and the operator a pix_op. */
+/* A command, laid out as the library reads it. Make it with the functions below, and do not touch
+ * its members. The kind is a pix_kind, and the operator is a pix_op. */
 typedef struct {
     uint32_t kind, op;
     pix_region to, from;
@@ -286,10 +309,10 @@ typedef struct {
 /* Makes all pixels of the image transparent: all channels 0. */
 static inline pix_command pix_clear(void);
 
-/* Replaces the pixels of `to` by a color. */
+/* Replaces the pixels of `to` with a color. */
 static inline pix_command pix_copy_color(pix_region to, pix_rgba8 color);
 
-/* Replaces the pixels of `to` by those of `from` in a source. */
+/* Replaces the pixels of `to` with those of `from` in a source. */
 static inline pix_command pix_copy_image(pix_region to, pix_source source, pix_region from);
 
 /* Composites a color with the pixels of `to`. */
@@ -298,85 +321,100 @@ static inline pix_command pix_composite_color(pix_region to, pix_rgba8 color, pi
 /* Composites the pixels of `from` in a source with those of `to`: a sprite. */
 static inline pix_command pix_composite_image(pix_region to, pix_source source, pix_region from, pix_op op);
 
-/* Composites a color, multiplied by the values of `from` in a matte, with the pixels of `to`: a glyph. */
+/* Composites a color, multiplied by the values of `from` in a matte, with the pixels of `to`: a
+ * glyph. */
 static inline pix_command pix_composite_matte(pix_region to, pix_matte matte, pix_region from, pix_rgba8 color,
                                               pix_op op);
 
-/* Composites the pixels of `from` in a source, multiplied by the values of `mask_from` in a mask, with those of `to`:
- * soft edges. All three corners are paired, and a point is changed where all three regions and all of image, source and
- * mask have it. */
+/* Composites the pixels of `from` in a source, multiplied by the values of `mask_from` in a mask,
+ * with those of `to`: soft edges. All three corners are paired. A point is changed where all three
+ * regions have it, and image, source and mask too. */
 static inline pix_command pix_composite_image_matte(pix_region to, pix_source source, pix_region from, pix_matte mask,
                                                     pix_region mask_from, pix_op op);
 
-/* Composites the pixels of `from` in a source, multiplied by `alpha`, with those of `to`: a fade. An alpha of 255 is
- * pix_composite_image (65535 of 16 bits). */
+/* Composites the pixels of `from` in a source, multiplied by `alpha`, with those of `to`: a fade.
+ * An alpha of 255 (65535 for 16 bits) is pix_composite_image. */
 static inline pix_command pix_composite_image_alpha(pix_region to, pix_source source, pix_region from, uint8_t alpha,
                                                     pix_op op);
 
 /* ---- Calls ---- */
 
-/* Whether the archive that is linked has the version and the layout of this header: the offset and the size of all that
- * crosses to it. No other call tests that.
+/* Tells whether the linked archive has the version and the layout of this header: the offset and
+ * the size of all that crosses to it. No other call tests that.
  *
- * Answers PIX_OK or PIX_BAD_LIBRARY. */
+ * Returns PIX_OK or PIX_BAD_LIBRARY. */
 static inline pix_status pix_check_library(void);
 
 /* Runs a list of `count` commands on an image, in order, or none of them.
  *
- * `done`, which may be null, is set to `count` after PIX_OK, and else to the index of the first command that was
- * refused, or to 0 where the image or the list itself was. Where it lies in the image that is PIX_OVERLAP, and it stays
- * as it was. Pointers and overlaps are tested for the whole list before all else. `commands` may be null where `count`
- * is 0.
+ * `done` may be null. After PIX_OK it is set to `count`. Otherwise it is set to the index of the
+ * first command that was refused, or to 0 where the image or the list itself was refused. A `done`
+ * in the image is PIX_OVERLAP, and stays as it was. Pointers and overlaps are tested for the whole
+ * list before all else. `commands` may be null where `count` is 0.
  *
- * Answers PIX_OK, PIX_BAD_SIZE, PIX_BAD_KIND, PIX_BAD_REGION, PIX_BAD_OP, PIX_BAD_SOURCE, PIX_BAD_LENGTH, PIX_NULL or
- * PIX_OVERLAP. */
+ * Returns PIX_OK, PIX_BAD_SIZE, PIX_BAD_KIND, PIX_BAD_REGION, PIX_BAD_OP, PIX_BAD_SOURCE,
+ * PIX_BAD_LENGTH, PIX_NULL or PIX_OVERLAP. */
 static inline pix_status pix_run(pix_image image, const pix_command *commands, size_t count, size_t *done);
 
-/* Runs a list of commands on a window of a picture: `window` has the pixels of the part whose upper left pixel is the
- * point (left, top) of the picture. The regions of the commands are those of the picture, and each pixel becomes what
- * pix_run would make of it on the whole picture. So pictures painted tile by tile are the picture painted whole: tiles
- * that are never in memory together, in any order, or bands of rows of one image in several threads at once.
+/* Runs a list of commands on a window of a picture. `window` has the pixels of a part of the
+ * picture, whose upper left pixel is the picture's point (left, top). The regions of the commands
+ * are those of the picture. Each pixel becomes what pix_run would make of it on the whole picture.
+ * So pictures painted tile by tile are the picture painted whole. Tiles need never be in memory
+ * together, and their order is free. Bands of rows of one image may be painted in several threads
+ * at once.
  *
- * Windows of one image that are painted at once are bands of whole rows, as wide as the image: what lies between the
- * rows of a window belongs to its call, so that columns side by side share memory. The tests of overlaps see the window
- * alone: no source, matte, list or `done` may lie in another window of the image while that is painted.
+ * Windows of one image that are painted at once must be bands of whole rows, as wide as the image.
+ * What lies between the rows of a window belongs to its call, so columns side by side share memory.
+ * The tests of overlaps see the window alone. No source, matte, list or `done` may lie in another
+ * window of the image while that is painted.
  *
- * Answers what pix_run does, and PIX_BAD_SIZE too where left + width or top + height is above 2147483647. */
+ * Returns what pix_run does, and PIX_BAD_SIZE too where left + width or top + height is above
+ * 2147483647. */
 static inline pix_status pix_run_in(pix_image window, uint32_t left, uint32_t top, const pix_command *commands,
                                     size_t count, size_t *done);
 
 /* Runs one command. */
 static inline pix_status pix_do(pix_image image, pix_command command);
 
-/* How many bytes a pixel of a format has, from 1 to 8, and 0 where there is no such format. */
+/* Returns how many bytes a pixel of a format has, from 1 to 8, and 0 where there is no such format.
+ */
 static inline size_t pix_format_size(pix_format format);
 
-/* Converts `count` pixels of the format `from` at `src` to the format `to` at `dst`. Both are bytes without padding:
- * count * pix_format_size(from) and count * pix_format_size(to) of them. They must not share memory, not even where
- * both formats are of one size. An alpha that `from` lacks is 255. One that `to` lacks is dropped, and colors that were
- * multiplied by it stay so from RGBA8P and SRGBA8P to RGB8 and SRGB8; to all others they are divided by it.
+/* Converts `count` pixels of the format `from` at `src` to the format `to` at `dst`. Both are bytes
+ * without padding: count * pix_format_size(from) and count * pix_format_size(to) of them. They must
+ * not share memory, even where both formats have one size.
  *
- * Answers PIX_OK, PIX_BAD_FORMAT, PIX_BAD_LENGTH, PIX_NULL or PIX_OVERLAP. */
+ * An alpha that `from` lacks is 255. An alpha that `to` lacks is dropped. From RGBA8P and SRGBA8P
+ * to RGB8 and SRGB8 the colors stay multiplied by it; to all other formats they are divided by it.
+ *
+ * Returns PIX_OK, PIX_BAD_FORMAT, PIX_BAD_LENGTH, PIX_NULL or PIX_OVERLAP. */
 static inline pix_status pix_convert(pix_format from, pix_format to, const void *src, void *dst, size_t count);
 
-/* Writes each pixel of `dst` from that of `src` at its point, in the format of `dst`; both have one size. Between sRGB of 8
- * bits and linear channels of 16 bits a pixel goes through light: each color is decoded by the sRGB curve to 16 bits and
- * then multiplied by the alpha, or divided and then encoded. So a picture in SRGBA8 that is taken to RGBA16P, painted on
- * and taken back is the picture it was, where nothing was painted and the alpha is 13 or more. Below that the alpha is as it
- * was, and the colors may be others: at alpha 0 they are 0. All other pairs are converted as pix_convert does: to
- * premultiply and no more, pass the formats without S, also for bytes that are sRGB. The two must not share memory.
+/* Writes each pixel of `dst` from that of `src` at its point, in the format of `dst`. Both have one
+ * size, and must not share memory.
  *
- * Answers PIX_OK, PIX_BAD_FORMAT, PIX_BAD_SIZE (dst), PIX_BAD_SOURCE (src, also where its size is another), PIX_NULL or
- * PIX_OVERLAP. */
+ * Between sRGB of 8 bits and linear channels of 16 bits a pixel goes through light. Each color is
+ * decoded by the sRGB curve to 16 bits and then multiplied by the alpha. On the way back it is
+ * divided and then encoded. So take a picture in SRGBA8 to RGBA16P, paint on it, and take it back:
+ * it is the picture it was where nothing was painted and the alpha is 13 or more. Below that the
+ * alpha is as it was, and the colors may be others. At alpha 0 they are 0.
+ *
+ * All other pairs are converted as pix_convert does. To premultiply and no more, pass the formats
+ * without S, also for bytes that are sRGB.
+ *
+ * Returns PIX_OK, PIX_BAD_FORMAT, PIX_BAD_SIZE (dst), PIX_BAD_SOURCE (src, also where its size is
+ * another), PIX_NULL or PIX_OVERLAP. */
 static inline pix_status pix_convert_bitmap(pix_bitmap_source src, pix_bitmap dst);
 
-/* Does the same in the image's own memory: its pixels are read in the image's format, and written as those of `to` at the
- * starts of the same rows. A pixel of `to` has no more bytes than one of the image's format.
+/* Does the same in the image's own memory. Its pixels are read in the image's format, and written
+ * as those of `to` at the starts of the same rows. A pixel of `to` has no more bytes than one of
+ * the image's format.
  *
- * Answers PIX_OK, PIX_BAD_FORMAT (also where a pixel of `to` is larger), PIX_BAD_SIZE or PIX_NULL. */
+ * Returns PIX_OK, PIX_BAD_FORMAT (also where a pixel of `to` is larger), PIX_BAD_SIZE or PIX_NULL.
+ */
 static inline pix_status pix_convert_in_place(pix_bitmap image, pix_format to);
 
-/* Views of rows without gaps; set `stride` afterwards where there are some. */
+/* Views of rows without gaps. Set `stride` afterwards where there are some. */
 static inline pix_bitmap pix_bitmap_of(void *pixels, uint32_t width, uint32_t height, pix_format format);
 static inline pix_bitmap_source pix_bitmap_source_of(const void *pixels, uint32_t width, uint32_t height, pix_format format);
 
@@ -386,30 +424,33 @@ static inline pix_bitmap pix_bitmap_of_image(pix_image image);
 static inline pix_bitmap pix_bitmap_of_image_rgba16(pix_image_rgba16 image);
 static inline pix_bitmap pix_bitmap_of_image_graya8(pix_image_graya8 image);
 
-/* A pixel of a format, as one to paint with: pix_color_of_rgba16(PIX_FORMAT_SRGBA8, bytes) is the light of a color of sRGB.
- * It is clear where there is no such format, or no pixel. */
+/* A pixel of a format, as one to paint with. pix_color_of_rgba16(PIX_FORMAT_SRGBA8, bytes) is the
+ * light of a color of sRGB. The result is clear where there is no such format, or no pixel. */
 static inline pix_rgba8 pix_color_of(pix_format format, const void *pixel);
 static inline pix_rgba16 pix_color_of_rgba16(pix_format format, const void *pixel);
 static inline pix_graya8 pix_color_of_graya8(pix_format format, const void *pixel);
 
-/* The part of an image that lies in a region, clipped to the image; without points where it lies outside. Its first pixel is
- * the point (0, 0) of the part: paint in coordinates of the whole image by pix_run_in. */
+/* The part of an image that lies in a region, clipped to the image. It has no points where the
+ * region lies outside. Its first pixel is the point (0, 0) of the part; to paint in coordinates of
+ * the whole image use pix_run_in. */
 static inline pix_image pix_part_of(pix_image image, pix_region region);
 static inline pix_image_rgba16 pix_part_of_rgba16(pix_image_rgba16 image, pix_region region);
 static inline pix_image_graya8 pix_part_of_graya8(pix_image_graya8 image, pix_region region);
 static inline pix_bitmap pix_part_of_bitmap(pix_bitmap image, pix_region region);
 
-/* A pattern: writes the commands that composite the region `from` of a source over all of `to`, side by side from its upper
- * left corner on and cut at its other sides, row by row. It writes the first `room` of them, and answers how many there are:
- * `commands` may be null where `room` is 0. A copy that begins past 2147483647 is in no image, and left out. */
+/* Writes a pattern: the commands that composite the region `from` of a source over all of `to`. The
+ * copies lie side by side from its upper left corner on, row by row, and are cut at its other
+ * sides. It writes the first `room` commands, and returns how many there are. `commands` may be
+ * null where `room` is 0. A copy that begins past 2147483647 is in no image, and is left out. */
 static inline uint64_t pix_repeat_image(pix_command *commands, uint64_t room, pix_region to, pix_source source,
                                         pix_region from, pix_op op);
 
 /* ---- Tables of colors, for images of indices ----
  *
- * Colors here are as files of indexed images hold them: sRGB, and not multiplied by an alpha. The bytes of pix_srgb8 are those of
- * a color table of a GIF or of the chunk PLTE of a PNG. pix_convert makes such pixels of others (PIX_FORMAT_SRGB8,
- * PIX_FORMAT_SRGBA8). All that is written must share no memory with what is read. What is refused changes nothing. */
+ * Colors here are as files of indexed images have them: sRGB, and not multiplied by an alpha. The
+ * bytes of pix_srgb8 are those of a color table of a GIF or of the chunk PLTE of a PNG. pix_convert
+ * makes such pixels from others (PIX_FORMAT_SRGB8, PIX_FORMAT_SRGBA8). What is written must share
+ * no memory with what is read. A call that is refused changes nothing. */
 
 /* A color of 8 bits a channel, and a pixel with an alpha. */
 typedef struct { uint8_t r, g, b; } pix_srgb8;
@@ -420,78 +461,97 @@ typedef struct { const pix_srgb8 *entries; size_t len; } pix_table;
 
 static inline pix_table pix_table_of(const pix_srgb8 *entries, size_t len);
 
-/* Writes the index of the entry that is nearest to a color, the first of equals: the one with the least sum of the squares of the
- * differences in red, green and blue. Answers PIX_OK, PIX_BAD_TABLE, PIX_NULL or PIX_OVERLAP. */
+/* Writes the index of the entry that is nearest to a color, the first of equals. The nearest one
+ * has the least sum of the squares of the differences in red, green and blue. Returns PIX_OK,
+ * PIX_BAD_TABLE, PIX_NULL or PIX_OVERLAP. */
 static inline pix_status pix_nearest(pix_table table, pix_srgb8 color, uint8_t *index);
 
-/* Writes the index of the nearest entry of each of `count` pixels. Answers PIX_OK, PIX_BAD_TABLE, PIX_BAD_LENGTH (more pixels
- * than an eighth of PTRDIFF_MAX), PIX_NULL or PIX_OVERLAP. */
+/* Writes the index of the nearest entry of each of `count` pixels. Returns PIX_OK, PIX_BAD_TABLE,
+ * PIX_BAD_LENGTH (more pixels than an eighth of PTRDIFF_MAX), PIX_NULL or PIX_OVERLAP. */
 static inline pix_status pix_map_indexed(pix_table table, const pix_srgb8 *pixels, size_t count, uint8_t *indices);
 
-/* The same of pixels with an alpha. One whose alpha is below `alpha` has the index `kept`, which may be that of a transparent entry;
- * of the others the alpha is not looked at. Where all pixels are below `alpha` a table of no entry serves too: it is what
- * pix_make_table_alpha makes of them. */
+/* Does the same for pixels with an alpha. One whose alpha is below `alpha` gets the index `kept`,
+ * which may be that of a transparent entry. The alpha of the others is not looked at. Where all
+ * pixels are below `alpha`, a table of no entry serves too: pix_make_table_alpha makes one of them.
+ */
 static inline pix_status pix_map_indexed_alpha(pix_table table, const pix_srgba8 *pixels, size_t count, uint8_t alpha,
                                                uint8_t kept, uint8_t *indices);
 
-/* How many colors of work memory pix_make_table takes for `count` pixels, and pix_diffuse_indexed for rows of `width` pixels; the
- * latter is SIZE_MAX where that is more than memory holds. */
+/* Return how many colors of work memory pix_make_table takes for `count` pixels, and
+ * pix_diffuse_indexed for rows of `width` pixels. The second is SIZE_MAX where that is more than
+ * memory holds. */
 static inline size_t pix_table_work(size_t count);
 static inline size_t pix_diffusion_work(size_t width);
 
-/* Writes a table of the colors of `count` pixels, of at most `len` entries, and into `made` how many it has. With no more distinct
- * colors than `len` they are the table, in order of first place. Else it is made by median cut, and what the entries past `made`
- * hold is not said. `work` has pix_table_work(count) colors; for a large picture pass a sample of its pixels. Answers PIX_OK,
- * PIX_BAD_TABLE (`len` is 0 or above 256), PIX_BAD_LENGTH, PIX_NULL or PIX_OVERLAP. */
+/* Writes a table of the colors of `count` pixels, of at most `len` entries, and writes into `made`
+ * how many it has. Where there are no more distinct colors than `len`, they are the table, in order
+ * of first place. Otherwise median cut makes it. The entries past `made` may hold anything. `work`
+ * has pix_table_work(count) colors; for a large picture pass a sample of its pixels. Returns
+ * PIX_OK, PIX_BAD_TABLE (`len` is 0 or above 256), PIX_BAD_LENGTH, PIX_NULL or PIX_OVERLAP. */
 static inline pix_status pix_make_table(const pix_srgb8 *pixels, size_t count, pix_srgb8 *work, pix_srgb8 *entries, size_t len,
                                         size_t *made);
 
-/* The same of pixels with an alpha: those whose alpha is below `alpha` do not count. Where none counts, `made` is 0. */
+/* Does the same for pixels with an alpha. Those whose alpha is below `alpha` do not count. Where
+ * none counts, `made` is 0. */
 static inline pix_status pix_make_table_alpha(const pix_srgba8 *pixels, size_t count, uint8_t alpha, pix_srgb8 *work,
                                               pix_srgb8 *entries, size_t len, size_t *made);
 
-/* Writes the index of each of `count` pixels, in rows of `width`, by error diffusion: that of the entry nearest to the pixel and
- * what it gets of the errors before it. A pixel's error is what was wanted there less the entry that was found; 7 sixteenths of it
- * go to the pixel on the right, 3 to the one below on the left, 5 to the one below, and 1 to the one below on the right (Floyd and
- * Steinberg). What would go past the sides of a row is lost. What is wanted is, in each channel, the pixel's number and the sum of
- * the sixteenths that it gets, rounded to the nearest, a half up, and kept from 0 to 255: errors are of that number, and whole.
- * `work` has pix_diffusion_work(width) colors. Answers what pix_map_indexed does; PIX_BAD_LENGTH too where `width`
- * is 0 or more than memory holds. */
+/* Writes the index of each of `count` pixels, in rows of `width`, with error diffusion (Floyd and
+ * Steinberg). It is the index of the entry that is nearest to the color that is wanted there.
+ *
+ *   - What is wanted is, in each channel, the pixel's number and its share of the errors before it.
+ *     It is rounded to the nearest, a half up, and clamped to 0 to 255.
+ *   - A pixel's error is what was wanted there less the entry that was found. It is a whole number.
+ *   - 7 sixteenths of it go to the pixel on the right, 3 to the one below on the left, 5 to the one
+ *     below, and 1 to the one below on the right. What would go past the sides of a row is lost.
+ *
+ * `work` has pix_diffusion_work(width) colors. Returns what pix_map_indexed does, and
+ * PIX_BAD_LENGTH too where `width` is 0 or more than memory holds. */
 static inline pix_status pix_diffuse_indexed(pix_table table, const pix_srgb8 *pixels, size_t count, size_t width, pix_srgb8 *work,
                                              uint8_t *indices);
 
-/* The same of pixels with an alpha: one whose alpha is below `alpha` has the index `kept`, and hands on no error. Where all are, a
- * table of no entry serves too. */
+/* Does the same for pixels with an alpha. One whose alpha is below `alpha` gets the index `kept`,
+ * and passes on no error. Where all are below, a table of no entry serves too. */
 static inline pix_status pix_diffuse_indexed_alpha(pix_table table, const pix_srgba8 *pixels, size_t count, size_t width,
                                                    uint8_t alpha, uint8_t kept, pix_srgb8 *work, uint8_t *indices);
 
-/* Sets the color of each of `count` pixels in a table, one after the other, and writes its index: that of the entry that stands for
- * it, or of the next one, which is set to the color. `entries` has room for `len` of them, and `used` is how many are used, before and
- * afterwards; so one table may serve several pictures. What stands for a color is its match, if that differs from it by no more than
- * `threshold` in each of red, green and blue: of 0 that is the color itself. The match is the last of the candidates: entry 0, and
- * each later entry that differs by no more than the candidate before it in each channel, and by less in one. Answers PIX_OK,
- * PIX_BAD_TABLE (`len` is 0 or above 256), PIX_BAD_LENGTH (too many pixels, or `used` is above `len`), PIX_FULL_TABLE where there is
- * no room for a color, PIX_NULL or PIX_OVERLAP. */
+/* Sets the color of each of `count` pixels in a table, one after the other, and writes its index.
+ * That is the index of the entry that stands for the color, or of the next entry, which is then set
+ * to the color. `entries` has room for `len` of them. `used` is how many are used, before and
+ * afterwards, so one table may serve several pictures.
+ *
+ * The entry that stands for a color is its match, if that differs from the color by no more than
+ * `threshold` in each of red, green and blue. With a threshold of 0 it is the color itself. The
+ * match is the last of the candidates: entry 0, and then each later entry that differs by no more
+ * than the candidate before it in each channel, and by less in one.
+ *
+ * Returns PIX_OK, PIX_BAD_TABLE (`len` is 0 or above 256), PIX_BAD_LENGTH (too many pixels, or
+ * `used` is above `len`), PIX_FULL_TABLE where there is no room for a color, PIX_NULL or
+ * PIX_OVERLAP. */
 static inline pix_status pix_index_pixels(pix_srgb8 *entries, size_t len, size_t *used, pix_srgb8 threshold,
                                           const pix_srgb8 *pixels, size_t count, uint8_t *indices);
 
-/* Writes the entry of each of `count` indices. The table may have no entry, or more than 256. Answers PIX_OK, PIX_BAD_INDEX where an
- * index is past the end, PIX_BAD_LENGTH, PIX_NULL or PIX_OVERLAP. */
+/* Writes the entry of each of `count` indices. The table may have no entry, or more than 256.
+ * Returns PIX_OK, PIX_BAD_INDEX where an index is past the end, PIX_BAD_LENGTH, PIX_NULL or
+ * PIX_OVERLAP. */
 static inline pix_status pix_look_up(pix_table table, const uint8_t *indices, size_t count, pix_srgb8 *pixels);
 
-/* Writes for each number below `len` how often it stands among `count` indices. Answers PIX_OK, PIX_BAD_INDEX where an index is not
- * below `len`, PIX_BAD_LENGTH, PIX_NULL or PIX_OVERLAP. */
+/* Writes for each number below `len` how often it occurs among `count` indices. Returns PIX_OK,
+ * PIX_BAD_INDEX where an index is not below `len`, PIX_BAD_LENGTH, PIX_NULL or PIX_OVERLAP. */
 static inline pix_status pix_count_indices(const uint8_t *indices, size_t count, size_t *counts, size_t len);
 
-/* How many bytes a row of `count` indices of 1, 2, 4 or 8 bits takes, and 0 for another number of bits. */
+/* Returns how many bytes a row of `count` indices of 1, 2, 4 or 8 bits takes, and 0 for another
+ * number of bits. */
 static inline size_t pix_row_size(uint32_t bits, size_t count);
 
-/* Packs a row of `count` indices into pix_row_size(bits, count) bytes, as PNG, BMP and TIFF have them: in order, those of a byte from
- * its most significant bits on, and 0 in the bits that are left over in the last byte. Answers PIX_OK, PIX_BAD_DEPTH,
- * PIX_BAD_INDEX where an index takes more bits, PIX_BAD_LENGTH, PIX_NULL or PIX_OVERLAP. */
+/* Packs a row of `count` indices into pix_row_size(bits, count) bytes, as PNG, BMP and TIFF have
+ * them. The indices of a byte begin at its most significant bits. Bits that are left over in the
+ * last byte are 0. Returns PIX_OK, PIX_BAD_DEPTH, PIX_BAD_INDEX where an index takes more bits,
+ * PIX_BAD_LENGTH, PIX_NULL or PIX_OVERLAP. */
 static inline pix_status pix_pack_row(uint32_t bits, const uint8_t *indices, size_t count, uint8_t *bytes);
 
-/* Unpacks a row of `count` indices from pix_row_size(bits, count) bytes; bits that are left over are not looked at. */
+/* Unpacks a row of `count` indices from pix_row_size(bits, count) bytes. Bits that are left over
+ * are not looked at. Returns PIX_OK, PIX_BAD_DEPTH, PIX_BAD_LENGTH, PIX_NULL or PIX_OVERLAP. */
 static inline pix_status pix_unpack_row(uint32_t bits, const uint8_t *bytes, size_t count, uint8_t *indices);
 
 /* ---- The other kinds of pixels ---- */
@@ -520,18 +580,65 @@ typedef struct {
     uint8_t alpha;
 } pix_command_graya8;
 
-/* pix_image_of_rgba16, pix_source_of_rgba16, pix_source_of_image_rgba16, pix_clear_rgba16, pix_copy_color_rgba16,
- * pix_copy_image_rgba16, pix_composite_color_rgba16, pix_composite_image_rgba16, pix_composite_matte_rgba16 and
- * pix_composite_image_matte_rgba16 (through a pix_matte16), pix_composite_image_alpha_rgba16 (at a uint16_t),
- * pix_run_rgba16, pix_run_in_rgba16, pix_do_rgba16, pix_repeat_image_rgba16; and the same with _graya8 (through a
- * pix_matte, at a uint8_t). They are defined below together with those above. */
+/* For 16 bits there are pix_image_of_rgba16, pix_source_of_rgba16, pix_source_of_image_rgba16,
+ * pix_clear_rgba16, pix_copy_color_rgba16, pix_copy_image_rgba16, pix_composite_color_rgba16,
+ * pix_composite_image_rgba16, pix_composite_matte_rgba16 and pix_composite_image_matte_rgba16
+ * (through a pix_matte16), pix_composite_image_alpha_rgba16 (at a uint16_t), pix_run_rgba16,
+ * pix_run_in_rgba16, pix_do_rgba16 and pix_repeat_image_rgba16. The same are there with _graya8
+ * (through a pix_matte, at a uint8_t). They are defined below, together with those above. */
+
+/* ---- Lists ----
+ *
+ * For programs that go over all operators, kinds of commands or formats: PIX_EACH_OP(X) stands for
+ * X(..) of each operator, in the order of their numbers, and PIX_EACH_KIND and PIX_EACH_FORMAT for
+ * the same of the kinds and the formats. A table that is made of them has a line for each, also
+ * when a later version has more:
+ *
+ *     #define TEXT_OF(NAME, WORD) #WORD,
+ *     static const char *const texts[PIX_OP_COUNT] = {PIX_EACH_OP(TEXT_OF)};
+ */
+
+/* An operator: its name behind PIX_OP_, and the word for it in scripts. */
+#define PIX_EACH_OP(X)                                                                                                 \
+    X(SRC, Src) X(DEST, Dest) X(SRC_OVER, SrcOver) X(DEST_OVER, DestOver) X(SRC_OUT, SrcOut) X(DEST_OUT, DestOut)      \
+    X(SRC_IN, SrcIn) X(DEST_IN, DestIn) X(SRC_ATOP, SrcAtop) X(DEST_ATOP, DestAtop) X(XOR, Xor) X(CLEAR, Clear)        \
+    X(PLUS, Plus)
+
+/* A kind of commands: its name behind PIX_KIND_, and that of the function that makes such a command,
+ * behind pix_. */
+#define PIX_EACH_KIND(X)                                                                                               \
+    X(CLEAR, clear) X(COPY_COLOR, copy_color) X(COPY_IMAGE, copy_image) X(COMPOSITE_COLOR, composite_color)            \
+    X(COMPOSITE_IMAGE, composite_image) X(COMPOSITE_MATTE, composite_matte)                                            \
+    X(COMPOSITE_IMAGE_MATTE, composite_image_matte) X(COMPOSITE_IMAGE_ALPHA, composite_image_alpha)
+
+/* A format: its name behind PIX_FORMAT_, and its color model. */
+#define PIX_EACH_FORMAT(X)                                                                                             \
+    X(SRGBA8, Rgb) X(SRGBA8P, Rgb) X(RGBA8, Rgb) X(RGBA8P, Rgb) X(BGRA8, Bgr) X(BGRA8P, Bgr) X(RGB8, Rgb)              \
+    X(GRAY8, Gray) X(SBGRA8, Bgr) X(SBGRA8P, Bgr) X(SRGB8, Rgb) X(SGRAY8, Gray) X(RGBA16, Rgb) X(RGBA16P, Rgb)         \
+    X(RGB16, Rgb) X(BGRA16, Bgr) X(BGRA16P, Bgr) X(BGR16, Bgr) X(BGR8, Bgr) X(SBGR8, Bgr) X(GRAYA8, Gray)              \
+    X(GRAYA8P, Gray) X(SGRAYA8, Gray) X(SGRAYA8P, Gray) X(GRAY16, Gray) X(GRAYA16, Gray) X(GRAYA16P, Gray)             \
+    X(MATTE8, Matte) X(MATTE16, Matte) X(CMY8, Cmy) X(CMYA8, Cmy) X(CMYA8P, Cmy) X(CMY16, Cmy) X(CMYA16, Cmy)          \
+    X(CMYA16P, Cmy) X(SCMY8, Cmy) X(SCMYA8, Cmy) X(SCMYA8P, Cmy) X(HSV8, Hsv) X(HSVA8, Hsv) X(HSVA8P, Hsv)             \
+    X(HSV16, Hsv) X(HSVA16, Hsv) X(HSVA16P, Hsv) X(SHSV8, Hsv) X(SHSVA8, Hsv) X(SHSVA8P, Hsv) X(HSL8, Hsl)             \
+    X(HSLA8, Hsl) X(HSLA8P, Hsl) X(HSL16, Hsl) X(HSLA16, Hsl) X(HSLA16P, Hsl) X(SHSL8, Hsl) X(SHSLA8, Hsl)             \
+    X(SHSLA8P, Hsl) X(HWB8, Hwb) X(HWBA8, Hwb) X(HWBA8P, Hwb) X(HWB16, Hwb) X(HWBA16, Hwb) X(HWBA16P, Hwb)             \
+    X(SHWB8, Hwb) X(SHWBA8, Hwb) X(SHWBA8P, Hwb) X(YCBCR8, YCbCr) X(YCBCRA8, YCbCr) X(YCBCRA8P, YCbCr)                 \
+    X(YCBCR16, YCbCr) X(YCBCRA16, YCbCr) X(YCBCRA16P, YCbCr) X(XYZ8, Xyz) X(XYZA8, Xyz) X(XYZA8P, Xyz) X(XYZ16, Xyz)   \
+    X(XYZA16, Xyz) X(XYZA16P, Xyz) X(SRGBX8, Rgb) X(SBGRX8, Bgr) X(RGBX8, Rgb) X(BGRX8, Bgr)
+
+/* How many there are. A number from there on is refused. */
+#define PIX_OP_COUNT (0 PIX_EACH_OP(PIX_ONE_))
+#define PIX_KIND_COUNT (0 PIX_EACH_KIND(PIX_ONE_))
+#define PIX_FORMAT_COUNT (0 PIX_EACH_FORMAT(PIX_ONE_))
+#define PIX_ONE_(NAME, MORE) +1
 
 /* ---- What libpix_c.a has ----
  *
- * The functions above go through these, which are proved. They test sizes, kinds, regions, operators, sources,
- * formats, lengths, tables, indices and depths. Here no pointer may be null or badly aligned, also where its length is 0, and those in commands
- * of other kinds neither; and the image, `done` and `dst` may share memory with nothing else that is passed. Lengths
- * are counted in elements. `stride` is at least the width, and 0 doesn't stand for it. */
+ * The functions above call these, which are proved. They test sizes, kinds, regions, operators,
+ * sources, formats, lengths, tables, indices and depths. Here no pointer may be null or badly
+ * aligned, even where its length is 0, and even in commands of kinds that do not use it. The image,
+ * `done` and `dst` may share memory with nothing else that is passed. Lengths are counted in
+ * elements. `stride` is at least the width, and 0 does not stand for it. */
 
 uint32_t pix_run_commands(pix_rgba8 *pixels, size_t pixel_count, uint32_t width, uint32_t height, uint32_t stride,
                           const pix_command *commands, size_t command_count, size_t *done);
@@ -553,9 +660,9 @@ uint32_t pix_run_window_graya8(pix_graya8 *pixels, size_t pixel_count, uint32_t 
 uint32_t pix_convert_bytes(uint32_t from, uint32_t to, const uint8_t *src, size_t src_len, uint8_t *dst, size_t dst_len,
                            size_t count);
 
-/* Bitmaps: `src` and `dst` begin with the row that lies lowest in memory, and have the bytes up to the end of the one that lies
- * highest. Strides are counted in bytes; 0 doesn't stand for the width, and a negative one says that the first row in memory is
- * the bottom one. */
+/* Bitmaps: `src` and `dst` begin with the row that is lowest in memory, and have the bytes up to
+ * the end of the row that is highest. Strides are counted in bytes, and 0 does not stand for the
+ * width. A negative stride says that the first row in memory is the bottom one. */
 uint32_t pix_convert_rows(uint32_t from, uint32_t to, const uint8_t *src, size_t src_len, uint8_t *dst, size_t dst_len,
                           int64_t src_stride, int64_t dst_stride, uint32_t width, uint32_t height);
 uint32_t pix_pixel_size(uint32_t format);
@@ -581,12 +688,13 @@ uint32_t pix_table_count(const uint8_t *indices, size_t index_count, size_t *cou
 uint32_t pix_table_pack(uint32_t bits, const uint8_t *indices, size_t index_count, uint8_t *bytes, size_t byte_count);
 uint32_t pix_table_unpack(uint32_t bits, const uint8_t *bytes, size_t byte_count, uint8_t *indices, size_t index_count);
 
-/* Fact number `index` of the library: first its version, and then the sizes and offsets of PIX_FACTS_ in bytes, in that
- * order. UINT32_MAX where there are no more. */
+/* Fact number `index` of the library. The first is its version; the sizes and offsets of PIX_FACTS_
+ * in bytes follow, in that order. Past the last one it is UINT32_MAX. */
 uint32_t pix_layout(size_t index);
 
-/* The version of the binary interface: another one where a call, a number or a layout changes, so that a program that was
- * compiled with an older header can't run. It is the number in the soname, libpix.so.1, and pix_layout(0) answers it. */
+/* The version of the binary interface. It changes where a call, a number or a layout changes; a
+ * program that was compiled with an older header then does not run. It is the number in the soname,
+ * libpix.so.1, and pix_layout(0) returns it. */
 #define PIX_ABI_VERSION 1
 
 /* ---- Definitions. Nothing below is for callers. ---- */
@@ -608,7 +716,8 @@ PIX_ASSERT_(srgba8, sizeof(pix_srgba8) == 4 && offsetof(pix_srgba8, g) == 1 && o
 PIX_ASSERT_(graya8, sizeof(pix_graya8) == 2 && offsetof(pix_graya8, a) == 1);
 PIX_ASSERT_(region, sizeof(pix_region) == 16 && offsetof(pix_region, width) == 8);
 
-/* The next multiple of a pointer's size, and the offset of word number `n` after the color of a command. */
+/* The next multiple of a pointer's size, and the offset of word number `n` after the color of a
+ * command. */
 #define PIX_ROUND_(n) (((n) + sizeof(void *) - 1) / sizeof(void *) * sizeof(void *))
 #define PIX_WORD_(n, PIXEL) (PIX_ROUND_(40 + sizeof(PIXEL)) + (n) * sizeof(void *))
 #define PIX_LAYOUT_(command, PIXEL)                                                                                    \
@@ -633,7 +742,7 @@ PIX_LAYOUT_(pix_command, pix_rgba8);
 PIX_LAYOUT_(pix_command_rgba16, pix_rgba16);
 PIX_LAYOUT_(pix_command_graya8, pix_graya8);
 
-/* What pix_layout answers, from 0 on. */
+/* What pix_layout returns, from 0 on. */
 #define PIX_COMMAND_FACTS_(command)                                                                                    \
     sizeof(command), offsetof(command, kind), offsetof(command, op), offsetof(command, to), offsetof(command, from),   \
         offsetof(command, color), offsetof(command, pixels), offsetof(command, pixel_count),                           \
@@ -658,8 +767,8 @@ static inline pix_status pix_check_library(void) {
 /* An address for slices of no elements, aligned for every type above. It is never read. */
 static const uint64_t pix_nothing_ = 0;
 
-/* How many elements an image has from its first to its last one; 0 where no memory could hold them, and then the
- * library refuses the size. */
+/* How many elements an image has from its first to its last one. It is 0 where no memory could hold
+ * them, and then the library refuses the size. */
 static inline size_t pix_extent_(uint32_t width, uint32_t height, uint32_t stride, size_t element) {
     uint64_t extent = height == 0 ? 0 : (uint64_t)(height - 1) * stride + width;
     return extent <= (uint64_t)PTRDIFF_MAX / element ? (size_t)extent : 0;
@@ -716,7 +825,8 @@ static inline const char *pix_status_text(pix_status status) {
     if (matte.values || command.matte_count)                                                                           \
         command.mattes = matte.values
 
-/* The views and commands of one kind of pixels: the end of their names, the pixel, the matte and its values. */
+/* The views and commands of one kind of pixels: the end of their names, the pixel, the matte and its
+ * values. */
 #define PIX_COMMANDS_(S, PIXEL, MATTE, VALUE)                                                                          \
     static inline pix_image##S pix_image_of##S(PIXEL *pixels, uint32_t width, uint32_t height) {                       \
         pix_image##S image = {pixels, width, height, width};                                                           \
@@ -884,8 +994,8 @@ static inline pix_bitmap_source pix_bitmap_source_of_bitmap(pix_bitmap image) {
     return source;
 }
 
-/* The bytes of a bitmap: from the row that lies lowest in memory to the end of the one that lies highest. `length` is 0 where no
- * memory could hold them, and then the library refuses the size. */
+/* The bytes of a bitmap, from the row that is lowest in memory to the end of the row that is
+ * highest. `length` is 0 where no memory could hold them, and then the library refuses the size. */
 typedef struct { const uint8_t *lowest; size_t length; int64_t stride; } pix_bytes_;
 
 static inline pix_bytes_ pix_bytes_of_(pix_bitmap_source image) {

@@ -2,20 +2,13 @@
  *
  *     pixman [LISTS [SEED]]
  *
- * Pixman knows pixels of 8 bits a channel and the same thirteen operators. All bytes of the image are compared after
+ * Pixman knows pixels of 8 bits a channel and the same operators. All bytes of the image are compared after
  * each list, those between its rows too. LISTS is 20000 and SEED 1 where they aren't given. */
-#include "pix.h"
-#include <pixman.h>
+#include "pixman_ops.h"
 #include <stdio.h>
 #include <stdlib.h>
 
 enum { WIDE = 48, HIGH = 20, APART = 52, SOURCES = 3, COMMANDS = 12 };
-
-static const pixman_op_t operators[] = {
-    PIXMAN_OP_SRC, PIXMAN_OP_DST, PIXMAN_OP_OVER, PIXMAN_OP_OVER_REVERSE, PIXMAN_OP_OUT, PIXMAN_OP_OUT_REVERSE,
-    PIXMAN_OP_IN, PIXMAN_OP_IN_REVERSE, PIXMAN_OP_ATOP, PIXMAN_OP_ATOP_REVERSE, PIXMAN_OP_XOR, PIXMAN_OP_CLEAR,
-    PIXMAN_OP_ADD,
-};
 
 static uint64_t state;
 
@@ -143,49 +136,54 @@ static pixman_image_t *solid(pix_rgba8 color) {
 
 /* Makes a random command, and does the same by pixman. */
 static pix_command next(void) {
-    enum { CLEAR = 0, COPY_COLOR = 1, COPY = 3, COLOR = 6, IMAGE = 9, MATTE = 12, MASKED = 15 };
     const pix_region to = region(), from = region(), mask_from = region(), whole = pix_region_of(0, 0, WIDE, HIGH);
     const pix_rgba8 color = pixel();
-    const uint32_t which = below(SOURCES), through = below(SOURCES), op = below(13), kind = below(19);
+    const uint32_t which = below(SOURCES), through = below(SOURCES), op = below(PIX_OP_COUNT);
+    const pix_kind kind = (pix_kind)(below(12) ? 1 + below(PIX_KIND_COUNT - 1) : PIX_KIND_CLEAR);
     pix_source source = pix_source_of(sources[which], WIDE, HIGH);
     pix_matte matte = pix_matte_of(mattes[which], WIDE, HIGH), cover = pix_matte_of(mattes[through], WIDE, HIGH);
     uint32_t opacity = byte();
     pixman_image_t *plain = solid(color), *src = words(copies[which]);
-    pixman_image_t *mask = pixman_image_create_bits(PIXMAN_a8, WIDE, HIGH, masks[which], APART);
-    pix_command command;
+    pixman_image_t *mask = pixman_image_create_bits(PIXMAN_a8, WIDE, HIGH, masks[which], APART), *one = repeated(&opacity);
+    pixman_image_t *covers = pixman_image_create_bits(PIXMAN_a8, WIDE, HIGH, masks[through], APART);
+    pix_command command = pix_clear();
     source.stride = matte.stride = cover.stride = APART;
-    if (kind <= CLEAR) {
-        command = pix_clear();
-        composite(PIX_OP_CLEAR, plain, NULL, whole, whole, 0);
-    } else if (kind <= COPY_COLOR) {
+    switch (kind) {
+    case PIX_KIND_CLEAR: composite(PIX_OP_CLEAR, plain, NULL, whole, whole, 0); break;
+    case PIX_KIND_COPY_COLOR:
         command = pix_copy_color(to, color);
         composite(PIX_OP_SRC, plain, NULL, to, from, 0);
-    } else if (kind <= COPY) {
+        break;
+    case PIX_KIND_COPY_IMAGE:
         command = pix_copy_image(to, source, from);
         composite(PIX_OP_SRC, src, NULL, to, from, 1);
-    } else if (kind <= COLOR) {
+        break;
+    case PIX_KIND_COMPOSITE_COLOR:
         command = pix_composite_color(to, color, (pix_op)op);
         composite(op, plain, NULL, to, from, 0);
-    } else if (kind <= IMAGE) {
+        break;
+    case PIX_KIND_COMPOSITE_IMAGE:
         command = pix_composite_image(to, source, from, (pix_op)op);
         composite(op, src, NULL, to, from, 1);
-    } else if (kind <= MATTE) {
+        break;
+    case PIX_KIND_COMPOSITE_MATTE:
         command = pix_composite_matte(to, matte, from, color, (pix_op)op);
         composite(op, plain, mask, to, from, 1);
-    } else if (kind <= MASKED) {
-        pixman_image_t *covers = pixman_image_create_bits(PIXMAN_a8, WIDE, HIGH, masks[through], APART);
+        break;
+    case PIX_KIND_COMPOSITE_IMAGE_MATTE:
         command = pix_composite_image_matte(to, source, from, cover, mask_from, (pix_op)op);
         composite_masked(op, src, covers, to, from, mask_from);
-        pixman_image_unref(covers);
-    } else {
-        pixman_image_t *one = repeated(&opacity);
+        break;
+    case PIX_KIND_COMPOSITE_IMAGE_ALPHA:
         command = pix_composite_image_alpha(to, source, from, (uint8_t)opacity, (pix_op)op);
         composite(op, src, one, to, from, 1);
-        pixman_image_unref(one);
+        break;
     }
     pixman_image_unref(plain);
     pixman_image_unref(src);
     pixman_image_unref(mask);
+    pixman_image_unref(one);
+    pixman_image_unref(covers);
     return command;
 }
 

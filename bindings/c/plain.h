@@ -25,7 +25,7 @@ typedef struct {
 } plain_region;
 
 enum {
-    PLAIN_CLEAR, PLAIN_COPY_COLOR, PLAIN_COPY, PLAIN_COLOR, PLAIN_SOURCE, PLAIN_MATTE, PLAIN_MASKED, PLAIN_FADED
+    PLAIN_CLEAR, PLAIN_COPY_COLOR, PLAIN_COPY, PLAIN_COLOR, PLAIN_SOURCE, PLAIN_MATTE, PLAIN_MASKED, PLAIN_FADED, PLAIN_KINDS
 };
 
 /* A command; `source` has the pixels or the mattes that it reads, and `mask` the mattes of an image. */
@@ -39,6 +39,7 @@ typedef struct {
 /* The coefficients of the operators, by their numbers: 0, 1, the other side's alpha (a), or one minus it (m). */
 static const char plain_source_by[] = "10" "1m" "m0" "a0" "am" "m0" "1";
 static const char plain_dest_by[] = "01" "m1" "0m" "0a" "ma" "m0" "1";
+enum { PLAIN_OPERATORS = sizeof plain_source_by - 1 };
 
 static inline uint64_t plain_channel(const plain_kind *kind, const unsigned char *at, size_t channel) {
     if (kind->bytes == 1)
@@ -185,6 +186,7 @@ static const plain_format plain_formats[] = {
     {'r', 1, 0, 1}, {'r', 1, 1, 1}, {'r', 1, 0, 0}, {'r', 1, 1, 0}, {'b', 1, 0, 0}, {'b', 1, 1, 0},
     {'r', 0, 0, 0}, {'g', 0, 0, 0}, {'b', 1, 0, 1}, {'b', 1, 1, 1}, {'r', 0, 0, 1}, {'g', 0, 0, 1},
 };
+enum { PLAIN_FORMATS = sizeof plain_formats / sizeof *plain_formats };
 
 static inline size_t plain_size(const plain_format *format) {
     return (format->model == 'g' ? 1 : 3) + (size_t)format->has_alpha;

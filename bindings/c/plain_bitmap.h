@@ -7,7 +7,7 @@
 
 enum { PLAIN_STORED = 81 };
 
-/* A format: its model (r, b for the reverse order, g for gray, m for a matte, c for CMY, v for HSV, l for HSL, w for HWB, y for
+/* A format: its model (r for RGB, b for BGR, g for gray, m for a matte, c for CMY, v for HSV, l for HSL, w for HWB, y for
  * YCbCr, x for XYZ, and 0 where there is no such format), whether it has an alpha, whether colors are multiplied by it and
  * encoded by the sRGB curve, whether channels have 16 bits, and whether a byte follows that says nothing. */
 typedef struct {
@@ -31,13 +31,13 @@ static inline plain_stored plain_stored_of(uint32_t number) {
         {'r', 0, 0, 1, 0, 1}, {'b', 0, 0, 1, 0, 1}, {'r', 0, 0, 0, 0, 1}, {'b', 0, 0, 0, 0, 1},
     };
     plain_stored it = {0, 0, 0, 0, 0, 0};
-    if (number < 12) {
+    if (number < PLAIN_FORMATS) {
         const plain_format *buffer = &plain_formats[number];
         plain_stored same = {buffer->model, buffer->has_alpha, buffer->is_premultiplied, buffer->is_srgb, 0, 0};
         return same;
     }
     if (number < 29)
-        return common[number - 12];
+        return common[number - PLAIN_FORMATS];
     if (number < 77) { /* four models of nine formats, and two of six, which have none in sRGB */
         it = number < 65 ? nine[(number - 29) % 9] : nine[(number - 65) % 6];
         it.model = number < 65 ? "cvlw"[(number - 29) / 9] : "yx"[(number - 65) / 6];

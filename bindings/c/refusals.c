@@ -88,9 +88,9 @@ static void commands(void) {
     CHECK(is_refused(pix_composite_image_matte(whole, source, whole, matte, pix_region_of(0, 0, 1, LONG), PIX_OP_SRC),
                      PIX_BAD_REGION));
     CHECK(is_refused(pix_composite_image_alpha(whole, source, pix_region_of(0, 0, LONG, 1), 9, PIX_OP_SRC), PIX_BAD_REGION));
-    CHECK(is_refused(pix_composite_color(whole, color, (pix_op)13), PIX_BAD_OP));
-    CHECK(is_refused(pix_composite_image(whole, source, whole, (pix_op)15), PIX_BAD_OP));
-    CHECK(is_refused(pix_composite_matte(whole, matte, whole, color, (pix_op)14), PIX_BAD_OP));
+    CHECK(is_refused(pix_composite_color(whole, color, (pix_op)PIX_OP_COUNT), PIX_BAD_OP));
+    CHECK(is_refused(pix_composite_image(whole, source, whole, (pix_op)(PIX_OP_COUNT + 2)), PIX_BAD_OP));
+    CHECK(is_refused(pix_composite_matte(whole, matte, whole, color, (pix_op)(PIX_OP_COUNT + 1)), PIX_BAD_OP));
 }
 
 /* Whether a source of this size is refused so by a copy and a composite, and a matte too. */
@@ -164,7 +164,7 @@ static void windows(void) {
     CHECK(pix_run_in(pix_image_of(NULL, 0, 0), 2147483647, 2147483647, NULL, 0, &done) == PIX_OK && done == 0);
     CHECK(pix_run_in(pix_image_of(NULL, 1, 1), 0, 0, NULL, 0, &done) == PIX_NULL && done == 0);
     list[0] = pix_copy_color(first, color);
-    list[1] = pix_composite_color(first, color, (pix_op)13);
+    list[1] = pix_composite_color(first, color, (pix_op)PIX_OP_COUNT);
     CHECK(pix_run_in(pix_image_of(pixels, SIDE, SIDE), 2147483643, 0, list, 2, &done) == PIX_BAD_OP && done == 1);
     list[1] = pix_copy_image(first, pix_source_of(pixels, 1, 1), first);
     CHECK(pix_run_in(pix_image_of(pixels, SIDE, SIDE), 2147483643, 0, list, 2, &done) == PIX_OVERLAP && done == 1);
@@ -236,18 +236,33 @@ static void strides(void) {
 static unsigned times(unsigned a, unsigned b) { return (2 * a * b + 255) / 510; }
 
 /* Each operator on one channel, by its two terms. */
-static unsigned composite(int op, unsigned s, unsigned d, unsigned sa, unsigned da) {
-    const unsigned source[13] = {255, 0, 255, 255 - da, 255 - da, 0, da, 0, da, 255 - da, 255 - da, 0, 255};
-    const unsigned dest[13] = {0, 255, 255 - sa, 255, 0, 255 - sa, 0, sa, 255 - sa, sa, 255 - sa, 0, 255};
-    unsigned sum = times(s, source[op]) + times(d, dest[op]);
+static unsigned composite(pix_op op, unsigned s, unsigned d, unsigned sa, unsigned da) {
+    unsigned source = 0, dest = 0, sum;
+    switch (op) {
+    case PIX_OP_SRC: source = 255; break;
+    case PIX_OP_DEST: dest = 255; break;
+    case PIX_OP_SRC_OVER: source = 255, dest = 255 - sa; break;
+    case PIX_OP_DEST_OVER: source = 255 - da, dest = 255; break;
+    case PIX_OP_SRC_OUT: source = 255 - da; break;
+    case PIX_OP_DEST_OUT: dest = 255 - sa; break;
+    case PIX_OP_SRC_IN: source = da; break;
+    case PIX_OP_DEST_IN: dest = sa; break;
+    case PIX_OP_SRC_ATOP: source = da, dest = 255 - sa; break;
+    case PIX_OP_DEST_ATOP: source = 255 - da, dest = sa; break;
+    case PIX_OP_XOR: source = 255 - da, dest = 255 - sa; break;
+    case PIX_OP_CLEAR: break;
+    case PIX_OP_PLUS: source = 255, dest = 255; break;
+    }
+    sum = times(s, source) + times(d, dest);
     return sum < 255 ? sum : 255;
 }
 
 static void operators(void) {
     const pix_region one = pix_region_of(1, 1, 1, 1);
-    for (int op = 0; op < 13; op++) {
+    for (int i = 0; i < PIX_OP_COUNT; i++) {
+        const pix_op op = (pix_op)i;
         pix_rgba8 s = pix_rgba8_of(90, 17, 0, 130), d = pixels[SIDE + 1];
-        CHECK(pix_do(pix_image_of(pixels, SIDE, SIDE), pix_composite_color(one, s, (pix_op)op)) == PIX_OK);
+        CHECK(pix_do(pix_image_of(pixels, SIDE, SIDE), pix_composite_color(one, s, op)) == PIX_OK);
         CHECK(pixels[SIDE + 1].r == composite(op, s.r, d.r, s.a, d.a));
         CHECK(pixels[SIDE + 1].g == composite(op, s.g, d.g, s.a, d.a));
         CHECK(pixels[SIDE + 1].b == composite(op, s.b, d.b, s.a, d.a));
@@ -302,7 +317,7 @@ static void wide_pixels(void) {
     CHECK(image[0].r == 65535 && image[0].g == 0 && image[0].a == 65535);
     CHECK(image[1].r == 1000 && image[1].b == 3000 && image[3].g == 2000);
     CHECK(image[2].r == 32768 + 500 && image[2].g == 1000 && image[2].b == 1500 && image[2].a == 65535);
-    list[2] = pix_composite_image_rgba16(whole, pix_source_of_rgba16(source, 2, 2), whole, (pix_op)13);
+    list[2] = pix_composite_image_rgba16(whole, pix_source_of_rgba16(source, 2, 2), whole, (pix_op)PIX_OP_COUNT);
     CHECK(pix_run_rgba16(pix_image_of_rgba16(image, 2, 2), list, 3, &done) == PIX_BAD_OP && done == 2);
     CHECK(image[1].r == 1000);
     list[2].pixels = image;

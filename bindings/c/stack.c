@@ -1,14 +1,14 @@
 /* How much stack each call needs: each runs in a thread of the stack that pix.h says, in a process of its own, since a
  * thread that needs more ends its process. With the word `least` the least stack of each is looked for, and printed. */
 #define _DEFAULT_SOURCE
-#include "pix.h"
+#include "each.h"
 #include <pthread.h>
 #include <stdio.h>
 #include <string.h>
 #include <sys/wait.h>
 #include <unistd.h>
 
-enum { SIDE = 96, COUNT = SIDE * SIDE, ENTRIES = 256, OPERATORS = 13, FORMATS = 81 };
+enum { SIDE = 96, COUNT = SIDE * SIDE, ENTRIES = 256, OPERATORS = PIX_OP_COUNT, KINDS = PIX_KIND_COUNT, FORMATS = PIX_FORMAT_COUNT };
 
 static pix_rgba8 pixels[COUNT], source[COUNT];
 static pix_rgba16 pixels_rgba16[COUNT], source_rgba16[COUNT];
@@ -52,19 +52,13 @@ static void fill(void) {
         pix_status status = PIX_OK;                                                                                    \
         for (int i = 0; i < OPERATORS && status == PIX_OK; i++) {                                                      \
             const pix_op op = (pix_op)i;                                                                               \
-            pix_command##S list[8];                                                                                    \
-            list[0] = pix_clear##S();                                                                                  \
-            list[1] = pix_copy_color##S(whole, source##S[i]);                                                          \
-            list[2] = pix_copy_image##S(whole, from, whole);                                                           \
-            list[3] = pix_composite_color##S(whole, source##S[0], op);                                                 \
-            list[4] = pix_composite_image##S(whole, from, whole, op);                                                  \
-            list[5] = pix_composite_matte##S(whole, mask, whole, source##S[0], op);                                    \
-            list[6] = pix_composite_image_matte##S(whole, from, whole, mask, whole, op);                               \
-            list[7] = pix_composite_image_alpha##S(whole, from, whole, 99, op);                                        \
-            status = pix_run##S(image, list, 8, NULL);                                                                 \
+            pix_command##S list[KINDS];                                                                                \
+            for (int k = 0; k < KINDS; k++)                                                                            \
+                list[k] = command_of##S((pix_kind)k, whole, from, whole, mask, whole, source##S[i], 99, op);           \
+            status = pix_run##S(image, list, KINDS, NULL);                                                             \
             if (status == PIX_OK)                                                                                      \
-                status = pix_run_in##S(image, 7, 9, list, 8, NULL);                                                    \
-            for (int k = 0; k < 8 && status == PIX_OK; k++)                                                            \
+                status = pix_run_in##S(image, 7, 9, list, KINDS, NULL);                                                \
+            for (int k = 0; k < KINDS && status == PIX_OK; k++)                                                        \
                 status = pix_do##S(image, list[k]);                                                                    \
         }                                                                                                              \
         return status;                                                                                                 \

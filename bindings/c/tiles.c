@@ -5,7 +5,7 @@
  *     tiles [LISTS]
  *
  * LISTS is 3000 where it isn't given. */
-#include "pix.h"
+#include "each.h"
 #include <stdio.h>
 #include <stdlib.h>
 
@@ -55,19 +55,16 @@ static pix_command command(uint32_t width, uint32_t height) {
     pix_region to = pix_region_of(coordinate(), coordinate(), side(), side());
     pix_region from = pix_region_of(coordinate(), coordinate(), side(), side());
     pix_source image = pix_source_of(source, width, height);
-    pix_op op = (pix_op)below(13);
+    pix_matte matte = pix_matte_of(values, width, height);
+    pix_region mask_from = pix_region_of(coordinate(), coordinate(), side(), side());
+    pix_kind kind = (pix_kind)(below(12) ? 1 + below(PIX_KIND_COUNT - 1) : PIX_KIND_CLEAR);
     if (!below(3)) {
         from.x = to.x;
         from.y = to.y;
     }
-    switch (below(12)) {
-    case 0: return pix_clear();
-    case 1: return pix_copy_color(to, color());
-    case 2: case 3: return pix_copy_image(to, image, from);
-    case 4: case 5: return pix_composite_color(to, color(), op);
-    case 6: case 7: case 8: return pix_composite_image(to, image, from, op);
-    default: return pix_composite_matte(to, pix_matte_of(values, width, height), from, color(), op);
-    }
+    if (!below(2))
+        mask_from = from;
+    return command_of(kind, to, image, from, matte, mask_from, color(), (uint8_t)below(256), (pix_op)below(PIX_OP_COUNT));
 }
 
 /* ---- Tiles ---- */

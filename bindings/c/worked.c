@@ -126,12 +126,12 @@ static void what_is_refused(void) {
         uint32_t width, height, stride;
         pix_status status;
     } table[] = {
-        {"kind 8", 8, 2, 1, 1, 1, 0, 0, 1, 1, 1, PIX_BAD_KIND},
+        {"no kind", PIX_KIND_COUNT, 2, 1, 1, 1, 0, 0, 1, 1, 1, PIX_BAD_KIND},
         {"the greatest kind", UINT32_MAX, 2, 1, 1, 1, 0, 0, 1, 1, 1, PIX_BAD_KIND},
         {"a wide region", 1, 2, 2147483648, 1, 1, 0, 0, 1, 1, 1, PIX_BAD_REGION},
         {"a high region that is not read", 1, 2, 1, 1, UINT32_MAX, 0, 0, 1, 1, 1, PIX_BAD_REGION},
-        {"a high region and no operator", 1, 13, 1, 2147483648, 1, 0, 0, 1, 1, 1, PIX_BAD_REGION},
-        {"no operator", 1, 13, 1, 1, 1, 0, 0, 1, 1, 1, PIX_BAD_OP},
+        {"a high region and no operator", 1, PIX_OP_COUNT, 1, 2147483648, 1, 0, 0, 1, 1, 1, PIX_BAD_REGION},
+        {"no operator", 1, PIX_OP_COUNT, 1, 1, 1, 0, 0, 1, 1, 1, PIX_BAD_OP},
         {"a copy without pixels", 2, 2, 1, 1, 1, 0, 1, 1, 1, 1, PIX_BAD_SOURCE},
         {"a composite without pixels", 4, 2, 1, 1, 1, 0, 1, 1, 1, 1, PIX_BAD_SOURCE},
         {"a composite without mattes", 5, 2, 1, 1, 1, 1, 0, 1, 1, 1, PIX_BAD_SOURCE},

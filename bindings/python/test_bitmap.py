@@ -116,7 +116,7 @@ class Bitmaps(unittest.TestCase):
         with self.assertRaises(TypeError):
             pix.Image.from_array(memoryview(image).cast("B", (2, 2, 4)), pix.SRGB8)
         with self.assertRaises(ValueError):
-            pix.Image.from_array(memoryview(image).cast("B", (2, 2, 4)), 81)
+            pix.Image.from_array(memoryview(image).cast("B", (2, 2, 4)), len(pix.Format))
         for size in ((2**31, 1), (1, 2**31)):
             with self.assertRaises(PixError) as refused:
                 pix.convert_bitmap(pix.SRGBA8, picture, pix.SRGBA8, image, size)

@@ -27,6 +27,7 @@ WHOLE = (0, 0, 4, 4)
 COLOR = (9, 9, 9, 9)
 # the formats of convert()
 TWELVE = list(pix.Format)[:12]
+NO_OPERATOR = len(pix.Op)
 
 
 def times(a, b):
@@ -60,7 +61,7 @@ class Refusals(unittest.TestCase):
 
     def test_commands(self):
         self.refused(pix.Status.BAD_KIND, pix.Command(8))
-        self.refused(pix.Status.BAD_OP, pix.composite_color(WHOLE, COLOR, 13))
+        self.refused(pix.Status.BAD_OP, pix.composite_color(WHOLE, COLOR, NO_OPERATOR))
         self.refused(pix.Status.BAD_REGION, pix.copy_color((0, 0, LONG, 1), COLOR))
         self.refused(pix.Status.BAD_REGION, pix.copy_image(WHOLE, self.other, (0, 0, 1, LONG)))
         for width, height, stride in ((LONG, 0, None), (0, LONG, None), (4, 5, None), (4, 4, 3), (4, 4, 5)):
@@ -79,7 +80,7 @@ class Refusals(unittest.TestCase):
         for origin in ((0.5, 0), 3, None):
             self.assertRaises(TypeError, self.image.run, far, origin=origin)
         with self.assertRaises(pix.PixError) as caught:
-            self.image.run(far, pix.composite_color(WHOLE, COLOR, 13), origin=(LONG - 5, 0))
+            self.image.run(far, pix.composite_color(WHOLE, COLOR, NO_OPERATOR), origin=(LONG - 5, 0))
         self.assertEqual((caught.exception.status, caught.exception.index), (pix.Status.BAD_OP, 1))
         last = pix.Image.new(4, 4)
         last.run(far, origin=[LONG - 5, 0])
@@ -102,7 +103,7 @@ class Refusals(unittest.TestCase):
 
     def test_prepared_lists(self):
         good = pix.copy_color(WHOLE, COLOR)
-        for bad, status in ((pix.Command(99), pix.Status.BAD_KIND), (pix.composite_color(WHOLE, COLOR, 13), pix.Status.BAD_OP)):
+        for bad, status in ((pix.Command(99), pix.Status.BAD_KIND), (pix.composite_color(WHOLE, COLOR, NO_OPERATOR), pix.Status.BAD_OP)):
             with self.assertRaises(pix.PixError) as caught:
                 pix.CommandList(good, bad)
             self.assertEqual((caught.exception.status, caught.exception.index), (status, 1))
@@ -546,12 +547,16 @@ class Paintings(unittest.TestCase):
         source, dest = (90, 17, 0, 130), (5, 20, 30, 200)
         sa, da = source[3], dest[3]
         na, nb = 255 - sa, 255 - da
-        by_source = (255, 0, 255, nb, nb, 0, da, 0, da, nb, nb, 0, 255)
-        by_dest = (0, 255, na, 255, 0, na, 0, sa, na, sa, na, 0, 255)
+        terms = {
+            "SRC": (255, 0), "DEST": (0, 255), "SRC_OVER": (255, na), "DEST_OVER": (nb, 255), "SRC_OUT": (nb, 0),
+            "DEST_OUT": (0, na), "SRC_IN": (da, 0), "DEST_IN": (0, sa), "SRC_ATOP": (da, na), "DEST_ATOP": (nb, sa),
+            "XOR": (nb, na), "CLEAR": (0, 0), "PLUS": (255, 255),
+        }  # fmt: skip
         for op in pix.Op:
+            by_source, by_dest = terms[op.name]
             image = pix.Image(bytearray(dest), 1, 1)
             image.run(pix.composite_color((0, 0, 1, 1), source, op))
-            expected = [min(255, times(s, by_source[op]) + times(d, by_dest[op])) for s, d in zip(source, dest)]
+            expected = [min(255, times(s, by_source) + times(d, by_dest)) for s, d in zip(source, dest)]
             self.assertEqual(list(image.pixels), expected, op)
 
     def test_masks_and_opacities(self):

@@ -39,15 +39,17 @@ memory once, and pinned as long as a view of it lives: a bytearray can't be resi
 interpreter's lock go, so that two threads work at once; a call that needs memory which another one is writing waits for
 it. The handler of a signal may paint, and an interrupt leaves nothing behind.
 
-What is left to the program is to keep other code from the buffers of a call in another thread: assignments to a
-bytearray, and memory that has two addresses, such as a file that is mapped twice, which no test of overlaps sees. Where
-it does not, pixels come out wrong, and nothing else is touched. Memory must not move or end under a view: ctypes.resize()
-and numpy's resize(refcheck=False) move it although it is pinned, and a file that is mapped must not be made shorter.
+Your program has to keep other code from the buffers of a call in another thread. Such code assigns to a bytearray, or
+uses memory that has two addresses, such as a file that is mapped twice; no test of overlaps sees that. Otherwise pixels
+come out wrong, and nothing else is touched. Memory must not move or end under a view. ctypes.resize() and numpy's
+resize(refcheck=False) move it although it is pinned. A file that is mapped must not be made shorter.
 
-The shared object libpix_c.so is looked for at the path PIX_LIBRARY of the environment, and else in the folder of this
-package and in the one above; on a processor of x86-64-v3, libpix_c-v3.so of this package comes first, which a release
-has. Needs CPython 3.8 on Linux, on a processor of x86-64 with SSE4.1 or of aarch64; an import on another one, or over
-a library of another version or layout, raises ImportError.
+The package looks for the shared object libpix_c.so at the path PIX_LIBRARY of the environment. Without it, it looks in
+its own folder and in the one above. On a processor of x86-64-v3, libpix_c-v3.so of this package comes first, which a
+release has. It needs CPython 3.8 on Linux, on a processor of x86-64 with SSE4.1 or of aarch64. An import on another one,
+or over a library of another version or layout, raises ImportError.
+
+docs/PROMISES.md of the repository lists all calls in four languages, and what is proved of each.
 """
 
 from pix._bitmap import convert_bitmap

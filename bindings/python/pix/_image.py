@@ -121,9 +121,10 @@ class Image(View):
         return opened(file, white, lambda width, height: cls.new(width, height, kind))
 
     def save(self, file: Any, format: Optional[str] = None, **options: Any) -> None:
-        """Writes the picture into a file, given by its path or open for writing bytes, of the kind
-        that its name ends in, or that `format` names as Pillow does: .png, .ppm and .pgm, and with
-        Pillow all that it writes, with its options.
+        """Writes the picture into a file, which is a path or is open for writing bytes.
+
+        The kind of file is what its name ends in, or what `format` names as Pillow does: .png, .ppm
+        and .pgm, and with Pillow all that it writes, with its options.
 
         Its colors are sRGB of 8 bits. Where all pixels are opaque, no alpha is written.
 
@@ -206,15 +207,15 @@ class Image(View):
         Where an `origin` is given, this image is a window of a picture: its first pixel is the
         point (left, top) of the picture, and the regions of the commands are those of the picture.
         Each pixel becomes what a run on the whole picture would make of it. So pictures painted
-        tile by tile are the picture painted whole, in any order: tiles that are never in memory
-        together, or bands of rows of one buffer, each an image of its own over a slice of a
-        memoryview or an array, by several threads at once. Windows side by side in one buffer
-        share the memory between their rows, and wait for each other.
+        tile by tile are the picture painted whole, in any order. Tiles may never be in memory
+        together. Several threads may paint bands of rows of one buffer at once, each an image of
+        its own over a slice of a memoryview or an array. Windows side by side in one buffer share
+        the memory between their rows, and wait for each other.
 
-        Raises PixError where the library refuses one, or where the window ends past 2147483647;
-        TypeError where the buffer is read-only, where something is no Command, or where a source
-        has another type of pixels; ValueError where a source or a matte shares memory with this
-        image, or where a color is none of its type.
+        Raises PixError where the library refuses one, or where the window ends past 2147483647.
+        Raises TypeError where the buffer is read-only, where something is no Command, or where a
+        source has another type of pixels. Raises ValueError where a source or a matte shares
+        memory with this image, or where a color is none of its type.
         """
         memory, _, count, width, height, stride, type = self._rows
         left, top = origin_of(origin)

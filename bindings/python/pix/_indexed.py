@@ -169,9 +169,9 @@ def diffuse_indexed(
 ) -> Any:
     """Does what `map_indexed` does, for a picture of rows of `width` pixels, by error diffusion.
 
-    What a pixel's entry leaves of the color that was wanted there is handed on: 7 sixteenths to the pixel on the right, 3 to the
+    What a pixel's entry leaves of the color that was wanted there is passed on. 7 sixteenths go to the pixel on the right, 3 to the
     one below on the left, 5 to the one below, and 1 to the one below on the right (Floyd and Steinberg). What is wanted is a whole
-    number in each channel: a half is rounded up, and it is kept from 0 to 255. A pixel whose alpha is below `alpha` hands on none.
+    number in each channel: a half is rounded up, and it is kept from 0 to 255. A pixel whose alpha is below `alpha` passes on none.
 
     Raises PixError where the table, the width or the lengths don't fit, and leaves `indices` as they were.
     """

@@ -92,8 +92,8 @@ def composite_image_alpha(
     """Composites the pixels of `from_` in another image, multiplied by an opacity, with those of
     `to`: a fade.
 
-    The opacity has three names, of which one is given: `opacity` is a fraction from 0 to 1, and
-    `alpha8` a byte from 0 to 255, for images of all kinds; `alpha` is a channel of the image: from
+    The opacity has three names, of which one is given. `opacity` is a fraction from 0 to 1, and
+    `alpha8` a byte from 0 to 255, for images of all kinds. `alpha` is a channel of the image: from
     0 to 255, or to 65535 in RGBA16. At the greatest one it is composite_image.
 
     >>> pix.composite_image_alpha((0, 0, 9, 9), pix.Image.new(9, 9, pix.RGBA16), opacity=0.5).alpha

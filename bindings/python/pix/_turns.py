@@ -1,6 +1,6 @@
 """Turns: a call that needs memory which another one is writing waits for it.
 
-Nothing here has to be undone by a line of Python, which an interrupt could leave out: a turn is as
+Nothing here has to be undone by a line of Python, which an interrupt could leave out. A turn is as
 long as a lock is held, and the interpreter itself gives a lock back at the end of its `with`.
 """
 

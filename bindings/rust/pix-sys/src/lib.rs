@@ -534,8 +534,8 @@ unsafe extern "C" {
 /// The version of the binary interface: another one where a call, a number or a layout changes.
 pub const ABI_VERSION: u32 = 1;
 
-/// What [`pix_layout`] answers, from 0 on: the version; the sizes of the three kinds of pixels and of a region, and the
-/// offsets of its fields; the size of the command of each kind, and the offsets of its fields.
+/// What [`pix_layout`] returns, from 0 on. First comes the version. Then come the sizes of the three kinds of pixels and of
+/// a region, and the offsets of its fields. Last is the size of the command of each kind, and the offsets of its fields.
 pub const FACTS: [u32; 63] = facts();
 
 const fn facts() -> [u32; 63] {

@@ -9,7 +9,7 @@ const SUN: u32 = 48;
 const LETTER: u32 = 32;
 const LETTERS: u32 = 3;
 const STEP: u32 = 14;
-const SWATCHES: Region = Region::new(0, 0, STEP * 13, 12);
+const SWATCHES: Region = Region::new(0, 0, STEP * Op::ALL.len() as u32, 12);
 
 /// As many transparent pixels as an image of this size has.
 fn blank(width: u32, height: u32) -> Vec<Rgba16> {

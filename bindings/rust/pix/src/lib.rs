@@ -29,11 +29,15 @@
 //!
 //! # What is left to a caller
 //!
-//! Borrows see to all that the library can't test, so that a program without `unsafe` has no duty. Whoever makes a slice by
-//! `unsafe`, of a file that is mapped or of memory that another process or another language has too, sees to it as for any
-//! slice: nobody else writes it while it is borrowed, nor reads it while it is borrowed to be written, by this address or
-//! by another. A call takes up to 256 KiB of stack to match pixels to a table ([`Table::map_indexed`],
-//! [`Table::diffuse_indexed`]), 32 for [`index_pixels`] and 16 for all else; threads of `std` have 2 MiB.
+//! Borrows see to all that the library can't test, so a program without `unsafe` has no duty. A program that makes a
+//! slice with `unsafe` has the duties of any slice. Such a slice may be of a mapped file, or of memory that another process
+//! or another language has too. Nothing else writes it while it is borrowed. Nothing else reads it while it is borrowed to
+//! be written. Both hold for each address of that memory.
+//!
+//! A call takes up to 256 KiB of stack to match pixels to a table ([`Table::map_indexed`], [`Table::diffuse_indexed`]). It
+//! takes 32 KiB for [`index_pixels`] and 16 for all else. Threads of `std` have 2 MiB.
+//!
+//! docs/PROMISES.md of the repository lists all calls in four languages, and what is proved of each.
 #![no_std]
 
 mod bitmap;

@@ -128,7 +128,7 @@ impl<'a> Table<'a> {
     }
 
     /// Sets the index of each pixel of rows of `width` by error diffusion: to that of the entry that is nearest to the pixel and
-    /// what it gets of the errors before it. An error is what was wanted less the entry that was found: 7 sixteenths of it go
+    /// what it gets of the errors before it. An error is what was wanted less the entry that was found. 7 sixteenths of it go
     /// to the pixel on the right, 3 to the one below on the left, 5 to the one below, and 1 to the one below on the right.
     /// What would go past the sides of a row is lost. What is wanted is, in each channel, the pixel's number and the sum of the
     /// sixteenths that it gets, rounded to the nearest, a half up, and kept from 0 to 255. `work` has [`diffusion_work`] colors.
@@ -301,11 +301,11 @@ pub fn make_table_alpha<'a>(
     Ok(&entries[..made])
 }
 
-/// Sets the color of each pixel in a table, one after the other, and its index: to that of the entry that stands for it, or of the next
-/// one, which is set to the color. `used` is how many of the entries are used, before and afterwards, so one table may serve several
-/// pictures. What stands for a color is its match, if that differs from it by no more than `threshold` in each of red, green and
-/// blue: of 0 that is the color itself. The match is the last of the candidates: entry 0, and each later entry that differs by no
-/// more than the candidate before it in each channel, and by less in one.
+/// Sets the color of each pixel in a table, one after the other, and its index. The index is that of the entry that stands for the
+/// color, or of the next one, which is set to the color. `used` is how many of the entries are used, before and afterwards, so one
+/// table may serve several pictures. What stands for a color is its match, if that differs from it by no more than `threshold` in
+/// each of red, green and blue. With a threshold of 0 that is the color itself. The match is the last of the candidates: entry 0,
+/// and each later entry that differs by no more than the candidate before it in each channel, and by less in one.
 ///
 /// ```
 /// use pix::{Srgb8, index_pixels};
@@ -319,8 +319,8 @@ pub fn make_table_alpha<'a>(
 ///
 /// # Errors
 ///
-/// `Table` where there is room for no entry or for more than 256, `Length` where more are used than there are or where there are not
-/// as many indices as pixels, and `Full` where there is no room for a color. Nothing is changed then.
+/// `Table` if there is room for no entry or for more than 256. `Length` if more are used than there are, or if there are not as
+/// many indices as pixels. `Full` if there is no room for a color. Nothing is changed then.
 pub fn index_pixels(
     entries: &mut [Srgb8],
     used: &mut usize,
@@ -362,8 +362,8 @@ pub fn count_indices(indices: &[u8], counts: &mut [usize]) -> Result<(), Error> 
     })
 }
 
-/// Packs a row of indices into the bytes of a row: in order, those of a byte from its most significant bits on, and 0 in
-/// the bits that are left over in the last byte.
+/// Packs a row of indices into the bytes of a row, in order. Those of a byte begin at its most significant bits, and bits
+/// that are left over in the last byte are 0.
 ///
 /// # Errors
 ///

@@ -197,22 +197,35 @@ fn what_lies_between_rows_stays() {
 }
 
 /// One channel by the two terms of each operator.
-fn composite(op: usize, s: u32, d: u32, sa: u32, da: u32) -> u32 {
+fn composite(op: Op, s: u32, d: u32, sa: u32, da: u32) -> u32 {
     let times = |a: u32, b: u32| (2 * a * b + 255) / 510;
     let (na, nb) = (255 - sa, 255 - da);
-    let by_source = [255, 0, 255, nb, nb, 0, da, 0, da, nb, nb, 0, 255];
-    let by_dest = [0, 255, na, 255, 0, na, 0, sa, na, sa, na, 0, 255];
-    (times(s, by_source[op]) + times(d, by_dest[op])).min(255)
+    let (by_source, by_dest) = match op {
+        Op::Src => (255, 0),
+        Op::Dest => (0, 255),
+        Op::SrcOver => (255, na),
+        Op::DestOver => (nb, 255),
+        Op::SrcOut => (nb, 0),
+        Op::DestOut => (0, na),
+        Op::SrcIn => (da, 0),
+        Op::DestIn => (0, sa),
+        Op::SrcAtop => (da, na),
+        Op::DestAtop => (nb, sa),
+        Op::Xor => (nb, na),
+        Op::Clear => (0, 0),
+        Op::Plus => (255, 255),
+    };
+    (times(s, by_source) + times(d, by_dest)).min(255)
 }
 
 #[test]
 fn operators_are_those_of_their_names() {
-    for (number, op) in Op::ALL.into_iter().enumerate() {
+    for op in Op::ALL {
         let (s, d) = (Rgba8::new(90, 17, 0, 130), Rgba8::new(5, 20, 30, 200));
         let mut pixel = [d];
         let list = [Command::composite_color(WHOLE, s, op)];
         assert_eq!(ImageMut::new(&mut pixel, 1, 1).run(&list), Ok(()));
-        let expected = |s: u8, d: u8| composite(number, s.into(), d.into(), 130, 200) as u8;
+        let expected = |s: u8, d: u8| composite(op, s.into(), d.into(), 130, 200) as u8;
         let channels = [
             expected(s.r, d.r),
             expected(s.g, d.g),
