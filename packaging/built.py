@@ -9,7 +9,8 @@ import pathlib
 import shutil
 import subprocess
 
-from common import CALLS, HERE, TOP, call, copy, missing, put, stop
+import generated
+from common import CALLS, TOP, call, copy, missing, put, stop
 
 # Each archive, and the flags by which rt builds it. The last one is what crates/pix_c/out keeps.
 ARCHIVES = [
@@ -17,6 +18,14 @@ ARCHIVES = [
     ("x86-64-v3", ["--cpu=x86-64-v3"]),
     ("x86-64-v2", ["--cpu=x86-64-v2"]),
 ]
+# The archive or the program that each file of generated/ has the code of.
+BUILT_AS = {
+    "pix-x86_64.s": "x86-64-v2/libpix_c.a",
+    "pix-x86_64-v3.s": "x86-64-v3/libpix_c.a",
+    "pix-aarch64.s": "aarch64/libpix_c.a",
+    "pixpaint-x86_64.s": "x86_64/pixpaint",
+    "pixpaint-aarch64.s": "aarch64/pixpaint",
+}
 # Beside these a library may call nothing of C.
 MAY_CALL = {"memset", "memcpy", "memmove"}
 NEEDED = [
@@ -70,7 +79,7 @@ def build_program_aarch64(folder):
         stop(f"pixpaint is not built for aarch64: see {folder / 'pixpaint-aarch64.log'}", 1)
     program = folder / "aarch64/pixpaint"
     program.parent.mkdir(exist_ok=True)
-    call("aarch64-linux-gnu-gcc", "-O2", "-s", "-o", program, made, HERE / "kit.c")
+    call(*generated.linked_by_gcc(program, made))
     return verdict
 
 
@@ -117,8 +126,23 @@ def make_stand_in(folder):
     put(folder / "VERDICTS", "none: these archives are stand-ins in plain C, of which nothing is proved\n")
 
 
+def check_generated(folder):
+    """Tests that the files of generated/ are of just these sources, and have the code of what was built."""
+    if not list(generated.FOLDER.glob("*.s")):
+        stop("there is no assembly in generated/, which is compared with what is packed: tools/generate makes it")
+    kit, line = generated.kit()
+    found = list(generated.stale(line))
+    for made in generated.MADE if not found else []:
+        print(f"tools/release: generated/{made.name} is compared with what is packed", flush=True)
+        why = generated.other_code(made, kit, folder / BUILT_AS[made.name])
+        found += [why] if why else []
+    if found:
+        stop("\n".join(found), 1)
+
+
 def check(folder):
-    """Tests that what was built is of just these sources, and that the archives have the documented calls and call nothing else."""
+    """Tests that what was built is of just these sources, that the archives have the documented calls and call nothing else, and that generated/ has their
+    code."""
     if not (folder / "SOURCES").is_file() or not (folder / "VERDICTS").is_file():
         stop(f"{folder} has not what tools/release builds: no SOURCES or no VERDICTS")
     if (folder / "SOURCES").read_text() != sources():
@@ -131,3 +155,4 @@ def check(folder):
         defined = {line.split()[-1] for line in call("nm", "-g", "--defined-only", archive).splitlines() if " T " in line}
         if called - MAY_CALL or set(CALLS) - defined:
             stop(f"{archive} calls {sorted(called - MAY_CALL)}, and lacks {sorted(set(CALLS) - defined)}", 1)
+    check_generated(folder)

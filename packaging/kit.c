@@ -1,5 +1,5 @@
-/* The functions of C that the program for aarch64 calls beside the C library: what the kit's liblibc_c.a and libos_c.a have for x86-64 alone, as
- * the contracts of the kit's libc/src/heap.rt and os/src/c.rt say it. Nothing here is proved. */
+/* The functions of C that the program calls beside the C library, for aarch64, and where a clone builds it of generated/: what the kit's liblibc_c.a and
+ * libos_c.a have for x86-64 alone, as the contracts of the kit's libc/src/heap.rt and os/src/c.rt say it. Nothing here is proved. */
 #include <errno.h>
 #include <stdbool.h>
 #include <stddef.h>

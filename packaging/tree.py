@@ -14,18 +14,23 @@ PATTERNS = {"x86_64": "x86_64|AMD64|amd64", "aarch64": "aarch64|arm64"}
 SUMMARY = "compositing of raster images, every function of it proved"
 
 
-def shared(release, processor, archive, path):
-    """Links the shared library of an archive: with the number of the calls in its soname, and only the documented calls for others to see."""
+def shared_by(calls, compiler, inputs, path):
+    """Returns the words by which a compiler links a shared library: with the number of the calls in its soname, and only the documented calls for others to
+    see. The list of these is written beside it."""
     script = path.parent / "pix.map"
     path.parent.mkdir(parents=True, exist_ok=True)
-    put(script, fill("pix.map", CALLS=release.calls, NAMES="\n".join(f"        {name};" for name in CALLS)))
-    options = [f"-soname,libpix.so.{release.calls}", f"--version-script={script}"]
+    put(script, fill("pix.map", CALLS=calls, NAMES="\n".join(f"        {name};" for name in CALLS)))
+    options = [f"-soname,libpix.so.{calls}", f"--version-script={script}"]
     options += ["-z,defs", "-z,text", "-z,relro", "-z,now", "-z,noexecstack", "--build-id=sha1", "--as-needed"]
-    whole = ["-Wl,--whole-archive", archive, "-Wl,--no-whole-archive", "-lm"]
-    words = [f"{processor.tools}gcc", "-shared", "-nostartfiles", "-o", path, *[f"-Wl,{option}" for option in options], *whole]
+    return [*compiler, "-shared", "-nostartfiles", "-o", path, *[f"-Wl,{option}" for option in options], *inputs, "-lm"]
+
+
+def shared(release, processor, archive, path):
+    """Links the shared library of an archive, without the names that no other program sees."""
+    words = shared_by(release.calls, [f"{processor.tools}gcc"], ["-Wl,--whole-archive", archive, "-Wl,--no-whole-archive"], path)
     call(*words, env=environment(release))
     call(f"{processor.tools}strip", "--strip-unneeded", path, env=environment(release))
-    script.unlink()
+    (path.parent / "pix.map").unlink()
     path.chmod(0o644)
 
 

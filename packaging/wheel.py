@@ -51,23 +51,33 @@ def write(release, root, target):
             wheel.writestr(item, path.read_bytes())
 
 
-def wheel(release, processor):
-    """Makes the wheel for a processor."""
-    tag = TAG.format(processor.name)
-    root = release.dist / f"wheel-{processor.name}"
+def put_package(root):
+    """Puts Python's package into the tree of a wheel."""
     for path in sorted((TOP / "bindings/python/pix").iterdir()):
         if path.suffix == ".py" or path.name == "py.typed":
             copy(path, root / "pix" / path.name)
-    shared(release, processor, release.built / processor.archive / "libpix_c.a", root / "pix/libpix_c.so")
-    if processor.wide:
-        shared(release, processor, release.built / processor.wide / "libpix_c.a", root / "pix/libpix_c-v3.so")
+
+
+def put_about(release, root, tag, maker):
+    """Puts what a wheel says of itself into its tree, in which all else stands."""
     info = root / f"pix_proved-{release.version}.dist-info"
     put(info / "PROVENANCE", provenance(release, root))
     copy(TOP / "LICENSE", info / "LICENSE")
     put(info / "METADATA", metadata(release))
     tags = "".join(f"Tag: py3-none-{system}\n" for system in tag.partition("-none-")[2].split("."))
-    put(info / "WHEEL", f"Wheel-Version: 1.0\nGenerator: tools/release\nRoot-Is-Purelib: false\n{tags}")
+    put(info / "WHEEL", f"Wheel-Version: 1.0\nGenerator: {maker}\nRoot-Is-Purelib: false\n{tags}")
     put(info / "top_level.txt", "pix\n")
     put(info / "RECORD", record(root) + f"{info.name}/RECORD,,\n")
+
+
+def wheel(release, processor):
+    """Makes the wheel for a processor."""
+    tag = TAG.format(processor.name)
+    root = release.dist / f"wheel-{processor.name}"
+    put_package(root)
+    shared(release, processor, release.built / processor.archive / "libpix_c.a", root / "pix/libpix_c.so")
+    if processor.wide:
+        shared(release, processor, release.built / processor.wide / "libpix_c.a", root / "pix/libpix_c-v3.so")
+    put_about(release, root, tag, "tools/release")
     write(release, root, release.dist / f"pix_proved-{release.version}-{tag}.whl")
     shutil.rmtree(root)

@@ -46,7 +46,7 @@ def numbers(header, enum):
     """Returns the names of an enumeration of the header, without their beginning, and the number of each."""
     body = re.search(rf"typedef enum \{{\n((?:(?!typedef).)*?)\}} pix_{enum};", header, re.S)[1]
     begins = {"status": "PIX_"}.get(enum, f"PIX_{enum.upper()}_")
-    return {name: int(number) for name, number in re.findall(rf"^ *{begins}(\w+) = (\d+)", body, re.M)}
+    return {name: int(number) for name, number in re.findall(rf"\b{begins}(\w+) = (\d+)", body)}
 
 
 def statuses(header):
@@ -75,9 +75,10 @@ def facts_module(header):
         "FORMATS": numbers(header, "format"),
         "STATUSES": statuses(header),
         "OPERATORS": operators(header),
+        "EXAMPLES": sorted(path.stem for path in EXAMPLES.glob("*.paint")),
     }
     lines = [f"export const {name} = {json.dumps(value)};" for name, value in values.items()]
-    return "\n".join([f"// Made by tools/web, of {HEADER} and {OPERATORS}.", *lines]) + "\n"
+    return "\n".join([f"// Made by tools/web or tools/generate, of {HEADER}, {OPERATORS} and the examples.", *lines]) + "\n"
 
 
 def run(*words, **more):
@@ -137,7 +138,7 @@ def build_module(folder):
         prove(folder)
         link(folder / "libpix_c.a", folder / "pix_c.wasm")
         (folder / "sources").write_text(sources)
-    commit = run("git", "log", "-1", "--format=%H", cwd=TOP).strip()
+    commit = f"commit {run('git', 'log', '-1', '--format=%H', cwd=TOP).strip()}"
     if run("git", "status", "--porcelain", "--", "crates", "crates.txt", "bindings", "web", cwd=TOP):
         commit += ", with changes that no commit has"
     return {"commit": commit, "kit": run("rt", "version").strip(), "verdict": (folder / "VERDICT").read_text().strip()}
@@ -146,16 +147,14 @@ def build_module(folder):
 def assemble(module, built, target):
     """Makes the folder to be served: the page, the module, what the page says of it, the examples and the pictures."""
     shutil.rmtree(target, ignore_errors=True)
-    shutil.copytree(TOP / "web/page", target)
+    shutil.copytree(TOP / "web/page", target, ignore=shutil.ignore_patterns("examples", "built.json"))
     shutil.copyfile(module, target / "pix_c.wasm")
     data = module.read_bytes()
     built = {**built, "bytes": len(data), "sum": hashlib.sha256(data).hexdigest()}
     (target / "built.json").write_text(json.dumps(built, indent=1) + "\n")
     (target / "facts.js").write_text(facts_module(read(HEADER)))
-    names = sorted(path.stem for path in EXAMPLES.glob("*.paint"))
     (target / "examples").mkdir()
-    for name in names:
-        shutil.copyfile(EXAMPLES / f"{name}.paint", target / "examples" / f"{name}.paint")
-    (target / "examples/list.json").write_text(json.dumps(names) + "\n")
+    for path in sorted(EXAMPLES.glob("*.paint")):
+        shutil.copyfile(path, target / "examples" / path.name)
     for name in PICTURES:
         shutil.copyfile(TOP / "pictures" / name, target / name)

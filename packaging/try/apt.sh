@@ -25,7 +25,7 @@ has_layers() {
 apt_lines() {
     local folder=$work/apt-${1//\//-}
     ran+=("$1 apt")
-    mkdir "$folder" && cp "$dist"/* "$work/program/demo.c" "$work/src/refusals.c" "$folder" && cp "$work/src/demo.c" "$folder/painting.c" || return
+    mkdir "$folder" && cp "$dist"/* "$work/program/first.c" "$work/src/refusals.c" "$folder" && cp "$work/src/demo.c" "$folder/painting.c" || return
     lines_of "$1" apt >"$folder/lines.sh" && [ -s "$folder/lines.sh" ] || return
     { echo "calls=$calls" && cat "$folder/lines.sh" -; } >"$folder/script.sh" <<'END'
 cc -O2 painting.c -lpix -o painting && ./painting picture.ppm
@@ -59,8 +59,8 @@ deb_aarch64() {
 
 if have "apt's lines" apt-get dpkg cc pkg-config unshare chroot; then
     if has_layers; then
-        step 'README.md: apt, the demos, and another processor' apt_lines README.md && step 'its picture' same apt
-        step 'docs/INSTALL.md: apt' apt_lines docs/INSTALL.md
+        step 'docs/INSTALL.md: apt, the demos, and another processor' apt_lines docs/INSTALL.md && step 'its picture' same apt
+        [ -z "$(lines_of README.md apt)" ] || step 'README.md: apt' apt_lines README.md
     else
         lacks 'root with layers of overlayfs' "apt's lines"
         ran+=('README.md apt' 'docs/INSTALL.md apt')

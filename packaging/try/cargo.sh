@@ -11,23 +11,23 @@ cargo_lines() {
         && (cd "$folder" && touch src/main.rs && CARGO_HOME=$work/cargo-home "${alone[@]}" cargo run)
 }
 
-# Runs cargo in the program of the lines of README.md.
+# Runs cargo in the program of the lines of docs/INSTALL.md.
 in_program() {
-    cd "$work/cargo-README.md" && CARGO_NET_OFFLINE=true "$@"
+    cd "$work/cargo-docs-INSTALL.md" && CARGO_NET_OFFLINE=true "$@"
 }
 
 crate_demo() {
-    cp "$top/bindings/rust/pix/examples/demo.rs" "$work/cargo-README.md/src/main.rs" && in_program cargo run --quiet --release -- "$work/rust.ppm"
+    cp "$top/bindings/rust/pix/examples/demo.rs" "$work/cargo-docs-INSTALL.md/src/main.rs" && in_program cargo run --quiet --release -- "$work/rust.ppm"
 }
 
 # The crates' own tests, out of the packages.
 crate_tests() {
     local crate
     for crate in pix-proved-sys pix-proved; do
-        (cd "$work/cargo-README.md/$crate-$version" && sha256sum -c --quiet PROVENANCE) || return
+        (cd "$work/cargo-docs-INSTALL.md/$crate-$version" && sha256sum -c --quiet PROVENANCE) || return
     done
-    cp -r "$work/cargo-README.md/pix-proved-$version" "$work/tests" && cd "$work/tests" \
-        && printf '\n[patch.crates-io]\npix-proved-sys = { path = "../cargo-README.md/pix-proved-sys-%s" }\n[workspace]\n' "$version" >>Cargo.toml \
+    cp -r "$work/cargo-docs-INSTALL.md/pix-proved-$version" "$work/tests" && cd "$work/tests" \
+        && printf '\n[patch.crates-io]\npix-proved-sys = { path = "../cargo-docs-INSTALL.md/pix-proved-sys-%s" }\n[workspace]\n' "$version" >>Cargo.toml \
         && CARGO_NET_OFFLINE=true CARGO_TARGET_DIR=$work/tests/target cargo test --quiet
 }
 
@@ -35,7 +35,7 @@ crate_tests() {
 crate_with_another() {
     mkdir -p "$work/other-archive" && cc -std=c99 -O1 -fPIC -DOTHER_FACT=0 -I "$top/bindings/c" -c "$top/bindings/c/other.c" -o "$work/other-archive/other.o" \
         && ar rcs "$work/other-archive/libpix_c.a" "$work/other-archive/other.o" || return
-    cp "$work/main.rs" "$work/cargo-README.md/src/main.rs"
+    cp "$work/main.rs" "$work/cargo-docs-INSTALL.md/src/main.rs"
     RUSTFLAGS=-lm PIX_LIB_DIR=$work/other-archive refuses 'Library' in_program cargo run --quiet --target-dir "$work/other-target"
 }
 
@@ -48,24 +48,24 @@ crate_on_another() {
 crate_targets() {
     local said
     refuses 'there is no proved archive for riscv64gc-unknown-linux-gnu' in_program cargo check --quiet --target riscv64gc-unknown-linux-gnu || return
-    said=$(cd "$work" && TARGET=aarch64-unknown-linux-gnu CARGO_MANIFEST_DIR=$work/cargo-README.md/pix-proved-sys-$version \
-        "$(find "$work/cargo-README.md/target" -path '*pix-proved-sys-*/build-script-build' | head -n 1)") || return
-    grep -F "native=$work/cargo-README.md/pix-proved-sys-$version/lib/aarch64-unknown-linux-gnu" <<<"$said" || return
+    said=$(cd "$work" && TARGET=aarch64-unknown-linux-gnu CARGO_MANIFEST_DIR=$work/cargo-docs-INSTALL.md/pix-proved-sys-$version \
+        "$(find "$work/cargo-docs-INSTALL.md/target" -path '*pix-proved-sys-*/build-script-build' | head -n 1)") || return
+    grep -F "native=$work/cargo-docs-INSTALL.md/pix-proved-sys-$version/lib/aarch64-unknown-linux-gnu" <<<"$said" || return
     tar xzOf "$dist/pix-$version-aarch64-linux-gnu.tar.gz" "pix-$version-aarch64-linux-gnu/lib/libpix.a" \
-        | cmp - "$work/cargo-README.md/pix-proved-sys-$version/lib/aarch64-unknown-linux-gnu/libpix_c.a"
+        | cmp - "$work/cargo-docs-INSTALL.md/pix-proved-sys-$version/lib/aarch64-unknown-linux-gnu/libpix_c.a"
 }
 
 crate_aarch64() {
-    cp "$top/bindings/rust/pix/examples/demo.rs" "$work/cargo-README.md/src/main.rs" || return
+    cp "$top/bindings/rust/pix/examples/demo.rs" "$work/cargo-docs-INSTALL.md/src/main.rs" || return
     local target=aarch64-unknown-linux-gnu
     CARGO_TARGET_AARCH64_UNKNOWN_LINUX_GNU_LINKER=aarch64-linux-gnu-gcc in_program cargo build --quiet --release --target $target \
-        && qemu-aarch64 -L /usr/aarch64-linux-gnu "$work/cargo-README.md/target/$target/release/demo" "$work/rust-aarch64.ppm" && same rust-aarch64
+        && qemu-aarch64 -L /usr/aarch64-linux-gnu "$work/cargo-docs-INSTALL.md/target/$target/release/demo" "$work/rust-aarch64.ppm" && same rust-aarch64
 }
 
 if ! have 'the Rust crates' cargo rustc cc; then
     ran+=('README.md cargo' 'docs/INSTALL.md cargo')
-elif step 'README.md: cargo' cargo_lines README.md; then
-    step 'docs/INSTALL.md: cargo' cargo_lines docs/INSTALL.md
+elif step 'docs/INSTALL.md: cargo' cargo_lines docs/INSTALL.md; then
+    [ -z "$(lines_of README.md cargo)" ] || step 'README.md: cargo' cargo_lines README.md
     step 'Rust: the crates have the files of their PROVENANCE, and their own tests pass' crate_tests
     step 'Rust: demo' crate_demo && step 'its picture' same rust
     step 'Rust: another archive is refused' crate_with_another

@@ -2,7 +2,7 @@
 # shellcheck shell=bash disable=SC2016,SC2154
 
 # The Python of the environment that pip's lines made.
-env_python=$work/lines-README.md-pip/env/bin/python
+env_python=$work/lines-docs-INSTALL.md-pip/env/bin/python
 
 # Its tests and its demo against the wheel alone.
 wheel_tests() {
@@ -90,13 +90,13 @@ wheel_aarch64() {
 if ! "$python" -c 'import venv, ensurepip' 2>/dev/null; then
     lacks "$python with venv and ensurepip, as in python3-venv" 'the wheels'
     ran+=('README.md pip' 'docs/INSTALL.md pip' 'docs/INSTALL.md which library')
-elif step 'the files of the wheels have the sums of their PROVENANCE' wheel_sums && try_lines README.md pip; then
+elif step 'the files of the wheels have the sums of their PROVENANCE' wheel_sums && try_lines docs/INSTALL.md pip; then
     step 'Python: demo, refusals, buffers, threads against the wheel' wheel_tests && step 'its picture' same python
     step 'Python: which library is taken' wheel_chooses
     step 'Python: a processor without SSE4.1, and one of another kind' other_processors
     step 'Python: the wheel of another processor' wheel_for_another
     step 'Python: another library in the wheel, or none' wheel_with_another
-    try_lines docs/INSTALL.md pip
+    try_lines_if_there README.md pip
     ran+=('docs/INSTALL.md which library')
     lines=$(lines_of docs/INSTALL.md 'which library')
     step 'docs/INSTALL.md: which library' sh -c "cd '$work/lines-docs-INSTALL.md-pip' && $lines | grep '/env/lib/.*/pix/libpix_c.*\.so\$'"

@@ -1,5 +1,6 @@
 // A paint script, its picture and its faults, and what became of the pixel under the mouse.
 import { decimal, distance } from './exact.js';
+import { EXAMPLES } from './facts.js';
 import { historyOf } from './history.js';
 import { paint, printed } from './painting.js';
 import { checkerboard, element, fetched, onTheme, onceAFrame, show } from './view.js';
@@ -213,14 +214,13 @@ function keepOwn() {
 }
 
 // Adds the examples to the list.
-async function listExamples() {
-    const names = await (await fetched('examples/list.json')).json();
-    const options = names.map((name) => Object.assign(node('option', name), { value: `examples/${name}.paint` }));
+function listExamples() {
+    const options = EXAMPLES.map((name) => Object.assign(node('option', name), { value: `examples/${name}.paint` }));
     element('example').append(...options);
 }
 
 // Shows scripts, by an instance of the library of their own: that which the browser kept, or else the first example.
-// Answers when that and the list have come.
+// Answers when that has come.
 export function showScripts(library) {
     const field = element('script'), list = element('example');
     const redraw = onceAFrame(() => repaint(library));
@@ -241,5 +241,7 @@ export function showScripts(library) {
         keepOwn();
         repaint(library);
     }
-    return Promise.all([field.value ? null : load(library, list.value), listExamples()]);
+    const first = field.value ? null : load(library, list.value);
+    listExamples();
+    return Promise.resolve(first);
 }

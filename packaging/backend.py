@@ -1,0 +1,99 @@
+"""Builds the wheel of a clone for pip: Python's package, and the shared libraries of generated/, which the machine's C compiler assembles and links.
+
+It stands on Python's standard library alone, so that pip install . needs no network and no other package, with --no-build-isolation and without. The
+wheel is for the processor of this Python, and for Linux. CC names another compiler than cc.
+"""
+
+import os
+import pathlib
+import shlex
+import shutil
+import subprocess
+import sys
+import sysconfig
+import tempfile
+
+sys.path.insert(0, str(pathlib.Path(__file__).resolve().parent))
+
+from common import PROCESSORS, TOP, Release, provenance, put, read, version_of_calls  # noqa: E402
+from tree import shared_by  # noqa: E402
+from wheel import metadata, put_about, put_package, write  # noqa: E402
+
+
+class UnsupportedOperation(Exception):
+    """What this backend does not do."""
+
+
+def compiler():
+    """Returns the words that begin a call of the C compiler."""
+    words = shlex.split(os.environ.get("CC", "")) or ["cc"]
+    if not shutil.which(words[0]):
+        sys.exit(f"pix: this machine lacks {words[0]}, a C compiler, as in the package gcc: it builds the shared libraries of generated/")
+    return words
+
+
+def processor():
+    """Returns the processor of this Python, if the library is for it."""
+    system, _, machine = sysconfig.get_platform().partition("-")
+    for each in PROCESSORS:
+        if system == "linux" and each.name == machine:
+            return each
+    sys.exit(f"pix: the library is for x86_64 and aarch64 under Linux, and this Python is for {sysconfig.get_platform()}")
+
+
+def files_for(it):
+    """Returns the files of assembly for a processor, by the names of the libraries that are made of them."""
+    files = {"libpix_c.so": f"pix-{it.name}.s", **({"libpix_c-v3.so": f"pix-{it.wide.replace('x86-64', 'x86_64')}.s"} if it.wide else {})}
+    lacking = [name for name in files.values() if not (TOP / "generated" / name).is_file()]
+    if lacking:
+        sys.exit(f"pix: there is no generated/{lacking[0]}: take a commit or a tag that has it")
+    return files
+
+
+def called(words, file):
+    """Runs the compiler; where it fails, its first words end the run."""
+    done = subprocess.run([str(word) for word in words], stdout=subprocess.PIPE, stderr=subprocess.STDOUT, text=True)
+    if done.returncode:
+        sys.exit(f"pix: {words[0]} can't build generated/{file}: {done.stdout.strip()[:500]}")
+    return done.stdout
+
+
+def release_in(folder, said):
+    """Returns what is packed, as the parts of the packer read it."""
+    epoch = int(os.environ.get("SOURCE_DATE_EPOCH", "0"))
+    return Release(read("VERSION").strip(), version_of_calls(), "that of the clone", epoch, folder, said, folder)
+
+
+def build_wheel(wheel_directory, config_settings=None, metadata_directory=None):
+    """Builds the wheel into a folder, and returns its name."""
+    it, words = processor(), compiler()
+    files = files_for(it)
+    said = [f"built of a clone's generated/ by {called([*words, '--version'], '').splitlines()[0]}"]
+    for file in files.values():
+        said += [f"{file}: {line[3:]}" for line in (TOP / "generated" / file).read_text(encoding="utf-8")[:2000].splitlines() if line.startswith((" * sources:", " * kit:", " * verdict:"))]
+    with tempfile.TemporaryDirectory() as name:
+        folder = pathlib.Path(name)
+        release, root = release_in(folder, said), folder / "wheel"
+        put_package(root)
+        for library, file in files.items():
+            called(shared_by(release.calls, words, [TOP / "generated" / file], root / "pix" / library), file)
+            (root / "pix/pix.map").unlink()
+            (root / "pix" / library).chmod(0o644)
+        tag = f"py3-none-linux_{it.name}"
+        put_about(release, root, tag, "packaging/backend.py")
+        target = pathlib.Path(wheel_directory) / f"pix_proved-{release.version}-{tag}.whl"
+        write(release, root, target)
+    return target.name
+
+
+def prepare_metadata_for_build_wheel(metadata_directory, config_settings=None):
+    """Writes what the wheel will say of itself, and returns the name of its folder."""
+    release = release_in(pathlib.Path(metadata_directory), [])
+    info = release.dist / f"pix_proved-{release.version}.dist-info"
+    put(info / "METADATA", metadata(release))
+    return info.name
+
+
+def build_sdist(sdist_directory, config_settings=None):
+    """Builds no archive of sources: a clone or a tag of the repository is one."""
+    raise UnsupportedOperation("pix has no archive of sources for pip: take a clone or a tag of the repository")

@@ -1,0 +1,37 @@
+# The page: a part of tools/try-clone.
+# shellcheck shell=bash disable=SC2016,SC2154
+
+# The lines serve until they are ended: meanwhile each part of the page comes as it stands, and the module is the one that it says it is.
+page_served() {
+    local folder=$work/page
+    mkdir "$folder" && lines_of docs/INSTALL.md 'clone: page' >"$folder/lines.sh" && [ -s "$folder/lines.sh" ] && cd "$folder" || return
+    "${alone[@]}" sh -c 'ip link set lo up 2>/dev/null; timeout 60 sh -ex lines.sh & exec "$0" -' "$python" <<'END'
+import hashlib, json, time, urllib.request
+
+def fetched(name, patience=40):
+    while True:
+        try:
+            return urllib.request.urlopen(f"http://localhost:8000/{name}", timeout=5).read()
+        except OSError:
+            patience -= 1
+            if not patience:
+                raise
+            time.sleep(0.25)
+
+page = fetched("index.html").decode()
+said = json.loads(fetched("built.json"))
+assert hashlib.sha256(fetched("pix_c.wasm")).hexdigest() == said["sum"], said
+for name in ("main.js", "facts.js", "library.js", "style.css", "triangle.png", "examples/operators.paint", "glazes.paint"):
+    assert fetched(name), name
+print(said)
+END
+}
+
+ran+=('docs/INSTALL.md clone: page')
+if [ -z "$(lines_of docs/INSTALL.md 'clone: page')" ]; then
+    failures+=('docs/INSTALL.md: no lines of the page')
+elif [ ! -f "$clone/generated/pix_c.wasm" ]; then
+    lacks 'generated/pix_c.wasm' 'the page'
+else
+    step 'docs/INSTALL.md: page' page_served
+fi
