@@ -1,4 +1,3 @@
--- Of `cross_rows`: that it meets its contract, that the invariant of its loop over `y` holds after each turn, and that its ranges lie in their slices.
 use Rattle.std.proofs.Common.{◌≡◌, ℕ, ◌≤◌, ◌+◌, ◌-◌, ◌*◌, length, ap, ◌∙◌, arith, rules}
 use Rattle.pix_bytes.specs.Rows.{stored_of}
 use Rattle.pix_bytes.specs.Stored.{pixel_size}

@@ -1,4 +1,3 @@
--- Of `quotient`: that it meets its contract.
 use Rattle.std.proofs.Common.{◌≡◌, ◌*◌, ◌/◌, ◌%◌, ◌<◌, ◌∙◌, ℕ, ap, arith, min, get_or}
 use Rattle.pix_chan.specs.Product.{channel_quotient}
 use Rattle.pix_chan.specs.declared.quotients.TheConstants.{RECIPROCALS}

@@ -1,4 +1,3 @@
--- Of `quotient_by_byte`: that it meets its contract.
 use Rattle.std.proofs.Common.{◌*◌, ◌/◌, ap, ◌∙◌}
 use Rattle.pix_chan.proofs.ByTable.{by_reciprocal}
 use Rattle.pix_chan.proofs.reciprocals.quotient_by_byte.Goals as goal

@@ -1,4 +1,3 @@
--- Of `reciprocal`: that it meets its contract.
 use Rattle.pix_chan.proofs.ByTable.{entry}
 use Rattle.pix_chan.proofs.reciprocals.reciprocal.Goals as goal
 

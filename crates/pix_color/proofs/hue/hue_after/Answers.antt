@@ -1,4 +1,3 @@
--- Of `hue_after`: that it meets its contract.
 use Rattle.std.specs.Prelude.{pos}
 use Rattle.std.proofs.Common.{◌≡◌, ℕ, zero, suc, ◌<◌, ◌≤◌, ◌+◌, ◌*◌, ◌/◌, ◌∙◌, sym, ap, arith, rules}
 use Rattle.std.proofs.lemmas.Nat.{div_below}

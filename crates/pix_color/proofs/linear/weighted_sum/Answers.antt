@@ -1,4 +1,3 @@
--- Of `weighted_sum`: that it meets its contract, the condition of its call of `from_ratio`, and that its numbers fit.
 use Rattle.std.specs.Prelude.{pos, ◌+ℤ◌, ◌*ℤ◌}
 use Rattle.std.proofs.Common.{◌≡◌, ◌∙◌, ap, w64, to_z, of_z, arith, refl}
 use Rattle.std.proofs.lemmas.Int.{ints, int_max_is}

@@ -1,4 +1,3 @@
--- Of `exact`: that it meets its contract, the condition of its call of `from_ratio`, and that its numbers fit.
 use Rattle.std.specs.Prelude.{pos}
 use Rattle.std.proofs.Common.{◌<◌, arith, rules, ◌∙◌}
 use Rattle.std.proofs.lemmas.Int.{ints}

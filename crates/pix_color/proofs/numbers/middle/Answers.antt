@@ -1,4 +1,3 @@
--- Of `middle`: that it meets its contract.
 use Rattle.std.proofs.Common.{ap, arith}
 use Rattle.pix_color.proofs.numbers.middle.Goals as goal
 

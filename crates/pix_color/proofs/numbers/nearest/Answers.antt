@@ -1,4 +1,3 @@
--- Of `nearest`: that it meets its contract.
 use Rattle.std.proofs.Common.{◌∙◌, refl}
 use Rattle.pix_chan.proofs.Whole.{nearest_of_natural}
 use Rattle.pix_color.proofs.numbers.nearest.Goals as goal

@@ -1,4 +1,3 @@
--- Of `converted_within`: that it meets its contract, and the condition of its call of `from_four`.
 use Rattle.std.proofs.Common.{◌≤◌, sym, ap, ◌∙◌}
 use Rattle.pix_el.specs.Pixel.{Layout}
 use Rattle.pix_el.specs.Conversion.{Format}

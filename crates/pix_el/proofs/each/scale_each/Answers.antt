@@ -1,4 +1,3 @@
--- Of `scale_each`: that it meets its contract, and that the invariant of its loop over `i` holds at first and stays.
 use Rattle.std.proofs.Common.{◌≡◌, length, map, get_or, arith, sym, ap, ◌∙◌, refl}
 use Rattle.std.proofs.lemmas.List.{length-map, map-set, get_or-map}
 use Rattle.pix_el.proofs.Written.{written_none, written_more, written_all}

@@ -1,4 +1,3 @@
--- Of `apart`: that it meets its contract.
 use Rattle.std.proofs.Common.{◌<◌, ◌≤◌, arith}
 use Rattle.pix_ops.proofs.Hue.{less}
 use Rattle.pix_el.proofs.hue.apart.Goals as goal

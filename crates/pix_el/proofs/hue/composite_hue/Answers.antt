@@ -1,4 +1,3 @@
--- Of `composite_hue`: that it meets its contract.
 use Rattle.std.proofs.Common.{◌≡◌, ◌-◌, ◌*◌, ◌<◌, ◌≤◌, arith, ap, ◌∙◌}
 use Rattle.pix_chan.specs.Product.{fineness}
 use Rattle.pix_ops.specs.Hue.{hue_weight}

@@ -1,4 +1,3 @@
--- Of `composite_first`: that it meets its contract.
 use Rattle.std.proofs.Common.{◌≡◌, ◌∙◌, true, false, map}
 use Rattle.pix_el.specs.Pixel.{lies_in}
 use Rattle.pix_chan.specs.Runs.{triples}

@@ -1,4 +1,3 @@
--- Of `composite_hues`: that it meets its contract, that the invariant of its loop over `i` holds at first and stays, and the condition of its call of `composite_hue`.
 use Rattle.std.proofs.Common.{◌≡◌, ◌+◌, ◌-◌, ◌≤◌, ◌∙◌, refl, sym, ap, arith, map, get_or, ℕ}
 use Rattle.std.proofs.lemmas.List.{length-map, get_or-map}
 use Rattle.pix_el.specs.Planes.{run_hue}

@@ -1,4 +1,3 @@
--- Of `scale_first`: that it meets its contract.
 use Rattle.std.proofs.Common.{◌≡◌, ◌∙◌, sym, true, false, map}
 use Rattle.pix_el.specs.Pixel.{lies_in}
 use Rattle.pix_ops.proofs.RunTerms.{as_they_are}

@@ -1,4 +1,3 @@
--- Of `see_channels`: that it meets its contract.
 use Rattle.std.proofs.Common.{◌∙◌, length, sym, ap}
 use Rattle.std.proofs.lemmas.List.{length-map}
 use Rattle.pix_flat.proofs.copy.see_channels.Goals as goal

@@ -1,4 +1,3 @@
--- Of `fact`: that it meets its contract.
 use Rattle.std.proofs.Common.{arith, ◌≡◌, slice_get, unwrap_or, ℕ, List, [], ◌∷◌, Option, Some, None, option_copied, refl, sym, subst, ap, ◌∙◌}
 use Rattle.std.proofs.lemmas.Option.{unwrap_or-slice_get}
 use Rattle.std.specs.Slice.{IsItemAt}

@@ -1,4 +1,3 @@
--- Of `composite_faded`: that it meets its contract, and the condition of its call of `blit_window`.
 use Rattle.std.proofs.Common.{◌≡◌, ◌∙◌, List, ℕ, sym, ap, refl, subst, length}
 use Rattle.pix_ops.specs.declared.ops.Op.{Op}
 use Rattle.pix_el.specs.Pixel.{Layout, channel}

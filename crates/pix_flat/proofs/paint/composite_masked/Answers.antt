@@ -1,4 +1,3 @@
--- Of `composite_masked`: that it meets its contract, and the conditions of its call of `blit_masked`.
 use Rattle.std.proofs.Common.{sym, ap, subst, length}
 use Rattle.pix_ops.specs.declared.ops.Op.{Op}
 use Rattle.pix_el.specs.PixelComposite.{matted_composite, matte_value}

@@ -1,4 +1,3 @@
--- Of `paint`: that it meets its contract, and the condition of its call of `blit_window`.
 use Rattle.std.proofs.Common.{refl, sym, subst, ◌∙◌, length}
 use Rattle.pix_raster.specs.Lent.{IsShaped}
 use Rattle.pix_raster.specs.declared.lent.Shape.{Shape}

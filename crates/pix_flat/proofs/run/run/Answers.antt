@@ -1,4 +1,3 @@
--- Of `run`: that it meets its contract.
 use Rattle.std.proofs.Common.{Bool, cond, length, map, ap, ◌∙◌}
 use Rattle.pix_flat.specs.Status.{first_fault, count_before_fault}
 use Rattle.pix_flat.proofs.Images.{window_at_corner}

@@ -1,4 +1,3 @@
--- Of `write_pixels`: that it meets its contract, and that the invariant of its loop over `i` holds at first and stays.
 use Rattle.std.proofs.Common.{◌≡◌, length, arith}
 use Rattle.std.proofs.lemmas.List.{length-map}
 use Rattle.pix_el.proofs.Written.{written_none}

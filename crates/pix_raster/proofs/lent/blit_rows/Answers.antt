@@ -1,4 +1,3 @@
--- Of `blit_rows`: that it meets its contract, that the invariant of its loop over `y` holds after each turn, and that its ranges lie in their slices.
 use Rattle.std.proofs.Common.{◌≡◌, ℕ, ◌≤◌, ◌+◌, ◌*◌, ◌-◌, List, length, map, get_or, arith, rules, [], ◌∙◌, ap}
 use borrow.Author.Rules.{scaled_fits≤}
 use Rattle.pix_raster.proofs.Zones.{Part, part_over, zoned-map, length-part, row-step}

@@ -1,4 +1,3 @@
--- Of `fill_rows`: that it meets its contract, that the invariant of its loop over `y` holds after each turn, and that its ranges lie in their slices.
 use Rattle.std.proofs.Common.{◌≡◌, ℕ, ◌≤◌, ◌+◌, ◌*◌, ◌-◌, length, map, arith, rules, [], ◌∙◌}
 use Rattle.pix_raster.proofs.Zones.{Part, part_each, zoned-map, length-part, row-step}
 use Rattle.pix_raster.proofs.lent.fill_rows.Goals as goal

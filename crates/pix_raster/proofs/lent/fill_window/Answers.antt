@@ -1,4 +1,3 @@
--- Of `fill_window`: that it meets its contract.
 use Rattle.std.proofs.Common.{◌≡◌, ◌≤◌, ◌+◌, pos, ◌∙◌, ap, cond, true, Bool, rules, arith}
 use Rattle.std.specs.Prelude.{◌&&◌}
 use Rattle.std.proofs.Math.Bool.{and-true}

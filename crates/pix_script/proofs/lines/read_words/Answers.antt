@@ -1,4 +1,3 @@
--- Of `read_words`: that it meets its contract.
 use Rattle.std.proofs.Common.{rules, tests, ◌++◌, map, ap, ◌∙◌}
 use Rattle.std.proofs.lemmas.Iterator.Consumers.{YieldsList-from_filter, YieldsList-at}
 use Rattle.std.proofs.lemmas.Iterator.Splits.{YieldsList-from_slice_split}

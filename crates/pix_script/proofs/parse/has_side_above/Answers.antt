@@ -1,4 +1,3 @@
--- Of `has_side_above`: that it meets its contract, and that the invariant of its loop over `word` holds after each turn.
 use Rattle.std.proofs.Common.{sym, ◌∙◌}
 use Rattle.pix_script.proofs.CheckLemmas.{above_here, above_more}
 use Rattle.pix_script.proofs.parse.has_side_above.Goals as goal

@@ -1,4 +1,3 @@
--- Of `parse`: that it meets its contract.
 use Rattle.std.proofs.Common.{refl, arith}
 use Rattle.std.proofs.lemmas.List.{nil_from_length}
 use Rattle.pix_script.specs.Commands.{problem_of}

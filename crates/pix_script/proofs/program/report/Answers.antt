@@ -1,4 +1,3 @@
--- Of `report`: that it meets its contract.
 use Rattle.std.proofs.Common.{◌≡◌, List, ℕ, ◌∷◌, [], ◌++◌, ap, ◌∙◌}
 use Rattle.pix_script.specs.Stop.{stop_text}
 use Rattle.pix_script.specs.Run.{stop_line}

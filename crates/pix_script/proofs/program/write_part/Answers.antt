@@ -1,4 +1,3 @@
--- Of `write_part`: that it meets its contract, and that the invariant of its loop over the parts holds after each turn.
 use Rattle.std.proofs.Common.{◌+◌, arith}
 use Rattle.pix_script.proofs.ReportLemmas.{appends_next, appends_kept, appends_all, rest_length}
 use Rattle.pix_script.proofs.program.write_part.Goals as goal

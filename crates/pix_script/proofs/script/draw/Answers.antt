@@ -1,4 +1,3 @@
--- Of `draw`: that it meets its contract, and that the invariant of its loop over `line` holds after each turn.
 use Rattle.std.proofs.Common.{◌≤◌, length, sym, ◌∙◌, arith}
 use Rattle.std.proofs.lemmas.List.{take_all}
 use Rattle.pix_script.proofs.DrawLemmas.{keep_more, other_more, cleared_by, clear_again, unchanged}

@@ -1,4 +1,3 @@
--- Of `draw_line`: that it meets its contract.
 use Rattle.std.proofs.Common.{ℕ, List}
 use Rattle.pix_chan.specs.declared.chan.bits8.Ch8.{Ch8}
 use Rattle.pix_el.specs.PixelComposite.{matte_numbers}

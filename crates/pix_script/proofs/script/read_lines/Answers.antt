@@ -1,4 +1,3 @@
--- Of `read_lines`: that it meets its contract, and that the invariant of its loop over `index` holds after each turn.
 use Rattle.std.proofs.Common.{length, eqb, rules, tests, arith}
 use Rattle.std.proofs.lemmas.List.{length_push}
 use Rattle.std.proofs.lemmas.Iterator.Consumers.{YieldsList-from_enumerate, YieldsList-at, YieldsList-turn, YieldsList-end}

@@ -1,4 +1,3 @@
--- Of `render_from`: that it meets its contract.
 use Rattle.std.proofs.Common.{◌∷◌, ◌∙◌, refl, sym, ap}
 use Rattle.pix_script.specs.declared.command.Line.{Line}
 use Rattle.pix_script.specs.Pixels.{color_numbers}

@@ -1,4 +1,3 @@
--- Of `count_channels`: that it meets its contract, and that the invariant of its loop over `i` stays.
 use Rattle.std.proofs.Common.{arith}
 use Rattle.pix_uses.proofs.LightAndBack.{counted_more, counted_all}
 use Rattle.pix_uses.proofs.light.count_channels.Goals as goal

@@ -1,4 +1,3 @@
--- Of `draw`: that it meets its contract.
 use Rattle.pix_uses.proofs.Within.{are_within_more}
 use Rattle.pix_uses.proofs.lists.draw.Goals as goal
 

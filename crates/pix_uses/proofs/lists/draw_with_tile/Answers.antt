@@ -1,4 +1,3 @@
--- Of `draw_with_tile`: that it meets its contract.
 use Rattle.pix_uses.proofs.lists.draw_with_tile.Goals as goal
 
 pub returns : goal.returns

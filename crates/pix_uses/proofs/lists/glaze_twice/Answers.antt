@@ -1,4 +1,3 @@
--- Of `glaze_twice`: that it meets its contract.
 use Rattle.std.proofs.Common.{arith}
 use Rattle.std.proofs.lemmas.Bool.Decides.{nat_tests}
 use Rattle.pix_uses.proofs.lists.glaze_twice.Goals as goal

@@ -1,4 +1,3 @@
--- Of `cross_srgb8`: that it meets its contract.
 use Rattle.pix_bytes.specs.declared.bitmap.format.Depth.TheVariants.{Srgb8, Linear8, Linear16}
 use Rattle.pix_bytes.proofs.Crossings.{crossed_as}
 use Rattle.pix_bytes.proofs.bitmap.cross.cross_srgb8.Goals as goal

@@ -1,4 +1,3 @@
--- Of `sample_or_max`: that it meets its contract.
 use Rattle.std.proofs.Common.{sym, ap, ◌∙◌}
 use Rattle.pix_bytes.specs.Stored.{sample_at}
 use Rattle.pix_bytes.proofs.Fours.{channel_within, channel_past}

@@ -1,4 +1,3 @@
--- Of `write_four`: that it meets its contract.
 use Rattle.std.proofs.Common.{◌≡◌, ℕ, zero, suc, ◌<◌, ◌≤◌, ◌+◌, nat_lt, [], ◌∷◌, take, ◌∙◌, arith}
 use Rattle.std.specs.Prelude.{if◌then◌else◌}
 use Rattle.pix_el.specs.Pixel.{channel}

@@ -1,4 +1,3 @@
--- Of `are_full`: that it meets its contract.
 use Rattle.std.proofs.Common.{eqb-true}
 use mir.Syntax.{w8}
 use Rattle.pix_bytes.proofs.LaneTests.{all_are}

@@ -1,4 +1,3 @@
--- Of `are_opaque`: that it meets its contract.
 use Rattle.std.proofs.Common.{◌≡◌, ◌<◌, ◌∙◌, ℕ, List, [], ◌∷◌, length, take, get_or, replicate, bit_or, ap, refl, sym, arith}
 use lib.Lanes.{zip2}
 use Rattle.std.proofs.lemmas.List.{take_all}

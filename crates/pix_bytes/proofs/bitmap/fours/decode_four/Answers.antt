@@ -1,4 +1,3 @@
--- Of `decode_four`: that it meets its contract.
 use Rattle.std.proofs.Common.{◌≡◌, ◌∙◌, List, ℕ, ap, subst, sym}
 use lib.Lanes.{zip2}
 use Rattle.pix_chan.specs.Product.{channel_product}

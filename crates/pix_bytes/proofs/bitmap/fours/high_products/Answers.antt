@@ -1,4 +1,3 @@
--- Of `high_products`: that it meets its contract, and that its numbers fit.
 use Rattle.std.proofs.Common.{subst, sym, Fits}
 use mir.Syntax.{w16}
 use lib.Lanes.{Each1}

@@ -1,4 +1,3 @@
--- Of `lit`: that it meets its contract.
 use Rattle.std.proofs.Common.{◌∙◌, List, ℕ, ap, arith}
 use Rattle.std.proofs.lemmas.List.{take_all}
 use lib.Lanes.{zip2}

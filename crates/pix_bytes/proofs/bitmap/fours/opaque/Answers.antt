@@ -1,4 +1,3 @@
--- Of `opaque`: that it meets its contract.
 use Rattle.std.proofs.Common.{◌≡◌, ◌+◌, ◌∙◌, ℕ, List, ap, refl, get_or}
 use Rattle.pix_chan.specs.Srgb16.{srgb_decoded16}
 use Rattle.pix_chan.proofs.Planes.{cons}

@@ -1,4 +1,3 @@
--- Of `products`: that it meets its contract.
 use Rattle.pix_bytes.proofs.LaneProducts.{products_are}
 use Rattle.pix_bytes.proofs.bitmap.fours.products.Goals as goal
 

@@ -1,4 +1,3 @@
--- Of `put`: that it meets its contract.
 use Rattle.pix_bytes.proofs.LitFours.{bytes_are}
 use Rattle.pix_bytes.proofs.bitmap.fours.put.Goals as goal
 

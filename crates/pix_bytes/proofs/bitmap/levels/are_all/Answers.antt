@@ -1,4 +1,3 @@
--- Of `are_all`: that it meets its contract.
 use Rattle.std.proofs.Common.{eqb-true}
 use mir.Syntax.{w16}
 use Rattle.pix_bytes.proofs.LaneTests.{all_are}

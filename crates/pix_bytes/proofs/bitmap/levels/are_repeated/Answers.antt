@@ -1,4 +1,3 @@
--- Of `are_repeated`: that it meets its contract.
 use Rattle.std.proofs.Common.{◌∙◌, sym}
 use Rattle.pix_bytes.proofs.ShownFours.{beside_are, each_repeated}
 use Rattle.pix_bytes.proofs.bitmap.levels.are_repeated.Goals as goal

@@ -1,4 +1,3 @@
--- Of `channels`: that it meets its contract.
 use Rattle.std.proofs.Common.{◌∙◌, List, ℕ, ap, arith, subst, Fits}
 use mir.Syntax.{w8}
 use lib.Lanes.{Each1, number_l, digits_l}

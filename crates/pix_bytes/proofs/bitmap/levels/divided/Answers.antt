@@ -1,4 +1,3 @@
--- Of `divided`: that it meets its contract.
 use Rattle.std.proofs.Common.{◌≡◌, ◌∙◌, ℕ, List, ◌++◌, ◌+◌, ◌-◌, ◌*◌, ◌/◌, ◌%◌, ◌^◌, map, replicate, cond, leb, ap, refl}
 use mir.Syntax.{w16}
 use mir.Val.{hbits, bits}

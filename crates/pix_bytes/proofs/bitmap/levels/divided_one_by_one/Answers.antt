@@ -1,4 +1,3 @@
--- Of `divided_one_by_one`: that it meets its contract.
 use Rattle.std.proofs.Common.{refl}
 use Rattle.pix_chan.proofs.Planes.{cons}
 use Rattle.pix_bytes.proofs.bitmap.levels.divided_one_by_one.Goals as goal

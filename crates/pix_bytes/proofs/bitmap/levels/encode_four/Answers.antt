@@ -1,4 +1,3 @@
--- Of `encode_four`: that it meets its contract.
 use Rattle.std.proofs.Common.{List, ℕ, subst, sym}
 use Rattle.pix_bytes.specs.Rows.{IsEach}
 use Rattle.pix_bytes.specs.Shown.{shown}

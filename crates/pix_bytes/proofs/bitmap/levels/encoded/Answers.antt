@@ -1,4 +1,3 @@
--- Of `encoded`: that it meets its contract, and that its numbers fit.
 use Rattle.std.proofs.Common.{◌∙◌, ◌++◌, List, ℕ, map, replicate, ap, sym, subst, Fits}
 use Rattle.std.proofs.lemmas.List.{map-id}
 use Rattle.std.proofs.lemmas.Simd.{zip2_splat}

@@ -1,4 +1,3 @@
--- Of `in_parts`: that it meets its contract.
 use Rattle.std.proofs.Common.{ap}
 use lib.Lanes.{digits_l}
 use Rattle.pix_bytes.proofs.ShownFours.{words_again}

@@ -1,4 +1,3 @@
--- Of `reciprocals`: that it meets its contract.
 use Rattle.std.proofs.Common.{◌≡◌, ◌%◌, ◌∙◌, ℕ, ap, refl, get_or}
 use Rattle.pix_bytes.specs.Shown.{reciprocal_of}
 use Rattle.pix_bytes.specs.declared.bitmap.quotient.TheConstants.{RECIPROCALS}

@@ -1,4 +1,3 @@
--- Of `scaled`: that it meets its contract.
 use Rattle.pix_bytes.proofs.ShownFours.{scaled_are}
 use Rattle.pix_bytes.proofs.bitmap.levels.scaled.Goals as goal
 

@@ -1,4 +1,3 @@
--- Of `shown`: that it meets its contract.
 use Rattle.std.proofs.Common.{◌≡◌, ◌∙◌, ◌++◌, ◌/◌, List, ℕ, map, replicate, ap, sym, refl}
 use Rattle.std.specs.List.{range_with_len}
 use lib.Lanes.{zip2, pick_l}

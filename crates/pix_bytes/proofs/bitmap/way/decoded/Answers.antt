@@ -1,4 +1,3 @@
--- Of `decoded`: that it meets its contract.
 use Rattle.std.proofs.Common.{◌≡◌, ◌∙◌, ap, refl, List, ℕ, nat_lt}
 use Rattle.std.specs.Prelude.{if◌then◌else◌}
 use Rattle.pix_chan.specs.declared.chan.bits8.Ch8.{Ch8}

@@ -1,4 +1,3 @@
--- Of `encoded`: that it meets its contract.
 use Rattle.std.proofs.Common.{◌≡◌, ◌∙◌, refl, List, ℕ}
 use Rattle.pix_chan.specs.declared.chan.bits16.Ch16.{Ch16}
 use Rattle.pix_el.specs.Pixel.{channel}

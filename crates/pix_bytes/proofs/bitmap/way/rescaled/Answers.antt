@@ -1,4 +1,3 @@
--- Of `rescaled`: that it meets its contract.
 use Rattle.std.proofs.Common.{◌∙◌, List, ℕ}
 use Rattle.pix_el.specs.Pixel.{Layout, channel}
 use Rattle.pix_el.specs.Conversion.{at_depth}

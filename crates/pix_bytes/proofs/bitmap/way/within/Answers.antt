@@ -1,4 +1,3 @@
--- Of `within`: that it meets its contract.
 use Rattle.std.proofs.Common.{◌∙◌, refl, List, ℕ}
 use Rattle.pix_el.specs.Conversion.{Format, of_depth, channel_reencoded}
 use Rattle.pix_el.proofs.Conversions.{four_channels}

@@ -1,4 +1,3 @@
--- Of `Channel::add_run`: that it meets its contract, and that the invariant of its loop over `i` holds at first and stays.
 use Rattle.std.proofs.Common.{sym, arith, map}
 use Rattle.pix_chan.specs.Number.{saturating_sum}
 use Rattle.pix_chan.proofs.Slices.{over-nil, paired_step, paired_whole}

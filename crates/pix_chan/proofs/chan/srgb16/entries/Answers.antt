@@ -1,4 +1,3 @@
--- Of `entries`: that it meets its contract.
 use Rattle.std.proofs.Common.{◌∙◌, refl}
 use Rattle.pix_chan.proofs.Planes.{cons}
 use Rattle.pix_chan.proofs.SrgbLanes.{entries_are}

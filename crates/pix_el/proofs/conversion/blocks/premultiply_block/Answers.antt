@@ -1,4 +1,3 @@
--- Of `premultiply_block`: that it meets its contract, and that the invariant of its loop over `k` holds at first and stays.
 use Rattle.std.proofs.Common.{◌≡◌, ◌+◌, ◌*◌, ◌-◌, ◌∙◌, take, drop, sym, ap, arith, map, refl, List, ℕ}
 use Rattle.std.proofs.lemmas.List.{length-map, length-take, length-drop}
 use Rattle.pix_el.specs.Planes.{premultiplied_four}

@@ -1,4 +1,3 @@
--- Of `Pixel::composite_channels`: that it meets its contract.
 use Rattle.std.proofs.Common.{◌≡◌, ◌-◌, ◌+◌, ℕ, List, map, subst, arith, sym, ap, ◌∙◌, refl}
 use Rattle.pix_el.specs.Pixel.{Layout, alpha_of}
 use Rattle.pix_el.specs.PixelComposite.{pixel_composite}

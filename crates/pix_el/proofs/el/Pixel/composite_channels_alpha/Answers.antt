@@ -1,4 +1,3 @@
--- Of `Pixel::composite_channels_alpha`: that it meets its contract.
 use Rattle.std.proofs.Common.{◌≡◌, ◌+◌, ◌≤◌, ℕ, List, map, sym, ap, subst, ◌∙◌, refl}
 use Rattle.pix_el.specs.Pixel.{Layout}
 use Rattle.pix_el.specs.PixelComposite.{pixel_composite, matted_color, matted_composite}

@@ -1,4 +1,3 @@
--- Of `Pixel::composite_matte`: that it meets its contract, and that the invariant of its loop over `i` holds after each turn.
 use Rattle.std.proofs.Common.{◌≡◌, sym, ap, arith, get_or, List, ℕ}
 use Rattle.pix_chan.specs.declared.chan.modes.Linear.{Linear}
 use Rattle.pix_el.specs.declared.el.Pix.{Pix}

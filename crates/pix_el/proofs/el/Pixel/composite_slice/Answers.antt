@@ -1,4 +1,3 @@
--- Of `Pixel::composite_slice`: that it meets its contract, and that the invariant of its loop over `i` holds after each turn.
 use Rattle.std.proofs.Common.{sym, ap, arith, get_or, List, ℕ}
 use Rattle.pix_el.specs.PixelComposite.{pixel_composite}
 use Rattle.pix_el.proofs.Blocks.{next_pixel, whole_run}

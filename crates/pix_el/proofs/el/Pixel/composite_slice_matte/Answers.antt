@@ -1,4 +1,3 @@
--- Of `Pixel::composite_slice_matte`: that it meets its contract, and that the invariant of its loop over `i` holds after each turn.
 use Rattle.std.proofs.Common.{◌≡◌, ◌+◌, ◌∙◌, sym, ap, arith, get_or, map, List, ℕ, refl}
 use Rattle.std.specs.List.{zip}
 use Rattle.std.proofs.lemmas.List.{length-map}

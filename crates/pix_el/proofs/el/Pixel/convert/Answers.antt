@@ -1,4 +1,3 @@
--- Of `Pixel::convert`: that it meets its contract, and the condition of its call of `from_four`.
 use Rattle.std.proofs.Common.{sym, ◌∙◌, [], ◌∷◌}
 use Rattle.std.specs.Prelude.{◌≢◌}
 use Rattle.pix_el.specs.Conversion.{Format}

@@ -1,4 +1,3 @@
--- Of `Pixel::copy_color`: that it meets its contract, and that the invariant of its loop over `d` holds at first and stays.
 use Rattle.std.proofs.Common.{arith, refl}
 use Rattle.pix_el.proofs.Written.{written_none, written_more, written_same}
 use Rattle.pix_el.proofs.el.Pixel.copy_color.Goals as goal

@@ -1,4 +1,3 @@
--- Of `Pixel::copy_slice`: that it meets its contract.
 use Rattle.std.proofs.Common.{drop, ◌++◌, ap, ◌∙◌, List}
 use Rattle.pix_el.proofs.Written.{over_copied}
 use Rattle.pix_el.proofs.el.Pixel.copy_slice.Goals as goal

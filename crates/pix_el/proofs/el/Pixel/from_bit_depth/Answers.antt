@@ -1,4 +1,3 @@
--- Of `Pixel::from_bit_depth`: that it meets its contract, and the condition of its call of `from_four`.
 use Rattle.std.proofs.Common.{◌≤◌, ap}
 use Rattle.pix_el.specs.Pixel.{Layout}
 use Rattle.pix_el.proofs.Conversions.{made_of_depth, few_channels}

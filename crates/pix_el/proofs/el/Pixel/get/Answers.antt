@@ -1,4 +1,3 @@
--- Of `Pixel::get`: that it meets its contract.
 use Rattle.std.proofs.Common.{◌≡◌, ◌∙◌, Option, Some, None, map, get_or, refl, ap, sym, arith}
 use Rattle.std.specs.Option.{unwrap_or, option_map}
 use Rattle.std.proofs.Math.ListN.{get_or-map}

@@ -1,4 +1,3 @@
--- Of `Light::decode_srgb_slice`: that it meets its contract, and that the invariant of its loop over `i` holds after each turn.
 use Rattle.std.proofs.Common.{◌+◌, ◌∙◌, sym, ap, arith, map, get_or, refl, List, ℕ}
 use Rattle.std.proofs.lemmas.List.{length-map, get_or-map, get_or_default}
 use Rattle.pix_el.specs.Light.{in_light}

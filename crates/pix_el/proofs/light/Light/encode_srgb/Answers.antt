@@ -1,4 +1,3 @@
--- Of `Light::encode_srgb`: that it meets its contract.
 use Rattle.pix_el.specs.Conversion.{Format}
 use Rattle.std.proofs.Common.{ap, ◌∙◌}
 use Rattle.pix_el.proofs.Conversions.{few_channels}

@@ -1,4 +1,3 @@
--- Of `Light::encode_srgb_slice`: that it meets its contract, and that the invariant of its loop over `i` holds after each turn.
 use Rattle.std.proofs.Common.{arith, get_or, List, ℕ}
 use Rattle.std.proofs.lemmas.List.{get_or_default}
 use Rattle.pix_el.specs.Light.{as_srgb}

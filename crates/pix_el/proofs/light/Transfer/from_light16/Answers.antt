@@ -1,4 +1,3 @@
--- Of `Transfer::from_light16`: that it meets its contract.
 use Rattle.std.proofs.Common.{◌∙◌, arith, sym}
 use Rattle.std.proofs.lemmas.Simd.{map-map}
 use Rattle.pix_chan.specs.Srgb16.{srgb_encoded8}

@@ -1,4 +1,3 @@
--- Of `encoded`: that it meets its contract, and that its numbers fit.
 use Rattle.std.proofs.Common.{◌∙◌, map, ap, sym, subst, Fits}
 use Rattle.std.proofs.lemmas.List.{map-id}
 use mir.Syntax.{w8}

@@ -1,4 +1,3 @@
--- Of `four_changed`: that it meets its contract.
 use Rattle.std.proofs.Common.{arith, ap, ◌∙◌, List, ℕ}
 use Rattle.pix_el.specs.LightBlocks.{changed_four}
 use Rattle.pix_el.proofs.FourPlanes.{mapped4}

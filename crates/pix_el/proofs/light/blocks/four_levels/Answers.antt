@@ -1,4 +1,3 @@
--- Of `four_levels`: that it meets its contract.
 use Rattle.std.proofs.Common.{◌∙◌, ap, arith, map}
 use Rattle.std.proofs.lemmas.List.{length-map}
 use Rattle.pix_chan.specs.Srgb16.{srgb_encoded8}

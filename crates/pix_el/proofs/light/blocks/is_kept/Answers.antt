@@ -1,4 +1,3 @@
--- Of `is_kept`: that it meets its contract.
 use Rattle.std.proofs.Common.{◌≡◌, sym, ap, ◌∙◌, arith}
 use Rattle.std.proofs.lemmas.Bool.Decides.{nat_tests}
 use Rattle.pix_el.proofs.InLight.{opaque}

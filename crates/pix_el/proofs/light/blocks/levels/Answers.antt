@@ -1,4 +1,3 @@
--- Of `levels`: that it meets its contract.
 use Rattle.std.proofs.Common.{arith}
 use Rattle.std.proofs.lemmas.Simd.{pick_l_whole}
 use Rattle.pix_el.proofs.light.blocks.levels.Goals as goal

@@ -1,4 +1,3 @@
--- Of `put_shown`: that it meets its contract, and the conditions of its calls of `shown`.
 use Rattle.std.proofs.Common.{arith}
 use Rattle.pix_el.specs.Light.{as_srgb}
 use Rattle.pix_el.specs.LightBlocks.{changed_four}

@@ -1,4 +1,3 @@
--- Of `shown`: that it meets its contract.
 use Rattle.std.proofs.Common.{◌≡◌, ap, ◌∙◌, refl}
 use Rattle.pix_el.specs.Conversion.{Format}
 use Rattle.pix_el.proofs.Conversions.{few_channels}

@@ -1,4 +1,3 @@
--- Of `eight_values`: that it meets its contract.
 use Rattle.std.proofs.Common.{◌∙◌, ap, arith}
 use Rattle.pix_chan.proofs.Sixteen.{mapped8}
 use Rattle.pix_el.proofs.planes.coverage.eight_values.Goals as goal

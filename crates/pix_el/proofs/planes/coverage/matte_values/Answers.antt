@@ -1,4 +1,3 @@
--- Of `matte_values`: that it meets its contract.
 use Rattle.std.proofs.Common.{◌∙◌, ap, arith}
 use Rattle.pix_el.proofs.MattePlanes.{mapped16}
 use Rattle.pix_el.proofs.planes.coverage.matte_values.Goals as goal

@@ -1,4 +1,3 @@
--- Of `composite_eight`: that it meets its contract.
 use Rattle.std.proofs.Common.{◌≡◌, ◌∙◌, ◌-◌, ap, sym, arith, map, List, ℕ}
 use Rattle.std.proofs.lemmas.List.{length-map}
 use Rattle.pix_el.specs.Pixel.{Layout}

@@ -1,4 +1,3 @@
--- Of `eight_times`: that it meets its contract.
 use Rattle.pix_el.proofs.EightPixels.{color_eight_times}
 use Rattle.pix_el.proofs.planes.eight.eight_times.Goals as goal
 

@@ -1,4 +1,3 @@
--- Of `joined`: that it meets its contract.
 use Rattle.std.proofs.Common.{arith, refl}
 use Rattle.pix_chan.proofs.Sixteen.{is_sixteen}
 use Rattle.pix_el.proofs.planes.eight.joined.Goals as goal

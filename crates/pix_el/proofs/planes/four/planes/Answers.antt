@@ -1,4 +1,3 @@
--- Of `planes`: that it meets its contract.
 use Rattle.std.proofs.Common.{◌++◌, arith, map}
 use Rattle.std.proofs.lemmas.List.{length-map}
 use Rattle.pix_el.proofs.FourPlanes.{are_planes}

@@ -1,4 +1,3 @@
--- Of `put_planes`: that it meets its contract.
 use Rattle.std.proofs.Common.{◌∙◌, ap}
 use Rattle.pix_el.specs.Planes.{by_fours}
 use Rattle.pix_el.proofs.planes.four.put_planes.Goals as goal

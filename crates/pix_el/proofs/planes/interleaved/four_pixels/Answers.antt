@@ -1,4 +1,3 @@
--- Of `four_pixels`: that it meets its contract.
 use Rattle.std.proofs.Common.{◌∙◌, ap, arith}
 use Rattle.pix_el.proofs.FourPlanes.{mapped4}
 use Rattle.pix_el.proofs.planes.interleaved.four_pixels.Goals as goal

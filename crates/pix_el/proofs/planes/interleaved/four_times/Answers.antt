@@ -1,4 +1,3 @@
--- Of `four_times`: that it meets its contract.
 use Rattle.pix_el.proofs.FourPixels.{color_four_times}
 use Rattle.pix_el.proofs.planes.interleaved.four_times.Goals as goal
 

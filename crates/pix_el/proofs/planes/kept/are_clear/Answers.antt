@@ -1,4 +1,3 @@
--- Of `are_clear`: that it meets its contract, and that the invariant of its loop over `i` holds at first and stays.
 use Rattle.std.proofs.Common.{◌≡◌, ◌∙◌, map, length, sym, ap, arith, inl, inr, eqb-true}
 use Rattle.std.proofs.lemmas.Bool.{cases_lt}
 use Rattle.std.proofs.lemmas.List.{length-map, get_or-map, get_or_past}

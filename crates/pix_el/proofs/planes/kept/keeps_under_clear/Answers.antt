@@ -1,4 +1,3 @@
--- Of `keeps_under_clear`: that it meets its contract.
 use Rattle.std.proofs.Common.{◌≡◌, ◌-◌, ◌∙◌, ap, sym, arith, eqb-true}
 use Rattle.pix_ops.specs.Composite.{term}
 use Rattle.pix_el.proofs.Kept.{keeps_clear}

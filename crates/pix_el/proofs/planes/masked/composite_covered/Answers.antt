@@ -1,4 +1,3 @@
--- Of `composite_covered`: that it meets its contract.
 use Rattle.std.proofs.Common.{◌≡◌, ◌∙◌, ap, arith, map, List, [], ◌∷◌, ℕ}
 use Rattle.std.specs.List.{zip}
 use Rattle.pix_chan.specs.Runs.{over}

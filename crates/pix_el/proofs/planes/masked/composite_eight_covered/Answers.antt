@@ -1,4 +1,3 @@
--- Of `composite_eight_covered`: that it meets its contract.
 use Rattle.std.proofs.Common.{◌≡◌, ◌∙◌, ap, arith, map, length, List, ℕ}
 use Rattle.std.proofs.lemmas.List.{length-map}
 use Rattle.std.specs.List.{zip}

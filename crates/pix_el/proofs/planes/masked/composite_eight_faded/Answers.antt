@@ -1,4 +1,3 @@
--- Of `composite_eight_faded`: that it meets its contract.
 use Rattle.std.proofs.Common.{◌≡◌, ◌∙◌, ap, sym, arith, map, length, List, ℕ, replicate}
 use Rattle.std.proofs.lemmas.List.{length-map}
 use Rattle.pix_chan.specs.Runs.{over}

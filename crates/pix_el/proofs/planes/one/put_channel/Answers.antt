@@ -1,4 +1,3 @@
--- Of `put_channel`: that it meets its contract.
 use Rattle.std.proofs.Common.{◌∙◌, ap, arith, map, set}
 use Rattle.pix_el.proofs.OnePlane.{one_set}
 use Rattle.pix_el.proofs.planes.one.put_channel.Goals as goal

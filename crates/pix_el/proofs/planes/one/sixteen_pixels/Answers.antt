@@ -1,4 +1,3 @@
--- Of `sixteen_pixels`: that it meets its contract.
 use Rattle.std.proofs.Common.{◌∙◌, ap, arith}
 use Rattle.pix_el.proofs.MattePlanes.{mapped16}
 use Rattle.pix_el.proofs.planes.one.sixteen_pixels.Goals as goal

@@ -1,4 +1,3 @@
--- Of `fours`: that it meets its contract.
 use Rattle.std.proofs.Common.{◌∙◌, ap, sym, arith, map, take, drop}
 use Rattle.std.proofs.lemmas.List.{length-map}
 use Rattle.pix_el.proofs.FourPlanes.{by_parts, parts}

@@ -1,4 +1,3 @@
--- Of `put_fours`: that it meets its contract.
 use Rattle.std.proofs.Common.{◌∙◌, ap, arith, map}
 use Rattle.std.proofs.lemmas.List.{length-map}
 use Rattle.pix_el.proofs.FourPlanes.{by_parts, parts_put}

@@ -1,4 +1,3 @@
--- Of `composite_matted`: that it meets its contract.
 use Rattle.std.proofs.Common.{◌≡◌, ◌∙◌, ap, sym, map, length, ℕ, [], ◌∷◌}
 use Rattle.std.proofs.lemmas.List.{length-map}
 use Rattle.pix_chan.specs.Product.{channel_product}

@@ -1,4 +1,3 @@
--- Of `planes`: that it meets its contract.
 use Rattle.std.proofs.Common.{◌≡◌, ◌∙◌, ◌++◌, ap, sym, arith, map, take, drop}
 use Rattle.std.proofs.lemmas.List.{length-map, map-append}
 use Rattle.pix_el.specs.Planes.{by_twos}

@@ -1,4 +1,3 @@
--- Of `put_pixel`: that it meets its contract.
 use Rattle.std.proofs.Common.{◌∙◌, ap, arith, map, set}
 use Rattle.pix_el.proofs.TwoPlanes.{two_set}
 use Rattle.pix_el.proofs.planes.two.put_pixel.Goals as goal

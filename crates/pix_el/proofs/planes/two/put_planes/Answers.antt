@@ -1,4 +1,3 @@
--- Of `put_planes`: that it meets its contract.
 use Rattle.std.proofs.Common.{◌∙◌, ap, sym, arith, map}
 use Rattle.std.proofs.lemmas.List.{length-map, map-append}
 use Rattle.pix_el.specs.Planes.{by_twos}

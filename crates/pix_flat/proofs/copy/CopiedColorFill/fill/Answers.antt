@@ -1,4 +1,3 @@
--- Of `CopiedColorFill::fill`: that it meets its contract, and that the invariant of its loop over `pixel` holds at first and stays.
 use Rattle.std.proofs.Common.{arith, refl, map, ap, ◌∙◌}
 use Rattle.pix_el.proofs.Written.{written_none, written_more, written_same}
 use Rattle.pix_raster.proofs.Copies.{map_color}

@@ -1,4 +1,3 @@
--- Of `CopiedPixelsBlit::blit`: that it meets its contract.
 use Rattle.std.proofs.Common.{drop, map, ◌++◌, ap, ◌∙◌, List}
 use Rattle.pix_el.proofs.Written.{over_copied}
 use Rattle.pix_raster.proofs.Copies.{map_over}

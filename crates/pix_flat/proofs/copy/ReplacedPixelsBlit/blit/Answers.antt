@@ -1,4 +1,3 @@
--- Of `ReplacedPixelsBlit::blit`: that it meets its contract.
 use Rattle.std.proofs.Common.{◌∙◌, map}
 use Rattle.pix_flat.proofs.Replaced.{src_row}
 use Rattle.pix_flat.proofs.copy.ReplacedPixelsBlit.blit.Goals as goal

@@ -1,4 +1,3 @@
--- Of `CompositeSliceVisitor::visit`: that it meets its contract, and the condition of its call of `blit_window`.
 use Rattle.std.proofs.Common.{◌<◌, ℕ, List, refl, sym, ap, subst, ◌∙◌, length, arith}
 use Rattle.pix_ops.specs.declared.ops.Op.{Op}
 use Rattle.pix_el.specs.PixelComposite.{pixel_composite, matted_composite, matte_value}

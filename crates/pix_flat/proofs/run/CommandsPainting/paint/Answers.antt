@@ -1,4 +1,3 @@
--- Of the painting of a list of commands: that it meets its contract, that the invariant of its loop over `command` holds at first and stays, and the condition of its call of `paint`.
 use Rattle.std.proofs.Common.{◌≡◌, ◌<◌, ◌+◌, ◌∷◌, [], length, map, drop, get_or, sym, ap, ◌∙◌, arith, refl, subst}
 use Rattle.std.proofs.lemmas.List.{length-map, get_or-map, drop_all}
 use Rattle.pix_raster.specs.Region.{limit}

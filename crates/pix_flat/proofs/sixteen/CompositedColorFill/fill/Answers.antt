@@ -1,4 +1,3 @@
--- Of `CompositedColorFill::fill`: that it meets its contract, and that the invariant of its loop over `i` holds at first and stays.
 use Rattle.std.proofs.Common.{◌+◌, ◌∙◌, length, sym, ap, arith, map, refl, replicate, List, ℕ}
 use Rattle.std.proofs.lemmas.List.{length-map}
 use Rattle.pix_el.specs.PixelComposite.{pixel_composite}

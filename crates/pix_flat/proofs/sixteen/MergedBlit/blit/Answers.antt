@@ -1,4 +1,3 @@
--- Of `MergedBlit::blit`: that it meets its contract, and that the invariant of its loop over `i` holds after each turn.
 use Rattle.std.proofs.Common.{◌≡◌, ◌≤◌, ◌+◌, ◌-◌, ◌∙◌, length, drop, sym, ap, arith, map, refl, List, ℕ}
 use Rattle.std.proofs.lemmas.List.{length-map, length-take, length-drop, get_or-map}
 use Rattle.pix_chan.proofs.Slices.{mapped_one_step, over_both}

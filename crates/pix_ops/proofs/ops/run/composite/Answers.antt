@@ -1,4 +1,3 @@
--- Of `composite`: that it meets its contract, and that the invariant of its loop over `k` holds at first and stays.
 use Rattle.std.proofs.Common.{◌≡◌, ◌+◌, ◌-◌, ◌*◌, ◌∙◌, sym, ap, arith, length, map, take, drop, min, ℕ, List}
 use Rattle.std.proofs.lemmas.List.{length-map}
 use Rattle.pix_chan.specs.Runs.{triples}

@@ -1,4 +1,3 @@
--- Of `composite_block`: that it meets its contract.
 use Rattle.std.proofs.Common.{arith, map}
 use Rattle.std.proofs.lemmas.List.{length-map}
 use Rattle.pix_ops.proofs.RunTerms.{terms_and_sum}

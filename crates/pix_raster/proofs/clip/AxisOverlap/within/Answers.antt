@@ -1,4 +1,3 @@
--- Of `AxisOverlap::within`: that it meets its contract.
 use Rattle.std.proofs.Common.{◌≤◌, ◌<◌, arith}
 use Rattle.std.proofs.lemmas.Bool.Decides.{nat_tests}
 use Rattle.pix_raster.proofs.clip.AxisOverlap.within.Goals as goal

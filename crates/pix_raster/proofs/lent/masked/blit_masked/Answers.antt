@@ -1,4 +1,3 @@
--- Of `blit_masked`: that it meets its contract.
 use Rattle.std.proofs.Common.{rules}
 use Rattle.pix_raster.proofs.Masked.{changed_in_masked}
 use Rattle.pix_raster.proofs.lent.masked.blit_masked.Goals as goal

@@ -1,4 +1,3 @@
--- Of `overlap_in`: that it meets its contract.
 use Rattle.std.proofs.Common.{◌+◌, ◌∙◌, sym, arith}
 use Rattle.pix_raster.proofs.lent.masked.overlap_in.Goals as goal
 

@@ -1,4 +1,3 @@
--- Of `Raster::blit_masked`: that it meets its contract.
 use Rattle.std.proofs.Common.{◌≡◌, ◌+◌, ◌*◌, map, [], rules, refl, ◌∙◌, ap, get_or, arith}
 use Rattle.std.proofs.lemmas.List.{with_items_is}
 use Rattle.pix_raster.proofs.raster.Raster.blit_masked.Goals as goal

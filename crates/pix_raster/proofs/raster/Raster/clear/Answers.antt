@@ -1,4 +1,3 @@
--- Of `Raster::clear`: that it meets its contract.
 use Rattle.std.proofs.Common.{◌≡◌, ◌+◌, ◌*◌, ◌<◌, map, [], rules, refl, ◌∙◌, ap, get_or, length, replicate}
 use Rattle.std.proofs.lemmas.List.{with_items_is}
 use Rattle.pix_raster.proofs.Places.{place_within}

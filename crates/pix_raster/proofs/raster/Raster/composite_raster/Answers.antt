@@ -1,4 +1,3 @@
--- Of `Raster::composite_raster`: that it meets its contract.
 use Rattle.std.proofs.Common.{refl}
 use Rattle.pix_raster.specs.Run.{Composited}
 use Rattle.pix_raster.proofs.Steps.{changed_where_paired}

@@ -1,4 +1,3 @@
--- Of `Raster::composite_raster_alpha`: that it meets its contract.
 use Rattle.std.proofs.Common.{◌≡◌, ℕ, ◌+◌, ℤ, pos, ◌+ℤ◌, ◌-ℤ◌, ◌∙◌, List, ap, sym, subst}
 use Rattle.pix_chan.specs.declared.chan.modes.Linear.{Linear}
 use Rattle.pix_el.specs.declared.el.Pix.{Pix}

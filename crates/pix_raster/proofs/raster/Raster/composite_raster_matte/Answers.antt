@@ -1,4 +1,3 @@
--- Of `Raster::composite_raster_matte`: that it meets its contract.
 use Rattle.std.proofs.Common.{refl}
 use Rattle.pix_el.specs.PixelComposite.{matte_numbers}
 use Rattle.pix_raster.specs.Run.{Matted}

@@ -1,4 +1,3 @@
--- Of `Raster::copy_raster`: that it meets its contract.
 use Rattle.std.proofs.Common.{refl}
 use Rattle.pix_raster.specs.Run.{Copied}
 use Rattle.pix_raster.proofs.Steps.{changed_where_paired}

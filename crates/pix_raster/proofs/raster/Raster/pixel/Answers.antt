@@ -1,4 +1,3 @@
--- Of `Raster::pixel`: that it meets its contract, and the condition of its call of `index`.
 use Rattle.std.proofs.Common.{◌≡◌, ◌+◌, ◌*◌, SFits, w32, get_or, rules}
 use Rattle.std.specs.Prelude.{vec_len}
 use lib.IntN.{nat_abs}

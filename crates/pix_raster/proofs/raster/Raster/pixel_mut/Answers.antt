@@ -1,4 +1,3 @@
--- Of `Raster::pixel_mut`: that it meets its contract, and the condition of its call of `index_mut`.
 use Rattle.std.proofs.Common.{◌≡◌, ◌+◌, ◌*◌, SFits, w32, get_or, refl, ap, rules}
 use Rattle.std.specs.Prelude.{vec_len}
 use lib.IntN.{nat_abs}

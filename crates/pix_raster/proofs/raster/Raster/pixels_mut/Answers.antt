@@ -1,4 +1,3 @@
--- Of `Raster::pixels_mut`: that it meets its contract.
 use Rattle.std.proofs.Common.{ℕ, refl, ap, ◌∙◌, length, take, drop, ◌++◌}
 use Rattle.pix_raster.specs.Image.{Image}
 use Rattle.pix_raster.proofs.raster.Raster.pixels_mut.Goals as goal

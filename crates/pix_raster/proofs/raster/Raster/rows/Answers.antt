@@ -1,4 +1,3 @@
--- Of `Raster::rows`: that it meets its contract, and that the result keeps the invariant of its type.
 use Rattle.std.proofs.Common.{◌∙◌}
 use Rattle.pix_raster.specs.Image.{Image}
 use Rattle.pix_raster.proofs.Views.{walk_fits, walk_is}

@@ -1,4 +1,3 @@
--- Of `Raster::rows_mut`: that it meets its contract, that its ranges lie in their slices, and that the result keeps the invariant of its type.
 use Rattle.std.proofs.Common.{arith, ◌∙◌}
 use borrow.Author.Rules.{scaled_fits≤}
 use Rattle.pix_raster.specs.Image.{Image}

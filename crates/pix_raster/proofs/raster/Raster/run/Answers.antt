@@ -1,4 +1,3 @@
--- Of `Raster::run`: that it meets its contract.
 use Rattle.pix_el.specs.PixelComposite.{matte_numbers}
 use Rattle.pix_raster.specs.Claims.{IsImageRun}
 use Rattle.pix_raster.proofs.Seen.{commands_there}

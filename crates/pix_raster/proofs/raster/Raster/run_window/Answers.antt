@@ -1,4 +1,3 @@
--- Of `Raster::run_window`: that it meets its contract.
 use Rattle.std.specs.Vec.{with_items}
 use Rattle.std.proofs.lemmas.List.{with_items_is}
 use Rattle.pix_raster.specs.Run.{run_at}

@@ -1,4 +1,3 @@
--- Of `pack`: that it meets its contract, that the invariant of its loop over `k` stays, and that its ranges lie in their slices.
 use Rattle.std.proofs.Common.{◌≡◌, ◌≤◌, ◌+◌, ◌-◌, ◌*◌, ◌/◌, length, map, take, drop, sym, refl, ap, ◌∙◌, arith, rules}
 use Rattle.std.specs.List.{flat_map}
 use Rattle.std.proofs.lemmas.List.{length-take, length-drop}

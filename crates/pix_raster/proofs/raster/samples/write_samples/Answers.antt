@@ -1,4 +1,3 @@
--- Of `write_samples`: that it meets its contract, and that the invariant of its loop over `i` holds after each turn.
 use Rattle.std.proofs.Common.{arith}
 use Rattle.pix_raster.proofs.Samples.{same_more, same_all}
 use Rattle.pix_raster.proofs.raster.samples.write_samples.Goals as goal

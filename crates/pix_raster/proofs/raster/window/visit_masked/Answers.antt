@@ -1,4 +1,3 @@
--- Of `visit_masked`: that it meets its contract.
 use Rattle.std.proofs.Common.{◌≡◌, ◌+◌, ap, sym, ◌∙◌}
 use Rattle.pix_ops.specs.declared.ops.Op.{Op}
 use Rattle.pix_el.specs.Pixel.{Layout, channel}

@@ -1,4 +1,3 @@
--- Of `OneWordFillU32::fill`: that it meets its contract, and that the invariant of its loop over `word` holds at first and stays.
 use Rattle.std.proofs.Common.{arith, refl, map, ap, ◌∙◌, List, ℕ, [], ◌∷◌}
 use Rattle.pix_el.proofs.Written.{written_none, written_more, written_same}
 use Rattle.pix_raster.proofs.Copies.{map_color}

@@ -1,4 +1,3 @@
--- Of `Stored::from_number`: that it meets its contract.
 use Rattle.std.proofs.Common.{◌≡◌, ◌<◌, length, sym, ap, ◌∙◌}
 use Rattle.std.specs.Prelude.{slice_get, Some, unwrap_or}
 use Rattle.std.specs.Option.{option_map}

@@ -1,4 +1,3 @@
--- Of `ConvertedWay::go`: that it meets its contract.
 use Rattle.std.proofs.Common.{◌∙◌, ap, sym, refl, take, List, ℕ, arith}
 use Rattle.std.specs.Prelude.{◌≢◌}
 use Rattle.pix_el.specs.Color.{of_rgba}

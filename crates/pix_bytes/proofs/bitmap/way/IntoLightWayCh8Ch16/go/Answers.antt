@@ -1,4 +1,3 @@
--- Of `IntoLightWayCh8Ch16::go`: that it meets its contract.
 use Rattle.std.proofs.Common.{◌+◌, ◌∙◌, ap, sym, refl, List, ℕ}
 use Rattle.pix_chan.specs.Modes.{Linear}
 use Rattle.pix_chan.specs.declared.chan.bits8.Ch8.{Ch8}

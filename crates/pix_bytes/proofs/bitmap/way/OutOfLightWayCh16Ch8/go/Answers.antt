@@ -1,4 +1,3 @@
--- Of `OutOfLightWayCh16Ch8::go`: that it meets its contract.
 use Rattle.std.proofs.Common.{◌≡◌, ◌+◌, ◌∙◌, ap, sym, refl, take, List, ℕ, arith}
 use Rattle.pix_chan.specs.Modes.{Linear}
 use Rattle.pix_chan.specs.declared.chan.bits8.Ch8.{Ch8}

@@ -1,4 +1,3 @@
--- Of `OutOfLightWayCh16Ch8::go_ahead`: that it meets its contract.
 use Rattle.std.proofs.Common.{◌≡◌, true, false, sym, arith}
 use Rattle.pix_bytes.specs.Shown.{shown}
 use Rattle.pix_bytes.proofs.ShownFours.{rgba_shown, bgra_shown, each_same}

@@ -1,4 +1,3 @@
--- Of `PixCh8Bytes::write`: that it meets its contract.
 use Rattle.std.proofs.Common.{◌≡◌, List, length, get_or, map, sym, ap, ◌∙◌, arith}
 use Rattle.std.proofs.lemmas.List.{length-map}
 use Rattle.std.proofs.lemmas.Grind.{same_number_lists}

@@ -1,4 +1,3 @@
--- Of `encode_srgb8_lanes`: that it meets its contract.
 use Rattle.pix_chan.proofs.SrgbLanes.{levels_are}
 use Rattle.pix_chan.proofs.chan.bits16.Ch16.encode_srgb8_lanes.Goals as goal
 

@@ -1,4 +1,3 @@
--- Of `Ch16Add::add`: that it meets its contract.
 use Rattle.std.proofs.Common.{rules}
 use Rattle.pix_chan.proofs.chan.bits16.Ch16Add.add.Goals as goal
 

@@ -1,4 +1,3 @@
--- Of `Ch16Channel::add_run`: that it meets its contract, and that the invariant of its loop over `k` and `i` holds at first and stays.
 use Rattle.std.proofs.Common.{◌≡◌, ◌∙◌, ◌*◌, ◌/◌, ℕ, sym, ap, arith, map, take}
 use Rattle.pix_chan.specs.declared.chan.bits16.Ch16.{Ch16}
 use Rattle.pix_chan.specs.Number.{saturating_sum}

@@ -1,4 +1,3 @@
--- Of `Ch16Channel::alphas8`: that it meets its contract.
 use Rattle.std.proofs.Common.{◌≡◌, ◌∙◌, ap, arith, length, map, ℕ}
 use Rattle.pix_chan.specs.declared.chan.bits16.Ch16.{Ch16}
 use Rattle.pix_chan.specs.Planes.{last_of_four}

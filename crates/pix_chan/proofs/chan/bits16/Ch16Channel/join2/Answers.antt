@@ -1,4 +1,3 @@
--- Of `Ch16Channel::join2`: that it meets its contract.
 use Rattle.std.proofs.Common.{◌∙◌, arith, map, ap, sym, take, drop}
 use Rattle.std.proofs.lemmas.List.{length-map, length-take, map-append}
 use Rattle.pix_chan.specs.declared.chan.bits16.Ch16.{Ch16}

@@ -1,4 +1,3 @@
--- Of `Ch16Channel::join4`: that it meets its contract.
 use Rattle.std.proofs.Common.{◌∙◌, arith, map}
 use Rattle.std.proofs.lemmas.List.{length-map}
 use Rattle.pix_chan.specs.declared.chan.bits16.Ch16.{Ch16}

@@ -1,4 +1,3 @@
--- Of `Ch16Channel::less16`: that it meets its contract.
 use Rattle.std.proofs.Common.{List, ◌-◌, arith, ap, map}
 use Rattle.pix_chan.specs.declared.chan.bits16.Ch16.{Ch16}
 use Rattle.pix_chan.proofs.Sixteen.{whole16}

@@ -1,4 +1,3 @@
--- Of `Ch16Channel::split2`: that it meets its contract.
 use Rattle.std.proofs.Common.{◌≡◌, ◌∙◌, arith, length, map, ◌++◌}
 use Rattle.std.proofs.lemmas.Simd.{pick_l_whole}
 use Rattle.std.proofs.lemmas.List.{length-map, length-append}

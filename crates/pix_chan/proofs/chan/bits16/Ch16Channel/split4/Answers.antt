@@ -1,4 +1,3 @@
--- Of `Ch16Channel::split4`: that it meets its contract.
 use Rattle.std.proofs.Common.{◌∙◌, arith, sym, map}
 use Rattle.std.proofs.lemmas.List.{length-map}
 use Rattle.pix_chan.specs.declared.chan.bits16.Ch16.{Ch16}

@@ -1,4 +1,3 @@
--- Of `Ch16Div::div`: that it meets its contract.
 use Rattle.std.proofs.Common.{rules}
 use Rattle.pix_chan.proofs.chan.bits16.Ch16Div.div.Goals as goal
 

@@ -1,4 +1,3 @@
--- Of `Ch16Mul::mul`: that it meets its contract.
 use Rattle.std.proofs.Common.{rules}
 use Rattle.pix_chan.specs.Product.{channel_product}
 use Rattle.pix_chan.proofs.chan.bits16.Ch16Mul.mul.Goals as goal

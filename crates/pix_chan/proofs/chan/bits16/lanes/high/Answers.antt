@@ -1,4 +1,3 @@
--- Of `high`: that it meets its contract, and that its numbers fit.
 use Rattle.std.proofs.Common.{sym, subst, arith, Fits}
 use mir.Syntax.{w16}
 use lib.Lanes.{Each1}

@@ -1,4 +1,3 @@
--- Of `product_lanes`: that it meets its contract.
 use Rattle.std.proofs.Common.{◌∙◌, ◌^◌, ap}
 use lib.Lanes.{zip2}
 use Rattle.pix_chan.specs.Lanes.{carried}

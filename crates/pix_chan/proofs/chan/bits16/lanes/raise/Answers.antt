@@ -1,4 +1,3 @@
--- Of `raise`: that it meets its contract, and that its numbers fit.
 use Rattle.std.proofs.Common.{arith}
 use Rattle.pix_chan.proofs.Lanes16.{sums_in_range, rests_in_range, raise_are}
 use Rattle.pix_chan.proofs.chan.bits16.lanes.raise.Goals as goal

@@ -1,4 +1,3 @@
--- Of `spread`: that it meets its contract.
 use Rattle.std.proofs.Common.{arith}
 use Rattle.pix_chan.proofs.Words.{spread_are}
 use Rattle.pix_chan.proofs.chan.bits16.lanes.spread.Goals as goal

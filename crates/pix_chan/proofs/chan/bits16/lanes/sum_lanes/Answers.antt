@@ -1,4 +1,3 @@
--- Of `sum_lanes`: that it meets its contract.
 use Rattle.std.proofs.Common.{arith}
 use Rattle.pix_chan.proofs.Lanes16.{sums_of_words}
 use Rattle.pix_chan.proofs.chan.bits16.lanes.sum_lanes.Goals as goal

@@ -1,4 +1,3 @@
--- Of `units`: that it meets its contract, and that the invariant of its loop over `i` holds at first and stays.
 use Rattle.std.proofs.Common.{◌+◌, ◌∙◌, ℕ, sym, arith, map, refl, replicate, get_or}
 use Rattle.std.proofs.lemmas.List.{length-map, get_or-map}
 use Rattle.pix_chan.specs.declared.chan.bits16.Ch16.{Ch16}

@@ -1,4 +1,3 @@
--- Of `both`: that it meets its contract.
 use Rattle.std.proofs.Common.{arith}
 use Rattle.pix_chan.specs.declared.chan.bits16.Ch16.{Ch16}
 use Rattle.pix_chan.proofs.Sixteen.{both_are}

@@ -1,4 +1,3 @@
--- Of `Ch8Add::add`: that it meets its contract.
 use Rattle.std.proofs.Common.{rules}
 use Rattle.pix_chan.proofs.chan.bits8.Ch8Add.add.Goals as goal
 

@@ -1,4 +1,3 @@
--- Of `Ch8Channel::add_run`: that it meets its contract, and that the invariant of its loop over `k`, `j` and `i` holds at first and stays.
 use Rattle.std.proofs.Common.{◌≡◌, ◌∙◌, ◌*◌, ◌/◌, ℕ, sym, ap, arith, map, take}
 use Rattle.pix_chan.specs.declared.chan.bits8.Ch8.{Ch8}
 use Rattle.pix_chan.specs.Number.{saturating_sum}

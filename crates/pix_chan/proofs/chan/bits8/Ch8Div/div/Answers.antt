@@ -1,4 +1,3 @@
--- Of `Ch8Div::div`: that it meets its contract.
 use Rattle.std.proofs.Common.{rules}
 use Rattle.pix_chan.proofs.Quotient.{cut_quotient}
 use Rattle.pix_chan.proofs.chan.bits8.Ch8Div.div.Goals as goal

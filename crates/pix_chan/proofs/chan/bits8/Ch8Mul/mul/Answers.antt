@@ -1,4 +1,3 @@
--- Of `Ch8Mul::mul`: that it meets its contract.
 use Rattle.std.proofs.Common.{rules}
 use Rattle.pix_chan.specs.Product.{channel_product}
 use Rattle.pix_chan.proofs.chan.bits8.Ch8Mul.mul.Goals as goal

@@ -1,4 +1,3 @@
--- Of `channels`: that it meets its contract.
 use Rattle.std.proofs.Common.{arith}
 use Rattle.std.proofs.lemmas.Simd.{pick_l_whole}
 use Rattle.pix_chan.proofs.chan.bits8.lanes.channels.Goals as goal

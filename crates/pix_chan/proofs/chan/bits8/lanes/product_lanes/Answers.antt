@@ -1,4 +1,3 @@
--- Of `product_lanes`: that it meets its contract, and that its numbers fit.
 use Rattle.std.proofs.Common.{◌∙◌, sym, subst, arith, w8, map, ap, Fits}
 use mir.Syntax.{w16}
 use lib.Lanes.{Each1}

@@ -1,4 +1,3 @@
--- Of `sum_lanes`: that it meets its contract.
 use Rattle.std.proofs.Common.{arith}
 use Rattle.pix_chan.proofs.Lanes.{sum_bytes}
 use Rattle.pix_chan.proofs.chan.bits8.lanes.sum_lanes.Goals as goal

@@ -1,4 +1,3 @@
--- Of `units`: that it meets its contract.
 use Rattle.std.proofs.Common.{arith, ap, map}
 use Rattle.pix_chan.specs.declared.chan.bits8.Ch8.{Ch8}
 use Rattle.pix_chan.proofs.Sixteen.{whole16}

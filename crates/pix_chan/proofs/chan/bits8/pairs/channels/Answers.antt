@@ -1,4 +1,3 @@
--- Of `channels`: that it meets its contract, and that the invariant of its loop over `i` holds at first and stays.
 use Rattle.std.proofs.Common.{◌+◌, ◌∙◌, ℕ, sym, arith, refl, replicate, get_or, lit<}
 use Rattle.pix_chan.specs.declared.chan.bits8.Ch8.{Ch8}
 use Rattle.pix_chan.proofs.Slices.{over-nil, mapped_put_step}

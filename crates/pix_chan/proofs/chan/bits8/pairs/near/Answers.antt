@@ -1,4 +1,3 @@
--- Of `near`: that it meets its contract, and that its numbers fit.
 use Rattle.std.proofs.Common.{◌∙◌, sym, subst, arith, map, ap, Fits}
 use mir.Syntax.{w16}
 use lib.Lanes.{Each1}

@@ -1,4 +1,3 @@
--- Of `product_lanes`: that it meets its contract.
 use Rattle.std.proofs.Common.{◌≡◌, ◌∙◌, ◌^◌, ap, arith, List, ℕ, replicate, bit_or, bit_and}
 use lib.Lanes.{zip2, digits_l, number_l}
 use Rattle.pix_chan.proofs.Lanes.{shr, shl}

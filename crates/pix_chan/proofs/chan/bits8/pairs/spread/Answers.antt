@@ -1,4 +1,3 @@
--- Of `spread`: that it meets its contract.
 use Rattle.std.proofs.Common.{arith}
 use Rattle.pix_chan.proofs.Pairs.{spread_are}
 use Rattle.pix_chan.proofs.chan.bits8.pairs.spread.Goals as goal

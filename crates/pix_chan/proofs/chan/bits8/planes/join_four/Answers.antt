@@ -1,4 +1,3 @@
--- Of `join_four`: that it meets its contract.
 use Rattle.std.proofs.Common.{zero, suc, ◌+◌, ◌≡◌, ◌∙◌, ◌++◌, ap, arith, sym, length, List, ℕ, [], ◌∷◌}
 use lib.Lanes.{pick_l}
 use Rattle.pix_chan.specs.Planes.{in_turn}

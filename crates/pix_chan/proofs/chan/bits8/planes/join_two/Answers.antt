@@ -1,4 +1,3 @@
--- Of `join_two`: that it meets its contract.
 use Rattle.std.proofs.Common.{arith, sym}
 use Rattle.pix_chan.proofs.Planes.{both_picked}
 use Rattle.pix_chan.proofs.chan.bits8.planes.join_two.Goals as goal

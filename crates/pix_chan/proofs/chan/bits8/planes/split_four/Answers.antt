@@ -1,4 +1,3 @@
--- Of `split_four`: that it meets its contract.
 use Rattle.std.proofs.Common.{◌≡◌, ◌∙◌, ◌++◌, ap, arith, length}
 use lib.Lanes.{pick_l}
 use Rattle.std.proofs.lemmas.Simd.{pick_l_whole}

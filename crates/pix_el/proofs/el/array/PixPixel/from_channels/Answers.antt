@@ -1,4 +1,3 @@
--- Of `PixPixel::from_channels`: that it meets its contract.
 use Rattle.std.proofs.Common.{map, sym, ◌∙◌, ap}
 use Rattle.std.proofs.lemmas.List.{take-map}
 use Rattle.pix_el.proofs.el.array.PixPixel.from_channels.Goals as goal

@@ -1,4 +1,3 @@
--- Of `color`: that it meets its contract.
 use Rattle.std.proofs.Common.{replicate}
 use Rattle.pix_el.proofs.FourPlanes.{color_are_planes}
 use Rattle.pix_el.proofs.planes.four.FourBlock.color.Goals as goal

@@ -1,4 +1,3 @@
--- Of `faded`: that it meets its contract.
 use Rattle.std.proofs.Common.{◌∙◌, arith, map, List, ℕ}
 use Rattle.std.proofs.lemmas.List.{length-map}
 use Rattle.pix_el.specs.PixelComposite.{matted_composite}

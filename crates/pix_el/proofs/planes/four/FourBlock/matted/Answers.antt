@@ -1,4 +1,3 @@
--- Of `matted`: that it meets its contract.
 use Rattle.std.proofs.Common.{◌∙◌, ◌∷◌, [], ap, map, List, ℕ}
 use Rattle.pix_chan.specs.Runs.{over}
 use Rattle.pix_el.specs.PixelComposite.{matted_composite}

@@ -1,4 +1,3 @@
--- Of `masked`: that it meets its contract.
 use Rattle.std.proofs.Common.{◌∙◌, ap, map, List, ℕ}
 use Rattle.std.specs.List.{zip}
 use Rattle.pix_chan.specs.Runs.{over}

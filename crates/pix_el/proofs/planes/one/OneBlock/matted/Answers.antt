@@ -1,4 +1,3 @@
--- Of `matted`: that it meets its contract.
 use Rattle.std.proofs.Common.{◌≡◌, ◌∙◌, ap, sym, map, replicate, length, List, ℕ}
 use Rattle.std.proofs.lemmas.List.{length-map}
 use Rattle.pix_chan.specs.Product.{channel_product}

@@ -1,4 +1,3 @@
--- Of `color`: that it meets its contract.
 use Rattle.std.proofs.Common.{replicate}
 use Rattle.pix_el.proofs.TwoPlanes.{color_are_two_planes}
 use Rattle.pix_el.proofs.planes.two.TwoBlock.color.Goals as goal

@@ -1,4 +1,3 @@
--- Of `composite`: that it meets its contract.
 use Rattle.std.proofs.Common.{map}
 use Rattle.pix_el.proofs.planes.two.TwoBlock.composite.Goals as goal
 

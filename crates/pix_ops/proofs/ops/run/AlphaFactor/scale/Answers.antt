@@ -1,4 +1,3 @@
--- Of `AlphaFactor::scale`: that it meets its contract.
 use Rattle.std.proofs.Common.{length, map, ap, ◌∙◌, ◌-◌}
 use Rattle.pix_ops.proofs.RunTerms.{by_complements, front_of}
 use Rattle.pix_ops.proofs.ops.run.AlphaFactor.scale.Goals as goal

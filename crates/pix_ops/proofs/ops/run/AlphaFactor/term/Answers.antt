@@ -1,4 +1,3 @@
--- Of `AlphaFactor::term`: that it meets its contract.
 use Rattle.std.proofs.Common.{◌≡◌, ◌-◌, ap, ◌∙◌, refl}
 use Rattle.pix_ops.proofs.ops.run.AlphaFactor.term.Goals as goal
 

@@ -1,4 +1,3 @@
--- Of `OneFactor::scale`: that it meets its contract.
 use Rattle.std.proofs.Common.{sym, map}
 use Rattle.pix_ops.proofs.RunTerms.{as_they_are}
 use Rattle.pix_ops.proofs.ops.run.OneFactor.scale.Goals as goal

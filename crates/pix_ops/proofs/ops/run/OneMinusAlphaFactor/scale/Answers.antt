@@ -1,4 +1,3 @@
--- Of `OneMinusAlphaFactor::scale`: that it meets its contract.
 use Rattle.std.proofs.Common.{◌∙◌, map}
 use Rattle.pix_ops.proofs.RunTerms.{by_themselves}
 use Rattle.pix_ops.proofs.ops.run.OneMinusAlphaFactor.scale.Goals as goal

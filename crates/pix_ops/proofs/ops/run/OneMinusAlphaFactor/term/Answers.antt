@@ -1,4 +1,3 @@
--- Of `OneMinusAlphaFactor::term`: that it meets its contract.
 use Rattle.std.proofs.Common.{◌≡◌, ◌-◌, ap, ◌∙◌, arith}
 use Rattle.pix_chan.specs.Product.{channel_product}
 use Rattle.pix_ops.proofs.ops.run.OneMinusAlphaFactor.term.Goals as goal

@@ -1,4 +1,3 @@
--- Of `make`: that it meets its contract.
 use Rattle.std.proofs.Common.{◌∙◌, sym, arith, map, List, ℕ}
 use Rattle.std.proofs.lemmas.List.{length-map}
 use Rattle.pix_el.specs.Light.{in_light}

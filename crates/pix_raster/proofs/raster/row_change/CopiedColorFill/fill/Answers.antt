@@ -1,4 +1,3 @@
--- Of `CopiedColorFill::fill`: that it meets its contract.
 use Rattle.std.proofs.Common.{map, ap, ◌∙◌}
 use Rattle.pix_raster.proofs.Copies.{map_color}
 use Rattle.pix_raster.proofs.raster.row_change.CopiedColorFill.fill.Goals as goal

@@ -1,4 +1,3 @@
--- Of `CopiedPixelsBlit::blit`: that it meets its contract.
 use Rattle.std.proofs.Common.{map, ap, ◌∙◌}
 use Rattle.pix_raster.proofs.Copies.{map_over}
 use Rattle.pix_raster.proofs.raster.row_change.CopiedPixelsBlit.blit.Goals as goal

@@ -1,4 +1,3 @@
--- Of the painting of a list of commands: that it meets its contract, and that the invariant of its loop over `command` holds after each turn.
 use Rattle.std.proofs.Common.{◌+◌, ap, ◌∙◌, arith, drop}
 use Rattle.std.proofs.lemmas.List.{drop_all}
 use Rattle.pix_el.specs.PixelComposite.{matte_numbers}

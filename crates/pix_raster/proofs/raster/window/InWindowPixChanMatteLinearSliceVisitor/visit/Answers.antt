@@ -1,4 +1,3 @@
--- Of the visitor of a command on a window: that it meets its contract.
 use Rattle.std.proofs.Common.{◌≡◌, ◌+◌, replicate, arith, refl, ap, sym, ◌∙◌}
 use Rattle.pix_ops.specs.declared.ops.Op.{Op}
 use Rattle.pix_el.specs.PixelComposite.{pixel_composite}
