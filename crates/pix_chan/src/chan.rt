@@ -28,11 +28,13 @@ pub use bits8::Ch8;
 pub use bits16::Ch16;
 pub use modes::{Alpha, Gamma, Linear, Premultiplied, Srgb, Straight};
 
-/// A channel: a whole number of units from 0 to the maximum of its width, read as a fraction of that maximum.
+/// A channel: a whole number of units from 0 to the maximum of its width, read as a fraction of
+/// that maximum.
 ///
-/// One unit is 1/[`MAX`](Channel::MAX). `+` saturates at `MAX`, `-` saturates at 0. `*` is the channel product, `x * y / MAX`
-/// rounded to the nearest. `/` is the channel quotient, `(MAX + 1) * x / y` rounded down, at most `MAX`, and 0 where `y` is 0.
-/// This trait is sealed: the channels are [`Ch8`] and [`Ch16`].
+/// One unit is 1/[`MAX`](Channel::MAX). `+` saturates at `MAX`, `-` saturates at 0. `*` is the
+/// channel product, `x * y / MAX` rounded to the nearest. `/` is the channel quotient,
+/// `(MAX + 1) * x / y` rounded down, at most `MAX`, and 0 where `y` is 0. This trait is sealed: the
+/// channels are [`Ch8`] and [`Ch16`].
 ///
 /// # Examples
 ///
@@ -52,7 +54,7 @@ pub trait Channel: Copy
     /// The number of units of a value.
     ghost number: { Self → ℕ };
 
-    /// The maximum of the width, by which it is named: 255 or 65535.
+    /// The maximum of the width, which identifies it: 255 or 65535.
     ghost max: { ℕ };
 
     /// The value of [`MIN`](Channel::MIN).
@@ -90,7 +92,8 @@ pub trait Channel: Copy
     fn to_16_bit(self) -> u16
         ensures { result ≡ to_16_bit max (number self) };
 
-    /// Creates the channel of the same fraction as a number of units in 16 bits, whose lower bits are dropped in 8.
+    /// Creates the channel of the same fraction as a number of units in 16 bits. A channel of 8
+    /// bits drops the lower bits.
     #[doc(hidden)]
     fn from_16_bit(units: u16) -> Self
         ensures { number result ≡ from_16_bit max units };
@@ -156,7 +159,8 @@ pub trait Channel: Copy
         ensures ties_up { (k : ℕ) → k ≤ max → number result < k
             → distance n d (number result) < distance n d k };
 
-    /// Multiplies each channel of `dst` by the channel of `by` of the same index; the shorter length decides, and the rest stays.
+    /// Multiplies each channel of `dst` by the channel of `by` of the same index. The shorter
+    /// length decides, and the rest of `dst` stays as it is.
     #[inline(always)]
     fn mul_run(dst: &mut [Self], by: &[Self])
         ensures { map number dst.new ≡
@@ -167,8 +171,8 @@ pub trait Channel: Copy
         }
     }
 
-    /// Adds to each channel of `dst` the channel of `by` of the same index, saturating at `MAX`; the shorter length decides, and the
-    /// rest stays.
+    /// Adds to each channel of `dst` the channel of `by` of the same index, saturating at `MAX`.
+    /// The shorter length decides, and the rest of `dst` stays as it is.
     #[inline(always)]
     fn add_run(dst: &mut [Self], by: &[Self])
         ensures { map number dst.new ≡
@@ -289,7 +293,7 @@ pub trait Channel: Copy
     /// `/` is the channel quotient.
     ghost divides: { Answers number Self.div_gives (channel_quotient max) };
 
-    /// The product is at most half a unit from the exact one, and keeps the laws of a product.
+    /// The product is at most half a unit from the exact one, and obeys the laws of a product.
     ghost product_law: { IsProduct fineness max (channel_product max) };
 
     /// Thirty-two channels fit in memory.
@@ -300,6 +304,6 @@ pub trait Channel: Copy
     /// The record is closed, and `known_laws` opens it for a proof.
     ghost laws: { ChannelLaws max };
 
-    /// What seals the trait.
+    /// Seals the trait.
     ghost sealed: { Seal Self };
 }

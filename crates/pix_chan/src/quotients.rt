@@ -1,11 +1,12 @@
-//! Quotients of channels of 16 bits: where the divisor comes from eight bits, by a multiplication.
+//! Quotients of channels of 16 bits. Where the divisor comes from eight bits, a multiplication
+//! computes them.
 ghost use Rattle.std.specs.Prelude.{◌≡◌, ◌<◌, ◌^◌, slice_index_or};
 ghost use Rattle.pix_chan.specs.Product.{channel_quotient};
 ghost use Rattle.pix_chan.specs.declared.quotients.TheConstants.{RECIPROCALS};
 
-/// 2^48 / 257 `b` rounded down, and one more, for each number `b` of eight bits but 0: then 0.
+/// 2^48 / 257 `b` rounded down, plus one, for each number `b` of eight bits. For 0 it is 0.
 ///
-/// A channel that comes from eight bits is 257 times what it was there.
+/// A channel that comes from eight bits is 257 times its number there.
 const RECIPROCALS: [u64; 256] = [
     0,
     1095233372416,

@@ -1,7 +1,8 @@
-//! Quotients by numbers of eight bits, by a multiplication.
+//! Quotients by numbers of eight bits, computed with a multiplication.
 ghost use Rattle.std.specs.Prelude.{◌≡◌, ◌+◌, ◌/◌, ◌<◌, ◌≤◌, ◌^◌};
 
-/// 2^25 / `d` rounded down, and one more, for each number `d` of eight bits. A quotient by 0 is 0 here.
+/// 2^25 / `d` rounded down, plus one, for each number `d` of eight bits. A quotient by 0 counts as
+/// 0 here.
 const RECIPROCALS: [u32; 256] = [
     1, 33554433, 16777217, 11184811, 8388609, 6710887, 5592406, 4793491, 4194305, 3728271, 3355444,
     3050403, 2796203, 2581111, 2396746, 2236963, 2097153, 1973791, 1864136, 1766023, 1677722,
@@ -27,7 +28,7 @@ const RECIPROCALS: [u32; 256] = [
     136401, 135848, 135301, 134757, 134218, 133683, 133153, 132627, 132105, 131587,
 ];
 
-/// Returns 2^25 / `d` rounded down, and one more. Condition: `d` is below 256.
+/// Returns 2^25 / `d` rounded down, plus one. Condition: `d` is below 256.
 #[inline(always)]
 fn reciprocal(d: u64) -> u64
     requires { d < 256 }
@@ -36,7 +37,8 @@ fn reciprocal(d: u64) -> u64
     u64::from(RECIPROCALS[d as usize])
 }
 
-/// Returns `n` / `d` rounded down, or 0 where `d` is 0. Condition: `n` is below 2^17, and `d` is below 256.
+/// Returns `n` / `d` rounded down, or 0 where `d` is 0. Condition: `n` is below 2^17, and `d` is
+/// below 256.
 #[inline(always)]
 pub fn quotient_by_byte(n: u64, d: u64) -> u64
     requires n_fits { n < 2 ^ 17 }

@@ -46,7 +46,8 @@ where
     }
 }
 
-/// Returns red, green or blue of a pixel of the format `P` in the format `D`, at the alpha that it has there.
+/// Returns red, green or blue of a pixel of the format `P` in the format `D`, at the alpha that it
+/// has there.
 pub(crate) fn reencoded_color<P, D>(c: P::Chan, alpha: D::Chan) -> D::Chan
 where
     P: Pixel,
@@ -62,7 +63,8 @@ where
     )
 }
 
-/// Returns the channel `ch` of `rescaled`, a pixel of the format `P` at the depth of `D`, in the format of `D`.
+/// Returns the channel `ch` of `rescaled`, a pixel of the format `P` at the depth of `D`, in the
+/// format of `D`.
 ///
 /// Condition: `alpha` is the alpha of `rescaled`.
 fn channel_reencoded<P, D>(rescaled: &D, ch: usize, alpha: D::Chan) -> D::Chan

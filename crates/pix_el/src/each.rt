@@ -11,8 +11,8 @@ use crate::model::{ColorModel, is_hue};
 use pix_chan::chan::Channel;
 use pix_ops::ops::Blend;
 
-/// Composites `src`, the channel `ch` of a source of alpha `sa`, with `dst`, a hue along the shorter arc: `da1` is one minus the
-/// alpha of the destination.
+/// Composites `src`, the channel `ch` of a source of alpha `sa`, with `dst`. A hue moves along the
+/// shorter arc. `da1` is one minus the alpha of the destination.
 fn composite_channel<C: Channel, M: ColorModel, O: Blend>(
     ch: usize,
     dst: &mut C,
@@ -38,7 +38,8 @@ fn composite_channel<C: Channel, M: ColorModel, O: Blend>(
     }
 }
 
-/// Composites each channel of `src`, of alpha `sa`, with that of `dst` of the same number: `da1` is one minus the alpha of `dst`.
+/// Composites each channel of `src`, of alpha `sa`, with that of `dst` of the same number. `da1` is
+/// one minus the alpha of `dst`.
 pub(crate) fn composite_each<C: Channel, M: ColorModel, O: Blend>(
     dst: &mut [C],
     src: &[C],
@@ -59,7 +60,7 @@ pub(crate) fn composite_each<C: Channel, M: ColorModel, O: Blend>(
     }
 }
 
-/// Returns the channel `ch` multiplied by the matte, but a hue as it is.
+/// Returns the channel `ch` multiplied by the matte. A hue is returned as it is.
 fn scaled<C: Channel, M: ColorModel>(ch: usize, channel: C, matte: C) -> C
     ensures { C.number result ≡
         (if lies_in M.CIRCULAR ch then C.number channel
@@ -72,7 +73,7 @@ fn scaled<C: Channel, M: ColorModel>(ch: usize, channel: C, matte: C) -> C
     }
 }
 
-/// Multiplies each channel but a hue by the matte.
+/// Multiplies each channel except a hue by the matte.
 pub(crate) fn scale_each<C: Channel, M: ColorModel>(channels: &mut [C], matte: C)
     ensures { map C.number channels.new ≡ matted_color
         (record { max = C.max; count = length channels.old; hues = M.CIRCULAR; alpha = M.ALPHA })

@@ -31,10 +31,10 @@ mod array;
 mod items;
 mod new;
 
-/// The format of red, green, blue and alpha with the channels, the alpha mode and the gamma mode of `P`.
+/// The format of red, green, blue and alpha with the channel type and the modes of `P`.
 pub type PixRgba<P> = Pix<4, <P as Pixel>::Chan, Rgb, <P as Pixel>::Alpha, <P as Pixel>::Gamma>;
 
-/// A pixel of `N` channels of type `C`, in the color model `M`, the alpha mode `A` and the gamma mode `G`.
+/// A pixel of `N` channels of type `C`: color model `M`, alpha mode `A`, gamma mode `G`.
 pub struct Pix<const N: usize, C, M, A, G> {
     pub(crate) channels: [C; N],
     _model: PhantomData<M>,
@@ -44,7 +44,7 @@ pub struct Pix<const N: usize, C, M, A, G> {
 
 impl<const N: usize, C: Copy, M, A, G> Copy for Pix<N, C, M, A, G> {}
 
-/// A pixel: its channels in the order of its color model. This trait is sealed: the pixels are [`Pix`].
+/// A pixel: its channels in the order of its color model. Sealed: every pixel is a [`Pix`].
 ///
 /// # Examples
 ///
@@ -76,7 +76,7 @@ pub trait Pixel: Copy + Debug + Default + PartialEq {
     /// The numbers of the channels in order.
     ghost numbers: { Self → List ℕ };
 
-    /// The format but for its gamma mode.
+    /// The format without its gamma mode.
     ghost format: { Format };
 
     /// The pixel with other channels.
@@ -87,7 +87,7 @@ pub trait Pixel: Copy + Debug + Default + PartialEq {
         ensures channels { result.now ≡ channel_list self.now }
         ensures count { length result.now ≡ layout.count };
 
-    /// Returns the channels in order, to be written.
+    /// Lends the channels in order, for writing.
     fn channels_mut(&mut self) -> &mut [Self::Chan]
         ensures* lends { sem 𝓛 (Lends Self.row (Array Self.Chan.row 0) self.entry result
             (with_channel_list self.old)) }
@@ -136,7 +136,7 @@ pub trait Pixel: Copy + Debug + Default + PartialEq {
         self.get_mut(<Self::Model as ColorModel>::ALPHA)
     }
 
-    /// Makes the pixel of the first of these channels. Condition: there are as many as the format has.
+    /// Makes the pixel of the first of these channels. Condition: the format has no more channels.
     fn from_channels(channels: &[Self::Chan]) -> Self
         requires { layout.count ≤ length channels.now }
         ensures { numbers result ≡ take layout.count (map Self.Chan.number channels.now) };
@@ -149,7 +149,7 @@ pub trait Pixel: Copy + Debug + Default + PartialEq {
             (Self.Chan.number one ∷ Self.Chan.number two
             ∷ Self.Chan.number three ∷ Self.Chan.number four ∷ []) };
 
-    /// Converts a pixel to the depth of this format: channels that it lacks are `MAX`, and those left over are dropped.
+    /// Converts a pixel to this format's depth. Missing channels are `MAX`, extra ones are dropped.
     ///
     /// Condition: this format has no more channels than its model.
     final fn from_bit_depth<P>(p: P) -> Self
@@ -166,11 +166,11 @@ pub trait Pixel: Copy + Debug + Default + PartialEq {
         Self::from_four(one, two, three, four)
     }
 
-    /// Converts this pixel to another format: within one color model channel by channel, and else by way of red, green and blue.
+    /// Converts this pixel to another format, through red, green and blue if the model differs.
     ///
-    /// It loses nothing to the format itself, to 16 bits and back, from `Rgb` to `Bgr` or `Cmy` and back, from gray to `Rgb` and back, and
-    /// from an opaque pixel to a premultiplied one and back; a premultiplied pixel stays premultiplied at another depth. Callers in
-    /// `pix_uses::conversions` have these theorems as their contracts.
+    /// It loses nothing to the same format, nor back and forth to 16 bits, from `Rgb` to `Bgr` or
+    /// `Cmy`, from gray to `Rgb`, and from opaque to premultiplied. Premultiplied pixels stay so at
+    /// another depth. Callers in `pix_uses::conversions` have these contracts.
     ///
     /// Condition: that format has no more channels than its model.
     ///
@@ -202,7 +202,7 @@ pub trait Pixel: Copy + Debug + Default + PartialEq {
         }
     }
 
-    /// Converts each pixel of `src` in the place of that of `dst` at its index; the shorter length decides, and the rest stays.
+    /// Converts each pixel of `src` to the same index of `dst`, up to the shorter length.
     ///
     /// Condition: the format of `dst` has no more channels than its model.
     ///
@@ -250,7 +250,7 @@ pub trait Pixel: Copy + Debug + Default + PartialEq {
         ensures composite { numbers self.new ≡
             pixel_composite layout O.op (numbers src.now) (numbers self.old) }
 
-        // Each channel but a hue is at most half a unit for each product of the operator from the exact composite.
+        // A channel but a hue is at most half a unit for each product from the exact composite.
         ensures near { IsNearExact layout O.op (numbers src.now) (numbers self.old)
             (numbers self.new) }
 
@@ -258,7 +258,7 @@ pub trait Pixel: Copy + Debug + Default + PartialEq {
         ensures hues { HuesMove layout O.op (numbers src.now) (numbers self.old)
             (numbers self.new) }
 
-        // Premultiplied pixels stay premultiplied, and no sum is cut of an operator whose sums fit: of all but `Plus`.
+        // Premultiplied pixels stay premultiplied, and no sum is cut, except that of `Plus`.
         ensures premultiplied { IsPremultiplied layout (numbers src.now)
             → IsPremultiplied layout (numbers self.old)
             → IsPremultiplied layout (numbers self.new) }
@@ -277,7 +277,7 @@ pub trait Pixel: Copy + Debug + Default + PartialEq {
         composite_each::<Self::Chan, Self::Model, O>(self.channels_mut(), src.channels(), da1, sa);
     }
 
-    /// Composites `src` with this pixel through the matte value `alpha`, by which each channel but a hue is multiplied first.
+    /// Composites `src`, multiplied by the matte value `alpha` but for its hue, with this pixel.
     ///
     /// Condition: the format has an alpha channel.
     final fn composite_channels_alpha<O: Blend>(&mut self, src: &Self, op: O, alpha: &Self::Chan)
@@ -288,7 +288,7 @@ pub trait Pixel: Copy + Debug + Default + PartialEq {
             matted_composite layout O.op (Self.Chan.number alpha.now)
             (numbers src.now) (numbers self.old) }
 
-        // Each channel but a hue is at most half a unit for each matted product of the operator from the exact composite.
+        // A channel but a hue is at most half a unit for each matted product from the exact one.
         ensures near { IsNearExactMatted layout O.op (Self.Chan.number alpha.now)
             (numbers src.now) (numbers self.old) (numbers self.new) }
 
@@ -296,7 +296,7 @@ pub trait Pixel: Copy + Debug + Default + PartialEq {
         ensures hues { HuesMove layout O.op (matted_color layout (Self.Chan.number alpha.now)
             (numbers src.now)) (numbers self.old) (numbers self.new) }
 
-        // Premultiplied pixels stay premultiplied, and no sum is cut of an operator whose sums fit: of all but `Plus`.
+        // Premultiplied pixels stay premultiplied, and no sum is cut, except that of `Plus`.
         ensures premultiplied { IsPremultiplied layout (numbers src.now)
             → IsPremultiplied layout (numbers self.old)
             → IsPremultiplied layout (numbers self.new) }
@@ -332,7 +332,7 @@ pub trait Pixel: Copy + Debug + Default + PartialEq {
         }
     }
 
-    /// Composites each pixel of `src` with the pixel of `dst` of the same index; the shorter length decides, and the rest stays.
+    /// Composites each pixel of `src` with that of `dst` at its index, up to the shorter length.
     ///
     /// Condition: the format has an alpha channel.
     ///
@@ -361,7 +361,7 @@ pub trait Pixel: Copy + Debug + Default + PartialEq {
         }
     }
 
-    /// Composites `clr` with each pixel of `dst` through the matte of `src` at its index; the shorter length decides, the rest stays.
+    /// Composites `clr` with pixels of `dst` through mattes of `src`, up to the shorter length.
     ///
     /// Condition: the format has an alpha channel.
     ///
@@ -392,8 +392,8 @@ pub trait Pixel: Copy + Debug + Default + PartialEq {
         }
     }
 
-    /// Composites each pixel of `src` with the pixel of `dst` of the same index through the matte of that index; the shortest length
-    /// decides, and the rest stays.
+    /// Composites each pixel of `src` with that of `dst` at its index through the matte at that
+    /// index, up to the shortest length.
     ///
     /// Condition: the format has an alpha channel.
     final fn composite_slice_matte<const N: usize, A: Alpha, O: Blend>(
@@ -417,8 +417,8 @@ pub trait Pixel: Copy + Debug + Default + PartialEq {
         }
     }
 
-    /// Composites each pixel of `src` with the pixel of `dst` of the same index through the matte value `alpha`; the shorter length
-    /// decides, and the rest stays.
+    /// Composites each pixel of `src` with that of `dst` at its index through the matte value
+    /// `alpha`, up to the shorter length.
     ///
     /// Condition: the format has an alpha channel.
     final fn composite_slice_alpha<O: Blend>(
@@ -450,7 +450,7 @@ pub trait Pixel: Copy + Debug + Default + PartialEq {
         }
     }
 
-    /// Copies each pixel of `src` to the same index of `dst`; the shorter length decides, and the rest stays.
+    /// Copies each pixel of `src` to the same index of `dst`, up to the shorter length.
     fn copy_slice(dst: &mut [Self], src: &[Self])
         ensures { dst.new ≡ over (λ s d. s) src.now dst.old }
     {
@@ -494,6 +494,6 @@ pub trait Pixel: Copy + Debug + Default + PartialEq {
     ghost default_is_clear: { (p : Self) → Self.is_default p
         → numbers p ≡ replicate layout.count 0 };
 
-    /// What seals the trait.
+    /// Seals the trait.
     ghost sealed: { Seal Self };
 }

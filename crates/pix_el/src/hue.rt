@@ -1,4 +1,4 @@
-//! Hues: channels on a circle, of which 0 is the next one after the greatest.
+//! Hues: channels on a circle, where 0 comes after the maximum.
 ghost use Rattle.std.specs.Prelude.{◌≡◌, ◌+◌, ◌-◌};
 ghost use Rattle.pix_ops.specs.Hue.{hue_composite, IsHueMove, hue_weight};
 
@@ -12,7 +12,8 @@ pub(crate) fn apart<C: Channel>(x: C, y: C) -> C
     if x < y { y - x } else { x - y }
 }
 
-/// Composites the hue `src`, of alpha `sa`, with the hue `dst`: `da1` and `sa1` are one minus the alphas of destination and source.
+/// Composites the hue `src`, of alpha `sa`, with the hue `dst`: `da1` and `sa1` are one minus the
+/// alphas of destination and source.
 pub(crate) fn composite_hue<C: Channel, O: Blend>(dst: &mut C, da1: C, src: &C, sa: C, sa1: C)
     requires { C.number sa1 ≡ C.max - C.number sa }
     ensures composite { C.number dst.new ≡ hue_composite C.max O.op

@@ -15,7 +15,8 @@ use pix_chan::chan::{Alpha, Ch8, Ch16, Channel, Linear, Srgb};
 
 mod blocks;
 
-/// A gamma mode with a curve from channels of type `C` to linear ones of type `D`: `Srgb`, from `Ch8` to `Ch16`. This trait is sealed.
+/// A gamma mode with a curve from channels of type `C` to linear ones of type `D`: `Srgb`, from
+/// `Ch8` to `Ch16`. This trait is sealed.
 pub trait Transfer<C: Channel, D: Channel> {
     /// Returns the linear channel that this mode encodes as `c`.
     fn to_light(c: C) -> D
@@ -57,7 +58,7 @@ pub trait Transfer<C: Channel, D: Channel> {
     /// The linear channels have 16 bits.
     ghost wide: { D.max ≡ 65535 };
 
-    /// What seals the trait.
+    /// Seals the trait.
     ghost sealed: { Seal Self };
 }
 
@@ -97,7 +98,8 @@ fn mode_changed<C: Channel, A: Alpha, B: Alpha>(c: C, alpha: C) -> C
     }
 }
 
-/// Returns a linear color channel at an alpha, from the alpha mode `A` to `B`: at the greatest alpha the channel itself, at once.
+/// Returns a linear color channel at an alpha, from the alpha mode `A` to `B`. At the maximum alpha
+/// it returns the channel itself at once.
 #[inline(always)]
 fn mode_changed_unless_opaque<C: Channel, A: Alpha, B: Alpha>(c: C, alpha: C) -> C
     ensures { C.number result ≡
@@ -128,7 +130,7 @@ where
     if colors.start <= ch && ch < colors.end {
         let color = <P::Gamma as Transfer<P::Chan, D::Chan>>::to_light(p.get(ch));
         if p.channels().len() <= <P::Model as ColorModel>::ALPHA {
-            // The alpha is the maximum, which is known as this is compiled.
+            // The alpha is the maximum, which is known at compile time.
             mode_changed_unless_opaque::<D::Chan, P::Alpha, D::Alpha>(color, alpha)
         } else {
             mode_changed::<D::Chan, P::Alpha, D::Alpha>(color, alpha)
@@ -138,7 +140,8 @@ where
     }
 }
 
-/// Returns the channel `ch` of a linear pixel as sRGB. Condition: `alpha` is the alpha of that pixel.
+/// Returns the channel `ch` of a linear pixel as sRGB. Condition: `alpha` is the alpha of that
+/// pixel.
 #[inline(always)]
 fn channel_as_srgb<P, D>(p: &P, ch: usize, alpha: P::Chan) -> D::Chan
 where
@@ -158,10 +161,12 @@ where
     }
 }
 
-/// Pixels between sRGB of 8 bits and linear light of 16 bits, of one color model. Each [`Pixel`] has it.
+/// Pixels between sRGB of 8 bits and linear light of 16 bits, of one color model. Each [`Pixel`]
+/// has it.
 ///
-/// An sRGB pixel that is decoded and encoded again is the pixel it was: in the same alpha mode always, and from straight to premultiplied
-/// and back where its alpha is 13 or more. Callers in `pix_uses::light` have these theorems as their contracts.
+/// An sRGB pixel that is decoded and encoded again is the pixel it was. In the same alpha mode this
+/// always holds. From straight to premultiplied and back it holds where the alpha is 13 or more.
+/// Callers in `pix_uses::light` have these theorems as their contracts.
 ///
 /// # Examples
 ///
@@ -203,7 +208,8 @@ pub trait Light: Pixel {
         D::from_four(one, two, three, four)
     }
 
-    /// Encodes this linear pixel of 16 bits as sRGB of 8 bits: each color as the nearest level.
+    /// Encodes this linear pixel of 16 bits as sRGB of 8 bits. Each color becomes the nearest
+    /// level.
     ///
     /// Condition: that format has no more channels than its model.
     ///
@@ -233,7 +239,8 @@ pub trait Light: Pixel {
         D::from_four(one, two, three, four)
     }
 
-    /// Decodes each sRGB pixel of `src` in the place of that of `dst` at its index; the shorter length decides, and the rest stays.
+    /// Decodes each sRGB pixel of `src` and writes it to the same index of `dst`. The shorter
+    /// length decides, and the rest of `dst` stays as it is.
     ///
     /// Condition: the format of `dst` has no more channels than its model.
     ///
@@ -261,7 +268,8 @@ pub trait Light: Pixel {
         }
     }
 
-    /// Encodes each linear pixel of `src` in the place of that of `dst` at its index; the shorter length decides, and the rest stays.
+    /// Encodes each linear pixel of `src` and writes it to the same index of `dst`. The shorter
+    /// length decides, and the rest of `dst` stays as it is.
     ///
     /// Condition: the format of `dst` has no more channels than its model.
     ///

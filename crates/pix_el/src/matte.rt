@@ -10,7 +10,7 @@ use crate::model::ColorModel;
 use pix_chan::chan::{Ch8, Ch16, Channel, Linear, Premultiplied};
 use std::ops::Range;
 
-/// The model of a matte: no color, the alpha alone.
+/// The model of a matte: an alpha and no color.
 ///
 /// # Examples
 ///

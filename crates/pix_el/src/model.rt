@@ -35,10 +35,11 @@ pub trait ColorModel: Default + PartialEq {
     /// The value of [`KIND`](ColorModel::KIND).
     ghost KIND: { ℕ };
 
-    /// A number for each model, which no other has.
+    /// A number that only this model has.
     const KIND: u8;
 
-    /// The numbers of red, green and blue, from the maximum and the numbers of the first three channels.
+    /// The numbers of red, green and blue, from the maximum and the numbers of the first three
+    /// channels.
     ghost to_rgb: { ℕ → ℕ → ℕ → ℕ → List ℕ };
 
     /// The numbers of the color channels, from the maximum and the numbers of red, green and blue.
@@ -53,7 +54,8 @@ pub trait ColorModel: Default + PartialEq {
             ∷ P.Chan.number result.2 ∷ P.Chan.number result.3 ∷ []
             ≡ rgba_of to_rgb ALPHA P.Chan.max (P.numbers p) };
 
-    /// Makes the pixel of red, green, blue and alpha. Condition: the format has no more channels than the model.
+    /// Makes the pixel of red, green, blue and alpha. Condition: the format has no more channels
+    /// than the model.
     #[doc(hidden)]
     fn from_four<P>(red: P::Chan, green: P::Chan, blue: P::Chan, alpha: P::Chan) -> P
     where
@@ -63,7 +65,8 @@ pub trait ColorModel: Default + PartialEq {
             (P.Chan.number red ∷ P.Chan.number green
             ∷ P.Chan.number blue ∷ P.Chan.number alpha ∷ [])) };
 
-    /// Converts a pixel to red, green, blue and alpha, which is the maximum where the format has none.
+    /// Converts a pixel to red, green, blue and alpha, which is the maximum where the format has
+    /// none.
     ///
     /// # Examples
     ///
@@ -82,7 +85,8 @@ pub trait ColorModel: Default + PartialEq {
         Pix::with_channels([red, green, blue, alpha])
     }
 
-    /// Converts red, green, blue and alpha to a pixel of this model. The alpha is dropped where the format has none.
+    /// Converts red, green, blue and alpha to a pixel of this model. The alpha is dropped where the
+    /// format has none.
     ///
     /// Condition: the format has no more channels than the model.
     ///
@@ -111,7 +115,7 @@ pub trait ColorModel: Default + PartialEq {
     /// A model has at most four channels.
     ghost few: { ALPHA ≤ 3 };
 
-    /// What seals the trait.
+    /// Seals the trait.
     ghost sealed: { ModelSeal Self };
 }
 

@@ -1,11 +1,13 @@
 //! Composites of pixels by runs of sixteen or thirty-two channels.
 //!
-//! Each way to go is a `Block`. Pixels of four channels without a hue go eight at a time and then four, interleaved, as they lie. Pixels of
-//! four channels with a hue at the first go by planes, arrays of sixteen channels of one number, and so do pixels of two channels without a
-//! hue and a color of 8 bits through sixteen mattes. A pixel of one channel is its own alpha, so that mattes go as they lie. Pixels through
-//! mattes go by the same blocks (`masked.rt`).
+//! Each way is a `Block`. Pixels of four channels without a hue go eight at a time and then four,
+//! interleaved as they are in memory. Pixels of four channels whose first is a hue go by planes:
+//! arrays of the same channel of sixteen pixels. So do pixels of two channels without a hue, and a
+//! color of 8 bits through sixteen mattes. A pixel of one channel is its own alpha, so mattes go as
+//! they are in memory. Pixels through mattes use the same blocks (`masked.rt`).
 //!
-//! Nothing of this is in a contract above, so another way to cut a slice into blocks changes this file and its folder alone.
+//! No contract above depends on it, so another way to cut a slice into blocks changes only this
+//! file and its folder.
 ghost use Rattle.std.specs.Prelude.{◌≡◌, ◌≤◌, ◌+◌, ◌-◌, length, map, take, true, replicate};
 ghost use Rattle.pix_chan.specs.Runs.{over, triples};
 ghost use Rattle.pix_el.specs.Planes.{run_hue, run_first, matted_first};
@@ -36,7 +38,8 @@ mod one;
 mod sixteen;
 mod two;
 
-/// Composites the hues of the same index of all four, one after the other; the shortest length decides.
+/// Composites the hues at the same index of all four slices, one after the other. The shortest
+/// length decides.
 #[inline(always)]
 fn composite_hues<O: Blend, C: Channel>(dst: &mut [C], da1: &[C], src: &[C], sa1: &[C])
     ensures { map C.number dst.new ≡ over (run_hue C.max O.op)
@@ -50,7 +53,8 @@ fn composite_hues<O: Blend, C: Channel>(dst: &mut [C], da1: &[C], src: &[C], sa1
     }
 }
 
-/// Composites the first channels of the same index of all four, which may be hues; the shortest length decides.
+/// Composites the first channels, which may be hues, at the same index of all four slices. The
+/// shortest length decides.
 #[inline(always)]
 fn composite_first<O: Blend, M: ColorModel, C: Channel>(
     dst: &mut [C],
@@ -69,7 +73,8 @@ fn composite_first<O: Blend, M: ColorModel, C: Channel>(
     }
 }
 
-/// Returns whether the pixels of a model go interleaved: it has four channels, of which none is a hue.
+/// Returns whether the pixels of a model go interleaved: it has four channels, of which none is a
+/// hue.
 #[inline(always)]
 pub(crate) fn is_interleaved<P: Pixel>() -> bool
     ensures alpha { result ≡ true → P.layout.alpha ≡ 3 }
@@ -109,7 +114,7 @@ fn has_one<P: Pixel>() -> bool
     P::Model::ALPHA == 0 && hues.end == 0
 }
 
-/// Composites as many of the first `count` pixels as go by blocks, and returns how many these are.
+/// Composites as many of the first `count` pixels as go in blocks, and returns their number.
 ///
 /// Condition: the format has an alpha channel, and both slices have `count` pixels.
 #[inline(always)]
@@ -136,7 +141,7 @@ pub(crate) fn composite_runs<O: Blend, P: Pixel>(dst: &mut [P], src: &[P], count
     }
 }
 
-/// Composites `clr` with as many of the first pixels as go by blocks, and returns how many these are.
+/// Composites `clr` with as many of the first pixels as go in blocks, and returns their number.
 ///
 /// Condition: the format has an alpha channel.
 #[inline(always)]
@@ -160,7 +165,7 @@ pub(crate) fn color_runs<O: Blend, P: Pixel>(dst: &mut [P], clr: &P) -> usize
     }
 }
 
-/// Multiplies the first channels by the mattes of the same index, but hues as they are.
+/// Multiplies the first channels by the mattes of the same index. Hues stay as they are.
 #[inline(always)]
 fn scale_first<M: ColorModel, C: Channel>(channels: &mut [C], mattes: &[C])
     ensures { map C.number channels.new ≡ over (matted_first C.max M.CIRCULAR)
@@ -171,16 +176,18 @@ fn scale_first<M: ColorModel, C: Channel>(channels: &mut [C], mattes: &[C])
     }
 }
 
-/// Returns whether channels have more than 8 bits. Planes of those are put together one element after the other.
+/// Returns whether channels have more than 8 bits. Planes of such channels are put together one
+/// element after the other.
 #[inline(always)]
 fn is_wide<C: Channel>() -> bool {
     C::MAX.to_u32() > 255
 }
 
-/// Composites `clr` through mattes with as many of the first `count` pixels as go by the largest blocks of pixels that go interleaved, and
-/// returns how many these are.
+/// Composites `clr` through mattes with as many of the first `count` pixels as go in the largest
+/// interleaved blocks, and returns their number.
 ///
-/// Condition: the alpha is the last of four channels, none is a hue, and both slices have `count` elements.
+/// Condition: the alpha is the last of four channels, none is a hue, and both slices have `count`
+/// elements.
 #[inline(always)]
 fn largest_coverage<O: Blend, P: Pixel, S: Coverage<P::Chan>>(
     dst: &mut [P],
@@ -205,7 +212,8 @@ fn largest_coverage<O: Blend, P: Pixel, S: Coverage<P::Chan>>(
     }
 }
 
-/// Composites `clr` through mattes with as many of the first `count` pixels as go by blocks, and returns how many these are.
+/// Composites `clr` through mattes with as many of the first `count` pixels as go in blocks, and
+/// returns their number.
 ///
 /// Condition: the format has an alpha channel, and both slices have `count` elements.
 #[inline(always)]
@@ -238,7 +246,8 @@ fn coverage_runs<O: Blend, P: Pixel, S: Coverage<P::Chan>>(
     }
 }
 
-/// Composites `clr` through mattes with as many of the first `count` pixels as go by blocks, and returns how many these are.
+/// Composites `clr` through mattes with as many of the first `count` pixels as go in blocks, and
+/// returns their number.
 ///
 /// Condition: the format has an alpha channel, and both slices have `count` elements.
 #[inline(always)]

@@ -116,8 +116,8 @@ impl Rgb {
         )
     }
 
-    /// Returns whether red, green, blue and alpha are each at most those of `rhs`. An alpha that is
-    /// missing counts as the maximum.
+    /// Returns whether red, green, blue and alpha are each at most those of `rhs`. A missing alpha
+    /// counts as the maximum.
     ///
     /// # Examples
     ///

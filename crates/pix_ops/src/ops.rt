@@ -1,7 +1,7 @@
 //! The operators of Porter and Duff (Compositing Digital Images, 1984), on one channel at a time.
 //!
-//! Colors are premultiplied, and the alpha is composited as any other channel. In the formulas, `sa` and `da` are the alphas of the
-//! source and of the destination, products are channel products and sums saturate.
+//! Colors are premultiplied, and the alpha is composited as any other channel. `sa` and `da` are
+//! the alphas of source and destination, products are channel products, and sums saturate.
 ghost use Rattle.std.specs.Prelude.{◌≡◌, ℕ, ◌-◌, ⊤, List, length, map, slice_get, Some, ◌↔◌, IsTrue, nat_eq, refl};
 ghost use Rattle.pix_ops.specs.declared.ops.Op.{Op};
 ghost use Rattle.pix_ops.specs.Operators.{row};
@@ -17,7 +17,7 @@ use pix_chan::chan::Channel;
 #[doc(hidden)]
 pub mod run;
 
-/// An operator as a value: what a [`Blend`] is as a type.
+/// An operator as a value. A [`Blend`] is an operator as a type.
 ///
 /// # Examples
 ///
@@ -32,23 +32,23 @@ pub enum Op {
     Src,
     /// The destination alone: `dst`.
     Dest,
-    /// Source over: the source plus the destination times one minus the source's alpha: `src + dst * (1 - sa)`.
+    /// Source over: `src + dst * (1 - sa)`.
     SrcOver,
-    /// Destination over: the destination plus the source times one minus the destination's alpha: `src * (1 - da) + dst`.
+    /// Destination over: `src * (1 - da) + dst`.
     DestOver,
-    /// Source out: the source times one minus the destination's alpha: `src * (1 - da)`.
+    /// Source out: `src * (1 - da)`.
     SrcOut,
-    /// Destination out: the destination times one minus the source's alpha: `dst * (1 - sa)`.
+    /// Destination out: `dst * (1 - sa)`.
     DestOut,
-    /// Source in: the source times the destination's alpha: `src * da`.
+    /// Source in: `src * da`.
     SrcIn,
-    /// Destination in: the destination times the source's alpha: `dst * sa`.
+    /// Destination in: `dst * sa`.
     DestIn,
-    /// Source atop: the source times the destination's alpha plus the destination times one minus the source's: `src * da + dst * (1 - sa)`.
+    /// Source atop: `src * da + dst * (1 - sa)`.
     SrcAtop,
-    /// Destination atop: the source times one minus the destination's alpha plus the destination times the source's: `src * (1 - da) + dst * sa`.
+    /// Destination atop: `src * (1 - da) + dst * sa`.
     DestAtop,
-    /// Exclusive or: each side times one minus the other's alpha: `src * (1 - da) + dst * (1 - sa)`.
+    /// Exclusive or: `src * (1 - da) + dst * (1 - sa)`.
     Xor,
     /// Neither: `0`.
     Clear,
@@ -96,7 +96,7 @@ pub trait Blend: Copy {
     /// What the destination is multiplied by.
     type Dest: Factor;
 
-    /// Composites the channel `src` with `dst`, where `da1` and `sa1` are one minus the alphas of `dst` and `src`.
+    /// Composites the channel `src` with `dst`. `da1` and `sa1` are one minus their alphas.
     final fn composite<C: Channel>(dst: &mut C, da1: C, src: &C, sa1: C)
         ensures { C.number dst.new ≡ channel_composite C.max op
             (C.number src.now) (C.max - C.number sa1) (C.number dst.old) (C.max - C.number da1) }
@@ -104,8 +104,8 @@ pub trait Blend: Copy {
         *dst = <Self::Source as Factor>::term(*src, da1) + <Self::Dest as Factor>::term(*dst, sa1);
     }
 
-    /// Composites the channels of the same index of all four as [`composite`](Blend::composite) does; the shortest length decides, and
-    /// the rest of `dst` stays.
+    /// Composites the channels of the same index of all four as [`composite`](Blend::composite)
+    /// does. The shortest length decides, and the rest of `dst` stays as it is.
     #[inline(always)]
     final fn composite_run<C: Channel>(dst: &mut [C], da1: &[C], src: &[C], sa1: &[C])
         ensures { map C.number dst.new ≡ over (run_composite C.max op)
@@ -115,42 +115,42 @@ pub trait Blend: Copy {
         run::composite::<Self::Source, Self::Dest, C>(dst, da1, src, sa1);
     }
 
-    /// Both are those of the operator's row of the table.
+    /// Both are those in the operator's row of the table.
     ghost tabled: { ((row op).source ≡ Self.Source.coefficient) × ((row op).dest ≡ Self.Dest.coefficient) };
 
-    /// What seals the trait.
+    /// Seals the trait.
     ghost sealed: { Seal Self };
 }
 
-/// An action on a `T` that takes its operator as a type. [`Op::visit`] runs it for an operator that is a value.
+/// An action on a `T` with its operator as a type. [`Op::visit`] runs it for a value.
 pub trait OpVisitor<T> {
-    /// The condition under which the action may run by an operator.
+    /// The condition under which the action may run with an operator.
     ghost can_visit: { Self → Op → Type 0 };
 
-    /// The relation of the target before and after the action by an operator.
+    /// The relation of the target before and after the action with an operator.
     ghost visits: { Self → Op → T → T → Type 0 };
 
-    /// Runs the action on `target` by the operator `O`.
+    /// Runs the action on `target` with the operator `O`.
     fn visit<O: Blend>(&self, target: &mut T, op: O)
         requires { can_visit self.now O.op }
         ensures { visits self.now O.op target.old target.new };
 }
 
-/// An action on a slice that takes its operator as a type. [`Op::visit_slice`] runs it for an operator that is a value.
+/// An action on a slice with its operator as a type. [`Op::visit_slice`] runs it for a value.
 pub trait SliceVisitor<T> {
-    /// The condition under which the action may run by an operator on so many items.
+    /// The condition under which the action may run with an operator on this many items.
     ghost can_visit: { Self → Op → ℕ → Type 0 };
 
-    /// The relation of the items before and after the action by an operator.
+    /// The relation of the items before and after the action with an operator.
     ghost visits: { Self → Op → List T → List T → Type 0 };
 
-    /// Runs the action on `items` by the operator `O`.
+    /// Runs the action on `items` with the operator `O`.
     fn visit<O: Blend>(&self, items: &mut [T], op: O)
         requires { can_visit self.now O.op (length items.old) }
         ensures { visits self.now O.op items.old items.new };
 }
 
-/// Runs the action of a visitor on its target by the operator, as a type, that a value is.
+/// Runs the action of a visitor on its target with the operator type of a value.
 macro_rules! visit_by {
     ($op:expr, $visitor:expr, $target:expr) => {
         match $op {
@@ -218,7 +218,7 @@ impl Op {
         }
     }
 
-    /// Returns the operator of a name, exact in case.
+    /// Returns the operator of a name, whose case has to match.
     ///
     /// # Examples
     ///
@@ -236,7 +236,7 @@ impl Op {
             .find(|op| op.name().as_bytes() == name)
     }
 
-    /// Runs the action of `visitor` on `target` by this operator.
+    /// Runs the action of `visitor` on `target` with this operator.
     pub fn visit<T, V: OpVisitor<T>>(self, visitor: &V, target: &mut T)
         requires { V.can_visit visitor.now self }
         ensures { V.visits visitor.now self target.old target.new }
@@ -244,7 +244,7 @@ impl Op {
         visit_by!(self, visitor, target)
     }
 
-    /// Runs the action of `visitor` on `items` by this operator.
+    /// Runs the action of `visitor` on `items` with this operator.
     pub fn visit_slice<T, V: SliceVisitor<T>>(self, visitor: &V, items: &mut [T])
         requires { V.can_visit visitor.now self (length items.old) }
         ensures { V.visits visitor.now self items.old items.new }
@@ -252,7 +252,7 @@ impl Op {
         visit_by!(self, visitor, items)
     }
 
-    /// Composites the channel `src` with `dst`, where `da1` and `sa1` are one minus the alphas of `dst` and `src`.
+    /// Composites the channel `src` with `dst`. `da1` and `sa1` are one minus their alphas.
     ///
     /// # Examples
     ///
@@ -322,7 +322,7 @@ impl Blend for Dest {
     ghost sealed = { seal };
 }
 
-/// Source over: the source plus the destination times one minus the source's alpha: `src + dst * (1 - sa)`.
+/// Source over: `src + dst * (1 - sa)`.
 #[derive(Clone, Copy)]
 pub struct SrcOver;
 
@@ -338,7 +338,7 @@ impl Blend for SrcOver {
     ghost sealed = { seal };
 }
 
-/// Destination over: the destination plus the source times one minus the destination's alpha: `src * (1 - da) + dst`.
+/// Destination over: `src * (1 - da) + dst`.
 #[derive(Clone, Copy)]
 pub struct DestOver;
 
@@ -354,7 +354,7 @@ impl Blend for DestOver {
     ghost sealed = { seal };
 }
 
-/// Source out: the source times one minus the destination's alpha: `src * (1 - da)`.
+/// Source out: `src * (1 - da)`.
 #[derive(Clone, Copy)]
 pub struct SrcOut;
 
@@ -370,7 +370,7 @@ impl Blend for SrcOut {
     ghost sealed = { seal };
 }
 
-/// Destination out: the destination times one minus the source's alpha: `dst * (1 - sa)`.
+/// Destination out: `dst * (1 - sa)`.
 #[derive(Clone, Copy)]
 pub struct DestOut;
 
@@ -386,7 +386,7 @@ impl Blend for DestOut {
     ghost sealed = { seal };
 }
 
-/// Source in: the source times the destination's alpha: `src * da`.
+/// Source in: `src * da`.
 #[derive(Clone, Copy)]
 pub struct SrcIn;
 
@@ -402,7 +402,7 @@ impl Blend for SrcIn {
     ghost sealed = { seal };
 }
 
-/// Destination in: the destination times the source's alpha: `dst * sa`.
+/// Destination in: `dst * sa`.
 #[derive(Clone, Copy)]
 pub struct DestIn;
 
@@ -418,7 +418,7 @@ impl Blend for DestIn {
     ghost sealed = { seal };
 }
 
-/// Source atop: the source times the destination's alpha plus the destination times one minus the source's: `src * da + dst * (1 - sa)`.
+/// Source atop: `src * da + dst * (1 - sa)`.
 #[derive(Clone, Copy)]
 pub struct SrcAtop;
 
@@ -434,7 +434,7 @@ impl Blend for SrcAtop {
     ghost sealed = { seal };
 }
 
-/// Destination atop: the source times one minus the destination's alpha plus the destination times the source's: `src * (1 - da) + dst * sa`.
+/// Destination atop: `src * (1 - da) + dst * sa`.
 #[derive(Clone, Copy)]
 pub struct DestAtop;
 
@@ -450,7 +450,7 @@ impl Blend for DestAtop {
     ghost sealed = { seal };
 }
 
-/// Exclusive or: each side times one minus the other's alpha: `src * (1 - da) + dst * (1 - sa)`.
+/// Exclusive or: `src * (1 - da) + dst * (1 - sa)`.
 #[derive(Clone, Copy)]
 pub struct Xor;
 

@@ -5,7 +5,8 @@ ghost use Rattle.pix_ops.specs.Operators.{sum_fits};
 
 use crate::ops::Op;
 
-/// Returns whether the sum of two premultiplied sides never passes the maximum. Of all operators `Plus` alone has one that may not fit.
+/// Returns whether the sum of two premultiplied sides is never above the maximum. Only the sum of
+/// `Plus` may not fit.
 pub fn always_fits(op: Op) -> bool
     ensures value { result ≡ sum_fits op }
     ensures plus_alone { (result ≡ false) ↔ (op ≡ Op.Plus) }

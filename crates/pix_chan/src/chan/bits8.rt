@@ -1,6 +1,6 @@
 //! Channels of 8 bits.
 //!
-//! `bits16.rt` is the twin of this file: what is changed here is changed there.
+//! `bits16.rt` is the twin of this file. A change here belongs there too.
 ghost use Rattle.std.specs.Prelude.{◌≡◌, ◌+◌, ◌-◌, ◌*◌, ◌/◌, ◌<◌, ◌++◌, map};
 ghost use Rattle.pix_chan.specs.Number.{saturating_sum, saturating_difference};
 ghost use Rattle.pix_chan.specs.Product.{channel_product, channel_quotient};

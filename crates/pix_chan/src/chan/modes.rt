@@ -25,7 +25,7 @@ pub trait Alpha: Default + PartialEq {
     /// The value of [`KIND`](Alpha::KIND).
     ghost KIND: { ℕ };
 
-    /// A number for each alpha mode, which no other has.
+    /// A number that only this alpha mode has.
     const KIND: u8;
 
     /// Returns the straight color channel `c` as this mode stores it at the alpha `a`.
@@ -39,7 +39,7 @@ pub trait Alpha: Default + PartialEq {
     /// `KIND` is the number in the table.
     ghost tabled: { alpha_kind mode ≡ KIND };
 
-    /// What seals the trait.
+    /// Seals the trait.
     ghost sealed: { Seal Self };
 }
 
@@ -61,7 +61,7 @@ pub trait Gamma<C: Channel>: Default + PartialEq {
     /// The value of [`KIND`](Gamma::KIND).
     ghost KIND: { ℕ };
 
-    /// A number for each gamma mode, which no other has; the same for every channel.
+    /// A number that only this gamma mode has. It is the same for every channel type.
     const KIND: u8;
 
     /// Returns the linear channel that this mode encodes as `c`.
@@ -75,7 +75,7 @@ pub trait Gamma<C: Channel>: Default + PartialEq {
     /// `KIND` is the number in the table.
     ghost tabled: { gamma_kind mode ≡ KIND };
 
-    /// What seals the trait.
+    /// Seals the trait.
     ghost sealed: { Seal Self };
 }
 

@@ -1,6 +1,6 @@
 //! The sRGB transfer curve (IEC 61966-2-1) on channels of 8 bits: two tables.
 //!
-//! Each entry is proved to be the one that is nearest to the curve, so a proof refuses any other.
+//! Each entry is proved to be the one nearest to the curve, so the proof fails with any other.
 ghost use Rattle.std.specs.Prelude.{◌≡◌, ℕ};
 ghost use Rattle.pix_chan.specs.Srgb.{srgb_decoded, srgb_encoded, IsCurve};
 ghost use Rattle.pix_chan.specs.SrgbCurve.{IsNearestDecoded, IsNearestEncoded};
@@ -23,7 +23,8 @@ pub(crate) const DECODE: [u8; 256] = [
     253, 255,
 ];
 
-/// The sRGB channel that encodes each linear channel: the nearest to the inverse of the curve, computed exactly.
+/// The sRGB channel that encodes each linear channel: the nearest to the inverse of the curve,
+/// computed exactly.
 pub(crate) const ENCODE: [u8; 256] = [
     0, 13, 22, 28, 34, 38, 42, 46, 50, 53, 56, 59, 61, 64, 66, 69, 71, 73, 75, 77, 79, 81, 83, 85,
     86, 88, 90, 92, 93, 95, 96, 98, 99, 101, 102, 104, 105, 106, 108, 109, 110, 112, 113, 114, 115,

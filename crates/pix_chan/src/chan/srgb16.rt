@@ -1,6 +1,8 @@
-//! The sRGB transfer curve (IEC 61966-2-1) from channels of 8 bits to linear ones of 16 bits, and back: two tables.
+//! The sRGB transfer curve (IEC 61966-2-1) from channels of 8 bits to linear ones of 16 bits, and
+//! back: two tables.
 //!
-//! Each level comes back. That of the nearest level is proved for all 65,536 channels of 16 bits.
+//! Each level comes back. For all 65,536 channels of 16 bits, the answer is proved to be the
+//! nearest level.
 ghost use Rattle.std.specs.Prelude.{◌≡◌, ℕ, ◌≤◌, ◌<◌, ◌/◌, ◌%◌, ◌^◌, map, slice_index_or};
 ghost use Rattle.std.specs.Simd.Lanes.{number_l, digits_l};
 ghost use Rattle.pix_chan.specs.declared.chan.srgb16.TheConstants.{LEVELS};
@@ -10,7 +12,8 @@ ghost use Rattle.pix_chan.specs.SrgbCurve.{IsNearestDecoded, IsNearestEncoded};
 use crate::chan::{Ch8, Ch16};
 use std::simd::prelude::*;
 
-/// The linear channel of 16 bits that each sRGB channel of 8 bits encodes: the nearest to the curve, computed exactly.
+/// The linear channel of 16 bits that each sRGB channel of 8 bits encodes: the nearest to the
+/// curve, computed exactly.
 pub(crate) const DECODE16: [u16; 256] = [
     0, 20, 40, 60, 80, 99, 119, 139, 159, 179, 199, 219, 241, 264, 288, 313, 340, 367, 396, 427,
     458, 491, 526, 562, 599, 637, 677, 718, 761, 805, 851, 898, 947, 997, 1048, 1101, 1156, 1212,
@@ -32,7 +35,8 @@ pub(crate) const DECODE16: [u16; 256] = [
     60396, 60955, 61517, 62082, 62650, 63221, 63795, 64372, 64952, 65535,
 ];
 
-/// Of each sixteen channels in turn: 16 times the level of the first, and how many of them, the last ones, have the next level.
+/// For each sixteen channels in turn: 16 times the level of the first, plus the number of the last
+/// ones that have the next level.
 pub(crate) const LEVELS: [u16; 4096] = [
     6, 18, 32, 46, 58, 70, 82, 96, 110, 122, 134, 147, 160, 175, 186, 195, 208, 220, 227, 240, 249,
     256, 270, 274, 288, 292, 304, 309, 320, 325, 336, 339, 352, 352, 368, 368, 380, 384, 390, 400,
@@ -308,7 +312,7 @@ fn words(channels: u16x16) -> [u64; 4]
     u64x4::from_le_bytes(channels.to_le_bytes()).to_array()
 }
 
-/// Returns the entry of `LEVELS` whose number stands in a word from a bit on.
+/// Returns the entry of `LEVELS` whose number starts at a bit of a word.
 #[inline(always)]
 fn entry_at(word: u64, bit: u64) -> u16
     requires { bit < 64 }
@@ -319,7 +323,7 @@ fn entry_at(word: u64, bit: u64) -> u16
 
 /// Returns the entry of `LEVELS` for each channel.
 ///
-/// A word is taken out of a vector once for its four channels.
+/// Each word is extracted from a vector once for its four channels.
 #[inline(always)]
 fn entries(channels: u16x16) -> u16x16
     ensures { result ≡ map (λ x. slice_index_or LEVELS (x / 16) 0) channels }
@@ -367,7 +371,8 @@ impl Ch8 {
 }
 
 impl Ch16 {
-    /// Returns this linear channel of 16 bits as the sRGB curve encodes it in 8 bits: the nearest level.
+    /// Returns this linear channel of 16 bits as the sRGB curve encodes it in 8 bits, which is the
+    /// nearest level.
     ///
     /// # Examples
     ///
@@ -387,7 +392,8 @@ impl Ch16 {
         Ch8::new(((entry(usize::from(channel / 16)) + u32::from(channel % 16)) / 16) as u8)
     }
 
-    /// Returns, of sixteen linear channels of 16 bits, each as the sRGB curve encodes it in 8 bits: the nearest level.
+    /// Returns each of sixteen linear channels of 16 bits as the sRGB curve encodes it in 8 bits,
+    /// which is the nearest level.
     #[doc(hidden)]
     #[inline(always)]
     pub fn encode_srgb8_lanes(channels: u16x16) -> u16x16

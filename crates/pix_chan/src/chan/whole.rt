@@ -1,9 +1,10 @@
-//! Whole numbers from 0 up to a greatest, for channels of every width.
+//! Whole numbers from 0 up to a maximum, for channels of every width.
 ghost use Rattle.std.specs.Prelude.{◌≡◌, ℕ, neg_ℤ, pos, ◌+◌, ◌*◌, ◌^◌, ◌<◌, ◌≤◌, ◌+ℤ◌, ◌*ℤ◌, ◌<ℤ◌};
 ghost use Rattle.pix_chan.specs.Step.{step, channel_lerp};
 ghost use Rattle.pix_chan.specs.Nearest.{nearest};
 
-/// How many whole units `fall` / `max` is below 0: rounded up, but just one over some units is dropped.
+/// How many whole units `fall` / `max` is below 0, rounded up. A remainder of 1 after at least one
+/// whole unit is dropped.
 fn units_down(fall: u64, max: u64) -> u64
     requires { 1 < max }
     ensures value { neg_ℤ (pos result) ≡ step max (neg_ℤ (pos fall)) }
@@ -35,7 +36,7 @@ pub fn lerp(start: u64, end: u64, t: u64, max: u64) -> u64
     }
 }
 
-/// The whole number nearest to `n` / `d`, a tie upwards, at most `max`.
+/// The whole number nearest to `n` / `d`, at most `max`. A tie is rounded up.
 pub fn nearest(n: i64, d: i64, max: u64) -> u64
     requires positive { pos 0 <ℤ d }
     requires sum_fits { (pos 2 *ℤ n +ℤ d) <ℤ pos (2 ^ 63) }

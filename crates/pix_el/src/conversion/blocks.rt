@@ -1,7 +1,9 @@
-//! Conversions of straight pixels of four channels to premultiplied linear ones, by blocks of pixels.
+//! Conversions of straight pixels of four channels to premultiplied linear ones, by blocks of
+//! pixels.
 //!
-//! A block goes twice: first each color is looked up, one pixel after the other, and then the products are made, four pixels at a time.
-//! It is short enough to stay in the nearest cache meanwhile.
+//! A block is walked twice. First each color is looked up, one pixel after the other. Then the
+//! products are made, four pixels at a time. A block is short enough to stay in the nearest cache
+//! meanwhile.
 ghost use Rattle.std.specs.Prelude.{◌≡◌, ◌≤◌, ◌+◌, ℕ, List, length, map, take, true};
 ghost use Rattle.pix_chan.specs.Modes.{to_linear};
 ghost use Rattle.pix_chan.specs.Runs.{over};
@@ -27,8 +29,8 @@ fn has_four_channels<P: Pixel>() -> bool
     P::default().channels().len() == 4
 }
 
-/// Returns whether a conversion from `P` to `D` stays in one color model of four channels without a hue, and multiplies linear colors by the
-/// alpha.
+/// Returns whether a conversion from `P` to `D` stays in one color model of four channels without a
+/// hue, and multiplies linear colors by the alpha.
 #[inline(always)]
 pub(crate) fn premultiplies<P: Pixel, D: Pixel>() -> bool
     ensures model { result ≡ true → P.Model.KIND ≡ D.Model.KIND }
@@ -50,7 +52,7 @@ pub(crate) fn premultiplies<P: Pixel, D: Pixel>() -> bool
 
 /// A way to make a straight color linear, in channels of another type.
 pub(crate) trait Curve<C: Channel, D: Channel> {
-    /// The number that is made of one.
+    /// The linear number of a color's number.
     ghost curve: { ℕ → ℕ };
 
     /// Returns the linear channel of a color.
@@ -72,7 +74,7 @@ impl<C: Channel, D: Channel, G: Gamma<D>> Curve<C, D> for ByGamma<G> {
     }
 }
 
-/// Returns a pixel at the depth of `D`, its colors linear and the alpha mode as it is.
+/// Returns a pixel at the depth of `D`, with linear colors and the same alpha mode.
 #[inline(always)]
 fn linear_pixel<K, P, D>(p: &P) -> D
 where
@@ -90,7 +92,8 @@ where
     D::from_four(one, two, three, channel_at_depth::<P, D::Chan>(p, 3))
 }
 
-/// Writes each pixel of `src`, its colors linear, to the same index of `dst`. Condition: there are as many of both.
+/// Writes each pixel of `src`, with linear colors, to the same index of `dst`. Condition: there are
+/// as many of both.
 #[inline(always)]
 fn linear_pixels<K, P, D>(dst: &mut [D], src: &[P])
 where
@@ -121,7 +124,8 @@ fn premultiply_block<P: Pixel>(p: &mut [P])
     }
 }
 
-/// Makes as many of the first `count` pixels linear and premultiplied as go by blocks, and returns how many these are.
+/// Makes as many of the first `count` pixels linear and premultiplied as go in blocks. Returns the
+/// number of those pixels.
 ///
 /// Condition: both slices have `count` pixels.
 #[inline(always)]
@@ -146,7 +150,7 @@ where
     count / BLOCK * BLOCK
 }
 
-/// Converts as many of the first `count` pixels as go by blocks, and returns how many these are.
+/// Converts as many of the first `count` pixels as go in blocks, and returns their number.
 ///
 /// Condition: both slices have `count` pixels.
 #[inline(always)]

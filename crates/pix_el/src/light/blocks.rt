@@ -1,6 +1,7 @@
 //! Pixels of four channels between sRGB and light by blocks.
 //!
-//! Linear pixels go four at a time: their colors are taken to the other alpha mode, and then their sixteen channels are encoded by one call.
+//! Linear pixels go four at a time. Their colors are converted to the other alpha mode, and then
+//! one call encodes their sixteen channels.
 ghost use Rattle.std.specs.Prelude.{◌≡◌, ◌≤◌, ◌+◌, [], ◌∷◌, length, map, take, true};
 ghost use Rattle.pix_chan.specs.Runs.{over};
 ghost use Rattle.pix_chan.specs.Srgb16.{srgb_decoded16, srgb_encoded8};
@@ -169,7 +170,7 @@ where
     dst[3] = shown::<P, D>(&src[3], c[12], c[13], c[14]);
 }
 
-/// Returns the channels of a linear pixel, its colors in the alpha mode of `D`.
+/// Returns the channels of a linear pixel, with its colors in the alpha mode of `D`.
 #[inline(always)]
 fn changed<P: Pixel, D: Pixel>(p: &P) -> (P::Chan, P::Chan, P::Chan, P::Chan)
     ensures { P.Chan.number result.0 ∷ P.Chan.number result.1
@@ -183,7 +184,7 @@ fn changed<P: Pixel, D: Pixel>(p: &P) -> (P::Chan, P::Chan, P::Chan, P::Chan)
     (one, two, three, alpha)
 }
 
-/// Returns the channels of four linear pixels, their colors in the alpha mode of `D`.
+/// Returns the channels of four linear pixels, with their colors in the alpha mode of `D`.
 #[inline(always)]
 fn four_changed<P: Pixel, D: Pixel>(p: &[P]) -> [P::Chan; 16]
     requires { length p.now ≡ 4 }
@@ -197,7 +198,7 @@ fn four_changed<P: Pixel, D: Pixel>(p: &[P]) -> [P::Chan; 16]
     [a, b, c, d, e, f, g, h, i, j, k, l, m, n, o, q]
 }
 
-/// Does what [`four_changed`] does: at once where the colors are the same in both alpha modes.
+/// Does what [`four_changed`] does, and at once where the colors are the same in both alpha modes.
 ///
 /// Condition: there are three colors and then an alpha.
 #[inline(always)]
@@ -215,7 +216,8 @@ fn four_in_mode<P: Pixel, D: Pixel>(p: &[P]) -> [P::Chan; 16]
     }
 }
 
-/// Returns the levels of the channels of four linear pixels, their colors in the alpha mode of `D`.
+/// Returns the levels of the channels of four linear pixels, with their colors in the alpha mode of
+/// `D`.
 ///
 /// Condition: there are three colors and then an alpha.
 #[inline(always)]
@@ -235,7 +237,8 @@ where
 
 /// Encodes four linear pixels.
 ///
-/// Condition: there are three colors and then an alpha, and `D` has no more channels than its model.
+/// Condition: there are three colors and then an alpha, and `D` has no more channels than its
+/// model.
 #[inline(always)]
 fn encode_four<P, D>(dst: &mut [D], src: &[P])
 where
@@ -255,7 +258,7 @@ where
     put_shown::<P, D>(dst, src, four_levels::<P, D>(src));
 }
 
-/// Encodes as many of the first `count` pixels as go by fours, and returns how many these are.
+/// Encodes as many of the first `count` pixels as go in fours, and returns their number.
 ///
 /// Condition: both slices have `count` pixels, and that format has no more channels than its model.
 #[inline(always)]
@@ -294,7 +297,7 @@ impl<C: Channel, D: Channel, G: Transfer<C, D>> Curve<C, D> for ByTransfer<G> {
     }
 }
 
-/// Decodes as many of the first `count` pixels as go by blocks, and returns how many these are.
+/// Decodes as many of the first `count` pixels as go in blocks, and returns their number.
 ///
 /// Condition: both slices have `count` pixels.
 #[inline(always)]

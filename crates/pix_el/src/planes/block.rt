@@ -1,4 +1,5 @@
-//! Blocks of pixels: each way composites so many pixels at a time, and one loop serves all ways.
+//! Blocks of pixels. Each way composites a fixed number of pixels at a time, and one loop serves
+//! all ways.
 ghost use Rattle.std.specs.Prelude.{◌≡◌, ◌≤◌, ◌+◌, ℕ, length, map, take, replicate};
 ghost use Rattle.std.specs.List.{zip};
 ghost use Rattle.pix_chan.specs.Runs.{over};
@@ -11,7 +12,7 @@ use pix_ops::ops::Blend;
 
 /// A way to composite the pixels of a format by blocks of one size.
 pub(super) trait Block<P: Pixel> {
-    /// The format is one that goes this way.
+    /// The format is one for this way.
     ghost suits: { Type 0 };
 
     /// The value of [`SIZE`](Block::SIZE).
@@ -50,7 +51,8 @@ pub(super) trait Block<P: Pixel> {
             over (λ m. matted_composite P.layout O.op m (P.numbers clr.now))
             (map S.value src.now) (map P.numbers dst.old) };
 
-    /// Composites the pixels of a block with those of another, each through the matte of the same index.
+    /// Composites the pixels of a block with those of another, each through the matte of the same
+    /// index.
     fn masked<O: Blend, S: Coverage<P::Chan>>(dst: &mut [P], src: &[P], mattes: &[S])
         requires suits { suits }
         requires size { length dst.old ≡ SIZE }
@@ -70,7 +72,7 @@ pub(super) trait Block<P: Pixel> {
             (map P.numbers src.now) (map P.numbers dst.old) };
 }
 
-/// Composites as many of the first `count` pixels as go by whole blocks, and returns how many these are.
+/// Composites as many of the first `count` pixels as go in whole blocks, and returns their number.
 ///
 /// Condition: both slices have `count` pixels.
 #[inline(always)]
@@ -94,7 +96,8 @@ pub(super) fn composite_blocks<O: Blend, P: Pixel, B: Block<P>>(
     count / size * size
 }
 
-/// Composites `clr` with as many of the first pixels as go by whole blocks, and returns how many these are.
+/// Composites `clr` with as many of the first pixels as go in whole blocks, and returns their
+/// number.
 #[inline(always)]
 pub(super) fn color_blocks<O: Blend, P: Pixel, B: Block<P>>(dst: &mut [P], clr: &P) -> usize
     requires suits { B.suits }
@@ -112,8 +115,9 @@ pub(super) fn color_blocks<O: Blend, P: Pixel, B: Block<P>>(dst: &mut [P], clr: 
     count / size * size
 }
 
-/// Composites `clr` with each pixel of a block through the matte of the same index. A block is passed over where the operator keeps any
-/// pixel, and where it keeps those that a transparent source is composited with and all mattes are 0.
+/// Composites `clr` with each pixel of a block through the matte of the same index. A block is
+/// skipped where the operator keeps any pixel. It is also skipped where all mattes are 0 and the
+/// operator keeps pixels under a transparent source.
 ///
 /// Condition: the format has an alpha channel.
 #[inline(always)]
@@ -139,7 +143,8 @@ fn matted_block<O: Blend, P: Pixel, S: Coverage<P::Chan>, B: Block<P>>(
     }
 }
 
-/// Composites `clr` through mattes with as many of the first `count` pixels as go by whole blocks, and returns how many these are.
+/// Composites `clr` through mattes with as many of the first `count` pixels as go in whole blocks,
+/// and returns their number.
 ///
 /// Condition: the format has an alpha channel, and both slices have `count` elements.
 #[inline(always)]
@@ -167,8 +172,8 @@ pub(super) fn matte_blocks<O: Blend, P: Pixel, S: Coverage<P::Chan>, B: Block<P>
     count / size * size
 }
 
-/// Composites as many of the first `count` pixels as go by whole blocks, each through the matte of the same index, and returns how many
-/// these are.
+/// Composites as many of the first `count` pixels as go in whole blocks, each through the matte of
+/// the same index, and returns their number.
 ///
 /// Condition: all three slices have `count` elements.
 #[inline(always)]
@@ -196,7 +201,8 @@ pub(super) fn masked_blocks<O: Blend, P: Pixel, S: Coverage<P::Chan>, B: Block<P
     count / size * size
 }
 
-/// Composites as many of the first `count` pixels as go by whole blocks, each through the same matte value, and returns how many these are.
+/// Composites as many of the first `count` pixels as go in whole blocks, each through the same
+/// matte value, and returns their number.
 ///
 /// Condition: both slices have `count` pixels.
 #[inline(always)]

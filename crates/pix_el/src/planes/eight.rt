@@ -1,4 +1,5 @@
-//! Eight pixels of four channels without a hue as they lie: thirty-two channels, pixel by pixel.
+//! Eight pixels of four channels without a hue, as they are in memory: thirty-two channels, pixel
+//! by pixel.
 ghost use Rattle.std.specs.Prelude.{◌≡◌, ◌++◌, length, map, refl, replicate};
 ghost use Rattle.pix_chan.specs.Planes.{in_turn};
 ghost use Rattle.pix_chan.specs.Runs.{over};
@@ -72,8 +73,8 @@ fn joined<C: Channel>(a: [C; 16], b: [C; 16]) -> [C; 32]
     both
 }
 
-/// Returns eight values, each at the four places of its pixel: planes that are the same are put together, which goes by lanes. Of an array
-/// that names each value four times LLVM makes as many steps.
+/// Returns eight values, each at the four places of its pixel. Equal planes are put together, which
+/// uses lanes. For an array that names each value four times, LLVM writes each element by itself.
 #[inline(always)]
 fn spread<C: Channel>(values: &[C]) -> [C; 32]
     requires { length values.now ≡ 8 }
@@ -89,8 +90,8 @@ fn spread<C: Channel>(values: &[C]) -> [C; 32]
     joined(a, b)
 }
 
-/// Returns the channels of eight pixels, each pixel multiplied by the matte value of the same index. Each `CALLER` has a copy of its own,
-/// since LLVM inlines what is called once.
+/// Returns the channels of eight pixels, each pixel multiplied by the matte value of the same
+/// index. Each `CALLER` has a copy of its own, since LLVM inlines a function that is called once.
 ///
 /// Condition: the alpha is the last channel, and none is a hue.
 #[inline(always)]
@@ -110,8 +111,8 @@ pub(super) fn covered<P: Pixel, const CALLER: usize>(
     to
 }
 
-/// Composites the eight pixels of these channels with those of `dst`: at each index, the alphas are those of its own pixel. Each `CALLER` has
-/// a copy of its own.
+/// Composites the eight pixels of these channels with those of `dst`. At each index the alphas are
+/// those of its own pixel. Each `CALLER` has a copy of its own.
 ///
 /// Condition: the alpha is the last channel, and none is a hue.
 #[inline(always)]

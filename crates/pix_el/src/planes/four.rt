@@ -15,7 +15,8 @@ use crate::planes::{composite_first, scale_first};
 use pix_chan::chan::Channel;
 use pix_ops::ops::Blend;
 
-/// Returns the planes of sixteen pixels. Each `CALLER` has a copy of its own, since LLVM inlines what is called once.
+/// Returns the planes of sixteen pixels. Each `CALLER` has a copy of its own, since LLVM inlines a
+/// function that is called once.
 #[inline(always)]
 fn planes<P: Pixel, const CALLER: usize>(
     p: &[P],
@@ -49,7 +50,8 @@ fn put_planes<P: Pixel>(
     put_fours(p, a, b, c, d);
 }
 
-/// Composites the sixteen pixels of these planes with those of `dst`. All alphas are read before a plane is written.
+/// Composites the sixteen pixels of these planes with those of `dst`. All alphas are read before a
+/// plane is written.
 ///
 /// Condition: the alpha is the last channel, and only the first may be a hue.
 #[inline(always)]
@@ -80,7 +82,8 @@ fn composite_sixteen<O: Blend, P: Pixel, const CALLER: usize>(
     put_planes(dst, to_one, to_two, to_three, to_four);
 }
 
-/// Composites the color of these channels with sixteen pixels, each through the matte value of the same index.
+/// Composites the color of these channels with sixteen pixels, each through the matte value of the
+/// same index.
 ///
 /// Condition: the alpha is the last channel, and only the first may be a hue.
 #[inline(always)]

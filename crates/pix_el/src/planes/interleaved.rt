@@ -98,7 +98,8 @@ pub(super) fn put_four_pixels<P: Pixel>(p: &mut [P], c: [P::Chan; 16])
     put_channels(p, &c);
 }
 
-/// Returns what four pixels become by the composite of those of `src`: at each index, the alphas are those of its own pixel.
+/// Returns four pixels after those of `src` are composited with them. At each index the alphas are
+/// those of its own pixel.
 ///
 /// Condition: the alpha is the last channel, and none is a hue.
 #[inline(always)]

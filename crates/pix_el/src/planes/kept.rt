@@ -1,4 +1,5 @@
-//! Composites that leave pixels as they are, or replace them, told by the factors of the operator.
+//! Composites that leave pixels as they are, or replace them. The factors of the operator tell
+//! which.
 ghost use Rattle.std.specs.Prelude.{◌≡◌, ◌<◌, ℕ, [], length, map, get_or, true};
 ghost use Rattle.pix_ops.specs.Operators as operators;
 ghost use Rattle.pix_el.specs.Planes.{Keeps, KeepsAll};
@@ -9,7 +10,8 @@ use pix_chan::chan::Channel;
 use pix_ops::ops::Blend;
 use pix_ops::ops::run::Factor;
 
-/// Returns whether a factor is 0: it makes 0 of the maximum, whether the other side is transparent or opaque.
+/// Returns whether a factor is 0: it turns the maximum into 0, whether the other side is
+/// transparent or opaque.
 #[inline(always)]
 fn is_zero<F: Factor, C: Channel>() -> bool
     ensures { result ≡ true → F.coefficient ≡ operators.Zero }
@@ -17,7 +19,8 @@ fn is_zero<F: Factor, C: Channel>() -> bool
     F::term(C::MAX, C::MAX) == C::MIN && F::term(C::MAX, C::MIN) == C::MIN
 }
 
-/// Returns whether a factor is 1: it leaves the maximum, whether the other side is transparent or opaque.
+/// Returns whether a factor is 1: it keeps the maximum, whether the other side is transparent or
+/// opaque.
 #[inline(always)]
 fn is_one<F: Factor, C: Channel>() -> bool
     ensures { result ≡ true → F.coefficient ≡ operators.One }
@@ -25,7 +28,7 @@ fn is_one<F: Factor, C: Channel>() -> bool
     F::term(C::MAX, C::MAX) == C::MAX && F::term(C::MAX, C::MIN) == C::MAX
 }
 
-/// Returns whether an operator keeps what it is composited with, whatever the source: the destination alone counts, as it is.
+/// Returns whether an operator keeps the destination whatever the source is.
 #[inline(always)]
 pub(super) fn keeps_all<O: Blend, C: Channel>() -> bool
     ensures { result ≡ true → KeepsAll C.max O.op }
@@ -33,7 +36,8 @@ pub(super) fn keeps_all<O: Blend, C: Channel>() -> bool
     is_zero::<O::Source, C>() && is_one::<O::Dest, C>()
 }
 
-/// Returns whether an operator keeps what a transparent source is composited with: the destination's factor leaves it there.
+/// Returns whether an operator keeps the destination under a transparent source: the destination's
+/// factor is then 1.
 #[inline(always)]
 pub(super) fn keeps_under_clear<O: Blend, C: Channel>() -> bool
     ensures { result ≡ true → Keeps C.max O.op 0 0 }
@@ -53,7 +57,7 @@ pub(super) fn are_clear<C: Channel, S: Coverage<C>>(src: &[S]) -> bool
     any == 0
 }
 
-/// Sees that each pixel has the channels of its format, which takes no step of the processor.
+/// Establishes that each pixel has the channels of its format. It compiles to no instruction.
 #[inline(always)]
 pub(super) fn see_channels<P: Pixel>(pixels: &[P])
     ensures { (k : ℕ) → k < length pixels.now

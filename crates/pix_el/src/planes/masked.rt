@@ -1,5 +1,6 @@
-//! Pixels through mattes or at one opacity: each block's channels are multiplied by the mattes of their own pixels, and composited as those of any
-//! other block. Here are those of four channels that lie as they are, and the choice of blocks.
+//! Pixels through mattes or at one opacity. Each block's channels are multiplied by the mattes of
+//! their own pixels, and composited as in any other block. This file has the blocks of four
+//! interleaved channels, and the choice of blocks.
 ghost use Rattle.std.specs.Prelude.{◌≡◌, ◌≤◌, ◌+◌, [], ◌∷◌, length, map, take};
 ghost use Rattle.std.specs.List.{zip};
 ghost use Rattle.pix_chan.specs.Runs.{over};
@@ -108,8 +109,8 @@ pub(super) fn composite_eight_faded<O: Blend, P: Pixel>(dst: &mut [P], src: &[P]
     composite_eight::<O, P, 3>(dst, colors);
 }
 
-/// Composites as many of the first `count` pixels as go by blocks, each through the matte of the same index, and returns how many
-/// these are.
+/// Composites as many of the first `count` pixels as go in blocks, each through the matte of the
+/// same index, and returns their number.
 ///
 /// Condition: the format has an alpha channel, and all three slices have `count` elements.
 #[inline(always)]
@@ -144,8 +145,8 @@ fn covered_runs<O: Blend, P: Pixel, S: Coverage<P::Chan>>(
     }
 }
 
-/// Composites as many of the first `count` pixels as go by blocks, each through the matte of the same index, and returns how many
-/// these are.
+/// Composites as many of the first `count` pixels as go in blocks, each through the matte of the
+/// same index, and returns their number.
 ///
 /// Condition: the format has an alpha channel, and all three slices have `count` elements.
 #[inline(always)]
@@ -168,7 +169,8 @@ pub(crate) fn masked_runs<const N: usize, A: Alpha, O: Blend, P: Pixel>(
     covered_runs::<O, P, Pix<N, P::Chan, Matte, A, Linear>>(dst, src, mattes, count)
 }
 
-/// Composites as many of the first `count` pixels as go by blocks, each through the same matte value, and returns how many these are.
+/// Composites as many of the first `count` pixels as go in blocks, each through the same matte
+/// value, and returns their number.
 ///
 /// Condition: the format has an alpha channel, and both slices have `count` pixels.
 #[inline(always)]

@@ -1,4 +1,5 @@
-//! Pixels of one channel, their alpha, sixteen at a time: a run of channels, of which each is its own alpha.
+//! Pixels of one channel, their alpha, sixteen at a time: a run of channels, where each is its own
+//! alpha.
 ghost use Rattle.std.specs.Prelude.{◌≡◌, [], ◌∷◌, length, map, refl};
 ghost use Rattle.std.specs.List.{zip};
 ghost use Rattle.pix_chan.specs.Runs.{over};
@@ -97,7 +98,8 @@ fn put_sixteen_pixels<P: Pixel>(p: &mut [P], c: [P::Chan; 16])
     put_eight_pixels(&mut p[8..16], &c[8..16]);
 }
 
-/// Composites the pixels of these channels with those of `dst`. The alphas are read before a channel is written.
+/// Composites the pixels of these channels with those of `dst`. The alphas are read before a
+/// channel is written.
 ///
 /// Condition: the one channel is the alpha.
 #[inline(always)]

@@ -1,12 +1,12 @@
-//! Sixteen pixels of four channels: four fours as they lie.
+//! Sixteen pixels of four channels: four times four pixels, as they are in memory.
 ghost use Rattle.std.specs.Prelude.{◌≡◌, ◌++◌, length, map};
 ghost use Rattle.pix_el.specs.Planes.{by_fours};
 
 use crate::el::Pixel;
 use crate::planes::interleaved::{four_pixels, put_four_pixels};
 
-/// Returns the channels of sixteen pixels, those of four pixels in each array. Each `CALLER` has a copy of its own, since LLVM inlines
-/// what is called once.
+/// Returns the channels of sixteen pixels, those of four pixels in each array. Each `CALLER` has a
+/// copy of its own, since LLVM inlines a function that is called once.
 #[inline(always)]
 pub(super) fn fours<P: Pixel, const CALLER: usize>(
     p: &[P],

@@ -40,7 +40,8 @@ fn eight_pixels<P: Pixel>(p: &[P]) -> [P::Chan; 16]
     [a, b, c, d, e, f, g, h, i, j, k, l, m, n, o, q]
 }
 
-/// Returns the planes of sixteen pixels. Each `CALLER` has a copy of its own, since LLVM inlines what is called once.
+/// Returns the planes of sixteen pixels. Each `CALLER` has a copy of its own, since LLVM inlines a
+/// function that is called once.
 #[inline(always)]
 fn planes<P: Pixel, const CALLER: usize>(p: &[P]) -> ([P::Chan; 16], [P::Chan; 16])
     requires count { P.layout.count ≡ 2 }
@@ -114,7 +115,8 @@ fn put_planes<P: Pixel>(p: &mut [P], one: [P::Chan; 16], two: [P::Chan; 16])
     put_eight_pixels(&mut p[8..16], b);
 }
 
-/// Composites the sixteen pixels of these planes with those of `dst`. Both alphas are read before a plane is written.
+/// Composites the sixteen pixels of these planes with those of `dst`. Both alphas are read before a
+/// plane is written.
 ///
 /// Condition: the alpha is the second channel, and there is no hue.
 #[inline(always)]
@@ -140,7 +142,8 @@ fn composite_sixteen<O: Blend, P: Pixel, const CALLER: usize>(
     put_planes(dst, to_one, to_two);
 }
 
-/// Composites the color of these channels with sixteen pixels, each through the matte value of the same index.
+/// Composites the color of these channels with sixteen pixels, each through the matte value of the
+/// same index.
 ///
 /// Condition: the alpha is the second channel, and there is no hue.
 #[inline(always)]

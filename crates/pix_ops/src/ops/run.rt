@@ -1,4 +1,4 @@
-//! Composites of runs of channels by runs of products and sums.
+//! Composites of runs of channels, as runs of products and sums.
 ghost use Rattle.std.specs.Prelude.{◌≡◌, ℕ, ◌-◌, ◌≤◌, length, map, min};
 ghost use Rattle.pix_ops.specs.Operators as operators;
 ghost use Rattle.pix_ops.specs.Operators.{Coefficient};
@@ -16,7 +16,8 @@ pub trait Factor {
     fn term<C: Channel>(c: C, alpha1: C) -> C
         ensures { C.number result ≡ term C.max coefficient (C.number c) (C.max - C.number alpha1) };
 
-    /// Multiplies each channel by the coefficient, where `alpha1` is one minus the other side's alpha.
+    /// Multiplies each channel by the coefficient, where `alpha1` is one minus the other side's
+    /// alpha.
     fn scale<C: Channel>(channels: &mut [C], alpha1: &[C])
         requires few { length channels.old ≤ 32 }
         requires same { length alpha1.now ≡ length channels.old }
@@ -95,7 +96,7 @@ impl Factor for OneMinusAlpha {
     }
 }
 
-/// Composites at most thirty-two channels: the source's products go into an array.
+/// Composites at most thirty-two channels. The source's products go into an array.
 #[inline(always)]
 fn composite_block<A: Factor, B: Factor, C: Channel>(dst: &mut [C], da1: &[C], src: &[C], sa1: &[C])
     requires few { length dst.old ≤ 32 }
@@ -116,8 +117,8 @@ fn composite_block<A: Factor, B: Factor, C: Channel>(dst: &mut [C], da1: &[C], s
     C::add_run(dst, terms);
 }
 
-/// Composites the channels of the same index of all four by the coefficients of source and destination; the shortest length decides,
-/// and the rest of `dst` stays.
+/// Composites the channels at the same index of all four slices with the coefficients of source and
+/// destination. The shortest length decides, and the rest of `dst` stays as it is.
 #[inline(always)]
 pub(super) fn composite<A: Factor, B: Factor, C: Channel>(
     dst: &mut [C],

@@ -11,7 +11,7 @@ use std::simd::prelude::*;
 
 /// Returns the high half of x y + 2^15 for the numbers of each lane.
 ///
-/// LLVM makes one instruction of the product in 32 bits and its shift.
+/// LLVM compiles the product in 32 bits and its shift to one instruction.
 #[inline(always)]
 fn high(a: u16x16, b: u16x16) -> u16x16
     ensures { result ≡ zip2 high_sum a b }
@@ -20,10 +20,11 @@ fn high(a: u16x16, b: u16x16) -> u16x16
     wide.cast::<u16>() + ((a * b) >> u16x16::splat(15))
 }
 
-/// Returns `high`, and one more in the lanes where it carries when it is added to the low half of `low` + 2^15.
+/// Returns `high`, plus one in the lanes where adding `high` to the low half of `low` + 2^15
+/// carries.
 ///
-/// The comparison is that of this low half with what `high` leaves up to 2^16 - 1, both less 2^15: x86-64 compares signed numbers in one
-/// instruction, and others in two or three.
+/// The low half is compared with 2^16 - 1 less `high`, and 2^15 is subtracted from both. x86-64
+/// compares signed numbers in one instruction, and unsigned ones in two or three.
 #[inline(always)]
 fn raise(low: u16x16, high: u16x16) -> u16x16
     ensures { result ≡ zip2 carried low high }
@@ -37,7 +38,7 @@ fn raise(low: u16x16, high: u16x16) -> u16x16
 
 /// Returns the channel product of the numbers of each lane.
 ///
-/// With x y + 2^15 = 2^16 h + l, the product is the high half of that sum and h: h, and one more where l + h carries.
+/// With x y + 2^15 = 2^16 h + l, the product is h, plus one where l + h carries.
 #[inline(always)]
 fn product_lanes(a: u16x16, b: u16x16) -> u16x16
     ensures { result ≡ zip2 (channel_product 65535) a b }
@@ -55,8 +56,9 @@ fn sum_lanes(x: u16x16, y: u16x16) -> u16x16
 
 /// Returns, for four pixels of four channels, at each lane the last channel of its pixel.
 ///
-/// The shift of words reads all lanes: of a bare shuffle LLVM sees that it needs the last channels alone, and where nothing else needs the
-/// others it loads them one by one, and puts each four times.
+/// The shift of words reads all lanes. With a bare shuffle, LLVM sees that only the last channels
+/// are needed. Where nothing else needs the others, it loads them one by one and puts each four
+/// times.
 #[inline(always)]
 pub(super) fn spread(pixels: u16x16) -> u16x16
     ensures { result ≡ last_of_four pixels }
@@ -68,7 +70,7 @@ pub(super) fn spread(pixels: u16x16) -> u16x16
 
 /// Returns the numbers of sixteen channels.
 ///
-/// LLVM makes one copy of the loop.
+/// LLVM compiles the loop to one copy.
 #[inline(always)]
 pub(super) fn units(c: &[Ch16]) -> u16x16
     requires { length c.now ≡ 16 }
@@ -81,7 +83,7 @@ pub(super) fn units(c: &[Ch16]) -> u16x16
     u16x16::from_array(own)
 }
 
-/// Returns the channels of sixteen numbers, by a loop as well.
+/// Returns the channels of sixteen numbers, with a loop as well.
 #[inline(always)]
 pub(super) fn channels(v: u16x16) -> [Ch16; 16]
     ensures { map (λ x. x.value) result ≡ v }

@@ -9,8 +9,8 @@ use std::simd::prelude::*;
 
 /// Returns the channel product of the bytes of each lane.
 ///
-/// With t = x y + 128, the product is 257 t / 2^16 rounded down: the high half of a product of 16 bits. This takes three steps for eight
-/// lanes, and what is made of y for them is only wider.
+/// With t = x y + 128, the product is 257 t / 2^16 rounded down: the high half of a product of 16
+/// bits. This takes three steps for eight lanes, and y only has to be widened.
 #[inline(always)]
 fn product_lanes(a: u8x16, b: u8x16) -> u8x16
     ensures { result ≡ zip2 (channel_product 255) a b }

@@ -1,7 +1,8 @@
 //! Products and sums of thirty-two channels of 8 bits at a time, on lanes.
 //!
-//! Products go by lanes of 16 bits: the bytes of even index and those of odd index apart, which takes masks and shifts alone. Wider lanes
-//! of sixteen bytes take shuffles, of which x86-64 has one port.
+//! Products use lanes of 16 bits. The bytes of even index and those of odd index are taken apart,
+//! which needs only masks and shifts. Widening sixteen bytes needs shuffles, for which x86-64 has
+//! one port.
 ghost use Rattle.std.specs.Prelude.{◌≡◌, map, length};
 ghost use Rattle.std.specs.Simd.Lanes.{zip2};
 ghost use Rattle.pix_chan.specs.Number.{saturating_sum};
@@ -14,7 +15,8 @@ use std::simd::prelude::*;
 
 /// Returns the channel products of bytes, each in a lane of 16 bits.
 ///
-/// With t = x y + 128, the product is 257 t / 2^16 rounded down: the high half of a product of 16 bits.
+/// With t = x y + 128, the product is 257 t / 2^16 rounded down: the high half of a product of 16
+/// bits.
 #[inline(always)]
 fn near(a: u16x16, b: u16x16) -> u16x16
     ensures { result ≡ zip2 high_half a b }
@@ -44,7 +46,8 @@ fn sum_lanes(x: u8x32, y: u8x32) -> u8x32
     x.saturating_add(y)
 }
 
-/// Returns, for eight pixels of four channels, at each lane the last channel of its pixel: by a shift of words, as four pixels' go.
+/// Returns, for eight pixels of four channels, at each lane the last channel of its pixel. It
+/// shifts words, as the same function for four pixels does.
 #[inline(always)]
 pub(super) fn spread(pixels: u8x32) -> u8x32
     ensures { result ≡ last_of_four pixels }
@@ -61,7 +64,8 @@ pub(super) fn spread(pixels: u8x32) -> u8x32
 
 /// Returns the numbers of thirty-two channels.
 ///
-/// LLVM makes one copy of the loop. Of an array that names all elements it makes as many steps, and inlines no caller of that length.
+/// LLVM compiles the loop to one copy. For an array that names all elements it makes a step for
+/// each, and inlines no caller of that length.
 #[inline(always)]
 pub(super) fn units(c: &[Ch8]) -> u8x32
     requires { length c.now ≡ 32 }
@@ -74,7 +78,7 @@ pub(super) fn units(c: &[Ch8]) -> u8x32
     u8x32::from_array(own)
 }
 
-/// Returns the channels of thirty-two numbers, by a loop as well.
+/// Returns the channels of thirty-two numbers, with a loop as well.
 #[inline(always)]
 pub(super) fn channels(v: u8x32) -> [Ch8; 32]
     ensures { map (λ x. x.value) result ≡ v }

@@ -8,7 +8,8 @@ use std::simd::prelude::*;
 
 /// Returns the lanes of even and of odd index of both vectors.
 ///
-/// This goes by a cast of pairs: LLVM takes shuffles of shuffles apart, lane by lane, and leaves this whole.
+/// This uses a cast of pairs. LLVM takes shuffles of shuffles apart, lane by lane, but leaves the
+/// cast whole.
 #[inline(always)]
 pub(super) fn cut(a: u8x16, b: u8x16) -> (u8x16, u8x16)
     ensures even { result.0 ≡ pick_l 0 (a ++ b) even_lanes }
@@ -27,7 +28,8 @@ pub(super) fn cut(a: u8x16, b: u8x16) -> (u8x16, u8x16)
     )
 }
 
-/// Returns pairs of lanes of both vectors in turn: those of the lower halves, and those of the upper. This goes by a cast as well.
+/// Returns pairs of lanes of both vectors in turn: those of the lower halves, and those of the
+/// upper. This uses a cast as well.
 #[inline(always)]
 fn mesh(a: u8x16, b: u8x16) -> (u8x16, u8x16)
     ensures low { result.0 ≡ pick_l 0 (a ++ b) low_pairs }
@@ -41,8 +43,8 @@ fn mesh(a: u8x16, b: u8x16) -> (u8x16, u8x16)
 
 /// Returns, for four pixels of four channels, at each lane the last channel of its pixel.
 ///
-/// The shift of words reads all lanes: of a bare shuffle LLVM sees that it needs the last channels alone, and where nothing else needs the
-/// others it loads byte by byte.
+/// The shift of words reads all lanes. With a bare shuffle, LLVM sees that only the last channels
+/// are needed. Where nothing else needs the others, it loads byte by byte.
 #[inline(always)]
 pub(super) fn spread(pixels: u8x16) -> u8x16
     ensures { result ≡ last_of_four pixels }
