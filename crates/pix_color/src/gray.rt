@@ -15,8 +15,9 @@ use std::ops::Range;
 
 /// The model of gray.
 ///
-/// The value is 0.2126, 0.7152 and 0.0722 of red, green and blue, the weights of ITU-R BT.709: where these are linear, the luminance (y of the CIE
-/// 1931 values, IEC 61966-2-1); where they are encoded by the sRGB curve, the luma.
+/// The value is 0.2126, 0.7152 and 0.0722 of red, green and blue, the weights of ITU-R BT.709.
+/// Where red, green and blue are linear it is the luminance (y of the CIE 1931 values, IEC
+/// 61966-2-1). Where they are encoded by the sRGB curve it is the luma.
 ///
 /// # Examples
 ///

@@ -16,9 +16,11 @@ use pix_el::el::{Pix, Pixel};
 use pix_el::model::ColorModel;
 use std::ops::Range;
 
-/// The model of hue, saturation and lightness, from G. H. Joblove and D. Greenberg, *Color Spaces for Computer Graphics*, SIGGRAPH 1978.
+/// The model of hue, saturation and lightness, from G. H. Joblove and D. Greenberg, *Color Spaces
+/// for Computer Graphics*, SIGGRAPH 1978.
 ///
-/// The lightness is the middle of the greatest and the least of red, green and blue, rounded, and the saturation what the chroma has of its greatest there.
+/// The lightness is the rounded mean of the greatest and the least of red, green and blue. The
+/// saturation is the chroma as a part of the greatest chroma at that lightness.
 ///
 /// # Examples
 ///

@@ -14,9 +14,11 @@ use pix_el::el::{Pix, Pixel};
 use pix_el::model::ColorModel;
 use std::ops::Range;
 
-/// The model of hue, saturation and value: the hexcone of A. R. Smith, *Color Gamut Transform Pairs*, SIGGRAPH 1978.
+/// The model of hue, saturation and value: the hexcone of A. R. Smith, *Color Gamut Transform
+/// Pairs*, SIGGRAPH 1978.
 ///
-/// The value is the greatest of red, green and blue, and the saturation what the chroma, the greatest less the least, has of it.
+/// The value is the greatest of red, green and blue. The saturation is the chroma as a part of the
+/// value, and the chroma is the greatest less the least.
 ///
 /// # Examples
 ///

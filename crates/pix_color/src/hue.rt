@@ -6,8 +6,8 @@ use crate::numbers::{complement, divided_short, exact, max, nearest, number, pro
 use pix_chan::reciprocals::quotient_by_byte;
 use pix_el::chan::Channel;
 
-/// A sixth of the hexcone, the circle of hues (A. R. Smith, *Color Gamut Transform Pairs*, SIGGRAPH 1978), from the color that it is named for on. Its
-/// weight says how far on.
+/// A sixth of the hexcone, the circle of hues (A. R. Smith, *Color Gamut Transform Pairs*, SIGGRAPH
+/// 1978), from the color that it is named for on. Its weight says how far on.
 ///
 /// # Examples
 ///
@@ -50,7 +50,8 @@ impl<C: Channel> Hexcone<C> {
         }
     }
 
-    /// Returns red, green and blue at a chroma. The least of them is 0, and the greatest is the chroma.
+    /// Returns red, green and blue at a chroma. The least of them is 0, and the greatest is the
+    /// chroma.
     pub fn rgb(self, chroma: C) -> (C, C, C)
         ensures red { C.number result.0 ≡ (rgb_of_hexcone C.max (numbered C.number self)
             (C.number chroma)).0 }
@@ -79,7 +80,8 @@ pub(crate) fn lifted_rgb<C: Channel>(hue: C, chroma: C, lift: C) -> (C, C, C)
     (sum(red, lift), sum(green, lift), sum(blue, lift))
 }
 
-/// Returns the hue that is `n` / (6 * `chroma`) of the circle. Condition: the chroma is a channel's, not 0, and that part is at most 1.
+/// Returns the hue that is `n` / (6 * `chroma`) of the circle. Condition: the chroma is a
+/// channel's, not 0, and that part is at most 1.
 fn hue_at<C: Channel>(n: u64, chroma: u64) -> C
     requires positive { 0 < chroma }
     requires small { chroma < 65536 }
@@ -89,8 +91,9 @@ fn hue_at<C: Channel>(n: u64, chroma: u64) -> C
     nearest(max::<C>() * n, 6 * chroma)
 }
 
-/// Returns the hue after a turn of `n` / (6 * `chroma`) of the circle, 0 where the chroma is 0. At eight bits it multiplies by a
-/// reciprocal in place of a division, and at sixteen it divides 32 bits: a third of the maximum times `n`, and half of that, fit.
+/// Returns the hue after a turn of `n` / (6 * `chroma`) of the circle, 0 where the chroma is 0. At
+/// eight bits it multiplies by a reciprocal in place of a division, and at sixteen it divides 32
+/// bits: a third of the maximum times `n`, and half of that, fit.
 ///
 /// Condition: the chroma is a channel's, and that part is at most 1.
 #[inline(always)]
@@ -110,7 +113,8 @@ fn hue_after<C: Channel>(n: u64, chroma: u64) -> C
     }
 }
 
-/// Returns how far round the circle a color of this chroma and value is, where each sixth is as long as the chroma.
+/// Returns how far round the circle a color of this chroma and value is, where each sixth is as
+/// long as the chroma.
 ///
 /// All three cases are computed and one is taken, so that the code need not branch.
 #[inline(always)]

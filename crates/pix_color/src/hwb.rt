@@ -14,11 +14,11 @@ use pix_el::el::{Pix, Pixel};
 use pix_el::model::ColorModel;
 use std::ops::Range;
 
-/// The model of hue, whiteness and blackness, from A. R. Smith and E. R. Lyons, *HWB: A More Intuitive Hue-Based Color Model*, Journal of Graphics
-/// Tools 1(1), 1996.
+/// The model of hue, whiteness and blackness, from A. R. Smith and E. R. Lyons, *HWB: A More
+/// Intuitive Hue-Based Color Model*, Journal of Graphics Tools 1(1), 1996.
 ///
-/// The whiteness is the least of red, green and blue, but for the rounding of the saturation that it is computed by, and the blackness what the greatest
-/// lacks of the maximum.
+/// The whiteness is the least of red, green and blue, except for the rounding of the saturation
+/// from which it is computed. The blackness is the maximum less the greatest of them.
 ///
 /// # Examples
 ///
@@ -95,7 +95,8 @@ impl Hwb {
     }
 }
 
-/// Returns what `n` has of `sum`, as a channel. Condition: `n` is below 2^16, and the sum is positive and below 2^17.
+/// Returns `n` as a part of `sum`, as a channel. Condition: `n` is below 2^16, and the sum is
+/// positive and below 2^17.
 fn share<C: Channel>(n: u64, sum: u64) -> C
     requires part { n < 65536 }
     requires positive { 0 < sum }
@@ -105,7 +106,8 @@ fn share<C: Channel>(n: u64, sum: u64) -> C
     nearest(n * max::<C>(), sum)
 }
 
-/// Returns whiteness and blackness as they are, or the share of each in their sum where that passes the maximum.
+/// Returns whiteness and blackness as they are, or the share of each in their sum where the sum is
+/// above the maximum.
 fn fitted<C: Channel>(whiteness: C, blackness: C) -> (C, C)
     ensures whiteness { C.number result.0 ≡ (fitted C.max (C.number whiteness)
         (C.number blackness)).0 }

@@ -1,8 +1,10 @@
 //! Eight color models, beside those of red, green and blue and of mattes, and the hexcone.
 //!
-//! Each model is converted into red, green and blue and from them by whole numbers, rounded to the nearest, in the type of the pixel's
-//! channels. A color of `Bgr` or `Cmy` comes back from red, green and blue as it was, and so does a red, green and blue from them; a
-//! `Gray` comes back from red, green and blue. That follows from their formulas and is no clause; those of the other models round.
+//! Each model is converted to red, green and blue and back in whole numbers, rounded to the
+//! nearest, in the type of the pixel's channels. A color of `Bgr` or `Cmy` comes back from red,
+//! green and blue as it was, and a color of red, green and blue comes back from them. A `Gray`
+//! comes back from red, green and blue. That follows from their formulas and is not a clause. The
+//! formulas of the other models round.
 #![tactic(auto)]
 
 pub mod bgr;

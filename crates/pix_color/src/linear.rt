@@ -4,7 +4,8 @@ ghost use Rattle.pix_color.specs.Linear.{weights, weighted_sum};
 
 use pix_el::chan::Channel;
 
-/// Returns a weight times the number of a channel. Condition: the weight is at most 2^21, either way.
+/// Returns a weight times the number of a channel. Condition: the weight is at most 2^21, either
+/// way.
 #[inline(always)]
 fn weighted<C: Channel>(weight: i64, channel: C) -> i64
     requires { unsigned_abs weight ≤ 2 ^ 21 }
@@ -14,7 +15,8 @@ fn weighted<C: Channel>(weight: i64, channel: C) -> i64
     weight * i64::from(channel.to_u32())
 }
 
-/// Returns the channel nearest to the sum of three channels and of the maximum, each times its weight, over `whole`, ties up.
+/// Returns the channel nearest to the sum of three channels and of the maximum, each times its
+/// weight, over `whole`, ties up.
 ///
 /// Condition: each weight is at most 2^21, either way, and `whole` is positive and at most 2^20.
 ///

@@ -66,7 +66,8 @@ fn divided(n: u64, d: u64, narrow: bool) -> u64
     }
 }
 
-/// Returns `n` / `d` rounded down, in 32 bits, which many processors divide much faster than 64. Condition: both fit.
+/// Returns `n` / `d` rounded down, in 32 bits, which many processors divide much faster than 64.
+/// Condition: both fit.
 #[inline(always)]
 pub(crate) fn divided_short(n: u64, d: u64) -> u64
     requires n_fits { n < 2 ^ 32 }
@@ -77,7 +78,7 @@ pub(crate) fn divided_short(n: u64, d: u64) -> u64
     u64::from(n as u32 / d as u32)
 }
 
-/// Returns what a channel lacks of the maximum.
+/// Returns the maximum less a channel.
 pub(crate) fn complement<C: Channel>(c: C) -> C
     ensures { C.number result ≡ C.max - C.number c }
 {
@@ -91,7 +92,8 @@ pub(crate) fn product<C: Channel>(x: C, y: C) -> C
     x * y
 }
 
-/// Returns the quotient of two channels. At eight bits it multiplies by a reciprocal in place of a division.
+/// Returns the quotient of two channels. At eight bits it multiplies by a reciprocal instead of
+/// dividing.
 #[inline(always)]
 pub(crate) fn quotient<C: Channel>(x: C, y: C) -> C
     ensures { C.number result ≡ channel_quotient C.max (C.number x) (C.number y) }

@@ -15,8 +15,9 @@ use std::ops::Range;
 
 /// The model of the tristimulus values of CIE 1931.
 ///
-/// Linear red, green and blue have the primaries of ITU-R BT.709 at the white point D65; the matrices are those of IEC 61966-2-1:1999, to four decimals.
-/// The maximum stands for 1, where a value that is greater stops: the z of white is 1.089.
+/// Linear red, green and blue have the primaries of ITU-R BT.709 at the white point D65. The
+/// matrices are those of IEC 61966-2-1:1999, to four decimals. The maximum stands for 1, and a
+/// greater value is cut to it: the z of white is 1.089.
 ///
 /// # Examples
 ///

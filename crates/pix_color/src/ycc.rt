@@ -15,8 +15,9 @@ use std::ops::Range;
 
 /// The model of luma and the blue and red color differences.
 ///
-/// The luma is 0.299, 0.587 and 0.114 of red, green and blue, the weights of ITU-R BT.601. The differences are those of ITU-T T.871 (JFIF), over the
-/// full range of a channel, and the middle stands for none.
+/// The luma is 0.299, 0.587 and 0.114 of red, green and blue, the weights of ITU-R BT.601. The
+/// differences are those of ITU-T T.871 (JFIF), over the full range of a channel, and the middle
+/// stands for none.
 ///
 /// # Examples
 ///

@@ -10,7 +10,8 @@ ghost use Rattle.pix_raster.specs.Clip.{in_box, is_offset, row_start, row_end, I
 use crate::region::Region;
 use std::ops::Range;
 
-/// The clipped rectangle of a region in a raster: the columns and rows of its points that lie there.
+/// The clipped rectangle of a region in a raster: the columns and rows of its points that lie
+/// there.
 #[derive(Drop)]
 pub(crate) struct ClippedRect {
     pub(crate) columns: Range<usize>,
@@ -26,14 +27,16 @@ pub(crate) struct AxisOverlap {
     pub(crate) src_start: usize,
 }
 
-/// The overlap of a region of a destination and a region of a source, with their corners at one point.
+/// The overlap of a region of a destination and a region of a source, with their corners at one
+/// point.
 #[derive(Drop)]
 pub(crate) struct Overlap {
     pub(crate) columns: AxisOverlap,
     pub(crate) rows: AxisOverlap,
 }
 
-/// Clips `reg` to a raster of that width and height; (0, 0, 0, 0) where none of its points lies there.
+/// Clips `reg` to a raster of that width and height. The answer is (0, 0, 0, 0) where no point of
+/// `reg` lies there.
 pub(crate) fn clip(reg: Region, width: u32, height: u32) -> Region
     requires wide { width ≤ limit }
     requires high { height ≤ limit }
@@ -43,8 +46,8 @@ pub(crate) fn clip(reg: Region, width: u32, height: u32) -> Region
 }
 
 impl ClippedRect {
-    /// Clips `reg` to a raster of that width and height; both ranges are empty where none of its points
-    /// lies there.
+    /// Clips `reg` to a raster of that width and height. Both ranges are empty where no point of
+    /// `reg` lies there.
     pub(crate) fn new(reg: Region, width: u32, height: u32) -> ClippedRect
         requires wide { width ≤ limit }
         requires high { height ≤ limit }
@@ -73,8 +76,8 @@ impl ClippedRect {
 }
 
 impl ClippedRect {
-    /// Returns the points of the rectangle that are neither left of a point nor above it, as seen from there: by their distances from
-    /// its column and its row.
+    /// Returns the points of the rectangle that are neither left of a point nor above it. They are
+    /// given by their distances from its column and its row.
     pub(crate) fn seen_from(self, left: u32, top: u32) -> ClippedRect
         requires ordered { self.columns.start ≤ self.columns.end }
         requires from_top { self.rows.start ≤ self.rows.end }
@@ -123,8 +126,8 @@ fn rows_of(reg: Region) -> Range<usize>
     coordinate(reg.top(), 0)..coordinate(reg.bottom(), 0)
 }
 
-/// Returns where the pixels of `reg` in row `y` stand in the pixels of a raster of that width and height;
-/// an empty range where it has none there.
+/// Returns where the pixels of `reg` in row `y` are in the pixels of a raster of that width and
+/// height. The range is empty where it has none there.
 pub(crate) fn row_places(reg: Region, width: u32, height: u32, y: i32) -> Range<usize>
     requires wide { width ≤ limit }
     requires high { height ≤ limit }
@@ -146,7 +149,8 @@ pub(crate) fn row_places(reg: Region, width: u32, height: u32, y: i32) -> Range<
 }
 
 impl Overlap {
-    /// Returns the overlap of `to` in a destination of that width and height and `from` in a source.
+    /// Returns the overlap of `to` in a destination of that width and height and `from` in a
+    /// source.
     pub(crate) fn new(
         to: Region,
         width: u32,
@@ -199,8 +203,9 @@ impl Overlap {
 }
 
 impl Overlap {
-    /// Returns the points of the overlap that are neither left of a point of the destination nor above it, as seen from there: by their
-    /// distances from its column and its row. Each keeps its point of the source.
+    /// Returns the points of the overlap that are neither left of a point of the destination nor
+    /// above it. They are given by their distances from its column and its row. Each keeps its
+    /// point of the source.
     pub(crate) fn seen_from(self, left: u32, top: u32) -> Overlap
         requires ordered { self.columns.dst.start ≤ self.columns.dst.end }
         requires from_top { self.rows.dst.start ≤ self.rows.dst.end }
@@ -236,7 +241,8 @@ impl Overlap {
 }
 
 impl AxisOverlap {
-    /// Returns the overlap of the destination's columns, or rows, from `first` on, each less `first`.
+    /// Returns the overlap of the destination's columns, or rows, from `first` on, each less
+    /// `first`.
     fn seen_from(self, first: usize) -> AxisOverlap
         requires ordered { self.dst.start ≤ self.dst.end }
         requires short { self.src_start + (self.dst.end - self.dst.start) ≤ limit }
@@ -259,8 +265,8 @@ impl AxisOverlap {
 }
 
 impl Overlap {
-    /// Returns the points of the overlap that another one has too, which is of the same region of one destination. Each keeps its point
-    /// of the source.
+    /// Returns the points that two overlaps share. Both are of the same region of one destination.
+    /// Each point keeps its point of the source.
     pub(crate) fn within(&self, other: &Overlap) -> Overlap
         requires ordered { self.now.columns.dst.start ≤ self.now.columns.dst.end }
         requires from_top { self.now.rows.dst.start ≤ self.now.rows.dst.end }
@@ -298,8 +304,9 @@ impl AxisOverlap {
     }
 }
 
-/// Returns the overlap of `to_len` columns, or rows, from `to` on in a destination that has `dst_limit` and
-/// of `from_len` from `from` on in a source that has `src_limit`: those at the offsets that lie in both.
+/// Returns the overlap along one axis: the columns, or rows, at the offsets that lie in both. The
+/// destination has `dst_limit` columns or rows, of which `to_len` from `to` on count. The source
+/// has `src_limit`, of which `from_len` from `from` on count.
 fn axis_overlap(
     to: i32,
     to_len: u32,
@@ -334,7 +341,8 @@ fn axis_overlap(
     }
 }
 
-/// Returns the offsets from `start`, below `len`, that lead to coordinates from 0 to `limit`, exclusive.
+/// Returns the offsets from `start`, below `len`, that lead to coordinates from 0 to `limit`,
+/// exclusive.
 fn offsets_in(start: i32, len: u32, limit: u32) -> Range<usize>
     ensures offsets { (i : ℕ) → lies_in result i ≡ is_offset start len limit (pos i) }
     ensures visible { pos 0 ≤ℤ (start +ℤ pos result.start) }

@@ -60,7 +60,8 @@ pub enum Command<'a, P, M> {
         /// The operator.
         op: Op,
     },
-    /// Composites a color through a region of a raster of mattes, as [`Raster::composite_matte`] does.
+    /// Composites a color through a region of a raster of mattes, as [`Raster::composite_matte`]
+    /// does.
     Matte {
         /// The region of the destination.
         to: Region,
@@ -73,7 +74,8 @@ pub enum Command<'a, P, M> {
         /// The operator.
         op: Op,
     },
-    /// Composites a region of another raster through a region of a raster of mattes, as [`Raster::composite_raster_matte`] does.
+    /// Composites a region of another raster through a region of a raster of mattes, as
+    /// [`Raster::composite_raster_matte`] does.
     RasterMatte {
         /// The region of the destination.
         to: Region,
@@ -88,7 +90,8 @@ pub enum Command<'a, P, M> {
         /// The operator.
         op: Op,
     },
-    /// Composites a region of another raster at one opacity, as [`Raster::composite_raster_alpha`] does.
+    /// Composites a region of another raster at one opacity, as [`Raster::composite_raster_alpha`]
+    /// does.
     RasterAlpha {
         /// The region of the destination.
         to: Region,
@@ -104,7 +107,7 @@ pub enum Command<'a, P, M> {
 }
 
 impl<'a, P, M> Command<'a, P, M> {
-    /// Returns the operator; `Src` for a command that does not composite.
+    /// Returns the operator, which is `Src` for a command that does not composite.
     pub(crate) fn op(&self) -> Op
         ensures { result ≡ op_of self.now }
     {
@@ -118,7 +121,7 @@ impl<'a, P, M> Command<'a, P, M> {
         }
     }
 
-    /// Returns the region of the destination, all points of any raster for a clear.
+    /// Returns the region of the destination. For a clear it has all points of any raster.
     pub(crate) fn reach(&self) -> Region {
         match self {
             Command::CopyColor { reg, .. } | Command::Color { reg, .. } => *reg,

@@ -8,7 +8,8 @@ use crate::region::LIMIT;
 use std::alloc::AllocError;
 use thiserror::Error;
 
-/// The reason why a raster, a buffer or a palette was not made: the first that applies, in this order.
+/// The reason why a raster, a buffer or a palette was not made: the first that applies, in this
+/// order.
 #[derive(Clone, Copy, Debug, PartialEq, Eq, Error)]
 pub enum RasterFault {
     /// The width is above 2147483647.
@@ -39,7 +40,8 @@ impl From<AllocError> for RasterFault {
     }
 }
 
-/// Returns the number of points of a size, at most 2147483647, or the size's first fault.
+/// Returns the number of points of a size, which is at most 2147483647, or the first fault of the
+/// size.
 pub(crate) fn point_count(width: u32, height: u32) -> Result<usize, RasterFault>
     ensures ok { IfOk result (λ count. count ≡ height * width) }
     ensures small { IfOk result (λ count. count ≤ limit) }

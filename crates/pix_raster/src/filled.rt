@@ -3,9 +3,10 @@ ghost use Rattle.std.specs.Prelude.{◌≡◌, vec_len, replicate, IfOk};
 
 use std::alloc::{AllocError, Global};
 
-/// Returns so many copies of a value, in memory that is asked for once.
+/// Returns `count` copies of a value, in memory that is allocated once.
 ///
-/// The copies are written as they are, one after the other, which the compiler makes a fill by words; `Vec::from_elem` clones them one by one.
+/// The copies are written one after the other, which the compiler turns into a fill by words.
+/// `Vec::from_elem` clones them one by one.
 ///
 /// # Errors
 ///

@@ -23,12 +23,15 @@ pub struct Shape {
     pub stride: usize,
 }
 
-/// A part of a picture: the shape of the part, and the point of the picture where its first pixel lies.
+/// A part of a picture: the shape of the part, and the point of the picture where its first pixel
+/// lies.
 ///
-/// What is done to a window is what is done to those points of the picture, so that windows which are painted apart are the picture.
+/// What is done to a window is what is done to those points of the picture. So windows that are
+/// painted one by one make up the picture.
 #[derive(Clone, Copy, Debug, PartialEq, Eq)]
 pub struct Window {
-    /// The column of the picture where the first pixel lies. With the width it is at most 2147483647.
+    /// The column of the picture where the first pixel lies. With the width it is at most
+    /// 2147483647.
     pub left: u32,
     /// The row of the picture where the first pixel lies. With the height it is at most 2147483647.
     pub top: u32,
@@ -77,7 +80,8 @@ pub trait Blit<D, S> {
     /// What it makes of a source and a pixel.
     ghost makes: { Self → List ℕ → List ℕ → List ℕ };
 
-    /// Changes each pixel of a row by the pixel of the source at the same place. The shorter row decides, and the rest stays.
+    /// Changes each pixel of a row by the pixel of the source at the same place. The shorter row
+    /// decides how many change, and the rest stay as they are.
     fn blit(&self, row: &mut [D], src: &[S])
         requires { can_blit }
         ensures { map reads row.new ≡ over (makes self.now) (map source_reads src.now)
@@ -86,7 +90,8 @@ pub trait Blit<D, S> {
 
 /// What is painted on windows of a picture, such as a list of commands.
 ///
-/// What becomes of a point depends on where it lies in the picture and on what stood there, and not on the window that is painted.
+/// The result at a point depends on where it lies in the picture and on what stood there. It
+/// doesn't depend on the window that is painted.
 pub trait Painting<D> {
     /// What it needs.
     ghost can_paint: { Self → Type 0 };
@@ -100,12 +105,13 @@ pub trait Painting<D> {
     /// Returns how many commands it has. Only speed depends on it.
     fn commands(&self) -> usize;
 
-    /// Returns how many points of a window its commands reach, each counted as often as a command reaches it. Only speed depends on it.
+    /// Returns how many points of a window its commands reach, each counted as often as a command
+    /// reaches it. Only speed depends on it.
     fn reached(&self, window: Window) -> usize
         requires across { window.left + window.shape.width ≤ limit }
         requires down { window.top + window.shape.height ≤ limit };
 
-    /// Paints a window. What lies between its rows and after them stays.
+    /// Paints a window. Pixels between its rows and after them stay as they are.
     fn paint(&self, pixels: &mut [D], window: Window)
         requires can_paint { can_paint self.now }
         requires fits { IsWindow window (length pixels.old) }
@@ -113,19 +119,22 @@ pub trait Painting<D> {
             (in_window window (makes self.now)) };
 }
 
-/// How many pixels a band of [`paint_by_bands`] has, or less: in any format of 8 or 16 bits at most 256 KB.
+/// The most pixels that a band of [`paint_by_bands`] has. In any format of 8 or 16 bits that is at
+/// most 256 KB.
 const BAND: u32 = 32768;
 
-/// How many pixels a window has at most that is one band, since a cache holds it with a source.
+/// The most pixels that a window of one band has. A cache holds it together with a source.
 const SMALL: u64 = 131072;
 
-/// How many points of a band a command has to reach, on the average of a list, that bands take no longer than the list done command by
-/// command: where it reaches none of a band, it takes as long to find that out.
+/// How many points of a band a command has to reach, on the average of a list, for bands to take no
+/// longer than the list done command by command. A command that reaches no point of a band takes
+/// that long to find it out.
 const POINTS: usize = 128;
 
 /// Changes each point of `reg`, clipped to the image of that shape. No other pixel changes.
 ///
-/// Condition: `shape` is as the docs of its fields say, its rows lie in `pixels`, and the change suits the format.
+/// Condition: `shape` is as the docs of its fields say, its rows lie in `pixels`, and the change
+/// suits the format.
 pub fn fill_region<D, F: Fill<D>>(pixels: &mut [D], shape: Shape, reg: Region, change: &F)
     requires can_fill { F.can_fill }
     requires fits { IsShaped shape (length pixels.old) }
@@ -140,9 +149,11 @@ pub fn fill_region<D, F: Fill<D>>(pixels: &mut [D], shape: Shape, reg: Region, c
     fill_window(pixels, window, reg, change);
 }
 
-/// Changes each point of `reg`, a region of the picture, that lies in the window. No other pixel changes.
+/// Changes each point of `reg`, a region of the picture, that lies in the window. No other pixel
+/// changes.
 ///
-/// Condition: `window` and its shape are as the docs of their fields say, its rows lie in `pixels`, and the change suits the format.
+/// Condition: `window` and its shape are as the docs of their fields say, its rows lie in `pixels`,
+/// and the change suits the format.
 pub fn fill_window<D, F: Fill<D>>(pixels: &mut [D], window: Window, reg: Region, change: &F)
     requires can_fill { F.can_fill }
     requires fits { IsWindow window (length pixels.old) }
@@ -159,11 +170,12 @@ pub fn fill_window<D, F: Fill<D>>(pixels: &mut [D], window: Window, reg: Region,
     }
 }
 
-/// Changes the region `to` of an image by the region `from` of a source, each point by the point that it is paired with, as by
-/// [`Raster::copy_raster`](crate::Raster::copy_raster). No other pixel changes.
+/// Changes the region `to` of an image by the region `from` of a source. Each point is changed by
+/// the point that it is paired with, as in [`Raster::copy_raster`](crate::Raster::copy_raster). No
+/// other pixel changes.
 ///
-/// Condition: both shapes are as the docs of their fields say, the rows of the image lie in `pixels` and those of the source in `src`, and the
-/// change suits both formats.
+/// Condition: both shapes are as the docs of their fields say, the rows of the image lie in
+/// `pixels` and those of the source in `src`, and the change suits both formats.
 pub fn blit_region<D, S, B: Blit<D, S>>(
     pixels: &mut [D],
     shape: Shape,
@@ -189,11 +201,11 @@ pub fn blit_region<D, S, B: Blit<D, S>>(
     blit_window(pixels, window, to, src, src_shape, from, change);
 }
 
-/// Changes the region `to` of a picture by the region `from` of a source, as [`blit_region`] does, in those points that lie in the window.
-/// No other pixel changes.
+/// Changes the region `to` of a picture by the region `from` of a source, as [`blit_region`] does,
+/// in those points that lie in the window. No other pixel changes.
 ///
-/// Condition: `window` and both shapes are as the docs of their fields say, the rows of the window lie in `pixels` and those of the source in
-/// `src`, and the change suits both formats.
+/// Condition: `window` and both shapes are as the docs of their fields say. The rows of the window
+/// lie in `pixels`, and those of the source in `src`. The change suits both formats.
 pub fn blit_window<D, S, B: Blit<D, S>>(
     pixels: &mut [D],
     window: Window,
@@ -221,10 +233,12 @@ pub fn blit_window<D, S, B: Blit<D, S>>(
     }
 }
 
-/// Paints a window band by band: as many whole rows as the nearest cache holds, by all commands, before the next. It is the painting of
-/// the window at once, and where there is more than the cache holds it takes less time.
+/// Paints a window band by band. A band has as many whole rows as the nearest cache holds, and is
+/// painted by all commands before the next band. The result is that of painting the whole window at
+/// once. It takes less time where the window is larger than the cache.
 ///
-/// Condition: `window` and its shape are as the docs of their fields say, its rows lie in `pixels`, and `work` can be painted.
+/// Condition: `window` and its shape are as the docs of their fields say, its rows lie in `pixels`,
+/// and `work` can be painted.
 pub fn paint_by_bands<D, W: Painting<D>>(pixels: &mut [D], window: Window, work: &W)
     requires can_paint { W.can_paint work.now }
     requires fits { IsWindow window (length pixels.old) }
@@ -304,8 +318,8 @@ fn fill_rows<D, F: Fill<D>>(pixels: &mut [D], stride: usize, clipped: ClippedRec
     }
 }
 
-/// Changes the pixels of an overlap, in rows that lie `stride` pixels apart, each by its pixel of a source whose rows lie `src_stride`
-/// pixels apart.
+/// Changes the pixels of an overlap, in rows that lie `stride` pixels apart, each by its pixel of a
+/// source whose rows lie `src_stride` pixels apart.
 fn blit_rows<D, S, B: Blit<D, S>>(
     pixels: &mut [D],
     stride: usize,

@@ -62,8 +62,8 @@ impl<P: Pixel> Raster<P> {
     ///
     /// # Errors
     ///
-    /// `WidthTooBig`, `HeightTooBig` or `TooBig`, the first that applies; `Memory` on allocation failure, and never for a raster
-    /// without points.
+    /// `WidthTooBig`, `HeightTooBig` or `TooBig`, the first that applies; `Memory` on allocation
+    /// failure, and never for a raster without points.
     ///
     /// # Examples
     ///
@@ -89,8 +89,8 @@ impl<P: Pixel> Raster<P> {
     ///
     /// # Errors
     ///
-    /// `WidthTooBig`, `HeightTooBig` or `TooBig`, the first that applies; `Memory` on allocation failure, and never for a raster
-    /// without points.
+    /// `WidthTooBig`, `HeightTooBig` or `TooBig`, the first that applies; `Memory` on allocation
+    /// failure, and never for a raster without points.
     ///
     /// # Examples
     ///
@@ -151,7 +151,8 @@ impl<P: Pixel> Raster<P> {
         self.height
     }
 
-    /// Returns the region of all points: from (0, 0) on, as wide and as high as the raster.
+    /// Returns the region of all points. It starts at (0, 0), and is as wide and as high as the
+    /// raster.
     ///
     /// # Examples
     ///
@@ -221,7 +222,8 @@ impl<P: Pixel> Raster<P> {
 }
 
 impl<P> Raster<P> {
-    /// Returns the pixel at (`x`, `y`) as a mutable reference. What is written stands at that point, and no other pixel changes.
+    /// Returns the pixel at (`x`, `y`) as a mutable reference. A write to it changes the pixel at
+    /// that point, and no other.
     ///
     /// Condition: the point lies in the raster.
     ///
@@ -243,7 +245,8 @@ impl<P> Raster<P> {
         &mut self.pixels[place]
     }
 
-    /// Returns all pixels as a mutable slice, row by row from the top. What is written stands at those points.
+    /// Returns all pixels as a mutable slice, row by row from the top. A write changes the pixels
+    /// at those points.
     ///
     /// # Examples
     ///
@@ -286,8 +289,8 @@ impl<P> Raster<P> {
         }
     }
 
-    /// Returns an iterator over the rows of `reg`, clipped to the raster, from top to bottom, as mutable
-    /// slices. Each has the pixels that stand there.
+    /// Returns an iterator over the rows of `reg`, clipped to the raster, from top to bottom, as
+    /// mutable slices. Each has the pixels of its row.
     ///
     /// # Examples
     ///
@@ -313,10 +316,10 @@ impl<P> Raster<P> {
         }
     }
 
-    /// Returns the pixels of `reg` in row `y` of the raster as a mutable slice, or `None` where it has none
-    /// there; any `y` is allowed.
+    /// Returns the pixels of `reg` in row `y` of the raster as a mutable slice, or `None` where it
+    /// has none there. Any `y` is allowed.
     ///
-    /// What is written stands at those points, and no other pixel changes.
+    /// A write changes the pixels at those points, and no others.
     ///
     /// # Examples
     ///

@@ -7,7 +7,8 @@ use std::marker::Model;
 /// The maximum width and height of a region.
 pub(crate) const LIMIT: u32 = 2147483647;
 
-/// A rectangle of points: its left and top coordinates, and its width and height of at most 2147483647.
+/// A rectangle of points. It has a left and a top coordinate, and a width and a height of at most
+/// 2147483647.
 ///
 /// # Examples
 ///
@@ -39,7 +40,8 @@ impl Model for Region {
 }
 
 impl Region {
-    /// Creates the region of that left and top coordinate, width and height. Condition: width and height are at most 2147483647.
+    /// Creates the region of that left and top coordinate, width and height. Condition: width and
+    /// height are at most 2147483647.
     ///
     /// # Examples
     ///
@@ -62,8 +64,8 @@ impl Region {
         }
     }
 
-    /// Creates the region of that left and top coordinate, width and height, or returns `None` where the width or the height is above
-    /// 2147483647.
+    /// Creates the region of that left and top coordinate, width and height. Returns `None` where
+    /// the width or the height is above 2147483647.
     ///
     /// # Examples
     ///
@@ -213,7 +215,8 @@ impl From<(i32, i32)> for Region {
     }
 }
 
-/// Creates the region of that left and top coordinate, width and height, which saturate at 2147483647.
+/// Creates the region of that left and top coordinate, width and height, which saturate at
+/// 2147483647.
 impl From<(i32, i32, u32, u32)> for Region {
     ghost from_gives = { λ p r. r ≡
         record { left = p.0; top = p.1; width = min p.2 limit; height = min p.3 limit } };

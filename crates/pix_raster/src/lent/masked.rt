@@ -27,8 +27,8 @@ pub trait MaskedBlit<D, S, M> {
     /// What it makes of a matte, a source and a pixel.
     ghost makes: { Self → List ℕ → List ℕ → List ℕ → List ℕ };
 
-    /// Changes each pixel of a row by the pixel of the source and the matte at the same place. The shortest row decides, and the rest
-    /// stays.
+    /// Changes each pixel of a row by the pixel of the source and the matte at the same place. The
+    /// shortest row decides how many change, and the rest stay as they are.
     fn blit(&self, row: &mut [D], src: &[S], mask: &[M])
         requires { can_blit }
         ensures { map reads row.new ≡ over (λ t. makes self.now t.0 t.1)
@@ -46,11 +46,13 @@ pub struct Source<'a, S> {
     pub from: Region,
 }
 
-/// Changes the region `to` of a picture by a region of a source and a region of a mask, in those points that lie in the window: each by
-/// the point of the source and the point of the mask that it is paired with. No other pixel changes.
+/// Changes the region `to` of a picture by a region of a source and a region of a mask, in those
+/// points that lie in the window. Each point is changed by the point of the source and the point of
+/// the mask that it is paired with. No other pixel changes.
 ///
-/// Condition: `window` and the shapes are as the docs of their fields say, the rows of the window lie in `pixels` and those of the source
-/// and of the mask in theirs, and the change suits the formats.
+/// Condition: `window` and the shapes are as the docs of their fields say. The rows of the window
+/// lie in `pixels`, and those of the source and of the mask in their own pixels. The change suits
+/// the formats.
 pub fn blit_masked<D, S, M, B: MaskedBlit<D, S, M>>(
     pixels: &mut [D],
     window: Window,
@@ -81,7 +83,8 @@ pub fn blit_masked<D, S, M, B: MaskedBlit<D, S, M>>(
     }
 }
 
-/// Returns the overlap of the region `to` of a picture and the region `from` of a source, as seen from a window.
+/// Returns the overlap of the region `to` of a picture and the region `from` of a source, as seen
+/// from a window.
 fn overlap_in(window: Window, to: Region, from: Region, src: Shape) -> Overlap
     requires across { window.left + window.shape.width ≤ limit }
     requires down { window.top + window.shape.height ≤ limit }
@@ -95,8 +98,9 @@ fn overlap_in(window: Window, to: Region, from: Region, src: Shape) -> Overlap
     overlap.seen_from(window.left, window.top)
 }
 
-/// Changes the pixels of an overlap, in rows that lie `stride` pixels apart, each by its pixel of a source and its matte of a mask, whose
-/// column and row for the first of them are `mask_starts`.
+/// Changes the pixels of an overlap, in rows that lie `stride` pixels apart. Each is changed by its
+/// pixel of a source and its matte of a mask. The matte for the first pixel is at the column and
+/// row `mask_starts`.
 fn blit_rows<D, S, M, B: MaskedBlit<D, S, M>>(
     pixels: &mut [D],
     stride: usize,

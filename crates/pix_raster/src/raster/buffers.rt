@@ -12,12 +12,13 @@ use pix_el::model::ColorModel;
 use std::alloc::Global;
 
 impl<P: Pixel> Raster<P> {
-    /// Makes a raster of pixels, row by row from the top, as many as width times height. It takes no memory.
+    /// Makes a raster of pixels, row by row from the top, as many as width times height. It takes
+    /// no memory.
     ///
     /// # Errors
     ///
-    /// `WidthTooBig`, `HeightTooBig`, `TooBig`, or `WrongLength` where there are more or fewer pixels: the first that applies. The pixels are
-    /// handed back.
+    /// `WidthTooBig`, `HeightTooBig`, `TooBig`, or `WrongLength` where there are more or fewer
+    /// pixels: the first that applies. The pixels are handed back.
     ///
     /// # Examples
     ///
@@ -137,8 +138,9 @@ where
     ///
     /// # Errors
     ///
-    /// `WidthTooBig`, `HeightTooBig`, `TooBig`, `EmptyBuffer` where width or height is 0, or `WrongLength` where there are more or fewer
-    /// bytes than channels: the first that applies; else `Memory` on allocation failure. The bytes are handed back.
+    /// `WidthTooBig`, `HeightTooBig`, `TooBig`, `EmptyBuffer` where width or height is 0, or
+    /// `WrongLength` where there are more or fewer bytes than channels: the first that applies;
+    /// else `Memory` on allocation failure. The bytes are handed back.
     ///
     /// # Examples
     ///
@@ -232,8 +234,9 @@ where
     ///
     /// # Errors
     ///
-    /// `WidthTooBig`, `HeightTooBig`, `TooBig`, `EmptyBuffer` where width or height is 0, or `WrongLength` where there are more or fewer
-    /// words than channels: the first that applies; else `Memory` on allocation failure. The words are handed back.
+    /// `WidthTooBig`, `HeightTooBig`, `TooBig`, `EmptyBuffer` where width or height is 0, or
+    /// `WrongLength` where there are more or fewer words than channels: the first that applies;
+    /// else `Memory` on allocation failure. The words are handed back.
     ///
     /// # Examples
     ///

@@ -61,8 +61,9 @@ impl<P: Pixel> Raster<P> {
 
     /// Copies the region `from` of `src` to the region `to` of this raster.
     ///
-    /// Points are paired by their offsets from the corners of both regions: an offset counts where it lies within the sides of both,
-    /// its point of `to` in this raster and its point of `from` in `src`. No other pixel changes.
+    /// Points are paired by their offsets from the corners of both regions. An offset counts where
+    /// it lies within the sides of both regions, its point of `to` lies in this raster, and its
+    /// point of `from` lies in `src`. No other pixel changes.
     ///
     /// # Examples
     ///
@@ -186,8 +187,8 @@ impl<P: Pixel<Alpha = Premultiplied, Gamma = Linear>> Raster<P> {
         self.fill_region(reg, &CompositedColor { clr, op });
     }
 
-    /// Composites the region `from` of `src` with the region `to` of this raster, whose points are paired as by
-    /// [`Raster::copy_raster`]. No other pixel changes.
+    /// Composites the region `from` of `src` with the region `to` of this raster. Points are paired
+    /// as in [`Raster::copy_raster`]. No other pixel changes.
     ///
     /// Condition: the format has an alpha channel.
     ///
@@ -206,8 +207,9 @@ impl<P: Pixel<Alpha = Premultiplied, Gamma = Linear>> Raster<P> {
         self.blit_region(to, src, from, &CompositedPixels { op });
     }
 
-    /// Composites `clr` with the region `to` of this raster through the region `from` of `src`, a raster of coverage masks: each pixel
-    /// through the matte that it is paired with, as by [`Raster::copy_raster`]. No other pixel changes.
+    /// Composites `clr` with the region `to` of this raster through the region `from` of `src`, a
+    /// raster of coverage masks. Each pixel uses the matte that it is paired with, as in
+    /// [`Raster::copy_raster`]. No other pixel changes.
     ///
     /// Condition: the format has an alpha channel.
     ///
@@ -234,11 +236,12 @@ impl<P: Pixel<Alpha = Premultiplied, Gamma = Linear>> Raster<P> {
         self.blit_region(to, src, from, &MattedColor { clr, op });
     }
 
-    /// Composites the region `from` of `src` with the region `to` of this raster through the region `mask_from` of `mask`, a raster of
-    /// coverage masks.
+    /// Composites the region `from` of `src` with the region `to` of this raster through the region
+    /// `mask_from` of `mask`, a raster of coverage masks.
     ///
-    /// Points are paired by their offsets from the corners of all three regions: an offset counts where it lies within the sides of all
-    /// three, and its points in this raster, in `src` and in `mask`. No other pixel changes.
+    /// Points are paired by their offsets from the corners of all three regions. An offset counts
+    /// where it lies within the sides of all three, and its points lie in this raster, in `src` and
+    /// in `mask`. No other pixel changes.
     ///
     /// Condition: the format has an alpha channel.
     ///
@@ -276,8 +279,9 @@ impl<P: Pixel<Alpha = Premultiplied, Gamma = Linear>> Raster<P> {
         self.blit_masked(to, src, from, mask, mask_from, &MattedPixels { op });
     }
 
-    /// Composites the region `from` of `src` with the region `to` of this raster at one opacity, whose points are paired as by
-    /// [`Raster::copy_raster`]: each pixel through a matte of the value of `alpha`. No other pixel changes.
+    /// Composites the region `from` of `src` with the region `to` of this raster at one opacity.
+    /// Points are paired as in [`Raster::copy_raster`]. Each pixel is composited as through a matte
+    /// of the value of `alpha`. No other pixel changes.
     ///
     /// Condition: the format has an alpha channel.
     ///
@@ -316,14 +320,21 @@ impl<P: Pixel<Alpha = Premultiplied, Gamma = Linear>> Raster<P> {
         self.blit_region(to, src, from, &FadedPixels { alpha, op });
     }
 
-    /// Runs `commands` in order: at each point, those that reach it, one after the other. No other pixel changes.
+    /// Runs `commands` in order. At each point those that reach it run one after the other. No
+    /// other pixel changes.
     ///
-    /// **After any list of clears, copies and composites run on a raster, every pixel is the fold of just those commands whose clipped regions reach it, no other pixel changes, and each non-hue channel lies within its budget of the same run in exact fractions: at most n units after n unmatted commands of the listed kinds, n² + n after n unmatted commands of any kind.**
+    /// **After any list of clears, copies and composites run on a raster, every pixel is the fold
+    /// of just those commands whose clipped regions reach it, no other pixel changes, and each
+    /// non-hue channel lies within its budget of the same run in exact fractions: at most n units
+    /// after n unmatted commands of the listed kinds, n² + n after n unmatted commands of any
+    /// kind.**
     ///
-    /// A unit is one step of a channel, 1/`MAX`. A command is unmatted if it composites neither through a raster of mattes nor at an opacity. The listed kinds are clears, copies, and
-    /// composites by `Src`, `Dest`, `SrcOver`, `DestOut`, `DestIn`, `Clear` and `Plus`. The budget is how far rounding may have moved a channel, counted from the commands;
-    /// twice the distance, in units, is within it, since each channel product is rounded to the nearest.
-    /// It takes no memory and cannot fail.
+    /// A unit is one step of a channel, 1/`MAX`. A command is unmatted if it composites neither
+    /// through a raster of mattes nor at an opacity. The listed kinds are clears, copies, and
+    /// composites by `Src`, `Dest`, `SrcOver`, `DestOut`, `DestIn`, `Clear` and `Plus`. The budget
+    /// is how far rounding may have moved a channel, counted from the commands. Twice the distance,
+    /// in units, is within it, since each channel product is rounded to the nearest. A run takes no
+    /// memory and cannot fail.
     ///
     /// Condition: the format has an alpha channel.
     ///
@@ -355,27 +366,31 @@ impl<P: Pixel<Alpha = Premultiplied, Gamma = Linear>> Raster<P> {
             → Changed P.numbers self.old self.new (run_at P.layout P.numbers
             (matte_numbers P.Chan.number) (region_of self.old) others) }
 
-        // Where every color and source pixel that reaches a premultiplied pixel is premultiplied, the pixel stays premultiplied, and
-        // only the sum of `Plus` ever saturates.
+        // Where every color and source pixel that reaches a premultiplied pixel is premultiplied,
+        // the pixel stays premultiplied, and only the sum of `Plus` ever saturates.
         ensures premultiplied { KeepsPremultiplied P.layout P.numbers
             (matte_numbers P.Chan.number) commands.now self.old self.new }
 
-        // Each channel but a hue, the alpha among them, lies within its rounding budget of the exact run.
+        // Each channel but a hue, the alpha among them, lies within its rounding budget of the
+        // exact run.
         ensures within_budget { OfEachChannel P.layout P.numbers
             (matte_numbers P.Chan.number) commands.now self.old self.new
             (IsWithinBudget P.layout.max) }
 
-        // The budgets after n unmatted commands are at most n² + n, and at most n after those of the listed kinds.
+        // The budgets after n unmatted commands are at most n² + n, and at most n after those of
+        // the listed kinds.
         ensures small_budget { OfEachChannel P.layout P.numbers
             (matte_numbers P.Chan.number) commands.now self.old self.new
             (λ _ effects _. HasSmallBudget effects) }
 
-        // With premultiplied sources the bound is twice the count of products: at most 4n after n unmatted commands.
+        // With premultiplied sources the bound is twice the count of products: at most 4n after n
+        // unmatted commands.
         ensures premultiplied_bound { OfEachChannel P.layout P.numbers
             (matte_numbers P.Chan.number) commands.now self.old self.new
             (IsWithinPremultipliedBound P.layout.max) }
 
-        // A pixel that only transparent sources under `SrcOver` reach stays as it was, the hue included.
+        // A pixel that only transparent sources under `SrcOver` reach stays as it was, the hue
+        // included.
         ensures transparent { StaysUnderTransparent P.layout P.numbers
             (matte_numbers P.Chan.number) commands.now self.old self.new }
     {

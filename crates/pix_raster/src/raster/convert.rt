@@ -17,7 +17,7 @@ impl<P: Pixel> Raster<P> {
     ///
     /// # Errors
     ///
-    /// `Memory` where a request for memory was refused.
+    /// `Memory` on allocation failure.
     ///
     /// # Examples
     ///

@@ -12,13 +12,14 @@ use pix_el::light::{Light, Transfer};
 use std::alloc::Global;
 
 impl<P: Pixel> Raster<P> {
-    /// Makes a raster of this size with each of these sRGB pixels of 8 bits decoded into linear light of 16 bits.
+    /// Makes a raster of this size with each of these sRGB pixels of 8 bits decoded into linear
+    /// light of 16 bits.
     ///
     /// Condition: that format has no more channels than its model.
     ///
     /// # Errors
     ///
-    /// `Memory` where a request for memory was refused.
+    /// `Memory` on allocation failure.
     ///
     /// # Examples
     ///
@@ -46,13 +47,14 @@ impl<P: Pixel> Raster<P> {
         })
     }
 
-    /// Makes a raster of this size with each of these linear pixels of 16 bits encoded as sRGB of 8 bits.
+    /// Makes a raster of this size with each of these linear pixels of 16 bits encoded as sRGB of 8
+    /// bits.
     ///
     /// Condition: that format has no more channels than its model.
     ///
     /// # Errors
     ///
-    /// `Memory` where a request for memory was refused.
+    /// `Memory` on allocation failure.
     ///
     /// # Examples
     ///

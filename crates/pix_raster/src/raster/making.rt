@@ -1,6 +1,7 @@
 //! The pixels of a raster made of those of another, part by part.
 //!
-//! Each part is filled and then written, while it is in the nearest cache: so the new memory is gone through once.
+//! Each part is filled and then written while it is in the nearest cache. So the new memory is
+//! walked only once.
 ghost use Rattle.std.specs.Prelude.{◌≡◌, ◌<◌, ◌≤◌, ◌+◌, ◌^◌, ◌++◌, ℕ, List, vec_len, length, map, IfOk, IfErr};
 ghost use Rattle.pix_raster.specs.declared.fault.RasterFault.{RasterFault};
 
@@ -16,9 +17,10 @@ pub(super) trait Making<S: Pixel, P: Pixel> {
     /// The numbers of the pixel that is made of one of these numbers.
     ghost made: { List ℕ → List ℕ };
 
-    /// Makes each pixel of `src` in the place of that of `dst` at its index.
+    /// Makes a pixel of each pixel of `src`, and writes it to the same index of `dst`.
     ///
-    /// Condition: there are as many of both, and the format of `dst` has no more channels than its model.
+    /// Condition: there are as many of both, and the format of `dst` has no more channels than its
+    /// model.
     fn make(dst: &mut [P], src: &[S])
         requires few { P.layout.count ≤ P.layout.alpha + 1 }
         requires as_many { length dst.old ≡ length src.now }
@@ -27,11 +29,12 @@ pub(super) trait Making<S: Pixel, P: Pixel> {
 
 /// Adds the pixel that is made of each of `src`.
 ///
-/// Condition: the format has no more channels than its model, and the pixels with them can be counted.
+/// Condition: the format has no more channels than its model, and the pixels with them can be
+/// counted.
 ///
 /// # Errors
 ///
-/// `Memory` where a request for memory was refused.
+/// `Memory` on allocation failure.
 fn push_made<S, P, M>(pixels: &mut Vec<P>, src: &[S]) -> Result<(), RasterFault>
 where
     S: Pixel,
@@ -50,13 +53,13 @@ where
     Ok(())
 }
 
-/// Makes a pixel of each of `src`, in memory that is asked for once.
+/// Makes a pixel of each of `src`, in memory that is allocated once.
 ///
 /// Condition: the format has no more channels than its model.
 ///
 /// # Errors
 ///
-/// `Memory` where a request for memory was refused.
+/// `Memory` on allocation failure.
 pub(super) fn pixels_made<S, P, M>(alloc: Global, src: &[S]) -> Result<Vec<P>, RasterFault>
 where
     S: Pixel,

@@ -1,6 +1,8 @@
-//! Changes of the pixels of a row: copies, composites, and composites of a color or of pixels through mattes.
+//! Changes of the pixels of a row: copies, composites, and composites of a color or of pixels
+//! through mattes.
 //!
-//! A drawing call of another kind is another struct here, with its `Fill`, `Blit` or `MaskedBlit`; the walks of `lent.rt` stay as they are.
+//! A drawing call of another kind is another struct here, with its `Fill`, `Blit` or `MaskedBlit`;
+//! the walks of `lent.rt` stay as they are.
 ghost use Rattle.std.specs.Prelude.{◌≡◌, ◌+◌, ⊤};
 ghost use Rattle.pix_el.specs.PixelComposite.{pixel_composite, matted_composite, matte_value, matte_numbers};
 

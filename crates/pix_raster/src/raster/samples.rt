@@ -1,4 +1,5 @@
-//! Channels as the bytes or words of a buffer, and back: pixel after pixel, of each its channels in order.
+//! Channels as the bytes or words of a buffer, and back: pixel after pixel, of each its channels in
+//! order.
 ghost use Rattle.std.specs.Prelude.{◌≡◌, ℕ, ◌*◌, ◌^◌, ◌<◌, length, map, IfOk, IfErr};
 ghost use prog.Memory.{size};
 ghost use denote.Memory.{lone};
@@ -17,7 +18,8 @@ const BLOCK: usize = 16;
 /// How many channels a block's array has room for: pixels have at most four.
 const ROOM: usize = 64;
 
-/// A number as it stands in a buffer: a byte for a channel of eight bits, a word for one of sixteen.
+/// A number as it stands in a buffer: a byte for a channel of eight bits, a word for one of
+/// sixteen.
 pub(crate) trait Sample<C: Channel>: Clone + Copy {
     /// The number.
     ghost number: { Self → ℕ };

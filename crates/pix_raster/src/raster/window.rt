@@ -25,17 +25,19 @@ use pix_el::matte::Matte;
 use pix_ops::ops::{Blend, SliceVisitor};
 
 impl<P: Pixel<Alpha = Premultiplied, Gamma = Linear>> Raster<P> {
-    /// Runs `commands` in order on this raster as a window of a picture: its first pixel is the point (`left`, `top`) of the picture,
-    /// and the regions of the commands are those of the picture.
+    /// Runs `commands` in order on this raster as a window of a picture. Its first pixel is the
+    /// point (`left`, `top`) of the picture, and the regions of the commands are regions of the
+    /// picture.
     ///
-    /// **Pictures painted tile by tile are the picture painted whole: whatever its size, each point of the window becomes what the same
-    /// commands, run on the whole picture, make of it.**
+    /// **A picture painted tile by tile is the picture painted whole: whatever its size, each point
+    /// of the window becomes what the same commands, run on the whole picture, make of it.**
     ///
-    /// So a picture that is larger than memory is painted a tile at a time, in any order, and one in memory by several threads. All that
-    /// [`Raster::run`] claims holds too, of the commands as seen from the window.
+    /// So a picture that is larger than memory can be painted a tile at a time, in any order. One
+    /// in memory can be painted by several threads. All that [`Raster::run`] promises holds too,
+    /// for the commands as seen from the window.
     ///
-    /// Condition: the format has an alpha channel, and the window ends within the greatest coordinate: `left` plus the width and `top`
-    /// plus the height are at most 2147483647.
+    /// Condition: the format has an alpha channel, and the window ends within the greatest
+    /// coordinate: `left` plus the width and `top` plus the height are at most 2147483647.
     ///
     /// # Examples
     ///
@@ -54,7 +56,8 @@ impl<P: Pixel<Alpha = Premultiplied, Gamma = Linear>> Raster<P> {
         requires across { left + self.old.width ≤ limit }
         requires down { top + self.old.height ≤ limit }
 
-        // On each picture that has the window: what the run on the whole picture makes of the points of the window.
+        // On each picture that has the window: what the run on the whole picture makes of the
+        // points of the window.
         ensures window { (width height : ℕ) → left + self.old.width ≤ width
             → top + self.old.height ≤ height → Changed P.numbers self.old self.new
             (λ x y. run_at P.layout P.numbers (matte_numbers P.Chan.number)
@@ -232,8 +235,8 @@ fn visit_masked<
     }
 }
 
-/// Changes the region `to` of a picture by the region `from` of a raster and the region `mask_from` of a raster of mattes, in those points
-/// that lie in the window.
+/// Changes the region `to` of a picture by the region `from` of a raster and the region `mask_from`
+/// of a raster of mattes, in those points that lie in the window.
 pub(super) fn masked_from<D, S, M, B: MaskedBlit<D, S, M>>(
     pixels: &mut [D],
     window: Window,
@@ -264,7 +267,8 @@ pub(super) fn masked_from<D, S, M, B: MaskedBlit<D, S, M>>(
     blit_masked(pixels, window, to, &src, &mask, change);
 }
 
-/// Changes the region `to` of a picture by the region `from` of a raster, in those points that lie in the window.
+/// Changes the region `to` of a picture by the region `from` of a raster, in those points that lie
+/// in the window.
 fn blit_from<D, S, B: Blit<D, S>>(
     pixels: &mut [D],
     window: Window,
