@@ -37,7 +37,8 @@ impl Palette {
     ///
     /// # Errors
     ///
-    /// `Memory` on allocation failure, and where the limit is too large to be reserved; never for a limit of 0.
+    /// `Memory` on allocation failure, and where the limit is too large to reserve. There is no
+    /// error for a limit of 0.
     ///
     /// # Examples
     ///
@@ -119,7 +120,8 @@ impl Palette {
         self.colors.get(i).copied()
     }
 
-    /// Keeps a function that returns, for a number of entries, how far a color may be from its match in each channel.
+    /// Sets the threshold function. For a number of entries it returns how far a color may be from
+    /// its match in each channel.
     ///
     /// Condition: it may be called for every number from 0 to the limit.
     ///
@@ -169,12 +171,14 @@ impl Palette {
         standing(&self.colors, clr.color(), self.threshold().color())
     }
 
-    /// Sets a color: answers the index of its match if that is within the threshold of the present number of entries, else appends the color and
-    /// answers its index, or answers `None` where the limit is reached. It takes no memory.
+    /// Sets a color, and returns its index. That is the index of its match, if the match is within
+    /// the threshold for the present number of entries. Else the color is appended. The answer is
+    /// `None` where the limit is reached. It takes no memory.
     ///
-    /// The match is the last of the candidates: entry 0, and each later entry that differs from the color by no more than the candidate before it
-    /// in each of red, green and blue, and by less in one. An entry that differs by more in one channel and by less in the others is passed over,
-    /// even where a sum or a distance would call it nearer.
+    /// The match is the last of the candidates. Entry 0 is the first one. Each later entry is one
+    /// if it differs from the color by no more than the candidate before it in each of red, green
+    /// and blue, and by less in one. An entry that differs by more in one channel and by less in
+    /// the others is skipped, even where a sum or a distance would call it nearer.
     ///
     /// # Examples
     ///
@@ -192,11 +196,12 @@ impl Palette {
         ensures limit { self.new.limit ≡ self.old.limit }
         ensures threshold { self.new.threshold ≡ self.old.threshold }
 
-        // A color that stands is answered at its first entry, whatever the threshold.
+        // A color that is in the table is found at its first entry, whatever the threshold.
         ensures standing { (i : ℕ) → IsFirstOf (map numbers self.old.colors.items) (numbers clr) i
             → (result ≡ Some i) × (self.new.colors.items ≡ self.old.colors.items) }
 
-        // No entry is closer to the color than its match is, channel by channel, and none before it differs by as much.
+        // No entry is closer to the color than its match is, channel by channel, and none before it
+        // differs by as much.
         ensures minimal { (m : ℕ) → IsMatch (map numbers self.old.colors.items) (numbers clr) m
             → IsMinimal (map numbers self.old.colors.items) (numbers clr) m }
     {
@@ -204,7 +209,8 @@ impl Palette {
         self.set_by(clr, standing)
     }
 
-    /// Sets a color for which an entry stands, or none: answers that entry, or else appends the color where there is room.
+    /// Sets a color, given the entry that stands for it, if there is one. Returns that entry, or
+    /// else appends the color where there is room.
     fn set_by(&mut self, clr: SRgb8, standing: Option<usize>) -> Option<usize>
         requires { StandsFor
             (Answers Threshold.post (option_map (λ chosen. chosen.f) self.old.threshold))
@@ -229,7 +235,8 @@ impl Palette {
         }
     }
 
-    /// Replaces the color of entry `i` and answers the old one, or `None` past the end, where nothing changes.
+    /// Replaces the color of entry `i` and returns the old one. Past the end it returns `None` and
+    /// changes nothing.
     ///
     /// # Examples
     ///
@@ -254,7 +261,8 @@ impl Palette {
         }
     }
 
-    /// Counts how often each index stands in `indices`, one count for each entry, or answers `None` where one is past the end.
+    /// Counts how often each index is in `indices`, with one count for each entry. Returns `None`
+    /// where an index is past the end.
     ///
     /// # Errors
     ///
@@ -288,7 +296,8 @@ impl Palette {
         }
     }
 
-    /// Copies the palette: the same colors, limit and threshold, with room for all colors up to the limit.
+    /// Copies the palette. The copy has the same colors, limit and threshold, and room for all
+    /// colors up to the limit.
     ///
     /// # Errors
     ///

@@ -1,6 +1,7 @@
-//! How far the colors of blocks reach, for sixteen blocks at a time: those that come nowhere near a color are passed over with no look at their colors.
+//! How far the colors of blocks reach, for sixteen blocks at a time. Blocks that are nowhere near a
+//! color are skipped without a look at their colors.
 //!
-//! Entries that come one after the other are often near each other, so that most blocks are.
+//! Neighboring entries are often near each other, so most blocks are skipped.
 ghost use Rattle.std.specs.Prelude.{◌≡◌, ◌≢◌, ◌<◌, ℕ, slice_index, true};
 ghost use Rattle.std.specs.Int.{bit_at};
 ghost use Rattle.pix_table.specs.Nearest.{numbers};
@@ -51,8 +52,8 @@ impl BlockSpans {
         self.greatest_blue[j] = greatest.blue;
     }
 
-    /// Returns 0 where the span of one of the sixteen blocks meets that from `low` to `high` in every channel. It takes no branch, so that all
-    /// sixteen go at once.
+    /// Returns 0 where the span of one of the sixteen blocks meets that from `low` to `high` in
+    /// every channel. It has no branch, so all sixteen are done at once.
     #[inline(always)]
     fn gap(&self, j: usize, low: Color, high: Color) -> u8
         requires { j < 16 }
@@ -67,7 +68,8 @@ impl BlockSpans {
             | low.blue.saturating_sub(self.greatest_blue[j])
     }
 
-    /// Returns 0 for each of the sixteen blocks whose span meets that from `low` to `high` in every channel.
+    /// Returns 0 for each of the sixteen blocks whose span meets that from `low` to `high` in every
+    /// channel.
     #[inline(always)]
     fn gaps(&self, low: Color, high: Color) -> [u8; SIZE]
         ensures { (j : ℕ) → j < 16 → meets (numbers low) (numbers high) (least_at self.now j)
@@ -80,7 +82,8 @@ impl BlockSpans {
         gaps
     }
 
-    /// Returns a bit for each of the sixteen blocks: it is set for those whose span meets that from `low` to `high` in every channel.
+    /// Returns a bit for each of the sixteen blocks. It is set where the block's span meets that
+    /// from `low` to `high` in every channel.
     #[inline(always)]
     pub(crate) fn near_bits(&self, low: Color, high: Color) -> u64
         ensures { (j : ℕ) → j < 16 → meets (numbers low) (numbers high) (least_at self.now j)

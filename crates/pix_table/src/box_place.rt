@@ -1,7 +1,8 @@
 //! The places of boxes of colors: the number of each, where it lies, and the boxes around it.
 //!
-//! Small boxes have eight reds, eight greens and eight blues; the larger ones sixteen, thirty-two and sixty-four of each. The numbers of the small
-//! ones come first, and then those of the larger ones by their size.
+//! Small boxes have eight reds, eight greens and eight blues. The larger ones have sixteen,
+//! thirty-two and sixty-four of each. Small boxes are numbered first, and then the larger ones by
+//! size.
 ghost use Rattle.std.specs.Prelude.{◌≡◌, ◌<◌, ◌≤◌, ◌+◌, ℕ, List, true};
 ghost use Rattle.pix_table.specs.Nearest.{distance, numbers};
 ghost use Rattle.pix_table.specs.Boxes.{IsInside, IsLow, end, low_at, reach_at};
@@ -12,7 +13,7 @@ use crate::search::distance;
 /// The number of small boxes.
 const SMALL: usize = 32768;
 
-/// The number of the first box of sixteen: after the small boxes come the larger ones, by their size.
+/// The number of the first box of sixteen. After the small boxes come the larger ones, by size.
 const SIXTEENS: usize = SMALL;
 
 /// The number of the first box of thirty-two.
@@ -119,8 +120,8 @@ pub(crate) fn middle(low: Color, reach: u8) -> Color
     }
 }
 
-/// Returns the end of a box in one channel, from `low` on, that lies on the side of `y` as seen from `x`: without a branch, which would be guessed in
-/// vain.
+/// Returns the end of a box in one channel, from `low` on, that is on the side of `y` as seen from
+/// `x`. It has no branch, since a processor couldn't predict one.
 #[inline(always)]
 fn end(low: u8, reach: u8, x: u8, y: u8) -> u8
     requires { low + reach ≤ 255 }
@@ -130,7 +131,8 @@ fn end(low: u8, reach: u8, x: u8, y: u8) -> u8
     (u32::from(low) + u32::from(reach) * past) as u8
 }
 
-/// Returns whether `near` is nearer than `far` to the corner of a box that lies on the side of `far`: then it is to each color of the box.
+/// Returns whether `near` is nearer than `far` to the corner of a box on the side of `far`. Then it
+/// is nearer to each color of the box.
 #[inline(always)]
 pub(crate) fn is_nearer(near: Color, far: Color, low: Color, reach: u8) -> bool
     requires { IsLow reach (numbers low) }

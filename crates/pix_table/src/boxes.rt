@@ -1,10 +1,12 @@
 //! Boxes of colors, each with the entries that may be the nearest to one of its colors.
 //!
-//! The colors are cut into small boxes of eight reds, eight greens and eight blues, and into larger ones of sixteen, thirty-two and sixty-four
-//! each. The entries of a small box are listed when a color of it is asked for: those that are listed for the box of the next size around it are
-//! sifted, which is listed first, and so on; the largest boxes are listed out of all entries. A list is stored behind those that are there. Colors
-//! whose lists are long, or not made, are looked for among all entries, on lanes. Which lists are made, and how much room there is for them, decides
-//! only how long a look takes: no answer depends on it.
+//! The colors are cut into small boxes of eight reds, eight greens and eight blues, and into larger
+//! ones of sixteen, thirty-two and sixty-four each. The entries of a small box are listed when a
+//! color of it is asked for. They are sifted from the list of the next larger box around it, which
+//! is made first in the same way. The lists of the largest boxes are made from all entries. A list
+//! is stored after those that are there. Colors whose lists are long, or not made, are searched
+//! among all entries, on lanes. Which lists are made, and how much room there is for them, decides
+//! only how long a search takes. No answer depends on it.
 ghost use Rattle.std.specs.Prelude.{◌≡◌, ◌<◌, ◌≤◌, ◌+◌, ℕ, List, length, map, slice_index, IfSome};
 ghost use Rattle.pix_table.specs.Nearest.{IsNearest, numbers};
 ghost use Rattle.pix_table.specs.EntryLanes.{AreLanes};
@@ -26,13 +28,14 @@ pub(crate) const BOXES: usize = 37440;
 /// The room for lists, one byte for an index.
 const ROOM: usize = 65536;
 
-/// How long the lists are: entries are looked at by fours, and so some behind a list.
+/// The length of the memory for lists. Entries are looked at in fours, and so some after a list.
 pub(crate) const LISTS: usize = 65539;
 
-/// How many entries of a list are looked at at once.
+/// The number of entries of a list that are looked at at once.
 const AT_ONCE: u16 = 4;
 
-/// The greatest length of a list that is looked at entry by entry: longer ones would take more time than all entries on lanes.
+/// The greatest length of a list that is looked at entry by entry. Longer ones would take more time
+/// than all entries on lanes.
 const LONG: u16 = 24;
 
 /// The greatest length of a list that is sifted for a small box.
@@ -47,7 +50,7 @@ pub(crate) const RATE: u32 = 16;
 /// A box without a list.
 pub(crate) const NONE: Known = Known { start: 0, count: 0 };
 
-/// Where the list of a box stands; it is empty where there is none.
+/// Where the list of a box is. It is empty where there is none.
 #[derive(Clone, Copy)]
 pub struct Known {
     /// Where it begins.
@@ -59,9 +62,9 @@ pub struct Known {
 /// Boxes, and the lists of their entries.
 #[derive(Drop)]
 pub struct Boxes {
-    /// Where the list of each box stands.
+    /// Where the list of each box is.
     pub known: [Known; BOXES],
-    /// The lists, one after the other, of which the first is that of all entries.
+    /// The lists, one after the other. The first is that of all entries.
     pub lists: [u8; LISTS],
     /// How much of the room is used.
     pub used: usize,
@@ -73,7 +76,8 @@ pub struct Boxes {
     pub rate: u32,
 }
 
-/// Returns the nearest entry to a color for which a list is enough: from the list, or from all entries where it is long.
+/// Returns the nearest entry to a color for which a list is enough. It searches the list, or all
+/// entries where the list is long.
 #[inline(always)]
 fn nearest_from(lanes: &EntryLanes, words: &[u32], lists: &[u8], from: Known, clr: Color) -> u8
     requires words { length words.now ≡ 256 }
@@ -90,9 +94,11 @@ fn nearest_from(lanes: &EntryLanes, words: &[u32], lists: &[u8], from: Known, cl
     }
 }
 
-/// Lists those of the entries of a list that may be nearest to a color of a box, in order, from `start` on; returns how many they are.
+/// Lists, from `start` on, those entries of a list that may be nearest to a color of a box, in
+/// order. Returns their number.
 ///
-/// An entry is left out where the one that is nearest to the middle of the box is nearer to each of its colors.
+/// An entry is left out where the entry nearest to the middle of the box is nearer to each color of
+/// the box.
 fn sift(
     entries: &[Color],
     words: &[u32],
@@ -132,7 +138,8 @@ fn sift(
     count
 }
 
-/// Makes room for four lists more, and writes the first one if it is not there. Where there is no room, all others are given up.
+/// Makes room for four more lists, and writes the first list if it is not there. Where there is no
+/// room, all other lists are given up.
 fn make_room(boxes: &mut Boxes, entries: &[Color], lanes: &EntryLanes)
     requires few { length entries.now ≤ 256 }
     requires lanes { AreLanes (map numbers entries.now) lanes.now }
@@ -148,7 +155,7 @@ fn make_room(boxes: &mut Boxes, entries: &[Color], lanes: &EntryLanes)
     }
 }
 
-/// Writes the first list: all entries, and of equal ones the first at least.
+/// Writes the first list. It has all entries, and of equal ones at least the first.
 fn begin(boxes: &mut Boxes, entries: &[Color], lanes: &EntryLanes)
     requires few { length entries.now ≤ 256 }
     requires lanes { AreLanes (map numbers entries.now) lanes.now }
@@ -165,7 +172,8 @@ fn begin(boxes: &mut Boxes, entries: &[Color], lanes: &EntryLanes)
     boxes.first = lanes.len as u16;
 }
 
-/// Gives up all lists but the first, where they are. From then on fewer are made, since those that there were have been of little use.
+/// Gives up all lists except the first, where there are any. From then on fewer are made, since the
+/// earlier ones were of little use.
 #[inline(never)]
 fn give_up(boxes: &mut Boxes, entries: &[Color])
     requires boxes { AreBoxes (map numbers entries.now) boxes.old }
@@ -181,7 +189,7 @@ fn give_up(boxes: &mut Boxes, entries: &[Color])
     boxes.rate = boxes.rate / 2 + 1;
 }
 
-/// Takes the price of sifting so many entries off the credit; returns whether there is enough.
+/// Takes the price of sifting this many entries off the credit. Returns whether there is enough.
 fn pays(boxes: &mut Boxes, count: u16) -> bool
     ensures { HasLists boxes.old boxes.new }
 {
@@ -193,8 +201,9 @@ fn pays(boxes: &mut Boxes, count: u16) -> bool
     true
 }
 
-/// Returns where the list of a box stands. If it has none, it gets one: what is sifted from another list, on which are enough entries for it.
-/// Where that is no longer than what is looked at at once, or nothing is sifted out of it, the box has the same list.
+/// Returns where the list of a box is. A box without a list gets one, sifted from another list that
+/// has all entries it needs. Where that list is no longer than what is looked at at once, or
+/// sifting drops nothing, the box shares it.
 fn listed(
     boxes: &mut Boxes,
     entries: &[Color],
@@ -249,7 +258,7 @@ fn listed(
     known
 }
 
-/// Does the same if there is a list or credit for one; else answers `None`.
+/// Does the same if there is a list or credit for one. Else returns `None`.
 fn listed_for(
     boxes: &mut Boxes,
     entries: &[Color],
@@ -281,7 +290,8 @@ fn listed_for(
     Some(listed(boxes, entries, words, lanes, from, place))
 }
 
-/// Returns where the list of a box of sixteen stands, which it gets if it has none and there is credit, and the boxes around it first.
+/// Returns where the list of a box of sixteen is. A box without a list gets one if there is credit,
+/// after the boxes around it got theirs.
 fn sixteen_listed(
     boxes: &mut Boxes,
     entries: &[Color],
@@ -317,8 +327,9 @@ fn sixteen_listed(
     listed_for(boxes, entries, words, lanes, second, place)
 }
 
-/// Returns where the list of a small box stands, which it gets if there is credit, and the boxes around it first. Where the list of the box around it
-/// is too long to be sifted, it has the same.
+/// Returns where the list of a small box is. The box gets a list if there is credit, after the
+/// boxes around it got theirs. Where the list of the box around it is too long to be sifted, it
+/// shares that list.
 fn small_listed(
     boxes: &mut Boxes,
     entries: &[Color],
@@ -345,7 +356,7 @@ fn small_listed(
 }
 
 /// Returns the index of the entry that is nearest to a color whose box has no list, or a long one.
-// Out of line, so that the look at a list alone stands where pixels are matched.
+// Out of line, so that only the search of a list is inlined where pixels are matched.
 #[inline(never)]
 fn nearest_unlisted(
     boxes: &mut Boxes,
@@ -372,7 +383,8 @@ fn nearest_unlisted(
     }
 }
 
-/// Returns the index of the nearest of at least 1 and at most 256 entries, of which the boxes have the lists.
+/// Returns the index of the nearest of at least 1 and at most 256 entries, of which the boxes have
+/// the lists.
 #[inline(always)]
 pub fn nearest_of(
     boxes: &mut Boxes,

@@ -1,4 +1,4 @@
-//! Colors that are chosen of the entries of a table, with their indices.
+//! Colors that are chosen from the entries of a table, with their indices.
 ghost use Rattle.std.specs.Prelude.{◌≡◌, length};
 
 use crate::color::Color;
@@ -43,7 +43,7 @@ impl Chosen {
         self.len += 1;
     }
 
-    /// Writes the last entry to all places behind it.
+    /// Writes the last entry to all places after it.
     pub(crate) fn fill(&mut self)
         requires some { 0 < self.old.len }
         requires few { self.old.len ≤ 256 }

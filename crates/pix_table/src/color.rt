@@ -1,4 +1,4 @@
-//! What is needed of a color.
+//! What a color needs.
 ghost use Rattle.std.specs.Prelude.{◌≡◌, ℕ, List, slice_index};
 ghost use Rattle.pix_table.specs.Nearest.{numbers, alpha_of};
 ghost use Rattle.pix_table.specs.SrgbColor.{srgb_numbers, srgba_numbers};
@@ -18,7 +18,7 @@ pub struct Color {
     pub blue: u8,
 }
 
-/// A type of colors that a table may be of.
+/// A type of color that a table may have.
 pub trait TableColor: Copy {
     /// The numbers of red, green and blue.
     ghost channels: { Self → List ℕ };

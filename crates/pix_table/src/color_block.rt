@@ -1,4 +1,5 @@
-//! The entries of a table by sixteens, channel by channel: all that are too far from a color in a channel are passed over at once.
+//! The entries of a table in blocks of sixteen, channel by channel. All that are too far from a
+//! color in a channel are skipped at once.
 ghost use Rattle.std.specs.Prelude.{◌≡◌, ◌+◌, ◌<◌, ◌≤◌, ℕ, [], ◌∷◌, length, map, false};
 ghost use Rattle.pix_table.specs.ColorBlocks.{IsBlock, IsFar, Lies, channels_in};
 ghost use Rattle.pix_table.specs.Nearest.{numbers};
@@ -66,7 +67,8 @@ impl ColorBlock {
         (least, greatest)
     }
 
-    /// Returns whether one of the colors is no farther from a color than a difference in any channel.
+    /// Returns whether one of the colors is no farther from a color than a difference in any
+    /// channel.
     #[inline(always)]
     pub(crate) fn has_near(&self, clr: Color, least: Color) -> bool
         ensures { result ≡ false → IsFar self.now (numbers clr) (numbers least) }
@@ -79,7 +81,8 @@ impl ColorBlock {
     }
 }
 
-/// Returns whether red, green and blue are no farther from a color than a difference in any channel. It takes no branch, so that sixteen go at once.
+/// Returns whether red, green and blue are no farther from a color than a difference in any
+/// channel. It has no branch, so sixteen are done at once.
 #[inline(always)]
 fn is_near(red: u8, green: u8, blue: u8, clr: Color, least: Color) -> bool
     ensures { result ≡ is_within (color_difference (red ∷ green ∷ blue ∷ []) (numbers clr))

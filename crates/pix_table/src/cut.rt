@@ -9,7 +9,7 @@ use crate::color::Color;
 use crate::sixteen;
 use std::simd::prelude::*;
 
-/// The spread of a box whose colors are all the same: there is one number in each channel.
+/// The spread of a box whose colors are all the same. There is one number in each channel.
 const PLAIN: usize = 3;
 
 /// How far the colors of a box reach in each channel.
@@ -69,7 +69,7 @@ impl Span {
         Span { least, greatest }
     }
 
-    /// Returns the span of a box of so many times sixteen colors.
+    /// Returns the span of a box whose number of colors is a multiple of sixteen.
     fn of_sixteens(colors: &[Color]) -> Span
         requires { length colors.now % 16 ≡ 0 }
         ensures { IsSpan (map numbers colors.now) result }
@@ -168,7 +168,8 @@ fn mean(colors: &[Color], k: usize) -> u8
     quotient(2 * sum + colors.len() as u128, 2 * colors.len() as u128)
 }
 
-/// Returns the whole part of a quotient that is below 256: by differences, since no processor divides numbers of 128 bits.
+/// Returns the whole part of a quotient that is below 256. It uses differences, since no processor
+/// divides numbers of 128 bits.
 fn quotient(n: u128, d: u128) -> u8
     requires some { 0 < d }
     requires few { n < 256 * d }
@@ -201,7 +202,8 @@ fn median(colors: &[Color], k: usize, most: u8) -> u8
     most
 }
 
-/// Returns for each number how many colors have it in a channel: each channel has a loop of its own.
+/// Returns for each number how many colors have it in a channel. Each channel has a loop of its
+/// own.
 fn counts_of(colors: &[Color], k: usize) -> [usize; 256]
     ensures { AreCounted 256 (map (λ c. slice_index (numbers c) k) colors.now) result }
 {
@@ -225,7 +227,8 @@ fn counts_in(colors: &[Color], k: usize) -> [usize; 256]
     counts
 }
 
-/// Moves the colors whose number in a channel is below `value` to the front; returns how many they are. Each channel has a loop of its own.
+/// Moves the colors whose number in a channel is below `value` to the front. Returns their number.
+/// Each channel has a loop of its own.
 fn partition(colors: &mut [Color], k: usize, value: u8) -> usize
     ensures within { result ≤ length colors.new }
     ensures moved { IsPermutation colors.old colors.new }
@@ -257,7 +260,8 @@ fn partition_in(colors: &mut [Color], k: usize, value: u8) -> usize
     at
 }
 
-/// Returns how many of `room` entries a part of a cut gets, whose spread is `low`, where that of the other is `high`.
+/// Returns how many of `room` entries a part of a cut gets. Its spread is `low`, and that of the
+/// other part is `high`.
 fn share(room: usize, low: usize, high: usize) -> usize
     requires room { 1 < room }
     requires few { room ≤ 256 }
@@ -271,7 +275,8 @@ fn share(room: usize, low: usize, high: usize) -> usize
     (room * low / (low + high)).max(1)
 }
 
-/// Writes the table of a box into the first of the entries, and returns how many they are. The colors come into another order.
+/// Writes the table of a box into the first of the entries, and returns their number. The order of
+/// the colors changes.
 ///
 /// Condition: there is a color, and there are 1 to 256 entries.
 pub(crate) fn cut_table(colors: &mut [Color], entries: &mut [Color]) -> usize

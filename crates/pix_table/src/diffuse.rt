@@ -13,13 +13,14 @@ use crate::nearest_search::{NearestSearch, SearchVisitor};
 pub struct Diffusion {
     /// How many pixels a row has: at least one.
     pub width: usize,
-    /// Pixels whose alpha is below this have the index `kept`, and hand on no error.
+    /// Pixels whose alpha is below this get the index `kept`, and hand on no error.
     pub alpha: u8,
     /// The index of those pixels.
     pub kept: u8,
 }
 
-/// What was wanted at a pixel less what was found for it, in each channel: 255 more, so that it is not below zero.
+/// What was wanted at a pixel less what was found for it, in each channel. It is stored with 255
+/// added, so that it is not below zero.
 #[derive(Clone, Copy)]
 struct Miss {
     red: u16,
@@ -27,7 +28,8 @@ struct Miss {
     blue: u16,
 }
 
-/// The misses at three of the four pixels that hand on errors to a pixel. The fourth is above it on the right.
+/// The misses at three of the four pixels that hand on errors to a pixel. The fourth is above it on
+/// the right.
 #[derive(Clone, Copy)]
 struct Near {
     left: Miss,
@@ -35,21 +37,23 @@ struct Near {
     above: Miss,
 }
 
-/// Returns how many colors of work memory [`diffuse_pixels`] takes for rows of so many pixels: those of four rows; or `None` where these are
-/// more than a `usize` can count.
+/// Returns how many colors of work memory [`diffuse_pixels`] takes for rows of this many pixels,
+/// which are those of four rows. Returns `None` where that is more than a `usize` can count.
 pub fn diffusion_work(width: usize) -> Option<usize>
     ensures { MatchOption result (2 ^ 64 ≤ 4 * width) (λ count. count ≡ 4 * width) }
 {
     width.checked_mul(4)
 }
 
-/// Sets the index of each pixel by error diffusion: to that of the entry that is nearest to the pixel's color and what it gets of the errors of
-/// the pixels before it.
+/// Sets the index of each pixel by error diffusion. The index is that of the entry that is nearest
+/// to the pixel's color plus its share of the errors of the pixels before it.
 ///
-/// The pixels are in rows, from left to right and from above. The error of a pixel is what was wanted there less the entry that was found: 7
-/// sixteenths of it go to the pixel on the right, 3 to the one below on the left, 5 to the one below, and 1 to the one below on the right.
+/// The pixels are in rows, from left to right and from above. The error of a pixel is what was
+/// wanted there less the entry that was found. The pixel on the right gets 7 sixteenths of it, the
+/// one below on the left 3, the one below 5, and the one below on the right 1.
 ///
-/// Condition: there is at least one entry and at most 256, a row has a pixel, there are as many indices as pixels, and `work` has four rows of colors.
+/// Condition: there is at least one entry and at most 256, a row has a pixel, there are as many
+/// indices as pixels, and `work` has four rows of colors.
 pub fn diffuse_pixels<C: TableColor, P: TablePixel>(
     entries: &[C],
     pixels: &[P],
@@ -90,7 +94,7 @@ impl<C: TableColor, P: TablePixel> SearchVisitor<u8> for Diffusing<'_, C, P> {
         → AreDiffused entries diffusing.how.alpha diffusing.how.kept diffusing.how.width
         (map P.values diffusing.pixels.now) new };
 
-    // Out of line: where it is inlined, a matcher is put together on the stack beside its place.
+    // Out of line. Where it is inlined, a matcher is put together on the stack beside its place.
     #[inline(never)]
     fn visit<N: NearestSearch>(&self, search: &mut N, items: &mut [u8], work: &mut [Color]) {
         let (wanted, rest) = work.split_at_mut(self.how.width);
@@ -107,7 +111,7 @@ impl<C: TableColor, P: TablePixel> SearchVisitor<u8> for Diffusing<'_, C, P> {
     }
 }
 
-/// Does it with a row of the colors that were wanted last, and a row of those that were found last.
+/// Does it with a row of the colors that were last wanted, and a row of those that were last found.
 fn diffuse_all<N: NearestSearch, C: TableColor, P: TablePixel>(
     search: &mut N,
     entries: &[C],
@@ -164,7 +168,8 @@ fn diffuse_all<N: NearestSearch, C: TableColor, P: TablePixel>(
     }
 }
 
-/// Returns the misses around pixel `k`: at the begin of a row those of the row above, and else those that are `near`.
+/// Returns the misses around pixel `k`. At the start of a row they are those of the row above, and
+/// else those in `near`.
 #[inline(always)]
 fn begun(
     near: Near,
@@ -213,7 +218,7 @@ fn right_above(wanted: &[Color], found: &[Color], width: usize, k: usize, column
     missed_at(wanted, found, there, next_place(column, width))
 }
 
-/// Returns the miss of the pixel whose colors are kept at a place, if it is there.
+/// Returns the miss of the pixel whose colors are kept at a place, if there is one.
 #[inline(always)]
 fn missed_at(wanted: &[Color], found: &[Color], there: bool, at: usize) -> Miss
     requires wanted { at < length wanted.now }
@@ -234,7 +239,7 @@ fn missed_at(wanted: &[Color], found: &[Color], there: bool, at: usize) -> Miss
     }
 }
 
-/// Returns the miss of a pixel of which these colors were wanted and found.
+/// Returns the miss of a pixel for which these colors were wanted and found.
 #[inline(always)]
 fn missed(wanted: Color, found: Color) -> Miss
     ensures { IsMiss true (numbers wanted) (numbers found) result }
@@ -275,7 +280,7 @@ fn wanted_at<P: TablePixel>(pixel: P, near: Near, right_above: Miss) -> Color
     }
 }
 
-/// Returns what a pixel gets in a channel of the misses around it, in sixteenths.
+/// Returns a pixel's share in a channel of the misses around it, in sixteenths.
 #[inline(always)]
 fn handed(left: u16, left_above: u16, above: u16, right_above: u16) -> u32
     ensures sum { result ≡ 7 * left + left_above + 5 * above + 3 * right_above }
@@ -284,7 +289,7 @@ fn handed(left: u16, left_above: u16, above: u16, right_above: u16) -> u32
     7 * u32::from(left) + u32::from(left_above) + 5 * u32::from(above) + 3 * u32::from(right_above)
 }
 
-/// Returns a number with what it gets, in sixteenths, of misses that are 255 too great.
+/// Returns a number plus its share, in sixteenths, of misses that are 255 too great.
 #[inline(always)]
 fn corrected(number: u8, handed: u32) -> u8
     requires { handed ≤ 1048560 }
@@ -299,7 +304,7 @@ fn corrected(number: u8, handed: u32) -> u8
     if rounded > 255 { 255 } else { rounded as u8 }
 }
 
-/// Returns the place, of so many, that comes after one.
+/// Returns the place after one, which is the first one after the last.
 #[inline(always)]
 fn next_place(place: usize, len: usize) -> usize
     requires { place < len }

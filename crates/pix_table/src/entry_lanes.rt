@@ -10,10 +10,11 @@ use crate::lanes::nearest_lane;
 /// The number of blocks of sixteen entries.
 const BLOCKS: usize = 16;
 
-/// The number of places by which colors are told from others at once.
+/// The number of places that tell most colors apart at once.
 const PLACES: usize = 2048;
 
-/// A copy of the entries of a table, at least one and at most 256, by blocks of lanes, with the index of each.
+/// A copy of the entries of a table, at least one and at most 256, in blocks of lanes, with the
+/// index of each.
 #[derive(Clone, Copy)]
 pub struct EntryLanes {
     pub(crate) blocks: [ColorBlock; BLOCKS],
@@ -41,7 +42,7 @@ impl EntryLanes {
         EntryLanes::of(chosen)
     }
 
-    /// Makes a copy with the entries alone that no entry before them equals.
+    /// Makes a copy with only those entries that equal no entry before them.
     ///
     /// Condition: it is a copy of the table `colors`.
     pub(crate) fn distinct<C: TableColor>(&self, colors: &[C]) -> EntryLanes
@@ -61,7 +62,8 @@ impl EntryLanes {
         EntryLanes::of(chosen)
     }
 
-    /// Returns whether no entry before entry `i` is its color. An entry is looked for only where a color with the same place was seen.
+    /// Returns whether no entry before entry `i` has its color. It searches only where a color with
+    /// the same place was seen.
     fn is_first(&self, seen: &mut [bool], clr: Color, i: usize) -> bool
         requires { length seen.old ≡ 2048 }
         ensures { result ≡ false → (entries : List (List ℕ)) → AreLanes entries self.now
@@ -75,7 +77,7 @@ impl EntryLanes {
         usize::from(self.nearest(clr)) == i
     }
 
-    /// Makes a copy of the entries that are chosen.
+    /// Makes a copy of the chosen entries.
     fn of(mut chosen: Chosen) -> EntryLanes
         requires some { 0 < chosen.len }
         requires few { chosen.len ≤ 256 }

@@ -7,18 +7,21 @@ ghost use Rattle.pix_table.specs.From.{shown, same_color, distinct, IsTableFrom}
 use crate::color::{Color, TablePixel};
 use crate::cut::cut_table;
 
-/// Returns how many colors of work memory [`table_from`] takes for so many pixels: as many.
+/// Returns how many colors of work memory [`table_from`] takes for this many pixels, which is the
+/// same number.
 pub fn table_work(pixels: usize) -> usize
     ensures { result ≡ pixels }
 {
     pixels
 }
 
-/// Writes a table of the colors of `pixels` into the first of the entries, and returns how many they are; or `None`, and changes nothing, where
-/// there is no entry or more than 256, or where `work` has fewer colors than [`table_work`] says.
+/// Writes a table of the colors of `pixels` into the first of the entries, and returns their
+/// number. It returns `None`, and changes nothing, where there is no entry or more than 256, or
+/// where `work` has fewer colors than [`table_work`] says.
 ///
-/// Pixels whose alpha is below `alpha` do not count. With no more distinct colors than entries, they are the table, in order of first place. Else
-/// it is made by median cut, which takes at most as many entries as there are; what the other entries hold is not said.
+/// Pixels whose alpha is below `alpha` do not count. With no more distinct colors than entries,
+/// they are the table, in order of first place. Else it is made by median cut, which uses at most
+/// as many entries as there are. The other entries may hold anything.
 pub fn table_from<P: TablePixel>(
     pixels: &[P],
     alpha: u8,
@@ -41,7 +44,8 @@ pub fn table_from<P: TablePixel>(
     Some(table_of(&mut work[..count], entries))
 }
 
-/// Writes the colors of the pixels whose alpha is not below `alpha` into the first places of `work`, and returns how many they are.
+/// Writes the colors of the pixels whose alpha is not below `alpha` into the first places of
+/// `work`, and returns their number.
 fn gather<P: TablePixel>(pixels: &[P], alpha: u8, work: &mut [Color]) -> usize
     requires { length pixels.now ≤ length work.old }
     ensures within { result ≤ length work.new }
@@ -57,7 +61,8 @@ fn gather<P: TablePixel>(pixels: &[P], alpha: u8, work: &mut [Color]) -> usize
     count
 }
 
-/// Writes the table of some colors into the first of the entries, and returns how many they are. The colors come into another order.
+/// Writes the table of some colors into the first of the entries, and returns their number. The
+/// order of the colors changes.
 fn table_of(colors: &mut [Color], entries: &mut [Color]) -> usize
     requires room { 0 < length entries.old }
     requires few { length entries.old ≤ 256 }
@@ -71,8 +76,8 @@ fn table_of(colors: &mut [Color], entries: &mut [Color]) -> usize
     }
 }
 
-/// Writes the distinct colors into the first of the entries, in order of first place, and returns how many they are; or `None` where they
-/// are more than the entries.
+/// Writes the distinct colors into the first of the entries, in order of first place, and returns
+/// their number. Returns `None` where there are more of them than entries.
 fn distinct(colors: &[Color], entries: &mut [Color]) -> Option<usize>
     ensures { MatchOption result
         (length entries.old < length (distinct (map numbers colors.now)))

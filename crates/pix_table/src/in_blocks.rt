@@ -1,4 +1,4 @@
-//! The match of a color by blocks of entries and their spans.
+//! The match of a color, found with blocks of entries and their spans.
 ghost use Rattle.std.specs.Prelude.{◌≡◌, ◌*◌, ◌<◌, ◌≤◌, ℕ, length, map, slice_index_or, MatchOption};
 ghost use Rattle.pix_table.specs.ColorBlocks.{AreBlocks, IsBest, IsFar};
 ghost use Rattle.pix_table.specs.Nearest.{numbers};
@@ -12,7 +12,7 @@ use crate::color::{Color, TableColor};
 use crate::color_block::{ColorBlock, SIZE};
 use crate::threshold::{closest_between, closest_of_one, is_within};
 
-/// The last candidate for a color among so many first entries, and its difference.
+/// The last candidate for a color among the first entries, and its difference.
 #[derive(Clone, Copy)]
 pub struct Closest {
     /// How many entries were looked at.
@@ -23,7 +23,8 @@ pub struct Closest {
     pub least: Color,
 }
 
-/// Returns the first block whose bit is set that has a color no farther from a color than a difference in any channel.
+/// Returns the first block whose bit is set that has a color no farther from a color than a
+/// difference in any channel.
 fn first_near(blocks: &[ColorBlock], bits: u64, clr: Color, least: Color) -> Option<usize>
     requires { length blocks.now ≤ 16 }
     ensures { MatchOption result
@@ -48,7 +49,8 @@ fn first_near(blocks: &[ColorBlock], bits: u64, clr: Color, least: Color) -> Opt
     None
 }
 
-/// Returns the first block from `start` on that has a color no farther from a color than a difference in any channel, or how many blocks there are.
+/// Returns the first block from `start` on that has a color no farther from a color than a
+/// difference in any channel, or how many blocks there are.
 fn next_near(
     spans: &[BlockSpans],
     blocks: &[ColorBlock],
@@ -77,7 +79,8 @@ fn next_near(
     blocks.len()
 }
 
-/// About how many cells of 8 reds, 8 greens and 16 blues have a color that is no farther from another than a difference in any channel.
+/// About how many cells of 8 reds, 8 greens and 16 blues have a color that is no farther from
+/// another than a difference in any channel.
 pub fn cells_near(difference: Color) -> usize {
     let reds = usize::from(difference.red) / 4 + 2;
     let greens = usize::from(difference.green) / 4 + 2;
@@ -85,8 +88,9 @@ pub fn cells_near(difference: Color) -> usize {
     reds * greens * blues
 }
 
-/// Returns the last candidate among the first entries, by blocks of these, with its difference: among all entries that are in blocks, or fewer, where
-/// less than `few` cells are as near. Condition: there is an entry.
+/// Returns the last candidate among the first entries, with its difference. It searches the blocks
+/// of entries, and stops early where less than `few` cells are as near. Condition: there is an
+/// entry.
 pub fn closest_first<C: TableColor>(
     spans: &[BlockSpans],
     blocks: &[ColorBlock],
@@ -119,7 +123,8 @@ pub fn closest_first<C: TableColor>(
     Closest { count, at, least }
 }
 
-/// Returns the match of a color, with its difference, by blocks of the first entries. Condition: there is an entry.
+/// Returns the match of a color, with its difference, found with blocks of the first entries.
+/// Condition: there is an entry.
 fn closest_in<C: TableColor>(
     spans: &[BlockSpans],
     blocks: &[ColorBlock],
@@ -144,7 +149,8 @@ fn closest_in<C: TableColor>(
     )
 }
 
-/// Returns the entry that stands for a color, as [`standing`](crate::standing) does, by blocks of the first entries and their spans.
+/// Returns the entry that stands for a color, as [`standing`](crate::standing) does. It uses blocks
+/// of the first entries and their spans.
 pub fn standing_in<C: TableColor>(
     spans: &[BlockSpans],
     blocks: &[ColorBlock],

@@ -1,4 +1,4 @@
-//! Pixels that are indexed by colors which are set in a table, one after the other.
+//! Pixels that are indexed: their colors are set in a table, one after the other.
 ghost use Rattle.std.specs.Prelude.{◌≡◌, ◌<◌, ◌≤◌, ℕ, List, length, map, take, slice_set, true, false, MatchOption, IfNone};
 ghost use Rattle.pix_table.specs.Nearest.{numbers};
 ghost use Rattle.pix_table.specs.Setting.{Always, IsSet};
@@ -12,11 +12,12 @@ use crate::table_blocks::Beside;
 /// The greatest number of slots.
 const SLOTS: usize = 256;
 
-/// Sets the color of each pixel among the first `len` of `slots`, one after the other, and the index at its place to the answer; returns the number
-/// of entries afterwards, or `None` where a color can't be set: then nothing is changed.
+/// Sets the color of each pixel among the first `len` of `slots`, one after the other, and the
+/// index at its place to the answer. Returns the number of entries afterwards, or `None` where a
+/// color can't be set; then nothing changes.
 ///
-/// A color is answered by its match, where that is within the threshold, or else added. Condition: there are no more than 256 slots, and as many indices
-/// as pixels.
+/// The answer for a color is its match, where that is within the threshold. Else the color is
+/// added. Condition: there are no more than 256 slots, and as many indices as pixels.
 pub fn index_pixels(
     slots: &mut [Color],
     len: usize,
@@ -49,8 +50,9 @@ pub fn index_pixels(
     }
 }
 
-/// Sets the color of each pixel, up to the first that can't be set, and, where they are to be written, the index at its place; returns whether all are
-/// set, and the number of entries afterwards.
+/// Sets the color of each pixel, up to the first that can't be set. Where indices are to be
+/// written, it also sets the index at the pixel's place. Returns whether all are set, and the
+/// number of entries afterwards.
 fn set_pixels(
     slots: &mut [Color],
     len: usize,

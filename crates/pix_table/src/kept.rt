@@ -1,6 +1,8 @@
-//! Colors that are kept beside a table, each with the index that stands for it: a color is kept near the place that its channels give.
+//! Colors that are cached beside a table, each with the index that stands for it. A color is kept
+//! near the place that its channels give.
 //!
-//! Which place a color is given and how many are tried decide only how often the table is searched: no answer depends on them.
+//! Which place a color is given and how many are tried decide only how often the table is searched.
+//! No answer depends on them.
 ghost use Rattle.std.specs.Prelude.{◌≡◌, ◌<◌, length, map, IfSome, All};
 ghost use Rattle.pix_table.specs.Nearest.{numbers};
 ghost use Rattle.pix_table.specs.Kept.{IsKept, IsPut, IsKeeping, serves};
@@ -14,10 +16,11 @@ const PLACES: usize = 2056;
 /// How many places in a row a color may be kept at.
 const TRIES: usize = 8;
 
-/// Stands for any number of entries.
+/// Means any number of entries.
 const ALWAYS: u16 = 65535;
 
-/// A color, the index that stands for it, and the number of entries for which it does; a place with none has 0 entries.
+/// A color, the index that stands for it, and the number of entries for which it does. An empty
+/// place has 0 entries.
 #[derive(Clone, Copy)]
 pub struct Kept {
     clr: Color,
@@ -57,7 +60,7 @@ impl Cache {
         }
     }
 
-    /// Returns the index of a color that is kept for a table of so many entries.
+    /// Returns the index of a color that is kept for a table of this many entries.
     pub fn find(&self, clr: Color, count: usize) -> Option<usize>
         ensures { IfSome result (IsKept self.now.kept (numbers clr) count) }
     {
@@ -71,8 +74,9 @@ impl Cache {
         None
     }
 
-    /// Keeps a color with the index of the entry that stands for it: for any number of entries, if the entry is the color, and else for just so
-    /// many as there are. It keeps none whose index or number of entries is too great for that.
+    /// Keeps a color with the index of the entry that stands for it. If the entry equals the color,
+    /// the index holds for any number of entries, and else only for the present number. A color is
+    /// not kept if its index or the number of entries is too great.
     pub fn keep<C: TableColor>(&mut self, entries: &[C], clr: Color, index: usize)
         requires { index < length entries.now }
         ensures { IsKeeping (map C.channels entries.now) (numbers clr) index
@@ -88,7 +92,8 @@ impl Cache {
         }
     }
 
-    /// Puts a color at the first of its places that serves no longer, or at the first of all where each does.
+    /// Puts a color at the first of its places that is out of date, or at the first of all where
+    /// none is.
     fn put(&mut self, clr: Color, index: u16, count: u16)
         ensures { IsPut self.old.kept (numbers clr) index count self.new.kept }
     {
@@ -96,7 +101,8 @@ impl Cache {
         self.kept[at] = Kept { clr, index, count };
     }
 
-    /// Returns the first of the places from one on that has no color for so many entries, or that place where each has one.
+    /// Returns the first place, from one on, that has no color for this many entries. Where each
+    /// has one, it returns the place that it started at.
     fn free_place(&self, start: usize, count: usize) -> usize
         requires { start < 2048 }
         ensures { result < 2056 }
@@ -111,7 +117,7 @@ impl Cache {
 }
 
 impl Kept {
-    /// Returns whether it is kept for so many entries.
+    /// Returns whether it is kept for this many entries.
     fn serves(self, count: usize) -> bool
         ensures { result ≡ serves self.count count }
     {

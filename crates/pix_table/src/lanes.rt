@@ -54,7 +54,8 @@ fn lesser(xs: u16x16, ys: u16x16) -> u16x16
     xs.simd_min(ys)
 }
 
-/// Returns for each lane the block that it had, where its least distance is what it was, and else the new one.
+/// Returns for each lane its old block, where its least distance didn't change, and else the new
+/// one.
 #[inline(always)]
 fn blocks_of(now: u16x16, least: u16x16, at: u16x16, j: u16) -> u16x16
     ensures long { length result ≡ 16 }
@@ -64,7 +65,8 @@ fn blocks_of(now: u16x16, least: u16x16, at: u16x16, j: u16) -> u16x16
     now.simd_eq(least).select(at, u16x16::splat(j))
 }
 
-/// Returns for each lane its least distance, 65536 times, and the lane of its color among those of all blocks.
+/// Returns for each lane its least distance, 65536 times, and the lane of its color among those of
+/// all blocks.
 #[inline(always)]
 fn keys(least: u16x16, at: u16x16) -> [u32; SIZE]
     requires { (i : ℕ) → i < 16 → slice_index at i < 16 }
@@ -109,7 +111,8 @@ pub(crate) fn nearest_lane(blocks: &[ColorBlock], clr: Color) -> u8
     (key % 256) as u8
 }
 
-/// Returns the sums of three numbers of each lane, 256 times, and the lane's number in block `j` among those of all blocks.
+/// Returns the sums of three numbers of each lane, 256 times, and the lane's number in block `j`
+/// among those of all blocks.
 #[inline(always)]
 fn wide_keys(red: u16x16, green: u16x16, blue: u16x16, j: usize) -> u32x16
     requires { j < 16 }
@@ -122,7 +125,8 @@ fn wide_keys(red: u16x16, green: u16x16, blue: u16x16, j: usize) -> u32x16
     sum * u32x16::splat(256) + lanes
 }
 
-/// Returns for each lane of block `j` its distance from a color, 256 times, and its number among those of all blocks.
+/// Returns for each lane of block `j` its distance from a color, 256 times, and its number among
+/// those of all blocks.
 #[inline(always)]
 fn far_keys(block: &ColorBlock, clr: Color, j: usize) -> u32x16
     requires { j < 16 }
@@ -144,7 +148,8 @@ fn lesser_wide(xs: u32x16, ys: u32x16) -> u32x16
     xs.simd_min(ys)
 }
 
-/// Returns the lane of the nearest color as [`nearest_lane`] does, also where each is farther than 16 bits can count.
+/// Returns the lane of the nearest color as [`nearest_lane`] does, also where each is farther than
+/// 16 bits can count.
 #[inline(never)]
 fn nearest_far_lane(blocks: &[ColorBlock], clr: Color) -> u8
     requires some { 0 < length blocks.now }

@@ -1,4 +1,5 @@
-//! Tables of colors: the nearest entry of a color, colors of indices, and indices packed into bytes.
+//! Tables of colors: the nearest entry of a color, colors of indices, and indices packed into
+//! bytes.
 //!
 //! The tables and the indices are slices that the caller owns, and nothing is allocated.
 #![tactic(auto)]

@@ -14,7 +14,8 @@ pub fn are_below(count: usize, indices: &[u8]) -> bool
     true
 }
 
-/// Sets the color of each place to the entry of the index at that place; returns whether each index has an entry, and changes nothing where one has none.
+/// Sets the color of each place to the entry of the index at that place. Returns whether each index
+/// has an entry, and changes nothing where one has none.
 ///
 /// Condition: there are as many colors as indices.
 pub fn look_up<C: Copy>(entries: &[C], indices: &[u8], colors: &mut [C]) -> bool
@@ -32,7 +33,8 @@ pub fn look_up<C: Copy>(entries: &[C], indices: &[u8], colors: &mut [C]) -> bool
     true
 }
 
-/// Sets the count of each number to how often it stands among the indices; returns whether each index has a count, and changes nothing where one has none.
+/// Sets the count of each number to how often it stands among the indices. Returns whether each
+/// index has a count, and changes nothing where one has none.
 pub fn count(indices: &[u8], counts: &mut [usize]) -> bool
     ensures inside { result ≡ all_below (length counts.old) indices.now }
     ensures counted { result ≡ true → AreCounted (length counts.old) indices.now counts.new }

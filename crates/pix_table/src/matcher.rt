@@ -12,14 +12,16 @@ use crate::nearest_search::{NearestSearch, SearchVisitor};
 use crate::word::word_of;
 use std::marker::Model;
 
-/// The greatest number of colors that are looked for among all entries: for more, lists save more time than they take.
+/// The greatest number of colors that are searched among all entries. For more colors, lists save
+/// more time than they take.
 const FEW_COLORS: usize = 4096;
 
 /// The greatest number of entries that need no lists.
 const FEW_ENTRIES: usize = 32;
 
-/// Returns the numbers of the entries, and behind them that of the first.
-// Out of line, as `colors_of` is: where they are inlined, LLVM puts a matcher together on the stack beside its place.
+/// Returns the numbers of the entries, followed by that of the first.
+// Out of line, as `colors_of` is: where they are inlined, LLVM puts a matcher together on the stack
+// beside its place.
 #[inline(never)]
 fn words_of(entries: &[Color]) -> [u32; ENTRIES]
     requires some { 0 < length entries.now }
@@ -33,7 +35,8 @@ fn words_of(entries: &[Color]) -> [u32; ENTRIES]
     words
 }
 
-/// A copy of a table of colors, to which many colors are matched: each is looked for among the few entries of a list that may be the nearest to it.
+/// A copy of a table of colors, to which many colors are matched. Each is searched among the few
+/// entries of a list that may be the nearest to it.
 #[derive(Drop)]
 struct Matcher {
     entries: [Color; ENTRIES],
@@ -78,7 +81,7 @@ impl NearestSearch for EntryLanes {
     }
 }
 
-/// Returns the colors of the entries, and behind them others.
+/// Returns the colors of the entries, followed by others.
 #[inline(never)]
 fn colors_of<C: TableColor>(colors: &[C]) -> [Color; ENTRIES]
     requires { length colors.now ≤ 256 }
@@ -92,11 +95,14 @@ fn colors_of<C: TableColor>(colors: &[C]) -> [Color; ENTRIES]
     entries
 }
 
-/// Runs an action on some items that asks for the nearest entries of a table, about once for each item.
+/// Runs an action on some items that asks for the nearest entries of a table, about once for each
+/// item.
 ///
-/// For many items, the entries that may be the nearest to a color are listed; for few items, or few entries, all entries are looked at.
+/// For many items, it lists the entries that may be the nearest to a color. For few items, or few
+/// entries, it looks at all entries.
 ///
-/// Condition: the table has at least one and at most 256 entries, and the action may run on so many items with so much work memory.
+/// Condition: the table has at least one and at most 256 entries, and the action may run on this
+/// many items with this much work memory.
 pub fn visit_nearest<C: TableColor, T, V: SearchVisitor<T>>(
     colors: &[C],
     visitor: &V,
@@ -177,7 +183,8 @@ fn visit_listed<C: TableColor, T, V: SearchVisitor<T>>(
     visitor.visit(&mut matcher, items, work);
 }
 
-/// Pixels, each of which is matched to an entry: one whose alpha is below `alpha` has the index `kept`, and another that of its nearest entry.
+/// Pixels that are matched to entries. A pixel whose alpha is below `alpha` gets the index `kept`,
+/// and any other gets that of its nearest entry.
 #[derive(Drop)]
 struct Matching<'a, P> {
     pixels: &'a [P],
@@ -185,7 +192,8 @@ struct Matching<'a, P> {
     kept: u8,
 }
 
-/// Returns the index of a pixel: `kept` where its alpha is below `alpha`, and else that of the nearest entry.
+/// Returns the index of a pixel: `kept` where its alpha is below `alpha`, and else that of the
+/// nearest entry.
 #[inline(always)]
 fn matched<N: NearestSearch, P: TablePixel>(search: &mut N, pixel: P, alpha: u8, kept: u8) -> u8
     ensures matched { (entries : List (List ℕ)) → N.finds search.old entries
@@ -214,9 +222,11 @@ impl<P: TablePixel> SearchVisitor<u8> for Matching<'_, P> {
     }
 }
 
-/// Sets the index of each pixel: to `kept` where the pixel's alpha is below `alpha`, and else to that of the nearest entry, the first of equals.
+/// Sets the index of each pixel: to `kept` where the pixel's alpha is below `alpha`, and else to
+/// that of the nearest entry, the first of equals.
 ///
-/// Condition: the table has at least one and at most 256 entries, and there are as many indices as pixels.
+/// Condition: the table has at least one and at most 256 entries, and there are as many indices as
+/// pixels.
 pub fn match_pixels<C: TableColor, P: TablePixel>(
     colors: &[C],
     pixels: &[P],

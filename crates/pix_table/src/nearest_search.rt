@@ -1,4 +1,4 @@
-//! What looks for the nearest entries of a table.
+//! What searches the nearest entries of a table.
 ghost use Rattle.std.specs.Prelude.{ℕ, List, length};
 ghost use Rattle.pix_table.specs.Nearest.{IsNearest, numbers};
 
@@ -19,7 +19,8 @@ pub trait NearestSearch {
 
 /// An action on a slice that asks for the nearest entries of a table. It may have work memory.
 pub trait SearchVisitor<T> {
-    /// The condition under which the action may run on so many items by a search among these entries, with so many colors of work memory.
+    /// The condition under which the action may run on this many items, with a search among these
+    /// entries and this many colors of work memory.
     ghost can_visit: { Self → List (List ℕ) → ℕ → ℕ → Type 0 };
 
     /// The relation of the entries, and the items before and after the action.

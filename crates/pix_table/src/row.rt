@@ -27,7 +27,7 @@ pub enum RowFault {
     /// There are not as many bytes as the row takes.
     #[error("Row has wrong length")]
     Length,
-    /// An index takes more bits than it is to have.
+    /// An index takes more bits than it may.
     #[error("Row index too big")]
     Index,
 }
@@ -57,14 +57,15 @@ impl IndexDepth {
         }
     }
 
-    /// Returns how many bytes a row of so many indices takes.
+    /// Returns how many bytes a row of this many indices takes.
     pub fn row_bytes(self, count: usize) -> usize
         ensures { result ≡ row_bytes self count }
     {
         count.div_ceil(self.places())
     }
 
-    /// Returns the number that the bits of place `t` of a byte spell; place 0 has the most significant. Condition: the byte has such a place.
+    /// Returns the number that the bits of place `t` of a byte spell; place 0 has the most
+    /// significant. Condition: the byte has such a place.
     fn place(self, byte: u8, t: usize) -> u8
         requires { t < places self }
         ensures { result ≡ place self byte t }
@@ -78,12 +79,13 @@ impl IndexDepth {
     }
 }
 
-/// Packs a row of indices into the bytes of a row: in order, those of a byte from its most significant bits on, and 0 in the bits that are
-/// left over in the last byte.
+/// Packs a row of indices into the bytes of a row, in order. Within a byte the first index is in
+/// the most significant bits. The bits that are left over in the last byte are 0.
 ///
 /// # Errors
 ///
-/// `Length` where there are not as many bytes as the row takes, and else `Index` where an index takes more bits. The bytes are unchanged.
+/// `Length` where there are not as many bytes as the row takes. Else `Index` where an index takes
+/// more bits. The bytes are unchanged.
 pub fn pack_row(depth: IndexDepth, indices: &[u8], bytes: &mut [u8]) -> Result<(), RowFault>
     ensures refused { MatchResult result
         (λ _. pack_fault depth indices.now (length bytes.old) ≡ None)

@@ -4,9 +4,10 @@ ghost use Rattle.pix_table.specs.Nearest.{IsNearest, IsNearestOf, IsFirst, numbe
 
 use crate::color::{Color, TableColor};
 
-/// Returns the index of the entry of `colors` that is nearest to `clr`, the first of equals; or `None` where there is no entry.
+/// Returns the index of the entry of `colors` that is nearest to `clr`, the first of equals.
+/// Returns `None` where there is no entry.
 ///
-/// How near a color is, is the sum of the squares of its differences in red, green and blue.
+/// The distance of a color is the sum of the squares of its differences in red, green and blue.
 pub fn nearest<C: TableColor>(colors: &[C], clr: Color) -> Option<usize>
     ensures nearest { IsNearestOf (map C.channels colors.now) (numbers clr) result }
     ensures standing { (i : ℕ) → IsFirst (map C.channels colors.now) (numbers clr) i

@@ -1,4 +1,5 @@
-//! Colors that are set in a table: each is answered by the entry that stands for it, or added.
+//! Colors that are set in a table. The answer for each is the entry that stands for it, or the
+//! color is added.
 ghost use Rattle.std.specs.Prelude.{◌≡◌, ◌≤◌, length, map, take};
 ghost use Rattle.pix_table.specs.Nearest.{numbers};
 ghost use Rattle.pix_table.specs.Setting.{Always, IsSet, StandsFor};
@@ -8,10 +9,11 @@ use crate::color::{Color, TableColor};
 use crate::table_blocks::Beside;
 use crate::threshold::standing;
 
-/// Sets a color among the first `len` of `slots`; returns the answer, and the number of entries afterwards.
+/// Sets a color among the first `len` of `slots`. Returns the answer, and the number of entries
+/// afterwards.
 ///
-/// The answer is the index of the entry that stands for the color, or else the next index, where the color is added; or `None` where there is no slot
-/// for it.
+/// The answer is the index of the entry that stands for the color. If there is none, the color is
+/// added, and the answer is its index. It is `None` where there is no slot for the color.
 pub fn set_entry<C: TableColor>(
     slots: &mut [C],
     len: usize,
@@ -30,7 +32,7 @@ pub fn set_entry<C: TableColor>(
     set_by(slots, len, clr, threshold, at)
 }
 
-/// Sets a color for which an entry stands, or none.
+/// Sets a color, given the entry that stands for it, if there is one.
 fn set_by<C: TableColor>(
     slots: &mut [C],
     len: usize,
@@ -59,8 +61,8 @@ fn set_by<C: TableColor>(
     }
 }
 
-/// Sets a color as [`set_entry`] does, by what is kept beside the table: a color that is kept takes no search, and another one is looked for by blocks of
-/// the entries.
+/// Sets a color as [`set_entry`] does, with what is cached beside the table. A cached color takes
+/// no search. Any other color is searched in blocks of the entries.
 pub fn set_kept<C: TableColor>(
     slots: &mut [C],
     len: usize,

@@ -1,4 +1,4 @@
-//! Blocks of the entries of a small table, by which the match of a color is found.
+//! Blocks of the entries of a small table, which find the match of a color.
 ghost use Rattle.std.specs.Prelude.{◌≡◌, ◌≤◌, ◌<◌, ◌+◌, ◌*◌, ℕ, List, length, map};
 ghost use Rattle.pix_table.specs.Nearest.{numbers};
 ghost use Rattle.pix_table.specs.ColorBlocks.{IsBlock};
@@ -14,13 +14,13 @@ use crate::in_blocks::standing_in;
 use crate::kept::Cache;
 use crate::threshold::standing;
 
-/// How many entries there are at least where blocks save more time than they take.
+/// The least number of entries with which blocks save more time than they take.
 const MANY: usize = 64;
 
-/// How many blocks there are at most.
+/// The greatest number of blocks.
 const BLOCKS: usize = 16;
 
-/// Blocks of the first entries of a table, as far as it has no more than 256, and the spans of those blocks.
+/// Blocks of the first entries of a table, up to 256 of them, and the spans of those blocks.
 #[derive(Drop)]
 pub struct TableBlocks {
     pub(crate) spans: [BlockSpans; 1],
@@ -28,7 +28,8 @@ pub struct TableBlocks {
     pub(crate) len: usize,
 }
 
-/// What is kept beside a table while colors are set in it: colors with the entries that stand for them, and blocks of the entries.
+/// What is cached beside a table while colors are set in it: colors with the entries that stand for
+/// them, and blocks of the entries.
 #[derive(Drop)]
 pub struct Beside {
     pub(crate) cache: Cache,
@@ -61,7 +62,7 @@ impl TableBlocks {
         self.len += 1;
     }
 
-    /// Adds blocks of the entries that came after those of which it has some.
+    /// Adds blocks of the entries that are new since the last block.
     fn follow<C: TableColor>(&mut self, colors: &[C])
         requires few { length colors.now ≤ 256 }
         requires has { HasBlocks (map C.channels colors.now) self.old }
@@ -99,7 +100,7 @@ impl TableBlocks {
 }
 
 impl Beside {
-    /// Makes what is kept beside a table, of which nothing is known yet.
+    /// Makes an empty cache beside a table.
     pub fn new() -> Beside
         ensures { (threshold : List ℕ) (entries : List (List ℕ))
             → IsBeside threshold entries result }

@@ -1,4 +1,4 @@
-//! The entry that stands for a color: its match, where that is within a threshold.
+//! The entry that stands for a color, which is its match where that is within a threshold.
 ghost use Rattle.std.specs.Prelude.{◌≡◌, ◌<◌, ◌≤◌, length, map};
 ghost use Rattle.pix_table.specs.ColorBlocks.{IsBest};
 ghost use Rattle.pix_table.specs.Nearest.{numbers};
@@ -51,7 +51,8 @@ pub(crate) fn closest_of_one<C: TableColor>(colors: &[C], clr: Color) -> (usize,
     (0, apart(colors[0].color(), clr))
 }
 
-/// Returns the last candidate of the entries before `end`, with its difference, given that of the entries before `start`.
+/// Returns the last candidate of the entries before `end`, with its difference, given that of the
+/// entries before `start`.
 pub fn closest_between<C: TableColor>(
     colors: &[C],
     clr: Color,
@@ -87,7 +88,8 @@ fn closest<C: TableColor>(colors: &[C], clr: Color) -> (usize, Color)
     closest_between(colors, clr, 1, colors.len(), at, least)
 }
 
-/// Returns the entry that stands for a color: its match, if it is within the threshold; or `None`.
+/// Returns the entry that stands for a color. That is its match, if the match is within the
+/// threshold, and else `None`.
 pub fn standing<C: TableColor>(colors: &[C], clr: Color, threshold: Color) -> Option<usize>
     ensures { StandsFor (Always (numbers threshold)) (map C.channels colors.now) (numbers clr)
         result }

@@ -1,4 +1,4 @@
-//! Entries as numbers: each has the color and the index of an entry.
+//! Entries as numbers. Each number has the color and the index of an entry.
 ghost use Rattle.std.specs.Prelude.{◌≡◌, ◌<◌, ◌≤◌, ◌+◌, ◌%◌, ℕ, List, min, length, slice_index};
 ghost use Rattle.pix_table.specs.Nearest.{IsNearest, numbers};
 ghost use Rattle.pix_table.specs.Boxes.{AreEnough, AreWords, word_color, word_key};
@@ -30,7 +30,8 @@ pub fn color_of(word: u32) -> Color
     }
 }
 
-/// Returns how far a number's color is from a color, 256 times, and its index: of keys the least is that of the nearest entry.
+/// Returns a key: 256 times the distance of a number's color from a color, plus the index. The
+/// least key is that of the nearest entry.
 #[inline(always)]
 fn key(word: u32, clr: Color) -> u32
     ensures { result ≡ word_key (numbers clr) word }
@@ -56,7 +57,8 @@ fn least_of_four(words: &[u32], lists: &[u8], at: usize, clr: Color) -> u32
     first.min(second).min(third.min(fourth))
 }
 
-/// Returns the nearest of the entries that are listed. They are looked at by fours, so that up to three more are, which are none of the list.
+/// Returns the nearest of the listed entries. They are looked at in fours, so up to three entries
+/// after the list are looked at too.
 #[inline(always)]
 pub fn nearest_listed(words: &[u32], lists: &[u8], known: Known, clr: Color) -> u8
     requires words { length words.now ≡ 256 }

@@ -1,6 +1,7 @@
-//! Blocks of the entries of a palette, by which the match of a color is found.
+//! Blocks of the entries of a palette, which find the match of a color.
 //!
-//! Their memory is asked for once. Where that is refused there are none: no answer depends on how many there are.
+//! Their memory is allocated once. Where that fails there are none. No answer depends on their
+//! number.
 ghost use Rattle.std.specs.Prelude.{◌≡◌, ℕ, List, [], ◌∷◌, ◌++◌, map, true, false};
 ghost use Rattle.pix_table.specs.Spans.{AreSpans};
 ghost use Rattle.pix_palette.specs.Finder.{HasBlocks};
@@ -23,7 +24,7 @@ pub(super) struct Blocks {
 }
 
 impl Blocks {
-    /// Makes no blocks, which takes no memory. They may come to be of `room` entries.
+    /// Makes no blocks, and takes no memory. Later there may be blocks of up to `room` entries.
     pub(super) fn new(alloc: Global, room: usize) -> Blocks
         ensures { (colors : List (List ℕ)) → HasBlocks colors result }
     {
@@ -35,7 +36,7 @@ impl Blocks {
         }
     }
 
-    /// Asks for the memory of as many blocks as there may be and of their spans, once.
+    /// Allocates memory once for the most blocks that there may be, and for their spans.
     fn take_memory(&mut self, alloc: Global)
         ensures { (colors : List (List ℕ)) → HasBlocks colors self.old
             → HasBlocks colors self.new }
@@ -55,7 +56,7 @@ impl Blocks {
         self.blocks = blocks;
     }
 
-    /// Adds a block with its span; returns whether there is room for both.
+    /// Adds a block with its span. Returns whether there is room for both.
     fn add(&mut self, block: ColorBlock) -> bool
         requires { AreSpans self.old.blocks.items self.old.spans.items }
         ensures spans { AreSpans self.new.blocks.items self.new.spans.items }
@@ -72,7 +73,7 @@ impl Blocks {
         true
     }
 
-    /// Adds blocks of the entries that came after those of which it has some, as far as there is room.
+    /// Adds blocks of the entries that are new since the last block, as far as there is room.
     pub(super) fn follow(&mut self, alloc: Global, colors: &[SRgb8])
         requires { HasBlocks (map numbers colors.now) self.old }
         ensures { HasBlocks (map numbers colors.now) self.new }

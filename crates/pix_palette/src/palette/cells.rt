@@ -1,4 +1,5 @@
-//! The entries of a palette by cells of eight reds, eight greens and sixteen blues: those near a color stand in the few cells about it.
+//! The entries of a palette in cells of eight reds, eight greens and sixteen blues. Those near a
+//! color are in the few cells around it.
 ghost use Rattle.std.specs.Prelude.{◌≡◌, ◌+◌, ◌<◌, ◌≤◌, ℕ, List, [], ◌∷◌, length, map, true, false};
 ghost use Rattle.pix_table.specs.ColorBlocks.{IsBest, Lies};
 ghost use Rattle.pix_table.specs.Nearest.{numbers as color_numbers};
@@ -10,8 +11,8 @@ use super::lists::Lists;
 use pix_el::rgb::SRgb8;
 use pix_table::{Closest, Color, TableColor, closest_between};
 
-/// What is looked for: an entry from the index `from` on that is no farther from a color than a difference in any channel. It stands in a cell
-/// from that of `low` to that of `high`.
+/// The wanted entry: one from the index `from` on that is no farther from a color than a difference
+/// in any channel. It is in a cell from that of `low` to that of `high`.
 #[derive(Clone, Copy)]
 struct Sought {
     clr: Color,
@@ -40,7 +41,7 @@ fn is_near(entry: Color, clr: Color, least: Color) -> bool
 }
 
 impl Sought {
-    /// Makes what is looked for.
+    /// Makes a description of the wanted entry.
     fn new(clr: Color, least: Color, from: usize) -> Sought
         ensures clr { result.clr ≡ clr }
         ensures least { result.least ≡ least }
@@ -71,7 +72,7 @@ impl Sought {
 }
 
 impl Lists {
-    /// Returns the first entry of a cell that is looked for, if it stands before `end`, or else `end`.
+    /// Returns the first wanted entry of a cell, if it is before `end`, or else `end`.
     fn first_of_cell(&self, colors: &[SRgb8], sought: Sought, place: usize, end: usize) -> usize
         requires lists { AreLists cell (map numbers colors.now) self.now.latest.items
             self.now.earlier.items }
@@ -97,7 +98,8 @@ impl Lists {
         found
     }
 
-    /// Returns the first entry that is looked for of the cells of a red and a green, if it stands before `end`, or else `end`.
+    /// Returns the first wanted entry in the cells of a red and a green, if it is before `end`, or
+    /// else `end`.
     fn first_of_blues(
         &self,
         colors: &[SRgb8],
@@ -129,7 +131,7 @@ impl Lists {
         found
     }
 
-    /// Returns the first entry that is looked for of the cells of a red, if it stands before `end`, or else `end`.
+    /// Returns the first wanted entry in the cells of a red, if it is before `end`, or else `end`.
     fn first_of_greens(&self, colors: &[SRgb8], sought: Sought, red: usize, end: usize) -> usize
         requires lists { AreLists cell (map numbers colors.now) self.now.latest.items
             self.now.earlier.items }
@@ -154,7 +156,8 @@ impl Lists {
         found
     }
 
-    /// Returns the first entry from `from` on that is no farther from a color than a difference in any channel, or how many entries there are.
+    /// Returns the first entry from `from` on that is no farther from a color than a difference in
+    /// any channel, or how many entries there are.
     ///
     /// Condition: the lists are by cells, and have all entries.
     pub(super) fn next_near(&self, colors: &[SRgb8], clr: Color, least: Color, from: usize) -> usize
@@ -177,8 +180,8 @@ impl Lists {
         found
     }
 
-    /// Returns the match of a color, with its difference, given the last candidate among the first entries: the next candidates stand in the cells about
-    /// the color.
+    /// Returns the match of a color, with its difference, given the last candidate among the first
+    /// entries. The next candidates are in the cells around the color.
     ///
     /// Condition: the lists are by cells, and have all entries.
     pub(super) fn closest_after(

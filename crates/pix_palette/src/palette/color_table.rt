@@ -19,11 +19,12 @@ use pix_table::{TableColor, nearest, set_entry};
 use std::alloc::Global;
 
 impl ColorTable {
-    /// Makes an empty table of at most `limit` colors, with room for all of them. A color may be as far from its match as `threshold` says, channel by channel.
+    /// Makes an empty table of at most `limit` colors, with room for all of them. A color may be as
+    /// far from its match as `threshold` says, channel by channel.
     ///
     /// # Errors
     ///
-    /// `Memory` on allocation failure, and where the limit is too large to be reserved.
+    /// `Memory` on allocation failure, and where the limit is too large to reserve.
     ///
     /// # Examples
     ///
@@ -86,7 +87,7 @@ impl ColorTable {
         self.len == 0
     }
 
-    /// Returns how many entries there may be.
+    /// Returns the greatest number of entries that there may be.
     ///
     /// # Examples
     ///
@@ -116,9 +117,11 @@ impl ColorTable {
         self.colors().get(i).copied()
     }
 
-    /// Returns the index of the entry that is nearest to a color, the first of equals; or `None` where there is no entry.
+    /// Returns the index of the entry that is nearest to a color, the first of equals. Returns
+    /// `None` where there is no entry.
     ///
-    /// How near an entry is, is the sum of the squares of its differences from the color in red, green and blue.
+    /// The distance of an entry is the sum of the squares of its differences from the color in red,
+    /// green and blue.
     ///
     /// # Examples
     ///
@@ -130,15 +133,16 @@ impl ColorTable {
     pub fn nearest(&self, clr: SRgb8) -> Option<usize>
         ensures nearest { IsNearestOf (map numbers (entries_of self.now)) (numbers clr) result }
 
-        // A color that stands is answered at its first entry.
+        // A color that is in the table is found at its first entry.
         ensures standing { (i : ℕ) → IsFirst (map numbers (entries_of self.now)) (numbers clr) i
             → result ≡ Some i }
     {
         nearest(self.colors(), clr.color())
     }
 
-    /// Sets a color: answers the index of its match if that is within the threshold, else appends the color and answers its index, or answers `None`
-    /// where the limit is reached. It takes no memory. The match is that of [`Palette::set_entry`](crate::Palette::set_entry).
+    /// Sets a color, and returns its index. That is the index of its match, if the match is within
+    /// the threshold. Else the color is appended. The answer is `None` where the limit is reached.
+    /// It takes no memory. The match is that of [`Palette::set_entry`](crate::Palette::set_entry).
     ///
     /// # Examples
     ///
@@ -159,8 +163,9 @@ impl ColorTable {
         answer
     }
 
-    /// Makes a raster of indices: from left to right and row by row, the color of each pixel is set, and the value of the pixel at its place is its
-    /// index. Answers `None` where a color can't be set or its index is above 255: then the table is as it was.
+    /// Makes a raster of indices. From left to right and row by row the color of each pixel is set,
+    /// and its index is the value of the new pixel at its place. Returns `None` where a color can't
+    /// be set or its index is above 255. Then the table is as it was.
     ///
     /// # Errors
     ///

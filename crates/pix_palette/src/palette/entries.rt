@@ -1,4 +1,4 @@
-//! Many colors that are set in one call.
+//! Many colors, set in one call.
 ghost use Rattle.std.specs.Prelude.{◌≡◌, length};
 ghost use Rattle.std.specs.Option.{option_map};
 ghost use Rattle.pix_table.specs.Setting.{IsSet};
@@ -11,10 +11,13 @@ use pix_table::Cache;
 use std::alloc::Global;
 
 impl Palette {
-    /// Sets colors, one after the other, and sets the answer at the place of each to what [`set_entry`](Palette::set_entry) answers: the index of the
-    /// color, or `None` where the limit is reached. The colors after such a one are set too. Many take far less time so than one by one.
+    /// Sets colors, one after the other. The answer at the place of each is what
+    /// [`set_entry`](Palette::set_entry) returns: the index of the color, or `None` where the limit
+    /// is reached. The colors after that one are set too. For many colors this takes far less time
+    /// than one call for each.
     ///
-    /// It asks for memory for its search alone. Where that is refused the search takes longer, and the answers are the same.
+    /// It allocates memory only for its search. Where that fails the search takes longer, and the
+    /// answers are the same.
     ///
     /// Condition: there are as many answers as colors.
     ///
@@ -29,7 +32,7 @@ impl Palette {
     pub fn set_entries(&mut self, alloc: Global, colors: &[SRgb8], answers: &mut [Option<usize>])
         requires { length answers.old ≡ length colors.now }
 
-        // Each color is set as `set_entry` sets it, in what those before it left.
+        // Each color is set as `set_entry` sets it, in the palette that those before it left.
         ensures set { AreEntriesSet (IsSet numbers
             (Answers Threshold.post (option_map (λ chosen. chosen.f) self.old.threshold))
             self.old.limit)

@@ -1,7 +1,9 @@
-//! A finder of the entries of a palette that are a color, by which no other entry is looked at but those of the same place.
+//! A finder of the entries of a palette that equal a color. It looks only at entries of the same
+//! place.
 //!
-//! Each color has one of so many places, by multiplicative hashing (D. E. Knuth, *The Art of Computer Programming*, 6.4), and the entries
-//! of a place are linked from the latest to the first. Where its memory is refused, all entries are looked at: no answer depends on it.
+//! Multiplicative hashing (D. E. Knuth, *The Art of Computer Programming*, 6.4) gives each color a
+//! place. The entries of a place are linked from the latest to the first. Where its memory is
+//! refused, all entries are looked at. No answer depends on it.
 ghost use Rattle.std.specs.Prelude.{◌≡◌, ◌<◌, ℕ, List, length, map, MatchOption, true};
 ghost use Rattle.pix_table.specs.PaletteMatch.{IsFirstOf};
 ghost use Rattle.pix_palette.specs.Palette.{numbers};
@@ -13,14 +15,14 @@ use pix_el::rgb::SRgb8;
 use pix_table::TableColor;
 use std::alloc::Global;
 
-/// With fewer entries than these all are looked at.
+/// With fewer entries than this, all are looked at.
 const FEW: usize = 128;
 
-/// Before the places are made, entries are compared with colors: so many times as many as there are then and [`MORE`] besides.
-/// That takes longer than to make the places.
+/// The places are made after a number of comparisons of entries with colors: this many times the
+/// sum of the number of entries and [`MORE`]. These take longer than making the places.
 const TIMES: usize = 4;
 
-/// How many entries are counted beside those that there are.
+/// What is added to the number of entries there.
 const MORE: usize = 2048;
 
 /// The entries by the places of their colors, and what finds an entry near a color.
@@ -45,7 +47,7 @@ fn place_of(clr: SRgb8) -> usize
 }
 
 impl Finder {
-    /// Makes a finder of no entries, which takes no memory. It may come to have `room` entries.
+    /// Makes a finder of no entries, and takes no memory. It may later have up to `room` entries.
     pub(super) fn new(alloc: Global, room: usize) -> Finder
         ensures { (colors : List (List ℕ)) → Follows colors result }
     {
@@ -57,7 +59,8 @@ impl Finder {
         }
     }
 
-    /// Makes the lists, if there are none, there are enough entries, and enough of them were compared with colors; returns whether they are made.
+    /// Makes the lists, if there are none yet, there are enough entries, and enough of them were
+    /// compared with colors. Returns whether they are made.
     fn make(&mut self, alloc: Global, count: usize) -> bool
         ensures lists { (colors : List (List ℕ))
             → AreLists place colors self.old.lists.latest.items self.old.lists.earlier.items
@@ -79,7 +82,7 @@ impl Finder {
         self.lists.take_memory(alloc, self.room)
     }
 
-    /// Adds the entries that came after those which it has; returns whether it has all of them then.
+    /// Adds the entries that it lacks. Returns whether it has all of them then.
     pub(super) fn follow(&mut self, alloc: Global, colors: &[SRgb8]) -> bool
         requires { Follows (map numbers colors.now) self.old }
         ensures finder { Follows (map numbers colors.now) self.new }
@@ -97,7 +100,7 @@ impl Finder {
         true
     }
 
-    /// Returns the first entry that is a color.
+    /// Returns the first entry that equals a color.
     ///
     /// Condition: the finder has all entries.
     pub(super) fn first(&self, colors: &[SRgb8], clr: SRgb8) -> Option<usize>

@@ -1,4 +1,4 @@
-//! Indices into a palette, and how often each stands in a list.
+//! Indices into a palette, and how often each is in a list.
 ghost use Rattle.std.specs.Prelude.{◌≡◌, ◌≤◌, ◌<◌, ◌^◌, ℕ, length, replicate, slice_index_or, true, false, All, Any, [], ◌∷◌};
 ghost use Rattle.pix_palette.specs.Histogram.{IsHistogram};
 
@@ -97,7 +97,8 @@ impl IndexPixel for Gray16 {
     }
 }
 
-/// Adds how often each index stands in the list to the counts, which are 0; returns whether all indices have a count.
+/// Adds how often each index is in the list to the counts, which are 0. Returns whether all indices
+/// have a count.
 pub(super) fn count_indices<T: PaletteIndex>(counts: &mut [usize], indices: &[T]) -> bool
     requires { counts.old ≡ replicate (length counts.old) 0 }
     ensures counted { result ≡ true

@@ -21,13 +21,15 @@ use pix_table::Cache;
 use std::alloc::Global;
 
 impl Palette {
-    /// Makes a raster of indices: from left to right and row by row, the color of each pixel is set, and the value of the pixel at its place is its
-    /// index. Answers `None` at the first pixel whose color can't be set or whose index is above 255; the entries
-    /// that were added stay, one for this pixel included.
+    /// Makes a raster of indices: from left to right and row by row, the color of each pixel is
+    /// set, and the value of the pixel at its place is its index. Returns `None` at the first pixel
+    /// whose color can't be set or whose index is above 255; the entries that were added stay, one
+    /// for this pixel included.
     ///
     /// # Errors
     ///
-    /// `Memory` on allocation failure, with the raster; it comes first, and the palette is unchanged.
+    /// `Memory` on allocation failure, with the raster; it comes first, and the palette is
+    /// unchanged.
     ///
     /// # Examples
     ///
@@ -48,7 +50,8 @@ impl Palette {
         Ch8: From<S::Chan>,
         S::Gamma: Gamma<Ch8>,
 
-        // The entry at each index is the color, or within a threshold; without a threshold function it is the color.
+        // The entry at each index is the color, or within a threshold; without a threshold function
+        // it is the color.
         ensures indexed { IfOk result (λ answer. IsIndexed Threshold.post
             (option_map (λ chosen. chosen.f) self.old.threshold) self.old.limit 255
             ⟦<Gray8 as Pixel>⟧.numbers raster.width raster.height
@@ -62,13 +65,15 @@ impl Palette {
         self.index_raster(alloc, raster)
     }
 
-    /// Makes a raster of indices: from left to right and row by row, the color of each pixel is set, and the value of the pixel at its place is its
-    /// index. Answers `None` at the first pixel whose color can't be set or whose index is above 65535; the entries
-    /// that were added stay, one for this pixel included.
+    /// Makes a raster of indices: from left to right and row by row, the color of each pixel is
+    /// set, and the value of the pixel at its place is its index. Returns `None` at the first pixel
+    /// whose color can't be set or whose index is above 65535; the entries that were added stay,
+    /// one for this pixel included.
     ///
     /// # Errors
     ///
-    /// `Memory` on allocation failure, with the raster; it comes first, and the palette is unchanged.
+    /// `Memory` on allocation failure, with the raster; it comes first, and the palette is
+    /// unchanged.
     ///
     /// # Examples
     ///
@@ -89,7 +94,8 @@ impl Palette {
         Ch8: From<S::Chan>,
         S::Gamma: Gamma<Ch8>,
 
-        // The entry at each index is the color, or within a threshold; without a threshold function it is the color.
+        // The entry at each index is the color, or within a threshold; without a threshold function
+        // it is the color.
         ensures indexed { IfOk result (λ answer. IsIndexed Threshold.post
             (option_map (λ chosen. chosen.f) self.old.threshold) self.old.limit 65535
             ⟦<Gray16 as Pixel>⟧.numbers raster.width raster.height
@@ -103,7 +109,7 @@ impl Palette {
         self.index_raster(alloc, raster)
     }
 
-    /// Sets a color: answers its index, or `None` where there is none up to `greatest`.
+    /// Sets a color, and returns its index, or `None` where there is none up to `greatest`.
     fn set_index(
         &mut self,
         alloc: Global,
@@ -133,8 +139,8 @@ impl Palette {
         }
     }
 
-    /// Sets the color of each pixel, and sets the pixel of `indices` at the same place to its index, up to the first that has no index;
-    /// returns whether all have one.
+    /// Sets the color of each pixel, and the pixel of `indices` at the same place to its index. It
+    /// stops at the first pixel without an index. Returns whether all have one.
     fn index_pixels<S, P>(&mut self, alloc: Global, pixels: &[S], indices: &mut [P]) -> bool
     where
         S: Pixel,
@@ -165,11 +171,13 @@ impl Palette {
         true
     }
 
-    /// Indexes a raster by pixels that hold an index: the raster of indices, or `None` where a pixel has none.
+    /// Indexes a raster. Returns the raster of indices, whose pixels hold an index, or `None` where
+    /// a pixel has no index.
     ///
     /// # Errors
     ///
-    /// `Memory` on allocation failure, with the raster; it comes first, and the palette is unchanged.
+    /// `Memory` on allocation failure, with the raster; it comes first, and the palette is
+    /// unchanged.
     fn index_raster<S, P>(
         &mut self,
         alloc: Global,

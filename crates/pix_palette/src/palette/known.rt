@@ -1,4 +1,4 @@
-//! Colors that are kept beside a palette while an image is indexed.
+//! Colors that are cached beside a palette while an image is indexed.
 ghost use Rattle.std.specs.Prelude.{◌≡◌, ℕ, List, [], ◌∷◌, map, true};
 ghost use Rattle.std.specs.Option.{option_map};
 ghost use Rattle.pix_table.specs.Kept.{AreRight};
@@ -22,7 +22,8 @@ fn is_zero(clr: Color) -> bool
 }
 
 impl Palette {
-    /// Returns the entry that stands for a color: the first that is the color, which the finder knows, or else one within the threshold.
+    /// Returns the entry that stands for a color. It is the first that equals the color, which the
+    /// finder knows, or else one within the threshold.
     ///
     /// Condition: the finder has all entries.
     fn standing_found(&self, alloc: Global, finder: &mut Finder, clr: SRgb8) -> Option<usize>
@@ -40,7 +41,8 @@ impl Palette {
         }
     }
 
-    /// Returns the entry that stands for a color which no entry is: there is none where the threshold is 0, and then nothing is made.
+    /// Returns the entry that stands for a color which no entry equals. Where the threshold is 0
+    /// there is none, and then nothing is made.
     fn standing_near(&self, alloc: Global, near: &mut Near, clr: SRgb8) -> Option<usize>
         requires nowhere { IsNowhere (map numbers self.now.colors.items) (numbers clr) }
         requires near { HasNear (map numbers self.now.colors.items) near.old }
@@ -56,7 +58,8 @@ impl Palette {
         near.standing(alloc, &self.colors, clr.color(), threshold)
     }
 
-    /// Returns the entry that stands for a color, by a finder that is made and follows the palette where there are enough entries.
+    /// Returns the entry that stands for a color. It uses a finder, which is made and kept up to
+    /// date where there are enough entries.
     fn standing_known(&self, alloc: Global, finder: &mut Finder, clr: SRgb8) -> Option<usize>
         requires finder { Follows (map numbers self.now.colors.items) finder.old }
         ensures standing { StandsFor
@@ -71,7 +74,7 @@ impl Palette {
         }
     }
 
-    /// Makes a finder of no entries for so many colors that are set one after the other.
+    /// Makes a finder of no entries for this many colors that are set one after the other.
     pub(super) fn finder_of(&self, alloc: Global, count: usize) -> Finder
         ensures { (colors : List (List ℕ)) → Follows colors result }
     {
@@ -79,7 +82,7 @@ impl Palette {
         Finder::new(alloc, most.min(self.limit))
     }
 
-    /// Sets a color as `set_entry` does; a color that is kept takes no search.
+    /// Sets a color as `set_entry` does. A cached color takes no search.
     pub(super) fn set_known(
         &mut self,
         alloc: Global,

@@ -1,4 +1,4 @@
-//! Colors that are set in memory which a caller lends.
+//! Colors that are set in memory that a caller lends.
 ghost use Rattle.std.specs.Prelude.{◌≡◌, ◌≤◌, length, take, Some, None, true, if◌then◌else◌};
 ghost use Rattle.pix_table.specs.Setting.{Always, IsSet};
 ghost use Rattle.pix_table.specs.Indexing.{AreIndexed};
@@ -11,8 +11,9 @@ use pix_el::el::Pixel;
 use pix_el::rgb::SRgb8;
 use pix_table::{Beside, TableColor, set_kept};
 
-/// Sets the color of each pixel among the first `len` of `slots`, and the pixel of `indices` at its place to its index, up to the first that has
-/// none; returns whether all have one, and the number of colors afterwards.
+/// Sets the color of each pixel among the first `len` of `slots`, and the pixel of `indices` at its
+/// place to its index. It stops at the first pixel without an index. Returns whether all have one,
+/// and the number of colors afterwards.
 pub(super) fn index_in<S, P>(
     slots: &mut [SRgb8],
     len: usize,

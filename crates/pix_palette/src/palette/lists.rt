@@ -1,6 +1,7 @@
-//! Lists of the entries of a palette, one for each of so many places that a color may have: from the latest entry of a place to the first.
+//! Lists of the entries of a palette, one for each place that a color may have. A list goes from
+//! the latest entry of a place to the first.
 //!
-//! Their memory is asked for once. Where that is refused there are none: no answer depends on them.
+//! Their memory is allocated once. Where that fails there are none. No answer depends on them.
 ghost use Rattle.std.specs.Prelude.{◌≡◌, ◌+◌, ◌<◌, ℕ, List, length, true};
 ghost use Rattle.pix_palette.specs.Finder.{AreLists, place_at};
 
@@ -12,7 +13,8 @@ const PLACES: usize = 16384;
 /// The greatest number of entries.
 const MOST: usize = 4294967295;
 
-/// The latest entry of each place, and for each entry the one before it: indices plus one, or 0 where there is none.
+/// The latest entry of each place, and for each entry the one before it. They are indices plus one,
+/// or 0 where there is none.
 #[derive(Drop)]
 pub(super) struct Lists {
     pub(super) latest: Vec<u32>,
@@ -21,7 +23,7 @@ pub(super) struct Lists {
 }
 
 impl Lists {
-    /// Makes lists of no entries, which takes no memory.
+    /// Makes lists of no entries, and takes no memory.
     pub(super) fn new(alloc: Global) -> Lists
         ensures { (placing : List ℕ → ℕ) (colors : List (List ℕ))
             → AreLists placing colors result.latest.items result.earlier.items }
@@ -33,7 +35,7 @@ impl Lists {
         }
     }
 
-    /// Asks for the memory of all places and of `room` entries, once; returns whether it was given.
+    /// Allocates memory once for all places and for `room` entries. Returns whether that succeeded.
     pub(super) fn take_memory(&mut self, alloc: Global, room: usize) -> bool
         ensures lists { (placing : List ℕ → ℕ) (colors : List (List ℕ))
             → AreLists placing colors self.old.latest.items self.old.earlier.items
@@ -60,7 +62,7 @@ impl Lists {
         true
     }
 
-    /// Adds the next entry, whose color has a place; returns whether there is room for it.
+    /// Adds the next entry, given the place of its color. Returns whether there is room for it.
     pub(super) fn add(&mut self, place: usize) -> bool
         requires made { length self.old.latest.items ≡ 16384 }
         requires below { place < 16384 }

@@ -23,11 +23,14 @@ use std::alloc::Global;
 pub(super) const ENTRIES: usize = 256;
 
 impl ColorTable {
-    /// Makes a table of the colors of a raster, of at most `limit` entries: its distinct colors in order of first place, where there are no more than
-    /// that, and else the means of boxes of colors, by median cut. Answers `None` where the limit is 0 or above 256.
+    /// Makes a table of the colors of a raster, of at most `limit` entries. Where the raster has no
+    /// more distinct colors than that, the entries are those colors in order of first place. Else
+    /// they are the means of boxes of colors, by median cut. Returns `None` where the limit is 0 or
+    /// above 256.
     ///
-    /// Pixels whose alpha is below `alpha` do not count; by 0 each does. To keep an index for those, make a table of one entry less than there may be
-    /// indices: its limit is an index that no entry has. The threshold of the table is 0.
+    /// Pixels whose alpha is below `alpha` do not count. With an `alpha` of 0 every pixel counts.
+    /// To keep an index for the others, make a table of one entry less than there may be indices.
+    /// Its limit is then an index that no entry has. The threshold of the table is 0.
     ///
     /// # Errors
     ///
@@ -61,8 +64,10 @@ impl ColorTable {
         table_of(alloc, shades.pixels(), limit, alpha)
     }
 
-    /// Makes a raster of indices: the value of each pixel is the index of the entry that is nearest to the color of the pixel at its place, the first of
-    /// equals; or `kept`, where the alpha of that pixel is below `alpha`. Answers `None` where there is no entry, or more than 256.
+    /// Makes a raster of indices. The value of each pixel is the index of the entry that is nearest
+    /// to the color of the pixel at its place, the first of equals. It is `kept` instead where the
+    /// alpha of that pixel is below `alpha`. Returns `None` where there is no entry, or more than
+    /// 256.
     ///
     /// # Errors
     ///
@@ -103,12 +108,14 @@ impl ColorTable {
         Ok(Some(image))
     }
 
-    /// Makes a raster of indices by error diffusion: the value of each pixel is the index of the entry that is nearest to its color and what it gets of
-    /// the errors of the pixels before it; or `kept`, where its alpha is below `alpha`, and then it hands on no error. Answers `None` where there is no
-    /// entry, or more than 256.
+    /// Makes a raster of indices by error diffusion. The value of each pixel is the index of the
+    /// entry that is nearest to its color plus its share of the errors of the pixels before it. It
+    /// is `kept` instead where the pixel's alpha is below `alpha`, and then the pixel hands on no
+    /// error. Returns `None` where there is no entry, or more than 256.
     ///
-    /// The error of a pixel is what was wanted there less the entry that was found: 7 sixteenths of it go to the pixel on the right, 3 to the one below
-    /// on the left, 5 to the one below, and 1 to the one below on the right.
+    /// The error of a pixel is what was wanted there less the entry that was found. The pixel on
+    /// the right gets 7 sixteenths of it, the one below on the left 3, the one below 5, and the one
+    /// below on the right 1.
     ///
     /// # Errors
     ///
@@ -155,7 +162,7 @@ impl ColorTable {
     }
 }
 
-/// Makes a copy of a raster, whose pixels are colors with an alpha.
+/// Makes a copy of a raster whose pixels are colors with an alpha.
 fn shades<S>(alloc: Global, raster: &Raster<S>) -> Result<Raster<SRgba8>, RasterFault>
 where
     S: Pixel,
@@ -197,7 +204,8 @@ fn table_of(
     Ok(Some(table))
 }
 
-/// Makes the indices of the entries that are nearest to pixels, or of the one that is kept; or `None` where there is no entry, or more than 256.
+/// Makes, for each pixel, the index of the nearest entry or the kept index. Returns `None` where
+/// there is no entry, or more than 256.
 fn matched(
     alloc: Global,
     colors: &[SRgb8],
@@ -219,7 +227,8 @@ fn matched(
     Ok(Some(indices))
 }
 
-/// Makes the indices of the pixels of rows by error diffusion; or `None` where there is no entry, or more than 256.
+/// Makes the indices of the pixels of rows by error diffusion. Returns `None` where there is no
+/// entry, or more than 256.
 fn diffused(
     alloc: Global,
     colors: &[SRgb8],
@@ -246,7 +255,7 @@ fn diffused(
     Ok(Some(indices))
 }
 
-/// Sets the first of some slots to colors, of which there are no more than slots.
+/// Sets the first of some slots to colors. There are no more colors than slots.
 fn copy_colors<C: TableColor>(colors: &[C], slots: &mut [SRgb8])
     requires { length colors.now ≤ length slots.old }
     ensures colors { map numbers (take (length colors.now) slots.new)

@@ -19,8 +19,9 @@ use pix_table::{Color, NearestSearch, SearchVisitor, TableColor, visit_nearest};
 use std::alloc::Global;
 
 impl ColorTable {
-    /// Makes a raster of indices: the value of each pixel is the index of the entry that is nearest to the color of the pixel at its place, the first of
-    /// equals. Answers `None` where there is no entry, or more than 256.
+    /// Makes a raster of indices. The value of each pixel is the index of the entry that is nearest
+    /// to the color of the pixel at its place, the first of equals. Returns `None` where there is
+    /// no entry, or more than 256.
     ///
     /// # Errors
     ///
@@ -63,7 +64,8 @@ impl ColorTable {
         }
     }
 
-    /// Makes a raster of the colors of indices: each pixel is the entry of the index at its place. Answers `None` where an index is past the end.
+    /// Makes a raster of the colors of indices. Each pixel is the entry of the index at its place.
+    /// Returns `None` where an index is past the end.
     ///
     /// # Errors
     ///
@@ -102,7 +104,7 @@ impl ColorTable {
     }
 }
 
-/// Pixels, to each of which the nearest entry of a table is looked for.
+/// Pixels, for each of which the nearest entry of a table is searched.
 #[derive(Drop)]
 struct Mapping<'a, S> {
     pixels: &'a [S],
@@ -123,7 +125,7 @@ where
         (slice_index_or (colors_of S.format ⟦<S::Gamma as Gamma<Ch8>>⟧.mode S.numbers mapping.pixels.now)
         k []) (slice_index (values P.numbers new) k)) × AreGray P.numbers new };
 
-    // Out of line: where it is inlined, a matcher is put together on the stack beside its place.
+    // Out of line. Where it is inlined, a matcher is put together on the stack beside its place.
     #[inline(never)]
     fn visit<N: NearestSearch>(&self, search: &mut N, items: &mut [P], _work: &mut [Color]) {
         for i in 0..items.len() {
@@ -134,7 +136,8 @@ where
     }
 }
 
-/// Sets the pixel of `indices` at the place of each pixel to the index of the entry that is nearest to its color.
+/// Sets the pixel of `indices` at the place of each pixel to the index of the entry that is nearest
+/// to its color.
 fn map_pixels<S, P>(colors: &[SRgb8], pixels: &[S], indices: &mut [P])
 where
     S: Pixel,
@@ -154,7 +157,8 @@ where
     visit_nearest(colors, &mapping, indices, &mut []);
 }
 
-/// Sets each pixel to the entry of the index at its place, up to the first index that is past the end; returns whether there is none.
+/// Sets each pixel to the entry of the index at its place, up to the first index that is past the
+/// end. Returns whether there is no such index.
 fn look_up_pixels<P: IndexPixel>(entries: &[SRgb8], indices: &[P], pixels: &mut [SRgb8]) -> bool
     requires { length pixels.old ≡ length indices.now }
     ensures inside { result ≡ all_below (length entries.now) (values P.numbers indices.now) }

@@ -1,6 +1,7 @@
-//! What finds an entry near a color: lists of the entries by cells, and blocks of them.
+//! What finds an entry near a color: lists of the entries in cells, and blocks of entries.
 //!
-//! Each asks for its memory once. Where it is refused the search takes longer: no answer depends on it.
+//! Each allocates its memory once. Where that fails the search takes longer. No answer depends on
+//! it.
 ghost use Rattle.std.specs.Prelude.{◌≡◌, ◌+◌, ◌<◌, ℕ, List, length, map, true, false};
 ghost use Rattle.pix_table.specs.Nearest.{numbers as color_numbers};
 ghost use Rattle.pix_table.specs.PaletteMatch.{IsMatch, difference_to, is_within};
@@ -17,7 +18,7 @@ use pix_table::{
 };
 use std::alloc::Global;
 
-/// Where about as many cells as these are near a color, or more, they are not looked at.
+/// Where about this many cells are near a color, or more, they are not looked at.
 const MANY: usize = 100;
 
 /// The entries by cells, and blocks of the first entries.
@@ -29,7 +30,8 @@ pub(super) struct Near {
 }
 
 impl Near {
-    /// Makes lists and blocks of no entries, which takes no memory. They may come to be of `room` entries.
+    /// Makes lists and blocks of no entries, and takes no memory. They may later have up to `room`
+    /// entries.
     pub(super) fn new(alloc: Global, room: usize) -> Near
         ensures { (colors : List (List ℕ)) → HasNear colors result }
     {
@@ -40,7 +42,7 @@ impl Near {
         }
     }
 
-    /// Adds to the lists the entries that came after those which they have; returns whether they have all of them then.
+    /// Adds to the lists the entries that they lack. Returns whether they have all of them then.
     fn follow_cells(&mut self, alloc: Global, colors: &[SRgb8]) -> bool
         requires { HasNear (map numbers colors.now) self.old }
         ensures near { HasNear (map numbers colors.now) self.new }
@@ -58,7 +60,8 @@ impl Near {
         true
     }
 
-    /// Returns whether no entry is within a threshold of a color, as far as the cells about it tell: where they are many it answers `false`.
+    /// Returns whether the cells around a color show that no entry is within a threshold of it.
+    /// Where they are many it returns `false`.
     ///
     /// Condition: the lists have all entries.
     fn has_none(&self, colors: &[SRgb8], clr: Color, threshold: Color) -> bool
@@ -75,7 +78,8 @@ impl Near {
         self.cells.next_near(colors, clr, threshold, 0) == colors.len()
     }
 
-    /// Returns the match of a color, with its difference: by blocks, and once few cells are as near as the last candidate, by cells.
+    /// Returns the match of a color, with its difference. It searches blocks, and then cells, once
+    /// few cells are as near as the last candidate.
     ///
     /// Conditions: there is an entry, and the lists have all entries.
     fn closest(&self, colors: &[SRgb8], clr: Color) -> (usize, Color)
@@ -101,8 +105,8 @@ impl Near {
         self.cells.closest_after(colors, clr, first)
     }
 
-    /// Returns the entry that stands for a color, as [`standing`](pix_table::standing) does: there is none where no entry is near, and then no blocks are
-    /// made.
+    /// Returns the entry that stands for a color, as [`standing`](pix_table::standing) does. Where
+    /// no entry is near there is none, and then no blocks are made.
     ///
     /// Condition: the lists have all entries.
     fn standing_whole(
@@ -134,8 +138,8 @@ impl Near {
         }
     }
 
-    /// Returns the entry that stands for a color, as [`standing`](pix_table::standing) does: by cells and blocks, or by blocks alone, as far as there is
-    /// memory.
+    /// Returns the entry that stands for a color, as [`standing`](pix_table::standing) does. It
+    /// uses cells and blocks, or blocks alone, as far as there is memory.
     pub(super) fn standing(
         &mut self,
         alloc: Global,

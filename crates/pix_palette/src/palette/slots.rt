@@ -3,8 +3,9 @@ ghost use Rattle.std.specs.Prelude.{◌≤◌, vec_len};
 
 use pix_el::rgb::SRgb8;
 
-/// A list of colors, no more than its limit, with a constant threshold. A color that is set is answered by one of them within the threshold, or added,
-/// as [`Palette::set_entry`](crate::Palette::set_entry) does.
+/// A list of colors, no more than its limit, with a constant threshold. Setting a color finds one
+/// of them within the threshold, or adds the color, as
+/// [`Palette::set_entry`](crate::Palette::set_entry) does.
 ///
 /// # Examples
 ///

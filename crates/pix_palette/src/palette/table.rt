@@ -4,7 +4,7 @@ ghost use Rattle.std.specs.Option.{ForSome};
 
 use pix_el::rgb::SRgb8;
 
-/// A function that answers a threshold for a number of entries.
+/// A function that returns a threshold for a number of entries.
 pub type Threshold = fn(usize) -> SRgb8;
 
 /// A threshold function that may be called for every number of entries up to a limit.
@@ -15,7 +15,8 @@ pub struct ThresholdFn {
     ghost callable: { (n : ℕ) → n ≤ limit → Threshold.pre f n },
 }
 
-/// A list of colors, no more than its limit. A color that is set is answered by one of them within a threshold, or added.
+/// A list of colors, no more than its limit. Setting a color finds one of them within a threshold,
+/// or adds the color.
 ///
 /// # Examples
 ///
