@@ -28,10 +28,11 @@ const BAD_SIZE: u32 = 1;
 /// The source isn't held in its bytes.
 const BAD_SOURCE: u32 = 5;
 
-/// There is no format of such a number.
+/// There is no format of that number.
 pub const BAD_FORMAT: u32 = 6;
 
-/// Returns how many bytes a pixel of the format of a number has, and 0 where there is no such format.
+/// Returns how many bytes a pixel of the format of a number has, and 0 where there is no such
+/// format.
 pub fn pixel_size(number: u32) -> u32
     ensures { result ≡ pixel_size_of number }
 {
@@ -41,11 +42,13 @@ pub fn pixel_size(number: u32) -> u32
     }
 }
 
-/// Writes a bitmap from another, `src`, of the same size: each pixel in the format of number `to` in place of `from`.
+/// Writes a bitmap from another, `src`, of the same size. Each pixel is converted from the format
+/// of number `from` to that of number `to`.
 ///
-/// Rows lie a stride of bytes apart, from top to bottom, and where it is negative from bottom to top: then the bytes begin with the last row.
-/// Returns 0 when all pixels are written. Else nothing is, and the status is 6 where a format is missing, 1 where `dst` doesn't hold the
-/// rows, or they would share bytes, and 5 where `src` doesn't.
+/// Rows lie a stride of bytes apart, from top to bottom. With a negative stride they go from bottom
+/// to top, and the bytes start with the last row. Returns 0 when all pixels are written. Else
+/// nothing is written. The status is then 6 where a format is missing, 1 where `dst` doesn't hold
+/// the rows, or they would share bytes, and 5 where `src` doesn't.
 pub fn convert_bitmap(
     from: u32,
     to: u32,
@@ -76,7 +79,7 @@ pub fn convert_bitmap(
         return BAD_SOURCE;
     }
     if width == 0 {
-        // Rows without pixels may be many.
+        // There may be many rows without pixels.
         return DONE;
     }
     let (width, height) = (width as usize, height as usize);

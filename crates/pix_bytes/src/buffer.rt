@@ -16,15 +16,16 @@ use pix_el::rgb::Rgb;
 
 mod bytes;
 
-/// A buffer is not as long as its pixels.
+/// The length of a buffer is not that of its pixels.
 pub const BAD_LENGTH: u32 = 7;
 
-/// Converts `count` pixels of `src`, which have the format of number `from`, to the format of number `to`, and writes them to `dst`.
+/// Converts `count` pixels of `src`, which have the format of number `from`, to the format of
+/// number `to`, and writes them to `dst`.
 ///
 /// A pixel is its channels in order, one byte each, and no byte stands between two pixels.
 ///
-/// Returns 0 when they are converted. Else nothing is written, and the status is 6 where `from` or `to` is no format's number, and
-/// otherwise 7 where a buffer is not `count` pixels long.
+/// Returns 0 when they are converted. Else nothing is written, and the status is 6 where `from` or
+/// `to` is no format's number, and otherwise 7 where a buffer is not `count` pixels long.
 pub fn convert_buffer(from: u32, to: u32, src: &[u8], dst: &mut [u8], count: usize) -> u32
     ensures status { result ≡
         conversion_status from to (length src.now) (length dst.old) count }
@@ -46,7 +47,8 @@ pub fn convert_buffer(from: u32, to: u32, src: &[u8], dst: &mut [u8], count: usi
     DONE
 }
 
-/// Returns the number of channels of a pixel of the format of this number, if there is such a format.
+/// Returns the number of channels of a pixel of the format of this number, if there is such a
+/// format.
 fn channel_count(number: u32) -> Option<usize>
     ensures { result ≡ option_map channels (slice_get formats number) }
 {
@@ -65,7 +67,8 @@ fn are_pixels(len: usize, wide: usize, count: usize) -> bool
     count.checked_mul(wide) == Some(len)
 }
 
-/// Converts pixels of the format of number `from` to the format of number `to`. Condition: there are `count` in both buffers.
+/// Converts pixels of the format of number `from` to the format of number `to`. Condition: there
+/// are `count` in both buffers.
 fn convert(from: u32, to: u32, src: &[u8], dst: &mut [u8], count: usize)
     requires src { length src.now ≡ count * channels_of from }
     requires dst { length dst.old ≡ count * channels_of to }
@@ -123,9 +126,11 @@ where
     }
 }
 
-/// Converts pixels of `N` channels of the model `M` to pixels of `K` channels of the model `L`, each in modes of its own.
+/// Converts pixels of `N` channels of the model `M` to pixels of `K` channels of the model `L`,
+/// each in modes of its own.
 ///
-/// Condition: there are `count` in both buffers, `N` is at most four, and `K` no more than the channels of `L`.
+/// Condition: there are `count` in both buffers, `N` is at most four, and `K` no more than the
+/// channels of `L`.
 fn convert_pixels<const N: usize, M, A, G, const K: usize, L, B, H>(
     src: &[u8],
     dst: &mut [u8],

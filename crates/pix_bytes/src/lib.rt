@@ -1,4 +1,5 @@
-//! Pixels in bytes: all formats by number, and buffers and bitmaps of them, each written from another.
+//! Pixels in bytes: all formats by number, and buffers and bitmaps of them, each written from
+//! another.
 #![tactic(auto)]
 
 pub mod bitmap;

@@ -5,14 +5,16 @@ ghost use Rattle.pix_bytes.specs.Stored.{StoredFormat, pixel_size_of, stored_for
 
 use pix_bytes::bitmap;
 
-/// Writes a bitmap from another, `src`, of `width` columns and `height` rows: each pixel in the format of number `to` in place of `from`.
-/// Between sRGB formats of 8 bits and linear ones of 16 bits a pixel goes through light.
+/// Writes a bitmap from another, `src`, of `width` columns and `height` rows. Each pixel is
+/// converted from the format of number `from` to that of number `to`. Between sRGB formats of 8
+/// bits and linear ones of 16 bits a pixel goes through light.
 ///
-/// Rows lie a stride of bytes apart, from top to bottom, and where it is negative from bottom to top: then the bytes begin with the last row.
-/// What stands between the rows stays.
+/// Rows lie a stride of bytes apart, from top to bottom. With a negative stride they go from bottom
+/// to top, and the bytes start with the last row. Bytes between the rows stay as they are.
 ///
-/// Returns 0 when all pixels are written. Else nothing is, and the status is 6 where `from` or `to` is no format's number, otherwise 1 where
-/// `dst` doesn't hold the rows, or they would share bytes, and otherwise 5 where `src` doesn't.
+/// Returns 0 when all pixels are written. Else nothing is written. The status is then 6 where
+/// `from` or `to` is no format's number, otherwise 1 where `dst` doesn't hold the rows, or they
+/// would share bytes, and otherwise 5 where `src` doesn't.
 #[unsafe(no_mangle)]
 pub extern "C" fn pix_convert_rows(
     from: u32,
@@ -34,7 +36,8 @@ pub extern "C" fn pix_convert_rows(
     bitmap::convert_bitmap(from, to, src, dst, src_stride, dst_stride, width, height)
 }
 
-/// Returns how many bytes a pixel of the format of a number has, and 0 where there is no such format.
+/// Returns how many bytes a pixel of the format of a number has, and 0 where there is no such
+/// format.
 #[unsafe(no_mangle)]
 pub extern "C" fn pix_pixel_size(format: u32) -> u32
     ensures { result ≡ pixel_size_of format }

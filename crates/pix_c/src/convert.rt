@@ -5,13 +5,15 @@ ghost use Rattle.pix_bytes.specs.Converted.{IsConverted, conversion_status};
 
 use pix_bytes::buffer;
 
-/// Converts `count` pixels of `src`, which have the format of number `from`, to the format of number `to`, and writes them to `dst`.
+/// Converts `count` pixels of `src`, which have the format of number `from`, to the format of
+/// number `to`, and writes them to `dst`.
 ///
-/// A pixel is its channels in order, one byte each, and no byte stands between two pixels. The formats are 0 `SRgba8`, 1 `SRgba8p`,
-/// 2 `Rgba8`, 3 `Rgba8p`, 4 `Bgra8`, 5 `Bgra8p`, 6 `Rgb8`, 7 `Gray8`, 8 `SBgra8`, 9 `SBgra8p`, 10 `SRgb8` and 11 `SGray8`.
+/// A pixel is its channels in order, one byte each, and no byte stands between two pixels. The
+/// formats are 0 `SRgba8`, 1 `SRgba8p`, 2 `Rgba8`, 3 `Rgba8p`, 4 `Bgra8`, 5 `Bgra8p`, 6 `Rgb8`, 7
+/// `Gray8`, 8 `SBgra8`, 9 `SBgra8p`, 10 `SRgb8` and 11 `SGray8`.
 ///
-/// Returns 0 when they are converted. Else nothing is written, and the status is 6 where `from` or `to` is no format's number, and
-/// otherwise 7 where a buffer is not `count` pixels long.
+/// Returns 0 when they are converted. Else nothing is written, and the status is 6 where `from` or
+/// `to` is no format's number, and otherwise 7 where a buffer is not `count` pixels long.
 #[unsafe(no_mangle)]
 pub extern "C" fn pix_convert_bytes(
     from: u32,

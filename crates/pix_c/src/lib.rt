@@ -1,7 +1,7 @@
-//! The library for C and other languages: a list of commands is run on the caller's own pixels, in place, and buffers of pixels are
-//! converted from one format to another.
+//! The library for C and other languages. It runs a list of commands on the caller's own pixels, in
+//! place, and converts buffers of pixels from one format to another.
 //!
-//! It takes no memory, keeps nothing between two calls, and answers every refusal by a status.
+//! It takes no memory, keeps nothing between two calls, and reports every refusal with a status.
 #![tactic(auto)]
 
 ghost use Rattle.std.specs.Prelude.{◌≡◌, ◌≢◌, length, map};
@@ -37,11 +37,13 @@ pub use pix_flat::command::{PixCommand, PixCommandGraya8, PixCommandRgba16, PixR
 pub use pix_flat::format::{PixGraya8, PixRgba8, PixRgba16};
 use pix_flat::run;
 
-/// Runs `commands` in order on an image of `width` columns and `height` rows, which start `stride` pixels apart in `pixels`.
+/// Runs `commands` in order on an image of `width` columns and `height` rows, which start `stride`
+/// pixels apart in `pixels`.
 ///
-/// Returns 0 when all are done. Else nothing was painted, and the status says why: the image is not in `pixels`, or the first command
-/// that is refused. `done` is the number of commands before that one, 0 where the image is refused, and the number of all when
-/// they are done.
+/// Returns 0 when all are done. Else nothing was painted. The status then says that the image is
+/// not in `pixels`, or why the first refused command is refused. `done` is the number of commands
+/// before that one. It is 0 where the image is refused, and the number of all commands when they
+/// are done.
 #[unsafe(no_mangle)]
 pub extern "C" fn pix_run_commands(
     pixels: &mut [PixRgba8],

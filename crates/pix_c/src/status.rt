@@ -1,4 +1,4 @@
-//! Statuses, of the crates that answer them.
+//! Statuses, from the crates that return them.
 
 pub use pix_bytes::bitmap::BAD_FORMAT;
 pub use pix_bytes::buffer::BAD_LENGTH;

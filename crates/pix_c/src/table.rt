@@ -22,7 +22,7 @@ use pix_table::{
 /// A table has no entry, or more than 256.
 pub const BAD_TABLE: u32 = 11;
 
-/// An index is past the end, or takes more bits than it is to have.
+/// An index is past the end, or takes more bits than it may.
 pub const BAD_INDEX: u32 = 12;
 
 /// Indices take 1, 2, 4 or 8 bits.
@@ -61,10 +61,10 @@ impl TablePixel for PixSrgba8 {
     }
 }
 
-/// Writes the index of the entry that is nearest to a color, the first of equals, by the sum of the squares of the differences of red, green
-/// and blue.
+/// Writes the index of the entry that is nearest to a color, the first of equals. The distance is
+/// the sum of the squares of the differences in red, green and blue.
 ///
-/// Returns 0, or 11 where there is no entry or more than 256: then nothing is written.
+/// Returns 0, or 11 where there is no entry or more than 256. With 11 nothing is written.
 #[unsafe(no_mangle)]
 pub extern "C" fn pix_table_nearest(entries: &[Color], clr: &Color, index: &mut u8) -> u32
     ensures status { result ≡ nearest_status (length entries.now) }
@@ -84,10 +84,11 @@ pub extern "C" fn pix_table_nearest(entries: &[Color], clr: &Color, index: &mut 
     }
 }
 
-/// Writes for each pixel the index of the entry that is nearest to it, as [`pix_table_nearest`].
+/// Writes for each pixel the index of the entry that is nearest to it, as [`pix_table_nearest`]
+/// does.
 ///
-/// Returns 0 when they are written. Else nothing is, and the status is 11 where there is no entry or more than 256, and otherwise 7 where
-/// there are not as many indices as pixels.
+/// Returns 0 when they are written. Else nothing is written. The status is then 11 where there is
+/// no entry or more than 256, and otherwise 7, where there are not as many indices as pixels.
 #[unsafe(no_mangle)]
 pub extern "C" fn pix_table_match(entries: &[Color], pixels: &[Color], indices: &mut [u8]) -> u32
     ensures status { result ≡
@@ -99,8 +100,8 @@ pub extern "C" fn pix_table_match(entries: &[Color], pixels: &[Color], indices: 
     match_all(entries, pixels, 0, 0, indices)
 }
 
-/// Does what [`pix_table_match`] does, on pixels with an alpha. One whose alpha is below `alpha` has the index `kept`, and else the alpha is
-/// not looked at.
+/// Does what [`pix_table_match`] does, on pixels with an alpha. A pixel whose alpha is below
+/// `alpha` gets the index `kept`. The alpha of any other pixel doesn't count.
 #[unsafe(no_mangle)]
 pub extern "C" fn pix_table_match_alpha(
     entries: &[Color],
@@ -142,11 +143,12 @@ fn match_all<P: TablePixel>(
     DONE
 }
 
-/// Writes a table of the colors of the pixels into the first of the entries, and into `made` how many it has. With no more distinct colors than
-/// entries they are the table, in order of first place. Else it is made by median cut, and what the other entries hold is not said.
+/// Writes a table of the colors of the pixels into the first of the entries, and into `made` how
+/// many it has. With no more distinct colors than entries they are the table, in order of first
+/// place. Else it is made by median cut. The other entries may hold anything.
 ///
-/// Returns 0 when it is made. Else nothing is written, and the status is 11 where there is no entry or more than 256, and otherwise 7 where
-/// `work` has fewer colors than there are pixels.
+/// Returns 0 when it is made. Else nothing is written, and the status is 11 where there is no entry
+/// or more than 256, and otherwise 7 where `work` has fewer colors than there are pixels.
 #[unsafe(no_mangle)]
 pub extern "C" fn pix_table_from(
     pixels: &[Color],
@@ -165,7 +167,8 @@ pub extern "C" fn pix_table_from(
     make_table(pixels, 0, work, entries, made)
 }
 
-/// Does what [`pix_table_from`] does, on pixels with an alpha. Those whose alpha is below `alpha` do not count.
+/// Does what [`pix_table_from`] does, on pixels with an alpha. Those whose alpha is below `alpha`
+/// do not count.
 #[unsafe(no_mangle)]
 pub extern "C" fn pix_table_from_alpha(
     pixels: &[PixSrgba8],
@@ -213,12 +216,14 @@ fn make_table<P: TablePixel>(
     }
 }
 
-/// Writes for each pixel, in rows of `width`, its index by error diffusion: that of the entry that is nearest to the pixel and what it gets of
-/// the errors before it. An error is what was wanted less the entry that was found: 7 sixteenths of it go to the pixel on the right, 3 to the
-/// one below on the left, 5 to the one below, and 1 to the one below on the right.
+/// Writes for each pixel, in rows of `width`, its index by error diffusion. The index is that of
+/// the entry that is nearest to the pixel plus its share of the errors before it. An error is what
+/// was wanted less the entry that was found. The pixel on the right gets 7 sixteenths of it, the
+/// one below on the left 3, the one below 5, and the one below on the right 1.
 ///
-/// Returns 0 when they are written. Else nothing is, and the status is 11 where there is no entry or more than 256, and otherwise 7 where a
-/// row has no pixel, where `work` has not just four rows of colors, or where there are not as many indices as pixels.
+/// Returns 0 when they are written. Else nothing is written. The status is then 11 where there is
+/// no entry or more than 256. Otherwise it is 7, which has three causes: a row has no pixel, `work`
+/// has not just four rows of colors, or there are not as many indices as pixels.
 #[unsafe(no_mangle)]
 pub extern "C" fn pix_table_diffuse(
     entries: &[Color],
@@ -241,7 +246,8 @@ pub extern "C" fn pix_table_diffuse(
     diffuse(entries, pixels, how, work, indices)
 }
 
-/// Does what [`pix_table_diffuse`] does, on pixels with an alpha. One whose alpha is below `alpha` has the index `kept`, and hands on no error.
+/// Does what [`pix_table_diffuse`] does, on pixels with an alpha. A pixel whose alpha is below
+/// `alpha` gets the index `kept`, and hands on no error.
 #[unsafe(no_mangle)]
 pub extern "C" fn pix_table_diffuse_alpha(
     entries: &[Color],
@@ -287,13 +293,17 @@ fn diffuse<P: TablePixel>(
     DONE
 }
 
-/// Sets the color of each pixel in a table, one after the other, and writes its index: that of its match among the entries that are used, if it differs
-/// from it by no more than the threshold in red, green and blue, and else that of the next entry, which is set to the color. The match is the last
-/// of the candidates: entry 0, and each later entry that differs from the color by no more than the candidate before it in each of red, green and
-/// blue, and by less in one. `used` is how many entries are used, before and afterwards.
+/// Sets the color of each pixel in a table, one after the other, and writes its index. The index is
+/// that of its match among the entries that are used, if the match is within the threshold in red,
+/// green and blue. Else the next entry is set to the color, and the index is that of the next
+/// entry. The match is the last of the candidates. Entry 0 is the first one. Each later entry is
+/// one if it differs from the color by no more than the candidate before it in each of red, green
+/// and blue, and by less in one. `used` is how many entries are used, before and afterwards.
 ///
-/// Returns 0 when all are written. Else nothing is, and the status is 11 where there is room for no entry or for more than 256, otherwise 7 where
-/// more entries are used than there are or where there are not as many indices as pixels, and otherwise 14 where there is no room for a color.
+/// Returns 0 when all are written. Else nothing is written. The status is then 11 where there is
+/// room for no entry or for more than 256. Otherwise it is 7 where more entries are used than there
+/// are, or where there are not as many indices as pixels. Otherwise it is 14, where there is no
+/// room for a color.
 #[unsafe(no_mangle)]
 pub extern "C" fn pix_table_index(
     entries: &mut [Color],
@@ -330,10 +340,10 @@ pub extern "C" fn pix_table_index(
     }
 }
 
-/// Writes for each index its entry.
+/// Writes the entry of each index.
 ///
-/// Returns 0 when they are written. Else nothing is, and the status is 7 where there are not as many pixels as indices, and otherwise 12 where
-/// an index is past the entries.
+/// Returns 0 when they are written. Else nothing is written. The status is then 7 where there are
+/// not as many pixels as indices, and otherwise 12, where an index is past the entries.
 #[unsafe(no_mangle)]
 pub extern "C" fn pix_table_look_up(entries: &[Color], indices: &[u8], pixels: &mut [Color]) -> u32
     ensures status { result ≡
@@ -351,9 +361,9 @@ pub extern "C" fn pix_table_look_up(entries: &[Color], indices: &[u8], pixels: &
     }
 }
 
-/// Writes for each number below the count of `counts` how often it stands in the indices.
+/// Writes, for each number below the length of `counts`, how often it is in the indices.
 ///
-/// Returns 0 when they are written, or 12 where an index has no count: then nothing is.
+/// Returns 0 when they are written, or 12 where an index has no count. With 12 nothing is written.
 #[unsafe(no_mangle)]
 pub extern "C" fn pix_table_count(indices: &[u8], counts: &mut [usize]) -> u32
     ensures status { result ≡ count_status (length counts.old) indices.now }
@@ -367,11 +377,12 @@ pub extern "C" fn pix_table_count(indices: &[u8], counts: &mut [usize]) -> u32
     }
 }
 
-/// Packs a row of indices of `bits` bits each into bytes: in order, those of a byte from its most significant bits on, and 0 in the bits that
-/// are left over in the last byte.
+/// Packs a row of indices of `bits` bits each into bytes, in order. Within a byte the first index
+/// is in the most significant bits. The bits that are left over in the last byte are 0.
 ///
-/// Returns 0 when it is packed. Else nothing is written, and the status is 13 where `bits` is neither 1, 2, 4 nor 8, otherwise 7 where there
-/// are not just as many bytes as the row takes, and otherwise 12 where an index takes more bits.
+/// Returns 0 when it is packed. Else nothing is written. The status is then 13 where `bits` is
+/// neither 1, 2, 4 nor 8. Otherwise it is 7 where there are not just as many bytes as the row
+/// takes. Otherwise it is 12, where an index takes more bits.
 #[unsafe(no_mangle)]
 pub extern "C" fn pix_table_pack(bits: u32, indices: &[u8], bytes: &mut [u8]) -> u32
     ensures status { result ≡ pack_status (depth_of bits) indices.now (length bytes.old) }
@@ -390,8 +401,8 @@ pub extern "C" fn pix_table_pack(bits: u32, indices: &[u8], bytes: &mut [u8]) ->
 
 /// Unpacks a row of indices of `bits` bits each from its bytes.
 ///
-/// Returns 0 when it is unpacked. Else nothing is written, and the status is 13 where `bits` is neither 1, 2, 4 nor 8, and otherwise 7 where
-/// there are not just as many bytes as the row takes.
+/// Returns 0 when it is unpacked. Else nothing is written. The status is then 13 where `bits` is
+/// neither 1, 2, 4 nor 8, and otherwise 7, where there are not just as many bytes as the row takes.
 #[unsafe(no_mangle)]
 pub extern "C" fn pix_table_unpack(bits: u32, bytes: &[u8], indices: &mut [u8]) -> u32
     ensures status { result ≡
@@ -409,7 +420,7 @@ pub extern "C" fn pix_table_unpack(bits: u32, bytes: &[u8], indices: &mut [u8]) 
     }
 }
 
-/// Returns the depth of so many bits.
+/// Returns the depth of a number of bits.
 fn depth_of(bits: u32) -> Option<IndexDepth>
     ensures { result ≡ depth_of bits }
 {

@@ -1,4 +1,4 @@
-//! Lists of commands on a window of a picture: on a part of it that lies in memory by itself.
+//! Lists of commands on a window of a picture, which is a part that lies in memory by itself.
 ghost use Rattle.std.specs.Prelude.{◌≡◌, ◌≢◌, length, map};
 ghost use Rattle.pix_flat.specs.Format.{rgba8, rgba8_numbers, rgba16, rgba16_numbers};
 ghost use Rattle.pix_flat.specs.Format.{graya8, graya8_numbers};
@@ -13,14 +13,16 @@ use pix_flat::command::{PixCommand, PixCommandGraya8, PixCommandRgba16};
 use pix_flat::format::{PixGraya8, PixRgba8, PixRgba16};
 use pix_flat::run;
 
-/// Runs `commands` in order on a window of a picture: on the image of `width` columns and `height` rows, which start `stride` pixels
-/// apart in `pixels`, whose first pixel lies at the point (`left`, `top`) of the picture.
+/// Runs `commands` in order on a window of a picture. The window is the image of `width` columns
+/// and `height` rows, which start `stride` pixels apart in `pixels`. Its first pixel lies at the
+/// point (`left`, `top`) of the picture.
 ///
-/// The regions of the commands are those of the picture, and each pixel becomes what it would become if the whole picture was passed
-/// to [`pix_run_commands`](crate::pix_run_commands). So windows of a picture may be painted apart, in any order.
+/// The regions of the commands are regions of the picture. Each pixel becomes what it would become
+/// if the whole picture were passed to [`pix_run_commands`](crate::pix_run_commands). So windows of
+/// a picture may be painted one by one, in any order.
 ///
-/// Returns what [`pix_run_commands`](crate::pix_run_commands) returns, and [`BAD_SIZE`](crate::BAD_SIZE) too where `left + width` or
-/// `top + height` is above 2147483647.
+/// Returns what [`pix_run_commands`](crate::pix_run_commands) returns, and
+/// [`BAD_SIZE`](crate::BAD_SIZE) too where `left + width` or `top + height` is above 2147483647.
 #[unsafe(no_mangle)]
 pub extern "C" fn pix_run_window(
     pixels: &mut [PixRgba8],

@@ -21,13 +21,14 @@ pub struct PixRegion {
 
 /// A change of an image of 8-bit pixels of red, green, blue and alpha.
 ///
-/// The operator and all regions are tested for every kind; a source only where the kind reads it.
+/// The operator and all regions are tested for every kind. A source is tested only where the kind
+/// reads it.
 #[repr(C)]
 #[derive(Clone, Copy, Drop)]
 pub struct PixCommand<'a> {
-    /// What is done: 0 clears the image, 1 copies a color, 2 copies an image, 3 composites a color, 4 composites an image, 5
-    /// composites a color through mattes, 6 an image through mattes, and 7 an image at an opacity. The constants of `kind.rt` name
-    /// them.
+    /// What is done. 0 clears the image. 1 copies a color, and 2 copies an image. 3 composites a
+    /// color, and 4 composites an image. 5 composites a color through mattes, and 6 an image
+    /// through mattes. 7 composites an image at an opacity. The constants of `kind.rt` name them.
     pub kind: u32,
     /// The number of the operator, its index in `Op::ALL`.
     pub op: u32,
@@ -45,7 +46,8 @@ pub struct PixCommand<'a> {
     pub width: u32,
     /// The height of the source in rows.
     pub height: u32,
-    /// How many pixels or mattes lie from the start of a row of the source to the start of the next.
+    /// How many pixels or mattes lie from the start of a row of the source to the start of the
+    /// next.
     pub stride: u32,
     /// The region of the mask of kind 6.
     pub mask: PixRegion,
@@ -59,7 +61,8 @@ pub struct PixCommand<'a> {
     pub alpha: u8,
 }
 
-/// A change of an image of 16-bit pixels of red, green, blue and alpha, by the fields of [`PixCommand`].
+/// A change of an image of 16-bit pixels of red, green, blue and alpha. Its fields are those of
+/// [`PixCommand`].
 #[repr(C)]
 #[derive(Clone, Copy, Drop)]
 pub struct PixCommandRgba16<'a> {
@@ -95,7 +98,7 @@ pub struct PixCommandRgba16<'a> {
     pub alpha: u16,
 }
 
-/// A change of an image of 8-bit pixels of gray and alpha, by the fields of [`PixCommand`].
+/// A change of an image of 8-bit pixels of gray and alpha. Its fields are those of [`PixCommand`].
 #[repr(C)]
 #[derive(Clone, Copy, Drop)]
 pub struct PixCommandGraya8<'a> {
@@ -151,7 +154,7 @@ pub struct FlatCommand<'a, D, M> {
     pub(crate) alpha: M,
 }
 
-/// A command that C lays out for one format.
+/// A command as C lays it out for one format.
 pub trait Flatten<D, M> {
     /// The command in the layout of all formats.
     ghost flat: { Self → FlatCommand D M };

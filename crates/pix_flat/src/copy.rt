@@ -8,8 +8,8 @@ use pix_el::el::Pixel;
 use pix_raster::lent::{Blit, Fill};
 use std::marker::PhantomData;
 
-/// The most columns of a region whose image is copied under `Src`. Longer rows go by blocks, which
-/// takes less time than to copy them.
+/// The most columns of a region whose image is copied under `Src`. Longer rows go in blocks, which
+/// takes less time than copying them.
 // For v2, 64 by 64 pixels took 0.79 to 0.82 of pixman's time as copies, and 1.03 to 1.05 by blocks.
 // Copies of 1024 by 1024 took a tenth to a fifth longer than blocks.
 pub(crate) const SHORT: u32 = 256;
@@ -53,7 +53,7 @@ impl<D: Numbered> Blit<D, D> for CopiedPixels {
     }
 }
 
-/// Sees that a pixel has the channels of its format, which takes no step of the processor.
+/// Establishes that a pixel has the channels of its format. It compiles to no instruction.
 #[inline(always)]
 pub(crate) fn see_channels<P: Pixel, S: Flat<P>>(pixel: &S)
     ensures { length (S.numbers pixel.now) ≡ P.layout.count }
@@ -62,7 +62,7 @@ pub(crate) fn see_channels<P: Pixel, S: Flat<P>>(pixel: &S)
     let _ = pixel.channels();
 }
 
-/// Sees that each pixel has the channels of its format, which takes no step of the processor.
+/// Establishes that each pixel has the channels of its format. It compiles to no instruction.
 #[inline(always)]
 fn see_all<P: Pixel, S: Flat<P>>(pixels: &[S])
     ensures { (k : ℕ) → k < length pixels.now
@@ -73,7 +73,7 @@ fn see_all<P: Pixel, S: Flat<P>>(pixels: &[S])
     }
 }
 
-/// Puts pixels in the place of others, as `Src` does.
+/// Replaces pixels with others, as `Src` does.
 #[derive(Clone, Copy)]
 pub(crate) struct ReplacedPixels<P> {
     pub(crate) format: PhantomData<P>,

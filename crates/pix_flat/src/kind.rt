@@ -1,4 +1,5 @@
-//! Kinds of commands: what a command does, by the number in its field `kind`. `pix.h` has them as `pix_kind`.
+//! Kinds of commands. The number in a command's field `kind` says what the command does. `pix.h`
+//! has them as `pix_kind`.
 
 /// The image is cleared.
 pub const CLEAR: u32 = 0;

@@ -1,6 +1,8 @@
-//! Images in memory that the caller owns: a list of commands, as C lays them out, is run on rows of pixels that lie a stride apart.
+//! Images in memory that the caller owns. A list of commands, as C lays them out, is run on rows of
+//! pixels that lie a stride apart.
 //!
-//! One body serves each format. It takes no memory, keeps nothing between two calls, and answers every refusal by a status.
+//! One body serves each format. It takes no memory, keeps nothing between two calls, and reports
+//! every refusal with a status.
 #![tactic(auto)]
 
 pub mod command;

@@ -4,7 +4,8 @@ ghost use Rattle.pix_flat.specs.Command.{op_at};
 
 use pix_ops::ops::Op;
 
-/// Returns the operator of a number, and `Src` where there is none, which is refused before.
+/// Returns the operator of a number, and `Src` where there is none. A number without an operator is
+/// refused earlier.
 pub(crate) fn op_at(number: u32) -> Op
     ensures { result ≡ op_at number }
 {

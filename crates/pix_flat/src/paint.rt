@@ -30,7 +30,8 @@ fn region_of(reg: PixRegion) -> Region
     Region::new(reg.x, reg.y, reg.width, reg.height)
 }
 
-/// Returns the region of the destination of a command, all points of any picture for a clear; a side above the limit counts as the limit.
+/// Returns the region of the destination of a command. For a clear it has all points of any
+/// picture. A side above the limit counts as the limit.
 pub(crate) fn reach<D, M>(command: &FlatCommand<'_, D, M>) -> Region {
     if command.kind == kind::CLEAR {
         return Region::new(0, 0, LIMIT, LIMIT);
@@ -194,8 +195,8 @@ fn composite_faded<
     );
 }
 
-/// Composites a command on a window of a picture. `Src` puts a color or an image in the place of what is there, so without a matte it is copied, an image where
-/// its rows are short.
+/// Composites a command on a window of a picture. `Src` replaces what is there. So without a matte
+/// a color is copied, and so is an image whose rows are short.
 fn paint_composite<
     P: Pixel<Alpha = Premultiplied, Gamma = Linear>,
     D: FlatPixel<P>,
@@ -236,7 +237,8 @@ fn paint_composite<
 
 /// Draws a command on a window of a picture.
 ///
-/// Condition: the rows of the window lie in `pixels`, its sides end within the limit, and the command is not refused.
+/// Condition: the rows of the window lie in `pixels`, its sides end within the limit, and the
+/// command is not refused.
 pub(crate) fn paint<
     P: Pixel<Alpha = Premultiplied, Gamma = Linear>,
     D: FlatPixel<P>,

@@ -19,9 +19,10 @@ use std::marker::PhantomData;
 
 /// Runs `commands` in order on the image of that width, height and stride in `pixels`.
 ///
-/// Returns 0 when all are done. Else nothing was painted, and the status says why: the image is not in `pixels`, or the first command
-/// that is refused. `done` is the number of commands before that one, 0 where the image is refused, and the number of all when
-/// they are done.
+/// Returns 0 when all are done. Else nothing was painted. The status then says that the image is
+/// not in `pixels`, or why the first refused command is refused. `done` is the number of commands
+/// before that one. It is 0 where the image is refused, and the number of all commands when they
+/// are done.
 pub fn run<
     P: Pixel<Alpha = Premultiplied, Gamma = Linear>,
     D: FlatPixel<P>,
@@ -39,10 +40,10 @@ pub fn run<
     run_window::<P, D, M, C>(pixels, 0, 0, width, height, stride, commands, done)
 }
 
-/// Runs `commands` in order on the window of a picture in `pixels`, of that width, height and stride, whose first pixel lies at the point
-/// (`left`, `top`) of the picture.
+/// Runs `commands` in order on the window of a picture in `pixels`, of that width, height and
+/// stride, whose first pixel lies at the point (`left`, `top`) of the picture.
 ///
-/// Returns what [`run`] does, and [`BAD_SIZE`] too where the window ends past the limit.
+/// Returns what [`run`] does, and also [`BAD_SIZE`] where the window ends past the limit.
 pub fn run_window<
     P: Pixel<Alpha = Premultiplied, Gamma = Linear>,
     D: FlatPixel<P>,

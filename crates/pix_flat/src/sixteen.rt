@@ -1,4 +1,5 @@
-//! Composites in a row of pixels in memory: sixteen at a time, and then four, are read, composited and written back.
+//! Composites in a row of pixels in memory. Sixteen at a time, and then four, are read, composited
+//! and written back.
 ghost use Rattle.std.specs.Prelude.{◌≡◌, ◌≤◌, ◌<◌, ◌+◌, List, ℕ, length, map, min, replicate, take, ⊤};
 ghost use Rattle.pix_chan.specs.Runs.{over};
 ghost use Rattle.pix_el.specs.PixelComposite.{pixel_composite, matted_composite, matte_value};
@@ -15,7 +16,7 @@ mod masked;
 
 pub(crate) use masked::{FadedPixels, MattedPixels};
 
-/// Reads as many pixels of the library.
+/// Reads the same number of the library's pixels.
 #[inline(always)]
 fn read_pixels<P: Pixel, S: Flat<P>>(part: &[S], pixels: &mut [P])
     requires { length part.now ≡ length pixels.old }
@@ -26,7 +27,7 @@ fn read_pixels<P: Pixel, S: Flat<P>>(part: &[S], pixels: &mut [P])
     }
 }
 
-/// Writes as many pixels of the library.
+/// Writes the same number of the library's pixels.
 #[inline(always)]
 fn write_pixels<P: Pixel, D: FlatPixel<P>>(part: &mut [D], pixels: &[P])
     requires { length pixels.now ≡ length part.old }
@@ -55,7 +56,8 @@ pub(crate) trait Merge<P: Pixel, Q: Pixel> {
             makes self.now (Q.numbers src.now) (P.numbers pixel.old) };
 }
 
-/// Changes `N` pixels in memory, at most sixteen, each by the pixel of the source at the same place.
+/// Changes `N` pixels in memory, at most sixteen, each by the pixel of the source at the same
+/// place.
 #[inline(always)]
 fn merge_block<const N: usize, P: Pixel, D: FlatPixel<P>, Q: Pixel, S: Flat<Q>, B: Merge<P, Q>>(
     part: &mut [D],
@@ -76,8 +78,8 @@ fn merge_block<const N: usize, P: Pixel, D: FlatPixel<P>, Q: Pixel, S: Flat<Q>, 
     write_pixels(part, &pixels);
 }
 
-/// Changes as many whole blocks of `N` pixels of a row, at most sixteen, as it shares with the source, each pixel by the one at the same
-/// place, and returns the number of those pixels.
+/// Changes whole blocks of `N` pixels of a row, at most sixteen, as many as it shares with the
+/// source. Each pixel is changed by the one at the same place. Returns the number of those pixels.
 #[inline(always)]
 fn merge_blocks<const N: usize, P: Pixel, D: FlatPixel<P>, Q: Pixel, S: Flat<Q>, B: Merge<P, Q>>(
     row: &mut [D],
@@ -200,7 +202,8 @@ fn color_block<
     write_pixels(part, &pixels);
 }
 
-/// Composites a color with as many whole blocks of `N` pixels, at most sixteen, as a row has, and returns the number of those pixels.
+/// Composites a color with as many whole blocks of `N` pixels, at most sixteen, as a row has, and
+/// returns the number of those pixels.
 #[inline(always)]
 fn color_blocks<
     const N: usize,

@@ -10,7 +10,8 @@ use pix_ops::ops::Op;
 /// All commands of the list are done.
 pub const DONE: u32 = 0;
 
-/// A side of the image is above 2147483647, its stride is below its width, or its pixels are too few.
+/// A side of the image is above 2147483647, its stride is below its width, or its pixels are too
+/// few.
 pub const BAD_SIZE: u32 = 1;
 
 /// There is no such kind of command.
@@ -22,7 +23,8 @@ pub const BAD_REGION: u32 = 3;
 /// There is no such operator.
 pub const BAD_OP: u32 = 4;
 
-/// The source or the mask that the kind reads is refused for what [`BAD_SIZE`] says of the image.
+/// The source or the mask that the kind reads is refused, for the reasons that [`BAD_SIZE`] gives
+/// for the image.
 pub const BAD_SOURCE: u32 = 5;
 
 /// Returns whether the sides of a region are within the limit.
@@ -86,7 +88,8 @@ fn fault_of<D, M>(command: &FlatCommand<'_, D, M>) -> u32
     DONE
 }
 
-/// Returns why the first command is refused that is, or 0, and writes to `done` how many come before it.
+/// Returns why the first refused command is refused, or 0, and writes to `done` how many come
+/// before it.
 pub(crate) fn first_fault<D: Copy, M: Copy, C: Flatten<D, M>>(
     commands: &[C],
     done: &mut usize,

@@ -1,4 +1,5 @@
-//! Rows of pixels that go from one format to another, where both are known when a program runs.
+//! Rows of pixels that are converted from one format to another, where both are known only at run
+//! time.
 ghost use Rattle.std.specs.Prelude.{◌≡◌, ◌≤◌, ◌+◌, ◌*◌, length, true};
 ghost use Rattle.pix_bytes.specs.Bitmap.{IsCrossed};
 ghost use Rattle.pix_bytes.specs.Rows.{IsEach, format_at, stored_of, is_sound};
@@ -13,7 +14,7 @@ use crate::bitmap::sample::Sample;
 use crate::bitmap::way::{Converted, IntoLight, OutOfLight, Way};
 use pix_chan::chan::{Ch8, Ch16, Linear, Srgb};
 
-/// Writes each pixel of `src` to the place of its index in `dst`, in the other format.
+/// Writes each pixel of `src` to the same index of `dst`, in the other format.
 ///
 /// Condition: there are `count` in both.
 #[inline(always)]
@@ -39,7 +40,8 @@ fn cross_pixels<C: Sample, D: Sample, W: Way<C, D>>(
     cross_each(way, from, to, size, to_size, src, dst, first, count);
 }
 
-/// Does what [`cross_pixels`] does from the pixel `first` on, where a pixel has `size` bytes, and `to_size` of them in the other format.
+/// Does what [`cross_pixels`] does from the pixel `first` on, where a pixel has `size` bytes, and
+/// `to_size` of them in the other format.
 ///
 /// Condition: those before it are written.
 #[inline(always)]
@@ -100,7 +102,8 @@ fn cross_known<C: Sample, D: Sample, W: Way<C, D>>(
     cross_pixels(way, known, to_known, src, dst, count);
 }
 
-/// Does what [`cross_known`] does, with a loop of its own for each format that pictures mostly come in.
+/// Does what [`cross_known`] does, with a loop of its own for each format that pictures mostly come
+/// in.
 #[inline(always)]
 fn cross_from_usual<C: Sample, D: Sample, W: Way<C, D>>(
     way: &W,
@@ -139,7 +142,8 @@ fn cross_from_usual<C: Sample, D: Sample, W: Way<C, D>>(
     }
 }
 
-/// Does what [`cross_known`] does, with a loop of its own for each format that pictures mostly go to.
+/// Does what [`cross_known`] does, with a loop of its own for each format that pictures mostly go
+/// to.
 #[inline(always)]
 fn cross_to_usual<C: Sample, D: Sample, W: Way<C, D>>(
     way: &W,
@@ -178,7 +182,8 @@ fn cross_to_usual<C: Sample, D: Sample, W: Way<C, D>>(
     }
 }
 
-/// Does what [`cross_pixels`] does. Between the format of images that are painted and those that pictures mostly have, the loops know both.
+/// Does what [`cross_pixels`] does. Between the format of images that are painted and those that
+/// pictures mostly have, the loops know both.
 #[inline(always)]
 fn cross_painted<C: Sample, D: Sample, W: Way<C, D>>(
     way: &W,
@@ -205,8 +210,9 @@ fn cross_painted<C: Sample, D: Sample, W: Way<C, D>>(
     }
 }
 
-/// Writes each pixel of `src` to the place of its index in `dst`, in the other format: between sRGB of 8 bits and channels of 16 bits through
-/// light, and else as [`Pixel::convert`](pix_el::el::Pixel::convert) does.
+/// Writes each pixel of `src` to the same index of `dst`, in the other format. Between sRGB of 8
+/// bits and channels of 16 bits it goes through light, and else it does what
+/// [`Pixel::convert`](pix_el::el::Pixel::convert) does.
 ///
 /// Condition: there are `count` in both.
 pub(crate) fn cross_row(from: Stored, to: Stored, src: &[u8], dst: &mut [u8], count: usize)

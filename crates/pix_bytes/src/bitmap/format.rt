@@ -29,7 +29,7 @@ pub(crate) struct Stored {
     pub is_premultiplied: bool,
     /// How a channel is stored.
     pub depth: Depth,
-    /// How many samples stand behind the channels.
+    /// How many samples come after the channels.
     pub spare: usize,
 }
 
@@ -162,7 +162,8 @@ impl Stored {
         }
     }
 
-    /// Returns this format, if it has this model, so many channels, this alpha mode and so many spare samples: then the compiler knows them.
+    /// Returns this format, if it has this model, number of channels, alpha mode and number of
+    /// spare samples. Then the compiler knows them.
     #[inline(always)]
     pub(crate) fn known(
         self,
@@ -190,7 +191,8 @@ impl Stored {
         }
     }
 
-    /// Returns whether this format has this model, so many channels, this alpha mode and so many spare samples.
+    /// Returns whether this format has this model, number of channels, alpha mode and number of
+    /// spare samples.
     #[inline(always)]
     pub(crate) fn has(
         self,

@@ -7,7 +7,8 @@ ghost use Rattle.pix_bytes.specs.Stored.{sample_at, samples, sample_size, padded
 use crate::bitmap::sample::Sample;
 use pix_chan::chan::Channel;
 
-/// The channels of a pixel in their order. Those behind the last one of its format count for the maximum, or for nothing.
+/// The channels of a pixel in order. Those after the last one of its format count as the maximum,
+/// or not at all.
 #[derive(Clone, Copy)]
 pub(crate) struct Four<C> {
     pub one: C,
@@ -32,7 +33,8 @@ impl<C: Channel> Four<C> {
     }
 }
 
-/// Returns the sample of that number, or the maximum where it is none of the first so many.
+/// Returns the sample of that number, or the maximum where it is not one of the first samples that
+/// count.
 #[inline(always)]
 fn sample_or_max<C: Sample>(bytes: &[u8], count: usize, number: usize) -> C
     requires { count * sample_size C.max ≤ length bytes.now }
@@ -45,7 +47,7 @@ fn sample_or_max<C: Sample>(bytes: &[u8], count: usize, number: usize) -> C
     }
 }
 
-/// Returns the pixel of so many channels in these bytes; the others are the maximum.
+/// Returns the pixel of this many channels in these bytes. The other channels are the maximum.
 #[inline(always)]
 pub(crate) fn read_four<C: Sample>(bytes: &[u8], count: usize) -> Four<C>
     requires fits { count * sample_size C.max ≤ length bytes.now }
@@ -61,7 +63,7 @@ pub(crate) fn read_four<C: Sample>(bytes: &[u8], count: usize) -> Four<C>
     }
 }
 
-/// Writes a sample, unless there is none of that number; one behind the channels is the maximum.
+/// Writes a sample, if there is one of that number. A sample after the channels is the maximum.
 #[inline(always)]
 fn write_sample<C: Sample>(c: C, bytes: &mut [u8], count: usize, all: usize, number: usize)
     requires { all * sample_size C.max ≤ length bytes.old }
@@ -76,7 +78,8 @@ fn write_sample<C: Sample>(c: C, bytes: &mut [u8], count: usize, all: usize, num
     }
 }
 
-/// Writes the first `count` channels of a pixel as samples, and behind them `spare` samples of the maximum.
+/// Writes the first `count` channels of a pixel as samples, and after them `spare` samples of the
+/// maximum.
 #[inline(always)]
 pub(crate) fn write_four<C: Sample>(pixel: Four<C>, bytes: &mut [u8], count: usize, spare: usize)
     requires fits { length bytes.old ≡ (count + spare) * sample_size C.max }

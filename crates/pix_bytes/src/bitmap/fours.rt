@@ -1,7 +1,8 @@
-//! sRGB pixels of red, green, blue and alpha, or blue, green, red and alpha, in light, four at a time.
+//! sRGB pixels of red, green, blue and alpha, or blue, green, red and alpha, in light, four at a
+//! time.
 //!
-//! The colors of each are looked up as those of an opaque pixel. Where not all four are opaque, their sixteen channels are then multiplied by
-//! the alphas.
+//! The colors of each are looked up as those of an opaque pixel. Where not all four are opaque,
+//! their sixteen channels are then multiplied by the alphas.
 ghost use Rattle.std.specs.Prelude.{◌≡◌, ◌≤◌, ◌<◌, ◌*◌, ◌/◌, length, replicate, slice_index_or, true};
 ghost use Rattle.std.specs.Simd.Lanes.{zip2};
 ghost use Rattle.pix_chan.specs.Product.{channel_product};
@@ -24,7 +25,8 @@ pub(super) fn high_products(x: u16x16, y: u16x16) -> u16x16
 
 /// Returns the channel products of the lanes.
 ///
-/// With t = x y + 32768, the product is the upper half of t and, where the sum of both halves carries, one more.
+/// With t = x y + 32768, the product is the upper half of t, plus one where the sum of both halves
+/// carries.
 #[inline(always)]
 fn products(x: u16x16, y: u16x16) -> u16x16
     ensures { result ≡ zip2 (channel_product 65535) x y }
@@ -80,7 +82,8 @@ fn ends(is_reversed: bool) -> (usize, usize)
     if is_reversed { (2, 0) } else { (0, 2) }
 }
 
-/// Returns the light of four sRGB pixels as if they were opaque. Condition: they have sixteen bytes.
+/// Returns the light of four sRGB pixels as if they were opaque. Condition: they have sixteen
+/// bytes.
 #[inline(always)]
 fn opaque(is_reversed: bool, bytes: &[u8]) -> u16x16
     requires { length bytes.now ≡ 16 }
@@ -144,7 +147,8 @@ fn are_opaque(bytes: &[u8]) -> bool
     are_full(u8x16::from_slice(bytes) | colors)
 }
 
-/// Returns the light of four sRGB pixels, multiplied by their alphas. Condition: they have sixteen bytes.
+/// Returns the light of four sRGB pixels, multiplied by their alphas. Condition: they have sixteen
+/// bytes.
 #[inline(always)]
 fn lit(is_reversed: bool, bytes: &[u8]) -> u16x16
     requires { length bytes.now ≡ 16 }
@@ -159,7 +163,8 @@ fn lit(is_reversed: bool, bytes: &[u8]) -> u16x16
     }
 }
 
-/// Writes four sRGB pixels in light, multiplied by their alphas. Condition: there are as many of both.
+/// Writes four sRGB pixels in light, multiplied by their alphas. Condition: there are as many of
+/// both.
 #[inline(always)]
 fn decode_four(is_reversed: bool, src: &[u8], dst: &mut [u8])
     requires src { length src.now ≡ 16 }
@@ -169,7 +174,8 @@ fn decode_four(is_reversed: bool, src: &[u8], dst: &mut [u8])
     put(dst, lit(is_reversed, src));
 }
 
-/// Writes the first of `count` sRGB pixels in light, multiplied by their alphas, as many as go by fours, and returns how many these are.
+/// Writes as many of the first `count` sRGB pixels as go in fours in light, multiplied by their
+/// alphas. Returns their number.
 ///
 /// Condition: there are `count` of both.
 #[inline(always)]

@@ -1,6 +1,8 @@
-//! Pixels of light, of colors multiplied by an alpha in 16 bits, as sRGB of red, green, blue and alpha, or blue, green, red and alpha, four at a time.
+//! Pixels of light, of colors multiplied by an alpha in 16 bits, as sRGB of red, green, blue and
+//! alpha, or blue, green, red and alpha, four at a time.
 //!
-//! Where not all four are opaque, their colors are divided by the alphas: all at once where these come from eight bits, and else one by one.
+//! Where not all four are opaque, their colors are divided by the alphas. Where the alphas come
+//! from eight bits this is done for all at once, and else one by one.
 ghost use Rattle.std.specs.Prelude.{◌≡◌, ◌≤◌, ◌<◌, ◌+◌, ◌*◌, ◌/◌, ◌%◌, ◌^◌, ◌++◌};
 ghost use Rattle.std.specs.Prelude.{ℕ, List, map, length, replicate, true};
 ghost use Rattle.std.specs.Simd.Lanes.{zip2, Each1, pick_l, number_l, digits_l};
@@ -69,7 +71,8 @@ fn in_parts(words: u64x4) -> u16x16
     u16x16::from_le_bytes(words.to_le_bytes())
 }
 
-/// Returns the reciprocals of the alphas of four pixels, each in four parts. Condition: they have thirty-two bytes.
+/// Returns the reciprocals of the alphas of four pixels, each in four parts. Condition: they have
+/// thirty-two bytes.
 #[inline(always)]
 fn reciprocals(bytes: &[u8]) -> u16x16
     requires { length bytes.now ≡ 32 }
@@ -102,7 +105,8 @@ fn scaled(x: u16x16, low: u16x16, middle: u16x16, high: u16x16) -> u16x16
     x * high + high_products(x, middle) + carry
 }
 
-/// Returns the quotients of four pixels' channels and their alphas, which come from eight bits. Condition: they have thirty-two bytes.
+/// Returns the channels of four pixels divided by their alphas, which come from eight bits.
+/// Condition: they have thirty-two bytes.
 #[inline(always)]
 fn divided(bytes: &[u8]) -> u16x16
     requires whole { length bytes.now ≡ 32 }
@@ -118,7 +122,8 @@ fn divided(bytes: &[u8]) -> u16x16
         .select(scaled(x, low, middle, high), u16x16::splat(65535))
 }
 
-/// Returns a channel of four pixels divided by the alpha of its pixel. Condition: they have thirty-two bytes.
+/// Returns a channel of four pixels divided by the alpha of its pixel. Condition: they have
+/// thirty-two bytes.
 #[inline(always)]
 fn divided_at(bytes: &[u8], number: usize) -> u16
     requires whole { length bytes.now ≡ 32 }
@@ -130,7 +135,7 @@ fn divided_at(bytes: &[u8], number: usize) -> u16
     u16::from(quotient(Ch16::read(bytes, number), alpha))
 }
 
-/// Does what [`divided`] does at any alphas.
+/// Does what [`divided`] does, for any alphas.
 fn divided_one_by_one(bytes: &[u8]) -> u16x16
     requires { length bytes.now ≡ 32 }
     ensures { result ≡ straight_light bytes.now }
@@ -155,7 +160,8 @@ fn divided_one_by_one(bytes: &[u8]) -> u16x16
     ])
 }
 
-/// Returns three levels and the alpha of each of four pixels, the first and the last level in each other's place or not.
+/// Returns three levels and the alpha of each of four pixels. The first and the last level may be
+/// swapped.
 #[inline(always)]
 fn arranged(is_reversed: bool, levels: u16x16, alphas: u16x16) -> u16x16
     ensures { result ≡ pick_l 0 (levels ++ alphas) (shown_places is_reversed) }
@@ -173,7 +179,8 @@ fn arranged(is_reversed: bool, levels: u16x16, alphas: u16x16) -> u16x16
     }
 }
 
-/// Returns four pixels as sRGB, by their straight channels and by those that are multiplied by the alphas.
+/// Returns four pixels as sRGB, by their straight channels and by those that are multiplied by the
+/// alphas.
 #[inline(always)]
 fn encoded(is_reversed: bool, straight: u16x16, channels: u16x16) -> u8x16
     ensures { result ≡ pick_l 0 (map srgb_encoded8 straight ++ map (λ x. x / 256) channels)
@@ -185,7 +192,7 @@ fn encoded(is_reversed: bool, straight: u16x16, channels: u16x16) -> u8x16
 
 /// Returns four pixels as sRGB. Condition: they have thirty-two bytes.
 ///
-/// Levels are arranged in each branch by themselves, so that LLVM looks up none for an alpha.
+/// Each branch arranges its own levels, so that LLVM looks up none for an alpha.
 #[inline(always)]
 fn shown(is_reversed: bool, bytes: &[u8]) -> u8x16
     requires { length bytes.now ≡ 32 }
@@ -213,7 +220,7 @@ fn encode_four(is_reversed: bool, src: &[u8], dst: &mut [u8])
     }
 }
 
-/// Writes the first of `count` pixels as sRGB, as many as go by fours, and returns how many these are.
+/// Writes as many of the first `count` pixels as go in fours as sRGB. Returns their number.
 ///
 /// Condition: there are `count` of both.
 #[inline(always)]

@@ -1,4 +1,4 @@
-//! The color models by name, for formats that are known when a program runs.
+//! The color models by name, for formats that are known only at run time.
 ghost use Rattle.std.specs.Prelude.{◌≡◌, ◌≤◌, ◌+◌, take, true};
 ghost use Rattle.pix_el.specs.Color.{rgba_of, of_rgba};
 ghost use Rattle.pix_el.specs.Model.{row};
@@ -36,7 +36,7 @@ pub(crate) enum ModelName {
 }
 
 impl ModelName {
-    /// Returns the number of the model, which no other has.
+    /// Returns the number that only this model has.
     #[inline(always)]
     pub(crate) fn kind(self) -> u8
         ensures { result ≡ (row (model_of self)).kind }
@@ -63,7 +63,8 @@ impl ModelName {
         self.kind() == other.kind()
     }
 
-    /// Returns the channel number of the first color that is no hue, and that of the alpha, which comes after the last color.
+    /// Returns the channel number of the first color that is not a hue, and that of the alpha,
+    /// which comes after the last color.
     #[inline(always)]
     pub(crate) fn places(self) -> (usize, usize)
         ensures first { result.0 ≡ (row (model_of self)).colors.start }
@@ -86,7 +87,8 @@ pub(crate) trait Colored: Channel {
         ensures { listed Self.number result ≡
             rgba_of M.to_rgb M.ALPHA Self.max (listed Self.number pixel) };
 
-    /// Returns the pixel of two channels of the model `M` that has this red, green, blue and alpha; others are the maximum.
+    /// Returns the pixel of two channels of the model `M` that has this red, green, blue and alpha.
+    /// Other channels are the maximum.
     ///
     /// Condition: the model has as many channels.
     fn two_of_rgba<M: ColorModel>(rgba: Four<Self>) -> Four<Self>
@@ -94,7 +96,8 @@ pub(crate) trait Colored: Channel {
         ensures { listed Self.number result ≡ four_of Self.max (take 2
             (of_rgba M.of_rgb Self.max (listed Self.number rgba))) };
 
-    /// Returns the pixel of four channels of the model `M` that has this red, green, blue and alpha; others are the maximum.
+    /// Returns the pixel of four channels of the model `M` that has this red, green, blue and
+    /// alpha. Other channels are the maximum.
     ///
     /// Condition: the model has as many channels.
     fn four_of_rgba<M: ColorModel>(rgba: Four<Self>) -> Four<Self>
@@ -179,7 +182,8 @@ pub(crate) fn into_rgb<C: Colored>(model: ModelName, pixel: Four<C>) -> Four<C>
     }
 }
 
-/// Returns the pixel of the model that has this red, green, blue and alpha; a channel that the model lacks is the maximum.
+/// Returns the pixel of the model that has this red, green, blue and alpha; a channel that the
+/// model lacks is the maximum.
 #[inline(always)]
 pub(crate) fn out_of_rgb<C: Colored>(model: ModelName, rgba: Four<C>) -> Four<C>
     ensures { listed C.number result ≡ four_of C.max
@@ -220,7 +224,8 @@ fn rgba_of<P: Pixel>(pixel: Four<P::Chan>) -> Four<P::Chan>
     }
 }
 
-/// Returns the pixel of the format `P` that has this red, green, blue and alpha; a channel that it lacks is the maximum.
+/// Returns the pixel of the format `P` that has this red, green, blue and alpha; a channel that it
+/// lacks is the maximum.
 ///
 /// Condition: the format has no more channels than its model.
 fn of_rgba<P: Pixel>(rgba: Four<P::Chan>) -> Four<P::Chan>

@@ -5,9 +5,9 @@ ghost use Rattle.pix_bytes.specs.declared.bitmap.quotient.TheConstants.{RECIPROC
 
 use pix_chan::chan::{Alpha, Ch16, Channel, Premultiplied};
 
-/// 2^48 / 257 `b` rounded down, and one more, for each number `b` of eight bits but 0: then 0.
+/// 2^48 / 257 `b` rounded down, plus one, for each number `b` of eight bits. For 0 it is 0.
 ///
-/// An alpha that comes from eight bits is 257 times what it was there.
+/// An alpha that comes from eight bits is 257 times its number there.
 const RECIPROCALS: [u64; 256] = [
     0,
     1095233372416,
@@ -277,7 +277,8 @@ pub(super) fn reciprocal(b: usize) -> u64
     RECIPROCALS[b]
 }
 
-/// Returns the quotient of two channels: at an alpha that comes from eight bits by a multiplication.
+/// Returns the quotient of two channels. For an alpha that comes from eight bits it uses a
+/// multiplication.
 #[inline(always)]
 pub(crate) fn quotient(c: Ch16, alpha: Ch16) -> Ch16
     ensures { result.value ≡ channel_quotient 65535 c.value alpha.value }

@@ -8,7 +8,7 @@ const LIMIT: u32 = 2147483647;
 /// Where the rows of a bitmap lie.
 #[derive(Clone, Copy)]
 pub(crate) struct Lines {
-    /// How many bytes they lie apart, and below 0 where they go from bottom to top.
+    /// How many bytes they lie apart. It is below 0 where they go from bottom to top.
     pub stride: i64,
 }
 
@@ -27,7 +27,8 @@ impl Lines {
         self.stride < 0
     }
 
-    /// Returns whether the rows of a bitmap, of `wide` bytes each, lie in `count` bytes and share none.
+    /// Returns whether the rows of a bitmap, of `wide` bytes each, lie in `count` bytes and share
+    /// none.
     pub(crate) fn is_held(self, width: u32, height: u32, wide: usize, count: usize) -> bool
         ensures { result ≡ is_held width height wide self.stride count }
     {
@@ -47,7 +48,8 @@ impl Lines {
         }
     }
 
-    /// Returns where row `y` begins. Condition: there is such a row, and the last one begins in bytes.
+    /// Returns where row `y` starts. Condition: there is such a row, and the last one starts in the
+    /// bytes.
     pub(crate) fn row_start(self, height: usize, y: usize) -> usize
         requires there { y < height }
         requires fits { (height - 1) * distance self.stride ≤ usize.MAX }

@@ -4,7 +4,8 @@ ghost use Rattle.pix_bytes.specs.Stored.{sample_at, sample_size};
 
 use pix_chan::chan::{Ch8, Ch16, Channel};
 
-/// A channel that lies in bytes: one of 8 bits in one byte, and one of 16 bits in two, the lower first.
+/// A channel in bytes. A channel of 8 bits has one byte, and one of 16 bits has two, the lower
+/// first.
 pub(crate) trait Sample: Channel {
     /// Returns how many bytes it has.
     fn size() -> usize
@@ -15,7 +16,8 @@ pub(crate) trait Sample: Channel {
         requires { (number + 1) * sample_size Self.max ≤ length bytes.now }
         ensures { Self.number result ≡ sample_at Self.max bytes.now number };
 
-    /// Sets the sample of that number in the bytes of a pixel, and no other. Condition: there is one.
+    /// Sets the sample of that number in the bytes of a pixel, and no other. Condition: there is
+    /// one.
     fn write(self, bytes: &mut [u8], number: usize)
         requires { (number + 1) * sample_size Self.max ≤ length bytes.old }
         ensures own { sample_at Self.max bytes.new number ≡ Self.number self }

@@ -1,4 +1,4 @@
-//! How a pixel goes from one format to another, where both are known when a program runs.
+//! How a pixel is converted from one format to another, where both are known only at run time.
 ghost use Rattle.std.specs.Prelude.{◌≡◌, ◌≤◌, ◌<◌, ◌+◌, ◌*◌, ℕ, List, length, nat_lt, take, if◌then◌else◌};
 ghost use Rattle.pix_chan.specs.Srgb16.{srgb_decoded16, srgb_encoded8};
 ghost use Rattle.pix_el.specs.Pixel.{Layout, channel, lies_in};
@@ -21,14 +21,15 @@ use crate::bitmap::quotient::quotient;
 use pix_chan::chan::{Alpha, Ch8, Ch16, Channel, Gamma, Linear, Premultiplied};
 use std::marker::PhantomData;
 
-/// What of two formats decides how a pixel goes from the one to the other within a color model.
+/// The parts of two formats that decide how a pixel is converted from one to the other within a
+/// color model.
 #[derive(Clone, Copy)]
 struct Step {
     /// How many channels the other has.
     count: usize,
-    /// The channel number of its first color that is no hue.
+    /// The channel number of its first color that is not a hue.
     first: usize,
-    /// The channel number behind its last color: that of the alpha.
+    /// The channel number after its last color, which is that of the alpha.
     end: usize,
     /// Whether the colors of the first format are multiplied by the alpha.
     is_premultiplied: bool,
@@ -57,7 +58,8 @@ impl Step {
         }
     }
 
-    /// Returns the step from red, green, blue and alpha to the same, in the alpha modes of two formats.
+    /// Returns the step from red, green, blue and alpha to the same, in the alpha modes of two
+    /// formats.
     #[inline(always)]
     fn of_rgba(from: Stored, to: Stored) -> Step
         ensures { result ≡ record {
@@ -95,7 +97,8 @@ fn mode_changed<C: Channel>(from: bool, to: bool, c: C, alpha: C) -> C
     }
 }
 
-/// Returns a color channel at an alpha, from one alpha mode and the gamma mode `G` to another and `H`.
+/// Returns a color channel at an alpha, from one alpha mode and the gamma mode `G` to another and
+/// `H`.
 #[inline(always)]
 fn reencoded<C, G, H>(from: bool, to: bool, c: C, alpha: C) -> C
 where
@@ -141,7 +144,8 @@ fn at_depth<C: Channel, D: Channel>(c: C) -> D
     D::from_16_bit(c.to_16_bit())
 }
 
-/// Returns a channel at another depth, the maximum where the other format lacks the channel of that number.
+/// Returns a channel at another depth, the maximum where the other format lacks the channel of that
+/// number.
 #[inline(always)]
 fn depth_or_max<C: Channel, D: Channel>(count: usize, ch: usize, c: C) -> D
     ensures { D.number result ≡ (if nat_lt ch count then at_depth C.max D.max (C.number c)
@@ -150,7 +154,7 @@ fn depth_or_max<C: Channel, D: Channel>(count: usize, ch: usize, c: C) -> D
     if ch < count { at_depth(c) } else { D::MAX }
 }
 
-/// Returns a pixel at another depth; a channel that the other format, of so many, lacks is the maximum.
+/// Returns a pixel at another depth. A channel that the other format lacks is the maximum.
 #[inline(always)]
 fn rescaled<C: Channel, D: Channel>(count: usize, pixel: Four<C>) -> Four<D>
     requires few { count ≤ 4 }
@@ -202,7 +206,8 @@ pub(crate) trait Way<C: Channel, D: Channel> {
             → take to.count (listed D.number result)
             ≡ makes (format_at C.max from) (format_at D.max to) p };
 
-    /// Writes as many of the first `count` pixels as this way has several at once for, and returns how many these are.
+    /// Writes as many of the first `count` pixels as this way converts several at once, and returns
+    /// their number.
     ///
     /// Condition: there are `count` in both.
     fn go_ahead(&self, from: Stored, to: Stored, src: &[u8], dst: &mut [u8], count: usize) -> usize
@@ -267,7 +272,8 @@ impl<C: Colored, D: Colored, G: Gamma<D>, H: Gamma<D>> Way<C, D> for Converted<G
 /// The way of an sRGB pixel into light.
 pub(crate) struct IntoLight;
 
-/// Decodes a pixel into light within its model. A channel that the format in light lacks is the maximum.
+/// Decodes a pixel into light within its model. A channel that the format in light lacks is the
+/// maximum.
 #[inline(always)]
 fn decoded(step: Step, pixel: Four<Ch8>) -> Four<Ch16>
     requires few { step.count ≤ 4 }
@@ -349,7 +355,7 @@ impl Way<Ch8, Ch16> for IntoLight {
 /// The way of a linear pixel of 16 bits to sRGB.
 pub(crate) struct OutOfLight;
 
-/// Does what [`mode_changed`] does, by the quotient of channels of 16 bits.
+/// Does what [`mode_changed`] does, with the quotient of channels of 16 bits.
 #[inline(always)]
 fn straightened(from: bool, to: bool, c: Ch16, alpha: Ch16) -> Ch16
     ensures { result.value ≡ mode_changed 65535 (alpha_mode_of from) (alpha_mode_of to)

@@ -7,7 +7,8 @@ use pix_el::model::ColorModel;
 
 /// A format of pixels whose channels are bytes.
 pub(crate) trait Bytes: Pixel {
-    /// Returns the pixel of these channels. Condition: there are as many as the format has, at most four.
+    /// Returns the pixel of these channels. Condition: there are as many as the format has, at most
+    /// four.
     fn of_bytes(bytes: &[u8]) -> Self
         requires few { Self.layout.count ≤ 4 }
         requires count { length bytes.now ≡ Self.layout.count }

@@ -47,7 +47,8 @@ fn matted_block<
     write_pixels(part, &pixels);
 }
 
-/// Composites as many whole blocks of `N` pixels of a row, at most sixteen, as all three have, and returns the number of those pixels.
+/// Composites as many whole blocks of `N` pixels of a row, at most sixteen, as all three have, and
+/// returns the number of those pixels.
 #[inline(always)]
 fn matted_blocks<
     const N: usize,
