@@ -1,6 +1,7 @@
-//! Raster images: channels, pixels, color models, regions, rasters, commands, runs, palettes and tables of colors.
+//! Raster images: channels, pixels, color models, regions, rasters, commands, runs, palettes and
+//! tables of colors.
 //!
-//! This crate has what the crates below it make, so that a user names `pix` alone.
+//! This crate exports what the crates below it make, so a user names only `pix`.
 //!
 //! # Examples
 //!
@@ -10,7 +11,8 @@
 //! Ok(picture)
 //! ```
 //!
-//! In the examples `alloc` is the `Global` that the caller is handed. Each stands in the crate `pix_uses`, with what it imports, and is proved there.
+//! In the examples `alloc` is the `Global` that the caller gets. Each example is in the crate
+//! `pix_uses`, with its imports, and is proved there.
 #![tactic(auto)]
 
 pub use pix_color::{bgr, cmy, gray, hsl, hsv, hue, hwb, xyz, ycc};

@@ -1,7 +1,9 @@
-//! What the benchmark in `bench/` times of rasters alone: the calls for C have no hues, no luma and no palettes.
+//! What the benchmark in `bench/` times of rasters alone. The calls for C have no hues, no luma and
+//! no palettes.
 //!
-//! [`pix_bench`] makes rasters of bytes, does a piece of work some number of times, and writes the bytes of the outcome. The benchmark
-//! takes the time of many times less that of none, so that what is made around the work does not count.
+//! [`pix_bench`] makes rasters of bytes, does a piece of work some number of times, and writes the
+//! bytes of the outcome. The benchmark subtracts the time of a run without work, so that what is
+//! made around the work does not count.
 #![tactic(auto)]
 
 mod rasters;
@@ -11,7 +13,8 @@ use pix::rgb::Rgb;
 use pix::ycc::YCbCr;
 use std::alloc::Global;
 
-/// Does work number `work` so many `times` over the bytes of `src`, writes those of the outcome to `out`, and answers whether it could.
+/// Does the work of number `work` over the bytes of `src`, `times` times. It writes the bytes of
+/// the outcome to `out`, and returns whether it could.
 ///
 /// The numbers are those that `bench/bench.c` has for its rows.
 #[unsafe(no_mangle)]

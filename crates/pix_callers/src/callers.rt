@@ -69,7 +69,8 @@ fn a_sun_at_each_point(rt: HostRuntime) -> Result<(), Fail> {
     Ok(())
 }
 
-/// 200 * 191 / 255 = 149.8, 100 * 191 / 255 = 74.9, 64 + 50 * 191 / 255 = 101.5 with 37.45 rounded first, 64 + 191 = 255.
+/// 200 * 191 / 255 = 149.8, 100 * 191 / 255 = 74.9, 64 + 50 * 191 / 255 = 101.5 with 37.45 rounded
+/// first, 64 + 191 = 255.
 #[test]
 fn a_glaze_over_a_ground(rt: HostRuntime) -> Result<(), Fail> {
     let pixel = glazed(rt.alloc(), opaque(200, 100, 50), glass())?;
@@ -166,7 +167,8 @@ fn a_tile_of_a_page(rt: HostRuntime) -> Result<(), Fail> {
     Ok(())
 }
 
-/// After the first glaze (150, 75, 101, 255); 150 * 191 / 255 = 112.4, 75 * 191 / 255 = 56.2, 64 + 101 * 191 / 255 = 139.7.
+/// After the first glaze (150, 75, 101, 255); 150 * 191 / 255 = 112.4, 75 * 191 / 255 = 56.2, 64 +
+/// 101 * 191 / 255 = 139.7.
 #[test]
 fn two_glazes(rt: HostRuntime) -> Result<(), Fail> {
     let sand = opaque(200, 100, 50);
@@ -265,7 +267,8 @@ fn luminance_of_red(rt: HostRuntime) {
     assert_eq!(rt; luminance(red), Gray8::new(54));
 }
 
-/// 0xEF, 0x8C, 0xC7 are 56567, 17187, 37429 in light. Half a black over them leaves 32639/65535 of each: 28173, 8560 and 18641, which are 0xAF, 0x65 and 0x91.
+/// 0xEF, 0x8C, 0xC7 are 56567, 17187, 37429 in light. Half a black over them leaves 32639/65535 of
+/// each: 28173, 8560 and 18641, which are 0xAF, 0x65 and 0x91.
 #[test]
 fn a_glaze_over_a_photograph(rt: HostRuntime) -> Result<(), Fail> {
     let photo = Raster::with_color(rt.alloc(), 3, 2, SRgb8::new::<u8>(0xEF, 0x8C, 0xC7))?;

@@ -49,7 +49,8 @@ fn premultiplied_pixels(rt: HostRuntime) {
     assert_eq!(rt; deep, Rgba16p::default());
 }
 
-/// The curve at 188/255 is 32957 of 65535, and at 1/255 it is 20; 128 of 8 bits is 32896 of 16. Times that alpha they are 16543.3 and 10.04.
+/// The curve at 188/255 is 32957 of 65535, and at 1/255 it is 20; 128 of 8 bits is 32896 of 16.
+/// Times that alpha they are 16543.3 and 10.04.
 #[test]
 fn pixels_in_light(rt: HostRuntime) {
     let gray = SGraya8::new(188, 128).decode_srgb::<Graya16p>();

@@ -1,7 +1,7 @@
 //! Pixels converted from format to format.
 //!
-//! A call at a concrete format costs the prover seconds, so a format is handed on by its parts: the count of its channels, its color
-//! model, its alpha mode and its gamma mode.
+//! A call at a concrete format costs the prover seconds. So a format is passed on in parts: the
+//! count of its channels, its color model, its alpha mode and its gamma mode.
 ghost use Rattle.std.specs.Prelude.{◌≤◌, ◌+◌};
 
 use crate::flaw::Flaw;
@@ -99,7 +99,8 @@ where
     of_eight::<N, M, Premultiplied, G, Pix<N, Ch8, M, Straight, Linear>>(word, alloc)
 }
 
-/// Converts the pixel of a word, of the format of a name, to straight linear channels of eight bits without an alpha.
+/// Converts the pixel of a word, of the format of a name, to straight linear channels of eight bits
+/// without an alpha.
 fn to_model(from: &str, word: &str, to: &str, alloc: Global) -> Result<String, Flaw> {
     match to {
         "Rgb8" => to_eight::<3, Rgb, Straight, Linear>(from, word, alloc),
@@ -115,7 +116,8 @@ fn to_model(from: &str, word: &str, to: &str, alloc: Global) -> Result<String, F
     }
 }
 
-/// Converts the pixel of a word, of the format of a name, to the format of eight bits of these parts.
+/// Converts the pixel of a word, of the format of a name, to the format of eight bits of these
+/// parts.
 fn to_eight<const N: usize, M, A, G>(from: &str, word: &str, alloc: Global) -> Result<String, Flaw>
 where
     M: ColorModel,

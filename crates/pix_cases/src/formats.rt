@@ -1,7 +1,7 @@
 //! The formats by name.
 //!
-//! A call at a concrete format costs the prover seconds, so a format is handed on by its parts: the count of its channels, its color
-//! model, its alpha mode and its gamma mode.
+//! A call at a concrete format costs the prover seconds. So a format is passed on in parts: the
+//! count of its channels, its color model, its alpha mode and its gamma mode.
 ghost use Rattle.std.specs.Prelude.{◌≤◌};
 
 use crate::conversions::{of_rgb8, of_rgba8, to_rgba8};
@@ -107,7 +107,8 @@ impl Format {
         }
     }
 
-    /// Does a task for this format of a model, which has `N` channels without an alpha and `K` with one.
+    /// Does a task for this format of a model, which has `N` channels without an alpha and `K` with
+    /// one.
     fn of_model<const N: usize, const K: usize, M>(
         self,
         task: Task,

@@ -10,8 +10,8 @@ use pix_script::paint_io;
 use std::alloc::Global;
 
 /// `4097`: the length of a row of grays, whose values count up and begin again after 255. The
-/// answer is how many of them are right: as bytes, in a copy, in a raster made of the bytes, as
-/// words of sixteen bits, and in a raster made of the words.
+/// answer is how many of them are right. They are counted as bytes, in a copy, in a raster made of
+/// the bytes, as words of sixteen bits, and in a raster made of the words.
 pub(crate) fn row(words: &[&str], alloc: Global) -> Result<String, Flaw> {
     let [word] = words else {
         return Err(Flaw::Count);

@@ -48,7 +48,7 @@ fn unquoted(words: &[&str], alloc: Global) -> Result<Vec<u8>, Flaw> {
     Ok(script)
 }
 
-/// Adds the byte of what stands behind a `\`, and returns what follows.
+/// Adds the byte of what follows a `\`, and returns what follows.
 fn escaped<'a>(escape: &'a [u8], script: &mut Vec<u8>) -> Result<&'a [u8], Flaw> {
     let (byte, rest) = match escape {
         [b'n', rest @ ..] => (b'\n', rest),

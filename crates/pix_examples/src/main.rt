@@ -1,4 +1,5 @@
-//! Renders each script of the folder `examples`, and prints whether the result is that of the file beside it.
+//! Renders each script of the folder `examples`, and prints whether the result is that of the file
+//! beside it.
 #![tactic(auto)]
 
 use pix_script::paint_text;

@@ -1,5 +1,6 @@
-//! Prints a picture of many colors, beside it the same picture indexed by a palette of few, and below them that palette: red, green, blue and
-//! alpha of each pixel in hexadecimal.
+//! Prints a picture of many colors, and beside it the same picture indexed with a palette of few
+//! colors. Below them it prints that palette. Each pixel is its red, green, blue and alpha in
+//! hexadecimal.
 #![tactic(auto)]
 
 use pix::el::Pixel;

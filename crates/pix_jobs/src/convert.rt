@@ -78,7 +78,8 @@ fn through<M: ColorModel>(alloc: Global, linear: &Raster<Rgb8>, digest: &mut Dig
     digest.add_raster(alloc, &back)
 }
 
-/// Converts a picture to 16 bits and back, by way of a buffer of words, and there to another color model.
+/// Converts a picture to 16 bits and back, by way of a buffer of words, and there to another color
+/// model.
 fn words(alloc: Global, linear: &Raster<Rgb8>, digest: &mut Digest) -> Option<()> {
     let fine = Raster::<Rgb16>::with_raster(alloc, linear).ok()?;
     let (width, height) = (fine.width(), fine.height());
@@ -95,7 +96,8 @@ fn words(alloc: Global, linear: &Raster<Rgb8>, digest: &mut Digest) -> Option<()
     digest.add_raster(alloc, &coarse)
 }
 
-/// Converts a picture with an alpha to premultiplied pixels and back, of 8 and of 16 bits, and by way of a buffer to blue first.
+/// Converts a picture with an alpha to premultiplied pixels and back, of 8 and of 16 bits, and by
+/// way of a buffer to blue first.
 fn alphas(alloc: Global, shade: &Raster<SRgba8>, digest: &mut Digest) -> Option<()> {
     let (width, height) = (shade.width(), shade.height());
     let bytes = shade.to_u8_vec(alloc).ok()?;

@@ -6,7 +6,8 @@ use pix::gray::Gray8;
 use pix::{ColorModel, Raster};
 use std::alloc::Global;
 
-/// A number that all bytes which were added have changed, by the method of Fowler, Noll and Vo for words of 64 bits.
+/// A number that all bytes which were added have changed, by the method of Fowler, Noll and Vo for
+/// words of 64 bits.
 #[derive(Drop)]
 pub(crate) struct Digest {
     pub(crate) value: u64,
@@ -55,7 +56,8 @@ impl Digest {
         Some(())
     }
 
-    /// Adds the channels of a raster of 16 bits, all bits of each, pixel by pixel, and the number of pixels.
+    /// Adds the channels of a raster of 16 bits, all bits of each, pixel by pixel, and the number
+    /// of pixels.
     pub(crate) fn add_wide_raster<const N: usize, M, A, G>(
         &mut self,
         raster: &Raster<Pix<N, Ch16, M, A, G>>,

@@ -1,8 +1,9 @@
-//! The jobs that users of the library wait for, which `bench/run` times: images of indices, pictures in another format, sprites, photographs in
-//! light, scripts, and tables of colors.
+//! The jobs that users of the library wait for, which `bench/run` times: images of indices,
+//! pictures in another format, sprites, photographs in light, scripts, and tables of colors.
 //!
-//! Three arguments say what is done: the name of a job, `whole` or `small`, and the seed of its inputs. A line is printed with the name and a digest of
-//! all results. For `all` each job is done. Each part of the tables has a name as a job too.
+//! Three arguments say what is done: the name of a job, `whole` or `small`, and the seed of its
+//! inputs. A line is printed with the name and a digest of all results. For `all` each job is done.
+//! Each part of the tables has a name as a job too.
 #![tactic(auto)]
 
 mod convert;
@@ -43,7 +44,7 @@ fn main(rt: HostRuntime) -> ExitCode {
     }
 }
 
-/// Does what the arguments say; returns whether they say it.
+/// Does what the arguments say. Returns whether they say it.
 fn run(rt: &HostRuntime) -> io::Result<bool> {
     let mut words = env::args(rt)?.skip(1);
     let (Some(job), Some(size), Some(seed)) = (words.next(), words.next(), words.next()) else {
@@ -86,7 +87,7 @@ fn print_job(rt: &HostRuntime, name: &str, size: Size, seed: u64) -> io::Result<
     }
 }
 
-/// Does a job; or answers `None` where a request for memory was refused.
+/// Does a job; or returns `None` where a request for memory was refused.
 fn done(
     alloc: Global,
     name: &str,

@@ -1,4 +1,5 @@
-//! Pseudorandom numbers, the same for the same seed: a linear congruential generator of 64 bits, whose high half is mixed into the low one.
+//! Pseudorandom numbers, the same for the same seed: a linear congruential generator of 64 bits,
+//! whose high half is mixed into the low one.
 ghost use Rattle.std.specs.Prelude.{◌<◌};
 
 /// A sequence of numbers.

@@ -47,7 +47,8 @@ fn near(entries: usize) -> SRgb8 {
     SRgb8::new(apart, apart, apart)
 }
 
-/// Indexes a picture by a palette of up to 65536 colors, whose threshold is 0 or grows, and counts its indices.
+/// Indexes a picture by a palette of up to 65536 colors, whose threshold is 0 or grows, and counts
+/// its indices.
 fn wide(alloc: Global, picture: Raster<SRgb8>, grows: bool, digest: &mut Digest) -> Option<()> {
     let mut palette = Palette::new(alloc, 65536).ok()?;
     if grows {

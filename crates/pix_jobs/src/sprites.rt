@@ -188,7 +188,8 @@ fn stacked<'a, C: Channel, M: ColorModel>(
     Ok(commands)
 }
 
-/// Returns the command of a layer that is moved by up to fifty pixels, or through a mask, or of a color.
+/// Returns the command of a layer that is moved by up to fifty pixels, or through a mask, or of a
+/// color.
 fn layer<'a, C: Channel, M: ColorModel>(
     sheet: &'a Sheet<Pix<4, C, M, Premultiplied, Linear>, Pix<1, C, Matte, Premultiplied, Linear>>,
     random: &mut Random,

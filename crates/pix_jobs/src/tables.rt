@@ -1,5 +1,6 @@
-//! Tables of colors and palettes as sprite sheets, tiles, fonts and readers by rows have them: tables that have room for all colors, small images,
-//! grays and dark colors, palettes of many colors; and pictures of scripts that are a few columns wide.
+//! Tables of colors and palettes as in sprite sheets, tiles, fonts and readers that go row by row.
+//! They are tables with room for all colors, small images, grays and dark colors, and palettes of
+//! many colors. There are also pictures of scripts that are a few columns wide.
 //!
 //! Each part is a job of its own too.
 

@@ -1,6 +1,8 @@
-//! Rasters from buffers, and back: where a request is refused, what was handed in comes back as it was.
+//! Rasters from buffers, and back: where a request is refused, what was handed in comes back as it
+//! was.
 //!
-//! A buffer or a raster that could not be made for a call ends its function: nothing was handed in then.
+//! A buffer or a raster that could not be made for a call ends its function: nothing was handed in
+//! then.
 use pix::el::Pixel;
 use pix::rgb::{Rgba8p, Rgba16p};
 use pix::{Raster, RasterFault};

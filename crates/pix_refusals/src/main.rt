@@ -1,4 +1,5 @@
-//! Makes each call that asks for memory, for runs in which a request is refused: each answer has to be the right one or the refusal's.
+//! Makes each call that asks for memory, for runs in which a request is refused: each answer has to
+//! be the right one or the refusal's.
 //!
 //! A call that answers otherwise is printed, and the exit status is 1 then.
 #![tactic(auto)]

@@ -1,7 +1,7 @@
 //! Palettes that are made, copied and counted by.
 //!
-//! Each function makes its own palette of [`colors`], with room for one more: a palette may hold a function pointer, and the gate refuses
-//! a function that makes one and hands it out.
+//! Each function makes its own palette of [`colors`], with room for one more. A palette may hold a
+//! function pointer, and the gate refuses a function that makes one and hands it out.
 use pix::gray::{Gray8, Gray16};
 use pix::rgb::SRgb8;
 use pix::{Palette, Raster, RasterFault};
@@ -136,8 +136,8 @@ fn near(_entries: usize) -> SRgb8 {
     SRgb8::new(0u8, 1u8, 0u8)
 }
 
-/// Colors are found by places, and those within a threshold by blocks. Where a request for those is refused, all entries are looked at:
-/// the answer is the same.
+/// Colors are found by places, and those within a threshold by blocks. Where a request for those is
+/// refused, all entries are looked at: the answer is the same.
 pub(crate) fn make_indexed_of_many(alloc: Global) -> bool {
     let (Ok(mut palette), Some(mut raster)) = (Palette::new(alloc, 200), many_colors(alloc)) else {
         return true;

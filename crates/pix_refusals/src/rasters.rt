@@ -1,4 +1,5 @@
-//! Rasters that are made, copied and converted. The bodies are generic, since each call at a concrete format costs the prover seconds.
+//! Rasters that are made, copied and converted. The bodies are generic, since each call at a
+//! concrete format costs the prover seconds.
 ghost use Rattle.std.specs.Prelude.{◌≤◌, ◌+◌};
 
 use pix::chan::Gamma;

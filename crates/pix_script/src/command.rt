@@ -41,7 +41,7 @@ pub(crate) enum Kind {
     Color,
 }
 
-/// Which commands earlier lines have.
+/// Which commands the earlier lines have.
 #[derive(Clone, Copy)]
 pub(crate) struct Earlier {
     pub(crate) image: bool,
@@ -85,7 +85,8 @@ impl Line {
         !is_clear || !self.clears()
     }
 
-    /// Returns the command on a raster that draws so, where `kept` is the kept image, and `None` where nothing is drawn.
+    /// Returns the raster command that draws the same, where `kept` is the kept image. Returns
+    /// `None` where nothing is drawn.
     pub(crate) fn drawing<'a>(
         &self,
         kept: &'a Raster<Rgba8p>,

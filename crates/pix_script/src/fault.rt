@@ -7,8 +7,9 @@ use std::alloc::AllocError;
 use std::fmt;
 use thiserror::Error;
 
-/// The problem of a faulty line, by number. A line is tested in another order: for `UnknownWord`, `WrongCount`, `NoImage` or
-/// `SecondImage`, and then for the others as they stand here.
+/// The problem of a faulty line, in the order of the numbers. A line is tested in another order:
+/// for `UnknownWord`, `WrongCount`, `NoImage` or `SecondImage`, and then for the others as they are
+/// listed here.
 #[derive(Clone, Copy, Debug, PartialEq, Eq, Error)]
 pub enum Problem {
     /// Another command comes before `image`.
@@ -88,7 +89,8 @@ impl fmt::Display for PaintFault {
 }
 
 impl PaintFault {
-    /// Returns the fault's number: 1 to 8 for the problem of a line, 9 for an allocation failure, 10 for a script that is too long.
+    /// Returns the fault's number. It is 1 to 8 for the problem of a line, 9 for an allocation
+    /// failure, and 10 for a script that is too long.
     pub fn number(&self) -> u32
         ensures { result ≡ fault_number self.now }
     {
@@ -99,7 +101,8 @@ impl PaintFault {
         }
     }
 
-    /// Returns the number of the faulty line, counted from 1, or `None` where the fault is not one of a line.
+    /// Returns the number of the faulty line, counted from 1, or `None` where the fault is not in a
+    /// line.
     pub fn line(&self) -> Option<usize>
         ensures { result ≡ fault_line self.now }
     {

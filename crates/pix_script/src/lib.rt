@@ -1,4 +1,4 @@
-//! Paint scripts: lines of text that draw an image, whose pixels are printed as text.
+//! Paint scripts: lines of text that draw an image. Its pixels are printed as text.
 //!
 //! # Examples
 //!

@@ -15,7 +15,7 @@ pub(crate) fn without_return(line: &[u8]) -> &[u8]
     }
 }
 
-/// Makes `words` those of a line, which spaces part.
+/// Sets `words` to the words of a line, which are separated by spaces.
 #[tactic(auto, unfolding(crate::specs::Lines::words_of))]
 pub(crate) fn read_words<'a>(words: &mut Vec<&'a [u8]>, line: &'a [u8]) -> Result<(), AllocError>
     ensures { OnOk result (map (λ word. word.now) words.new.items ≡ words_of line.now) }

@@ -11,7 +11,7 @@ const MAX_COORDINATE: u32 = 2_147_483_647;
 /// The least coordinate, without its minus.
 const MAX_BELOW_ZERO: u32 = 2_147_483_648;
 
-/// The number of a word that is decimal digits alone, where it isn't above the limit.
+/// The number of a word of only decimal digits, where it isn't above the limit.
 fn number(word: &[u8], limit: u32) -> Option<u32>
     ensures value { result ≡ number_up_to limit word.now }
     ensures bound { IfSome result (λ number. number ≤ limit) }
@@ -41,7 +41,7 @@ pub(crate) fn side(word: &[u8]) -> Option<u32>
     number(word, MAX_SIDE)
 }
 
-/// The word as a place across or down, which one minus may begin.
+/// The word as a place across or down, which may start with one minus.
 #[tactic(auto, unfolding(crate::specs::Numbers::coordinate_of))]
 pub(crate) fn coordinate(word: &[u8]) -> Option<i32>
     ensures { result ≡ coordinate_of word.now }
@@ -72,7 +72,7 @@ fn hex_digit(letter: u8) -> Option<u8>
     }
 }
 
-/// The byte that two hexadecimal digits spell, the higher digit first.
+/// The byte that two hexadecimal digits spell, with the higher digit first.
 #[tactic(auto, unfolding(crate::specs::Numbers::hex_byte_of))]
 fn hex_byte(high: u8, low: u8) -> Option<u8>
     ensures { result ≡ hex_byte_of high low }

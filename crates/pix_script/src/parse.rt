@@ -16,8 +16,8 @@ use pix_raster::Region;
 /// The greatest side of an image.
 const MAX_IMAGE_SIDE: u32 = 1024;
 
-/// The row of a command: what its words after its name have to be, whether it makes the image, whether it reads the kept one, and what
-/// the words mean, where they are what they have to be.
+/// The row of a command. It says what the words after the name have to be, whether the command
+/// makes the image, and whether it reads the kept image. It also says what valid words mean.
 #[derive(Clone, Copy)]
 struct Row {
     words: &'static [Kind],
@@ -57,7 +57,8 @@ fn parse_words(name: &[u8], arguments: &[&[u8]], earlier: Earlier) -> Result<Opt
     Ok(row.line)
 }
 
-/// Returns the row of the command of a name, where these words follow the name: the table of all commands.
+/// Returns the row of the command of a name, where these words follow the name. It is the table of
+/// all commands.
 fn row_of(name: &[u8], words: &[&[u8]]) -> Option<Row>
     ensures shape { option_map shape_of result ≡ option_map (λ c. c.shape) (named name.now commands) }
     ensures line { let all = map (λ word. word.now) words.now in
@@ -177,7 +178,8 @@ fn paint(arguments: &[&[u8]]) -> Option<Line>
     Some(Line::Paint { op, reg, color })
 }
 
-/// Reads the words after `copy`: left and top of the destination, left and top of the source, width and height.
+/// Reads the words after `copy`: left and top of the destination, left and top of the source, width
+/// and height.
 #[tactic(auto, unfolding(crate::specs::Meaning::copy_of))]
 fn copy(arguments: &[&[u8]]) -> Option<Line>
     ensures { result ≡ copy_of (map (λ word. word.now) arguments.now) }
@@ -237,7 +239,8 @@ fn check(row: &Row, arguments: &[&[u8]], earlier: Earlier) -> Result<(), Problem
     Ok(())
 }
 
-/// Returns which of the words are bad in their places: none of those that the row's line was read from, which aren't read again.
+/// Returns which of the words are bad in their places. Words that the row's line was read from are
+/// not bad, and aren't read again.
 fn bad_words_of(row: &Row, arguments: &[&[u8]]) -> Bad
     ensures { let all = map (λ word. word.now) arguments.now in
         IsRowOf row.now all → AreBad row.now.words.now all result }
@@ -261,7 +264,7 @@ struct Bad {
 }
 
 impl Bad {
-    /// Returns what is bad in the one or in the other.
+    /// Returns what is bad in either of the two.
     fn or(self, other: Bad) -> Bad
         ensures operator { result.operator ≡ (self.operator || other.operator) }
         ensures number { result.number ≡ (self.number || other.number) }

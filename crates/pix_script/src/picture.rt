@@ -8,7 +8,7 @@ use pix_el::rgb::Rgba8p;
 use pix_raster::Raster;
 use std::alloc::{AllocError, Global};
 
-/// Returns the text of a raster: a line for each row, an empty one where the width is 0.
+/// Returns the text of a raster: a line for each row. The line is empty where the width is 0.
 pub(crate) fn raster_text(alloc: Global, raster: &Raster<Rgba8p>) -> Result<Vec<u8>, AllocError>
     ensures { IfOk result (λ text. text.items ≡ picture_text (picture_of raster.now)) }
 {
@@ -17,7 +17,8 @@ pub(crate) fn raster_text(alloc: Global, raster: &Raster<Rgba8p>) -> Result<Vec<
         let lines = Vec::from_elem(alloc, b'\n', raster.height() as usize)?;
         return Ok(lines);
     }
-    // Eight digits a pixel, and what parts it from the next one or ends the row.
+    // Eight digits for each pixel, and the byte that separates it from the next one or ends the
+    // row.
     let mut out = Vec::with_capacity(alloc, raster.pixels().len().saturating_mul(9))?;
     push_rows(&mut out, raster.pixels(), width)?;
     Ok(out)

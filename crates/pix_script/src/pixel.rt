@@ -38,7 +38,7 @@ fn pixel_cell(pixel: &Rgba8p, after: u8) -> [u8; 9]
     [a, b, c, d, e, f, g, h, after]
 }
 
-/// Adds the cells, one after the other, with one test of the room.
+/// Adds the cells, one after the other, with one test for room.
 // Out of line, so that one cell, whose length is known, is not copied letter by letter.
 #[inline(never)]
 fn push_cells(out: &mut Vec<u8>, cells: &[[u8; 9]]) -> Result<(), AllocError>
@@ -63,8 +63,8 @@ fn after(column: usize, width: usize) -> (u8, usize)
     }
 }
 
-/// Writes the text of each pixel, and what comes after it, into a cell, from the first cell on; the first pixel stands in the column `start`.
-/// Returns the column after the last one.
+/// Writes the text of each pixel, and what comes after it, into a cell, from the first cell on. The
+/// first pixel is in the column `start`. Returns the column after the last one.
 fn write_cells(cells: &mut [[u8; 9]], pixels: &[Rgba8p], start: usize, width: usize) -> usize
     requires room { length pixels.now ≤ length cells.old }
     requires start { start < width }
@@ -82,7 +82,8 @@ fn write_cells(cells: &mut [[u8; 9]], pixels: &[Rgba8p], start: usize, width: us
     column
 }
 
-/// Adds the text of rows of pixels, up to 32 pixels at once, so that the rows of a picture a few columns wide take no longer than others.
+/// Adds the text of rows of pixels, up to 32 pixels at once. So the rows of a picture a few columns
+/// wide take no longer than others.
 ///
 /// Condition: a row has a pixel.
 pub(crate) fn push_rows(

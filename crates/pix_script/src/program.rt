@@ -9,8 +9,9 @@ use std::alloc::Global;
 use std::io;
 use std::io::{ErrorKind, Read, Write};
 
-/// Renders the script of an input to an output by [`paint_io`], reports a stop by one line on an error output, and returns the exit
-/// status: 0 after an image, 1 after a fault of the script, 2 after an allocation failure, and 3 after a failed read or write.
+/// Renders the script of an input to an output by [`paint_io`]. It reports a stop in one line on an
+/// error output. The exit status is 0 after an image, 1 after a fault of the script, 2 after an
+/// allocation failure, and 3 after a failed read or write.
 pub fn run<R: Read, W: Write, E: Write>(
     alloc: Global,
     input: &mut R,
@@ -24,7 +25,7 @@ pub fn run<R: Read, W: Write, E: Write>(
     match paint_io(alloc, input, output) {
         Ok(()) => 0,
         Err(stop) => {
-            // Where this fails too, the status alone tells of the stop.
+            // Where this fails too, only the status tells of the stop.
             let _ = report(errors, stop);
             status(stop)
         }
@@ -41,7 +42,7 @@ fn report<E: Write>(errors: &mut E, stop: PaintStop) -> io::Result<()>
     errors.flush()
 }
 
-/// Writes bytes to their end, or up to a failure; an interrupted write is tried again.
+/// Writes all bytes, or those up to a failure. An interrupted write is tried again.
 // `write_all` promises nothing of what was written before it failed.
 fn write_part<W: Write>(writer: &mut W, bytes: &[u8]) -> io::Result<()>
     ensures { AppendsOrPart (W.contents writer.old) (W.contents writer.new) bytes.now result }

@@ -1,4 +1,4 @@
-//! The line of a report, which takes no allocation.
+//! The line of a report, which needs no allocation.
 ghost use Rattle.std.specs.Prelude.{◌≡◌, [], Some};
 ghost use Rattle.std.specs.Io.{WritesAtMost};
 ghost use Rattle.std.specs.Io.KnownBytes.{Keeps, WriteAppends};
@@ -19,7 +19,7 @@ pub(crate) struct ReportLine {
 }
 
 impl ReportLine {
-    /// Makes a line without a byte.
+    /// Makes an empty line.
     pub(crate) fn new() -> ReportLine
         ensures { bytes_of result ≡ [] }
     {

@@ -19,12 +19,13 @@ use std::alloc::Global;
 /// The most bytes that a script may have.
 pub const MAX_SCRIPT: usize = 1_048_576;
 
-/// Renders a script: returns the text of its image, a line for each row, and no text for a script without commands.
-/// All lines are checked before the first pixel changes.
+/// Renders a script. Returns the text of its image, with a line for each row. A script without
+/// commands has no text. All lines are checked before the first pixel changes.
 ///
 /// # Errors
 ///
-/// The first faulty line with its problem, `TooLong` for more than [`MAX_SCRIPT`] bytes, or `OutOfMemory` after an allocation failure.
+/// The first faulty line with its problem, `TooLong` for more than [`MAX_SCRIPT`] bytes, or
+/// `OutOfMemory` after an allocation failure.
 pub fn paint_text(alloc: Global, script: &[u8]) -> Result<Vec<u8>, PaintFault>
     ensures outcome { Gives (λ text. text.items) result (outcome_of script.now) }
     ensures long { MAX_SCRIPT < length script.now → result ≡ Err PaintFault.TooLong }
@@ -59,7 +60,7 @@ fn read_lines(alloc: Global, script: &[u8]) -> Result<Script, PaintFault>
             keep: false,
         },
     };
-    // The room for a line's words is used again by the next one.
+    // The next line uses the same memory for its words.
     let mut words = Vec::new(alloc);
     for (index, line) in script.split(|byte| *byte == b'\n').enumerate() {
         read.read_line(&mut words, index + 1, line)?;
@@ -68,7 +69,7 @@ fn read_lines(alloc: Global, script: &[u8]) -> Result<Script, PaintFault>
 }
 
 impl Script {
-    /// Reads the line of this number, into `words` first; a comment has none to be read.
+    /// Reads the line of this number, into `words` first. A comment has no words to read.
     fn read_line<'a>(
         &mut self,
         words: &mut Vec<&'a [u8]>,
@@ -116,7 +117,7 @@ fn render_from(alloc: Global, first: Line, others: &[Line]) -> Result<Vec<u8>, P
     let Line::Image { width, height } = first else {
         return Ok(Vec::new(alloc));
     };
-    // Both sides are at most 1024, so that an allocation failure is all that can stop it.
+    // Both sides are at most 1024, so only an allocation failure can stop it.
     let Ok(mut image) = Raster::<Rgba8p>::with_clear(alloc, width, height) else {
         return Err(PaintFault::OutOfMemory);
     };
@@ -134,7 +135,8 @@ fn draw(alloc: Global, image: &mut Raster<Rgba8p>, commands: &[Line]) -> Result<
     let Ok(mut kept) = Raster::<Rgba8p>::with_clear(alloc, 0, 0) else {
         return Err(PaintFault::OutOfMemory);
     };
-    // A copy is made only where something was drawn since the last one, and what is clear is not cleared again.
+    // A copy is made only where something was drawn since the last one. A clear image is not
+    // cleared again.
     let mut is_kept = false;
     let mut is_clear = false;
     for line in commands {
@@ -152,7 +154,8 @@ fn draw(alloc: Global, image: &mut Raster<Rgba8p>, commands: &[Line]) -> Result<
     Ok(())
 }
 
-/// Makes `kept` a copy of an image, in the memory that it has where it is as wide and as high.
+/// Makes `kept` a copy of an image. Where `kept` has the same width and height, its memory is used
+/// again.
 fn keep(alloc: Global, image: &Raster<Rgba8p>, kept: &mut Raster<Rgba8p>) -> Result<(), PaintFault>
     ensures kept { OnOk result (kept.new ≡ image.now) }
     ensures memory { IfErr result (λ fault. fault ≡ PaintFault.OutOfMemory) }

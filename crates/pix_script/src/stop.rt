@@ -48,9 +48,9 @@ impl From<AllocError> for PaintStop {
 ///
 /// # Errors
 ///
-/// `Read` after a failed read, also one that was interrupted; `Script` with the fault that [`paint_text`] answers on the bytes read, or
-/// out of memory; `Write` after a failed write or flush of the text of a script without a fault. After `Read` and `Script` nothing was
-/// written.
+/// `Read` after a failed read, also an interrupted one. `Script` with the fault that [`paint_text`]
+/// returns for the bytes read, or where memory runs out. `Write` after a failed write or flush of
+/// the text of a script without a fault. After `Read` and `Script` nothing was written.
 pub fn paint_io<R: Read, W: Write>(
     alloc: Global,
     reader: &mut R,

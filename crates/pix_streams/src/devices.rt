@@ -4,7 +4,8 @@ use std::io;
 use std::io::{ErrorKind, Read, Write};
 use std::test::Fail;
 
-/// Gives at most `step` bytes a call, and fails at the call of the number `fails_at`, counted from 1.
+/// Gives at most `step` bytes a call, and fails at the call of the number `fails_at`, counted from
+/// 1.
 #[derive(Drop)]
 struct Source<'a> {
     bytes: &'a [u8],
@@ -40,7 +41,8 @@ impl Read for Source<'_> {
     }
 }
 
-/// Takes at most `step` bytes a call, and fails at the call of the number `fails_at`, counted from 1, or at a flush.
+/// Takes at most `step` bytes a call, and fails at the call of the number `fails_at`, counted from
+/// 1, or at a flush.
 #[derive(Drop)]
 struct Sink {
     taken: Vec<u8>,
@@ -113,7 +115,8 @@ fn short_writes(rt: HostRuntime) {
     }
 }
 
-/// A failed read stops it, also where it was interrupted and where bytes came before; nothing is written.
+/// A failed read stops it, also where it was interrupted and where bytes came before; nothing is
+/// written.
 #[test]
 fn failed_reads(rt: HostRuntime) {
     for kind in [ErrorKind::Other, ErrorKind::Interrupted] {
@@ -128,7 +131,8 @@ fn failed_reads(rt: HostRuntime) {
     }
 }
 
-/// A failed write stops it: the first call, the second after a short one, and one that takes nothing.
+/// A failed write stops it: the first call, the second after a short one, and one that takes
+/// nothing.
 #[test]
 fn failed_writes(rt: HostRuntime) {
     for (fails_at, step) in [(1, ALL), (2, 5), (0, 0)] {
@@ -160,7 +164,8 @@ fn a_script_with_a_fault(rt: HostRuntime) {
     assert_eq!(rt; (sink.calls, sink.flushes), (0, 0));
 }
 
-/// No read follows the byte that shows that the input is too long; after the longest script one more finds its end.
+/// No read follows the byte that shows that the input is too long; after the longest script one
+/// more finds its end.
 #[test]
 fn long_inputs(rt: HostRuntime) -> Result<(), Fail> {
     let spaces = vec![in rt.alloc(); b' '; 1_048_600]?;

@@ -29,7 +29,8 @@ impl Write for FullWriter {
     }
 }
 
-/// Keeps what it is given until a flush, takes at most five bytes a call, and is interrupted at each second call.
+/// Keeps what it is given until a flush, takes at most five bytes a call, and is interrupted at
+/// each second call.
 #[derive(Drop)]
 struct KeepingWriter {
     kept: Vec<u8>,

@@ -1,6 +1,8 @@
-//! Prints a triangle of pale and dark colors, every fourth pixel of every fourth row: red, green, blue and alpha in hexadecimal.
+//! Prints a triangle of pale and dark colors, every fourth pixel of every fourth row: red, green,
+//! blue and alpha in hexadecimal.
 //!
-//! Its hue turns from the upper left to the lower right; it grows paler to the lower left and darker to the upper right.
+//! Its hue turns from the upper left to the lower right; it grows paler to the lower left and
+//! darker to the upper right.
 #![tactic(auto)]
 
 use pix::chan::Ch8;
@@ -33,7 +35,8 @@ fn triangle(alloc: Global) -> Result<Raster<SRgb8>, RasterFault> {
     Raster::<SRgb8>::with_raster(alloc, &triangle)
 }
 
-/// The color at a point: half of `x` and `y` is the hue, and how far one passes the other is whiteness or blackness.
+/// The color at a point: half of `x` and `y` is the hue, and how far one passes the other is
+/// whiteness or blackness.
 fn color(x: usize, y: usize) -> SHwb8 {
     let hue = x.saturating_add(y) / 2;
     let (whiteness, blackness) = (y.saturating_sub(x), x.saturating_sub(y));

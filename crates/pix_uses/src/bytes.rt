@@ -1,4 +1,4 @@
-//! Pictures that come as bytes and go as bytes.
+//! Pictures that are bytes before and after.
 ghost use Rattle.std.specs.Prelude.{◌≡◌, ◌+◌, vec_len, IfOk, IfErr, Some, None, Err};
 ghost use Rattle.pix_ops.specs.declared.ops.Op.{Op};
 ghost use Rattle.pix.specs.Buffers.{channels_of, buffer_fault, IsOfChannels};
@@ -13,7 +13,8 @@ use pix::rgb::Rgba8p;
 use pix::{Raster, RasterFault, Region};
 use std::alloc::Global;
 
-/// Composites a color over a region of a picture that is held as bytes: red, green, blue and alpha of each pixel, row by row.
+/// Composites a color over a region of a picture of bytes: red, green, blue and alpha of each
+/// pixel, row by row.
 pub fn tint_bytes(
     alloc: Global,
     width: u32,

@@ -1,10 +1,11 @@
-//! Channels of either width, each caller by a law that a call keeps.
+//! Channels of either width. Each caller relies on a law that a call keeps.
 ghost use Rattle.std.specs.Prelude.{◌≡◌, ℕ, pos, ◌+◌, ◌-◌, ◌*◌, ◌^◌, ◌<◌, ◌≤◌, ◌<ℤ◌};
 ghost use Rattle.pix.specs.Nearest.{distance};
 
 use pix::chan::{Ch8, Ch16, Channel};
 
-/// Raises a channel a part of the way to one that is no lower: it never leaves the two.
+/// Raises a channel a part of the way to one that is no lower. The result always lies between the
+/// two.
 pub fn raised<C: Channel>(low: C, high: C, t: C) -> C
     requires { C.number low ≤ C.number high }
     ensures low { C.number low ≤ C.number result }
@@ -13,7 +14,8 @@ pub fn raised<C: Channel>(low: C, high: C, t: C) -> C
     low.lerp(high, t)
 }
 
-/// Fades from one channel to another: from end to end, and less than one unit off on the way.
+/// Fades from one channel to another. It reaches both ends, and is less than one unit off on the
+/// way.
 pub fn fade<C: Channel>(start: C, end: C, t: C) -> C
     ensures starts { C.number t ≡ 0 → C.number result ≡ C.number start }
     ensures arrives { C.number t ≡ C.max → C.number result ≡ C.number end }
@@ -45,7 +47,7 @@ pub fn there_and_back(channel: Ch8) -> Ch8
     Ch8::from(Ch16::from(channel))
 }
 
-/// Divides a channel by one that is no smaller, and multiplies it again: at most one unit is lost
+/// Divides a channel by one that is no smaller, and multiplies it again. At most one unit is lost
 /// or gained.
 pub fn restored<C: Channel>(part: C, whole: C) -> C
     requires { C.number part ≤ C.number whole }

@@ -67,7 +67,8 @@ pub fn to_cmy_and_back<const N: usize, C: Channel, A: Alpha, G: Gamma<C>>(
         .convert::<Pix<N, C, Rgb, A, G>>()
 }
 
-/// Converts gray to red, green, blue and alpha and back, which loses nothing. Returns the pixel in between too.
+/// Converts gray to red, green, blue and alpha and back, which loses nothing. Returns the pixel in
+/// between too.
 ///
 /// Condition: the format of gray has one or two channels.
 pub fn gray_to_rgb_and_back<const N: usize, C: Channel, A: Alpha + Copy, G: Gamma<C> + Copy>(

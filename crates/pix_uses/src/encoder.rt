@@ -22,7 +22,8 @@ pub struct Encoder {
 }
 
 impl Encoder {
-    /// Makes an encoder without a picture; a color may be as far from the one that stands for it as `near` says.
+    /// Makes an encoder without a picture; a color may be as far from the one that stands for it as
+    /// `near` says.
     pub fn new(alloc: Global, near: SRgb8) -> Result<Encoder, RasterFault>
         ensures { IfOk result (λ encoder. entries_of encoder.table ≡ []) }
     {
@@ -30,7 +31,8 @@ impl Encoder {
         Ok(Encoder { table })
     }
 
-    /// Returns the indices of a picture, whose colors are added; or `None` where there are more than 256 then, and none is added.
+    /// Returns the indices of a picture, and adds its colors to the table. Where there are more
+    /// than 256 then, it returns `None`, and none is added.
     pub fn add<S>(
         &mut self,
         alloc: Global,
@@ -46,7 +48,8 @@ impl Encoder {
     }
 }
 
-/// Indexes a picture in a table of exact colors, and makes a picture of its indices again; or `None` where the table has no room for the colors.
+/// Indexes a picture in a table of exact colors, and makes a picture of its indices again. Returns
+/// `None` where the table has no room for the colors.
 pub fn there_and_back(
     alloc: Global,
     table: &mut ColorTable,
@@ -54,7 +57,7 @@ pub fn there_and_back(
 ) -> Result<Option<Raster<SRgb8>>, RasterFault>
     requires { numbers table.old.threshold ≡ 0 ∷ 0 ∷ 0 ∷ [] }
 
-    // It is the picture: it differs at no pixel, in no channel.
+    // The result is the picture: it differs at no pixel, in no channel.
     ensures back { IfOk result (λ answer. IfSome answer (λ again. (k : ℕ)
         → k < length picture.now.pixels → color_difference
         (slice_index_or (map numbers again.pixels) k [])
@@ -67,8 +70,9 @@ pub fn there_and_back(
     }
 }
 
-/// Makes a table of at most 255 colors of a picture, and the index of each pixel by error diffusion: 255, which no entry has, where the picture is
-/// less than half opaque; or `None` where it is so everywhere.
+/// Makes a table of at most 255 colors of a picture, and the index of each pixel by error
+/// diffusion. The index is 255, which no entry has, where a pixel is less than half opaque. The
+/// answer is `None` where every pixel is.
 pub fn table_and_indices(
     alloc: Global,
     picture: &Raster<SRgba8>,

@@ -1,4 +1,5 @@
-//! The examples that stand in the docs of the library's items: each is a part of a function here, word for word.
+//! The examples in the docs of the library's items. Each is a part of a function here, word for
+//! word.
 pub mod channels;
 pub mod models;
 pub mod palettes;

@@ -12,7 +12,8 @@ use pix::matte::Matte16;
 use pix::{ColorModel, Command, Raster, RasterFault};
 use std::alloc::Global;
 
-/// Decodes an sRGB pixel of 8 bits into light of 16 bits in the same alpha mode, and encodes it again: it stays as it is.
+/// Decodes an sRGB pixel of 8 bits into light of 16 bits in the same alpha mode, and encodes it
+/// again: it stays as it is.
 ///
 /// Condition: the format of light has all of its channels, and no more than the model.
 pub fn light_and_back<const N: usize, const K: usize, M: ColorModel, A: Alpha>(
@@ -26,10 +27,11 @@ pub fn light_and_back<const N: usize, const K: usize, M: ColorModel, A: Alpha>(
         .encode_srgb::<Pix<N, Ch8, M, A, Srgb>>()
 }
 
-/// Decodes a straight sRGB pixel of 8 bits into premultiplied light of 16 bits, and encodes it again: it stays as it is.
+/// Decodes a straight sRGB pixel of 8 bits into premultiplied light of 16 bits, and encodes it
+/// again: it stays as it is.
 ///
-/// Condition: its alpha is 13 or more, or all of its channels are 0; the format of light has all of its channels, and no more than the
-/// model.
+/// Condition: its alpha is 13 or more, or all of its channels are 0; the format of light has all of
+/// its channels, and no more than the model.
 pub fn premultiplied_light_and_back<const N: usize, const K: usize, M: ColorModel>(
     p: Pix<N, Ch8, M, Straight, Srgb>,
 ) -> Pix<N, Ch8, M, Straight, Srgb>
@@ -42,10 +44,12 @@ pub fn premultiplied_light_and_back<const N: usize, const K: usize, M: ColorMode
         .encode_srgb::<Pix<N, Ch8, M, Straight, Srgb>>()
 }
 
-/// Decodes a straight sRGB photograph of 8 bits into premultiplied light of 16 bits, draws a list of commands there, and encodes the
-/// result: at each point that no command reaches it is the photograph as it was, if the alpha there is 13 or more or all channels are 0.
+/// Decodes a straight sRGB photograph of 8 bits into premultiplied light of 16 bits, draws a list
+/// of commands there, and encodes the result. A point that no command reaches is as it was in the
+/// photograph, if the alpha there is 13 or more or all channels are 0.
 ///
-/// Condition: the format of light has all channels of the model, and the photograph's no more.
+/// Condition: the format of light has all channels of the model, and the photograph's format has no
+/// more.
 pub fn drawn_in_light<const N: usize, const K: usize, M: ColorModel + Copy>(
     alloc: Global,
     photo: &Raster<Pix<N, Ch8, M, Straight, Srgb>>,
@@ -71,7 +75,7 @@ pub fn drawn_in_light<const N: usize, const K: usize, M: ColorModel + Copy>(
     light.encode_srgb::<Pix<N, Ch8, M, Straight, Srgb>>(alloc)
 }
 
-/// Looks at each pixel, and does no more: by that the theorem knows how many channels it has.
+/// Looks at each pixel, and does no more. It tells the theorem how many channels a pixel has.
 fn count_channels<const N: usize, M: ColorModel + Copy>(pixels: &[Pix<N, Ch8, M, Straight, Srgb>])
     ensures { All (λ w. length w ≡ N) (map (λ p. map (λ c. c.value) p.channels) pixels.now) }
 {
@@ -85,7 +89,8 @@ fn count_channels_of<const N: usize, M: ColorModel>(_p: Pix<N, Ch8, M, Straight,
     ensures { length (map (λ c. c.value) _p.channels) ≡ N }
 {}
 
-/// Looks at a picture, and does no more: by that the theorem knows that it has a pixel for each point.
+/// Looks at a picture, and does no more. It tells the theorem that the picture has a pixel for each
+/// point.
 fn count_points<P: Pixel>(picture: &Raster<P>)
     ensures { length picture.now.pixels ≡ picture.now.height * picture.now.width }
 {

@@ -23,7 +23,8 @@ pub fn draw(picture: &mut Raster<Rgba8p>, commands: &[Command<'_, Rgba8p, Matte8
     picture.run(commands);
 }
 
-/// Draws a list of commands on a picture, and on a tile of it that lies in memory by itself: it stays that part of the picture.
+/// Draws a list of commands on a picture, and on a tile of it that lies in memory by itself: it
+/// stays that part of the picture.
 pub fn draw_with_tile(
     picture: &mut Raster<Rgba8p>,
     tile: &mut Raster<Rgba8p>,

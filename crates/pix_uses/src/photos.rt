@@ -9,7 +9,8 @@ use pix::rgb::{Rgba16p, SRgb8};
 use pix::{Raster, RasterFault};
 use std::alloc::Global;
 
-/// Composites a color over a photograph: decodes it to linear light of 16 bits, composites there, and encodes the result.
+/// Composites a color over a photograph: decodes it to linear light of 16 bits, composites there,
+/// and encodes the result.
 pub fn glaze(
     alloc: Global,
     photo: &Raster<SRgb8>,

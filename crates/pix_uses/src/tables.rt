@@ -10,8 +10,8 @@ use pix::rgb::SRgb8;
 use pix::{Palette, Raster, RasterFault};
 use std::alloc::Global;
 
-/// Makes what an encoder of indexed images writes: a table of the picture's colors, and for each pixel a byte, its index there; or `None` where the
-/// picture has more than 256 colors.
+/// Makes what an encoder of indexed images writes: a table of the picture's colors, and for each
+/// pixel a byte, its index there. Returns `None` where the picture has more than 256 colors.
 pub fn table_and_bytes(
     alloc: Global,
     picture: Raster<SRgb8>,

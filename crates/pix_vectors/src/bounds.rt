@@ -69,9 +69,10 @@ fn a_faint_color_under_transparent_ones(rt: HostRuntime) -> Result<(), Fail> {
     Ok(())
 }
 
-/// Four errors of nearly half a unit, all downwards: 128 * 254 / 255 is 127 + 127/255, which is rounded to 127, and 1 is added.
-/// In fractions each step leaves 254/255 of the distance to the maximum, so that 255 - 127 * (254/255)^4 units remain, which is
-/// 549589998863 / 4228250625. Twice the distance is then 99.02 percent of the budget of 4.
+/// Four errors of nearly half a unit, all downwards: 128 * 254 / 255 is 127 + 127/255, which is
+/// rounded to 127, and 1 is added. In fractions each step leaves 254/255 of the distance to the
+/// maximum, so that 255 - 127 * (254/255)^4 units remain, which is 549589998863 / 4228250625. Twice
+/// the distance is then 99.02 percent of the budget of 4.
 #[test]
 fn errors_that_nearly_reach_their_budget(rt: HostRuntime) -> Result<(), Fail> {
     let mut raster = Raster::with_color(rt.alloc(), 1, 1, rgba([128; 4]))?;
@@ -125,8 +126,9 @@ fn a_matted_color_against_fractions(rt: HostRuntime) {
     point.assert_within(&rt, pixel, true);
 }
 
-/// The bound of premultiplied sources holds whatever the destination is: here a channel of it passes the alpha. With four
-/// operators that read the destination's alpha this bound of 16 is the smaller one: the budget of the channels is 20.
+/// The bound of premultiplied sources holds whatever the destination is: here a channel of it
+/// passes the alpha. With four operators that read the destination's alpha this bound of 16 is the
+/// smaller one: the budget of the channels is 20.
 #[test]
 fn premultiplied_sources_over_a_destination_that_is_not(rt: HostRuntime) -> Result<(), Fail> {
     let all = Region::from(());

@@ -73,7 +73,8 @@ fn plain_lerp(start: u32, end: u32, t: u32, max: i64) -> i64
     i64::from(start).wrapping_add(plain_step(i64::from(t).wrapping_mul(difference), max))
 }
 
-/// The quotient in plain whole numbers: (`max` + 1) * `x` / `y` rounded down, at most `max`, and 0 where `y` is 0.
+/// The quotient in plain whole numbers: (`max` + 1) * `x` / `y` rounded down, at most `max`, and 0
+/// where `y` is 0.
 fn plain_quotient(x: u32, y: u32, max: u64) -> u64 {
     match u64::from(y) {
         0 => 0,

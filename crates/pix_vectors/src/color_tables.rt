@@ -99,7 +99,8 @@ fn tables_of_a_picture(rt: HostRuntime) -> Result<(), Fail> {
     let indices = exact.map_indexed_alpha(rt.alloc(), &picture, 127, 9)?;
     assert!(rt; has_indices(indices, &[0, 1, 2, 2]));
 
-    // The box of 10, 20 and 30 is cut at 21: the means are 15 and 30. The errors make 18 of 20, and 31 of 30.
+    // The box of 10, 20 and 30 is cut at 21: the means are 15 and 30. The errors make 18 of 20, and
+    // 31 of 30.
     let Some(means) = ColorTable::from_raster(rt.alloc(), &picture, 2, 128)? else {
         return Err(Fail::from(RasterFault::Memory));
     };

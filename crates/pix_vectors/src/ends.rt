@@ -21,7 +21,8 @@ const COORDINATES: [i32; 9] = [
 /// The shortest and the longest sides.
 const SIDES: [u32; 5] = [0, 1, 2, 2147483646, 2147483647];
 
-/// What a region of the destination and one of the source have in one direction: where they start, and how long they are.
+/// What a region of the destination and one of the source have in one direction: where they start,
+/// and how long they are.
 #[derive(Clone, Copy)]
 struct Axis {
     to: i32,
@@ -52,8 +53,9 @@ fn lies_in(start: i32, len: u32, at: i64) -> bool {
     start <= at && at < (start + i64::from(len)).min(2147483647)
 }
 
-/// The number in a source of two that is paired with a number in a destination of two: the one at the same offset, which is at least
-/// 0 and below both lengths, where both lie in their regions and rasters.
+/// The number in a source that is paired with a number in a destination: the one at the same
+/// offset. The offset is at least 0 and below both lengths, and both numbers lie in their regions
+/// and rasters.
 fn paired(axis: Axis, at: i32) -> Option<i64> {
     let offset = i64::from(at) - i64::from(axis.to);
     let there = i64::from(axis.from) + offset;
@@ -67,7 +69,8 @@ fn paired(axis: Axis, at: i32) -> Option<i64> {
     }
 }
 
-/// What a copy brings to a point of a raster of zeros from a source of 1, 2 in the first row and 3, 4 in the second.
+/// What a copy brings to a point of a raster of zeros from a source of 1, 2 in the first row and 3,
+/// 4 in the second.
 fn brought(columns: Axis, rows: Axis, x: i32, y: i32) -> u8 {
     match (paired(columns, x), paired(rows, y)) {
         (Some(0), Some(0)) => 1,

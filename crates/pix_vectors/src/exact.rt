@@ -1,6 +1,7 @@
 //! The exact run of a pixel in fractions, never rounded, with the rounding budgets that go with it.
 //!
-//! The exact run of six commands needs fewer than 128 bits, so that no operation on `u128` below saturates.
+//! The exact run of six commands needs fewer than 128 bits, so that no operation on `u128` below
+//! saturates.
 ghost use Rattle.std.specs.Prelude.{◌<◌};
 
 use crate::operators::{Coefficient, TABLE};
@@ -13,7 +14,8 @@ use std::process::Abort;
 /// The maximum of a channel.
 const MAX: u128 = 255;
 
-/// One channel and the alpha of its pixel as exact fractions: `channel` / `weight` and `alpha` / `weight` units.
+/// One channel and the alpha of its pixel as exact fractions: `channel` / `weight` and `alpha` /
+/// `weight` units.
 #[derive(Clone, Copy, Debug, PartialEq, Eq)]
 pub(crate) struct Exact {
     pub(crate) channel: u128,
@@ -21,8 +23,8 @@ pub(crate) struct Exact {
     pub(crate) weight: u128,
 }
 
-/// The rounding budgets of a channel and of the alpha, in half units. `premultiplied` is the bound of any channel where no source
-/// passes its alpha.
+/// The rounding budgets of a channel and of the alpha, in half units. `premultiplied` is the bound
+/// of any channel where no source passes its alpha.
 #[derive(Clone, Copy, Debug, PartialEq, Eq)]
 pub(crate) struct Budget {
     pub(crate) channel: u128,
@@ -172,7 +174,8 @@ impl Point {
         point
     }
 
-    /// Asserts that each channel of a pixel is within its budget, and within the premultiplied bound where that is asked.
+    /// Asserts that each channel of a pixel is within its budget, and within the premultiplied
+    /// bound where that is asked.
     pub(crate) fn assert_within(self, rt: &impl Abort, pixel: Rgba8p, premultiplied: bool) {
         for i in 0..4 {
             let number = u128::from(pixel.get(i).to_u32());

@@ -1,4 +1,5 @@
-//! Rasters of grays. Each function makes one call of the library at this format: the tests see a function of no type parameters.
+//! Rasters of grays. Each function makes one call of the library at this format: the tests see a
+//! function of no type parameters.
 use crate::pictures;
 use pix::gray::Gray8;
 use pix::{Raster, RasterFault, Region};

@@ -26,8 +26,9 @@ fn hues_cleared_by_the_command(rt: HostRuntime) -> Result<(), Fail> {
     Ok(())
 }
 
-/// The shorter arc from a hue to another on a circle of `circle` hues, upwards where it is positive. Where the numbers differ by at
-/// most half the circle, it is their difference, and doesn't pass 0.
+/// The shorter arc from a hue to another on a circle of `circle` hues, upwards where it is
+/// positive. Where the numbers differ by at most half the circle, it is their difference, and
+/// doesn't pass 0.
 fn shorter_arc(start: i64, end: i64, circle: i64) -> i64 {
     let difference = end.wrapping_sub(start);
     if difference.wrapping_abs() <= circle / 2 {
@@ -39,7 +40,8 @@ fn shorter_arc(start: i64, end: i64, circle: i64) -> i64 {
     }
 }
 
-/// The hue at weight `t` on the shorter arc from a hue to another, on the circle of the hues up to `max`.
+/// The hue at weight `t` on the shorter arc from a hue to another, on the circle of the hues up to
+/// `max`.
 fn plain_hue(start: i64, end: i64, t: i64, max: i64) -> i64
     requires wide { pos 1 <ℤ max }
     requires fits { max <ℤ pos 65536 }

@@ -76,7 +76,8 @@ fn an_index_past_255_is_wide(rt: HostRuntime) -> Result<(), Fail> {
     Ok(())
 }
 
-/// One of 256 colors of which about 32 each start at one of eight places in the table of `make_indexed`.
+/// One of 256 colors of which about 32 each start at one of eight places in the table of
+/// `make_indexed`.
 fn colliding(i: u8) -> SRgb8 {
     SRgb8::new(i.wrapping_mul(191), i, 0u8)
 }
@@ -95,7 +96,8 @@ fn colliding_colors(alloc: Global) -> Result<Raster<SRgb8>, RasterFault> {
     Ok(raster)
 }
 
-/// Whether the image is as large as the raster, and its values are the indices that setting the colors one by one answers.
+/// Whether the image is as large as the raster, and its values are the indices that setting the
+/// colors one by one answers.
 fn are_set_one_by_one(
     palette: &mut Palette,
     raster: &Raster<SRgb8>,

@@ -60,7 +60,8 @@ fn no_greater(p: [u8; 3], q: [u8; 3]) -> bool {
     p[0] <= q[0] && p[1] <= q[1] && p[2] <= q[2]
 }
 
-/// The last candidate of a color, found from the definition: from each candidate to the first later entry that is closer.
+/// The last candidate of a color, found from the definition: from each candidate to the first later
+/// entry that is closer.
 fn last_candidate(entries: &[[u8; 3]], color: [u8; 3]) -> Option<usize> {
     let mut last = None;
     let mut next = if entries.is_empty() { None } else { Some(0) };

@@ -1,4 +1,5 @@
-//! Slices of all lengths around four and sixteen, which go by runs, compared with the composites of single pixels.
+//! Slices of all lengths around four and sixteen, which go by runs, compared with the composites of
+//! single pixels.
 ghost use Rattle.std.specs.Prelude.{◌≡◌, ◌≤◌, ◌+◌};
 
 use pix::chan::{Channel, Linear, Premultiplied};
@@ -106,7 +107,8 @@ where
     Ok(())
 }
 
-/// Asserts that a color is composited through these mattes with so many pixels as with each of them.
+/// Asserts that a color is composited through these mattes with so many pixels as with each of
+/// them.
 fn assert_mattes<P, O: Blend>(
     rt: &impl Abort,
     alloc: Global,
@@ -136,7 +138,8 @@ where
     Ok(())
 }
 
-/// Asserts that a color is composited through the first so many of these mattes, for all lengths, as with each pixel.
+/// Asserts that a color is composited through the first so many of these mattes, for all lengths,
+/// as with each pixel.
 fn assert_matted_lengths<P>(
     rt: &impl Abort,
     alloc: Global,
@@ -158,7 +161,8 @@ where
     Ok(())
 }
 
-/// Asserts that an operator composites slices of all these lengths, and a color with each, as their pixels.
+/// Asserts that an operator composites slices of all these lengths, and a color with each, as their
+/// pixels.
 fn assert_lengths<P, O: Blend>(rt: &impl Abort, alloc: Global, op: O) -> Result<(), AllocError>
 where
     P: Pixel<Alpha = Premultiplied, Gamma = Linear> + Debug,

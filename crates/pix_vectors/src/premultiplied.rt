@@ -1,4 +1,5 @@
-//! Slices of straight pixels converted to premultiplied ones, of lengths around the blocks by which they go, against a plain rule.
+//! Slices of straight pixels converted to premultiplied ones, of lengths around the blocks by which
+//! they go, against a plain rule.
 use pix::el::Pixel;
 use pix::rgb::{Rgba8p, Rgba16, Rgba16p, SRgba8};
 use std::test::Fail;

@@ -215,8 +215,8 @@ fn assert_premultiplied(rt: &impl Abort, pixel: Rgba8p) {
     }
 }
 
-/// Runs a list of up to six commands on a raster of two points, and compares each with its exact run. The pixels of the raster
-/// and those of the sources are premultiplied where that is asked.
+/// Runs a list of up to six commands on a raster of two points, and compares each with its exact
+/// run. The pixels of the raster and those of the sources are premultiplied where that is asked.
 fn run_a_list(
     rt: &impl Abort,
     alloc: Global,

@@ -1,4 +1,5 @@
-//! Rasters of red, green, blue and alpha. Each function makes one call of the library at this format: the tests see a function of no type parameters of pixels.
+//! Rasters of red, green, blue and alpha. Each function makes one call of the library at this
+//! format: the tests see a function of no type parameters of pixels.
 use pix::ops::Blend;
 use pix::rgb::Rgba8p;
 use pix::{Raster, RasterFault, Region};

@@ -120,9 +120,11 @@ fn list<'a>(
 
 /// A list gives what its commands give one by one.
 ///
-/// The second pixel, by hand: it is (24576, 40960) once the raster is copied. The matte value 256 makes of (40000, 50000) the source
-/// (156, 195), since 256 * 40000 / 65535 is 156.25 and 256 * 50000 / 65535 is 195.3. Under `Xor` the source keeps 24575 / 65535 of
-/// itself, (58, 73), since the pixel lacks 24575 of the maximum, and the pixel 65340 / 65535, (24503, 40838). The sum is (24561, 40911).
+/// The second pixel, by hand: it is (24576, 40960) once the raster is copied. The matte value 256
+/// makes of (40000, 50000) the source (156, 195), since 256 * 40000 / 65535 is 156.25 and 256 *
+/// 50000 / 65535 is 195.3. Under `Xor` the source keeps 24575 / 65535 of itself, (58, 73), since
+/// the pixel lacks 24575 of the maximum, and the pixel 65340 / 65535, (24503, 40838). The sum is
+/// (24561, 40911).
 #[test]
 fn all_calls_as_a_list(rt: HostRuntime) -> Result<(), Fail> {
     let source = picture(rt.alloc(), 2, 1, &SOURCE.map(graya))?;

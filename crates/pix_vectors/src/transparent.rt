@@ -1,4 +1,5 @@
-//! Transparent sources, which change nothing under `SrcOver`: their alpha is 0, and so is each channel other than a hue.
+//! Transparent sources, which change nothing under `SrcOver`: their alpha is 0, and so is each
+//! channel other than a hue.
 use crate::pictures::{matte, picture, rgba};
 use pix::chan::{Ch8, Ch16};
 use pix::el::Pixel;
@@ -57,7 +58,8 @@ fn calls_with_transparent_sources(rt: HostRuntime) -> Result<(), Fail> {
     Ok(())
 }
 
-/// A transparent color, a transparent raster, that color through mattes, and once more the color: each under `SrcOver`.
+/// A transparent color, a transparent raster, that color through mattes, and once more the color:
+/// each under `SrcOver`.
 fn list<'a>(
     clr: Hsva8p,
     src: &'a Raster<Hsva8p>,

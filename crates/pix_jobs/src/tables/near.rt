@@ -8,7 +8,8 @@ use pix::ColorTable;
 use pix::rgb::SRgb8;
 use std::alloc::Global;
 
-/// Indexes photographs by tables of a threshold, or of the next greater one by which the table has room for all colors.
+/// Indexes photographs by tables of a threshold, or of the next greater one by which the table has
+/// room for all colors.
 pub(crate) fn run(
     alloc: Global,
     least: u8,

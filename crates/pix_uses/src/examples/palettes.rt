@@ -19,7 +19,8 @@ pub fn entries(alloc: Global) -> Result<(usize, Option<SRgb8>), RasterFault> {
     Ok((size, second.or(none)))
 }
 
-/// Sets many colors at once, and answers how many entries there are then, and which the last color is.
+/// Sets many colors at once, and answers how many entries there are then, and which the last color
+/// is.
 pub fn many_entries(alloc: Global) -> Result<(usize, Option<usize>), RasterFault> {
     let (red, blue) = (SRgb8::new::<u8>(200, 0, 0), SRgb8::new::<u8>(0, 0, 200));
     let mut palette = Palette::new(alloc, 16)?;
@@ -102,7 +103,8 @@ pub fn mapped(
     Ok(Some(indices))
 }
 
-/// Indexes a picture by the nearest entries of a table; where it is clear, its index is one that no entry has.
+/// Indexes a picture by the nearest entries of a table; where it is clear, its index is one that no
+/// entry has.
 pub fn mapped_alpha(
     alloc: Global,
     table: &ColorTable,
