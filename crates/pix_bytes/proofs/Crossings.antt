@@ -43,7 +43,8 @@ pub each_same : (max to_max from_count all size to_size : ℕ) (f g : List ℕ �
 each_same max to_max from_count all size to_size f g src dst count same each = λ index lt.
     each index lt ∙ ap (padded to_max all) (same (samples max from_count (slice_range src (index * size) (index * size + size))))
 
--- straight pixels of red, green, blue and alpha, those of blue, green, red and alpha, and premultiplied ones
+-- straight pixels of red, green, blue and alpha, those of blue, green, red and alpha, and
+-- premultiplied ones
 abbrev pub rgba : Depth → Stored
 rgba depth = record { model = Rgb; count = 4; is_premultiplied = false; depth = depth; spare = 0 }
 

@@ -11,7 +11,8 @@ use Rattle.std.proofs.lemmas.Simd.{tops_compared, zip2_of_maps, splat_is_map, ma
 use Rattle.pix_chan.specs.Product.{channel_product}
 use Rattle.pix_chan.proofs.Lanes.{add, mul, shr, same, pairs, firsts, seconds, length-pairs, map_pairs}
 
--- of a product p: the upper half of p + 32768, its lower half, and the sum of both without the carry
+-- of a product p: the upper half of p + 32768, its lower half, and the sum of both without the
+-- carry
 abbrev upper : ℕ → ℕ
 upper p = (p / 65536 + p % 2 ^ 16 / 2 ^ 15) % 2 ^ 16
 

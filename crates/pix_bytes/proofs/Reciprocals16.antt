@@ -6,7 +6,8 @@ use Rattle.std.proofs.lemmas.Bool.{and_parts, eqb-true}
 use Rattle.pix_chan.specs.Product.{channel_quotient}
 use Rattle.pix_bytes.specs.declared.bitmap.quotient.TheConstants.{RECIPROCALS}
 
--- a product with a reciprocal, by its parts: the dividend is q (s + t) + r, what the reciprocal divides is k (s + t) + s
+-- a product with a reciprocal, by its parts: the dividend is q (s + t) + r, what the reciprocal
+-- divides is k (s + t) + s
 by_parts : (q r k s t : ℕ) → r < s + t → q * (s + t) + r + (s + t) ≤ k → (q * (s + t) + r) * (k + 1) / (k * (s + t) + s) ≡ q
 by_parts q r k s t hr hk =
     let top : (r + 1) * (k + 1) ≤ (s + t) * (k + 1) = mul-le (r + 1) (k + 1) (s + t) (k + 1) (omega arith) (omega arith) in
@@ -36,7 +37,8 @@ by_reciprocal n d hn some hd =
     let most : k * d ≤ k * 65535 = mul-le k d k 65535 (omega arith) (omega (arith, hd)) in
     by_parts_of n d whole q r k s (d - s) ed en ep (omega (arith, hr, ed)) (rw (sym ed, sym en) (omega (arith, hn, hd, ep, most, hs)))
 
--- a table whose entry of number k is 2^48 / 257 k + 1, from the number i on, and that each is below 2^41
+-- a table whose entry of number k is 2^48 / 257 k + 1, from the number i on, and that each is below
+-- 2^41
 abbrev test : ℕ → ℕ → Bool
 test i x = nat_eq x (whole / (257 * i) + 1) && nat_lt x 2199023255552
 

@@ -12,7 +12,8 @@ pub record IsConverted (from to : BufferFormat) (count : ℕ) (src dst : List �
   pub each : (index : ℕ) → index < count → pixel_at (channels to) dst index
       ≡ converted from.format from.gamma to.format to.gamma (pixel_at (channels from) src index)
 
--- the status of a conversion between two formats: 6 where one is missing, 7 where a length in bytes is not that of `count` pixels, and else 0
+-- the status of a conversion between two formats: 6 where one is missing, 7 where a length in bytes
+-- is not that of `count` pixels, and else 0
 abbrev pub formats_status : Option BufferFormat → Option BufferFormat → ℕ → ℕ → ℕ → ℕ
 formats_status (Some from) (Some to) src_len dst_len count =
     if nat_eq src_len (count * channels from) && nat_eq dst_len (count * channels to) then 0 else 7

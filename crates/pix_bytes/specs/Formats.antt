@@ -22,7 +22,8 @@ pub record BufferFormat : Type 0 where
 abbrev pub channels : BufferFormat → ℕ
 channels buffer = buffer.format.layout.count
 
--- the format of a color model, its formulas into red, green and blue and from them, a number of channels of eight bits, and both modes
+-- the format of a color model, its formulas into red, green and blue and from them, a number of
+-- channels of eight bits, and both modes
 abbrev pub bytes_of : Model → (ℕ → ℕ → ℕ → ℕ → List ℕ) → (ℕ → ℕ → ℕ → ℕ → List ℕ) → ℕ → AlphaMode → GammaMode → BufferFormat
 bytes_of model to_rgb of_rgb count alpha_mode gamma = record {
   format = record {
@@ -48,8 +49,8 @@ bgr = bytes_of Bgr reversed reversed
 abbrev pub gray : ℕ → AlphaMode → GammaMode → BufferFormat
 gray = bytes_of Gray rgb_of_gray gray_of_rgb
 
--- the formats in the order of their numbers, from 0 on: SRgba8, SRgba8p, Rgba8, Rgba8p, Bgra8, Bgra8p, Rgb8, Gray8, SBgra8, SBgra8p,
--- SRgb8 and SGray8
+-- the formats in the order of their numbers, from 0 on: SRgba8, SRgba8p, Rgba8, Rgba8p, Bgra8,
+-- Bgra8p, Rgb8, Gray8, SBgra8, SBgra8p, SRgb8 and SGray8
 abbrev pub formats : List BufferFormat
 formats =
     rgb 4 Straight Srgb

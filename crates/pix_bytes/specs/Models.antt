@@ -1,4 +1,4 @@
--- The color models that formats name when a program runs.
+-- The color models that formats name at run time.
 use Rattle.std.specs.Prelude.{ℕ, List, [], ◌∷◌}
 use Rattle.pix_el.specs.Model as models
 use Rattle.pix_el.specs.Model.{Model}

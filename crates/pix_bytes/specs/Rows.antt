@@ -1,4 +1,4 @@
--- Formats that are known when a program runs, by what they are made of.
+-- Formats that are known only at run time, by their parts.
 use Rattle.std.specs.Prelude.{◌≡◌, ℕ, ◌+◌, ◌*◌, ◌<◌, List, slice_range, Bool, nat_le, ◌&&◌, if◌then◌else◌}
 use Rattle.pix_chan.specs.Modes.{AlphaMode, Straight, Premultiplied, GammaMode, Linear, Srgb}
 use Rattle.pix_el.specs.Pixel.{channel}
@@ -34,8 +34,9 @@ abbrev pub stored_of : Stored → StoredFormat
 stored_of stored =
     stored_with (max_of stored.depth) (model_of stored.model) stored.count (alpha_mode_of stored.is_premultiplied) (gamma_of stored.depth) stored.spare
 
--- What of two formats decides how a pixel goes from the one to the other within a color model: the maxima of both, how many channels the other has, the
--- channel numbers of its colors, behind which comes the alpha, and the alpha modes of both.
+-- The parts of two formats that decide how a pixel is converted within a color model: the maxima of
+-- both, how many channels the other has, the channel numbers of its colors, which the alpha
+-- follows, and the alpha modes of both.
 pub record IsStep (format to : Format) (max to_max count first end : ℕ) (mode to_mode : AlphaMode) : Type 0 where
   pub from_max : format.layout.max ≡ max
   pub from_mode : format.alpha_mode ≡ mode
@@ -53,7 +54,8 @@ is_sound stored = nat_le (stored.count + stored.spare) 4 && nat_le stored.count 
 abbrev pub IsSame : ℕ → List ℕ → List ℕ → Type 0
 IsSame max p q = (ch : ℕ) → channel max p ch ≡ channel max q ch
 
--- each of so many pixels of `to_size` bytes has `all` samples: those of f of the first channels of the source's pixel of `size` bytes
+-- each of so many pixels of `to_size` bytes has `all` samples: those of f of the first channels of
+-- the source's pixel of `size` bytes
 abbrev pub IsEach : (max to_max from_count all size to_size : ℕ) → (List ℕ → List ℕ) → (src dst : List ℕ) → (count : ℕ) → Type 0
 IsEach max to_max from_count all size to_size f src dst count =
     (index : ℕ) → index < count → samples to_max all (slice_range dst (index * to_size) (index * to_size + to_size))

@@ -1,4 +1,5 @@
--- Four pixels of light of three colors and an alpha as sRGB, by their bytes. No clause of a public call cites this file.
+-- Four pixels of light of three colors and an alpha as sRGB, by their bytes. No clause of a public
+-- call cites this file.
 use Rattle.std.specs.Prelude.{ℕ, ◌+◌, ◌*◌, ◌/◌, ◌%◌, List, [], ◌∷◌, ◌++◌, map, slice_index_or, Bool, if◌then◌else◌}
 use Rattle.std.specs.Simd.Lanes.{zip2, pick_l}
 use Rattle.pix_chan.specs.Product.{channel_quotient}
@@ -8,7 +9,8 @@ use Rattle.pix_bytes.specs.Lit.{first_place, last_place}
 use Rattle.pix_bytes.specs.Stored.{sample_at, samples}
 use Rattle.pix_bytes.specs.declared.bitmap.quotient.TheConstants.{RECIPROCALS}
 
--- a pixel as sRGB: each color is divided by the alpha and encoded, of the alpha stay the upper eight bits
+-- a pixel as sRGB: each color is divided by the alpha and encoded, and the alpha keeps its upper
+-- eight bits
 abbrev pub shown : Bool → List ℕ → List ℕ
 shown is_reversed pixel =
     srgb_encoded8 (channel_quotient 65535 (channel 65535 pixel (first_place is_reversed)) (channel 65535 pixel 3))
@@ -41,7 +43,8 @@ reciprocal_of alpha = slice_index_or RECIPROCALS (alpha % 256) 0
 abbrev pub parts : ℕ → List ℕ
 parts x = x % 65536 ∷ x / 65536 % 65536 ∷ x / 65536 / 65536 % 65536 ∷ x / 65536 / 65536 / 65536 % 65536 ∷ []
 
--- of four pixels' levels and upper bytes behind them, the places of three levels and an alpha of each pixel
+-- in four pixels' levels, followed by their upper bytes, the places of three levels and an alpha of
+-- each pixel
 abbrev pub shown_places : Bool → List ℕ
 shown_places is_reversed =
     if is_reversed then 2 ∷ 1 ∷ 0 ∷ 19 ∷ 6 ∷ 5 ∷ 4 ∷ 23 ∷ 10 ∷ 9 ∷ 8 ∷ 27 ∷ 14 ∷ 13 ∷ 12 ∷ 31 ∷ []

@@ -17,7 +17,8 @@ use Rattle.pix_color.specs.YCbCr.{rgb_of_ycc, ycc_of_rgb}
 use Rattle.pix_color.specs.Xyz.{rgb_of_xyz, xyz_of_rgb}
 use Rattle.pix_bytes.specs.Formats.{BufferFormat, layout_of, formats}
 
--- a format as it lies in memory, with how many samples of a pixel there are behind its channels: they are not read, and written as the maximum
+-- a format as it lies in memory, and how many samples of a pixel follow its channels: they are not
+-- read, and are written as the maximum
 pub record StoredFormat : Type 0 where
   pub buffer : BufferFormat
   pub spare : ℕ
@@ -59,12 +60,13 @@ format_with max model count alpha_mode = record {
   alpha_mode = alpha_mode;
 }
 
--- the same in memory, with so many samples behind the channels
+-- the same in memory, with a number of samples after the channels
 abbrev pub stored_with : (max : ℕ) → Model → (count : ℕ) → AlphaMode → GammaMode → (spare : ℕ) → StoredFormat
 stored_with max model count alpha_mode gamma spare =
     record { buffer = record { format = format_with max model count alpha_mode; gamma = gamma }; spare = spare }
 
--- channels of eight bits, linear or encoded by the sRGB curve, and linear ones of sixteen, with nothing behind them
+-- channels of eight bits, linear or encoded by the sRGB curve, and linear ones of sixteen, with
+-- nothing after them
 abbrev pub linear8 : Model → ℕ → AlphaMode → StoredFormat
 linear8 model count alpha_mode = stored_with 255 model count alpha_mode Linear 0
 
@@ -74,7 +76,8 @@ srgb8 model count alpha_mode = stored_with 255 model count alpha_mode Srgb 0
 abbrev pub linear16 : Model → ℕ → AlphaMode → StoredFormat
 linear16 model count alpha_mode = stored_with 65535 model count alpha_mode Linear 0
 
--- the six linear formats of a model of three colors, such as Hsv8, Hsva8, Hsva8p, Hsv16, Hsva16 and Hsva16p
+-- the six linear formats of a model of three colors, such as Hsv8, Hsva8, Hsva8p, Hsv16, Hsva16 and
+-- Hsva16p
 abbrev pub six : Model → List StoredFormat
 six model =
     linear8 model 3 Straight ∷ linear8 model 4 Straight ∷ linear8 model 4 Premultiplied
@@ -84,8 +87,9 @@ six model =
 abbrev pub three : Model → List StoredFormat
 three model = srgb8 model 3 Straight ∷ srgb8 model 4 Straight ∷ srgb8 model 4 Premultiplied ∷ []
 
--- the formats of red, green, blue and gray that are not among the first twelve, and the mattes: Rgba16, Rgba16p, Rgb16, Bgra16, Bgra16p, Bgr16,
--- Bgr8, SBgr8, Graya8, Graya8p, SGraya8, SGraya8p, Gray16, Graya16, Graya16p, Matte8 and Matte16
+-- the formats of red, green, blue and gray that are not among the first twelve, and the mattes:
+-- Rgba16, Rgba16p, Rgb16, Bgra16, Bgra16p, Bgr16, Bgr8, SBgr8, Graya8, Graya8p, SGraya8, SGraya8p,
+-- Gray16, Graya16, Graya16p, Matte8 and Matte16
 abbrev pub common : List StoredFormat
 common =
     linear16 Rgb 4 Straight ∷ linear16 Rgb 4 Premultiplied ∷ linear16 Rgb 3 Straight
@@ -95,13 +99,15 @@ common =
     ∷ linear16 Gray 1 Straight ∷ linear16 Gray 2 Straight ∷ linear16 Gray 2 Premultiplied
     ∷ linear8 Matte 1 Premultiplied ∷ linear16 Matte 1 Premultiplied ∷ []
 
--- formats of three colors in four bytes, of which the last is not read and written as 255: SRgbx8, SBgrx8, Rgbx8 and Bgrx8
+-- formats of three colors in four bytes, where the last is not read and is written as 255: SRgbx8,
+-- SBgrx8, Rgbx8 and Bgrx8
 abbrev pub opaque : List StoredFormat
 opaque =
     stored_with 255 Rgb 3 Straight Srgb 1 ∷ stored_with 255 Bgr 3 Straight Srgb 1
     ∷ stored_with 255 Rgb 3 Straight Linear 1 ∷ stored_with 255 Bgr 3 Straight Linear 1 ∷ []
 
--- all formats in the order of their numbers: the twelve of buffers, `common`, those of Cmy, Hsv, Hsl, Hwb, YCbCr and Xyz, and the opaque ones
+-- all formats in the order of their numbers: the twelve of buffers, `common`, those of Cmy, Hsv,
+-- Hsl, Hwb, YCbCr and Xyz, and the opaque ones
 abbrev pub stored_formats : List StoredFormat
 stored_formats =
     map (λ buffer. record { buffer = buffer; spare = 0 }) formats ++ (common
@@ -118,7 +124,7 @@ sample_at max bytes number =
     if nat_eq max 255 then slice_index_or bytes number 0
     else slice_index_or bytes (2 * number) 0 + 256 * slice_index_or bytes (2 * number + 1) 0
 
--- the first so many samples in the bytes of a pixel
+-- the first samples in the bytes of a pixel
 abbrev pub samples : ℕ → ℕ → List ℕ → List ℕ
 samples max count bytes = map (sample_at max bytes) (range_with_len 0 count)
 
@@ -149,7 +155,7 @@ bytes_at stored bytes index = slice_range bytes (index * pixel_size stored) (ind
 abbrev pub channels_read : StoredFormat → List ℕ → List ℕ
 channels_read stored bytes = samples (maximum stored) (channel_count stored) bytes
 
--- so many samples of these channels: behind the channels the maximum
+-- a number of samples of these channels: after the channels the maximum
 abbrev pub padded : (max count : ℕ) → List ℕ → List ℕ
 padded max count channels = map (channel max channels) (range_with_len 0 count)
 

@@ -1,4 +1,4 @@
--- The calls on tables of colors: what is refused, by which status.
+-- The calls on tables of colors: what is refused, with which status.
 use Rattle.std.specs.Prelude.{◌≡◌, ℕ, ◌*◌, ◌<◌, List, [], ◌∷◌, Bool, ◌&&◌, nat_eq, nat_lt, nat_le, length, slice_index, Option, Some, None, if◌then◌else◌}
 use Rattle.pix_table.specs.LookUp.{all_below}
 use Rattle.pix_table.specs.Packing.{pack_fault, unpack_fault}
@@ -20,26 +20,29 @@ is_table len = nat_lt 0 len && nat_le len 256
 abbrev pub nearest_status : ℕ → ℕ
 nearest_status len = if is_table len then 0 else 11
 
--- the status of matching pixels: 11 without a table, 7 where there are not as many indices as pixels, and else 0
+-- the status of matching pixels: 11 without a table, 7 where there are not as many indices as
+-- pixels, and else 0
 abbrev pub match_status : (len pixels indices : ℕ) → ℕ
 match_status len pixels indices = if is_table len then (if nat_eq indices pixels then 0 else 7) else 11
 
--- the status of making a table: 11 without room for one, 7 where work memory has not a color for each pixel, and else 0
+-- the status of making a table: 11 without room for one, 7 where work memory has fewer colors than
+-- there are pixels, and else 0
 abbrev pub make_status : (len pixels work : ℕ) → ℕ
 make_status len pixels work = if is_table len then (if nat_le pixels work then 0 else 7) else 11
 
--- the status of error diffusion: 11 without a table; 7 where a row has no pixel, work memory has not four rows of colors, or there are not as many
--- indices as pixels; and else 0
+-- the status of error diffusion: 11 without a table; 7 where a row has no pixel, work memory has
+-- not four rows of colors, or there are not as many indices as pixels; and else 0
 abbrev pub diffuse_status : (len pixels width work indices : ℕ) → ℕ
 diffuse_status len pixels width work indices =
     if is_table len then (if nat_lt 0 width && nat_eq work (4 * width) && nat_eq indices pixels then 0 else 7) else 11
 
--- the status of an indexing before its colors are set: 11 without room for a table; 7 where more entries are used than there is room for, or there are
--- not as many indices as pixels; and else 0
+-- the status of an indexing before its colors are set: 11 without room for a table; 7 where more
+-- entries are used than there is room for, or there are not as many indices as pixels; and else 0
 abbrev pub index_status : (len used pixels indices : ℕ) → ℕ
 index_status len used pixels indices = if is_table len then (if nat_le used len && nat_eq indices pixels then 0 else 7) else 11
 
--- the status of looking indices up: 7 where there are not as many pixels, 12 where an index is past the entries, and else 0
+-- the status of looking indices up: 7 where there are not as many pixels, 12 where an index is past
+-- the entries, and else 0
 abbrev pub look_up_status : ℕ → List ℕ → ℕ → ℕ
 look_up_status len indices pixels = if nat_eq pixels (length indices) then (if all_below len indices then 0 else 12) else 7
 
@@ -47,7 +50,7 @@ look_up_status len indices pixels = if nat_eq pixels (length indices) then (if a
 abbrev pub count_status : ℕ → List ℕ → ℕ
 count_status len indices = if all_below len indices then 0 else 12
 
--- the depth of so many bits, if it is one
+-- the depth of a number of bits, if there is one
 abbrev pub depth_of : ℕ → Option IndexDepth
 depth_of bits =
     if nat_eq bits 1 then Some One

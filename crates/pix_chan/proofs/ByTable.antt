@@ -5,7 +5,8 @@ use Rattle.std.proofs.Math.Nat.{div-zero, div-add-mod', mod-lt}
 use Rattle.std.proofs.lemmas.Bool.{and_parts, eqb-true}
 use lib.ListN.{get_or}
 
--- a product with a reciprocal, by its parts: the dividend is q (s + t) + r, what the reciprocal divides is k (s + t) + s
+-- a product with a reciprocal, by its parts: the dividend is q (s + t) + r, what the reciprocal
+-- divides is k (s + t) + s
 by_parts : (q r k s t : ℕ) → r < s + t → q * (s + t) + r + (s + t) ≤ k → (q * (s + t) + r) * (k + 1) / (k * (s + t) + s) ≡ q
 by_parts q r k s t hr hk =
     let top : (r + 1) * (k + 1) ≤ (s + t) * (k + 1) = mul-le (r + 1) (k + 1) (s + t) (k + 1) (omega arith) (omega arith) in

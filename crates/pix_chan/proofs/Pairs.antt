@@ -1,4 +1,5 @@
--- Lists of thirty-two, and products of bytes by pairs: even and odd lanes apart, and together again.
+-- Lists of thirty-two, and products of bytes by pairs: even and odd lanes apart, and together
+-- again.
 use Rattle.std.proofs.Common.{◌≡◌, ℕ, zero, suc, ◌+◌, ◌*◌, ◌/◌, ◌%◌, ◌^◌, ◌<◌, ◌≤◌, List, [], ◌∷◌, ◌++◌, length, take, drop, get_or, map, refl, ap, sym, ◌∙◌, arith, replicate, w8, Fits, bit_or}
 use Rattle.std.specs.Int.Bits.{or_shifted_r}
 use lib.Lanes.{zip2, Each1, pick_l, number_l, digits_l}

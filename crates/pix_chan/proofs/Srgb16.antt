@@ -32,8 +32,9 @@ is_above v i = nat_le (curve_side (2 * v - 1) 510 65535) (fraction_side (2 * v -
 abbrev pub is_below : ℕ → ℕ → Bool
 is_below v i = nat_lt (fraction_side (2 * v + 1) 510 i) (curve_side (2 * v + 1) 510 65535)
 
--- Entry k stands for sixteen channels. Its level is the nearest at the first of them and at the last that has it,
--- and so is the next one at the first that has that and at the last of the sixteen.
+-- Entry k stands for sixteen channels. Its level is the nearest at the first of them and at the
+-- last that has it, and so is the next one at the first that has that and at the last of the
+-- sixteen.
 abbrev pub is_entry : ℕ → ℕ → Bool
 is_entry k e =
     nat_le e 4080

@@ -1,4 +1,4 @@
--- What a type of channels keeps, in terms of the number that each value stands for.
+-- The laws of a type of channels, in terms of the number that each value stands for.
 use Rattle.std.specs.Prelude.{◌≡◌, ℕ, ◌≤◌}
 use Rattle.std.proofs.Common.{subst}
 
@@ -11,11 +11,12 @@ pub record IsNumbered {C : Type 0} (max : ℕ) (number : C → ℕ) : Type 0 whe
 abbrev pub IsTotal : {C : Type 0} → (C → C → Type 0) → Type 0
 IsTotal {C} can = (x y : C) → can x y
 
--- what an operator answers is a function of the two numbers
+-- the result of an operator is a function of the two numbers
 abbrev pub Answers : {C : Type 0} → (C → ℕ) → (C → C → C → Type 0) → (ℕ → ℕ → ℕ) → Type 0
 Answers {C} number gives f = (x y r : C) → gives x y r → number r ≡ f (number x) (number y)
 
--- what an operator answers for an operand that the channel is From: the function of the two channels' numbers
+-- the result of an operator for an operand that the channel is From: the function of the two
+-- channels' numbers
 abbrev pub AnswersFrom : {R C : Type 0} → (R → C → Type 0) → (C → ℕ) → (ℕ → ℕ → ℕ) → C → R → C → Type 0
 AnswersFrom {R} {C} from number f x y r = (z : C) × from y z × (number r ≡ f (number x) (number z))
 

@@ -1,4 +1,5 @@
--- The laws of the arithmetic of channels, for every width that has a depth. No public clause cites this file.
+-- The laws of the arithmetic of channels, for every width that has a depth. No public clause cites
+-- this file.
 use Rattle.std.specs.Prelude.{ℕ, ◌<◌}
 use Rattle.std.proofs.Common.{arith}
 use Rattle.pix_chan.specs.Product.{channel_product, fineness}

@@ -5,7 +5,8 @@ use Rattle.std.specs.Prelude.{◌≡◌, ℕ, ◌+◌, ◌*◌, ◌/◌, ◌≤�
 abbrev pub to_16_bit : ℕ → ℕ → ℕ
 to_16_bit max x = 65535 / max * x
 
--- a channel from sixteen bits: the upper eight of them for a channel of eight bits, and all of them for one of sixteen
+-- a channel from sixteen bits: the upper eight of them for a channel of eight bits, and all of them
+-- for one of sixteen
 abbrev pub from_16_bit : ℕ → ℕ → ℕ
 from_16_bit max y = y * (max + 1) / 65536
 

@@ -39,6 +39,6 @@ high_half x y = (x * y % 2 ^ 16 + 128) % 2 ^ 16 * 257 % 2 ^ 32 / 2 ^ 16
 abbrev pub high_sum : ℕ → ℕ → ℕ
 high_sum x y = (x * y + 2 ^ 15) / 2 ^ 16
 
--- h, and one more where it carries when it is added to the low half of l + 2^15
+-- h, plus one where adding it to the low half of l + 2^15 carries
 abbrev pub carried : ℕ → ℕ → ℕ
 carried l h = (h + ((l + 2 ^ 15) % 2 ^ 16 + h) / 2 ^ 16) % 2 ^ 16

@@ -6,7 +6,8 @@ abbrev pub cut_below : ℤ → ℕ
 cut_below (pos n) = n
 cut_below (negsuc n) = 0
 
--- n / d rounded to the nearest whole number, ties up: (2 * n + d) / (2 * d) rounded down, clamped to 0..max
+-- n / d rounded to the nearest whole number, ties up: (2 * n + d) / (2 * d) rounded down, clamped
+-- to 0..max
 unfoldable pub nearest : ℕ → ℤ → ℤ → ℕ
 nearest max n d = min max (cut_below (pos 2 *ℤ n +ℤ d) / cut_below (pos 2 *ℤ d))
 

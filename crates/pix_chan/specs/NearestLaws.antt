@@ -14,13 +14,14 @@ away_up a d k = omega (arith, ints)
 away_down : (a d k : ℕ) → distance (negsuc a) (pos d) k ≡ k * d + suc a
 away_down a d k = omega (arith, ints)
 
--- r is the nearest to a / d: 2 * a + d is between 2 * r * d and 2 * (r + 1) * d, but where r is 0 or the maximum
+-- r is the nearest to a / d: 2 * a + d is between 2 * r * d and 2 * (r + 1) * d, but where r is 0
+-- or the maximum
 record Rounded (max a d r : ℕ) : Type 0 where
   pub fits : r ≤ max
   pub low : (r ≡ 0) ⊎ (2 * (r * d) ≤ 2 * a + d)
   pub high : (r ≡ max) ⊎ (2 * a < 2 * (r * d) + d)
 
--- no greater number is as nearest
+-- no greater number is as near
 greater : (a d r j : ℕ) → 0 < d → 2 * a < 2 * (r * d) + d → (r * d - a) + (a - r * d) < ((r + 1 + j) * d - a) + (a - (r + 1 + j) * d)
 greater a d r j h u =
     let e : (r + 1 + j) * d ≡ r * d + d + j * d = omega arith in

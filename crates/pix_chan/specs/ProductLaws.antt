@@ -1,4 +1,5 @@
--- The laws of the product of channels, for every maximum, and the shifts that compute it. No public clause cites this file.
+-- The laws of the product of channels, for every maximum, and the shifts that compute it. No public
+-- clause cites this file.
 use Rattle.std.specs.Prelude.{◌≡◌, ℕ, ◌+◌, ◌*◌, ◌/◌, ◌<◌, ◌≤◌}
 use Rattle.std.proofs.Common.{arith, ◌∙◌, ap}
 use Rattle.std.proofs.Math.Nat.{mul-le-mul_left, mul-le-mul_right, lt-mul-div-succ, div-mul-le_self, lt_of_mul-lt-mul_left}

@@ -1,4 +1,5 @@
--- The laws of the quotient of channels, for every width and every product that keeps the product's laws. No public clause cites this file.
+-- The laws of the quotient of channels, for every width and every product that keeps the product's
+-- laws. No public clause cites this file.
 use Rattle.std.specs.Prelude.{◌≡◌, ℕ, ◌+◌, ◌*◌, ◌/◌, ◌<◌, ◌≤◌, ◌⊎◌, min}
 use Rattle.std.proofs.Common.{zero, suc, arith, subst, inl, inr}
 use Rattle.std.proofs.Math.Nat.{mul-le-mul_right, lt_of_mul-lt-mul_left, div-mul-le_self, div-add-mod'}

@@ -1,4 +1,5 @@
--- Runs: what an operation leaves in a slice, of which each element is computed from those of the same index.
+-- Runs: what an operation leaves in a slice, where each element is computed from those at the same
+-- index.
 use Rattle.std.specs.Prelude.{List, [], ◌∷◌}
 
 -- f of the two elements at each index below both lengths, and the rest of the second list as it is

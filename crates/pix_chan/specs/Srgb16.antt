@@ -7,7 +7,8 @@ use Rattle.pix_chan.specs.declared.chan.srgb16.TheConstants.{DECODE16, LEVELS}
 unfoldable pub srgb_decoded16 : ℕ → ℕ
 srgb_decoded16 level = slice_index_or DECODE16 level 0
 
--- from linear of sixteen bits: the level of the first of sixteen channels, or the next one for the last of them
+-- from linear of sixteen bits: the level of the first of sixteen channels, or the next one for the
+-- last of them
 unfoldable pub srgb_encoded8 : ℕ → ℕ
 srgb_encoded8 channel = (slice_index_or LEVELS (channel / 16) 0 + channel % 16) / 16
 
@@ -15,9 +16,10 @@ srgb_encoded8 channel = (slice_index_or LEVELS (channel / 16) 0 + channel % 16) 
 abbrev pub through_alpha : ℕ → ℕ → ℕ
 through_alpha channel alpha = channel_quotient 65535 (channel_product 65535 channel alpha) alpha
 
--- Decoding rises with each level and fits sixteen bits; encoding never falls and fits eight. Each level comes back, also from a channel
--- that is off by up to nine units, and from one that was premultiplied and made straight: at alphas from 4096, and at those of thirteen
--- units or more of eight bits.
+-- Decoding rises with each level and fits sixteen bits; encoding never falls and fits eight. Each
+-- level comes back, also from a channel that is off by up to nine units, and from one that was
+-- premultiplied and made straight: at alphas from 4096, and at those of thirteen units or more of
+-- eight bits.
 pub record IsCurve16 (decoded encoded : ℕ → ℕ) : Type 0 where
   pub decoded_fits : (level : ℕ) → level < 256 → decoded level < 65536
   pub encoded_fits : (channel : ℕ) → channel < 65536 → encoded channel < 256

@@ -1,7 +1,8 @@
 -- Step and lerp: part of the way from one channel to another, in whole units.
 use Rattle.std.specs.Prelude.{◌≡◌, ℕ, ℤ, zero, suc, pos, negsuc, neg_ℤ, ◌+ℤ◌, ◌-ℤ◌, ◌*ℤ◌, ◌<ℤ◌, ◌≤ℤ◌, ◌/◌, ◌%◌, ◌≤◌, ◌⊎◌}
 
--- how many units -(whole * max + rest + 1) / max is below 0: whole + 1, but whole where that isn't 0 and the rest is
+-- how many units -(whole * max + rest + 1) / max is below 0: whole + 1, but whole where that isn't
+-- 0 and the rest is
 abbrev pub units_below : ℕ → ℕ → ℕ
 units_below zero rest = 1
 units_below (suc whole) zero = suc whole
@@ -26,7 +27,8 @@ pub record IsStep (max : ℕ) (step : ℤ → ℤ) : Type 0 where
   pub below : (c : ℤ) → c <ℤ (pos max *ℤ step c +ℤ pos max)
   pub between : (t : ℕ) (way : ℤ) → t ≤ max → IsBetween (pos 0) way (step (pos t *ℤ way))
 
--- A lerp lies between its ends, is the first end at 0 and the second at the maximum, and is less than one unit from the exact one.
+-- A lerp lies between its ends, is the first end at 0 and the second at the maximum, and is less
+-- than one unit from the exact one.
 pub record IsLerp (max : ℕ) (lerp : ℕ → ℕ → ℕ → ℤ) : Type 0 where
   pub between : (a b t : ℕ) → t ≤ max → IsBetween (pos a) (pos b) (lerp a b t)
   pub at_zero : (a b : ℕ) → lerp a b 0 ≡ pos a

@@ -8,7 +8,8 @@ use Rattle.std.proofs.Math.IntN.{zero-*ℤ}
 use borrow.Author.Differences.{up, down}
 use Rattle.pix_chan.specs.Step.{units_below, step, channel_lerp, IsBetween, IsStep, IsLerp}
 
--- f units below 0 are less than one unit from -(n + 1) / m, and no lower than a whole number of units that is no higher
+-- f units below 0 are less than one unit from -(n + 1) / m, and no lower than a whole number of
+-- units that is no higher
 record Below (m n f : ℕ) : Type 0 where
   pub above : m * f < n + 1 + m
   pub below : n + 1 < m * f + m

@@ -1,4 +1,4 @@
--- Cmy: cyan, magenta and yellow, what red, green and blue lack of the maximum.
+-- Cmy: cyan, magenta and yellow, which are the maximum less red, green and blue.
 use Rattle.std.specs.Prelude.{ℕ, ◌-◌, List, [], ◌∷◌}
 
 -- the maximum less each of the three channels, into Rgb and from it

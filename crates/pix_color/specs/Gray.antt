@@ -2,7 +2,7 @@
 use Rattle.std.specs.Prelude.{ℕ, List, [], ◌∷◌, pos}
 use Rattle.pix_color.specs.Linear.{Weights, weights, weighted_sum}
 
--- the luminance of red, green and blue, by the weights of ITU-R BT.709
+-- the luminance of red, green and blue, with the weights of ITU-R BT.709
 abbrev pub luminance : Weights
 luminance = weights (pos 2126) (pos 7152) (pos 722) (pos 0) 10000
 

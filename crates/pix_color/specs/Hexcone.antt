@@ -56,7 +56,8 @@ chroma_of r g b = value_of r g b - min (min r g) b
 abbrev pub hue_at : ℕ → ℕ → ℕ → ℕ
 hue_at max n c = nearest max (pos (max * n)) (pos (6 * c))
 
--- how far round the circle red, green and blue of chroma c and value v are, each sixth as long as the chroma
+-- how far round the circle red, green and blue of chroma c and value v are, each sixth as long as
+-- the chroma
 abbrev pub turn : ℕ → ℕ → ℕ → ℕ → ℕ → ℕ
 turn r g b c v =
     if nat_eq v r then (if nat_le b g then g - b else 6 * c - (b - g))
@@ -67,7 +68,8 @@ turn r g b c v =
 abbrev pub hue_after : ℕ → ℕ → ℕ → ℕ
 hue_after max n c = if nat_eq c 0 then 0 else hue_at max n c
 
--- the hue of red, green and blue of chroma c and value v, by the first case that fits: gray, red, green, blue the greatest
+-- the hue of red, green and blue of chroma c and value v, by the first case that fits: gray, red,
+-- green, blue the greatest
 abbrev pub hue_in : ℕ → ℕ → ℕ → ℕ → ℕ → ℕ → ℕ
 hue_in max r g b c v =
     if nat_eq c 0 then 0

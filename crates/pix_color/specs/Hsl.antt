@@ -8,11 +8,13 @@ use Rattle.pix_color.specs.Hexcone.{lifted_rgb, hue_of, chroma_of, value_of}
 abbrev pub half : ℕ → ℕ
 half max = (max + 1) / 2
 
--- the greatest chroma of a lightness l: the maximum less the absolute difference of 2l and the maximum
+-- the greatest chroma of a lightness l: the maximum less the absolute difference of 2l and the
+-- maximum
 abbrev pub greatest_chroma : ℕ → ℕ → ℕ
 greatest_chroma max lightness = max - absolute_difference (2 * lightness) max
 
--- into red, green and blue: the chroma is its greatest times the saturation, lifted by the lightness less half the chroma
+-- into red, green and blue: the chroma is the greatest chroma times the saturation, lifted by the
+-- lightness less half the chroma
 abbrev pub rgb_of_hsl : ℕ → ℕ → ℕ → ℕ → List ℕ
 rgb_of_hsl max hue saturation lightness =
     let chroma = channel_product max (greatest_chroma max lightness) saturation in
@@ -22,7 +24,8 @@ rgb_of_hsl max hue saturation lightness =
 abbrev pub lightness_of : ℕ → ℕ → ℕ → ℕ → ℕ
 lightness_of max r g b = value_of r g b - channel_product max (chroma_of r g b) (half max)
 
--- from red, green and blue: the saturation is what the value has above the lightness, over the lesser of the lightness and what it lacks
+-- from red, green and blue: the saturation is the value less the lightness, over the lesser of the
+-- lightness and the maximum less the lightness
 abbrev pub hsl_of_rgb : ℕ → ℕ → ℕ → ℕ → List ℕ
 hsl_of_rgb max r g b =
     let lightness = lightness_of max r g b in

@@ -1,4 +1,4 @@
--- Weighted sums of three channels and of the maximum, of which the models Gray, YCbCr and Xyz are made.
+-- Weighted sums of three channels and of the maximum, which the models Gray, YCbCr and Xyz use.
 use Rattle.std.specs.Prelude.{ℕ, ℤ, pos, neg_ℤ, ◌+ℤ◌, ◌*ℤ◌, List, [], ◌∷◌}
 use Rattle.pix_chan.specs.Nearest.{nearest}
 
@@ -10,7 +10,8 @@ pub record Weights : Type 0 where
   pub offset : ℤ
   pub whole : ℕ
 
--- the sum of three channels and the maximum, each times its weight, over the whole: rounded to the nearest channel, ties up
+-- the sum of three channels and the maximum, each times its weight, over the whole: rounded to the
+-- nearest channel, ties up
 abbrev pub weighted_sum : ℕ → Weights → ℕ → ℕ → ℕ → ℕ
 weighted_sum max w x y z =
     nearest max (w.first *ℤ pos x +ℤ w.second *ℤ pos y +ℤ w.third *ℤ pos z +ℤ w.offset *ℤ pos max) (pos w.whole)
@@ -25,6 +26,6 @@ abbrev pub weights : ℤ → ℤ → ℤ → ℤ → ℕ → Weights
 weights first second third offset whole =
     record { first = first; second = second; third = third; offset = offset; whole = whole }
 
--- a weight that takes away
+-- a negative weight
 abbrev pub less : ℕ → ℤ
 less n = neg_ℤ (pos n)

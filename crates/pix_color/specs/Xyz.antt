@@ -1,4 +1,5 @@
--- Xyz: the CIE 1931 tristimulus values of linear red, green and blue, by the matrices of IEC 61966-2-1:1999 to four decimals.
+-- Xyz: the CIE 1931 tristimulus values of linear red, green and blue, by the matrices of IEC
+-- 61966-2-1:1999 to four decimals.
 use Rattle.std.specs.Prelude.{ℕ, List, pos}
 use Rattle.pix_color.specs.Linear.{Weights, weights, less, weighted_sums}
 

@@ -1,4 +1,5 @@
--- YCbCr: the luma, by the weights of ITU-R BT.601, and how far blue and red are from it, over the full range of a channel (ITU-T T.871, JFIF).
+-- YCbCr: the luma, with the weights of ITU-R BT.601, and how far blue and red are from it, over the
+-- full range of a channel (ITU-T T.871, JFIF).
 use Rattle.std.specs.Prelude.{ℕ, List, pos}
 use Rattle.pix_color.specs.Linear.{Weights, weights, less, weighted_sums}
 

@@ -16,7 +16,8 @@ halves_put n p a b h i j =
 pub halves_of : {A : Type 0} (n : ℕ) (p : List A) → length p ≡ n + n → take n p ++ take n (drop n p) ≡ p
 halves_of n p h = same_pair refl (take_all n (drop n p) (omega (arith, length-drop n p))) ∙ take-append-drop n p
 
--- pixels of which each half is made of a half of the channels are made of all channels, where the channels of pixels are read part by part
+-- pixels of which each half is made of a half of the channels are made of all channels, where the
+-- channels of pixels are read part by part
 pub pixels_put : {X C : Type 0} (f : X → List ℕ) (v : C → ℕ) (pixels_of : List ℕ → List (List ℕ)) (n k : ℕ) (p w x : List X) (c : List C)
     → ((a b : List ℕ) → length a ≡ k → pixels_of (a ++ b) ≡ pixels_of a ++ pixels_of b)
     → length p ≡ n + n → length w ≡ n → length x ≡ n → length c ≡ k + k

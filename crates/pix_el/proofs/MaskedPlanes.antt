@@ -73,7 +73,7 @@ map-both f g [] ys = refl
 map-both f g (x ∷ xs) [] = refl
 map-both f g (x ∷ xs) (y ∷ ys) = cons refl (map-both f g xs ys)
 
--- a run by two lists that goes on at the slices from n on
+-- a run with two lists that continues in the slices from n on
 pub next_beside : {C M P A B D : Type 0} (number : C → A) (value : M → B) (numbers : P → D) (f : B × D → A → A) (n r : ℕ) (xs ws new : List C) (ms : List M) (ss : List P)
     → map number ws ≡ over f (take n (zip (map value ms) (map numbers ss))) (map number xs) → n ≤ length ms → n ≤ length ss
     → map number new ≡ over f (take r (zip (map value (take (length ms - n) (drop n ms))) (map numbers (take (length ss - n) (drop n ss))))) (map number (take (length ws - n) (drop n ws)))

@@ -141,7 +141,7 @@ replicated : {C A : Type 0} (color : A) (xs : List C) → map (λ _. color) xs �
 replicated color [] = refl
 replicated {A = A} color (x ∷ xs) = ap (λ (l : List A). color ∷ l) (replicated color xs)
 
--- a run of one color that goes on at the slice from n on
+-- a run of one color that continues in the slice from n on
 pub next_color : {C A B : Type 0} (number : C → A) (f : B → A → A) (n r : ℕ) (xs ws new : List C) (color : B)
     → map number ws ≡ over f (take n (replicate (length xs) color)) (map number xs) → n ≤ length xs
     → map number new ≡ over f (take r (replicate (length (take (length ws - n) (drop n ws))) color)) (map number (take (length ws - n) (drop n ws)))

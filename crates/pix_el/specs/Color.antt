@@ -2,7 +2,8 @@
 use Rattle.std.specs.Prelude.{ℕ, ◌+◌, ◌-◌, List, [], ◌∷◌, ◌++◌, map, Bool, nat_le, ◌&&◌}
 use Rattle.pix_el.specs.Pixel.{channel}
 
--- red, green, blue and alpha of a pixel: what the model's formula makes of its first three channels, then its alpha
+-- red, green, blue and alpha of a pixel: what the model's formula makes of its first three
+-- channels, then its alpha
 abbrev pub rgba_of : (ℕ → ℕ → ℕ → ℕ → List ℕ) → ℕ → ℕ → List ℕ → List ℕ
 rgba_of to_rgb alpha max numbers =
     to_rgb max (channel max numbers 0) (channel max numbers 1) (channel max numbers 2) ++ (channel max numbers alpha ∷ [])

@@ -7,8 +7,9 @@ use Rattle.pix_chan.specs.Modes.{AlphaMode, alpha_kind, alpha_encoded, alpha_dec
 use Rattle.pix_el.specs.Pixel.{Layout, lies_in, channel, alpha_of}
 use Rattle.pix_el.specs.Color.{rgba_of, of_rgba}
 
--- a format but for its gamma mode: the layout of its channels, the `KIND` of its color model, the channel numbers of the colors that
--- are no hue, the model's formulas into red, green and blue and from them, and the alpha mode
+-- a format without its gamma mode: the layout of its channels, the `KIND` of its color model, the
+-- channel numbers of the colors that are not hues, the model's formulas into red, green and blue
+-- and from them, and the alpha mode
 pub record Format : Type 0 where
   pub layout : Layout
   pub kind : ℕ
@@ -17,22 +18,25 @@ pub record Format : Type 0 where
   pub of_rgb : ℕ → ℕ → ℕ → ℕ → List ℕ
   pub alpha_mode : AlphaMode
 
--- a channel at another depth, by way of sixteen bits
+-- a channel at another depth, through sixteen bits
 abbrev pub at_depth : ℕ → ℕ → ℕ → ℕ
 at_depth max to_max x = from_16_bit to_max (to_16_bit max x)
 
--- a pixel at the depth of another format: a channel that is missing is the maximum, and one that is left over is dropped
+-- a pixel at the depth of another format: a channel that is missing is the maximum, and one that is
+-- left over is dropped
 abbrev pub of_depth : Layout → Layout → List ℕ → List ℕ
 of_depth layout to pixel = map (λ ch. at_depth layout.max to.max (channel layout.max pixel ch)) (range_with_len 0 to.count)
 
--- a color channel x at an alpha, where alpha mode or gamma mode differ: to linear, from the one alpha mode to the other, from linear
+-- a color channel x at an alpha, where alpha mode or gamma mode differ: to linear, from the one
+-- alpha mode to the other, from linear
 abbrev pub reencoded : ℕ → AlphaMode → GammaMode → AlphaMode → GammaMode → ℕ → ℕ → ℕ
 reencoded max mode gamma to_mode to_gamma alpha x =
     if nat_eq (alpha_kind mode) (alpha_kind to_mode)
     then (if nat_eq (gamma_kind gamma) (gamma_kind to_gamma) then x else from_linear to_gamma (to_linear gamma x))
     else from_linear to_gamma (alpha_encoded to_mode max (alpha_decoded mode max (to_linear gamma x) alpha) alpha)
 
--- the channel of a number of a pixel that has its depth: a color that is no hue is re-encoded at the alpha, and any other stays
+-- the channel of a number of a pixel that has its depth: a color that is no hue is re-encoded at
+-- the alpha, and any other stays
 abbrev pub channel_reencoded : Format → GammaMode → Format → GammaMode → List ℕ → ℕ → ℕ
 channel_reencoded format gamma to to_gamma pixel ch =
     if lies_in to.colors ch
@@ -51,7 +55,8 @@ rgba_format format = record format {
   colors = record { start = 0; end = 3 };
 }
 
--- from one color model to another: by way of red, green, blue and alpha, first in the source's channels, then in the target's
+-- from one color model to another: through red, green, blue and alpha, first in the source's
+-- channels, then in the target's
 abbrev pub across_models : Format → GammaMode → Format → GammaMode → List ℕ → List ℕ
 across_models format gamma to to_gamma pixel = take to.layout.count (of_rgba to.of_rgb to.layout.max
     (within_model (rgba_format format) gamma (rgba_format to) to_gamma (rgba_of format.to_rgb format.layout.alpha format.layout.max pixel)))

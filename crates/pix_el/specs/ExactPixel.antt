@@ -6,7 +6,8 @@ use Rattle.pix_ops.specs.Hue.{hue_weight, IsHueMove}
 use Rattle.pix_el.specs.Pixel.{Layout, is_hue, channel, alpha_of}
 use Rattle.pix_el.specs.Premultiplied.{IsBounded}
 
--- each channel of `made` but a hue is near the exact composite of the channels of `source` and `dest` of its number
+-- each channel of `made` but a hue is near the exact composite of the channels of `source` and
+-- `dest` of its number
 abbrev pub IsNearExact : Layout → Op → List ℕ → List ℕ → List ℕ → Type 0
 IsNearExact layout op source dest made =
     (ch : ℕ) → IsBounded layout ch

@@ -11,8 +11,8 @@ abbrev pub mode_changed : ℕ → AlphaMode → AlphaMode → ℕ → ℕ → �
 mode_changed max mode to_mode alpha x =
     if nat_eq (alpha_kind mode) (alpha_kind to_mode) then x else alpha_encoded to_mode max (alpha_decoded mode max x alpha) alpha
 
--- the channel of a number in light: a color that is no hue is decoded by the curve, and then taken to the alpha mode at the alpha of sixteen
--- bits; any other keeps its fraction
+-- the channel of a number in light: a color that is no hue is decoded by the curve, and then taken
+-- to the alpha mode at the alpha of sixteen bits; any other keeps its fraction
 abbrev pub channel_in_light : Format → Format → List ℕ → ℕ → ℕ
 channel_in_light format to pixel ch =
     if lies_in to.colors ch
@@ -20,8 +20,9 @@ channel_in_light format to pixel ch =
     (at_depth format.layout.max to.layout.max (channel format.layout.max pixel to.layout.alpha)) (srgb_decoded16 (channel format.layout.max pixel ch))
     else at_depth format.layout.max to.layout.max (channel format.layout.max pixel ch)
 
--- the channel of a number of a pixel in light, as sRGB: a color that is no hue is taken to the alpha mode at the alpha of sixteen bits, and then
--- encoded by the curve; of any other the upper eight bits
+-- the channel of a number of a pixel in light, as sRGB: a color that is no hue is taken to the
+-- alpha mode at the alpha of sixteen bits, and then encoded by the curve; any other keeps its upper
+-- eight bits
 abbrev pub channel_as_srgb : Format → Format → List ℕ → ℕ → ℕ
 channel_as_srgb format to pixel ch =
     if lies_in to.colors ch

@@ -1,4 +1,4 @@
--- The color models: how the channels of each stand. A new model is a line in each of its tables.
+-- The color models: the order of the channels of each. A new model is a line in each of the tables.
 use Rattle.std.specs.Prelude.{ℕ, ◌+◌}
 use Rattle.std.specs.declared.ops.Range.{Range}
 
@@ -22,7 +22,7 @@ pub record ModelRow : Type 0 where
   pub alpha : ℕ
   pub kind : ℕ
 
--- so many hues, then so many other colors, then the alpha
+-- a number of hues, then a number of other colors, then the alpha
 abbrev pub in_order : ℕ → ℕ → ℕ → ModelRow
 in_order hues colors kind = record {
   hues = record { start = 0; end = hues };

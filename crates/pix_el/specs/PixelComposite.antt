@@ -8,14 +8,16 @@ use Rattle.pix_ops.specs.Hue.{hue_composite}
 use Rattle.pix_el.specs.declared.el.Pix.{Pix}
 use Rattle.pix_el.specs.Pixel.{Layout, is_hue, channel, alpha_of}
 
--- the source's channel of a number, of alpha sa, composited with the destination's, of alpha da: a hue along the shorter arc
+-- the source's channel of a number, of alpha sa, composited with the destination's, of alpha da: a
+-- hue along the shorter arc
 abbrev pub composite_at : Layout → Op → ℕ → ℕ → List ℕ → List ℕ → ℕ → ℕ
 composite_at layout op sa da source dest ch =
     if is_hue layout ch
     then hue_composite layout.max op (channel layout.max source ch) sa (channel layout.max dest ch) da
     else channel_composite layout.max op (channel layout.max source ch) sa (channel layout.max dest ch) da
 
--- each channel of the source, of alpha sa, composited with the destination's of the same number, of alpha da
+-- each channel of the source, of alpha sa, composited with the destination's of the same number, of
+-- alpha da
 abbrev pub channels_composite : Layout → Op → ℕ → ℕ → List ℕ → List ℕ → List ℕ
 channels_composite layout op sa da source dest = map (composite_at layout op sa da source dest) (range_with_len 0 layout.count)
 
@@ -23,7 +25,7 @@ channels_composite layout op sa da source dest = map (composite_at layout op sa 
 abbrev pub pixel_composite : Layout → Op → List ℕ → List ℕ → List ℕ
 pixel_composite layout op source dest = channels_composite layout op (alpha_of layout source) (alpha_of layout dest) source dest
 
--- the source's channel of a number, multiplied by the matte, but a hue as it is
+-- the source's channel of a number, multiplied by the matte; a hue as it is
 abbrev pub matted_at : Layout → ℕ → List ℕ → ℕ → ℕ
 matted_at layout matte source ch =
     if is_hue layout ch then channel layout.max source ch else channel_product layout.max (channel layout.max source ch) matte

@@ -1,4 +1,5 @@
--- Proofs of the laws of `Pixel`, which an impl takes from `specs/` alone. No public clause cites this file.
+-- Proofs of the laws of `Pixel`, which an impl takes from `specs/` alone. No public clause cites
+-- this file.
 use Rattle.std.specs.Prelude.{◌≡◌, ℕ, zero, suc, Bool, nat_eq, List, [], ◌∷◌, map, replicate, refl}
 use Rattle.std.specs.Cmp.Lexicographic.{pointwise}
 use Rattle.std.proofs.Common.{ap, ◌∙◌, arith, length}

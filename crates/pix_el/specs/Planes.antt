@@ -42,7 +42,8 @@ pub record AreTwoPlanes (max : ℕ) (pixels : List (List ℕ)) (one two : List �
   pub first : one ≡ plane_of max pixels 0
   pub second : two ≡ plane_of max pixels 1
 
--- the source's hue s composited with the destination's hue d, where da1 and sa1 are one minus the alphas
+-- the source's hue s composited with the destination's hue d, where da1 and sa1 are one minus the
+-- alphas
 abbrev pub run_hue : ℕ → Op → ℕ × ℕ × ℕ → ℕ → ℕ
 run_hue max op (da1, s, sa1) d = hue_composite max op s (max - sa1) d (max - da1)
 
@@ -54,7 +55,8 @@ run_first max hues op t d = if lies_in hues 0 then run_hue max op t d else run_c
 abbrev pub matted_first : ℕ → Range ℕ → ℕ → ℕ → ℕ
 matted_first max hues matte x = if lies_in hues 0 then x else channel_product max x matte
 
--- the source's channel s, of alpha sa, leaves each channel of a destination as it is, and moves no hue
+-- the source's channel s, of alpha sa, leaves each channel of a destination as it is, and moves no
+-- hue
 abbrev pub Keeps : ℕ → Op → ℕ → ℕ → Type 0
 Keeps max op s sa = (d da : ℕ) → d ≤ max → da ≤ max → (channel_composite max op s sa d da ≡ d) × (hue_weight max op sa da ≡ 0)
 

@@ -11,7 +11,7 @@ use Rattle.pix_el.proofs.MattePlanes.{next_run}
 rest_all : {X : Type 0} (n k : ℕ) (xs : List X) → length xs ≤ k → take (length xs - n) (drop n xs) ≡ take k (drop n xs)
 rest_all n k xs l = take_all (length xs - n) (drop n xs) (omega (arith, length-drop n xs)) ∙ sym (take_all k (drop n xs) (omega (arith, length-drop n xs)))
 
--- a run over both that goes on at the slices from n on
+-- a run over both lists that continues in the slices from n on
 pub next_beside : {C M P A B E : Type 0} (number : C → E) (f : M → A) (g : P → B) (make : A × B → E → E) (n r : ℕ) (xs ws new : List C) (us : List M) (vs : List P)
     → map number ws ≡ over make (take n (zip (map f us) (map g vs))) (map number xs) → n ≤ min (length us) (length vs)
     → map number new ≡ over make (take r (zip (map f (take (length us - n) (drop n us))) (map g (take (length vs - n) (drop n vs))))) (map number (take (length ws - n) (drop n ws)))

@@ -55,7 +55,8 @@ pair_read to dest from m width height stride src x y shaped =
     (λ e. let below = paired_below to dest from width height i j e in
     sym (point_read m width height stride src (natural (from.left +ℤ i)) (natural (from.top +ℤ j)) shaped below.0 below.1))
 
--- a change of the points that are paired with others of a mask and of an image is one effect at each
+-- a change of the points that are paired with others of a mask and of an image is one effect at
+-- each
 pub masked_effect : {S M : Type 0} (layout : Layout) (to dest from mask_from : Rectangle) (n : S → List ℕ) (width height stride : ℕ) (src : List S)
     (m : M → List ℕ) (mask_width mask_height mask_stride : ℕ) (mask : List M) (f : List ℕ → List ℕ → List ℕ → List ℕ) (effect : List ℕ → List ℕ → Effect) (x y : ℕ) (pixel : List ℕ)
     → IsShaped (record { width = width; height = height; stride = stride }) (length src)

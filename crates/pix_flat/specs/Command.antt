@@ -17,7 +17,8 @@ use Rattle.pix_flat.specs.declared.format.PixRgba8.{PixRgba8}
 use Rattle.pix_flat.specs.declared.format.PixRgba16.{PixRgba16}
 use Rattle.pix_flat.specs.declared.format.PixGraya8.{PixGraya8}
 
--- the first `width` elements of each of `height` rows that start `stride` elements apart, one row after the other
+-- the first `width` elements of each of `height` rows that start `stride` elements apart, one row
+-- after the other
 abbrev pub joined_rows : {D : Type 0} → ℕ → ℕ → ℕ → List D → List D
 joined_rows width zero stride items = []
 joined_rows width (suc height) stride items = take width items ++ joined_rows width height stride (drop stride items)

@@ -35,7 +35,8 @@ matte16_numbers value = words (value ∷ [])
 abbrev pub layout_of : (max count : ℕ) → Model → Layout
 layout_of max count model = record { max = max; count = count; hues = (row model).hues; alpha = (row model).alpha }
 
--- the layouts of the pixels: red, green, blue and alpha of 8 and of 16 bits, and gray and alpha of 8 bits
+-- the layouts of the pixels: red, green, blue and alpha of 8 and of 16 bits, and gray and alpha of
+-- 8 bits
 abbrev pub rgba8 : Layout
 rgba8 = layout_of 255 4 Rgb
 

@@ -1,4 +1,5 @@
--- Proofs of the laws of `Flat`, which an impl takes from `specs/` alone. No public clause cites this file.
+-- Proofs of the laws of `Flat`, which an impl takes from `specs/` alone. No public clause cites
+-- this file.
 use Rattle.std.specs.Prelude.{ℕ, zero, suc, ◌≤◌, List, [], ◌∷◌, map, min}
 use Rattle.std.proofs.Common.{arith}
 use Rattle.pix_el.specs.Pixel.{channel}

@@ -1,4 +1,4 @@
--- The version of the calls, and where the proofs' memory has each field of what crosses to C.
+-- The version of the calls, and where the proofs' memory has each field of what is passed to C.
 use Rattle.std.specs.Prelude.{ℕ, ◌+◌, List, [], ◌∷◌, ◌++◌}
 use mathlib.Core.Option.{Option, none, some}
 use denote.RattleType.{RattleType}
@@ -13,7 +13,7 @@ use Rattle.pix_flat.specs.contracts.format.PixRgba8 as rgba8
 use Rattle.pix_flat.specs.contracts.format.PixRgba16 as rgba16
 use Rattle.pix_flat.specs.contracts.format.PixGraya8 as graya8
 
--- what stands in the place of a fact that there is not
+-- the number for a fact that does not exist
 abbrev pub no_fact : ℕ
 no_fact = 4294967295
 
@@ -42,13 +42,15 @@ count_offset R k = count_start (field_of (lone R.mir) k)
 abbrev pub region_facts : RattleType → List ℕ
 region_facts R = size_of R ∷ offset R 0 ∷ offset R 1 ∷ offset R 2 ∷ offset R 3 ∷ []
 
--- the size of a command, and the offsets of its fields in their order, those of a slice and of its count one after the other
+-- the size of a command, and the offsets of its fields in their order, those of a slice and of its
+-- count one after the other
 abbrev pub command_facts : RattleType → List ℕ
 command_facts R = size_of R ∷ offset R 0 ∷ offset R 1 ∷ offset R 2 ∷ offset R 3 ∷ offset R 4
     ∷ offset R 5 ∷ count_offset R 5 ∷ offset R 6 ∷ count_offset R 6 ∷ offset R 7 ∷ offset R 8 ∷ offset R 9
     ∷ offset R 10 ∷ offset R 11 ∷ offset R 12 ∷ offset R 13 ∷ offset R 14 ∷ []
 
--- the version; the sizes of the pixels; the region; the command of each format, for any lifetime of its slices
+-- the version; the sizes of the pixels; the region; the command of each format, for any lifetime of
+-- its slices
 abbrev pub facts : List ℕ
 facts = 1 ∷ size_of rgba8.the_row ∷ size_of rgba16.the_row ∷ size_of graya8.the_row ∷ region_facts region.the_row
     ++ command_facts (command.the_row (record { mir = named 0; lft = [] }))

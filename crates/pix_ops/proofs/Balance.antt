@@ -13,8 +13,9 @@ use Rattle.pix_ops.proofs.Near.{IsFrom, from_itself, from_product}
 use Rattle.pix_ops.proofs.ExactSteps.{exact_by, exact_times, weight_below, channel_moves, Fits, operators_fit, alpha_moves}
 use Rattle.pix_ops.proofs.RunSteps.{rounded_by, composite_rounds}
 
--- Neither the channel nor the alpha passes the max, rounded or exact, and `off` and `alpha_off` bound how far they are apart.
--- Both together, and twice the alpha's, are at most v times the whole.
+-- Neither the channel nor the alpha passes the max, rounded or exact, and `off` and `alpha_off`
+-- bound how far they are apart. Both together, and twice the alpha's, are at most v times the
+-- whole.
 pub record Balanced (fine max v : ℕ) (made : Rounded) (exact : Exact) : Type 0 where
   pub whole : 0 < exact.whole
   pub channel_small : made.channel ≤ max

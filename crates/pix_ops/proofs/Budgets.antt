@@ -8,7 +8,8 @@ use Rattle.pix_ops.specs.declared.ops.Op.{Op}
 use Rattle.pix_ops.specs.Operators.{Coefficient, Zero, One, Alpha, OneMinusAlpha, row, reads, enters, product_count}
 use Rattle.pix_ops.specs.ExactRun.{ChannelEffect, Replaced, Composited, Matted, Budget, both, composite_budget, budget_step, effect_count, doubled_counts, IsUnmatted, IsListed, AreAtMost, HasSmallBudget}
 
--- 1 where the alpha's budget stays: where the destination's coefficient is not zero, or the source's reads the alpha
+-- 1 where the alpha's budget stays: where the destination's coefficient is not zero, or the
+-- source's reads the alpha
 abbrev pub alpha_share : Coefficient → Coefficient → ℕ
 alpha_share a b = max (enters b) (reads a)
 

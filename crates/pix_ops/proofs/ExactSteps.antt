@@ -66,14 +66,16 @@ channel_stays a b m n f e c z d y g h lm ln lz ly p q =
     let two = mul-le-mul_left g (weight_small b f n ln) in
     within_more _ _ _ _ (omega arith) moved
 
--- Where the source enters by the destination's alpha, its alpha n and the destination's weight q don't pass the whole together.
+-- Where the source enters by the destination's alpha, its alpha n and the destination's weight q
+-- don't pass the whole together.
 abbrev pub Fits : Coefficient → ℕ → ℕ → ℕ → Type 0
 Fits Zero n q f = ⊤
 Fits One n q f = ⊤
 Fits Alpha n q f = n + q ≤ f
 Fits OneMinusAlpha n q f = ⊤
 
--- whether this holds for two coefficients: where the source's reads the destination's alpha, the destination's leaves room
+-- whether this holds for two coefficients: where the source's reads the destination's alpha, the
+-- destination's leaves room
 abbrev pair_fits : Coefficient → Coefficient → Bool
 pair_fits Zero b = true
 pair_fits One b = true
@@ -95,8 +97,9 @@ operators_fit op n f l =
     let test : Op → Bool = λ op. pair_fits (row op).source (row op).dest in
     pair_keeps (row op).source (row op).dest n f (passed_by_each test refl op) l
 
--- The alpha's composite moves at most `rate` times as far as its alpha.
--- With a premultiplied source, the distances of channel and alpha together, and twice the alpha's, stay at most v times the whole.
+-- The alpha's composite moves at most `rate` times as far as its alpha. With a premultiplied
+-- source, the distances of channel and alpha together, and twice the alpha's, stay at most v times
+-- the whole.
 pub record AlphaMoves (a : Coefficient) (n q f e z y h : ℕ) : Type 0 where
   pub rate : ℕ
   pub small : rate ≤ f

@@ -179,7 +179,8 @@ lands_back max m d t y x z e hd ht at hy hx = elim (cases_lt d m) [
       ]
 ]
 
--- A lerp between the hues half a turn on, taken half a turn back, is the move where the shorter way passes 0.
+-- A lerp between the hues half a turn on, taken half a turn back, is the move where the shorter way
+-- passes 0.
 pub moved_past_zero : {max m d s weight : ℕ} (v t u y x : ℕ) → IsMovable max m d s weight → v ≡ weight → y ≤ max
     → m < (d - s) + (s - d) → t ≡ wrapping_sum max d m → u ≡ wrapping_sum max s m → pos y ≡ channel_lerp max t u v
     → x ≡ wrapping_difference max y m → x ≡ hue_after max d (hue_steps max weight d s)

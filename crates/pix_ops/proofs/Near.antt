@@ -1,5 +1,6 @@
--- One rounded composite is within its product count of the exact composite.
--- The source may have been rounded k times on the way from a fraction of the whole f: it has not been where k is 0 and f is max.
+-- One rounded composite is within its product count of the exact composite. The source may have
+-- been rounded k times on the way from a fraction of the whole f: it has not been where k is 0 and
+-- f is max.
 use Rattle.std.proofs.Common.{ℕ, ◌+◌, ◌-◌, ◌*◌, ◌≤◌, min, arith, mul-le-mul_left, mul-le-mul_right, mul_comm}
 use Rattle.std.proofs.lemmas.Nat.{mul-le}
 use Rattle.pix_ops.specs.declared.ops.Op.{Op}

@@ -1,4 +1,5 @@
--- After each effect, and so after a list of them, a rounded channel lies within its budget of the exact one.
+-- After each effect, and so after a list of them, a rounded channel lies within its budget of the
+-- exact one.
 use Rattle.std.specs.Prelude.{All, fold}
 use Rattle.std.proofs.Common.{◌≡◌, ℕ, ◌+◌, ◌*◌, ◌<◌, ◌≤◌, min, List, [], ◌∷◌, arith, mul-pos, mul-le-mul_right}
 use Rattle.std.proofs.lemmas.List.Elements.{All-head, All-tail}
@@ -16,7 +17,8 @@ use Rattle.pix_ops.proofs.Budgets.{alpha_share, Spends, spends, reads_most}
 abbrev pub rounded_by : (ℕ → ℕ → ℕ) → ℕ → Coefficient → Coefficient → ℕ → ℕ → ℕ → ℕ → ℕ
 rounded_by product max a b s t d da = min max (term_by product max a s da + term_by product max b d t)
 
--- neither the channel x nor the fraction v / w is above the maximum, and they are at most b units of 1/fine apart
+-- neither the channel x nor the fraction v / w is above the maximum, and they are at most b units
+-- of 1/fine apart
 pub record IsClose (fine max b x v w : ℕ) : Type 0 where
   pub small : x ≤ max
   pub proper : v ≤ max * w
@@ -28,7 +30,8 @@ pub record Holds (fine max : ℕ) (budget : Budget) (made : Rounded) (exact : Ex
   pub channel : IsClose fine max budget.channel made.channel exact.value exact.whole
   pub alpha : IsClose fine max budget.alpha made.alpha exact.alpha exact.whole
 
--- a composite by the product of some channels, where the source is of the whole f and was rounded k times
+-- a composite by the product of some channels, where the source is of the whole f and was rounded k
+-- times
 module _ (fine k max f : ℕ) (product : ℕ → ℕ → ℕ) (laws : IsProduct fine max product) where
   -- a composite of rounded channels, taken w times: both w and `fine` go into the fractions
   pub composite_rounds : (a b : Coefficient) (s m t n d da w : ℕ) → IsFrom fine k max f s m → IsFrom fine k max f t n → d ≤ max → da ≤ max

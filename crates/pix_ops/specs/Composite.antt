@@ -12,7 +12,8 @@ term max One x alpha = x
 term max Alpha x alpha = channel_product max x alpha
 term max OneMinusAlpha x alpha = channel_product max x (max - alpha)
 
--- the two terms of the source's channel s, of alpha sa, and the destination's channel d, of alpha da, together
+-- the two terms of the source's channel s, of alpha sa, and the destination's channel d, of alpha
+-- da, together
 abbrev pub term_sum : ℕ → Op → ℕ → ℕ → ℕ → ℕ → ℕ
 term_sum max op s sa d da = term max (row op).source s da + term max (row op).dest d sa
 
@@ -21,7 +22,8 @@ abbrev pub channel_composite : ℕ → Op → ℕ → ℕ → ℕ → ℕ → �
 channel_composite max op s sa d da =
     saturating_sum max (term max (row op).source s da) (term max (row op).dest d sa)
 
--- the source's channel s composited with the destination's channel d, where da1 and sa1 are one minus the alphas
+-- the source's channel s composited with the destination's channel d, where da1 and sa1 are one
+-- minus the alphas
 abbrev pub run_composite : ℕ → Op → ℕ × ℕ × ℕ → ℕ → ℕ
 run_composite max op (da1, s, sa1) d = channel_composite max op s (max - sa1) d (max - da1)
 

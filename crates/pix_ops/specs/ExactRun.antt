@@ -1,4 +1,5 @@
--- A run at one channel of one point: rounded at each step, in exact fractions that are never rounded, and the bound of their distance.
+-- A run at one channel of one point: rounded at each step, in exact fractions that are never
+-- rounded, and the bound of their distance.
 use Rattle.std.specs.Prelude.{ℕ, max, ◌+◌, ◌*◌, ◌<◌, ◌≤◌, IsTrue, List, length, fold, All, sum_by, ⊤}
 use Rattle.pix_ops.specs.declared.ops.Op.{Op}
 use Rattle.pix_chan.specs.Product.{channel_product, fineness}
@@ -67,7 +68,8 @@ exact_step max dest (Matted op matte s sa) = exact_both max op (max * max) (s * 
 abbrev pub exact_run : ℕ → Rounded → List ChannelEffect → Exact
 exact_run max start effects = fold (exact_step max) (record { value = start.channel; alpha = start.alpha; whole = 1 }) effects
 
--- the rounding budgets of a channel and its alpha: their greatest distance from the exact run, counted in 1/fineness of a unit
+-- the rounding budgets of a channel and its alpha: their greatest distance from the exact run,
+-- counted in 1/fineness of a unit
 pub record Budget : Type 0 where
   pub channel : ℕ
   pub alpha : ℕ
@@ -76,8 +78,9 @@ pub record Budget : Type 0 where
 abbrev pub both : ℕ → Budget
 both n = record { channel = n; alpha = n }
 
--- The budgets after a composite of so many products: a channel keeps its budget unless the destination's coefficient is zero, and the alpha's is
--- added where the source's reads it; the alpha keeps its budget where either holds.
+-- The budgets after a composite of so many products: a channel keeps its budget unless the
+-- destination's coefficient is zero, and the alpha's is added where the source's reads it; the
+-- alpha keeps its budget where either holds.
 abbrev pub composite_budget : Op → ℕ → Budget → Budget
 composite_budget op count budget = record {
   channel = count + enters (row op).dest * budget.channel + reads (row op).source * budget.alpha;
@@ -104,8 +107,9 @@ effect_count (Matted op matte s sa) = matted_count op
 abbrev pub doubled_counts : List ChannelEffect → ℕ
 doubled_counts effects = 2 * sum_by effect_count effects
 
--- The channel and the alpha of `made` are at most b and e from the exact ones, counted in 1/fineness of a unit.
--- Both sides are multiplied by fineness and by the whole, so that every number is whole.
+-- The channel and the alpha of `made` are at most b and e from the exact ones, counted in
+-- 1/fineness of a unit. Both sides are multiplied by fineness and by the whole, so that every
+-- number is whole.
 pub record AreWithin (b e : ℕ) (made : Rounded) (exact : Exact) : Type 0 where
   pub whole : 0 < exact.whole
   pub channel : Within (b * exact.whole) (fineness * (made.channel * exact.whole)) (fineness * exact.value)
@@ -121,7 +125,8 @@ HasPremultipliedSource (Replaced s sa) = ⊤
 HasPremultipliedSource (Composited op s sa) = s ≤ sa
 HasPremultipliedSource (Matted op matte s sa) = s ≤ sa
 
--- where the sources of all composites are premultiplied, `made` lies within the premultiplied bound of the exact run
+-- where the sources of all composites are premultiplied, `made` lies within the premultiplied bound
+-- of the exact run
 abbrev pub IsWithinPremultipliedBound : ℕ → Rounded → List ChannelEffect → Rounded → Type 0
 IsWithinPremultipliedBound max start effects made =
     All HasPremultipliedSource effects → AreWithin (doubled_counts effects) (doubled_counts effects) made (exact_run max start effects)
@@ -143,7 +148,8 @@ pub record AreAtMost (n : ℕ) (budget : Budget) : Type 0 where
   pub channel : budget.channel ≤ n
   pub alpha : budget.alpha ≤ n
 
--- After n effects with no matte the budgets are at most n * n + n, at most n where all are of listed kinds, and the premultiplied bound is at most 4 * n.
+-- After n effects with no matte the budgets are at most n * n + n, at most n where all are of
+-- listed kinds, and the premultiplied bound is at most 4 * n.
 pub record HasSmallBudget (effects : List ChannelEffect) : Type 0 where
   pub unmatted : All IsUnmatted effects → AreAtMost (length effects * length effects + length effects) (rounding_budget effects)
   pub listed : All IsUnmatted effects → All IsListed effects → AreAtMost (length effects) (rounding_budget effects)

@@ -1,4 +1,5 @@
--- The composite of a hue: a channel on a circle of max + 1 steps, moved along the shorter arc to the source's hue.
+-- The composite of a hue: a channel on a circle of max + 1 steps, moved along the shorter arc to
+-- the source's hue.
 use Rattle.std.specs.Prelude.{◌≡◌, ℕ, ◌+◌, ◌-◌, ◌/◌, ℤ, pos, negsuc, suc, neg_ℤ, ◌+ℤ◌, ◌-ℤ◌, ◌*ℤ◌, ◌≤ℤ◌, nat_lt, if◌then◌else◌}
 use Rattle.pix_ops.specs.declared.ops.Op.{Op}
 use Rattle.pix_chan.specs.Number.{wrapping_sum, wrapping_difference}
@@ -10,7 +11,8 @@ use Rattle.pix_chan.specs.Step.{step, IsBetween}
 abbrev pub half_turn : ℕ → ℕ
 half_turn max = (max + 1) / 2
 
--- the way from the hue d to the hue s along the shorter arc; where they are half a turn apart, the way that does not pass 0
+-- the way from the hue d to the hue s along the shorter arc; where they are half a turn apart, the
+-- way that does not pass 0
 unfoldable pub shorter_arc : ℕ → ℕ → ℕ → ℤ
 shorter_arc max d s =
     if nat_lt (half_turn max) (s - d) then (pos s -ℤ pos d) -ℤ pos (max + 1)
@@ -34,8 +36,9 @@ hue_steps max weight d s = step max (pos weight *ℤ shorter_arc max d s)
 abbrev pub hue_composite : ℕ → Op → ℕ → ℕ → ℕ → ℕ → ℕ
 hue_composite max op s sa d da = hue_after max d (hue_steps max (hue_weight max op sa da) d s)
 
--- The hue d moves to x by the weight: along an arc of at most half a turn, from its start to no further than its end, which is s.
--- It stays where the weight is 0, and arrives where it is the maximum.
+-- The hue d moves to x by the weight: along an arc of at most half a turn, from its start to no
+-- further than its end, which is s. It stays where the weight is 0, and arrives where it is the
+-- maximum.
 pub record IsHueMove (max weight d s x : ℕ) : Type 0 where
   pub steps : x ≡ hue_after max d (hue_steps max weight d s)
   pub forwards : shorter_arc max d s ≤ℤ pos (half_turn max)

@@ -9,7 +9,7 @@ abbrev pub operators : List Op
 operators =
     Src ∷ Dest ∷ SrcOver ∷ DestOver ∷ SrcOut ∷ DestOut ∷ SrcIn ∷ DestIn ∷ SrcAtop ∷ DestAtop ∷ Xor ∷ Clear ∷ Plus ∷ []
 
--- the number of an operator, by which `==` compares
+-- the number of an operator, which `==` compares
 abbrev pub op_number : Op → ℕ
 op_number Src = 0
 op_number Dest = 1
@@ -41,11 +41,11 @@ op_name Xor = codes "Xor"
 op_name Clear = codes "Clear"
 op_name Plus = codes "Plus"
 
--- the operator of a name, exact in case
+-- the operator of a name, whose case has to match
 unfoldable pub operator_of : List ℕ → Option Op
 operator_of name = find (λ op. bytes_eq name (op_name op)) operators
 
--- each operator stands in the list at its number
+-- each operator is in the list at its number
 pub is_listed_at : (op : Op) → slice_get operators (op_number op) ≡ Some op
 is_listed_at Src = refl
 is_listed_at Dest = refl

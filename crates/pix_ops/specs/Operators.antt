@@ -32,7 +32,7 @@ row Xor = record { source = OneMinusAlpha; dest = OneMinusAlpha }
 row Clear = record { source = Zero; dest = Zero }
 row Plus = record { source = One; dest = One }
 
--- 1 where a coefficient reads the other side's alpha, by which a channel product is taken
+-- 1 where a coefficient reads the other side's alpha, and so takes a channel product
 abbrev pub reads : Coefficient → ℕ
 reads Zero = 0
 reads One = 0
@@ -46,8 +46,9 @@ enters One = 1
 enters Alpha = 1
 enters OneMinusAlpha = 1
 
--- How many channel products a composite by the coefficients rounds; k is 0 without a matte, and 1 through one.
--- The matte's product with the source's channel counts where the source enters, and that with its alpha where the destination's coefficient reads it.
+-- How many channel products a composite by the coefficients rounds; k is 0 without a matte, and 1
+-- through one. The matte's product with the source's channel counts where the source enters, and
+-- that with its alpha where the destination's coefficient reads it.
 abbrev pub count_by : (k : ℕ) (source dest : Coefficient) → ℕ
 count_by k source dest = reads source + k * enters source + (1 + k) * reads dest
 
@@ -63,13 +64,15 @@ matted_count op = count_by 1 (row op).source (row op).dest
 abbrev pub is_listed : Op → Bool
 is_listed op = reads (row op).source == 0
 
--- whether a coefficient leaves room for the other side: its own side is left out, or multiplied by one minus the other's alpha
+-- whether a coefficient leaves room for the other side: its own side is left out, or multiplied by
+-- one minus the other's alpha
 abbrev pub leaves_room : Coefficient → Bool
 leaves_room Zero = true
 leaves_room One = false
 leaves_room Alpha = false
 leaves_room OneMinusAlpha = true
 
--- whether the sum of premultiplied sides never passes the maximum: one of them leaves room for the other
+-- whether the sum of premultiplied sides never passes the maximum: one of them leaves room for the
+-- other
 abbrev pub sum_fits : Op → Bool
 sum_fits op = leaves_room (row op).source || leaves_room (row op).dest

@@ -62,7 +62,8 @@ all_gray {P = P} read pixels i above h =
           ∙ take_all i (map alone (map f pixels)) (omega (arith, length-map pixels f, length-map (map f pixels) alone));
     }
 
--- what holds of the values of the pixels below i, and of the one that is written there, holds of those below i + 1
+-- what holds of the values of the pixels below i, and of the one that is written there, holds of
+-- those below i + 1
 pub each_value_more : {P : Type 0} (read : P → List ℕ) (Q : ℕ → ℕ → Type 0) (pixels : List P) (i : ℕ) (p : P) (k : ℕ) → i < length pixels → read p ≡ k ∷ []
     → ((j : ℕ) → j < i → Q j (get_or (values read pixels) j 0)) → Q i k → (j : ℕ) → j < i + 1 → Q j (get_or (values read (set pixels i p)) j 0)
 each_value_more {P = P} read Q pixels i p k below e before here j inside =

@@ -1,8 +1,8 @@
--- Setting many colors in a palette: each is set in what those before it left.
+-- Setting many colors in a palette: each is set in the palette that those before it left.
 use Rattle.std.specs.Prelude.{◌≡◌, ℕ, List, [], ◌∷◌, Option}
 use Rattle.pix_table.specs.Indexing.{Setting}
 
--- setting colors, one after the other, answers these, one for each
+-- setting colors, one after the other, gives these answers, one for each
 abbrev pub AreEntriesSet : {C : Type 0} → Setting C → (old colors : List C) → List (Option ℕ) → (new : List C) → Type 0
 AreEntriesSet set old [] [] new = new ≡ old
 AreEntriesSet {C = C} set old (color ∷ colors) (answer ∷ answers) new =

@@ -1,7 +1,7 @@
--- How often each index of a palette stands in a list.
+-- How often each index of a palette is in a list.
 use Rattle.std.specs.Prelude.{◌≡◌, ℕ, ◌<◌, nat_eq, List, length, slice_index_or, All, count_by}
 
--- how often the index k stands in a list; `number` reads an index
+-- how often the index k is in a list; `number` reads an index
 abbrev pub count_of : {T : Type 0} → (T → ℕ) → List T → ℕ → ℕ
 count_of number indices k = count_by (λ i. nat_eq (number i) k) indices
 

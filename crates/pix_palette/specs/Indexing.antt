@@ -11,7 +11,7 @@ use Rattle.pix_table.specs.Indexing.{AreIndexed}
 use Rattle.pix_raster.specs.Image.{Image}
 use Rattle.pix_palette.specs.Palette.{Color, numbers, Answers}
 
--- the format of a palette's colors but for its gamma mode, which is sRGB
+-- the format of a palette's colors without its gamma mode, which is sRGB
 abbrev pub color_format : Format
 color_format = record {
   layout = record { max = 255; count = 3; hues = (row Rgb).hues; alpha = (row Rgb).alpha };
@@ -42,7 +42,8 @@ values read pixels = map (λ p. slice_index_or (read p) 0 0) pixels
 pub record AreGray {P : Type 0} (read : P → List ℕ) (pixels : List P) : Type 0 where
   pub alone : map read pixels ≡ map (λ i. i ∷ []) (values read pixels)
 
--- an index has an entry, which is the color or within a threshold that may be answered for a number of entries up to the final one
+-- an index has an entry, which is the color or within a threshold that may be answered for a number
+-- of entries up to the final one
 pub record Represents (answers : ℕ → List ℕ → Type 0) (entries : List (List ℕ)) (color : List ℕ) (i : ℕ) : Type 0 where
   pub stands : i < length entries
   pub count : ℕ
@@ -57,11 +58,13 @@ pub record AllRepresented (answers : ℕ → List ℕ → Type 0) (entries pixel
 pub record AllEqual (entries pixels : List (List ℕ)) (indices : List ℕ) : Type 0 where
   pub each : (k : ℕ) → k < length pixels → difference_to entries (slice_index_or pixels k []) (slice_index_or indices k 0) ≡ 0 ∷ 0 ∷ 0 ∷ []
 
--- The outcome of indexing an image of that size whose pixels have these colors: the image of indices, or none, and the colors of the palette
--- before and afterwards. `function` is the palette's threshold function, of which `post` tells what it answers; `read` reads a pixel.
+-- The outcome of indexing an image of that size whose pixels have these colors: the image of
+-- indices, or none, and the colors of the palette before and afterwards. `function` is the
+-- palette's threshold function, and `post` tells what it returns; `read` reads a pixel.
 pub record IsIndexed {F P : Type 0} (post : F → ℕ → Color → Type 0) (function : Option F) (limit greatest : ℕ) (read : P → List ℕ)
     (width height : ℕ) (pixels : List (List ℕ)) (old : List Color) (answer : Option (Image P)) (new : List Color) : Type 0 where
-  -- the colors are set, one after the other, and the gray values are their indices; there are none where one has no index up to the greatest
+  -- the colors are set, one after the other, and the gray values are their indices; there are none
+  -- where one has no index up to the greatest
   pub indices : AreIndexed numbers (IsSet numbers (Answers post function) limit) greatest old pixels (option_map (λ image. values read image.pixels) answer) new
   pub gray : IfSome answer (λ image. AreGray read image.pixels)
   pub size : IfSome answer (λ image. (image.width ≡ width) × (image.height ≡ height))

@@ -44,7 +44,8 @@ part_masked n s m g xs ys src mask a b e k fits fits_src fits_mask made =
           ∙ ap (g (get_or (map m mask) (e + i) []) (get_or (map s src) (b + i) [])) (get_or-part n [] xs a k i lt);
     }
 
--- f of what a mask and a source have at two places and of what stands there, where all four tests hold, is a fold over at most one of both
+-- f of what a mask and a source have at two places and of what stands there, where all four tests
+-- hold, is a fold over at most one of both
 both_or_none : {X : Type 0} (get get_mask : ℕ → ℕ → X) (f : X → X → X → X) (old : X) (a b m n a' b' m' n' : ℕ) (c r c' r' : Bool)
     → ((c && c') ≡ true → a ≡ m) → ((r && r') ≡ true → b ≡ n) → ((c && c') ≡ true → a' ≡ m') → ((r && r') ≡ true → b' ≡ n')
     → (if (c && c') && (r && r') then f (get_mask a' b') (get a b) old else old)
@@ -92,7 +93,8 @@ paired_below to dest from width height i j e =
     second (covers from a b) _ (second (leads_into to dest i j) _ (second (has_offset to i j && has_offset from i j) _ e)) in
     (natural_below a width (first (has_column source a) _ there), natural_below b height (second (has_column source a) _ there))
 
--- two overlaps of one region of a picture with regions of two sources, and the parts of both that lie in both
+-- two overlaps of one region of a picture with regions of two sources, and the parts of both that
+-- lie in both
 module _ (window : Window) (to from mask_from : Rectangle) (src_shape mask_shape : Shape) (o k p q : Overlap)
     (paired : IsOverlap window to from src_shape o) (covered : IsOverlap window to mask_from mask_shape k)
     (columns : IsWithin o.columns k.columns.dst p.columns) (rows : IsWithin o.rows k.rows.dst p.rows)

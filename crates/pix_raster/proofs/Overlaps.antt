@@ -1,4 +1,5 @@
--- The overlap of two regions: each axis from the offsets that lie in its raster, and the points from both axes.
+-- The overlap of two regions: each axis from the offsets that lie in its raster, and the points
+-- from both axes.
 use Rattle.std.proofs.Common.{◌≡◌, ℕ, ◌<◌, ◌≤◌, ◌+◌, ◌-◌, ℤ, pos, ◌+ℤ◌, ◌-ℤ◌, ◌<ℤ◌, ◌≤ℤ◌, Bool, true, false, arith, min, max, List, [], ◌∷◌, refl, sym, ap, ◌∙◌, subst}
 use Rattle.std.specs.Bool.{Decides}
 use Rattle.std.specs.Prelude.{nat_le, not, ◌&&◌, int_lt, if◌then◌else◌, fold}
@@ -142,7 +143,8 @@ axis_is start len limit i small =
     (h.0, (c, omega (arith, ints, clamps, d))))
     (Decides-offset start len limit i))
 
--- twelve tests, of columns and rows by turns, sorted into those of the columns and those of the rows of either rectangle
+-- twelve tests, of columns and rows by turns, sorted into those of the columns and those of the
+-- rows of either rectangle
 sorted : (a b c d e f g h k l m n : Bool)
     → (((a && b) && (c && d)) && (((e && f) && (g && h)) && ((k && l) && (m && n)))) ≡ (((a && (e && g)) && (c && (k && m))) && ((b && (f && h)) && (d && (l && n))))
 sorted a b c d e f g h k l m n =
@@ -171,7 +173,8 @@ is_paired_by_axes to from width height src_width src_height i j hw hh hsw hsh =
     (has_column from (from.left +ℤ i)) (has_row from (from.top +ℤ j)) (has_column source (from.left +ℤ i)) (has_row source (from.top +ℤ j))
     ∙ alike _ _ _ _ _ _ _ _ (axis_is to.left to.width width i hw) (axis_is from.left from.width src_width i hsw) (axis_is to.top to.height height j hh) (axis_is from.top from.height src_height j hsh)
 
--- f of what the source has at a place and of what stands there, where both tests hold, is a fold over at most one source
+-- f of what the source has at a place and of what stands there, where both tests hold, is a fold
+-- over at most one source
 one_or_none : {X : Type 0} (get : ℕ → ℕ → X) (f : X → X → X) (old : X) (a b m n : ℕ) (c r : Bool)
     → (c ≡ true → a ≡ m) → (r ≡ true → b ≡ n)
     → (if c && r then f (get a b) old else old) ≡ fold (λ p source. f source p) old (if c && r then get m n ∷ [] else [])
@@ -179,7 +182,8 @@ one_or_none get f old a b m n true true hc hr = rw (hc refl, hr refl) refl
 one_or_none get f old a b m n true false hc hr = refl
 one_or_none get f old a b m n false r hc hr = refl
 
--- what is changed in an overlap, pixel by pixel, is changed where points are paired; its points are those of a picture from (left, top) on
+-- what is changed in an overlap, pixel by pixel, is changed where points are paired; its points are
+-- those of a picture from (left, top) on
 pub changed_in_overlap : {D S : Type 0} (to dest from : Rectangle) (left top : ℕ) (reads : D → List ℕ) (shape : Shape) (old new : List D) (source_reads : S → List ℕ) (src_shape : Shape) (src : List S)
     (f : List ℕ → List ℕ → List ℕ) (o : Overlap)
     → o.columns.dst.end ≤ shape.width → o.rows.dst.end ≤ shape.height → shape.width ≤ shape.stride → 0 < shape.width

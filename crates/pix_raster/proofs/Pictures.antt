@@ -1,4 +1,5 @@
--- What commands do to a point does not depend on how far the picture goes on to the right of it and below it.
+-- What commands do to a point does not depend on how far the picture goes on to the right of it and
+-- below it.
 use Rattle.std.proofs.Common.{◌≡◌, ℕ, ◌<◌, ◌≤◌, pos, ◌+ℤ◌, ◌-ℤ◌, Bool, true, List, [], ◌∷◌, map, fold, cond, arith, refl, ap, sym, ◌∙◌}
 use Rattle.std.specs.List.{zip}
 use Rattle.std.proofs.lemmas.Int.{ints}

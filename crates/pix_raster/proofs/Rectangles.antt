@@ -197,7 +197,8 @@ inside_image r image =
     (omega (arith, ints, clamps)) (omega (arith, ints, clamps)) (omega (arith, ints, clamps)) (omega (arith, ints, clamps))
     (omega (arith, ints, clamps)) (omega (arith, ints, clamps)) _ refl
 
--- a point of a picture of any size lies in the rectangle of all of them, if its coordinates are below the limit
+-- a point of a picture of any size lies in the rectangle of all of them, if its coordinates are
+-- below the limit
 pub covers_point : (width height x y : ℕ) → x < 2147483647 → y < 2147483647 → x < width → y < height
     → covers (whole width height) (pos x) (pos y) ≡ true
 covers_point width height x y hx hy lx ly =

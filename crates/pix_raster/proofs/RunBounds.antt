@@ -1,4 +1,5 @@
--- What a run keeps of a format, and how near it is to the exact run: from one channel to all of an image.
+-- What a run keeps of a format, and how near it is to the exact run: from one channel to all of an
+-- image.
 use Rattle.std.specs.Prelude.{All}
 use Rattle.std.specs.List.{zip}
 use Rattle.std.proofs.Common.{◌≡◌, ℕ, zero, suc, ◌<◌, ◌≤◌, ◌+◌, List, [], ◌∷◌, map, fold, get_or, replicate, cond, Bool, true, false, refl, sym, ap, ◌∙◌, arith, le_refl, subst, inl, inr, ◌*◌}
@@ -20,7 +21,8 @@ use Rattle.pix_raster.specs.Kept.{BringsPremultiplied, CutsNoSum, IsKept, KeepsP
 use Rattle.pix_raster.specs.declared.command.Command.{Command}
 use Rattle.pix_raster.specs.declared.command.Command.TheVariants as commands
 
--- a format whose alpha is a channel, read by numbers that no channel passes the top of, and mattes likewise
+-- a format whose alpha is a channel, read by numbers that no channel passes the top of, and mattes
+-- likewise
 pub record IsFormat {P M : Type 0} (layout : Layout) (numbers : P → List ℕ) (mattes : M → List ℕ) : Type 0 where
   pub laws : IsProduct fineness layout.max (channel_product layout.max)
   pub alpha : IsBounded layout layout.alpha

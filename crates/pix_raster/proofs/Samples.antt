@@ -1,4 +1,5 @@
--- channels and their numbers, and pixels and the numbers of their channels, one pixel after the other
+-- channels and their numbers, and pixels and the numbers of their channels, one pixel after the
+-- other
 use Rattle.std.proofs.Common.{◌≡◌, ℕ, ◌<◌, ◌≤◌, ◌+◌, ◌-◌, ◌*◌, List, [], ◌++◌, length, get_or, set, take, drop, map, sym, ap, ◌∙◌, arith}
 use Rattle.std.specs.List.{flat_map}
 use Rattle.std.proofs.lemmas.List.{length-map, map-set, get_or-map, take-map, drop-map, map-append, take_more, take_more_set, take_all, flat_map_more}

@@ -79,7 +79,8 @@ module _ (left top width height x y : ℕ) (across : left + width ≤ limit) (do
   effects_seen n m [] = refl
   effects_seen n m (command ∷ cs) = rw (effect_seen n m command, effects_seen n m cs) refl
 
-  -- a run at a point of the picture is that of the commands as seen from the window at the window's point
+  -- a run at a point of the picture is that of the commands as seen from the window at the window's
+  -- point
   pub run_seen : {P M : Type 0} (layout : Layout) (n : P → List ℕ) (m : M → List ℕ) (cs : List (Command P M)) (pixel : List ℕ)
       → run_at layout n m (whole (left + width) (top + height)) cs (left + x) (top + y) pixel ≡ run_at layout n m (whole width height) (map (command_from left top) cs) x y pixel
   run_seen layout n m cs pixel = ap (λ (es : List Effect). fold (apply layout) pixel es) (effects_seen n m cs)

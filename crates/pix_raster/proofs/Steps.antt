@@ -82,7 +82,8 @@ mapped_effects layout effect f [] pixel is = refl
 mapped_effects layout effect f (t ∷ ts) pixel is =
     ap (λ p. fold (λ p t. f t p) p ts) (is t pixel) ∙ mapped_effects layout effect f ts (apply layout pixel (effect t)) is
 
--- a change of a point that is paired with one of a mask and with one of a source is the run of a command with that effect
+-- a change of a point that is paired with one of a mask and with one of a source is the run of a
+-- command with that effect
 pub masked_effect : (layout : Layout) (to dest from source mask_from mask : Rectangle) (get get_mask : ℕ → ℕ → List ℕ) (f : List ℕ → List ℕ → List ℕ → List ℕ)
     (effect : List ℕ → List ℕ → Effect) (x y : ℕ) (pixel : List ℕ) → ((m s p : List ℕ) → f m s p ≡ apply layout p (effect m s))
     → where_masked to dest from source mask_from mask get get_mask f x y pixel
@@ -118,7 +119,8 @@ swapped : (one two rest : List Effect) → (one ≡ []) ⊎ (two ≡ []) → one
 swapped one two rest (inl e) = rw e refl
 swapped one two rest (inr e) = rw e refl
 
--- the run of a list is that of a list in which two neighbours that reach no common point are swapped
+-- the run of a list is that of a list in which two neighbours that reach no common point are
+-- swapped
 pub changed_swapped : {P M : Type 0} (layout : Layout) (n : P → List ℕ) (m : M → List ℕ) (old new : Image P) (commands others : List (Command P M))
     → Changed n old new (run_at layout n m (region_of old) commands) → HasSwappedNeighbours n m old commands others
     → Changed n old new (run_at layout n m (region_of old) others)

@@ -97,7 +97,8 @@ rows_fit xs w h rows long ordered high =
     let parts : (rows.end - rows.start) * w + rows.start * w ≡ rows.end * w = (let e : rows.end - rows.start + rows.start ≡ rows.end = omega arith in let d : (rows.end - rows.start) * w + rows.start * w ≡ (rows.end - rows.start + rows.start) * w = omega arith in d ∙ ap (λ k. k * w) e) in
     omega (arith, length-take-le (length xs - rows.start * w) (drop (rows.start * w) xs) (omega (arith, length-drop (rows.start * w) xs)))
 
--- what `rows` and `rows_mut` lend of a list of pixels: those from the first row of the clipped rectangle on
+-- what `rows` and `rows_mut` lend of a list of pixels: those from the first row of the clipped
+-- rectangle on
 abbrev lent : {P : Type 0} → List P → ℕ → ClippedRect → List P
 lent xs width c = take (length xs - c.rows.start * width) (drop (c.rows.start * width) xs)
 
@@ -107,7 +108,8 @@ pub walk_fits : {P : Type 0} (xs : List P) (width height : ℕ) (c : ClippedRect
     → (c.columns.start ≤ c.columns.end) × (c.columns.end ≤ width) × ((c.rows.end - c.rows.start) * width ≤ length (lent xs width c))
 walk_fits xs width height c long ordered from_top in_width in_height = (ordered, in_width, rows_fit xs width height c.rows long from_top in_height)
 
--- the rows that are found in it are those of the points of a rectangle that lie in an image, as many as those are high and each as long as those are wide
+-- the rows that are found in it are those of the points of a rectangle that lie in an image, as
+-- many as those are high and each as long as those are wide
 pub record IsWalk {P : Type 0} (image : Image P) (reg : Rectangle) (found : List (List P)) : Type 0 where
   pub rows : found ≡ rows_of image reg
   pub count : length found ≡ (clipped image reg).height

@@ -1,4 +1,5 @@
--- Claims on a run against the same run in exact fractions: at each point, over just the effects that reach it.
+-- Claims on a run against the same run in exact fractions: at each point, over just the effects
+-- that reach it.
 use Rattle.std.specs.Prelude.{ℕ, ◌<◌, List, map}
 use Rattle.pix_ops.specs.ExactRun.{ChannelEffect, Rounded}
 use Rattle.pix_ops.specs.ExactRun as one_channel
@@ -25,8 +26,9 @@ channel_effects layout ch effects = map (on_channel layout ch) effects
 abbrev pub with_alpha : Layout → ℕ → List ℕ → Rounded
 with_alpha layout ch pixel = record { channel = channel layout.max pixel ch; alpha = alpha_of layout pixel }
 
--- The claim holds at each point of an image and of each channel that is no hue: of the channel that stood there, of the effects of just
--- those commands that reach the point, and of the channel that stands there now.
+-- The claim holds at each point of an image and of each channel that is no hue: of the channel that
+-- stood there, of the effects of just those commands that reach the point, and of the channel that
+-- stands there now.
 abbrev pub OfEachChannel : {P M : Type 0} → Layout → (P → List ℕ) → (M → List ℕ) → List (Command P M) → (old new : Image P)
     → (Rounded → List ChannelEffect → Rounded → Type 0) → Type 0
 OfEachChannel layout numbers mattes commands old new Claim =

@@ -17,12 +17,13 @@ pub record IsImageRun {D M : Type 0} (layout : Layout) (numbers : D → List ℕ
   -- two neighbours that reach no common point may be swapped
   pub swapped : (others : List (Command D M)) → HasSwappedNeighbours numbers mattes old commands others
       → Changed numbers old new (run_at layout numbers mattes (region_of old) others)
-  -- where every color and source pixel that reaches a premultiplied pixel is premultiplied, the pixel stays premultiplied, and only
-  -- the sum of `Plus` ever saturates
+  -- where every color and source pixel that reaches a premultiplied pixel is premultiplied, the
+  -- pixel stays premultiplied, and only the sum of `Plus` ever saturates
   pub premultiplied : KeepsPremultiplied layout numbers mattes commands old new
   -- each channel lies within its rounding budget of the exact run
   pub within_budget : OfEachChannel layout numbers mattes commands old new (IsWithinBudget layout.max)
-  -- the budgets after n unmatted commands are at most n² + n, and at most n after those of the listed kinds
+  -- the budgets after n unmatted commands are at most n² + n, and at most n after those of the
+  -- listed kinds
   pub small_budget : OfEachChannel layout numbers mattes commands old new (λ _ effects _. HasSmallBudget effects)
   -- with premultiplied sources the bound is twice the count of products
   pub premultiplied_bound : OfEachChannel layout numbers mattes commands old new (IsWithinPremultipliedBound layout.max)

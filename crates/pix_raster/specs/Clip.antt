@@ -1,4 +1,5 @@
--- Columns, rows and overlaps in rasters, as the code finds and walks them. No clause of a public call cites this file.
+-- Columns, rows and overlaps in rasters, as the code finds and walks them. No clause of a public
+-- call cites this file.
 use Rattle.std.proofs.Common.{zero, suc}
 use Rattle.std.specs.Prelude.{◌≡◌, ℕ, ◌+◌, ◌-◌, ◌*◌, ◌≤◌, min, max, true, pos, ℤ, ◌+ℤ◌, ◌-ℤ◌, Bool, ◌&&◌, if◌then◌else◌, List, [], ◌∷◌, drop, slice_range}
 use Rattle.std.specs.declared.ops.Range.{Range}
@@ -19,7 +20,8 @@ in_box columns rows x y = lies_in columns x && lies_in rows y
 abbrev pub where_in : {X : Type 0} → (columns rows : Range ℕ) → (ℕ → ℕ → X → X) → ℕ → ℕ → X → X
 where_in columns rows f x y pixel = if in_box columns rows x y then f x y pixel else pixel
 
--- whether the offset is below the length, and leads from the start to one of the columns, or rows, of a raster that has `limit`
+-- whether the offset is below the length, and leads from the start to one of the columns, or rows,
+-- of a raster that has `limit`
 abbrev pub is_offset : (start : ℤ) → (len limit : ℕ) → ℤ → Bool
 is_offset start len limit i = is_below len i && is_below limit (start +ℤ i)
 
@@ -28,7 +30,8 @@ abbrev pub row_parts : {P : Type 0} → ℕ → ℕ → ℕ → ℕ → List P �
 row_parts zero w a b xs = []
 row_parts (suc n) w a b xs = slice_range xs a b ∷ row_parts n w a b (drop w xs)
 
--- the place of the first point in row y of a rectangle that lies in an image of that width, 0 where it has none
+-- the place of the first point in row y of a rectangle that lies in an image of that width, 0 where
+-- it has none
 abbrev pub row_start : ℕ → Rectangle → ℤ → ℕ
 row_start width r y = if has_row r y then natural y * width + natural r.left else 0
 
@@ -36,7 +39,8 @@ row_start width r y = if has_row r y then natural y * width + natural r.left els
 abbrev pub row_end : ℕ → Rectangle → ℤ → ℕ
 row_end width r y = if has_row r y then natural y * width + (natural r.left + r.width) else 0
 
--- the columns, or rows, of an overlap that lie in a range too: they begin and end where both do, and each keeps its column, or row, of the source
+-- the columns, or rows, of an overlap that lie in a range too: they begin and end where both do,
+-- and each keeps its column, or row, of the source
 pub record IsWithin (overlap : AxisOverlap) (range : Range ℕ) (part : AxisOverlap) : Type 0 where
   pub start : part.dst.start ≡ max overlap.dst.start range.start
   pub end : part.dst.end ≡ max (min overlap.dst.end range.end) (max overlap.dst.start range.start)
@@ -44,7 +48,8 @@ pub record IsWithin (overlap : AxisOverlap) (range : Range ℕ) (part : AxisOver
   pub points : (x : ℕ) → lies_in part.dst x ≡ (lies_in overlap.dst x && lies_in range x)
   pub sources : (x : ℕ) → lies_in part.dst x ≡ true → part.src_start + (x - part.dst.start) ≡ overlap.src_start + (x - overlap.dst.start)
 
--- the overlap has just the points of a window that are paired with a point of a source, each with that point
+-- the overlap has just the points of a window that are paired with a point of a source, each with
+-- that point
 pub record IsOverlap (window : Window) (to from : Rectangle) (src : Shape) (overlap : Overlap) : Type 0 where
   pub ordered : overlap.columns.dst.start ≤ overlap.columns.dst.end
   pub from_top : overlap.rows.dst.start ≤ overlap.rows.dst.end

@@ -2,7 +2,8 @@
 use Rattle.std.specs.Prelude.{◌≡◌, ℕ, ◌+◌, ◌*◌, ◌<◌, ℤ, pos, ◌≤ℤ◌, ◌<ℤ◌, List, [], map, slice_index_or}
 use Rattle.pix_raster.specs.Region.{Rectangle, right, bottom, whole}
 
--- an image: the pixel of the point (x, y), for x < width and y < height, stands in its list at place y * width + x
+-- an image: the pixel of the point (x, y), for x < width and y < height, is in its list at place y
+-- * width + x
 pub record Image (P : Type 0) : Type 0 where
   pub width : ℕ
   pub height : ℕ
@@ -30,7 +31,8 @@ pub record IsInside {P : Type 0} (r : Rectangle) (image : Image P) : Type 0 wher
   pub right : right r ≤ℤ pos image.width
   pub bottom : bottom r ≤ℤ pos image.height
 
--- the new image is as large as the old one, and has at each point f of the point and of what stood there
+-- the new image is as large as the old one, and has at each point f of the point and of what stood
+-- there
 pub record Changed {P : Type 0} (numbers : P → List ℕ) (old new : Image P) (f : ℕ → ℕ → List ℕ → List ℕ) : Type 0 where
   pub same_width : new.width ≡ old.width
   pub same_height : new.height ≡ old.height

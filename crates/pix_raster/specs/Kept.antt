@@ -32,7 +32,8 @@ pub record IsKept (layout : Layout) (pixel : List ℕ) (effects : List Effect) (
   pub premultiplied : IsPremultiplied layout made
   pub uncut : CutNoSum layout pixel effects
 
--- that holds at each point where a premultiplied pixel stood and that only effects of premultiplied colors and source pixels reach
+-- that holds at each point where a premultiplied pixel stood and that only effects of premultiplied
+-- colors and source pixels reach
 abbrev pub KeepsPremultiplied : {P M : Type 0} → Layout → (P → List ℕ) → (M → List ℕ) → List (Command P M) → (old new : Image P) → Type 0
 KeepsPremultiplied layout numbers mattes commands old new =
     (x y : ℕ) → x < old.width → y < old.height → IsPremultiplied layout (point numbers old x y)

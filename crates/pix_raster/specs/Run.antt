@@ -11,17 +11,18 @@ use Rattle.pix_raster.specs.Reach.{from_pair}
 use Rattle.pix_raster.specs.declared.command.Command.{Command}
 use Rattle.pix_raster.specs.declared.command.Command.TheVariants as commands
 
--- the effect of a command at a point that it reaches: a clear pixel, a copied pixel, or a source composited with the pixel there,
--- without a matte or through one
+-- the effect of a command at a point that it reaches: a clear pixel, a copied pixel, or a source
+-- composited with the pixel there, without a matte or through one
 pub data Effect : Type 0 where
   Cleared : Effect
   Copied : (source : List ℕ) → Effect
   Composited : (op : Op) (source : List ℕ) → Effect
   Matted : (op : Op) (matte source : List ℕ) → Effect
 
--- The effect of a command at the point (x, y) of a destination, none where it does not reach the point;
--- `numbers` reads a pixel, and `mattes` a pixel of a raster of mattes. An image is composited through a mask where the point is paired
--- with a point of the mask and with one of the image, and an opacity is a matte of that value at each of them.
+-- The effect of a command at the point (x, y) of a destination, none where it does not reach the
+-- point; `numbers` reads a pixel, and `mattes` a pixel of a raster of mattes. An image is
+-- composited through a mask where the point is paired with a point of the mask and with one of the
+-- image, and an opacity is a matte of that value at each of them.
 abbrev pub effect_at : {P M : Type 0} → (P → List ℕ) → (M → List ℕ) → Rectangle → Command P M → ℕ → ℕ → List Effect
 effect_at numbers mattes dest commands.Clear x y = Cleared ∷ []
 effect_at numbers mattes dest (commands.CopyColor reg clr) x y = if covers reg (pos x) (pos y) then Copied (numbers clr) ∷ [] else []
@@ -50,7 +51,8 @@ apply layout pixel (Copied source) = source
 apply layout pixel (Composited op source) = pixel_composite layout op source pixel
 apply layout pixel (Matted op matte source) = matted_composite layout op (matte_value layout matte) source pixel
 
--- the run of a list of commands at the point (x, y): of the pixel there, the effects that reach it one after the other
+-- the run of a list of commands at the point (x, y): of the pixel there, the effects that reach it
+-- one after the other
 abbrev pub run_at : {P M : Type 0} → Layout → (P → List ℕ) → (M → List ℕ) → Rectangle → List (Command P M) → ℕ → ℕ → List ℕ → List ℕ
 run_at layout numbers mattes dest commands x y pixel = fold (apply layout) pixel (effects_at numbers mattes dest commands x y)
 

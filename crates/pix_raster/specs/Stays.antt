@@ -9,7 +9,7 @@ use Rattle.pix_raster.specs.Image.{Image, point, region_of}
 use Rattle.pix_raster.specs.Run.{Effect, Cleared, Copied, Composited, Matted, effects_at}
 use Rattle.pix_raster.specs.declared.command.Command.{Command}
 
--- the effect composites a transparent source by `SrcOver`, as it is or through a matte
+-- the effect composites a transparent source with `SrcOver`, as it is or through a matte
 abbrev pub IsTransparentOver : Layout → Effect → Type 0
 IsTransparentOver layout Cleared = ⊥
 IsTransparentOver layout (Copied source) = ⊥
@@ -29,6 +29,7 @@ is_one_at_none One = true
 is_one_at_none Alpha = false
 is_one_at_none OneMinusAlpha = true
 
--- whether an operator keeps a pixel under a transparent source: by the destination's coefficient
+-- whether an operator keeps a pixel under a transparent source, as the destination's coefficient
+-- tells
 abbrev pub keeps_under : Op → Bool
 keeps_under op = is_one_at_none (row op).dest

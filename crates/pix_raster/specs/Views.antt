@@ -22,7 +22,8 @@ with_pixels image ps = record { width = image.width; height = image.height; pixe
 abbrev pub with_run : {P : Type 0} → Image P → ℕ → List P → Image P
 with_run image a ws = with_pixels image (take a image.pixels ++ (ws ++ drop (length ws) (drop a image.pixels)))
 
--- the new image is as large as the old one, has ws in row y from column x on, and at each other point what the old one has
+-- the new image is as large as the old one, has ws in row y from column x on, and at each other
+-- point what the old one has
 pub record IsWritten {P : Type 0} (old new : Image P) (ws : List P) (x y : ℕ) : Type 0 where
   pub same_width : new.width ≡ old.width
   pub same_height : new.height ≡ old.height
@@ -31,8 +32,8 @@ pub record IsWritten {P : Type 0} (old new : Image P) (ws : List P) (x y : ℕ) 
       then slice_index_or ws (column - x) default
       else slice_index_or old.pixels (row * old.width + column) default)
 
--- the slice has the pixels of the points that a rectangle has in row y of an image, and as many others that are written over them stand
--- at those points and nowhere else
+-- the slice has the pixels of the points that a rectangle has in row y of an image, and as many
+-- others that are written over them stand at those points and nowhere else
 pub record IsRow {P : Type 0} (image : Image P) (r : Rectangle) (y : ℤ) (row : List P) : Type 0 where
   pub there : has_row (clipped image r) y ≡ true
   pub now : row ≡ row_of image (clipped image r) (natural y)

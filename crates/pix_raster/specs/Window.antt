@@ -1,4 +1,5 @@
--- Windows of a picture: parts of it that lie in memory by themselves, and commands on the picture as seen from one.
+-- Windows of a picture: parts of it that lie in memory by themselves, and commands on the picture
+-- as seen from one.
 use Rattle.std.specs.Prelude.{◌≡◌, ℕ, pos, ◌+◌, ◌-ℤ◌, ◌<◌, ◌≤◌, List}
 use Rattle.pix_raster.specs.Region.{Rectangle}
 use Rattle.pix_raster.specs.Image.{Image, point}
@@ -11,7 +12,8 @@ pub record IsPartOf {P : Type 0} (numbers : P → List ℕ) (image : Image P) (l
   pub down : top + image.height ≤ picture.height
   pub points : (x y : ℕ) → x < image.width → y < image.height → point numbers image x y ≡ point numbers picture (left + x) (top + y)
 
--- a rectangle of a picture, as seen from the picture's point (left, top): its coordinates there may be any whole numbers
+-- a rectangle of a picture, as seen from the picture's point (left, top): its coordinates there may
+-- be any whole numbers
 abbrev pub seen_from : ℕ → ℕ → Rectangle → Rectangle
 seen_from left top r = record { left = r.left -ℤ pos left; top = r.top -ℤ pos top; width = r.width; height = r.height }
 

@@ -123,7 +123,8 @@ problem_of_shape earlier arguments (Some shape) = first_met (
 abbrev pub is_comment : List ℕ → Bool
 is_comment name = slice_index name 0 == 35
 
--- the problem of a line with these words after these earlier commands; a line without words and a comment have none
+-- the problem of a line with these words after these earlier commands; a line without words and a
+-- comment have none
 unfoldable pub problem_of : Earlier → List (List ℕ) → Option Problem
 problem_of earlier [] = None
 problem_of earlier (name ∷ arguments) =

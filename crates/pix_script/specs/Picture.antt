@@ -7,13 +7,15 @@ use Rattle.pix_raster.specs.Run.{Effect, Cleared, Copied, Composited, apply}
 use Rattle.pix_script.specs.declared.command.Line.{Line}
 use Rattle.pix_script.specs.declared.command.Line.TheVariants.{Image, Clear, Fill, Paint, Keep, Copy, Comp}
 
--- a picture: the numbers of the pixel at each point (x, y), where x is below the width and y below the height
+-- a picture: the numbers of the pixel at each point (x, y), where x is below the width and y below
+-- the height
 pub record Picture : Type 0 where
   pub width : ℕ
   pub height : ℕ
   pub at : ℕ → ℕ → List ℕ
 
--- the layout of a picture's pixels: four channels of eight bits, of which none is a hue and the last is the alpha
+-- the layout of a picture's pixels: four channels of eight bits, of which none is a hue and the
+-- last is the alpha
 abbrev pub rgba8 : Layout
 rgba8 = record { max = 255; count = 4; hues = record { start = 0; end = 0 }; alpha = 3 }
 
@@ -25,8 +27,8 @@ clear_picture width height = record { width = width; height = height; at = λ x 
 abbrev pub all_of : Picture → Rectangle
 all_of picture = record { left = pos 0; top = pos 0; width = picture.width; height = picture.height }
 
--- what a command brings to the point (x, y) of the image: nothing where it does not reach the point; `all` is the rectangle of the
--- image's points
+-- what a command brings to the point (x, y) of the image: nothing where it does not reach the
+-- point; `all` is the rectangle of the image's points
 abbrev pub effect_of : (kept : Picture) (all : Rectangle) → ℕ → ℕ → Line → List Effect
 effect_of kept all x y (Image width height) = []
 effect_of kept all x y Clear = Cleared ∷ []
@@ -36,7 +38,8 @@ effect_of kept all x y Keep = []
 effect_of kept all x y (Copy to from) = from_pair to all from (all_of kept) (λ a b. Copied (kept.at a b)) x y
 effect_of kept all x y (Comp op to from) = from_pair to all from (all_of kept) (λ a b. Composited op (kept.at a b)) x y
 
--- the image after a command: at each point the pixel that was there, with what the command brings to it
+-- the image after a command: at each point the pixel that was there, with what the command brings
+-- to it
 abbrev pub drawn : (kept image : Picture) → Line → Picture
 drawn kept image line = record {
   width = image.width;
@@ -49,7 +52,8 @@ pub record Images : Type 0 where
   pub image : Picture
   pub kept : Picture
 
--- the images after a command: `keep` keeps the image as it is then, and each other command draws on the image and leaves the kept one
+-- the images after a command: `keep` keeps the image as it is then, and each other command draws on
+-- the image and leaves the kept one
 abbrev pub after : Images → Line → Images
 after images Keep = record { image = images.image; kept = images.image }
 after images line = record { image = drawn images.kept images.image line; kept = images.kept }

@@ -52,7 +52,8 @@ NoneBad kinds words = AreBad kinds words (record { operator = false; number = fa
 abbrev pub IsRowOf : Row → List (List ℕ) → Type 0
 IsRowOf row words = IfSome row.line (λ line. NoneBad row.words.now words)
 
--- what the code holds: the commands that were read, and which of `image` and `keep` are among the lines
+-- what the code holds: the commands that were read, and which of `image` and `keep` are among the
+-- lines
 pub record Held : Type 0 where
   pub commands : List Line
   pub earlier : Earlier

@@ -1,8 +1,10 @@
--- The text of rows of pixels that come one after the other. No clause of a public call cites this file.
+-- The text of rows of pixels that come one after the other. No clause of a public call cites this
+-- file.
 use Rattle.std.specs.Prelude.{ℕ, ◌+◌, List, [], ◌∷◌, ◌++◌, nat_lt, if◌then◌else◌}
 use Rattle.pix_script.specs.Text.{pixel_text}
 
--- the text of pixels, the first of which stands in a column of rows that are so wide: a space comes after each, or a line feed where its row ends
+-- the text of pixels, the first of which is in a column of rows of a width: a space comes after
+-- each, or a line feed where its row ends
 abbrev pub text_from : (width column : ℕ) → List (List ℕ) → List ℕ
 text_from width column [] = []
 text_from width column (pixel ∷ pixels) =

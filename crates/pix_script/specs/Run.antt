@@ -32,13 +32,15 @@ AppendsOrPart old new bytes (Err error) = AppendsPart old new bytes
 abbrev pub stop_line : PaintStop → List ℕ
 stop_line stop = stop_text stop ++ 10 ∷ []
 
--- what is written to the error output: nothing after a run that was not stopped, and else the stop's line or a first part of it
+-- what is written to the error output: nothing after a run that was not stopped, and else the
+-- stop's line or a first part of it
 abbrev pub Tells : (told tells : Option (List ℕ)) → Result (Unit {0}) PaintStop → Type 0
 Tells told tells (Ok done) = told ≡ tells
 Tells told tells (Err stop) = AppendsPart told tells (stop_line stop)
 
--- The program ended with this status: it ran from its input to its output, and the status is that of the run. The pairs are the known
--- bytes of the input, the output and the error output, before and after.
+-- The program ended with this status: it ran from its input to its output, and the status is that
+-- of the run. The pairs are the known bytes of the input, the output and the error output, before
+-- and after.
 abbrev pub Ends : (had left held holds told tells : Option (List ℕ)) → ℕ → Type 0
 Ends had left held holds told tells status =
     (result : Result (Unit {0}) PaintStop) × Leaves had left held holds result × Tells told tells result × (status ≡ exit_status_of result)

@@ -1,4 +1,5 @@
--- The code's images as pictures, and what its commands on rasters bring. No clause of a public call cites this file.
+-- The code's images as pictures, and what its commands on rasters bring. No clause of a public call
+-- cites this file.
 use Rattle.std.specs.Prelude.{◌≡◌, ◌<◌, ℕ, List, [], Bool, true, false, Option, Some, None}
 use Rattle.pix_raster.specs.Region.{Rectangle}
 use Rattle.pix_raster.specs.Image.{Image, point}
@@ -23,7 +24,8 @@ clears line = false
 abbrev pub picture_of : Image Rgba8p → Picture
 picture_of image = record { width = image.width; height = image.height; at = point color_numbers image }
 
--- effects at each point: of a pixel reader for mattes, of the rectangle of all points, and of the point
+-- effects at each point: of a pixel reader for mattes, of the rectangle of all points, and of the
+-- point
 abbrev pub Effects : Type 0
 Effects = (Matte8 → List ℕ) → Rectangle → ℕ → ℕ → List Effect
 
@@ -35,7 +37,8 @@ brought_by command mattes all x y = effect_at color_numbers mattes all command x
 abbrev pub effects_of : Image Rgba8p → Line → Effects
 effects_of kept line mattes all x y = effect_of (picture_of kept) all x y line
 
--- the command on a raster brings to each point what that of the script brings, where this image is kept; without one, nothing does
+-- the command on a raster brings to each point what that of the script brings, where this image is
+-- kept; without one, nothing does
 abbrev pub Draws : Image Rgba8p → Line → Option (Command Rgba8p Matte8) → Type 0
 Draws kept line (Some command) = brought_by command ≡ effects_of kept line
 Draws kept line None = effects_of kept line ≡ (λ mattes all x y. [])

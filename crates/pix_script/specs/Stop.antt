@@ -26,9 +26,9 @@ IsFaultOf old new faults.OutOfMemory = Unit {0}
 IsFaultOf old new faults.TooLong = (script : List ℕ) × IsInput old new script × (outcome_of script ≡ Err faults.TooLong)
 IsFaultOf old new (faults.Line line problem) = (script : List ℕ) × IsInput old new script × (outcome_of script ≡ Err (faults.Line line problem))
 
--- What a run left, given the known bytes that the reader had and has left, and those that the writer held and holds:
--- after Ok the text of the script that was read was written, after Script and Read nothing was, and after Write the script that was
--- read has a text, which was refused.
+-- What a run left, given the known bytes that the reader had and has left, and those that the
+-- writer held and holds: after Ok the text of the script that was read was written, after Script
+-- and Read nothing was, and after Write the script that was read has a text, which was refused.
 abbrev pub Leaves : (had left held holds : Option (List ℕ)) → Result (Unit {0}) PaintStop → Type 0
 Leaves had left held holds (Ok done) = (script text : List ℕ) × IsInput had left script × (outcome_of script ≡ Ok text) × Appends held holds text
 Leaves had left held holds (Err (stops.Script fault)) = IsFaultOf had left fault × Keeps held holds

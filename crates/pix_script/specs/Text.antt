@@ -15,7 +15,7 @@ hex_byte byte = hex_digit (byte / 16) ∷ hex_digit (byte % 16) ∷ []
 unfoldable pub pixel_text : List ℕ → List ℕ
 pixel_text pixel = flat_map hex_byte pixel
 
--- the texts of a row's pixels, parted by one space, and a line feed
+-- the texts of a row's pixels, separated by one space, and a line feed
 unfoldable pub row_text : List (List ℕ) → List ℕ
 row_text row = join_with_byte 32 (map pixel_text row) ++ 10 ∷ []
 

@@ -29,7 +29,8 @@ square_apart a b = elim (cases_lt a b) [
 products : (x c d f : ℕ) → x * (c + f) + (x + d) * c ≤ x * c + (x + d) * (c + f)
 products x c d f = omega (arith, mul-add x c f, add-mul x d c, add-mul x d (c + f), mul-add d c f)
 
--- of two numbers in order and two more, the first of each and the second of each are nearer together
+-- of two numbers in order and two more, the first of each and the second of each are nearer
+-- together
 ordered : (x y c e : ℕ) → x ≤ y → c ≤ e → squared_difference x c + squared_difference y e ≤ squared_difference x e + squared_difference y c
 ordered x y c e le me =
     let sum : x + (y - x) ≡ y = omega arith in

@@ -17,7 +17,8 @@ use Rattle.pix_table.proofs.NearestEntries.{IsNearestBelow, nearest_at_first, ne
 abbrev pub IsFarther : List (List ℕ) → (reach : ℕ) → (low : List ℕ) → (near k : ℕ) → Type 0
 IsFarther entries reach low near k = (color : List ℕ) → IsInside reach low color → distance_to entries color near < distance_to entries color k
 
--- the first i entries of a list are sifted: each is on the new list, or `near` is nearer to each color of the box
+-- the first i entries of a list are sifted: each is on the new list, or `near` is nearer to each
+-- color of the box
 pub record AreSifted (entries : List (List ℕ)) (reach : ℕ) (low : List ℕ) (near : ℕ) (from : ℕ → ℕ) (i : ℕ) (listed : ℕ → ℕ) (count : ℕ) : Type 0 where
   pub below : (p : ℕ) → p < count → listed p < length entries
   pub each : (q : ℕ) → q < i → IsListed listed count (from q) ⊎ IsFarther entries reach low near (from q)

@@ -4,7 +4,8 @@ use Rattle.std.proofs.lemmas.Bool.{cases_lt, cases_order}
 use Rattle.pix_table.specs.Nearest.{distance_to, IsNearest, IsFirst, numbers}
 use Rattle.pix_table.specs.declared.color.Color.{Color}
 
--- among the first i entries none is nearer than `at`, none before it is as near, and `least` is how far it is
+-- among the first i entries none is nearer than `at`, none before it is as near, and `least` is how
+-- far it is
 pub record IsNearestBelow (entries : List (List ℕ)) (color : List ℕ) (i at least : ℕ) : Type 0 where
   pub stands : at < length entries
   pub same : least ≡ distance_to entries color at

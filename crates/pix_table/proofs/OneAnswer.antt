@@ -1,4 +1,5 @@
--- What setting a color answers is determined, where the threshold is constant; so pixels are not both indexed and stopped at.
+-- What setting a color answers is determined, where the threshold is constant; so pixels are not
+-- both indexed and stopped at.
 use Rattle.std.specs.Prelude.{nat_lt, if◌then◌else◌, IfSome}
 use Rattle.std.proofs.Common.{◌≡◌, ℕ, ◌<◌, ◌≤◌, Bool, true, false, List, [], ◌∷◌, ◌++◌, length, map, refl, arith, sym, ap, ◌∙◌, subst, inl, inr, Some, None, Option}
 use Rattle.std.proofs.lemmas.Bool.{cases_order, true≢false}

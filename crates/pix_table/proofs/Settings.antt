@@ -1,4 +1,5 @@
--- What setting a color keeps: entries stay where they are, and a color that stands is answered at its first index.
+-- What setting a color keeps: entries stay where they are, and a color that stands is answered at
+-- its first index.
 use Rattle.std.specs.Prelude.{nat_lt, if◌then◌else◌}
 use Rattle.std.proofs.Common.{◌≡◌, ◌≢◌, ℕ, zero, suc, ◌+◌, ◌-◌, ◌<◌, ◌≤◌, Bool, true, false, List, [], ◌∷◌, ◌++◌, length, map, get_or, refl, arith, sym, ap, ◌∙◌, subst, inl, inr, Some, None, Option, append_assoc, length-append}
 use Rattle.std.proofs.lemmas.Bool.{true≢false, false_from_ne_true}

@@ -72,7 +72,8 @@ are_sixteen a b c la lb lc =
     (subst (λ y. sixteen_colors (literal a la) y c ≡ by_threes (literal a la ++ (y ++ c))) (is_sixteen b lb).1
     (subst (λ z. sixteen_colors (literal a la) (literal b lb) z ≡ by_threes (literal a la ++ (literal b lb ++ z))) (is_sixteen c lc).1 refl))
 
--- of each lane the lesser number, or the greater one: over all colors it comes to the same as over the one list and then over the other
+-- of each lane the lesser number, or the greater one: over all colors it comes to the same as over
+-- the one list and then over the other
 module _ (f : ℕ → ℕ → ℕ) (turned : (s a b : ℕ) → f (f s a) b ≡ f (f s b) a) (joined : (s a b : ℕ) → f s (f a b) ≡ f (f s a) b) (h : List ℕ → ℕ) where
   abbrev over : ℕ → List ℕ → ℕ
   over m color = f m (h color)

@@ -63,7 +63,8 @@ far_in_group : (blocks : List ColorBlock) (spans : List BlockSpans) (s : BlockSp
 far_in_group blocks spans s k d color difference low high are reach below apart =
     far_by_span (get_or spans (k / 16) s) (k % 16) (get_or blocks k d) color difference low high (are.each k d s below) reach apart
 
--- blocks from k on in its group are far that are so where the bit of a span which meets the reach is set
+-- blocks from k on in its group are far that are so where the bit of a span which meets the reach
+-- is set
 pub group_far : (blocks : List ColorBlock) (spans : List BlockSpans) (s : BlockSpans) (k m n bits : ℕ) (color difference low high : List ℕ)
     → AreSpans blocks spans → IsReach color difference low high → k + n ≤ length blocks → k + n ≤ k / 16 * 16 + 16 → n ≤ m
     → ((j : ℕ) → j < 16 → meets low high (least_at (get_or spans (k / 16) s) j) (greatest_at (get_or spans (k / 16) s) j) ≡ true → bit_at bits j ≡ 1)

@@ -6,7 +6,8 @@ use Rattle.std.proofs.lemmas.List.{get_or-set_other, map-append, take_more, take
 use Rattle.std.proofs.lemmas.Option.{slice_get_read, slice_get-get_or}
 use Rattle.std.proofs.lemmas.Grind.{get_or-set_at}
 
--- what holds of each element below i, and of the one that is written there, holds of each below i + 1
+-- what holds of each element below i, and of the one that is written there, holds of each below i +
+-- 1
 pub set_more : (P : ℕ → ℕ → Type 0) (xs : List ℕ) (i x : ℕ) → i < length xs → ((k : ℕ) → k < i → P k (get_or xs k 0)) → P i x
     → (k : ℕ) → k < i + 1 → P k (get_or (set xs i x) k 0)
 set_more P xs i x inside before here k below = elim (cases_lt k i) [

@@ -4,7 +4,7 @@ use Rattle.pix_table.specs.Nearest.{distance, distance_to}
 use Rattle.pix_table.specs.declared.boxes.Known.{Known}
 use Rattle.pix_table.specs.declared.boxes.Boxes.{Boxes}
 
--- a color from which a box reaches so many numbers further in each channel
+-- a color from which a box reaches a number of values further in each channel
 pub record IsLow (reach : ℕ) (low : List ℕ) : Type 0 where
   pub red : slice_index low 0 + reach ≤ 255
   pub green : slice_index low 1 + reach ≤ 255
@@ -24,19 +24,21 @@ pub record IsInside (reach : ℕ) (low color : List ℕ) : Type 0 where
 abbrev pub end : (reach low x y : ℕ) → ℕ
 end reach low x y = if nat_lt x y then low + reach else low
 
--- an entry is among so many that are listed
+-- an entry is among the first listed ones
 pub record IsListed (listed : ℕ → ℕ) (count k : ℕ) : Type 0 where
   pub at : ℕ
   pub below : at < count
   pub same : listed at ≡ k
 
--- another entry is nearer to a color, or as near and before: its key, that is its distance, 256 times, and its index, is less
+-- another entry is nearer to a color, or as near and before: its key, that is its distance, 256
+-- times, and its index, is less
 pub record IsBeaten (entries : List (List ℕ)) (color : List ℕ) (k : ℕ) : Type 0 where
   pub at : ℕ
   pub stands : at < length entries
   pub less : distance_to entries color at * 256 + at < distance_to entries color k * 256 + k
 
--- the color of a number that has a color and an index, and how far it is from another color, 256 times, with the index
+-- the color of a number that has a color and an index, and how far it is from another color, 256
+-- times, with the index
 abbrev pub word_color : ℕ → List ℕ
 word_color word = word / 16777216 ∷ word / 65536 % 256 ∷ word / 256 % 256 ∷ []
 
@@ -55,7 +57,8 @@ pub record AreWords (entries : List (List ℕ)) (words : List ℕ) : Type 0 wher
   pub own : (k : ℕ) → k < length entries → slice_index words k % 256 ≡ k
   pub few : length entries ≤ 256
 
--- the nearest entry to a color is among those that are listed: for each that is not, another one is nearer, or as near and before
+-- the nearest entry to a color is among those that are listed: for each that is not, another one is
+-- nearer, or as near and before
 pub record AreEnough (entries : List (List ℕ)) (color : List ℕ) (listed : ℕ → ℕ) (count : ℕ) : Type 0 where
   pub some : 0 < count
   pub inside : (p : ℕ) → p < count → listed p < length entries
@@ -65,19 +68,20 @@ pub record AreEnough (entries : List (List ℕ)) (color : List ℕ) (listed : �
 abbrev pub AreListed : List (List ℕ) → (reach : ℕ) → (low : List ℕ) → (ℕ → ℕ) → ℕ → Type 0
 AreListed entries reach low listed count = (color : List ℕ) → IsInside reach low color → AreEnough entries color listed count
 
--- how far a box reaches: the first 32768 boxes are the small ones, of eight numbers a channel, then come 4096 of sixteen, 512 of thirty-two, and
--- 64 of sixty-four
+-- how far a box reaches: the first 32768 boxes are the small ones, of eight numbers a channel, then
+-- come 4096 of sixteen, 512 of thirty-two, and 64 of sixty-four
 abbrev pub reach_at : ℕ → ℕ
 reach_at place = if nat_lt place 32768 then 7 else (if nat_lt place 36864 then 15 else (if nat_lt place 37376 then 31 else 63))
 
--- the least numbers of a box: boxes of a kind are numbered by their reds, then by their greens, then by their blues
+-- the least numbers of a box: boxes of a kind are numbered by their reds, then by their greens,
+-- then by their blues
 abbrev pub low_at : ℕ → List ℕ
 low_at place = if nat_lt place 32768 then place / 1024 * 8 ∷ place / 32 % 32 * 8 ∷ place % 32 * 8 ∷ []
     else (if nat_lt place 36864 then (place - 32768) / 256 * 16 ∷ (place - 32768) / 16 % 16 * 16 ∷ (place - 32768) % 16 * 16 ∷ []
     else (if nat_lt place 37376 then (place - 36864) / 64 * 32 ∷ (place - 36864) / 8 % 8 * 32 ∷ (place - 36864) % 8 * 32 ∷ []
     else (place - 37376) / 16 * 64 ∷ (place - 37376) / 4 % 4 * 64 ∷ (place - 37376) % 4 * 64 ∷ []))
 
--- a list that has no more entries than a table, and stands before `used`
+-- a list that has no more entries than a table, and is before `used`
 pub record IsPlaced (used : ℕ) (known : Known) : Type 0 where
   pub few : known.count ≤ 256
   pub before : known.start + known.count ≤ used
@@ -99,7 +103,8 @@ pub record IsFirst (entries : List (List ℕ)) (boxes : Boxes) : Type 0 where
   pub begun : 256 ≤ boxes.used
   pub enough : (color : List ℕ) → AreEnough entries color (λ p. slice_index boxes.lists (0 + p)) boxes.first
 
--- how long the lists are, that the first is right, or nothing is listed before it is written, and that each box has no list or one for it
+-- how long the lists are, that the first is right, or nothing is listed before it is written, and
+-- that each box has no list or one for it
 pub record AreBoxes (entries : List (List ℕ)) (boxes : Boxes) : Type 0 where
   pub places : length boxes.known ≡ 37440
   pub lists : length boxes.lists ≡ 65539

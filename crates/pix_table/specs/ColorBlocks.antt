@@ -1,4 +1,5 @@
--- The entries of a table by sixteens, and the last candidate among the first of them. No clause that a user reads cites this file.
+-- The entries of a table in blocks of sixteen, and the last candidate among the first of them. No
+-- clause that a user reads cites this file.
 use Rattle.std.specs.Prelude.{◌≡◌, ℕ, ◌+◌, ◌*◌, ◌<◌, ◌≤◌, List, [], ◌∷◌, length, slice_index, slice_index_or, false}
 use Rattle.pix_table.specs.PaletteMatch.{color_difference, difference_to, is_within, AreCandidates}
 use Rattle.pix_table.specs.declared.color_block.ColorBlock.{ColorBlock}

@@ -1,4 +1,5 @@
--- Median cut: a table of the means of boxes of colors. A box is the list of its colors, in any order.
+-- Median cut: a table of the means of boxes of colors. A box is the list of its colors, in any
+-- order.
 use Rattle.std.specs.Prelude.{◌⊎◌, ◌≡◌, ℕ, ◌+◌, ◌-◌, ◌*◌, ◌/◌, ◌<◌, ◌≤◌, min, max, List, [], ◌∷◌, ◌++◌, length, slice_index, nat_lt, All, fold, sum_by, count_by, IsPermutation}
 
 -- the least number of a box in a channel, and the greatest
@@ -26,13 +27,15 @@ pub record IsWidest (box : List (List ℕ)) (channel : ℕ) : Type 0 where
 abbrev pub below : (channel value : ℕ) → List (List ℕ) → ℕ
 below channel value box = count_by (λ color. nat_lt (slice_index color channel) value) box
 
--- the median of a box in a channel: the least value that half of the colors or more are below, but at most the greatest number of the box
+-- the median of a box in a channel: the least value that half of the colors or more are below, but
+-- at most the greatest number of the box
 pub record IsMedian (channel : ℕ) (box : List (List ℕ)) (value : ℕ) : Type 0 where
   pub inside : value ≤ greatest channel box
   pub half : (value ≡ greatest channel box) ⊎ (length box ≤ 2 * below channel value box)
   pub least : (v : ℕ) → v < value → 2 * below channel v box < length box
 
--- a box cut in two where it is widest, at its median: the colors below it, and the others. Neither part is empty
+-- a box cut in two where it is widest, at its median: the colors below it, and the others. Neither
+-- part is empty
 pub record IsCut (box low high : List (List ℕ)) : Type 0 where
   pub channel : ℕ
   pub value : ℕ
@@ -52,12 +55,14 @@ mean_of channel box = (2 * sum_by (λ color. slice_index color channel) box + le
 abbrev pub mean : List (List ℕ) → List ℕ
 mean box = mean_of 0 box ∷ mean_of 1 box ∷ mean_of 2 box ∷ []
 
--- how many of so many entries the lower part of a cut gets: as its spread is to that of both, but at least one
+-- how many of a number of entries the lower part of a cut gets: in the ratio of its spread to that
+-- of both parts, but at least one
 abbrev pub share : ℕ → (low high : List (List ℕ)) → ℕ
 share room low high = max 1 (room * spread low / (spread low + spread high))
 
--- the table of a box, of at most so many entries: its mean, where there is room for one, or its colors are all the same; else the box is cut,
--- and the table is that of the lower part, of at most its share, and that of the upper part, of at most as many as are left
+-- the table of a box, of at most a number of entries: its mean, where there is room for only one,
+-- or its colors are all the same. Else the box is cut. The table is then that of the lower part, of
+-- at most its share, followed by that of the upper part, of at most the entries that are left.
 pub data IsCutTable : ℕ → List (List ℕ) → List (List ℕ) → Type 0 where
   whole : (room : ℕ) (box : List (List ℕ)) → 0 < length box → (room ≡ 1) ⊎ (spread box ≡ 3) → IsCutTable room box (mean box ∷ [])
   cut : (room : ℕ) (box low high first rest : List (List ℕ)) → 1 < room → IsCut box low high → IsCutTable (share room low high) low first

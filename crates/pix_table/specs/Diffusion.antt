@@ -6,8 +6,8 @@ use Rattle.pix_table.specs.Nearest.{IsNearest, alpha_of}
 abbrev pub part : Bool → ℕ → List ℕ → ℕ → ℕ
 part there sixteenths color channel = if there then sixteenths * slice_index color channel else 0
 
--- what pixel k of rows of a width gets of the colors before it: 7 sixteenths of the one to the left, 1 of the one above that, 5 of the one above,
--- and 3 of the one to the right of that
+-- the share of pixel k, in rows of a width, in the colors before it: 7 sixteenths of the one to the
+-- left, 1 of the one above that, 5 of the one above, and 3 of the one to the right of that
 abbrev pub handed : (width : ℕ) → List (List ℕ) → ℕ → ℕ → ℕ
 handed width colors k channel =
     part (nat_lt 0 (k % width)) 7 (slice_index_or colors (k - 1) []) channel
@@ -15,11 +15,12 @@ handed width colors k channel =
     + part (nat_le width k) 5 (slice_index_or colors (k - width) []) channel
     + part (nat_lt (k % width + 1) width && nat_le width k) 3 (slice_index_or colors (k - (width - 1)) []) channel
 
--- a number, and what it gets of the colors that were wanted less the colors that were found, rounded to the nearest, ties up, and kept from 0 to 255
+-- a number plus its share of the colors that were wanted less the colors that were found, rounded
+-- to the nearest, ties up, and kept within 0 to 255
 abbrev pub corrected : (number wanted found : ℕ) → ℕ
 corrected number wanted found = min 255 ((16 * number + 8 + wanted - found) / 16)
 
--- the color that is wanted at pixel k: the pixel's own, and what it gets of the errors before it
+-- the color that is wanted at pixel k: the pixel's own, plus its share of the errors before it
 abbrev pub wanted_at : (width : ℕ) → (wanted found : List (List ℕ)) → ℕ → List ℕ → List ℕ
 wanted_at width wanted found k pixel =
     corrected (slice_index pixel 0) (handed width wanted k 0) (handed width found k 0)
@@ -30,8 +31,9 @@ wanted_at width wanted found k pixel =
 abbrev pub black : List ℕ
 black = 0 ∷ 0 ∷ 0 ∷ []
 
--- the first pixels of rows, one after the other: what is wanted at each, what is found for it, and its index. A pixel whose alpha is below one
--- has the index that is kept, and hands on no error; another has that of the entry that is nearest to what is wanted, and finds that entry
+-- the first pixels of rows, one after the other: what is wanted at each, what is found for it, and
+-- its index. A pixel whose alpha is below one has the kept index, and hands on no error. Any other
+-- has the index of the entry that is nearest to what is wanted, and finds that entry.
 pub data IsDiffused (entries : List (List ℕ)) (alpha kept width : ℕ) (pixels : List (List ℕ)) : List (List ℕ) → List (List ℕ) → List ℕ → Type 0 where
   none : IsDiffused entries alpha kept width pixels [] [] []
   clear : (wanted found : List (List ℕ)) (indices : List ℕ) → IsDiffused entries alpha kept width pixels wanted found indices

@@ -6,11 +6,13 @@ use Rattle.pix_table.specs.declared.color.Color.{Color}
 use Rattle.pix_table.specs.declared.diffuse.Miss.{Miss}
 use Rattle.pix_table.specs.declared.diffuse.Near.{Near}
 
--- the last colors before number k, of as many as a row has, stand where their numbers leave what is left by a row
+-- the last colors before number k, of as many as a row has, stand where their numbers leave what is
+-- left by a row
 abbrev pub AreLatest : List (List ℕ) → (width k : ℕ) → List Color → Type 0
 AreLatest all width k colors = (j : ℕ) (d : Color) → j < k → k ≤ j + width → numbers (slice_index_or colors (j % width) d) ≡ slice_index_or all j []
 
--- in each channel, what was wanted at a pixel less what was found for it, and 255 more; 255 where there is no such pixel
+-- in each channel, what was wanted at a pixel less what was found for it, and 255 more; 255 where
+-- there is no such pixel
 pub record IsMiss (there : Bool) (wanted found : List ℕ) (miss : Miss) : Type 0 where
   pub red : miss.red + part there 1 found 0 ≡ 255 + part there 1 wanted 0
   pub green : miss.green + part there 1 found 1 ≡ 255 + part there 1 wanted 1

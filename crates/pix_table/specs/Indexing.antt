@@ -1,11 +1,14 @@
--- Indexing pixels: the color of each is set in a table, one after the other, and the answer is its index.
+-- Indexing pixels: the color of each is set in a table, one after the other, and the answer is its
+-- index.
 use Rattle.std.specs.Prelude.{◌≡◌, ℕ, ◌<◌, ◌≤◌, List, [], ◌∷◌, ◌++◌, Option, Some, None, IfSome}
 
--- how a color is set: a relation of the colors before, the color, the answer and the colors afterwards
+-- how a color is set: a relation of the colors before, the color, the answer and the colors
+-- afterwards
 abbrev pub Setting : Type 0 → Type 1
 Setting C = List C → C → Option ℕ → List C → Type 0
 
--- setting a color of these numbers where no index may be above the greatest: its index, or None where the answer is None or an index above the greatest
+-- setting a color of these numbers where no index may be above the greatest: its index, or None
+-- where the answer is None or an index above the greatest
 abbrev pub IsSetUpTo : {C : Type 0} → (C → List ℕ) → Setting C → ℕ → List C → List ℕ → Option ℕ → List C → Type 0
 IsSetUpTo {C = C} numbers set greatest old pixel (Some i) new = (color : C) × (numbers color ≡ pixel) × set old color (Some i) new × (i ≤ greatest)
 IsSetUpTo {C = C} numbers set greatest old pixel None new =

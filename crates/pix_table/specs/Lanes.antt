@@ -1,4 +1,4 @@
--- The entries of a table by lanes. No clause of a public call cites this file.
+-- The entries of a table in lanes. No clause of a public call cites this file.
 use Rattle.std.specs.Prelude.{◌≡◌, ℕ, ◌+◌, ◌*◌, ◌/◌, ◌%◌, ◌<◌, ◌≤◌, List, [], slice_index, slice_index_or}
 use Rattle.pix_table.specs.Nearest.{distance}
 use Rattle.pix_table.specs.ColorBlocks.{channels_in}

@@ -11,7 +11,7 @@ pub record AreLookedUp {C : Type 0} (entries : List C) (indices : List ℕ) (col
   pub many : length colors ≡ length indices
   pub each : (k : ℕ) → k < length indices → slice_get colors k ≡ slice_get entries (slice_index indices k)
 
--- how often each number below a count stands among the indices
+-- how often each number below a count is among the indices
 pub record AreCounted (count : ℕ) (indices counts : List ℕ) : Type 0 where
   pub many : length counts ≡ count
   pub each : (k : ℕ) → k < count → slice_index counts k ≡ count_by (λ i. nat_eq i k) indices

@@ -21,11 +21,12 @@ places depth = 8 / bits depth
 abbrev pub place : IndexDepth → ℕ → ℕ → ℕ
 place depth byte t = byte / 2 ^ (8 - bits depth * (t + 1)) % 2 ^ bits depth
 
--- how many bytes a row of so many indices takes
+-- how many bytes a row of a number of indices takes
 abbrev pub row_bytes : IndexDepth → ℕ → ℕ
 row_bytes depth count = (count + (places depth - 1)) / places depth
 
--- the places of the bytes hold the indices in order; those that are left over in the last byte hold 0
+-- the places of the bytes hold the indices in order; those that are left over in the last byte hold
+-- 0
 pub record ArePacked (depth : IndexDepth) (indices bytes : List ℕ) : Type 0 where
   pub many : length bytes ≡ row_bytes depth (length indices)
   pub each : (j t : ℕ) → j < length bytes → t < places depth → place depth (slice_index bytes j) t ≡ slice_index indices (j * places depth + t)
@@ -34,11 +35,12 @@ pub record ArePacked (depth : IndexDepth) (indices bytes : List ℕ) : Type 0 wh
 pub record AreUnpacked (depth : IndexDepth) (bytes indices : List ℕ) : Type 0 where
   pub each : (i : ℕ) → i < length indices → slice_index indices i ≡ place depth (slice_index bytes (i / places depth)) (i % places depth)
 
--- why a row of indices is not packed into so many bytes: they are not those of the row, or an index takes more bits; or none, where it is packed
+-- why a row of indices is not packed into a number of bytes: the row takes another number, or an
+-- index takes more bits; or none, where it is packed
 abbrev pub pack_fault : IndexDepth → List ℕ → ℕ → Option RowFault
 pack_fault depth indices len =
     if nat_eq len (row_bytes depth (length indices)) then (if all_below (2 ^ bits depth) indices then None else Some Index) else Some Length
 
--- why so many bytes are not unpacked: they are not those of the row; or none
+-- why a number of bytes is not unpacked: the row takes another number; or none
 abbrev pub unpack_fault : IndexDepth → ℕ → ℕ → Option RowFault
 unpack_fault depth len count = if nat_eq len (row_bytes depth count) then None else Some Length

@@ -1,4 +1,5 @@
--- The match of a color among the entries of a table. A color is the list of its numbers: red, green and blue.
+-- The match of a color among the entries of a table. A color is the list of its numbers: red, green
+-- and blue.
 use Rattle.std.specs.Prelude.{◌≡◌, ◌≢◌, ℕ, ◌+◌, ◌-◌, ◌<◌, Bool, true, false, not, ◌&&◌, nat_le, List, [], ◌∷◌, length, slice_index, slice_index_or}
 use Rattle.pix_table.specs.From.{same_color}
 
@@ -25,15 +26,16 @@ is_within p threshold =
 abbrev pub is_closer : List ℕ → List ℕ → Bool
 is_closer p q = is_within p q && not (same_color p q)
 
--- of the differences `d` of so many entries, that of j is the first after that of i that is closer
+-- among the differences `d` of a number of entries, that of j is the first after that of i that is
+-- closer
 pub record IsNext (d : ℕ → List ℕ) (count i j : ℕ) : Type 0 where
   pub later : i < j
   pub stands : j < count
   pub closer : is_closer (d j) (d i) ≡ true
   pub first : (k : ℕ) → i < k → k < j → is_closer (d k) (d i) ≡ false
 
--- the entry i is a candidate, the indices in the list are the candidates after it, and m is the last of them: each is the next of the one before,
--- and no entry after the last is closer
+-- the entry i is a candidate, the indices in the list are the candidates after it, and m is the
+-- last of them: each is the next of the one before, and no entry after the last is closer
 abbrev pub AreCandidates : (ℕ → List ℕ) → ℕ → ℕ → List ℕ → ℕ → Type 0
 AreCandidates d count i [] m = (m ≡ i) × ((k : ℕ) → i < k → k < count → is_closer (d k) (d i) ≡ false)
 AreCandidates d count i (j ∷ candidates) m = IsNext d count i j × AreCandidates d count j candidates m
@@ -44,8 +46,9 @@ pub record IsMatch (entries : List (List ℕ)) (color : List ℕ) (m : ℕ) : Ty
   pub candidates : List ℕ
   pub last : AreCandidates (difference_to entries color) (length entries) 0 candidates m
 
--- an entry that is minimal for a color, channel by channel: none is closer, none before it differs as much in every channel, and it differs by no more
--- than entry 0 in any. One that differs by more in one channel may yet be nearer by a sum.
+-- an entry that is minimal for a color, channel by channel: none is closer, none before it differs
+-- as much in every channel, and it differs by no more than entry 0 in any. One that differs by more
+-- in one channel may yet be nearer by a sum.
 pub record IsMinimal (entries : List (List ℕ)) (color : List ℕ) (m : ℕ) : Type 0 where
   pub none_closer : (k : ℕ) → k < length entries → is_closer (difference_to entries color k) (difference_to entries color m) ≡ false
   pub first : (k : ℕ) → k < m → difference_to entries color k ≢ difference_to entries color m

@@ -1,8 +1,9 @@
--- Setting a color in a table: it is answered by an entry within a threshold, or added.
+-- Setting a color in a table: the answer is an entry within a threshold, or the color is added.
 use Rattle.std.specs.Prelude.{⊤, ◌⊎◌, ◌≡◌, ℕ, true, false, Bool, if◌then◌else◌, nat_lt, List, [], ◌∷◌, ◌++◌, map, length, Option, Some, None}
 use Rattle.pix_table.specs.PaletteMatch.{difference_to, is_within, IsMatch}
 
--- whether a difference is within the threshold that is answered for a number of entries; one of 0 in every channel is within any
+-- whether a difference is within the threshold for a number of entries; a difference of 0 in every
+-- channel is within any
 abbrev pub Fits : (ℕ → List ℕ → Type 0) → ℕ → List ℕ → Bool → Type 0
 Fits answers count difference fits =
     ((difference ≡ 0 ∷ 0 ∷ 0 ∷ []) × (fits ≡ true)) ⊎ ((threshold : List ℕ) × answers count threshold × (is_within difference threshold ≡ fits))
@@ -23,7 +24,8 @@ abbrev pub set_answer : {C : Type 0} → ℕ → List C → Option ℕ → Optio
 set_answer limit colors (Some m) = Some m
 set_answer limit colors None = if nat_lt (length colors) limit then Some (length colors) else None
 
--- the colors afterwards: as they were, or with the color appended where no entry stands for it and there is room
+-- the colors afterwards: as they were, or with the color appended where no entry stands for it and
+-- there is room
 abbrev pub set_colors : {C : Type 0} → ℕ → List C → C → Option ℕ → List C
 set_colors limit colors color (Some m) = colors
 set_colors limit colors color None = if nat_lt (length colors) limit then colors ++ color ∷ [] else colors

@@ -14,6 +14,7 @@ SrgbColor = Pix 3 Ch8 Rgb Straight Srgb
 abbrev pub srgb_numbers : Pix 3 Ch8 Rgb Straight Srgb → List ℕ
 srgb_numbers color = map (λ channel. channel.value) color.channels
 
--- the numbers of a pixel of red, green, blue and alpha of eight bits each, in sRGB, not multiplied by the alpha
+-- the numbers of a pixel of red, green, blue and alpha of eight bits each, in sRGB, not multiplied
+-- by the alpha
 abbrev pub srgba_numbers : Pix 4 Ch8 Rgb Straight Srgb → List ℕ
 srgba_numbers pixel = map (λ channel. channel.value) pixel.channels

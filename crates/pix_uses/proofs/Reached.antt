@@ -69,7 +69,8 @@ natural_is z n e = ap natural e
 pub corner_is : (a b x y : ℤ) → a ≡ x → b ≡ y → onwards a b ≡ onwards x y
 corner_is a b x y ea eb = rw (ea, eb) refl
 
--- a point of the destination that is the corner and so many columns and rows gets what the source has there
+-- a point of the destination that is the corner and so many columns and rows gets what the source
+-- has there
 pub reached : {X : Type 0} (x y : ℤ) (dw dh sw sh : ℕ) (get : ℕ → ℕ → X) (column row i j : ℕ)
     → covers (whole dw dh) (pos column) (pos row) ≡ true → covers (whole sw sh) (pos i) (pos j) ≡ true
     → pos column ≡ x +ℤ pos i → pos row ≡ y +ℤ pos j

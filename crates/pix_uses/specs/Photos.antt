@@ -27,11 +27,12 @@ LightPixel = Pix 4 Ch16 Rgb Premultiplied Linear
 abbrev pub light_numbers : Pix 4 Ch16 Rgb Premultiplied Linear → List ℕ
 light_numbers pixel = map (λ channel. channel.value) pixel.channels
 
--- the layout of `Rgba16p`: four channels of sixteen bits, of which none is a hue and the last is the alpha
+-- the layout of `Rgba16p`: four channels of sixteen bits, of which none is a hue and the last is
+-- the alpha
 abbrev pub rgba16 : Layout
 rgba16 = record { max = 65535; count = 4; hues = record { start = 0; end = 0 }; alpha = 3 }
 
--- the format `Rgba16p` but for its gamma mode
+-- the format `Rgba16p` without its gamma mode
 abbrev pub rgba16p : Format
 rgba16p = record {
   layout = rgba16;
@@ -42,10 +43,11 @@ rgba16p = record {
   alpha_mode = modes.Premultiplied;
 }
 
--- the format `SRgb8` but for its gamma mode
+-- the format `SRgb8` without its gamma mode
 abbrev pub srgb8 : Format
 srgb8 = record rgba16p { layout = record rgba16 { max = 255; count = 3 }; alpha_mode = modes.Straight }
 
--- a pixel of a photograph with a color composited over it: decoded to linear light of sixteen bits, composited there, and encoded again
+-- a pixel of a photograph with a color composited over it: decoded to linear light of sixteen bits,
+-- composited there, and encoded again
 abbrev pub glazed : List ℕ → List ℕ → List ℕ
 glazed glaze pixel = as_srgb rgba16p srgb8 (pixel_composite rgba16 SrcOver glaze (in_light srgb8 rgba16p pixel))

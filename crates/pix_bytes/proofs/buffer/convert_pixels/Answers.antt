@@ -1,4 +1,5 @@
--- Of `convert_pixels`: that a pixel's bytes lie in the buffer, and that the invariant of its loop over `index` holds after each turn.
+-- Of `convert_pixels`: that a pixel's bytes lie in the buffer, and that the invariant of its loop
+-- over `index` holds after each turn.
 use Rattle.std.proofs.Common.{◌≡◌, ◌+◌, ◌-◌, ◌*◌, ◌≤◌, length, ◌∙◌, sym, ap, arith, refl, rules}
 use Rattle.std.proofs.Math.Nat.{mul-le-mul_right}
 use Rattle.pix_el.specs.Conversion.{converted}

@@ -1,4 +1,5 @@
--- Of `paint_composite`: that it meets its contract where a color or an image is copied, and the condition of its call of `blit_window`.
+-- Of `paint_composite`: that it meets its contract where a color or an image is copied, and the
+-- condition of its call of `blit_window`.
 use Rattle.std.proofs.Common.{refl, sym, ap, subst, length, ◌∙◌}
 use Rattle.pix_ops.specs.declared.ops.Op.{Op}
 use Rattle.pix_el.specs.PixelComposite.{pixel_composite}

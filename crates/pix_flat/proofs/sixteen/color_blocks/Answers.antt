@@ -1,4 +1,5 @@
--- Of `color_blocks`: that a block lies within the row, and that the invariant of its loop over `k` holds at first and stays.
+-- Of `color_blocks`: that a block lies within the row, and that the invariant of its loop over `k`
+-- holds at first and stays.
 use Rattle.std.proofs.Common.{◌≡◌, ◌+◌, ◌*◌, ◌-◌, ◌∙◌, ◌≤◌, take, drop, length, sym, arith, rules, map, replicate, List, ℕ}
 use Rattle.std.proofs.lemmas.List.{length-map, length-take, length-drop}
 use borrow.Author.Rules.{scaled_fits≤}

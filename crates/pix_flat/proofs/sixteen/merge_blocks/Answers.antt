@@ -1,4 +1,5 @@
--- Of `merge_blocks`: that a block lies within both slices, and that the invariant of its loop over `k` holds at first and stays.
+-- Of `merge_blocks`: that a block lies within both slices, and that the invariant of its loop over
+-- `k` holds at first and stays.
 use Rattle.std.proofs.Common.{◌≤◌, ◌*◌, arith, rules, map, length, List, ℕ}
 use borrow.Author.Rules.{scaled_fits≤}
 use Rattle.pix_chan.proofs.Slices.{next_mapped_block}

@@ -1,4 +1,5 @@
--- Of `first_fault`: the clauses `fault` and `done`, and that the invariant of its loop over `index` holds after each turn.
+-- Of `first_fault`: the clauses `fault` and `done`, and that the invariant of its loop over `index`
+-- holds after each turn.
 use Rattle.std.proofs.Common.{◌≡◌, ℕ, ◌+◌, map, drop, ap, sym, ◌∙◌, arith}
 use Rattle.pix_flat.specs.Status.{fault_of, first_fault, count_before_fault}
 use Rattle.pix_flat.proofs.Faults.{first_fault_on, first_fault_here, count_on, count_here, left_from}

@@ -1,4 +1,5 @@
--- Of `paint_by_bands`: that it meets its contract, that the invariant of its loop over `first` holds after each turn, and that a band is a window.
+-- Of `paint_by_bands`: that it meets its contract, that the invariant of its loop over `first`
+-- holds after each turn, and that a band is a window.
 use Rattle.std.proofs.Common.{◌≡◌, ◌+◌, ◌*◌, ◌≤◌, length, arith, refl}
 use Rattle.pix_raster.proofs.Bands.{band_fits, band_more}
 use Rattle.pix_raster.proofs.lent.paint_by_bands.Goals as goal

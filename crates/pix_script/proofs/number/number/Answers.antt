@@ -1,4 +1,5 @@
--- Of `number`: the clause `value`, and that the invariant of its loop over `byte` holds after each turn.
+-- Of `number`: the clause `value`, and that the invariant of its loop over `byte` holds after each
+-- turn.
 use Rattle.std.proofs.Common.{◌≡◌, ◌+◌, ◌<◌, length, get_or, sym, ◌∙◌, arith}
 use Rattle.std.proofs.lemmas.Int.Digits.{digits_value_more, digits_more}
 use Rattle.std.proofs.lemmas.List.{nil_from_length}

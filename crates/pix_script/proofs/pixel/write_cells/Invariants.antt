@@ -5,7 +5,8 @@ use Rattle.pix_script.specs.Pixels.{color_numbers}
 use Rattle.pix_script.specs.Rows.{text_from}
 use Rattle.pix_script.proofs.pixel.write_cells.Given as goal
 
--- the cells below the index have the text of the pixels below it, and the next pixel stands in the column
+-- the cells below the index have the text of the pixels below it, and the next pixel stands in the
+-- column
 abbrev pub invariant-loop-i : goal.invariant-loop-i
 invariant-loop-i l = record {
   column : l.column < l.width;

@@ -1,4 +1,5 @@
--- Of `nearest_unlisted`: that nothing but the credit has changed at first, and that the list which is made is enough for the color.
+-- Of `nearest_unlisted`: that nothing but the credit has changed at first, and that the list which
+-- is made is enough for the color.
 use Rattle.std.proofs.Common.{map, refl}
 use Rattle.pix_table.specs.Nearest.{numbers}
 use Rattle.pix_table.proofs.Listed.{boxes_same}

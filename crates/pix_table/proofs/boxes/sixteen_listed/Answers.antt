@@ -1,4 +1,5 @@
--- Of `sixteen_listed`: that the first list is enough for the largest box, and the list of each box for the one of the next size inside it.
+-- Of `sixteen_listed`: that the first list is enough for the largest box, and the list of each box
+-- for the one of the next size inside it.
 use Rattle.std.proofs.Common.{map}
 use Rattle.pix_table.specs.Nearest.{numbers}
 use Rattle.pix_table.proofs.Listed.{first_for, list_inside}

@@ -1,4 +1,5 @@
--- Of `median`: its clause, and that the invariant of its loop over `value` holds at first and after each turn.
+-- Of `median`: its clause, and that the invariant of its loop over `value` holds at first and after
+-- each turn.
 use Rattle.std.proofs.Common.{◌≡◌, ◌*◌, ◌<◌, ◌≤◌, length, map, get_or, count_by, nat_eq, nat_lt, arith, sym, ap, ◌∙◌, subst, inl, inr}
 use Rattle.std.proofs.lemmas.List.{length-map}
 use Rattle.std.proofs.lemmas.List.Sums.{count_by-le-length}

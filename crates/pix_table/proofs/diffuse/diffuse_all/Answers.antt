@@ -1,4 +1,5 @@
--- Of `diffuse_all`: its clause, and that the invariant of its loop over `k` holds at first and after each turn.
+-- Of `diffuse_all`: its clause, and that the invariant of its loop over `k` holds at first and
+-- after each turn.
 use Rattle.std.proofs.Common.{◌≡◌, ◌+◌, ◌%◌, ◌<◌, ◌≤◌, ℕ, [], true, length, map, take, set, get_or, refl, arith, sym, ap, ◌∙◌, subst}
 use Rattle.std.proofs.Math.Nat.{zero-mod}
 use Rattle.std.proofs.lemmas.List.{length-map, get_or-map, take_more_set}

@@ -1,4 +1,5 @@
--- Of `distinct`: what it answers where there is no room, and that the invariant of its loop over `i` holds after each turn.
+-- Of `distinct`: what it answers where there is no room, and that the invariant of its loop over
+-- `i` holds after each turn.
 use Rattle.std.proofs.Common.{◌≡◌, ◌+◌, [], ◌∷◌, ◌++◌, length, map, take, set, get_or, arith, sym, ap, ◌∙◌, length-append, length-take, length-set}
 use Rattle.std.proofs.lemmas.List.{length-map, map-append, take_more_set, get_or_default}
 use Rattle.pix_table.specs.Nearest.{numbers}

@@ -1,4 +1,5 @@
--- Of `closest_first`: that the invariant of its loop holds at first and after each turn, and how many entries it tells of.
+-- Of `closest_first`: that the invariant of its loop holds at first and after each turn, and how
+-- many entries it tells of.
 use Rattle.std.proofs.Common.{◌≡◌, ◌+◌, ◌*◌, map, arith, subst}
 use Rattle.std.proofs.lemmas.List.{length-map}
 use Rattle.std.specs.Prelude.{max}

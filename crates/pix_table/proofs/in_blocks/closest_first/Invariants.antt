@@ -5,7 +5,8 @@ use Rattle.pix_table.specs.ColorBlocks.{IsBest}
 use Rattle.pix_table.specs.Nearest.{numbers}
 use Rattle.pix_table.proofs.in_blocks.closest_first.Given as goal
 
--- `at` is the last candidate among the entries of the first k blocks, or entry 0, and `least` its difference
+-- `at` is the last candidate among the entries of the first k blocks, or entry 0, and `least` its
+-- difference
 abbrev pub invariant-loop-k : goal.invariant-loop-k
 invariant-loop-k g l = record {
   within : l.k ≤ length l.blocks;

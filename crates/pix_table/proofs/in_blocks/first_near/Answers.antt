@@ -1,4 +1,5 @@
--- Of `first_near`: that the invariant of its loop holds after each turn, and what it tells at its end.
+-- Of `first_near`: that the invariant of its loop holds after each turn, and what it tells at its
+-- end.
 use Rattle.std.proofs.Common.{subst, refl, arith, length}
 use Rattle.std.specs.Int.{w64}
 use Rattle.std.proofs.lemmas.List.{get_or_default}

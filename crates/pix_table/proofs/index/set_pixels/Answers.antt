@@ -1,4 +1,5 @@
--- Of `set_pixels`: the clause `stopped`, and that the invariant of its loop over `i` holds at first and stays.
+-- Of `set_pixels`: the clause `stopped`, and that the invariant of its loop over `i` holds at first
+-- and stays.
 use Rattle.std.specs.Prelude.{IfSome}
 use Rattle.std.proofs.Common.{◌≡◌, ℕ, ◌+◌, ◌<◌, List, [], ◌∷◌, ◌++◌, length, map, take, get_or, Some, Option, None, refl, sym, ap, ◌∙◌, subst, arith, length-append}
 use Rattle.std.proofs.lemmas.List.{length-map, get_or-map}

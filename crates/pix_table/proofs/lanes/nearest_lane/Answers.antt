@@ -1,4 +1,5 @@
--- Of `nearest_lane`: that the invariant of its loop holds at first and stays, and that the lane is the nearest.
+-- Of `nearest_lane`: that the invariant of its loop holds at first and stays, and that the lane is
+-- the nearest.
 use Rattle.std.proofs.Common.{arith, ap, ◌∙◌, get_or, length, min, subst, ◌*◌, ◌%◌, ◌≡◌}
 use Rattle.pix_table.specs.Nearest.{numbers}
 use Rattle.pix_table.specs.Lanes.{IsNearestLane, lane_distance}

@@ -1,4 +1,5 @@
--- Of `are_below`: what it answers, and that the invariant of its loop over `i` holds after each turn.
+-- Of `are_below`: what it answers, and that the invariant of its loop over `i` holds after each
+-- turn.
 use Rattle.std.proofs.Common.{arith}
 use Rattle.pix_table.proofs.Below.{below_more}
 use Rattle.pix_table.proofs.look.are_below.Goals as goal

@@ -1,4 +1,5 @@
--- Of `look_up`: that each index is an entry's, and that the invariant of its loop over `k` holds after each turn.
+-- Of `look_up`: that each index is an entry's, and that the invariant of its loop over `k` holds
+-- after each turn.
 use Rattle.std.proofs.Common.{◌≡◌, true, length, get_or, arith, ap, ◌∙◌}
 use Rattle.pix_table.specs.LookUp.{all_below}
 use Rattle.pix_table.proofs.Below.{each_below}

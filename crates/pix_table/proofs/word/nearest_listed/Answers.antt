@@ -1,4 +1,5 @@
--- Of `nearest_listed`: its clause, and that the invariant of its loop over `q` holds at first and after each turn.
+-- Of `nearest_listed`: its clause, and that the invariant of its loop over `q` holds at first and
+-- after each turn.
 use Rattle.std.proofs.Common.{◌≡◌, ◌+◌, ◌*◌, ◌/◌, ◌<◌, ◌∙◌, ℕ, get_or, arith, ap, subst}
 use Rattle.std.specs.Prelude.{min}
 use Rattle.pix_table.specs.Nearest.{numbers}

@@ -1,4 +1,5 @@
--- Of `fill`: the clause `filled`, and that the invariant of its loop over `x` holds after each turn.
+-- Of `fill`: the clause `filled`, and that the invariant of its loop over `x` holds after each
+-- turn.
 use Rattle.std.proofs.Common.{◌≡◌, ◌+◌, ◌*◌, pos, arith, ◌∙◌, ap, rules}
 use Rattle.std.proofs.lemmas.Int.{to_z_pos}
 use mir.Val.{to_z}

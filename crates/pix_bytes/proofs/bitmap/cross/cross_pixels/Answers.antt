@@ -1,4 +1,5 @@
--- Of `cross_pixels`: that it meets its contract, and that the pixels before those of its last call are written.
+-- Of `cross_pixels`: that it meets its contract, and that the pixels before those of its last call
+-- are written.
 use Rattle.pix_bytes.proofs.bitmap.cross.cross_pixels.Goals as goal
 
 pub cross_each-requires-clause-ahead : goal.cross_each-requires-clause-ahead

@@ -1,4 +1,5 @@
--- Of `linear_pixels`: its clauses, and that the invariant of its loop over `i` holds at first and stays.
+-- Of `linear_pixels`: its clauses, and that the invariant of its loop over `i` holds at first and
+-- stays.
 use Rattle.std.proofs.Common.{map, take, get_or, arith, sym, List, ℕ}
 use Rattle.std.proofs.lemmas.List.{length-map, get_or_default}
 use Rattle.pix_el.specs.Planes.{linear_four}

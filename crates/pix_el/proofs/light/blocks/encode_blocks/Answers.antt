@@ -1,4 +1,5 @@
--- Of `encode_blocks`: the clause `pixels`, and that the invariant of its loop over `k` holds at first and stays.
+-- Of `encode_blocks`: the clause `pixels`, and that the invariant of its loop over `k` holds at
+-- first and stays.
 use Rattle.std.proofs.Common.{◌+◌, ◌*◌, ◌-◌, ◌∙◌, take, drop, sym, arith, map, List, ℕ}
 use Rattle.std.proofs.lemmas.List.{length-map, length-take, length-drop}
 use Rattle.pix_el.specs.Light.{as_srgb}

@@ -1,4 +1,5 @@
--- Of `color_blocks`: that a block lies within the slice, and that the invariant of its loop over `i` holds at first and stays.
+-- Of `color_blocks`: that a block lies within the slice, and that the invariant of its loop over
+-- `i` holds at first and stays.
 use Rattle.std.proofs.Common.{◌≤◌, ◌*◌, arith, rules, map, length, replicate}
 use borrow.Author.Rules.{scaled_fits≤}
 use Rattle.pix_el.specs.PixelComposite.{pixel_composite}

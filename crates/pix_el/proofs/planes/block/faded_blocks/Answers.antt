@@ -1,4 +1,5 @@
--- Of `faded_blocks`: that a block lies within both slices, and that the invariant of its loop over `i` holds at first and stays.
+-- Of `faded_blocks`: that a block lies within both slices, and that the invariant of its loop over
+-- `i` holds at first and stays.
 use Rattle.std.proofs.Common.{◌≤◌, ◌*◌, List, ℕ, arith, rules, map, length}
 use borrow.Author.Rules.{scaled_fits≤}
 use Rattle.pix_el.specs.PixelComposite.{matted_composite}

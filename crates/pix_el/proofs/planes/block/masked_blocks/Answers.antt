@@ -1,4 +1,5 @@
--- Of `masked_blocks`: that a block lies within all slices, and that the invariant of its loop over `i` holds at first and stays.
+-- Of `masked_blocks`: that a block lies within all slices, and that the invariant of its loop over
+-- `i` holds at first and stays.
 use Rattle.std.proofs.Common.{◌≤◌, ◌+◌, ◌-◌, ◌*◌, ◌∙◌, List, ℕ, arith, rules, ap, map, take, drop, length}
 use borrow.Author.Rules.{scaled_fits≤}
 use Rattle.std.specs.List.{zip}

@@ -5,7 +5,8 @@ use Rattle.pix_raster.specs.Lent.{read_at, IsNoPoint, picture, in_window}
 use Rattle.pix_flat.specs.Command.{command_of}
 use Rattle.pix_flat.proofs.run.CommandsPainting.paint.Given as goal
 
--- what the commands that are left make of the image now is what all of them make of it at the start, and all else stays
+-- what the commands that are left make of the image now is what all of them make of it at the
+-- start, and all else stays
 abbrev pub invariant-loop-command : goal.invariant-loop-command
 invariant-loop-command g l =
     let n = g.D.Numbered.numbers in

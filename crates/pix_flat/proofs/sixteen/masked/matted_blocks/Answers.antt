@@ -1,4 +1,5 @@
--- Of `matted_blocks`: that a block lies within all three, and that the invariant of its loop over `k` holds at first and stays.
+-- Of `matted_blocks`: that a block lies within all three, and that the invariant of its loop over
+-- `k` holds at first and stays.
 use Rattle.std.proofs.Common.{◌+◌, ◌*◌, ◌-◌, ◌≤◌, ◌∙◌, take, drop, length, ap, arith, rules, map, List, ℕ}
 use borrow.Author.Rules.{scaled_fits≤}
 use Rattle.std.specs.List.{zip}

@@ -1,4 +1,5 @@
--- Of `index_in`: the clauses `indexed` and `before`, and that the invariant of its loop over `i` holds at first and stays.
+-- Of `index_in`: the clauses `indexed` and `before`, and that the invariant of its loop over `i`
+-- holds at first and stays.
 use Rattle.std.specs.Prelude.{IfSome}
 use Rattle.std.proofs.Common.{◌≡◌, ◌<◌, Some, refl, ◌∙◌, arith, rules}
 use Rattle.pix_palette.specs.Indexing.{values}

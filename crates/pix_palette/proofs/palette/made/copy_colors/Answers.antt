@@ -1,4 +1,5 @@
--- Of `copy_colors`: its clause `colors`, and that the invariant of its loop over `i` holds after each turn.
+-- Of `copy_colors`: its clause `colors`, and that the invariant of its loop over `i` holds after
+-- each turn.
 use Rattle.std.proofs.Common.{◌≡◌, length, map, take, length-set, sym, ap, ◌∙◌, arith}
 use Rattle.std.proofs.lemmas.List.{take_all}
 use Rattle.pix_table.proofs.Writes.{copy_more}

@@ -1,4 +1,5 @@
--- Of `write_indices`: its clauses, and that the invariant of its loop over `i` holds after each turn.
+-- Of `write_indices`: its clauses, and that the invariant of its loop over `i` holds after each
+-- turn.
 use Rattle.std.proofs.Common.{◌∷◌, ◌++◌, [], take, sym, ap, ◌∙◌, arith}
 use Rattle.std.proofs.lemmas.List.{take_all, take_more}
 use Rattle.pix_palette.specs.Indexing.{values}

@@ -1,4 +1,5 @@
--- Of `ClippedRect::new`: the clauses `right`, `bottom`, `in_width` and `in_height`, and the condition of its call of `rows_of`.
+-- Of `ClippedRect::new`: the clauses `right`, `bottom`, `in_width` and `in_height`, and the
+-- condition of its call of `rows_of`.
 use Rattle.std.proofs.Common.{◌≡◌, ◌≤◌, ◌+◌, pos}
 use Rattle.pix_raster.specs.Region.{Rectangle, right, bottom, whole, intersection_of}
 use Rattle.pix_raster.specs.Reach.{natural}

@@ -1,4 +1,5 @@
--- `row_mut` hands on what `row_part_mut` lends, and nothing where that has no pixel: the raster is then as it was.
+-- `row_mut` hands on what `row_part_mut` lends, and nothing where that has no pixel: the raster is
+-- then as it was.
 use Rattle.std.proofs.Common.{◌≡◌, ℕ, zero, suc, ◌<◌, ◌+◌, List, [], ◌∷◌, length, refl, ap, true, lit<, w32, MutBor, arith, slice_range}
 use Rattle.std.proofs.raw_atomic.Walks.{proved}
 use Rattle.std.specs.Prelude.{Some, None}

@@ -1,4 +1,5 @@
--- Of `pack_each`: that the invariant of its loop over `i` holds after each turn, and that its ranges lie in their slices.
+-- Of `pack_each`: that the invariant of its loop over `i` holds after each turn, and that its
+-- ranges lie in their slices.
 use Rattle.std.proofs.Common.{◌≡◌, ◌≤◌, ◌*◌, length, map, sym, ap, ◌∙◌, arith, rules}
 use Rattle.std.proofs.lemmas.List.{length-map}
 use borrow.Author.Rules.{scaled_fits≤}

@@ -1,4 +1,5 @@
--- Of `Region::intersection`: the clauses `value`, `points`, `commutative` and `associative`, and that the result keeps the invariant of its type.
+-- Of `Region::intersection`: the clauses `value`, `points`, `commutative` and `associative`, and
+-- that the result keeps the invariant of its type.
 use Rattle.std.proofs.Common.{◌≡◌, ◌≤◌, ◌≤ℤ◌, arith, ◌<ℤ◌, ap, ◌∙◌, FitsSigned, w32, inl, inr, ◌⊎◌, rules}
 use Rattle.std.specs.Int.{int_min, int_max, int_gap}
 use Rattle.std.proofs.lemmas.Int.{ints, clamps, to_z-of_z}

@@ -3,7 +3,8 @@ use Rattle.std.specs.Prelude.{◌≡◌, ℕ, ◌<◌, ◌≤◌, slice_index, s
 use Rattle.pix_table.specs.declared.color.Color.{Color}
 use Rattle.pix_table.proofs.chosen.Chosen.fill.Given as goal
 
--- the places below the length are as they were, and those behind it and below the index have the last entry
+-- the places below the length are as they were, and those behind it and below the index have the
+-- last entry
 abbrev pub invariant-loop-p : goal.invariant-loop-p
 invariant-loop-p l = record {
   len : l.self.len ≡ l.initial.self.len;

@@ -1,4 +1,5 @@
--- Of `Span::of_sixteens`: its clause, and that the invariant of its loop over `i` holds at first and after each turn.
+-- Of `Span::of_sixteens`: its clause, and that the invariant of its loop over `i` holds at first
+-- and after each turn.
 use Rattle.std.proofs.Common.{◌≡◌, ◌*◌, ◌++◌, map, take, arith, min, max, length-append, subst}
 use Rattle.std.proofs.lemmas.List.{take_all}
 use lib.Lanes.{zip2}

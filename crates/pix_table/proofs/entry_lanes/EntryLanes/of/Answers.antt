@@ -1,4 +1,5 @@
--- Of `EntryLanes::of`: that the invariant of its loop stays, and that the copy has the entries that are chosen.
+-- Of `EntryLanes::of`: that the invariant of its loop stays, and that the copy has the entries that
+-- are chosen.
 use Rattle.std.proofs.Common.{arith, ℕ, ◌*◌, ◌≡◌, ◌≤◌, sym, subst, map, length, length-set, inl, inr}
 use Rattle.std.proofs.lemmas.Bool.{cases_lt}
 use Rattle.pix_table.specs.Nearest.{numbers}

@@ -1,4 +1,5 @@
--- Of `visit` of `Matching`: that the invariant of its loop over `i` holds after each turn, and that all pixels are matched.
+-- Of `visit` of `Matching`: that the invariant of its loop over `i` holds after each turn, and that
+-- all pixels are matched.
 use Rattle.std.proofs.Common.{◌≡◌, [], map, get_or, sym, subst, arith}
 use Rattle.std.proofs.lemmas.List.{length-map, get_or-map}
 use Rattle.pix_table.specs.Nearest.{IsMatched}

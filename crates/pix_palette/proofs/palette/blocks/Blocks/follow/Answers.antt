@@ -1,4 +1,5 @@
--- Of `Blocks::follow`: that the blocks stay where there is no room, and that the invariant of its loop over `k` holds at first and after each turn.
+-- Of `Blocks::follow`: that the blocks stay where there is no room, and that the invariant of its
+-- loop over `k` holds at first and after each turn.
 use Rattle.std.proofs.Common.{◌≡◌, ◌+◌, ◌*◌, ◌∷◌, ◌++◌, [], length, map, refl, sym, subst, arith, length-append}
 use Rattle.pix_table.specs.ColorBlocks.{AreBlocks, IsBlock}
 use Rattle.pix_palette.specs.Palette.{numbers}

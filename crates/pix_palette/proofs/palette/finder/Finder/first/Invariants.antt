@@ -6,7 +6,8 @@ use Rattle.pix_palette.specs.Finder.{place, place_at}
 use Rattle.pix_palette.proofs.Finders.{IsFoundFrom}
 use Rattle.pix_palette.proofs.palette.finder.Finder.first.Given as goal
 
--- the entries from number `at` on have been looked at, and that before it has the place of the color
+-- the entries from number `at` on have been looked at, and that before it has the place of the
+-- color
 abbrev pub invariant-loop-at : goal.invariant-loop-at
 invariant-loop-at l = record {
   color : nearest.numbers l.color ≡ numbers l.fn.clr;

@@ -1,4 +1,5 @@
--- Of `Finder::follow`: that it follows where memory is refused, and that the invariant of its loop over `i` holds at first and stays.
+-- Of `Finder::follow`: that it follows where memory is refused, and that the invariant of its loop
+-- over `i` holds at first and stays.
 use Rattle.std.proofs.Common.{◌≡◌, [], length, map, get_or, refl, sym, ap, ◌∙◌, arith}
 use Rattle.std.proofs.lemmas.List.{length-map, get_or-map}
 use Rattle.pix_palette.specs.Palette.{numbers}

@@ -1,4 +1,5 @@
--- Of `Lists::first_of_cell`: that the invariant of its loop holds at first and stays, and what it tells at its end.
+-- Of `Lists::first_of_cell`: that the invariant of its loop holds at first and stays, and what it
+-- tells at its end.
 use Rattle.std.proofs.Common.{◌≡◌, ◌-◌, [], length, map, arith, sym, ap, ◌∙◌, subst}
 use Rattle.std.proofs.lemmas.List.{length-map, get_or-map}
 use Rattle.std.specs.Prelude.{slice_index_or}

@@ -6,7 +6,8 @@ use Rattle.pix_palette.specs.Finder.{cell, place_at}
 use Rattle.pix_palette.proofs.Cells.{AreFarIn}
 use Rattle.pix_palette.proofs.palette.lists.Lists.first_of_cell.Given as goal
 
--- the entries of the cell from number `at` on are far but for the one that was found, and that before it is of the cell
+-- the entries of the cell from number `at` on are far but for the one that was found, and that
+-- before it is of the cell
 abbrev pub invariant-loop-at : goal.invariant-loop-at
 invariant-loop-at l = record {
   within : l.at ≤ length (map numbers l.fn.colors);

@@ -1,4 +1,5 @@
--- Of `Lists::first_of_greens`: that the invariant of its loop over `green` holds at first and stays, and what it tells at its end.
+-- Of `Lists::first_of_greens`: that the invariant of its loop over `green` holds at first and
+-- stays, and what it tells at its end.
 use Rattle.std.specs.Prelude.{slice_index}
 use Rattle.std.proofs.Common.{◌<◌, ◌+◌, ◌∷◌, [], map, arith}
 use Rattle.pix_table.specs.Nearest as nearest

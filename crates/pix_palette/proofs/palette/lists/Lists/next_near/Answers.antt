@@ -1,4 +1,5 @@
--- Of `Lists::next_near`: that the invariant of its loop over `red` holds at first and stays, and what it tells at its end.
+-- Of `Lists::next_near`: that the invariant of its loop over `red` holds at first and stays, and
+-- what it tells at its end.
 use Rattle.std.specs.Prelude.{slice_index}
 use Rattle.std.proofs.Common.{◌<◌, ◌+◌, map, arith}
 use Rattle.pix_table.specs.Nearest as nearest

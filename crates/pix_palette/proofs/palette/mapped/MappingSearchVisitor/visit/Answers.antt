@@ -1,4 +1,5 @@
--- Of `visit` of `Mapping`: that the invariant of its loop over `i` holds at first and stays, and that all pixels have their indices.
+-- Of `visit` of `Mapping`: that the invariant of its loop over `i` holds at first and stays, and
+-- that all pixels have their indices.
 use Rattle.std.proofs.Common.{◌≡◌, ◌<◌, ℕ, List, [], length, get_or, refl, ◌∙◌, sym, subst, arith}
 use Rattle.std.proofs.lemmas.List.{get_or_default}
 use Rattle.pix_table.specs.Nearest.{IsNearest}

@@ -1,4 +1,5 @@
--- Of `Palette::index_pixels`: the clauses `indexed` and `gray`, and that the invariant of its loop over `i` holds at first and stays.
+-- Of `Palette::index_pixels`: the clauses `indexed` and `gray`, and that the invariant of its loop
+-- over `i` holds at first and stays.
 use Rattle.std.proofs.Common.{map, refl, ◌∙◌, arith}
 use Rattle.pix_palette.specs.Palette.{numbers}
 use Rattle.pix_table.proofs.KeptColors.{none_right}

@@ -1,4 +1,5 @@
--- Of `Palette::set_entries`: the clause `set`, and that the invariant of its loop over `i` holds at first and stays.
+-- Of `Palette::set_entries`: the clause `set`, and that the invariant of its loop over `i` holds at
+-- first and stays.
 use Rattle.std.proofs.Common.{map, refl, ◌∙◌, arith}
 use Rattle.pix_table.proofs.KeptColors.{none_right}
 use Rattle.pix_palette.specs.Palette.{numbers}

@@ -1,4 +1,5 @@
--- Of `Palette::standing_near`: that none stands by a threshold of 0, and else the one that is found by the threshold which is answered.
+-- Of `Palette::standing_near`: that none stands by a threshold of 0, and else the one that is found
+-- by the threshold which is answered.
 use Rattle.pix_palette.proofs.Thresholds.{none_by, standing_by}
 use Rattle.pix_palette.proofs.palette.table.Palette.standing_near.Goals as goal
 

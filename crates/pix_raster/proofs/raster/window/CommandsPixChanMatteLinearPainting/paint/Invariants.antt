@@ -5,7 +5,8 @@ use Rattle.pix_raster.specs.Lent.{read_at, IsNoPoint, picture, in_window}
 use Rattle.pix_raster.specs.Run.{run_at}
 use Rattle.pix_raster.proofs.raster.window.CommandsPixChanMatteLinearPainting.paint.Given as goal
 
--- what the commands that are left make of the window now is what all of them make of it at the start, and all else stays
+-- what the commands that are left make of the window now is what all of them make of it at the
+-- start, and all else stays
 abbrev pub invariant-loop-command : goal.invariant-loop-command
 invariant-loop-command g l =
     let n = g.P.Pixel.numbers in
