@@ -44,7 +44,7 @@ where
     Some(())
 }
 
-/// Composites a raster of `src` with one of the same pixels so many times.
+/// Composites a raster of `src` with one of the same pixels a number of times.
 ///
 /// Condition: the model has three colors.
 pub(crate) fn composited<M: ColorModel>(
@@ -63,7 +63,7 @@ pub(crate) fn composited<M: ColorModel>(
     write(alloc, &raster, out)
 }
 
-/// Converts a raster of `src` from the one model to the other so many times.
+/// Converts a raster of `src` from one model to the other a number of times.
 ///
 /// Condition: the other model has three colors.
 pub(crate) fn converted<S: ColorModel, D: ColorModel>(
@@ -84,8 +84,8 @@ pub(crate) fn converted<S: ColorModel, D: ColorModel>(
     write(alloc, &made, out)
 }
 
-/// Indexes a raster of `src` by a new palette of 256 colors so many times. Each time it is copied,
-/// since the call takes it.
+/// Indexes a raster of `src` with a new palette of 256 colors a number of times. Each time the
+/// raster is copied, since the call takes it.
 pub(crate) fn indexed(alloc: Global, times: u32, src: &[u8], out: &mut [u8]) -> Option<()> {
     let source: Raster<SRgb8> = raster_of(alloc, src)?;
     let mut made: Raster<Gray8> = Raster::with_clear(alloc, 0, 0).ok()?;
@@ -97,8 +97,8 @@ pub(crate) fn indexed(alloc: Global, times: u32, src: &[u8], out: &mut [u8]) -> 
     write(alloc, &made, out)
 }
 
-/// Makes a table of 256 colors of a raster of `src`, and so many times an image of the nearest of
-/// them.
+/// Makes a table of 256 colors of a raster of `src`, and a number of times an image of the nearest
+/// of them.
 pub(crate) fn mapped(alloc: Global, times: u32, src: &[u8], out: &mut [u8]) -> Option<()> {
     let source: Raster<SRgb8> = raster_of(alloc, src)?;
     let table = ColorTable::from_raster(alloc, &source, 256, 0).ok()??;

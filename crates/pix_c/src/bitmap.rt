@@ -13,8 +13,9 @@ use pix_bytes::bitmap;
 /// to top, and the bytes start with the last row. Bytes between the rows stay as they are.
 ///
 /// Returns 0 when all pixels are written. Else nothing is written. The status is then 6 where
-/// `from` or `to` is no format's number, otherwise 1 where `dst` doesn't hold the rows, or they
-/// would share bytes, and otherwise 5 where `src` doesn't.
+/// `from` or `to` is no format's number. Otherwise it is 1 where `dst` doesn't hold the rows, or
+/// they would share bytes. Otherwise it is 5, where `src` doesn't hold the rows, or they would
+/// share bytes.
 #[unsafe(no_mangle)]
 pub extern "C" fn pix_convert_rows(
     from: u32,

@@ -147,8 +147,8 @@ fn match_all<P: TablePixel>(
 /// many it has. With no more distinct colors than entries they are the table, in order of first
 /// place. Else it is made by median cut. The other entries may hold anything.
 ///
-/// Returns 0 when it is made. Else nothing is written, and the status is 11 where there is no entry
-/// or more than 256, and otherwise 7 where `work` has fewer colors than there are pixels.
+/// Returns 0 when it is made. Else nothing is written. The status is then 11 where there is no
+/// entry or more than 256, and otherwise 7, where `work` has fewer colors than there are pixels.
 #[unsafe(no_mangle)]
 pub extern "C" fn pix_table_from(
     pixels: &[Color],

@@ -1,5 +1,5 @@
-//! That the name of each format is the one of its parts, of which the cases of formats tell what
-//! they are: another does not compile.
+//! Checks that the name of each format is that of its parts. The cases of formats tell what the
+//! parts are. Any other name does not compile.
 use pix::bgr::{Bgr, Bgr8, Bgr16, Bgra8, Bgra8p, Bgra16, Bgra16p, SBgr8, SBgra8, SBgra8p};
 use pix::chan::{Ch8, Ch16, Linear, Premultiplied, Srgb, Straight};
 use pix::cmy::{Cmy, Cmy8, Cmy16, Cmya8, Cmya8p, Cmya16, Cmya16p, SCmy8, SCmya8, SCmya8p};

@@ -8,10 +8,9 @@ use pix::rgb::{Rgba8, SRgb8};
 use pix::{Raster, RasterFault};
 use std::alloc::Global;
 
-/// `rgba8 1x1 01020304`: the format and the size of a raster, and the bytes that it is made of;
-/// then perhaps the column and the row of a pixel and its color, which is written there. The
-/// answer is the size and the pixels of the raster, or why there is none, and the bytes that come
-/// back.
+/// `rgba8 1x1 01020304`: the format and the size of a raster, and the bytes that it is made of. The
+/// column, the row and the color of a pixel may follow, which is then written. The answer is the
+/// size and the pixels of the raster, or why there is none, and the bytes that come back.
 pub(crate) fn of_bytes(words: &[&str], alloc: Global) -> Result<String, Flaw> {
     let [format, word, buffer, written @ ..] = words else {
         return Err(Flaw::Count);

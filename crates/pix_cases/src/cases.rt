@@ -1,8 +1,8 @@
 //! The lines of a file of cases.
 //!
-//! A line `class: words -> answer` is a case: the words are parted by spaces, and the class makes
-//! the answer of them. A line `== TEXT`
-//! is the heading of those below it, and a line that begins with `#` is a comment.
+//! A line `class: words -> answer` is a case. The words are separated by spaces, and the class
+//! makes the answer from them. A line `== TEXT` is the heading of those below it, and a line that
+//! starts with `#` is a comment.
 use crate::classes::answer;
 use crate::flaw::Flaw;
 use std::alloc::Global;

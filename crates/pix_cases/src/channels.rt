@@ -23,7 +23,7 @@ pub(crate) fn arithmetic(words: &[&str], alloc: Global) -> Result<String, Flaw> 
     Ok(format!(in alloc; "{made}")?)
 }
 
-/// The number of what is computed of channels.
+/// The number of the result of an operation on channels.
 fn computed<C: Channel>(name: &str, operands: &[&str]) -> Result<u32, Flaw> {
     let made = match operands {
         [n, d] if name == "ratio" => ratio::<C>(number(n)?, number(d)?)?,
@@ -45,7 +45,7 @@ fn computed<C: Channel>(name: &str, operands: &[&str]) -> Result<u32, Flaw> {
     Ok(made.to_u32())
 }
 
-/// The channel nearest to a ratio, of numbers of which twice the sum fits.
+/// The channel nearest to a ratio. Twice the sum of its two numbers has to fit.
 fn ratio<C: Channel>(n: i64, d: i64) -> Result<C, Flaw> {
     if n < 1 << 61 && 0 < d && d < 1 << 61 {
         Ok(C::from_ratio(n, d))

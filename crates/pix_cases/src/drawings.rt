@@ -41,8 +41,8 @@ struct Images {
 }
 
 /// `list 2x1 - ; paint SrcOver 0,0,1,1 40806080`: `list` for one list of all commands or `calls`
-/// for a call of each, the size and the pixels of a raster of premultiplied red, green, blue and
-/// alpha; and after each `;` an image that the commands read or a command:
+/// for a call of each. The size and the pixels of a raster of premultiplied red, green, blue and
+/// alpha follow. After each `;` there is an image that the commands read, or a command:
 ///
 /// - `source SIZE PIXELS`
 /// - `mattes SIZE PIXELS`

@@ -10,8 +10,8 @@ use pix::{Raster, Region};
 use std::alloc::Global;
 use std::mem;
 
-/// `3x1 01,02,03 ; row 0 1,0,9,9`: the size and the pixels of a raster, and behind each `;` what
-/// is done with it:
+/// `3x1 01,02,03 ; row 0 1,0,9,9`: the size and the pixels of a raster, and after each `;` what is
+/// done with it:
 ///
 /// - `source SIZE PIXELS`: the source of copies
 /// - `clear`

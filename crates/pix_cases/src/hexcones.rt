@@ -8,8 +8,8 @@ use pix::rgb::{Rgb, Rgb8, Rgba8, Rgba16};
 use std::alloc::Global;
 
 /// `of_hue 8 255`: the width of a hue, and the hue. `rgb Red 51 128`: a side of the cone with its
-/// weight, and a chroma.
-/// `of_rgb 0 255 0`: red, green and blue, of which hue, chroma and value are made.
+/// weight, and a chroma. `of_rgb 0 255 0`: red, green and blue, from which hue, chroma and value
+/// are made.
 pub(crate) fn computed(words: &[&str], alloc: Global) -> Result<String, Flaw> {
     match words {
         ["of_hue", "8", hue] => named(Hexcone::from_hue(channel::<Ch8>(hue)?), alloc),

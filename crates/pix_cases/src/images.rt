@@ -39,8 +39,8 @@ pub(crate) fn size(word: &str) -> Result<(u32, u32), Flaw> {
     Ok((small(width)?, small(height)?))
 }
 
-/// The raster of a size and its pixels: `-` for clear ones, `*` and a color for one color, else
-/// all of them, parted by commas.
+/// The raster of a size and its pixels: `-` for clear ones, `*` and a color for one color, else all
+/// of them, separated by commas.
 pub(crate) fn image<P: Pixel>(word: &str, pixels: &str, alloc: Global) -> Result<Raster<P>, Flaw> {
     let (width, height) = size(word)?;
     if let Some(color) = pixels.strip_prefix('*') {
@@ -58,7 +58,7 @@ pub(crate) fn image<P: Pixel>(word: &str, pixels: &str, alloc: Global) -> Result
     Ok(raster)
 }
 
-/// The pixels of a word, parted by commas; `-` for none.
+/// The pixels of a word, separated by commas; `-` for none.
 pub(crate) fn all<P: Pixel>(word: &str, alloc: Global) -> Result<Vec<P>, Flaw> {
     let mut pixels = Vec::new(alloc);
     if word == "-" {
@@ -90,7 +90,7 @@ pub(crate) fn picture<P: Pixel>(raster: &Raster<P>, alloc: Global) -> Result<Str
     Ok(format!(in alloc; "{width}x{height} {pixels}")?)
 }
 
-/// Pixels as the hexadecimal digits of their channels, parted by commas; `-` for none.
+/// Pixels as the hexadecimal digits of their channels, separated by commas; `-` for none.
 pub(crate) fn text<P: Pixel>(pixels: &[P], alloc: Global) -> Result<String, Flaw> {
     let mut text = String::new(alloc);
     for pixel in pixels {

@@ -83,7 +83,7 @@ pub(crate) fn table(words: &[&str], alloc: Global) -> Result<String, Flaw> {
     Ok(format!(in alloc; "{entries} {right} {counted}")?)
 }
 
-/// A row of pixels in which so many colors take turns.
+/// A row of pixels in which this many colors take turns.
 fn turns(colors: u32, len: u32, alloc: Global) -> Result<Raster<SRgb8>, Flaw> {
     let mut raster = Raster::with_clear(alloc, len, 1).map_err(|_| Flaw::Memory)?;
     for (i, pixel) in raster.pixels_mut().iter_mut().enumerate() {
@@ -116,8 +116,8 @@ fn sum(counts: &[usize]) -> usize {
     sum
 }
 
-/// `40000`: how many points of an image of 200 columns are drawn on, each by a command of its own
-/// and in a color of its own, which is its number. The answer is whether the text is that of these
+/// `40000`: how many points of an image of 200 columns are drawn on. Each has a command and a color
+/// of its own, and its color is its number. The answer is whether the text is that of these
 /// numbers, or why the script stops.
 pub(crate) fn drawings(words: &[&str], alloc: Global) -> Result<String, Flaw> {
     let [word] = words else {

@@ -1,9 +1,8 @@
 //! Runs the files of cases that its arguments name: each line has a class, words and the answer
 //! that they must have.
 //!
-//! A line that has another answer, or can't be read, is printed with its file, number and heading,
-//! and the exit status is 1 then.
-//! `cases.rt` says what a line is, and `classes.rt` lists the classes.
+//! A line that has another answer, or can't be read, is printed with its file, number and heading.
+//! The exit status is then 1. `cases.rt` says what a line is, and `classes.rt` lists the classes.
 #![tactic(auto)]
 
 mod aliases;

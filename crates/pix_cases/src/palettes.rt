@@ -8,7 +8,7 @@ use pix::{Palette, Raster};
 use std::alloc::Global;
 use std::mem;
 
-/// `8 ; set 0a0a0a ; len`: the limit of a palette, and behind each `;` what is done with it:
+/// `8 ; set 0a0a0a ; len`: the limit of a palette, and after each `;` what is done with it:
 ///
 /// - `threshold NAME`: keeps the function of that name
 /// - `clone`: copies it
@@ -161,7 +161,7 @@ fn counted(palette: &Palette, digits: &[u8], alloc: Global) -> Result<String, Fl
     Ok(format!(in alloc; "{of_bytes} {of_words} {of_numbers}")?)
 }
 
-/// Counts, parted by commas, or `none`.
+/// Counts, separated by commas, or `none`.
 fn counts_text(counts: Option<Vec<usize>>, alloc: Global) -> Result<String, Flaw> {
     let Some(counts) = counts else {
         return Ok(String::from_str(alloc, "none")?);

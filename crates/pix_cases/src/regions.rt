@@ -58,7 +58,7 @@ pub(crate) fn region(word: &str, alloc: Global) -> Result<Region, Flaw> {
 }
 
 /// The region of a word: `all`, `none`, its left and top coordinate, or these with its width and
-/// height, parted by commas; `None` where a side is too long.
+/// height, separated by commas; `None` where a side is too long.
 fn place(word: &str, alloc: Global) -> Result<Option<Region>, Flaw> {
     if word == "all" {
         return Ok(Some(Region::from(())));
@@ -86,7 +86,7 @@ fn side(number: i64) -> Result<u32, Flaw> {
     u32::try_from(number).map_err(|_| Flaw::Number)
 }
 
-/// The left, top, width and height of a region, parted by commas.
+/// The left, top, width and height of a region, separated by commas.
 fn four(region: Region, alloc: Global) -> Result<String, Flaw> {
     let (x, y) = (region.left(), region.top());
     let (width, height) = (region.width(), region.height());

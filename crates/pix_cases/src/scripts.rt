@@ -19,9 +19,9 @@ pub(crate) fn script(words: &[&str], alloc: Global) -> Result<String, Flaw> {
     }
 }
 
-/// The bytes of a text in quotes, whose words are parted by single spaces. There `\n`, `\r`, `\t`
-/// and `\x` with two hexadecimal digits are one byte each: line feed, carriage return, tabulator,
-/// and the byte of that number.
+/// The bytes of a text in quotes, whose words are separated by single spaces. There `\n`, `\r`,
+/// `\t` and `\x` with two hexadecimal digits are one byte each: line feed, carriage return,
+/// tabulator, and the byte of that number.
 fn unquoted(words: &[&str], alloc: Global) -> Result<Vec<u8>, Flaw> {
     let mut text = String::new(alloc);
     for (place, word) in words.iter().enumerate() {

@@ -64,7 +64,7 @@ pub(crate) fn hexadecimal(bytes: &[u8], alloc: Global) -> Result<String, Flaw> {
     Ok(text)
 }
 
-/// The region of a word: `all`, or its left and top coordinate, width and height, parted by
+/// The region of a word: `all`, or its left and top coordinate, width and height, separated by
 /// commas.
 pub(crate) fn region(word: &str, alloc: Global) -> Result<Region, Flaw> {
     if word == "all" {

@@ -92,8 +92,8 @@ fn hue_at<C: Channel>(n: u64, chroma: u64) -> C
 }
 
 /// Returns the hue after a turn of `n` / (6 * `chroma`) of the circle, 0 where the chroma is 0. At
-/// eight bits it multiplies by a reciprocal in place of a division, and at sixteen it divides 32
-/// bits: a third of the maximum times `n`, and half of that, fit.
+/// eight bits it multiplies by a reciprocal instead of dividing. At sixteen it divides numbers of
+/// 32 bits: a third of the maximum times `n`, and half of that, fit.
 ///
 /// Condition: the chroma is a channel's, and that part is at most 1.
 #[inline(always)]

@@ -41,7 +41,7 @@ pub fn run<
 }
 
 /// Runs `commands` in order on the window of a picture in `pixels`, of that width, height and
-/// stride, whose first pixel lies at the point (`left`, `top`) of the picture.
+/// stride. Its first pixel lies at the point (`left`, `top`) of the picture.
 ///
 /// Returns what [`run`] does, and also [`BAD_SIZE`] where the window ends past the limit.
 pub fn run_window<

@@ -2,8 +2,8 @@
 //! pictures in another format, sprites, photographs in light, scripts, and tables of colors.
 //!
 //! Three arguments say what is done: the name of a job, `whole` or `small`, and the seed of its
-//! inputs. A line is printed with the name and a digest of all results. For `all` each job is done.
-//! Each part of the tables has a name as a job too.
+//! inputs. A line is printed with the name and a digest of all results. `all` does each job. Each
+//! part of the tables is a job with a name too.
 #![tactic(auto)]
 
 mod convert;

@@ -125,8 +125,8 @@ pub(crate) fn colors(alloc: Global, count: u32, random: &mut Random) -> Option<V
     Some(colors)
 }
 
-/// Makes a drawing: runs of up to so many pixels of one of the colors. Condition: there are colors,
-/// and runs.
+/// Makes a drawing: runs of pixels of one of the colors, up to a length. Condition: there are
+/// colors, and runs.
 pub(crate) fn drawing(
     alloc: Global,
     width: u32,

@@ -174,8 +174,8 @@ pub fn fill_window<D, F: Fill<D>>(pixels: &mut [D], window: Window, reg: Region,
 /// the point that it is paired with, as in [`Raster::copy_raster`](crate::Raster::copy_raster). No
 /// other pixel changes.
 ///
-/// Condition: both shapes are as the docs of their fields say, the rows of the image lie in
-/// `pixels` and those of the source in `src`, and the change suits both formats.
+/// Condition: both shapes are as the docs of their fields say. The rows of the image lie in
+/// `pixels`, and those of the source in `src`. The change suits both formats.
 pub fn blit_region<D, S, B: Blit<D, S>>(
     pixels: &mut [D],
     shape: Shape,

@@ -62,8 +62,8 @@ impl<P: Pixel> Raster<P> {
     ///
     /// # Errors
     ///
-    /// `WidthTooBig`, `HeightTooBig` or `TooBig`, the first that applies; `Memory` on allocation
-    /// failure, and never for a raster without points.
+    /// The first of `WidthTooBig`, `HeightTooBig` and `TooBig` that applies, or `Memory` on
+    /// allocation failure. A raster without points needs no memory.
     ///
     /// # Examples
     ///
@@ -89,8 +89,8 @@ impl<P: Pixel> Raster<P> {
     ///
     /// # Errors
     ///
-    /// `WidthTooBig`, `HeightTooBig` or `TooBig`, the first that applies; `Memory` on allocation
-    /// failure, and never for a raster without points.
+    /// The first of `WidthTooBig`, `HeightTooBig` and `TooBig` that applies, or `Memory` on
+    /// allocation failure. A raster without points needs no memory.
     ///
     /// # Examples
     ///

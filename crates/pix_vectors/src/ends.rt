@@ -53,9 +53,9 @@ fn lies_in(start: i32, len: u32, at: i64) -> bool {
     start <= at && at < (start + i64::from(len)).min(2147483647)
 }
 
-/// The number in a source that is paired with a number in a destination: the one at the same
-/// offset. The offset is at least 0 and below both lengths, and both numbers lie in their regions
-/// and rasters.
+/// The number in a source of two that is paired with a number in a destination of two: the one at
+/// the same offset. The offset is at least 0 and below both lengths, and both numbers lie in their
+/// regions and rasters.
 fn paired(axis: Axis, at: i32) -> Option<i64> {
     let offset = i64::from(at) - i64::from(axis.to);
     let there = i64::from(axis.from) + offset;

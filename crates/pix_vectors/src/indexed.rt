@@ -97,7 +97,7 @@ fn colliding_colors(alloc: Global) -> Result<Raster<SRgb8>, RasterFault> {
 }
 
 /// Whether the image is as large as the raster, and its values are the indices that setting the
-/// colors one by one answers.
+/// colors one by one returns.
 fn are_set_one_by_one(
     palette: &mut Palette,
     raster: &Raster<SRgb8>,

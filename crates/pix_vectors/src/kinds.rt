@@ -1,4 +1,4 @@
-//! The numbers by which color models, alpha modes and gamma modes are told from one another.
+//! The numbers that tell color models, alpha modes and gamma modes apart.
 use pix::ColorModel;
 use pix::bgr::Bgr;
 use pix::chan::{Alpha, Ch8, Ch16, Channel, Gamma, Linear, Premultiplied, Srgb, Straight};

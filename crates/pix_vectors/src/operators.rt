@@ -4,7 +4,7 @@ ghost use Rattle.std.specs.Prelude.{◌<◌};
 use pix::chan::{Ch8, Channel};
 use pix::ops::Op;
 
-/// The coefficient of one side of a composite: `Alpha` and `OneMinusAlpha` are by the other side's
+/// The coefficient of one side of a composite: `Alpha` and `OneMinusAlpha` use the other side's
 /// alpha.
 #[derive(Clone, Copy)]
 pub(crate) enum Coefficient {

@@ -1,4 +1,4 @@
-//! Slices of all lengths around four and sixteen, which go by runs, compared with the composites of
+//! Slices of all lengths around four and sixteen, which go in runs, compared with the composites of
 //! single pixels.
 ghost use Rattle.std.specs.Prelude.{◌≡◌, ◌≤◌, ◌+◌};
 
@@ -81,7 +81,7 @@ where
     Ok(())
 }
 
-/// Asserts that a color is composited with so many pixels as with each of them.
+/// Asserts that a color is composited with this many pixels as with each of them.
 fn assert_color<P, O: Blend>(
     rt: &impl Abort,
     alloc: Global,
@@ -107,7 +107,7 @@ where
     Ok(())
 }
 
-/// Asserts that a color is composited through these mattes with so many pixels as with each of
+/// Asserts that a color is composited through these mattes with this many pixels as with each of
 /// them.
 fn assert_mattes<P, O: Blend>(
     rt: &impl Abort,
@@ -138,8 +138,8 @@ where
     Ok(())
 }
 
-/// Asserts that a color is composited through the first so many of these mattes, for all lengths,
-/// as with each pixel.
+/// Asserts that a color is composited through the first of these mattes, for all lengths, as with
+/// each pixel.
 fn assert_matted_lengths<P>(
     rt: &impl Abort,
     alloc: Global,

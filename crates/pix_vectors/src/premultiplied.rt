@@ -1,5 +1,5 @@
-//! Slices of straight pixels converted to premultiplied ones, of lengths around the blocks by which
-//! they go, against a plain rule.
+//! Slices of straight pixels converted to premultiplied ones, of lengths around those of the
+//! blocks, against a plain rule.
 use pix::el::Pixel;
 use pix::rgb::{Rgba8p, Rgba16, Rgba16p, SRgba8};
 use std::test::Fail;
@@ -7,7 +7,7 @@ use std::test::Fail;
 /// The lengths of the slices.
 const LENGTHS: [usize; 13] = [0, 1, 2, 3, 4, 5, 8, 63, 64, 65, 127, 128, 150];
 
-/// Channels by the sRGB curve, and the linear channels nearest to those that they encode.
+/// Channels on the sRGB curve, and the linear channels nearest to those that they encode.
 const CURVE: [(u8, u8); 8] = [
     (0, 0),
     (30, 3),

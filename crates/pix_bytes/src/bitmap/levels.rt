@@ -1,5 +1,5 @@
-//! Pixels of light, of colors multiplied by an alpha in 16 bits, as sRGB of red, green, blue and
-//! alpha, or blue, green, red and alpha, four at a time.
+//! Pixels of light as sRGB, four at a time. The light has 16 bits, and its colors are multiplied by
+//! an alpha. The sRGB has red, green, blue and alpha, or blue, green, red and alpha.
 //!
 //! Where not all four are opaque, their colors are divided by the alphas. Where the alphas come
 //! from eight bits this is done for all at once, and else one by one.

@@ -11,7 +11,7 @@ use std::alloc::Global;
 /// How many colors a tile has.
 const COLORS: usize = 9;
 
-/// Indexes tiles by a palette of so many colors by chance.
+/// Indexes tiles with a palette of a number of random colors.
 pub(crate) fn by_chance(
     alloc: Global,
     count: u32,

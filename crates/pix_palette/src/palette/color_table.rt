@@ -169,7 +169,7 @@ impl ColorTable {
     ///
     /// # Errors
     ///
-    /// `Memory` on allocation failure; the table is unchanged.
+    /// `Memory` on allocation failure. The table is unchanged.
     ///
     /// # Examples
     ///

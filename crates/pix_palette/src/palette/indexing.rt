@@ -21,15 +21,15 @@ use pix_table::Cache;
 use std::alloc::Global;
 
 impl Palette {
-    /// Makes a raster of indices: from left to right and row by row, the color of each pixel is
-    /// set, and the value of the pixel at its place is its index. Returns `None` at the first pixel
-    /// whose color can't be set or whose index is above 255; the entries that were added stay, one
-    /// for this pixel included.
+    /// Makes a raster of indices. From left to right and row by row the color of each pixel is set,
+    /// and its index is the value of the new pixel at its place. Returns `None` at the first pixel
+    /// whose color can't be set or whose index is above 255. The entries that were added stay, also
+    /// one for this pixel.
     ///
     /// # Errors
     ///
-    /// `Memory` on allocation failure, with the raster; it comes first, and the palette is
-    /// unchanged.
+    /// `Memory` on allocation failure, with the raster. It comes before any other answer, and the
+    /// palette is unchanged.
     ///
     /// # Examples
     ///
@@ -65,15 +65,15 @@ impl Palette {
         self.index_raster(alloc, raster)
     }
 
-    /// Makes a raster of indices: from left to right and row by row, the color of each pixel is
-    /// set, and the value of the pixel at its place is its index. Returns `None` at the first pixel
-    /// whose color can't be set or whose index is above 65535; the entries that were added stay,
-    /// one for this pixel included.
+    /// Makes a raster of indices. From left to right and row by row the color of each pixel is set,
+    /// and its index is the value of the new pixel at its place. Returns `None` at the first pixel
+    /// whose color can't be set or whose index is above 65535. The entries that were added stay,
+    /// also one for this pixel.
     ///
     /// # Errors
     ///
-    /// `Memory` on allocation failure, with the raster; it comes first, and the palette is
-    /// unchanged.
+    /// `Memory` on allocation failure, with the raster. It comes before any other answer, and the
+    /// palette is unchanged.
     ///
     /// # Examples
     ///
@@ -176,8 +176,8 @@ impl Palette {
     ///
     /// # Errors
     ///
-    /// `Memory` on allocation failure, with the raster; it comes first, and the palette is
-    /// unchanged.
+    /// `Memory` on allocation failure, with the raster. It comes before any other answer, and the
+    /// palette is unchanged.
     fn index_raster<S, P>(
         &mut self,
         alloc: Global,

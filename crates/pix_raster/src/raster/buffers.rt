@@ -17,8 +17,8 @@ impl<P: Pixel> Raster<P> {
     ///
     /// # Errors
     ///
-    /// `WidthTooBig`, `HeightTooBig`, `TooBig`, or `WrongLength` where there are more or fewer
-    /// pixels: the first that applies. The pixels are handed back.
+    /// The first of these that applies: `WidthTooBig`, `HeightTooBig`, `TooBig`, or `WrongLength`
+    /// where there are more or fewer pixels. The pixels are handed back.
     ///
     /// # Examples
     ///
@@ -138,9 +138,9 @@ where
     ///
     /// # Errors
     ///
-    /// `WidthTooBig`, `HeightTooBig`, `TooBig`, `EmptyBuffer` where width or height is 0, or
-    /// `WrongLength` where there are more or fewer bytes than channels: the first that applies;
-    /// else `Memory` on allocation failure. The bytes are handed back.
+    /// The first of these that applies: `WidthTooBig`, `HeightTooBig`, `TooBig`, `EmptyBuffer`
+    /// where width or height is 0, `WrongLength` where there are more or fewer bytes than channels,
+    /// or `Memory` on allocation failure. The bytes are handed back.
     ///
     /// # Examples
     ///
@@ -174,7 +174,7 @@ where
     ///
     /// # Errors
     ///
-    /// `Memory` on allocation failure; the raster is handed back.
+    /// `Memory` on allocation failure. The raster is handed back.
     ///
     /// # Examples
     ///
@@ -234,9 +234,9 @@ where
     ///
     /// # Errors
     ///
-    /// `WidthTooBig`, `HeightTooBig`, `TooBig`, `EmptyBuffer` where width or height is 0, or
-    /// `WrongLength` where there are more or fewer words than channels: the first that applies;
-    /// else `Memory` on allocation failure. The words are handed back.
+    /// The first of these that applies: `WidthTooBig`, `HeightTooBig`, `TooBig`, `EmptyBuffer`
+    /// where width or height is 0, `WrongLength` where there are more or fewer words than channels,
+    /// or `Memory` on allocation failure. The words are handed back.
     ///
     /// # Examples
     ///
@@ -270,7 +270,7 @@ where
     ///
     /// # Errors
     ///
-    /// `Memory` on allocation failure; the raster is handed back.
+    /// `Memory` on allocation failure. The raster is handed back.
     ///
     /// # Examples
     ///

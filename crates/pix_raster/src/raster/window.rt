@@ -235,8 +235,8 @@ fn visit_masked<
     }
 }
 
-/// Changes the region `to` of a picture by the region `from` of a raster and the region `mask_from`
-/// of a raster of mattes, in those points that lie in the window.
+/// Changes the region `to` of a picture in those points that lie in the window. It reads the region
+/// `from` of a raster and the region `mask_from` of a raster of mattes.
 pub(super) fn masked_from<D, S, M, B: MaskedBlit<D, S, M>>(
     pixels: &mut [D],
     window: Window,
