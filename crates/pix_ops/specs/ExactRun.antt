@@ -78,9 +78,9 @@ pub record Budget : Type 0 where
 abbrev pub both : ℕ → Budget
 both n = record { channel = n; alpha = n }
 
--- The budgets after a composite of so many products: a channel keeps its budget unless the
--- destination's coefficient is zero, and the alpha's is added where the source's reads it; the
--- alpha keeps its budget where either holds.
+-- The budgets after a composite of `count` products. A channel keeps its budget unless the
+-- destination's coefficient is zero, and the alpha's budget is added where the source's reads it.
+-- The alpha keeps its budget where either holds.
 abbrev pub composite_budget : Op → ℕ → Budget → Budget
 composite_budget op count budget = record {
   channel = count + enters (row op).dest * budget.channel + reads (row op).source * budget.alpha;

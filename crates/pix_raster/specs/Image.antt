@@ -2,8 +2,8 @@
 use Rattle.std.specs.Prelude.{◌≡◌, ℕ, ◌+◌, ◌*◌, ◌<◌, ℤ, pos, ◌≤ℤ◌, ◌<ℤ◌, List, [], map, slice_index_or}
 use Rattle.pix_raster.specs.Region.{Rectangle, right, bottom, whole}
 
--- an image: the pixel of the point (x, y), for x < width and y < height, is in its list at place y
--- * width + x
+-- an image: the pixel of the point (x, y), for x < width and y < height, is in its list at place
+-- y * width + x
 pub record Image (P : Type 0) : Type 0 where
   pub width : ℕ
   pub height : ℕ
