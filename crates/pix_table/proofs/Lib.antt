@@ -26,3 +26,4 @@ pub mod OneAnswer
 pub mod ColorBlockLemmas
 pub mod SpanLemmas
 pub mod BitLemmas
+pub mod Quotients

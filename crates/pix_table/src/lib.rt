@@ -27,6 +27,7 @@ mod set;
 mod sixteen;
 mod table_blocks;
 mod threshold;
+mod weight;
 mod word;
 
 pub use crate::block_spans::BlockSpans;
