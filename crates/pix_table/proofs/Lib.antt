@@ -7,6 +7,10 @@ pub mod BoxSpans
 pub mod Sixteens
 pub mod Parts
 pub mod CutBoxes
+pub mod SumLemmas
+pub mod BoxSumLemmas
+pub mod PlaceLemmas
+pub mod PlaceSteps
 pub mod Distinct
 pub mod Rows
 pub mod Diffused

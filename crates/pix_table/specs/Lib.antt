@@ -3,6 +3,8 @@ pub mod Boxes
 pub mod LookUp
 pub mod Packing
 pub mod Cut
+pub mod Places
+pub mod BestPlaces
 pub mod Span
 pub mod Spans
 pub mod From

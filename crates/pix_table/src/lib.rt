@@ -6,6 +6,7 @@
 
 mod block_spans;
 mod box_place;
+mod box_sums;
 mod boxes;
 mod chosen;
 mod color;
@@ -21,6 +22,7 @@ mod lanes;
 mod look;
 mod matcher;
 mod nearest_search;
+mod place;
 mod row;
 mod search;
 mod set;

@@ -1,0 +1,225 @@
+-- The sums of a box, of its colors of each value of a channel, and of those below a value.
+use Rattle.std.proofs.Common.{◌≡◌, ℕ, zero, suc, ◌+◌, ◌-◌, ◌*◌, ◌<◌, ◌≤◌, Bool, true, false, cond, List, [], ◌∷◌, ◌++◌, length, set, replicate, get_or, nat_eq, sum_by, All, refl, arith, sym, ap, ap₂, ◌∙◌, subst, inl, inr, lt-ltb, le-ltb, eq-eqb, ne_eqb, length-set}
+use Rattle.std.proofs.lemmas.Bool.{cases_eq}
+use Rattle.std.proofs.lemmas.List.{get_or-set_same, get_or-set_other, get_or-replicate, length-replicate}
+use Rattle.std.proofs.lemmas.List.Sums.{sum_by_push}
+use Rattle.std.proofs.lemmas.Nat.{mul-le}
+use Rattle.std.proofs.Math.Nat.{div-le_of_le-mul}
+use Rattle.pix_table.specs.Nearest.{numbers}
+use Rattle.pix_table.specs.Places.{IsCut, below, gain, sum_in, weight}
+use Rattle.pix_table.specs.BestPlaces.{AreByValue, AreBytes, ArePart, AreSums, CanCut, gain_at, high_weight, is_at, is_below, low_weight, sum_of, weight_by}
+use Rattle.pix_table.specs.declared.box_sums.Sums.{Sums}
+use Rattle.pix_table.specs.declared.color.Color.{Color}
+use Rattle.pix_table.proofs.SumLemmas.{sum_next, sum_zero, sum_few, rest_few, sum_le, sum_all, length_sum, sum_parted, sum_both}
+
+pub color_bytes : (p : Color) → p.red ≤ 255 → p.green ≤ 255 → p.blue ≤ 255 → AreBytes (numbers p)
+color_bytes p r g b zero = r
+color_bytes p r g b (suc zero) = g
+color_bytes p r g b (suc (suc zero)) = b
+color_bytes p r g b (suc (suc (suc k))) = omega arith
+
+-- the numbers of a channel
+bytes_in : (box : List (List ℕ)) (k : ℕ) → All AreBytes box → All (λ c. get_or c k 0 ≤ 255) box
+bytes_in box k h = λ j d inside. h j d inside k
+
+-- the sums with a color more that passes, and with one that doesn't
+push_true : (p : List ℕ → Bool) (f : List ℕ → ℕ) (box : List (List ℕ)) (c : List ℕ) → p c ≡ true
+    → sum_of p f (box ++ c ∷ []) ≡ sum_of p f box + f c
+push_true p f box c e =
+    sum_by_push (λ x. cond (p x) (f x) 0) box c ∙ ap (λ b. sum_of p f box + cond b (f c) 0) e
+
+push_false : (p : List ℕ → Bool) (f : List ℕ → ℕ) (box : List (List ℕ)) (c : List ℕ) → p c ≡ false
+    → sum_of p f box ≡ sum_of p f (box ++ c ∷ [])
+push_false p f box c e =
+    let same : sum_of p f (box ++ c ∷ []) ≡ sum_of p f box + 0 =
+    sum_by_push (λ x. cond (p x) (f x) 0) box c ∙ ap (λ b. sum_of p f box + cond b (f c) 0) e in
+    omega (arith, same)
+
+sums_more : (p : List ℕ → Bool) (box : List (List ℕ)) (c : Color) (old new : Sums) → p (numbers c) ≡ true → AreSums p box old
+    → new.count ≡ old.count + 1 → new.red ≡ old.red + c.red → new.green ≡ old.green + c.green → new.blue ≡ old.blue + c.blue
+    → AreSums p (box ++ numbers c ∷ []) new
+sums_more p box c old new e h count red green blue = record {
+  count = omega (arith, count, h.count, push_true p (λ x. 1) box (numbers c) e);
+  red = omega (arith, red, h.red, push_true p (λ x. get_or x 0 0) box (numbers c) e);
+  green = omega (arith, green, h.green, push_true p (λ x. get_or x 1 0) box (numbers c) e);
+  blue = omega (arith, blue, h.blue, push_true p (λ x. get_or x 2 0) box (numbers c) e);
+}
+
+sums_same : (p : List ℕ → Bool) (box : List (List ℕ)) (c : Color) (sums : Sums) → p (numbers c) ≡ false → AreSums p box sums
+    → AreSums p (box ++ numbers c ∷ []) sums
+sums_same p box c sums e h = record {
+  count = h.count ∙ push_false p (λ x. 1) box (numbers c) e;
+  red = h.red ∙ push_false p (λ x. get_or x 0 0) box (numbers c) e;
+  green = h.green ∙ push_false p (λ x. get_or x 1 0) box (numbers c) e;
+  blue = h.blue ∙ push_false p (λ x. get_or x 2 0) box (numbers c) e;
+}
+
+-- the sums of each value, with one color more
+pub by_value_more : (k v : ℕ) (box more : List (List ℕ)) (parts : List Sums) (c : Color) (old new : Sums) → more ≡ box ++ numbers c ∷ []
+    → AreByValue k box parts → v ≡ get_or (numbers c) k 0 → v < 256 → old ≡ get_or parts v old
+    → new.count ≡ old.count + 1 → new.red ≡ old.red + c.red → new.green ≡ old.green + c.green → new.blue ≡ old.blue + c.blue
+    → AreByValue k more (set parts v new)
+by_value_more k v box more parts c old new grown h e small read count red green blue = record {
+  many = length-set parts v new ∙ h.many;
+  each = λ w d inside. subst (λ l. AreSums (is_at k w) l (get_or (set parts v new) w d)) (sym grown) (elim (cases_eq w v) [
+    | inl same ↦
+        let here : nat_eq (get_or (numbers c) k 0) w ≡ true = eq-eqb (get_or (numbers c) k 0) w (omega (arith, e, same)) in
+        let before : AreSums (is_at k w) box old = subst (λ j. AreSums (is_at k j) box old) (sym same)
+        (subst (AreSums (is_at k v) box) (sym read) (h.each v old small)) in
+        let there : get_or (set parts v new) w d ≡ new = ap (λ j. get_or (set parts v new) j d) same ∙ get_or-set_same parts v new d (omega (arith, h.many, small)) in
+        subst (AreSums (is_at k w) (box ++ numbers c ∷ [])) (sym there) (sums_more (is_at k w) box c old new here before count red green blue)
+    | inr apart ↦
+        let other : nat_eq (get_or (numbers c) k 0) w ≡ false = ne_eqb (get_or (numbers c) k 0) w (λ eq. apart (omega (arith, e, eq))) in
+        subst (AreSums (is_at k w) (box ++ numbers c ∷ [])) (sym (get_or-set_other parts v w new d apart))
+        (sums_same (is_at k w) box c (get_or parts w d) other (h.each w d inside))
+  ]);
+}
+
+-- at first there is no color
+pub by_value_none : (k : ℕ) (none : Sums) → none.count ≡ 0 → none.red ≡ 0 → none.green ≡ 0 → none.blue ≡ 0
+    → AreByValue k [] (replicate 256 none)
+by_value_none k none count red green blue = record {
+  many = length-replicate 256 none;
+  each = λ w d inside. subst (AreSums (is_at k w) []) (sym (get_or-replicate 256 w none d inside))
+      (record { count = count; red = red; green = green; blue = blue });
+}
+
+-- the sums of the colors below a value
+pub below_none : (k : ℕ) (box : List (List ℕ)) (none : Sums) → none.count ≡ 0 → none.red ≡ 0 → none.green ≡ 0 → none.blue ≡ 0
+    → AreSums (is_below k 0) box none
+below_none k box none count red green blue = record {
+  count = omega (arith, count, sum_zero k (λ x. 1) box);
+  red = omega (arith, red, sum_zero k (λ x. get_or x 0 0) box);
+  green = omega (arith, green, sum_zero k (λ x. get_or x 1 0) box);
+  blue = omega (arith, blue, sum_zero k (λ x. get_or x 2 0) box);
+}
+
+pub below_more : (k v : ℕ) (box : List (List ℕ)) (low part new : Sums) → AreSums (is_below k v) box low → AreSums (is_at k v) box part
+    → new.count ≡ low.count + part.count → new.red ≡ low.red + part.red → new.green ≡ low.green + part.green
+    → new.blue ≡ low.blue + part.blue → AreSums (is_below k (v + 1)) box new
+below_more k v box low part new h g count red green blue = record {
+  count = omega (arith, count, h.count, g.count, sum_next k v (λ x. 1) box);
+  red = omega (arith, red, h.red, g.red, sum_next k v (λ x. get_or x 0 0) box);
+  green = omega (arith, green, h.green, g.green, sum_next k v (λ x. get_or x 1 0) box);
+  blue = omega (arith, blue, h.blue, g.blue, sum_next k v (λ x. get_or x 2 0) box);
+}
+
+-- the same, where the sums of the value stand at its place
+pub part_at : (k v j : ℕ) (box : List (List ℕ)) (parts : List Sums) (d : Sums) → AreByValue k box parts → j ≡ v → v < 256
+    → AreSums (is_at k v) box (get_or parts j d)
+part_at k v j box parts d h e small = subst (λ i. AreSums (is_at k v) box (get_or parts i d)) (sym e) (h.each v d small)
+
+pub below_next : (k v j : ℕ) (box : List (List ℕ)) (parts : List Sums) (d low new : Sums) → AreByValue k box parts → j ≡ v → v < 256
+    → AreSums (is_below k v) box low → new.count ≡ low.count + (get_or parts j d).count → new.red ≡ low.red + (get_or parts j d).red
+    → new.green ≡ low.green + (get_or parts j d).green → new.blue ≡ low.blue + (get_or parts j d).blue → AreSums (is_below k (v + 1)) box new
+below_next k v j box parts d low new h e small before count red green blue =
+    below_more k v box low (get_or parts j d) new before (part_at k v j box parts d h e small) count red green blue
+
+-- all colors are below 256
+pub below_all : (k : ℕ) (box : List (List ℕ)) (all : Sums) → All AreBytes box → AreSums (is_below k 256) box all → AreSums (λ c. true) box all
+below_all k box all bytes h =
+    let each : All (λ c. is_below k 256 c ≡ true) box = (λ j d inside. lt-ltb _ 256 (omega (arith, bytes j d inside k))) in
+    record {
+      count = h.count ∙ sum_all (is_below k 256) (λ x. 1) box each;
+      red = h.red ∙ sum_all (is_below k 256) (λ x. get_or x 0 0) box each;
+      green = h.green ∙ sum_all (is_below k 256) (λ x. get_or x 1 0) box each;
+      blue = h.blue ∙ sum_all (is_below k 256) (λ x. get_or x 2 0) box each;
+    }
+
+-- sums are few
+pub are_few : (p : List ℕ → Bool) (box : List (List ℕ)) (sums : Sums) → All AreBytes box → AreSums p box sums
+    → (sums.red ≤ 255 * sums.count) × (sums.green ≤ 255 * sums.count) × (sums.blue ≤ 255 * sums.count)
+are_few p box sums bytes h = (
+  omega (arith, h.count, h.red, sum_few p (λ x. get_or x 0 0) box (bytes_in box 0 bytes)),
+  omega (arith, h.count, h.green, sum_few p (λ x. get_or x 1 0) box (bytes_in box 1 bytes)),
+  omega (arith, h.count, h.blue, sum_few p (λ x. get_or x 2 0) box (bytes_in box 2 bytes)),
+)
+
+pub both_few : (p q : List ℕ → Bool) (box : List (List ℕ)) (s t : Sums) → All AreBytes box → AreSums p box s → AreSums q box t
+    → (s.red + t.red ≤ 255 * (s.count + t.count)) × (s.green + t.green ≤ 255 * (s.count + t.count)) × (s.blue + t.blue ≤ 255 * (s.count + t.count))
+both_few p q box s t bytes h g =
+    let one = are_few p box s bytes h in
+    let two = are_few q box t bytes g in
+    (omega (arith, one.0, two.0), omega (arith, one.1, two.1), omega (arith, one.2, two.2))
+
+pub count_few : (p : List ℕ → Bool) (box : List (List ℕ)) (sums : Sums) → AreSums p box sums → sums.count ≤ length box
+count_few p box sums h = omega (arith, h.count, sum_le p (λ x. 1) box, length_sum box)
+
+pub are_part : (p : List ℕ → Bool) (box : List (List ℕ)) (low all : Sums) → All AreBytes box → AreSums p box low → AreSums (λ c. true) box all
+    → 0 < low.count → low.count < all.count → ArePart low all
+are_part p box low all bytes h whole some others =
+    let few = are_few p box low bytes h in
+    let long : all.count ≡ length box = whole.count ∙ length_sum box in
+    let r : all.red ≡ sum_by (λ x. get_or x 0 0) box = whole.red in
+    let g : all.green ≡ sum_by (λ x. get_or x 1 0) box = whole.green in
+    let b : all.blue ≡ sum_by (λ x. get_or x 2 0) box = whole.blue in
+    record {
+      some = some;
+      others = others;
+      red = omega (arith, h.red, r, sum_le p (λ x. get_or x 0 0) box);
+      green = omega (arith, h.green, g, sum_le p (λ x. get_or x 1 0) box);
+      blue = omega (arith, h.blue, b, sum_le p (λ x. get_or x 2 0) box);
+      low_red = few.0;
+      low_green = few.1;
+      low_blue = few.2;
+      high_red = omega (arith, h.count, h.red, r, long, rest_few p (λ x. get_or x 0 0) box (bytes_in box 0 bytes));
+      high_green = omega (arith, h.count, h.green, g, long, rest_few p (λ x. get_or x 1 0) box (bytes_in box 1 bytes));
+      high_blue = omega (arith, h.count, h.blue, b, long, rest_few p (λ x. get_or x 2 0) box (bytes_in box 2 bytes));
+    }
+
+-- equal sums weigh as much
+weigh_same : (n r g b m x y z : ℕ) → n ≡ m → r ≡ x → g ≡ y → b ≡ z → weight_by n r g b ≡ weight_by m x y z
+weigh_same n r g b m x y z e f h i = rw (e, f, h, i) refl
+
+pub whole_weight : (box : List (List ℕ)) (all : Sums) → AreSums (λ c. true) box all → weight_by all.count all.red all.green all.blue ≡ weight box
+whole_weight box all h =
+    weigh_same all.count all.red all.green all.blue (length box) (sum_in 0 box) (sum_in 1 box) (sum_in 2 box) (h.count ∙ length_sum box) h.red h.green h.blue
+
+-- what few colors weigh is little
+pub weight_few : (n r g b : ℕ) → r ≤ 255 * n → g ≤ 255 * n → b ≤ 255 * n → weight_by n r g b ≤ 195075 * n
+weight_few n r g b red green blue =
+    div-le_of_le-mul n (omega (
+      arith,
+      mul-le r r (255 * n) (255 * n) red red,
+      mul-le g g (255 * n) (255 * n) green green,
+      mul-le b b (255 * n) (255 * n) blue blue,
+    ))
+
+-- what a cut of the box gains, by its sums
+pub gain_same : (k v : ℕ) (box : List (List ℕ)) (low all : Sums) (whole : ℕ) → AreSums (is_below k v) box low → AreSums (λ c. true) box all
+    → whole ≡ weight box
+    → weight_by low.count low.red low.green low.blue
+    + weight_by (all.count - low.count) (all.red - low.red) (all.green - low.green) (all.blue - low.blue) - whole ≡ gain_at k v box
+gain_same k v box low all whole h g e =
+    let long : all.count ≡ length box = g.count ∙ length_sum box in
+    ap₂ (λ x y. x + y - whole) (weigh_same low.count low.red low.green low.blue _ _ _ _ h.count h.red h.green h.blue)
+    (weigh_same (all.count - low.count) (all.red - low.red) (all.green - low.green) (all.blue - low.blue) _ _ _ _
+    (ap₂ (λ x y. x - y) long h.count) (ap₂ (λ x y. x - y) g.red h.red) (ap₂ (λ x y. x - y) g.green h.green) (ap₂ (λ x y. x - y) g.blue h.blue))
+    ∙ ap (λ w. low_weight k v box + high_weight k v box - w) e
+
+-- the sums of a cut's parts
+module _ (box : List (List ℕ)) (k v : ℕ) (low high : List (List ℕ)) (h : IsCut box k v low high) where
+  low_sum : (f : List ℕ → ℕ) → sum_of (is_below k v) f box ≡ sum_by f low
+  low_sum f =
+      sum_parted (is_below k v) f box low high h.all (λ j d inside. lt-ltb _ v (h.below j d inside)) (λ j d inside. le-ltb _ v (h.others j d inside))
+
+  high_sum : (f : List ℕ → ℕ) → sum_by f box - sum_of (is_below k v) f box ≡ sum_by f high
+  high_sum f = omega (arith, low_sum f, sum_both f box low high h.all)
+
+  low_length : below k v box ≡ length low
+  low_length = low_sum (λ x. 1) ∙ length_sum low
+
+  high_length : length box - below k v box ≡ length high
+  high_length = omega (arith, high_sum (λ x. 1), length_sum box, length_sum high)
+
+  pub cut_can : CanCut box k v
+  cut_can = record {
+    stands = h.stands;
+    some_below = omega (arith, low_length, h.some_below);
+    some_others = omega (arith, high_length, h.some_others);
+  }
+
+  pub cut_gain : gain_at k v box ≡ gain box low high
+  cut_gain = ap₂ (λ x y. x + y - weight box)
+      (weigh_same _ _ _ _ (length low) (sum_in 0 low) (sum_in 1 low) (sum_in 2 low) low_length (low_sum (λ x. get_or x 0 0)) (low_sum (λ x. get_or x 1 0)) (low_sum (λ x. get_or x 2 0)))
+      (weigh_same _ _ _ _ (length high) (sum_in 0 high) (sum_in 1 high) (sum_in 2 high) high_length (high_sum (λ x. get_or x 0 0)) (high_sum (λ x. get_or x 1 0)) (high_sum (λ x. get_or x 2 0)))

@@ -1,0 +1,108 @@
+-- Of `best_in`: that the sums are few, that the invariant of its loop over `value` holds, and its clause at each return.
+use Rattle.std.proofs.Common.{◌≡◌, ◌+◌, ◌*◌, ◌≤◌, ◌∙◌, arith, sym, map, length, get_or}
+use Rattle.pix_table.specs.Nearest.{numbers}
+use Rattle.pix_table.specs.Places.{weight}
+use Rattle.pix_table.specs.BestPlaces.{AreSums, gain_at, is_below}
+use Rattle.pix_table.specs.declared.box_sums.Sums.{Sums}
+use Rattle.pix_table.proofs.SumLemmas.{length_sum}
+use Rattle.pix_table.proofs.BoxSumLemmas.{below_none, below_next, part_at, are_few, are_part, both_few, gain_same, whole_weight}
+use Rattle.pix_table.proofs.PlaceLemmas.{channel_done}
+use Rattle.pix_table.proofs.PlaceSteps.{begun, full_past, bytes_past, same_below, passed_by, can_cut, some_others}
+use Rattle.pix_table.proofs.place.best_in.Goals as goal
+
+abbrev nothing : Sums
+nothing = record { count = 0; red = 0; green = 0; blue = 0 }
+
+pub weight-whole-requires-clause-red : goal.weight-whole-requires-clause-red
+weight-whole-requires-clause-red c = (are_few _ _ _ c.sums_by_value-parts.ensures.bytes c.total-all.ensures).0
+
+pub weight-whole-requires-clause-green : goal.weight-whole-requires-clause-green
+weight-whole-requires-clause-green c = (are_few _ _ _ c.sums_by_value-parts.ensures.bytes c.total-all.ensures).1
+
+pub weight-whole-requires-clause-blue : goal.weight-whole-requires-clause-blue
+weight-whole-requires-clause-blue c = (are_few _ _ _ c.sums_by_value-parts.ensures.bytes c.total-all.ensures).2
+
+pub loop-value-init : goal.loop-value-init
+loop-value-init c =
+    let e = c.none-low.ensures in
+    record {
+      low = below_none c.args.k (map numbers c.args.colors.now) c.none-low.result e.count e.red e.green e.blue;
+      best = begun (map numbers c.args.colors.now) c.args.k c.args.best c.requires.before;
+    }
+
+pub loop-value-preserved-then-part-eq0 : goal.loop-value-preserved-then-part-eq0
+loop-value-preserved-then-part-eq0 c =
+    let box = map numbers c.args.colors.now in
+    let v = c.loop-value.value in
+    let part = part_at c.args.k v c.from.result box c.sums_by_value-parts.result nothing c.sums_by_value-parts.ensures.sums c.from.ensures (omega arith) in
+    let low : AreSums (is_below c.args.k (c.loop-value.value + 1)) (map numbers c.args.colors.now) c.loop-value.low =
+    same_below c.args.k v box c.loop-value.low _ c.sums_by_value-parts.ensures.bytes c.loop-value.invariant.low part c.if-part-eq0.true in
+    record {
+      low = low;
+      best = passed_by c.args.k v box c.loop-value.low c.total-all.result c.loop-value.best c.total-all.ensures c.loop-value.invariant.low low
+          c.loop-value.invariant.best;
+    }
+
+few : (c : goal.Else-part-eq0)
+    → let s = c.loop-value.low in
+    let p = get_or c.sums_by_value-parts.result c.from.result nothing in
+    (s.red + p.red ≤ 255 * (s.count + p.count)) × (s.green + p.green ≤ 255 * (s.count + p.count)) × (s.blue + p.blue ≤ 255 * (s.count + p.count))
+few c =
+    let box = map numbers c.args.colors.now in
+    let v = c.loop-value.value in
+    let part = part_at c.args.k v c.from.result box c.sums_by_value-parts.result nothing c.sums_by_value-parts.ensures.sums c.from.ensures (omega arith) in
+    both_few _ _ box c.loop-value.low _ c.sums_by_value-parts.ensures.bytes c.loop-value.invariant.low part
+
+pub and-low-requires-clause-red : goal.and-low-requires-clause-red
+and-low-requires-clause-red c = (few c).0
+
+pub and-low-requires-clause-green : goal.and-low-requires-clause-green
+and-low-requires-clause-green c = (few c).1
+
+pub and-low-requires-clause-blue : goal.and-low-requires-clause-blue
+and-low-requires-clause-blue c = (few c).2
+
+pub returns-then-low-all : goal.returns-then-low-all
+returns-then-low-all c =
+    let box = map numbers c.args.colors.now in
+    let parts = c.sums_by_value-parts in
+    let e = c.and-low.ensures in
+    let low = below_next c.args.k c.loop-value.value c.from.result box parts.result nothing c.loop-value.low c.and-low.result parts.ensures.sums
+    c.from.ensures (omega arith) c.loop-value.invariant.low e.count e.red e.green e.blue in
+    let long : c.total-all.result.count ≡ length (map numbers c.args.colors.now) = c.total-all.ensures.count ∙ length_sum box in
+    channel_done box c.args.k (c.loop-value.value + 1) c.loop-value.best c.loop-value.invariant.best
+    (full_past box c.args.k (c.loop-value.value + 1) c.and-low.result low (omega (arith, long, c.if-low-all.true)))
+
+pub gain-requires : goal.gain-requires
+gain-requires c =
+    let box = map numbers c.args.colors.now in
+    let parts = c.sums_by_value-parts in
+    let e = c.and-low.ensures in
+    let low = below_next c.args.k c.loop-value.value c.from.result box parts.result nothing c.loop-value.low c.and-low.result parts.ensures.sums
+    c.from.ensures (omega arith) c.loop-value.invariant.low e.count e.red e.green e.blue in
+    let all = c.total-all in
+    are_part _ box c.and-low.result all.result parts.ensures.bytes low all.ensures (omega (arith, e.count, c.if-part-eq0.false))
+    (some_others _ box c.and-low.result all.result low all.ensures c.if-low-all.false)
+
+pub loop-value-preserved : goal.loop-value-preserved
+loop-value-preserved c =
+    let box = map numbers c.args.colors.now in
+    let parts = c.sums_by_value-parts in
+    let v = c.loop-value.value + 1 in
+    let e = c.and-low.ensures in
+    let low = below_next c.args.k c.loop-value.value c.from.result box parts.result nothing c.loop-value.low c.and-low.result parts.ensures.sums
+    c.from.ensures (omega arith) c.loop-value.invariant.low e.count e.red e.green e.blue in
+    let all = c.total-all in
+    let can = can_cut c.args.k v box c.and-low.result all.result c.requires.channel low all.ensures (omega (arith, e.count, c.if-part-eq0.false))
+    c.if-low-all.false in
+    let whole : c.weight-whole.result ≡ weight (map numbers c.args.colors.now) =
+    c.weight-whole.ensures.weight ∙ whole_weight box all.result all.ensures in
+    let gains : gain_at c.args.k (c.loop-value.value + 1) (map numbers c.args.colors.now) ≡ c.gain.result =
+    sym (gain_same c.args.k v box c.and-low.result all.result c.weight-whole.result low all.ensures whole) ∙ sym c.gain.ensures in
+    record { low = low; best = c.better-best.ensures box c.loop-value.invariant.best can gains }
+
+pub returns : goal.returns
+returns c =
+    let box = map numbers c.args.colors.now in
+    channel_done box c.args.k (c.loop-value.value + 1) c.loop-value.best c.loop-value.invariant.best
+    (bytes_past box c.args.k (c.loop-value.value + 1) c.sums_by_value-parts.ensures.bytes (omega arith))
