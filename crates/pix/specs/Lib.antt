@@ -52,6 +52,7 @@ pub use Rattle.pix_table.specs.PaletteMatch
 pub use Rattle.pix_table.specs.Setting
 pub use Rattle.pix_table.specs.Indexing as SetInTurn
 pub use Rattle.pix_table.specs.Nearest as NearestEntry
+pub use Rattle.pix_table.specs.Places as CutPlaces
 pub use Rattle.pix_table.specs.Cut
 pub use Rattle.pix_table.specs.From
 pub use Rattle.pix_table.specs.Diffusion

@@ -4,13 +4,15 @@ pub mod Writes
 pub mod Below
 pub mod Places
 pub mod BoxSpans
-pub mod Sixteens
+pub mod LesserLanes
 pub mod Parts
 pub mod CutBoxes
 pub mod SumLemmas
 pub mod BoxSumLemmas
 pub mod PlaceLemmas
 pub mod PlaceSteps
+pub mod PieceBoxes
+pub mod Splits
 pub mod Distinct
 pub mod Rows
 pub mod Diffused

@@ -25,6 +25,6 @@ abbrev pub distinct : List (List ℕ) → List (List ℕ)
 distinct colors = fold with_color [] colors
 
 -- the table of a list of colors, of at most a number of entries: its distinct colors, where there
--- is room for them, and else that of median cut
+-- is room for them, and else that of the cut by squared error
 abbrev pub IsTableFrom : ℕ → List (List ℕ) → List (List ℕ) → Type 0
 IsTableFrom room colors table = ((length (distinct colors) ≤ room) × (table ≡ distinct colors)) ⊎ ((room < length (distinct colors)) × IsCutTable room colors table)

@@ -2,10 +2,10 @@ pub mod Nearest
 pub mod Boxes
 pub mod LookUp
 pub mod Packing
-pub mod Cut
 pub mod Places
+pub mod Cut
 pub mod BestPlaces
-pub mod Span
+pub mod Pieces
 pub mod Spans
 pub mod From
 pub mod Diffusion

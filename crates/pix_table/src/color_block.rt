@@ -1,12 +1,11 @@
 //! The entries of a table in blocks of sixteen, channel by channel. All that are too far from a
 //! color in a channel are skipped at once.
-ghost use Rattle.std.specs.Prelude.{◌≡◌, ◌+◌, ◌<◌, ◌≤◌, ℕ, [], ◌∷◌, length, map, false};
+ghost use Rattle.std.specs.Prelude.{◌≡◌, ◌+◌, ◌<◌, ◌≤◌, ℕ, [], ◌∷◌, length, map, max, min, false};
 ghost use Rattle.pix_table.specs.ColorBlocks.{IsBlock, IsFar, Lies, channels_in};
 ghost use Rattle.pix_table.specs.Nearest.{numbers};
 ghost use Rattle.pix_table.specs.PaletteMatch.{color_difference, is_within};
 
 use crate::color::{Color, TableColor};
-use crate::cut::{greater, lesser};
 
 /// How many colors a block has.
 pub(crate) const SIZE: usize = 16;
@@ -78,6 +77,30 @@ impl ColorBlock {
             any |= is_near(self.red[i], self.green[i], self.blue[i], clr, least);
         }
         any
+    }
+}
+
+/// Returns the lesser number in each channel.
+fn lesser(p: Color, q: Color) -> Color
+    ensures { numbers result
+        ≡ min p.red q.red ∷ min p.green q.green ∷ min p.blue q.blue ∷ [] }
+{
+    Color {
+        red: p.red.min(q.red),
+        green: p.green.min(q.green),
+        blue: p.blue.min(q.blue),
+    }
+}
+
+/// Returns the greater number in each channel.
+fn greater(p: Color, q: Color) -> Color
+    ensures { numbers result
+        ≡ max p.red q.red ∷ max p.green q.green ∷ max p.blue q.blue ∷ [] }
+{
+    Color {
+        red: p.red.max(q.red),
+        green: p.green.max(q.green),
+        blue: p.blue.max(q.blue),
     }
 }
 

@@ -1,23 +1,16 @@
-//! Median cut: a table of the means of boxes of colors.
-ghost use Rattle.std.specs.Prelude.{◌≡◌, ℕ, ◌+◌, ◌*◌, ◌/◌, ◌<◌, ◌≤◌, List, [], ◌∷◌, ◌++◌, ◌%◌, All, min, max, length, map, take, drop, slice_index, IsPermutation};
+//! A table of the means of boxes of colors, which are cut where the squared error falls most.
+ghost use Rattle.std.specs.Prelude.{◌≡◌, ◌⊎◌, ℕ, ◌+◌, ◌*◌, ◌/◌, ◌<◌, ◌≤◌, List, ◌∷◌, [], All, length, map, take, drop, slice_index, IsPermutation, true, false};
 ghost use Rattle.pix_table.specs.Nearest.{numbers};
-ghost use Rattle.pix_table.specs.Cut.{IsWidest, IsMedian, IsCutTable, width, spread, mean_of, greatest};
-ghost use Rattle.pix_table.specs.LookUp.{AreCounted};
-ghost use Rattle.pix_table.specs.Span.{IsSpan};
+ghost use Rattle.pix_table.specs.Places.{HasBest, IsCut};
+ghost use Rattle.pix_table.specs.Cut.{AreBoxes, IsCutTable, mean_of, mean};
+ghost use Rattle.pix_table.specs.Pieces.{ArePieces, AreWhole, IsKnown, IsNext, boxes_of};
 
 use crate::color::Color;
-use crate::sixteen;
-use std::simd::prelude::*;
+use crate::pieces::{Next, Piece, next_cut, split};
+use crate::place::Place;
 
-/// The spread of a box whose colors are all the same. There is one number in each channel.
-const PLAIN: usize = 3;
-
-/// How far the colors of a box reach in each channel.
-#[derive(Clone, Copy)]
-struct Span {
-    least: Color,
-    greatest: Color,
-}
+/// How many entries a table has at most.
+const ROOM: usize = 256;
 
 /// Returns the number of a channel: 0 is red, 1 green, 2 blue.
 #[inline(always)]
@@ -32,127 +25,123 @@ pub(crate) fn channel(clr: Color, channel: usize) -> u8
     }
 }
 
-impl Span {
-    /// Returns the span of a box.
-    fn new(colors: &[Color]) -> Span
-        ensures { IsSpan (map numbers colors.now) result }
-    {
-        let whole = colors.len() / 16 * 16;
-        Span::of_sixteens(&colors[..whole]).with(&colors[whole..])
-    }
+/// Writes the table of some colors into the first of the entries, and returns how many they are.
+/// The colors come into another order.
+///
+/// Condition: there is a color, and there are 1 to 256 entries.
+pub(crate) fn cut_table(colors: &mut [Color], entries: &mut [Color]) -> usize
+    requires some { 0 < length colors.old }
+    requires room { 0 < length entries.old }
+    requires few { length entries.old ≤ 256 }
+    ensures some { 0 < result }
+    ensures within { result ≤ length entries.new }
+    ensures table { IsCutTable (length entries.old) (map numbers colors.old)
+        (map numbers (take result entries.new)) }
+{
+    let mut pieces = [Piece::none(); ROOM];
+    let room = entries.len();
+    let count = cut_boxes(colors, &mut pieces[..room]);
+    write_means(colors, &pieces[..count], entries);
+    count
+}
 
-    /// Returns the span of no colors.
-    fn none() -> Span
-        ensures { IsSpan [] result }
-    {
-        Span {
-            least: Color {
-                red: 255,
-                green: 255,
-                blue: 255,
-            },
-            greatest: Color::default(),
+/// Cuts the colors into boxes and returns how many there are: as many as there is room for pieces,
+/// or fewer where none of them can be cut.
+fn cut_boxes(colors: &mut [Color], pieces: &mut [Piece]) -> usize
+    requires some { 0 < length colors.old }
+    requires room { 0 < length pieces.old }
+    ensures some { 0 < result }
+    ensures within { result ≤ length pieces.new }
+    ensures stand { ArePieces colors.new (take result pieces.new) }
+    ensures boxes { AreBoxes (map numbers colors.old)
+        (boxes_of colors.new (take result pieces.new)) }
+    ensures full { (result ≡ length pieces.new) ⊎ AreWhole (take result pieces.new) }
+{
+    pieces[0] = Piece::of(colors);
+    for count in 1..pieces.len() {
+        let is_cut = cut_next(colors, pieces, count);
+        if !is_cut {
+            return count;
         }
     }
+    pieces.len()
+}
 
-    /// Returns the span of the box with more colors.
-    fn with(self, colors: &[Color]) -> Span
-        ensures { (box : List (List ℕ)) → IsSpan box self
-            → IsSpan (box ++ map numbers colors.now) result }
-    {
-        let mut least = self.least;
-        let mut greatest = self.greatest;
-        for i in 0..colors.len() {
-            least = lesser(least, colors[i]);
-            greatest = greater(greatest, colors[i]);
-        }
-        Span { least, greatest }
-    }
-
-    /// Returns the span of a box whose number of colors is a multiple of sixteen.
-    fn of_sixteens(colors: &[Color]) -> Span
-        requires { length colors.now % 16 ≡ 0 }
-        ensures { IsSpan (map numbers colors.now) result }
-    {
-        let (mut low, mut low2, mut low3) = (
-            u8x16::splat(255),
-            u8x16::splat(255),
-            u8x16::splat(255),
-        );
-        let (mut high, mut high2, mut high3) = (u8x16::splat(0), u8x16::splat(0), u8x16::splat(0));
-        for i in 0..colors.len() / 16 {
-            let (a, b, c) = sixteen::sixteen(&colors[16 * i..16 * i + 16]);
-            (low, low2, low3) = (
-                sixteen::lesser(low, a),
-                sixteen::lesser(low2, b),
-                sixteen::lesser(low3, c),
-            );
-            (high, high2, high3) = (
-                sixteen::greater(high, a),
-                sixteen::greater(high2, b),
-                sixteen::greater(high3, c),
-            );
-        }
-        let least = Span::none().with(&sixteen::colors_of(low, low2, low3));
-        let greatest = Span::none().with(&sixteen::colors_of(high, high2, high3));
-        Span {
-            least: least.least,
-            greatest: greatest.greatest,
-        }
-    }
-
-    /// Returns how wide it is in a channel.
-    fn width(self, k: usize) -> usize
-        ensures width { (box : List (List ℕ)) → IsSpan box self → k < 3 → result ≡ width k box }
-        ensures within { result ≤ 256 }
-        ensures some { 0 < result }
-    {
-        usize::from(channel(self.greatest, k).saturating_sub(channel(self.least, k))) + 1
-    }
-
-    /// Returns how wide it is in all channels together.
-    fn spread(self) -> usize
-        ensures { (box : List (List ℕ)) → IsSpan box self → result ≡ spread box }
-    {
-        self.width(0) + self.width(1) + self.width(2)
-    }
-
-    /// Returns the channel in which it is widest, the first of equals.
-    fn widest(self) -> usize
-        ensures { (box : List (List ℕ)) → IsSpan box self → IsWidest box result }
-    {
-        let (red, green, blue) = (self.width(0), self.width(1), self.width(2));
-        if green <= red && blue <= red {
-            0
-        } else if blue <= green {
-            1
-        } else {
-            2
+/// Cuts that of the first `count` boxes whose cut gains most, the first of equals.
+///
+/// Returns whether there is one that can be cut.
+fn cut_next(colors: &mut [Color], pieces: &mut [Piece], count: usize) -> bool
+    requires room { count < length pieces.old }
+    requires stand { ArePieces colors.old (take count pieces.old) }
+    ensures whole { result ≡ false → (colors.new ≡ colors.old) × (pieces.new ≡ pieces.old)
+        × AreWhole (take count pieces.new) }
+    ensures stand { result ≡ true → ArePieces colors.new (take (count + 1) pieces.new) }
+    ensures boxes { result ≡ true → (start : List (List ℕ))
+        → AreBoxes start (boxes_of colors.old (take count pieces.old))
+        → AreBoxes start (boxes_of colors.new (take (count + 1) pieces.new)) }
+{
+    match next_cut(&pieces[..count]) {
+        None => false,
+        Some(next) => {
+            cut_at(colors, pieces, count, next);
+            true
         }
     }
 }
 
-/// Returns the lesser number in each channel.
-pub(crate) fn lesser(p: Color, q: Color) -> Color
-    ensures { numbers result
-        ≡ min p.red q.red ∷ min p.green q.green ∷ min p.blue q.blue ∷ [] }
+/// Cuts the box that is next of the first `count`.
+fn cut_at(colors: &mut [Color], pieces: &mut [Piece], count: usize, next: Next)
+    requires room { count < length pieces.old }
+    requires stand { ArePieces colors.old (take count pieces.old) }
+    requires next { IsNext (take count pieces.old) next }
+    ensures stand { ArePieces colors.new (take (count + 1) pieces.new) }
+    ensures boxes { (start : List (List ℕ))
+        → AreBoxes start (boxes_of colors.old (take count pieces.old))
+        → AreBoxes start (boxes_of colors.new (take (count + 1) pieces.new)) }
 {
-    Color {
-        red: p.red.min(q.red),
-        green: p.green.min(q.green),
-        blue: p.blue.min(q.blue),
+    let end = next.start + pieces[next.at].len;
+    let (low, high) = cut_piece(&mut colors[next.start..end], next.place);
+    split(pieces, count, next.at, low, high);
+}
+
+/// Cuts a box at its best place, and returns its two pieces.
+fn cut_piece(colors: &mut [Color], place: Place) -> (Piece, Piece)
+    requires { HasBest (map numbers colors.old) place.channel place.value place.gain }
+    ensures all { result.0.len + result.1.len ≡ length colors.new }
+    ensures low { IsKnown (map numbers (take result.0.len colors.new)) result.0 }
+    ensures high { IsKnown (map numbers (drop result.0.len colors.new)) result.1 }
+    ensures cut { IsCut (map numbers colors.old) place.channel place.value
+        (map numbers (take result.0.len colors.new))
+        (map numbers (drop result.0.len colors.new)) }
+{
+    let at = partition(colors, place.channel, place.value);
+    (Piece::of(&colors[..at]), Piece::of(&colors[at..]))
+}
+
+/// Writes the means of the boxes into the first of the entries.
+fn write_means(colors: &[Color], pieces: &[Piece], entries: &mut [Color])
+    requires stand { ArePieces colors.now pieces.now }
+    requires room { length pieces.now ≤ length entries.old }
+    ensures { map numbers (take (length pieces.now) entries.new)
+        ≡ map mean (boxes_of colors.now pieces.now) }
+{
+    let mut start = 0;
+    for i in 0..pieces.len() {
+        let end = start + pieces[i].len;
+        entries[i] = mean_color(&colors[start..end]);
+        start = end;
     }
 }
 
-/// Returns the greater number in each channel.
-pub(crate) fn greater(p: Color, q: Color) -> Color
-    ensures { numbers result
-        ≡ max p.red q.red ∷ max p.green q.green ∷ max p.blue q.blue ∷ [] }
+/// Returns the mean of a box. Condition: it has a color.
+fn mean_color(colors: &[Color]) -> Color
+    requires { 0 < length colors.now }
+    ensures { numbers result ≡ mean (map numbers colors.now) }
 {
     Color {
-        red: p.red.max(q.red),
-        green: p.green.max(q.green),
-        blue: p.blue.max(q.blue),
+        red: mean(colors, 0),
+        green: mean(colors, 1),
+        blue: mean(colors, 2),
     }
 }
 
@@ -168,7 +157,7 @@ fn mean(colors: &[Color], k: usize) -> u8
     quotient(2 * sum + colors.len() as u128, 2 * colors.len() as u128)
 }
 
-/// Returns the whole part of a quotient that is below 256. It uses differences, since no processor
+/// Returns the whole part of a quotient that is below 256: by differences, since no processor
 /// divides numbers of 128 bits.
 fn quotient(n: u128, d: u128) -> u8
     requires some { 0 < d }
@@ -185,50 +174,8 @@ fn quotient(n: u128, d: u128) -> u8
     255
 }
 
-/// Returns the median of a box in a channel, where `most` is the greatest number.
-fn median(colors: &[Color], k: usize, most: u8) -> u8
-    requires some { 0 < length colors.now }
-    requires most { most ≡ greatest k (map numbers colors.now) }
-    ensures { IsMedian k (map numbers colors.now) result }
-{
-    let counts = counts_of(colors, k);
-    let mut before = 0;
-    for value in 0..most {
-        if colors.len() - before <= before {
-            return value;
-        }
-        before += counts[usize::from(value)];
-    }
-    most
-}
-
-/// Returns for each number how many colors have it in a channel. Each channel has a loop of its
-/// own.
-fn counts_of(colors: &[Color], k: usize) -> [usize; 256]
-    ensures { AreCounted 256 (map (λ c. slice_index (numbers c) k) colors.now) result }
-{
-    match k {
-        0 => counts_in(colors, 0),
-        1 => counts_in(colors, 1),
-        2 => counts_in(colors, 2),
-        _ => counts_in(colors, k),
-    }
-}
-
-/// Does what [`counts_of`] does.
-#[inline(always)]
-fn counts_in(colors: &[Color], k: usize) -> [usize; 256]
-    ensures { AreCounted 256 (map (λ c. slice_index (numbers c) k) colors.now) result }
-{
-    let mut counts = [0; 256];
-    for i in 0..colors.len() {
-        counts[usize::from(channel(colors[i], k))] += 1;
-    }
-    counts
-}
-
-/// Moves the colors whose number in a channel is below `value` to the front. Returns their number.
-/// Each channel has a loop of its own.
+/// Moves the colors whose number in a channel is below `value` to the front, and returns how many
+/// they are. Each channel has a loop of its own.
 fn partition(colors: &mut [Color], k: usize, value: u8) -> usize
     ensures within { result ≤ length colors.new }
     ensures moved { IsPermutation colors.old colors.new }
@@ -258,66 +205,4 @@ fn partition_in(colors: &mut [Color], k: usize, value: u8) -> usize
         at += usize::from(is_low);
     }
     at
-}
-
-/// Returns how many of `room` entries a part of a cut gets. Its spread is `low`, and that of the
-/// other part is `high`.
-fn share(room: usize, low: usize, high: usize) -> usize
-    requires room { 1 < room }
-    requires few { room ≤ 256 }
-    requires low { low ≤ 768 }
-    requires high { high ≤ 768 }
-    requires some { 0 < high }
-    ensures part { result ≡ max 1 (room * low / (low + high)) }
-    ensures some { 0 < result }
-    ensures within { result < room }
-{
-    (room * low / (low + high)).max(1)
-}
-
-/// Writes the table of a box into the first of the entries, and returns their number. The order of
-/// the colors changes.
-///
-/// Condition: there is a color, and there are 1 to 256 entries.
-pub(crate) fn cut_table(colors: &mut [Color], entries: &mut [Color]) -> usize
-    requires some { 0 < length colors.old }
-    requires room { 0 < length entries.old }
-    requires few { length entries.old ≤ 256 }
-    ensures some { 0 < result }
-    ensures within { result ≤ length entries.new }
-    ensures table { IsCutTable (length entries.old) (map numbers colors.old)
-        (map numbers (take result entries.new)) }
-{
-    let span = Span::new(colors);
-    cut_box(colors, span, entries)
-}
-
-/// Does what [`cut_table`] does to a box of a known span.
-fn cut_box(colors: &mut [Color], span: Span, entries: &mut [Color]) -> usize
-    requires some { 0 < length colors.old }
-    requires span { IsSpan (map numbers colors.old) span }
-    requires room { 0 < length entries.old }
-    requires few { length entries.old ≤ 256 }
-    ensures some { 0 < result }
-    ensures within { result ≤ length entries.new }
-    ensures table { IsCutTable (length entries.old) (map numbers colors.old)
-        (map numbers (take result entries.new)) }
-{
-    let k = span.widest();
-    if entries.len() == 1 || span.spread() == PLAIN {
-        entries[0] = Color {
-            red: mean(colors, 0),
-            green: mean(colors, 1),
-            blue: mean(colors, 2),
-        };
-        return 1;
-    }
-    let value = median(colors, k, channel(span.greatest, k));
-    let at = partition(colors, k, value);
-    let (low, high) = colors.split_at_mut(at);
-    let (low_span, high_span) = (Span::new(low), Span::new(high));
-    let part = share(entries.len(), low_span.spread(), high_span.spread());
-    let used = cut_box(low, low_span, &mut entries[..part]);
-    let more = cut_box(high, high_span, &mut entries[used..]);
-    used + more
 }

@@ -20,8 +20,8 @@ pub fn table_work(pixels: usize) -> usize
 /// where `work` has fewer colors than [`table_work`] says.
 ///
 /// Pixels whose alpha is below `alpha` do not count. With no more distinct colors than entries,
-/// they are the table, in order of first place. Else it is made by median cut, which uses at most
-/// as many entries as there are. The other entries may hold anything.
+/// they are the table, in order of first place. Else it is made by the cut by squared error, which
+/// uses at most as many entries as there are. The other entries may hold anything.
 pub fn table_from<P: TablePixel>(
     pixels: &[P],
     alpha: u8,

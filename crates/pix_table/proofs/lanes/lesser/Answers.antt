@@ -1,6 +1,6 @@
 -- Of `lesser`: the lesser number of each lane.
 use mir.Syntax.{w16}
-use Rattle.pix_table.proofs.Sixteens.{lesser_lanes}
+use Rattle.pix_table.proofs.LesserLanes.{lesser_lanes}
 use Rattle.pix_table.proofs.lanes.lesser.Goals as goal
 
 pub returns : goal.returns

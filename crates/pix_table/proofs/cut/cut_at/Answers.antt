@@ -1,0 +1,52 @@
+-- Of `cut_at`: that the pieces are boxes of the colors.
+use Rattle.std.proofs.Common.{◌≡◌, ℕ, ◌+◌, ◌-◌, ◌<◌, ◌++◌, ◌∷◌, List, None, length, take, drop, get_or, arith, sym, ap, ◌∙◌, subst, length-take}
+use Rattle.std.proofs.lemmas.List.{get_or-take, take-take}
+use Rattle.pix_table.specs.Cut.{AreBoxes}
+use Rattle.pix_table.specs.Pieces.{ArePieces, boxes_of}
+use Rattle.pix_table.specs.declared.color.Color.{Color}
+use Rattle.pix_table.specs.declared.pieces.Piece.{Piece}
+use Rattle.pix_table.proofs.PieceBoxes.{next_known, boxes_stand, pieces_stand}
+use borrow.Rule.Slice.PartMut.{put_mid}
+use Rattle.pix_table.proofs.cut.cut_at.Goals as goal
+use Rattle.pix_table.proofs.cut.cut_at.Goals.{After-pieces-1}
+
+abbrev none : Piece
+none = record { len = 0; place = None }
+
+-- how many colors the piece has
+width : (pieces : List Piece) (count at start : ℕ) → at < length (take count pieces)
+    → start + (get_or pieces at none).len - start ≡ (get_or (take count pieces) at none).len
+width pieces count at start stands =
+    let e : (get_or (take count pieces) at none).len ≡ (get_or pieces at none).len =
+    ap (λ (p : Piece). p.len) (get_or-take count pieces at none (omega (arith, stands, length-take count pieces))) in
+    omega (arith, e)
+
+-- the pieces after the split
+pieces_are : (c : After-pieces-1)
+    → take c.args.next.at (take c.args.count c.args.pieces.now) ++ c.cut_piece.result.0 ∷ c.cut_piece.result.1 ∷ drop (c.args.next.at + 1) (take c.args.count c.args.pieces.now)
+    ≡ take (c.args.count + 1) c.split.new.pieces
+pieces_are c =
+    ap (λ l. l ++ c.cut_piece.result.0 ∷ c.cut_piece.result.1 ∷ drop (c.args.next.at + 1) (take c.args.count c.args.pieces.now))
+    (take-take c.args.next.at c.args.count c.args.pieces.now (omega (arith, c.requires.next.stands, length-take c.args.count c.args.pieces.now)))
+    ∙ sym c.split.ensures
+
+pub cut_piece-requires : goal.cut_piece-requires
+cut_piece-requires c =
+    next_known c.args.colors.now (take c.args.count c.args.pieces.now) c.args.next none _ c.requires.stand c.requires.next
+    (width c.args.pieces.now c.args.count c.args.next.at c.args.next.start c.requires.next.stands)
+
+pub returns-clause-stand : goal.returns-clause-stand
+returns-clause-stand c =
+    subst (ArePieces _) (pieces_are c)
+    (pieces_stand c.args.colors.now (take c.args.count c.args.pieces.now) c.args.next none _ c.requires.stand c.requires.next
+    (width c.args.pieces.now c.args.count c.args.next.at c.args.next.start c.requires.next.stands) c.cut_piece.new.colors c.cut_piece.result.0
+    c.cut_piece.result.1 c.cut_piece.auto.colors c.cut_piece.ensures.all c.cut_piece.ensures.low c.cut_piece.ensures.high c.cut_piece.ensures.cut)
+
+pub returns-clause-boxes : goal.returns-clause-boxes
+returns-clause-boxes c start h =
+    let colors : List Color =
+    put_mid c.args.next.start (c.args.next.start + (get_or c.args.pieces.now c.args.next.at none).len - c.args.next.start) c.args.colors.now c.cut_piece.new.colors in
+    subst (λ l. AreBoxes start (boxes_of colors l)) (pieces_are c)
+    (boxes_stand c.args.colors.now (take c.args.count c.args.pieces.now) c.args.next none _ c.requires.stand c.requires.next
+    (width c.args.pieces.now c.args.count c.args.next.at c.args.next.start c.requires.next.stands) c.cut_piece.new.colors c.cut_piece.result.0
+    c.cut_piece.result.1 c.cut_piece.auto.colors c.cut_piece.ensures.all c.cut_piece.ensures.low c.cut_piece.ensures.high c.cut_piece.ensures.cut start h)

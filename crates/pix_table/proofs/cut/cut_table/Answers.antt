@@ -1,0 +1,19 @@
+-- Of `cut_table`: its clause `table`.
+use Rattle.std.proofs.Common.{◌++◌, length, drop, replicate, arith, length-take}
+use Rattle.std.proofs.lemmas.List.{length-replicate, take-append-le}
+use Rattle.pix_table.proofs.PieceBoxes.{table_made}
+use Rattle.pix_table.proofs.cut.cut_table.Goals as goal
+
+pub returns-clause-table : goal.returns-clause-table
+returns-clause-table c =
+    table_made (length c.args.entries.now) c.cut_boxes-count.result c.args.colors.now c.cut_boxes-count.new.colors c.write_means.new.entries
+    c.cut_boxes-count.new.pieces (c.cut_boxes-count.new.pieces ++ drop (length c.args.entries.now) (replicate 256 c.none-pieces.result))
+    (omega (
+      arith,
+      c.cut_boxes-count.auto.pieces,
+      length-take (length c.args.entries.now) (replicate 256 c.none-pieces.result),
+      length-replicate 256 c.none-pieces.result,
+      c.requires.few,
+    ))
+    c.cut_boxes-count.ensures.within (take-append-le c.cut_boxes-count.result _ _ c.cut_boxes-count.ensures.within) c.cut_boxes-count.ensures.stand
+    c.cut_boxes-count.ensures.boxes c.cut_boxes-count.ensures.full c.write_means.ensures

@@ -1,0 +1,83 @@
+//! The boxes of a cut: pieces of one slice of colors, one after the other.
+ghost use Rattle.std.specs.Prelude.{◌≡◌, ℕ, ◌+◌, ◌<◌, ◌≤◌, ◌^◌, List, [], ◌∷◌, ◌++◌, length, map, take, drop};
+ghost use Rattle.pix_table.specs.Nearest.{numbers};
+ghost use Rattle.pix_table.specs.Pieces.{IsKnown, IsNextOrNone, total};
+
+use crate::color::Color;
+use crate::place::{Place, best_place};
+
+/// A piece of a slice of colors: how many they are, and the place where a cut gains most, if it can
+/// be cut.
+#[derive(Clone, Copy)]
+pub(crate) struct Piece {
+    pub(crate) len: usize,
+    pub(crate) place: Option<Place>,
+}
+
+/// The piece that is cut next: its index, how many colors come before it, and the place.
+#[derive(Clone, Copy)]
+pub(crate) struct Next {
+    pub(crate) at: usize,
+    pub(crate) start: usize,
+    pub(crate) place: Place,
+}
+
+impl Piece {
+    /// Returns the piece without colors.
+    pub(crate) fn none() -> Piece {
+        Piece {
+            len: 0,
+            place: None,
+        }
+    }
+
+    /// Returns the piece of some colors.
+    pub(crate) fn of(colors: &[Color]) -> Piece
+        ensures all { result.len ≡ length colors.now }
+        ensures known { IsKnown (map numbers colors.now) result }
+    {
+        Piece {
+            len: colors.len(),
+            place: best_place(colors),
+        }
+    }
+}
+
+/// Returns the piece whose cut gains most, the first of equals; or `None` where none can be cut.
+pub(crate) fn next_cut(pieces: &[Piece]) -> Option<Next>
+    requires { total pieces.now < 2 ^ 64 }
+    ensures { IsNextOrNone pieces.now result }
+{
+    let mut best = None;
+    let mut start = 0;
+    for i in 0..pieces.len() {
+        best = better(best, pieces[i], i, start);
+        start += pieces[i].len;
+    }
+    best
+}
+
+/// Returns the better of the best piece so far and the next one, the first of equals. The next one
+/// is at an index and has so many colors before it.
+fn better(best: Option<Next>, piece: Piece, at: usize, start: usize) -> Option<Next>
+    ensures { (pieces : List Piece) → length pieces ≡ at → total pieces ≡ start
+        → IsNextOrNone pieces best → IsNextOrNone (pieces ++ piece ∷ []) result }
+{
+    match (best, piece.place) {
+        (_, None) => best,
+        (Some(next), Some(place)) if place.gain <= next.place.gain => best,
+        (_, Some(place)) => Some(Next { at, start, place }),
+    }
+}
+
+/// Puts two pieces in the place of one of the first `count`. The piece behind these is free.
+pub(crate) fn split(pieces: &mut [Piece], count: usize, at: usize, low: Piece, high: Piece)
+    requires inside { at < count }
+    requires room { count < length pieces.old }
+    ensures { take (count + 1) pieces.new
+        ≡ take at pieces.old ++ low ∷ high ∷ drop (at + 1) (take count pieces.old) }
+{
+    pieces[at] = low;
+    pieces[at + 1..count + 1].rotate_right(1);
+    pieces[at + 1] = high;
+}
