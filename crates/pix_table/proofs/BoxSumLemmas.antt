@@ -1,78 +1,27 @@
 -- The sums of a box, of its colors of each value of a channel, and of those below a value.
-use Rattle.std.proofs.Common.{◌≡◌, ℕ, zero, suc, ◌+◌, ◌-◌, ◌*◌, ◌<◌, ◌≤◌, Bool, true, false, cond, List, [], ◌∷◌, ◌++◌, length, set, replicate, get_or, nat_eq, sum_by, All, refl, arith, sym, ap, ap₂, ◌∙◌, subst, inl, inr, lt-ltb, le-ltb, eq-eqb, ne_eqb, length-set}
-use Rattle.std.proofs.lemmas.Bool.{cases_eq}
-use Rattle.std.proofs.lemmas.List.{get_or-set_same, get_or-set_other, get_or-replicate, length-replicate}
-use Rattle.std.proofs.lemmas.List.Sums.{sum_by_push}
+use Rattle.std.proofs.Common.{◌≡◌, ℕ, ◌+◌, ◌-◌, ◌*◌, ◌<◌, ◌≤◌, Bool, true, cond, List, [], ◌++◌, length, replicate, get_or, sum_by, All, refl, arith, sym, ap, ap₂, ◌∙◌, subst, lt-ltb, le-ltb}
+use Rattle.std.proofs.lemmas.List.{get_or-replicate, length-replicate}
+use Rattle.std.proofs.lemmas.List.Sums.{sum_by-append}
 use Rattle.std.proofs.lemmas.Nat.{mul-le}
 use Rattle.std.proofs.Math.Nat.{div-le_of_le-mul}
-use Rattle.pix_table.specs.Nearest.{numbers}
 use Rattle.pix_table.specs.Places.{IsCut, below, gain, sum_in, weight}
 use Rattle.pix_table.specs.BestPlaces.{AreByValue, AreBytes, ArePart, AreSums, CanCut, gain_at, high_weight, is_at, is_below, low_weight, sum_of, weight_by}
 use Rattle.pix_table.specs.declared.box_sums.Sums.{Sums}
-use Rattle.pix_table.specs.declared.color.Color.{Color}
 use Rattle.pix_table.proofs.SumLemmas.{sum_next, sum_zero, sum_few, rest_few, sum_le, sum_all, length_sum, sum_parted, sum_both}
 
-pub color_bytes : (p : Color) → p.red ≤ 255 → p.green ≤ 255 → p.blue ≤ 255 → AreBytes (numbers p)
-color_bytes p r g b zero = r
-color_bytes p r g b (suc zero) = g
-color_bytes p r g b (suc (suc zero)) = b
-color_bytes p r g b (suc (suc (suc k))) = omega arith
-
 -- the numbers of a channel
-bytes_in : (box : List (List ℕ)) (k : ℕ) → All AreBytes box → All (λ c. get_or c k 0 ≤ 255) box
+pub bytes_in : (box : List (List ℕ)) (k : ℕ) → All AreBytes box → All (λ c. get_or c k 0 ≤ 255) box
 bytes_in box k h = λ j d inside. h j d inside k
 
--- the sums with a color more that passes, and with one that doesn't
-push_true : (p : List ℕ → Bool) (f : List ℕ → ℕ) (box : List (List ℕ)) (c : List ℕ) → p c ≡ true
-    → sum_of p f (box ++ c ∷ []) ≡ sum_of p f box + f c
-push_true p f box c e =
-    sum_by_push (λ x. cond (p x) (f x) 0) box c ∙ ap (λ b. sum_of p f box + cond b (f c) 0) e
-
-push_false : (p : List ℕ → Bool) (f : List ℕ → ℕ) (box : List (List ℕ)) (c : List ℕ) → p c ≡ false
-    → sum_of p f box ≡ sum_of p f (box ++ c ∷ [])
-push_false p f box c e =
-    let same : sum_of p f (box ++ c ∷ []) ≡ sum_of p f box + 0 =
-    sum_by_push (λ x. cond (p x) (f x) 0) box c ∙ ap (λ b. sum_of p f box + cond b (f c) 0) e in
-    omega (arith, same)
-
-sums_more : (p : List ℕ → Bool) (box : List (List ℕ)) (c : Color) (old new : Sums) → p (numbers c) ≡ true → AreSums p box old
-    → new.count ≡ old.count + 1 → new.red ≡ old.red + c.red → new.green ≡ old.green + c.green → new.blue ≡ old.blue + c.blue
-    → AreSums p (box ++ numbers c ∷ []) new
-sums_more p box c old new e h count red green blue = record {
-  count = omega (arith, count, h.count, push_true p (λ x. 1) box (numbers c) e);
-  red = omega (arith, red, h.red, push_true p (λ x. get_or x 0 0) box (numbers c) e);
-  green = omega (arith, green, h.green, push_true p (λ x. get_or x 1 0) box (numbers c) e);
-  blue = omega (arith, blue, h.blue, push_true p (λ x. get_or x 2 0) box (numbers c) e);
-}
-
-sums_same : (p : List ℕ → Bool) (box : List (List ℕ)) (c : Color) (sums : Sums) → p (numbers c) ≡ false → AreSums p box sums
-    → AreSums p (box ++ numbers c ∷ []) sums
-sums_same p box c sums e h = record {
-  count = h.count ∙ push_false p (λ x. 1) box (numbers c) e;
-  red = h.red ∙ push_false p (λ x. get_or x 0 0) box (numbers c) e;
-  green = h.green ∙ push_false p (λ x. get_or x 1 0) box (numbers c) e;
-  blue = h.blue ∙ push_false p (λ x. get_or x 2 0) box (numbers c) e;
-}
-
--- the sums of each value, with one color more
-pub by_value_more : (k v : ℕ) (box more : List (List ℕ)) (parts : List Sums) (c : Color) (old new : Sums) → more ≡ box ++ numbers c ∷ []
-    → AreByValue k box parts → v ≡ get_or (numbers c) k 0 → v < 256 → old ≡ get_or parts v old
-    → new.count ≡ old.count + 1 → new.red ≡ old.red + c.red → new.green ≡ old.green + c.green → new.blue ≡ old.blue + c.blue
-    → AreByValue k more (set parts v new)
-by_value_more k v box more parts c old new grown h e small read count red green blue = record {
-  many = length-set parts v new ∙ h.many;
-  each = λ w d inside. subst (λ l. AreSums (is_at k w) l (get_or (set parts v new) w d)) (sym grown) (elim (cases_eq w v) [
-    | inl same ↦
-        let here : nat_eq (get_or (numbers c) k 0) w ≡ true = eq-eqb (get_or (numbers c) k 0) w (omega (arith, e, same)) in
-        let before : AreSums (is_at k w) box old = subst (λ j. AreSums (is_at k j) box old) (sym same)
-        (subst (AreSums (is_at k v) box) (sym read) (h.each v old small)) in
-        let there : get_or (set parts v new) w d ≡ new = ap (λ j. get_or (set parts v new) j d) same ∙ get_or-set_same parts v new d (omega (arith, h.many, small)) in
-        subst (AreSums (is_at k w) (box ++ numbers c ∷ [])) (sym there) (sums_more (is_at k w) box c old new here before count red green blue)
-    | inr apart ↦
-        let other : nat_eq (get_or (numbers c) k 0) w ≡ false = ne_eqb (get_or (numbers c) k 0) w (λ eq. apart (omega (arith, e, eq))) in
-        subst (AreSums (is_at k w) (box ++ numbers c ∷ [])) (sym (get_or-set_other parts v w new d apart))
-        (sums_same (is_at k w) box c (get_or parts w d) other (h.each w d inside))
-  ]);
+-- the sums of two lists
+pub sums_joined : (p : List ℕ → Bool) (box more : List (List ℕ)) (s t new : Sums) → AreSums p box s → AreSums p more t
+    → new.count ≡ s.count + t.count → new.red ≡ s.red + t.red → new.green ≡ s.green + t.green → new.blue ≡ s.blue + t.blue
+    → AreSums p (box ++ more) new
+sums_joined p box more s t new h g count red green blue = record {
+  count = omega (arith, count, h.count, g.count, sum_by-append (λ c. cond (p c) 1 0) box more);
+  red = omega (arith, red, h.red, g.red, sum_by-append (λ c. cond (p c) (get_or c 0 0) 0) box more);
+  green = omega (arith, green, h.green, g.green, sum_by-append (λ c. cond (p c) (get_or c 1 0) 0) box more);
+  blue = omega (arith, blue, h.blue, g.blue, sum_by-append (λ c. cond (p c) (get_or c 2 0) 0) box more);
 }
 
 -- at first there is no color
@@ -135,11 +84,12 @@ are_few p box sums bytes h = (
   omega (arith, h.count, h.blue, sum_few p (λ x. get_or x 2 0) box (bytes_in box 2 bytes)),
 )
 
-pub both_few : (p q : List ℕ → Bool) (box : List (List ℕ)) (s t : Sums) → All AreBytes box → AreSums p box s → AreSums q box t
+pub both_few : (p q : List ℕ → Bool) (box more : List (List ℕ)) (s t : Sums) → All AreBytes box → All AreBytes more → AreSums p box s
+    → AreSums q more t
     → (s.red + t.red ≤ 255 * (s.count + t.count)) × (s.green + t.green ≤ 255 * (s.count + t.count)) × (s.blue + t.blue ≤ 255 * (s.count + t.count))
-both_few p q box s t bytes h g =
+both_few p q box more s t bytes also h g =
     let one = are_few p box s bytes h in
-    let two = are_few q box t bytes g in
+    let two = are_few q more t also g in
     (omega (arith, one.0, two.0), omega (arith, one.1, two.1), omega (arith, one.2, two.2))
 
 pub count_few : (p : List ℕ → Bool) (box : List (List ℕ)) (sums : Sums) → AreSums p box sums → sums.count ≤ length box
@@ -174,6 +124,16 @@ weigh_same n r g b m x y z e f h i = rw (e, f, h, i) refl
 pub whole_weight : (box : List (List ℕ)) (all : Sums) → AreSums (λ c. true) box all → weight_by all.count all.red all.green all.blue ≡ weight box
 whole_weight box all h =
     weigh_same all.count all.red all.green all.blue (length box) (sum_in 0 box) (sum_in 1 box) (sum_in 2 box) (h.count ∙ length_sum box) h.red h.green h.blue
+
+-- the sums of as many colors as there are, are those of all
+pub full_sums : (p : List ℕ → Bool) (box : List (List ℕ)) (sums : Sums) → All AreBytes box → AreSums p box sums → sums.count ≡ length box
+    → AreSums (λ c. true) box sums
+full_sums p box sums bytes h full = record {
+  count = full ∙ sym (length_sum box);
+  red = omega (arith, full, h.count, h.red, sum_le p (λ x. get_or x 0 0) box, rest_few p (λ x. get_or x 0 0) box (bytes_in box 0 bytes));
+  green = omega (arith, full, h.count, h.green, sum_le p (λ x. get_or x 1 0) box, rest_few p (λ x. get_or x 1 0) box (bytes_in box 1 bytes));
+  blue = omega (arith, full, h.count, h.blue, sum_le p (λ x. get_or x 2 0) box, rest_few p (λ x. get_or x 2 0) box (bytes_in box 2 bytes));
+}
 
 -- what few colors weigh is little
 pub weight_few : (n r g b : ℕ) → r ≤ 255 * n → g ≤ 255 * n → b ≤ 255 * n → weight_by n r g b ≤ 195075 * n

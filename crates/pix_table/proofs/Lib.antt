@@ -9,6 +9,7 @@ pub mod Parts
 pub mod CutBoxes
 pub mod SumLemmas
 pub mod BoxSumLemmas
+pub mod WordLemmas
 pub mod PlaceLemmas
 pub mod PlaceSteps
 pub mod PieceBoxes

@@ -1,6 +1,6 @@
 -- Sums of the colors of a box that pass a test.
 use Rattle.std.proofs.Common.{◌≡◌, ℕ, ◌+◌, ◌*◌, ◌≤◌, Bool, true, false, cond, List, [], ◌∷◌, ◌++◌, length, get_or, count_by, nat_lt, nat_eq, sum_by, All, refl, arith, sym, ap, ◌∙◌, inl, inr, lt-ltb, le-ltb, eq-eqb, ne_eqb, IsPermutation}
-use Rattle.std.proofs.lemmas.Bool.{cases_lt, cases_order}
+use Rattle.std.proofs.lemmas.Bool.{cases_lt, cases_eq, cases_order}
 use Rattle.std.proofs.lemmas.List.Sums.{sum_by-cons, sum_by-append}
 use Rattle.std.proofs.lemmas.List.Sorted.{sum_by-IsPermutation}
 use Rattle.std.proofs.lemmas.List.Elements.{All-head, All-tail}
@@ -99,6 +99,24 @@ part_le false x = omega arith
 pub sum_le : (p : List ℕ → Bool) (f : List ℕ → ℕ) (box : List (List ℕ)) → sum_of p f box ≤ sum_by f box
 sum_le p f [] = omega arith
 sum_le p f (c ∷ box) = omega (arith, sum_by-cons f c box, sum_of_first p f c box, part_le (p c) (f c), sum_le p f box)
+
+-- of colors of a value, the sum of the channel is as many times the value
+one_own : (x v : ℕ) → cond (nat_eq x v) x 0 ≡ v * cond (nat_eq x v) 1 0
+one_own x v = elim (cases_eq x v) [
+  | inl e ↦ rw (eq-eqb x v e) (let same : x ≡ v * 1 = omega (arith, e) in same)
+  | inr n ↦ rw (ne_eqb x v n) (let same : 0 ≡ v * 0 = omega arith in same)
+]
+
+pub sum_own : (k v : ℕ) (box : List (List ℕ)) → sum_of (is_at k v) (λ c. get_or c k 0) box ≡ v * count_by (is_at k v) box
+sum_own k v [] = omega arith
+sum_own k v (c ∷ box) =
+    omega (
+      arith,
+      sum_of_first (is_at k v) (λ x. get_or x k 0) c box,
+      ap (λ n. v * n) (sum_of_first (is_at k v) (λ x. 1) c box),
+      one_own (get_or c k 0) v,
+      sum_own k v box,
+    )
 
 -- where all colors pass, their sum is that of the list; where none does, it is 0
 pub sum_all : (p : List ℕ → Bool) (f : List ℕ → ℕ) (box : List (List ℕ)) → All (λ c. p c ≡ true) box → sum_of p f box ≡ sum_by f box

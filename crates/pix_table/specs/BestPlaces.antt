@@ -31,6 +31,22 @@ pub record AreByValue (channel : ℕ) (box : List (List ℕ)) (parts : List Sums
   pub many : length parts ≡ 256
   pub each : (value : ℕ) (d : Sums) → value < 256 → AreSums (is_at channel value) box (slice_index_or parts value d)
 
+-- the two channels beside another
+abbrev pub other : ℕ → ℕ
+other channel = cond (nat_eq channel 0) 1 0
+
+abbrev pub another : ℕ → ℕ
+another channel = cond (nat_lt channel 2) 2 1
+
+-- a color in one number: a one, and the numbers of the channels beside another
+abbrev pub word_of : ℕ → List ℕ → ℕ
+word_of channel color = 281474976710656 + slice_index color (other channel) * 16777216 + slice_index color (another channel)
+
+-- for each value of a channel the sum of such numbers of the colors that have it
+pub record AreWords (channel : ℕ) (box : List (List ℕ)) (words : List ℕ) : Type 0 where
+  pub many : length words ≡ 256
+  pub each : (value : ℕ) → value < 256 → slice_index words value ≡ sum_of (is_at channel value) (word_of channel) box
+
 -- what a count and three sums weigh
 abbrev pub weight_by : (count red green blue : ℕ) → ℕ
 weight_by count red green blue = (red * red + green * green + blue * blue) / count

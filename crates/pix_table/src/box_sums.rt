@@ -1,11 +1,21 @@
 //! Sums of colors: of a box, and of its colors of each value of a channel.
-ghost use Rattle.std.specs.Prelude.{◌≡◌, ◌+◌, ◌-◌, ◌*◌, ◌<◌, ◌≤◌, All, true, map};
+ghost use Rattle.std.specs.Prelude.{◌≡◌, ℕ, ◌+◌, ◌-◌, ◌*◌, ◌<◌, ◌≤◌, All, List, length, map, true};
 ghost use Rattle.pix_table.specs.Nearest.{numbers};
-ghost use Rattle.pix_table.specs.BestPlaces.{AreBytes, AreByValue, ArePart, AreSums, weight_by};
+ghost use Rattle.pix_table.specs.BestPlaces.{AreByValue, AreBytes, ArePart, AreSums, AreWords};
+ghost use Rattle.pix_table.specs.BestPlaces.{is_at, sum_of, weight_by, word_of};
 
 use crate::color::Color;
 use crate::cut::channel;
 use crate::weight::weight;
+
+/// The most colors whose words can be added in one word.
+const BLOCK: usize = 65535;
+
+/// The word of one color is above this, and the sums of two channels are below.
+const ONE: u64 = 281474976710656;
+
+/// The sum of a channel in a word is above this, and that of another one below.
+const HIGH: u64 = 16777216;
 
 /// How many colors there are, and the sums of their numbers in each channel.
 #[derive(Clone, Copy)]
@@ -32,23 +42,27 @@ impl Sums {
         }
     }
 
-    /// Returns the sums with a color more.
-    fn with(self, clr: Color) -> Sums
-        requires few { self.count < 18446744073709551615 }
-        requires red { self.red ≤ 255 * self.count }
-        requires green { self.green ≤ 255 * self.count }
-        requires blue { self.blue ≤ 255 * self.count }
-        ensures count { result.count ≡ self.count + 1 }
-        ensures red { result.red ≡ self.red + clr.red }
-        ensures green { result.green ≡ self.green + clr.green }
-        ensures blue { result.blue ≡ self.blue + clr.blue }
-        ensures bytes { AreBytes (numbers clr) }
+    /// Returns the sums of the colors that have a value in a channel, of the sum of their words.
+    fn of_word(word: u64, k: usize, value: usize) -> Sums
+        requires channel { k < 3 }
+        requires value { value < 256 }
+        ensures { (box : List (List ℕ)) → length box ≤ 65535 → All AreBytes box
+            → word ≡ sum_of (is_at k value) (word_of k) box
+            → AreSums (is_at k value) box result }
     {
+        let count = (word / ONE) as usize;
+        let own = (value * count) as u128;
+        let (high, low) = (u128::from(word / HIGH % HIGH), u128::from(word % HIGH));
+        let (red, green, blue) = match k {
+            0 => (own, high, low),
+            1 => (high, own, low),
+            _ => (high, low, own),
+        };
         Sums {
-            count: self.count + 1,
-            red: self.red + u128::from(clr.red),
-            green: self.green + u128::from(clr.green),
-            blue: self.blue + u128::from(clr.blue),
+            count,
+            red,
+            green,
+            blue,
         }
     }
 
@@ -116,6 +130,7 @@ impl Sums {
 
 /// Returns the sums of a box's colors of each value of a channel: each channel has a loop of its own.
 pub(crate) fn sums_by_value(colors: &[Color], k: usize) -> [Sums; 256]
+    requires { k < 3 }
     ensures sums { AreByValue k (map numbers colors.now) result }
     ensures bytes { All AreBytes (map numbers colors.now) }
 {
@@ -130,16 +145,47 @@ pub(crate) fn sums_by_value(colors: &[Color], k: usize) -> [Sums; 256]
 /// Does what [`sums_by_value`] does.
 #[inline(always)]
 fn sums_in(colors: &[Color], k: usize) -> [Sums; 256]
+    requires { k < 3 }
     ensures sums { AreByValue k (map numbers colors.now) result }
     ensures bytes { All AreBytes (map numbers colors.now) }
 {
     let mut parts = [Sums::none(); 256];
-    for i in 0..colors.len() {
-        let clr = colors[i];
-        let value = usize::from(channel(clr, k));
-        parts[value] = parts[value].with(clr);
+    for i in 0..colors.len() / BLOCK + 1 {
+        let end = colors.len().min((i + 1) * BLOCK);
+        let words = words_in(&colors[i * BLOCK..end], k);
+        for value in 0..256 {
+            if words[value] == 0 {
+                continue;
+            }
+            parts[value] = parts[value].and(Sums::of_word(words[value], k, value));
+        }
     }
     parts
+}
+
+/// Returns for each value of a channel the sum of the words of the colors that have it.
+#[inline(always)]
+fn words_in(colors: &[Color], k: usize) -> [u64; 256]
+    requires { length colors.now ≤ 65535 }
+    ensures words { AreWords k (map numbers colors.now) result }
+    ensures bytes { All AreBytes (map numbers colors.now) }
+{
+    let mut words = [0; 256];
+    for i in 0..colors.len() {
+        words[usize::from(channel(colors[i], k))] += word(colors[i], k);
+    }
+    words
+}
+
+/// Returns the word of a color: a one, and the numbers of the channels beside one.
+#[inline(always)]
+fn word(clr: Color, k: usize) -> u64
+    ensures word { result ≡ word_of k (numbers clr) }
+    ensures bytes { AreBytes (numbers clr) }
+{
+    let high = channel(clr, if k == 0 { 1 } else { 0 });
+    let low = channel(clr, if k < 2 { 2 } else { 1 });
+    ONE + u64::from(high) * HIGH + u64::from(low)
 }
 
 /// Returns the sums of a box, of those of its colors of each value of a channel.
@@ -150,6 +196,9 @@ pub(crate) fn total(colors: &[Color], k: usize, parts: &[Sums; 256]) -> Sums
 {
     let mut sums = Sums::none();
     for value in 0..256 {
+        if sums.count == colors.len() {
+            return sums;
+        }
         sums = sums.and(parts[value]);
     }
     sums

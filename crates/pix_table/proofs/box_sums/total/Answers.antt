@@ -1,9 +1,10 @@
 -- Of `total`: that the sums are those of the colors below each value, and at the end of all.
 use Rattle.std.proofs.Common.{◌≡◌, ◌+◌, ◌*◌, ◌≤◌, arith, map, subst, get_or}
+use Rattle.std.proofs.lemmas.List.{length-map}
 use Rattle.pix_table.specs.Nearest.{numbers}
 use Rattle.pix_table.specs.BestPlaces.{AreSums, is_at, is_below}
 use Rattle.pix_table.specs.declared.box_sums.Sums.{Sums}
-use Rattle.pix_table.proofs.BoxSumLemmas.{below_none, below_more, below_all, both_few}
+use Rattle.pix_table.proofs.BoxSumLemmas.{below_none, below_more, below_all, both_few, full_sums}
 use Rattle.pix_table.proofs.box_sums.total.Goals as goal
 
 abbrev nothing : Sums
@@ -21,6 +22,11 @@ loop-value-preserved c =
     below_more c.args.k v (map numbers c.args.colors.now) c.loop-value.sums (get_or c.args.parts.now v nothing) c.and-sums.result c.loop-value.invariant
     (c.requires.sums.each v nothing c.loop-value-test.true) e.count e.red e.green e.blue
 
+pub returns-then-sums-colors : goal.returns-then-sums-colors
+returns-then-sums-colors c =
+    full_sums (is_below c.args.k c.loop-value.value) (map numbers c.args.colors.now) c.loop-value.sums c.requires.bytes c.loop-value.invariant
+    (omega (arith, c.if-sums-colors.true, length-map c.args.colors.now numbers))
+
 pub returns : goal.returns
 returns c =
     let box = map numbers c.args.colors.now in
@@ -33,9 +39,10 @@ few : (c : goal.After-and-arg-1)
     let p = get_or c.args.parts.now c.loop-value.value nothing in
     (s.red + p.red ≤ 255 * (s.count + p.count)) × (s.green + p.green ≤ 255 * (s.count + p.count)) × (s.blue + p.blue ≤ 255 * (s.count + p.count))
 few c =
+    let box = map numbers c.args.colors.now in
     let v = c.loop-value.value in
-    both_few (is_below c.args.k v) (is_at c.args.k v) (map numbers c.args.colors.now) c.loop-value.sums (get_or c.args.parts.now v nothing) c.requires.bytes
-    c.loop-value.invariant (c.requires.sums.each v nothing c.loop-value-test.true)
+    both_few (is_below c.args.k v) (is_at c.args.k v) box box c.loop-value.sums (get_or c.args.parts.now v nothing) c.requires.bytes
+    c.requires.bytes c.loop-value.invariant (c.requires.sums.each v nothing c.loop-value-test.true)
 
 pub and-sums-requires-clause-red : goal.and-sums-requires-clause-red
 and-sums-requires-clause-red c = (few c).0

@@ -51,7 +51,7 @@ few c =
     let box = map numbers c.args.colors.now in
     let v = c.loop-value.value in
     let part = part_at c.args.k v c.from.result box c.sums_by_value-parts.result nothing c.sums_by_value-parts.ensures.sums c.from.ensures (omega arith) in
-    both_few _ _ box c.loop-value.low _ c.sums_by_value-parts.ensures.bytes c.loop-value.invariant.low part
+    both_few _ _ box box c.loop-value.low _ c.sums_by_value-parts.ensures.bytes c.sums_by_value-parts.ensures.bytes c.loop-value.invariant.low part
 
 pub and-low-requires-clause-red : goal.and-low-requires-clause-red
 and-low-requires-clause-red c = (few c).0
