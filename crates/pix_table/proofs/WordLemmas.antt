@@ -1,9 +1,9 @@
 -- Words: sums of colors that stand side by side in one number.
-use Rattle.std.proofs.Common.{◌≡◌, ◌≢◌, ℕ, ◌+◌, ◌*◌, ◌/◌, ◌%◌, ◌-◌, ◌<◌, ◌≤◌, Bool, true, false, cond, List, [], ◌∷◌, ◌++◌, length, map, min, take, drop, replicate, get_or, count_by, All, refl, arith, sym, ap, ◌∙◌, subst, inl, inr, set}
+use Rattle.std.proofs.Common.{◌≡◌, ◌≢◌, ℕ, ◌+◌, ◌*◌, ◌/◌, ◌%◌, ◌-◌, ◌<◌, ◌≤◌, Bool, true, false, cond, List, [], ◌∷◌, ◌++◌, length, map, min, take, drop, replicate, get_or, count_by, All, refl, arith, sym, ap, ◌∙◌, subst, inl, inr, set, length-set, nat_eq, eq-eqb, ne_eqb}
 use Rattle.std.proofs.Math.Seq.{take-add}
-use Rattle.std.proofs.lemmas.Bool.{cases_lt}
+use Rattle.std.proofs.lemmas.Bool.{cases_eq, cases_lt}
 use Rattle.std.proofs.lemmas.List.{get_or-replicate, get_or-set_other, get_or-set_same, length-replicate, map-append, take_all}
-use Rattle.std.proofs.lemmas.List.Sums.{sum_by-cons}
+use Rattle.std.proofs.lemmas.List.Sums.{sum_by-cons, sum_by_push}
 use Rattle.pix_table.specs.Nearest.{numbers}
 use Rattle.pix_table.specs.BestPlaces.{AreBytes, AreSums, AreWords, another, is_at, other, sum_of, word_of}
 use Rattle.pix_table.specs.declared.box_sums.Sums.{Sums}
@@ -45,6 +45,31 @@ word_most p k box bytes =
 
 pub words_none : (k : ℕ) → AreWords k [] (replicate 256 0)
 words_none k = record { many = length-replicate {A = ℕ} 256 0; each = λ v inside. get_or-replicate 256 v 0 0 inside }
+
+-- the words of one color more
+pub words_more : (k v : ℕ) (box more : List (List ℕ)) (words : List ℕ) (c : Color) (w : ℕ) → more ≡ box ++ numbers c ∷ [] → AreWords k box words
+    → v ≡ get_or (numbers c) k 0 → w ≡ word_of k (numbers c) → AreWords k more (set words v (get_or words v 0 + w))
+words_more k v box more words c w grown h e made = record {
+  many = length-set words v (get_or words v 0 + w) ∙ h.many;
+  each = λ u inside.
+      let pushed : sum_of (is_at k u) (word_of k) more
+      ≡ sum_of (is_at k u) (word_of k) box + cond (nat_eq (get_or (numbers c) k 0) u) (word_of k (numbers c)) 0 =
+      ap (sum_of (is_at k u) (word_of k)) grown ∙ sum_by_push (λ x. cond (is_at k u x) (word_of k x) 0) box (numbers c) in
+      elim (cases_eq u v) [
+        | inl same ↦
+            let here : cond (nat_eq (get_or (numbers c) k 0) u) (word_of k (numbers c)) 0 ≡ word_of k (numbers c) =
+            ap (λ b. cond b (word_of k (numbers c)) 0) (eq-eqb (get_or (numbers c) k 0) u (omega (arith, e, same))) in
+            let there : get_or (set words v (get_or words v 0 + w)) u 0 ≡ get_or words v 0 + w =
+            ap (λ j. get_or (set words v (get_or words v 0 + w)) j 0) same
+            ∙ get_or-set_same words v (get_or words v 0 + w) 0 (omega (arith, h.many, inside, same)) in
+            let before : get_or words v 0 ≡ sum_of (is_at k u) (word_of k) box = ap (λ j. get_or words j 0) (sym same) ∙ h.each u inside in
+            omega (arith, there, pushed, here, before, made)
+        | inr apart ↦
+            let none : cond (nat_eq (get_or (numbers c) k 0) u) (word_of k (numbers c)) 0 ≡ 0 =
+            ap (λ b. cond b (word_of k (numbers c)) 0) (ne_eqb (get_or (numbers c) k 0) u (λ eq. apart (omega (arith, e, eq)))) in
+            omega (arith, get_or-set_other words v u (get_or words v 0 + w) 0 apart, pushed, none, h.each u inside)
+      ];
+}
 
 -- the parts of a sum of words
 module _ (p : List ℕ → Bool) (k : ℕ) (box : List (List ℕ)) (word : ℕ) (few : length box ≤ 65535) (bytes : All AreBytes box)
@@ -98,17 +123,23 @@ module _ (v word : ℕ) (box : List (List ℕ)) (high low : ℕ) (few : length b
   }
 
 -- a word of 0 is of no colors
+pub word_none : (p : List ℕ → Bool) (k : ℕ) (box : List (List ℕ)) (word : ℕ) (none : Sums) → All AreBytes box
+    → word ≡ sum_of p (word_of k) box → word ≡ 0 → none.count ≡ 0 → none.red ≡ 0 → none.green ≡ 0 → none.blue ≡ 0 → AreSums p box none
+word_none p k box word none bytes h zero count red green blue =
+    let no : count_by p box ≡ 0 = omega (arith, h, zero, word_parts p k box) in
+    record {
+      count = omega (arith, count, no);
+      red = omega (arith, red, no, sum_few p (λ c. get_or c 0 0) box (bytes_in box 0 bytes));
+      green = omega (arith, green, no, sum_few p (λ c. get_or c 1 0) box (bytes_in box 1 bytes));
+      blue = omega (arith, blue, no, sum_few p (λ c. get_or c 2 0) box (bytes_in box 2 bytes));
+    }
+
 pub word_zero : (p : List ℕ → Bool) (k : ℕ) (box more : List (List ℕ)) (word : ℕ) (sums : Sums) → All AreBytes more
     → word ≡ sum_of p (word_of k) more → word ≡ 0 → AreSums p box sums → AreSums p (box ++ more) sums
 word_zero p k box more word sums bytes h zero g =
-    let none : count_by p more ≡ 0 = omega (arith, h, zero, word_parts p k more) in
-    let rest : AreSums p more (record { count = 0; red = 0; green = 0; blue = 0 }) = record {
-      count = sym none;
-      red = omega (arith, none, sum_few p (λ c. get_or c 0 0) more (bytes_in more 0 bytes));
-      green = omega (arith, none, sum_few p (λ c. get_or c 1 0) more (bytes_in more 1 bytes));
-      blue = omega (arith, none, sum_few p (λ c. get_or c 2 0) more (bytes_in more 2 bytes));
-    } in
-    sums_joined p box more sums _ sums g rest (omega arith) (omega arith) (omega arith) (omega arith)
+    let none : Sums = record { count = 0; red = 0; green = 0; blue = 0 } in
+    sums_joined p box more sums none sums g (word_none p k more word none bytes h zero refl refl refl refl) (omega arith) (omega arith) (omega arith)
+    (omega arith)
 
 -- the first colors, and a block of those after them
 pub block_more : (xs : List Color) (start end : ℕ) → start ≤ end

@@ -9,12 +9,12 @@ use crate::cut::channel;
 use crate::weight::weight;
 
 /// The most colors whose words can be added in one word.
-const BLOCK: usize = 65535;
+pub(crate) const BLOCK: usize = 65535;
 
-/// The word of one color is above this, and the sums of two channels are below.
+/// How often this is in a word tells how many colors there are.
 const ONE: u64 = 281474976710656;
 
-/// The sum of a channel in a word is above this, and that of another one below.
+/// How often this is in the rest tells the sum of the first other channel; what is left is that of the second.
 const HIGH: u64 = 16777216;
 
 /// How many colors there are, and the sums of their numbers in each channel.
@@ -50,6 +50,9 @@ impl Sums {
             → word ≡ sum_of (is_at k value) (word_of k) box
             → AreSums (is_at k value) box result }
     {
+        if word == 0 {
+            return Sums::none();
+        }
         let count = (word / ONE) as usize;
         let own = (value * count) as u128;
         let (high, low) = (u128::from(word / HIGH % HIGH), u128::from(word % HIGH));
@@ -128,29 +131,74 @@ impl Sums {
     }
 }
 
-/// Returns the sums of a box's colors of each value of a channel: each channel has a loop of its own.
-pub(crate) fn sums_by_value(colors: &[Color], k: usize) -> [Sums; 256]
-    requires { k < 3 }
-    ensures sums { AreByValue k (map numbers colors.now) result }
+/// For each value of each channel the sum of the words of the colors that have it.
+#[derive(Clone, Copy)]
+pub(crate) struct Words {
+    pub(crate) reds: [u64; 256],
+    pub(crate) greens: [u64; 256],
+    pub(crate) blues: [u64; 256],
+}
+
+/// Returns the words of a block of colors.
+pub(crate) fn words_of(colors: &[Color]) -> Words
+    requires { length colors.now ≤ 65535 }
+    ensures reds { AreWords 0 (map numbers colors.now) result.reds }
+    ensures greens { AreWords 1 (map numbers colors.now) result.greens }
+    ensures blues { AreWords 2 (map numbers colors.now) result.blues }
     ensures bytes { All AreBytes (map numbers colors.now) }
 {
-    match k {
-        0 => sums_in(colors, 0),
-        1 => sums_in(colors, 1),
-        2 => sums_in(colors, 2),
-        _ => sums_in(colors, k),
+    let (mut reds, mut greens, mut blues) = ([0; 256], [0; 256], [0; 256]);
+    for i in 0..colors.len() {
+        let clr = colors[i];
+        reds[usize::from(channel(clr, 0))] += word(clr, 0);
+        greens[usize::from(channel(clr, 1))] += word(clr, 1);
+        blues[usize::from(channel(clr, 2))] += word(clr, 2);
+    }
+    Words {
+        reds,
+        greens,
+        blues,
     }
 }
 
-/// Does what [`sums_by_value`] does.
-#[inline(always)]
-fn sums_in(colors: &[Color], k: usize) -> [Sums; 256]
+/// Sets the sums of the colors of each value of a channel to those of their words.
+pub(crate) fn set_sums(parts: &mut [Sums; 256], words: &[u64; 256], k: usize)
     requires { k < 3 }
-    ensures sums { AreByValue k (map numbers colors.now) result }
+    ensures { (box : List (List ℕ)) → length box ≤ 65535 → All AreBytes box
+        → AreWords k box words.now → AreByValue k box parts.new }
+{
+    for value in 0..256 {
+        parts[value] = Sums::of_word(words[value], k, value);
+    }
+}
+
+/// Sets the sums of the colors of each value of a channel to those of a box that is more than a block:
+/// each channel has a loop of its own.
+pub(crate) fn sum_blocks(parts: &mut [Sums; 256], colors: &[Color], k: usize)
+    requires channel { k < 3 }
+    requires many { 65535 < length colors.now }
+    ensures sums { AreByValue k (map numbers colors.now) parts.new }
     ensures bytes { All AreBytes (map numbers colors.now) }
 {
-    let mut parts = [Sums::none(); 256];
-    for i in 0..colors.len() / BLOCK + 1 {
+    match k {
+        0 => sum_in(parts, colors, 0),
+        1 => sum_in(parts, colors, 1),
+        2 => sum_in(parts, colors, 2),
+        _ => sum_in(parts, colors, k),
+    }
+}
+
+/// Does what [`sum_blocks`] does.
+#[inline(always)]
+fn sum_in(parts: &mut [Sums; 256], colors: &[Color], k: usize)
+    requires channel { k < 3 }
+    requires many { 65535 < length colors.now }
+    ensures sums { AreByValue k (map numbers colors.now) parts.new }
+    ensures bytes { All AreBytes (map numbers colors.now) }
+{
+    let words = words_in(&colors[..BLOCK], k);
+    set_sums(parts, &words, k);
+    for i in 1..colors.len() / BLOCK + 1 {
         let end = colors.len().min((i + 1) * BLOCK);
         let words = words_in(&colors[i * BLOCK..end], k);
         for value in 0..256 {
@@ -160,10 +208,9 @@ fn sums_in(colors: &[Color], k: usize) -> [Sums; 256]
             parts[value] = parts[value].and(Sums::of_word(words[value], k, value));
         }
     }
-    parts
 }
 
-/// Returns for each value of a channel the sum of the words of the colors that have it.
+/// Returns the words of a block of colors for one channel.
 #[inline(always)]
 fn words_in(colors: &[Color], k: usize) -> [u64; 256]
     requires { length colors.now ≤ 65535 }

@@ -1,10 +1,11 @@
 //! The place at which a cut of a box of colors lowers the squared error most.
-ghost use Rattle.std.specs.Prelude.{◌≡◌, ℕ, ◌+◌, ◌<◌, ◌≤◌, List, map, length, MatchOption};
+ghost use Rattle.std.specs.Prelude.{◌≡◌, ℕ, ◌+◌, ◌<◌, ◌≤◌, All, List, length, map, MatchOption, true};
 ghost use Rattle.pix_table.specs.Nearest.{numbers};
 ghost use Rattle.pix_table.specs.Places.{CannotBeCut, HasBest};
-ghost use Rattle.pix_table.specs.BestPlaces.{CanCut, IsBestUpTo, gain_at};
+ghost use Rattle.pix_table.specs.BestPlaces.{AreByValue, AreBytes, AreSums, CanCut};
+ghost use Rattle.pix_table.specs.BestPlaces.{IsBestUpTo, gain_at};
 
-use crate::box_sums::{Sums, sums_by_value, total};
+use crate::box_sums::{BLOCK, Sums, set_sums, sum_blocks, total, words_of};
 use crate::color::Color;
 
 /// A place of a box: the colors whose number in a channel is below a value come before it. And what a cut there gains.
@@ -23,22 +24,61 @@ pub(crate) fn best_place(colors: &[Color]) -> Option<Place>
     if colors.len() < 2 {
         return None;
     }
-    let mut best = None;
-    for k in 0..3 {
-        best = best_in(colors, k, best);
+    if colors.len() <= BLOCK {
+        best_of_block(colors)
+    } else {
+        best_of_blocks(colors)
     }
-    best
+}
+
+/// Does what [`best_place`] does for a block of colors: in one turn over them.
+fn best_of_block(colors: &[Color]) -> Option<Place>
+    requires some { 0 < length colors.now }
+    requires few { length colors.now ≤ 65535 }
+    ensures { IsBestUpTo (map numbers colors.now) 3 0 result }
+{
+    let words = words_of(colors);
+    let mut parts = [Sums::none(); 256];
+    set_sums(&mut parts, &words.reds, 0);
+    let all = total(colors, 0, &parts);
+    let best = best_in(colors, 0, &parts, all, None);
+    set_sums(&mut parts, &words.greens, 1);
+    let best = best_in(colors, 1, &parts, all, best);
+    set_sums(&mut parts, &words.blues, 2);
+    best_in(colors, 2, &parts, all, best)
+}
+
+/// Does what [`best_place`] does for more colors than a block: in a turn over them for each channel.
+fn best_of_blocks(colors: &[Color]) -> Option<Place>
+    requires { 65535 < length colors.now }
+    ensures { IsBestUpTo (map numbers colors.now) 3 0 result }
+{
+    let mut parts = [Sums::none(); 256];
+    sum_blocks(&mut parts, colors, 0);
+    let all = total(colors, 0, &parts);
+    let best = best_in(colors, 0, &parts, all, None);
+    sum_blocks(&mut parts, colors, 1);
+    let best = best_in(colors, 1, &parts, all, best);
+    sum_blocks(&mut parts, colors, 2);
+    best_in(colors, 2, &parts, all, best)
 }
 
 /// Returns the best place up to the end of a channel, where `best` is the best before it.
-fn best_in(colors: &[Color], k: usize, best: Option<Place>) -> Option<Place>
+fn best_in(
+    colors: &[Color],
+    k: usize,
+    parts: &[Sums; 256],
+    all: Sums,
+    best: Option<Place>,
+) -> Option<Place>
     requires some { 0 < length colors.now }
     requires channel { k < 3 }
+    requires sums { AreByValue k (map numbers colors.now) parts.now }
+    requires all { AreSums (λ color. true) (map numbers colors.now) all }
+    requires bytes { All AreBytes (map numbers colors.now) }
     requires before { IsBestUpTo (map numbers colors.now) k 0 best }
     ensures { IsBestUpTo (map numbers colors.now) (k + 1) 0 result }
 {
-    let parts = sums_by_value(colors, k);
-    let all = total(colors, k, &parts);
     let whole = all.weight();
     let mut best = best;
     let mut low = Sums::none();

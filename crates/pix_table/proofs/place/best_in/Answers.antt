@@ -14,13 +14,13 @@ abbrev nothing : Sums
 nothing = record { count = 0; red = 0; green = 0; blue = 0 }
 
 pub weight-whole-requires-clause-red : goal.weight-whole-requires-clause-red
-weight-whole-requires-clause-red c = (are_few _ _ _ c.sums_by_value-parts.ensures.bytes c.total-all.ensures).0
+weight-whole-requires-clause-red c = (are_few _ _ _ c.requires.bytes c.requires.all).0
 
 pub weight-whole-requires-clause-green : goal.weight-whole-requires-clause-green
-weight-whole-requires-clause-green c = (are_few _ _ _ c.sums_by_value-parts.ensures.bytes c.total-all.ensures).1
+weight-whole-requires-clause-green c = (are_few _ _ _ c.requires.bytes c.requires.all).1
 
 pub weight-whole-requires-clause-blue : goal.weight-whole-requires-clause-blue
-weight-whole-requires-clause-blue c = (are_few _ _ _ c.sums_by_value-parts.ensures.bytes c.total-all.ensures).2
+weight-whole-requires-clause-blue c = (are_few _ _ _ c.requires.bytes c.requires.all).2
 
 pub loop-value-init : goal.loop-value-init
 loop-value-init c =
@@ -34,24 +34,24 @@ pub loop-value-preserved-then-part-eq0 : goal.loop-value-preserved-then-part-eq0
 loop-value-preserved-then-part-eq0 c =
     let box = map numbers c.args.colors.now in
     let v = c.loop-value.value in
-    let part = part_at c.args.k v c.from.result box c.sums_by_value-parts.result nothing c.sums_by_value-parts.ensures.sums c.from.ensures (omega arith) in
+    let part = part_at c.args.k v c.from.result box c.args.parts.now nothing c.requires.sums c.from.ensures (omega arith) in
     let low : AreSums (is_below c.args.k (c.loop-value.value + 1)) (map numbers c.args.colors.now) c.loop-value.low =
-    same_below c.args.k v box c.loop-value.low _ c.sums_by_value-parts.ensures.bytes c.loop-value.invariant.low part c.if-part-eq0.true in
+    same_below c.args.k v box c.loop-value.low _ c.requires.bytes c.loop-value.invariant.low part c.if-part-eq0.true in
     record {
       low = low;
-      best = passed_by c.args.k v box c.loop-value.low c.total-all.result c.loop-value.best c.total-all.ensures c.loop-value.invariant.low low
+      best = passed_by c.args.k v box c.loop-value.low c.args.all c.loop-value.best c.requires.all c.loop-value.invariant.low low
           c.loop-value.invariant.best;
     }
 
 few : (c : goal.Else-part-eq0)
     → let s = c.loop-value.low in
-    let p = get_or c.sums_by_value-parts.result c.from.result nothing in
+    let p = get_or c.args.parts.now c.from.result nothing in
     (s.red + p.red ≤ 255 * (s.count + p.count)) × (s.green + p.green ≤ 255 * (s.count + p.count)) × (s.blue + p.blue ≤ 255 * (s.count + p.count))
 few c =
     let box = map numbers c.args.colors.now in
     let v = c.loop-value.value in
-    let part = part_at c.args.k v c.from.result box c.sums_by_value-parts.result nothing c.sums_by_value-parts.ensures.sums c.from.ensures (omega arith) in
-    both_few _ _ box box c.loop-value.low _ c.sums_by_value-parts.ensures.bytes c.sums_by_value-parts.ensures.bytes c.loop-value.invariant.low part
+    let part = part_at c.args.k v c.from.result box c.args.parts.now nothing c.requires.sums c.from.ensures (omega arith) in
+    both_few _ _ box box c.loop-value.low _ c.requires.bytes c.requires.bytes c.loop-value.invariant.low part
 
 pub and-low-requires-clause-red : goal.and-low-requires-clause-red
 and-low-requires-clause-red c = (few c).0
@@ -65,44 +65,39 @@ and-low-requires-clause-blue c = (few c).2
 pub returns-then-low-all : goal.returns-then-low-all
 returns-then-low-all c =
     let box = map numbers c.args.colors.now in
-    let parts = c.sums_by_value-parts in
     let e = c.and-low.ensures in
-    let low = below_next c.args.k c.loop-value.value c.from.result box parts.result nothing c.loop-value.low c.and-low.result parts.ensures.sums
+    let low = below_next c.args.k c.loop-value.value c.from.result box c.args.parts.now nothing c.loop-value.low c.and-low.result c.requires.sums
     c.from.ensures (omega arith) c.loop-value.invariant.low e.count e.red e.green e.blue in
-    let long : c.total-all.result.count ≡ length (map numbers c.args.colors.now) = c.total-all.ensures.count ∙ length_sum box in
+    let long : c.args.all.count ≡ length (map numbers c.args.colors.now) = c.requires.all.count ∙ length_sum box in
     channel_done box c.args.k (c.loop-value.value + 1) c.loop-value.best c.loop-value.invariant.best
     (full_past box c.args.k (c.loop-value.value + 1) c.and-low.result low (omega (arith, long, c.if-low-all.true)))
 
 pub gain-requires : goal.gain-requires
 gain-requires c =
     let box = map numbers c.args.colors.now in
-    let parts = c.sums_by_value-parts in
     let e = c.and-low.ensures in
-    let low = below_next c.args.k c.loop-value.value c.from.result box parts.result nothing c.loop-value.low c.and-low.result parts.ensures.sums
+    let low = below_next c.args.k c.loop-value.value c.from.result box c.args.parts.now nothing c.loop-value.low c.and-low.result c.requires.sums
     c.from.ensures (omega arith) c.loop-value.invariant.low e.count e.red e.green e.blue in
-    let all = c.total-all in
-    are_part _ box c.and-low.result all.result parts.ensures.bytes low all.ensures (omega (arith, e.count, c.if-part-eq0.false))
-    (some_others _ box c.and-low.result all.result low all.ensures c.if-low-all.false)
+    are_part _ box c.and-low.result c.args.all c.requires.bytes low c.requires.all (omega (arith, e.count, c.if-part-eq0.false))
+    (some_others _ box c.and-low.result c.args.all low c.requires.all c.if-low-all.false)
 
 pub loop-value-preserved : goal.loop-value-preserved
 loop-value-preserved c =
     let box = map numbers c.args.colors.now in
-    let parts = c.sums_by_value-parts in
     let v = c.loop-value.value + 1 in
     let e = c.and-low.ensures in
-    let low = below_next c.args.k c.loop-value.value c.from.result box parts.result nothing c.loop-value.low c.and-low.result parts.ensures.sums
+    let low = below_next c.args.k c.loop-value.value c.from.result box c.args.parts.now nothing c.loop-value.low c.and-low.result c.requires.sums
     c.from.ensures (omega arith) c.loop-value.invariant.low e.count e.red e.green e.blue in
-    let all = c.total-all in
-    let can = can_cut c.args.k v box c.and-low.result all.result c.requires.channel low all.ensures (omega (arith, e.count, c.if-part-eq0.false))
+    let can = can_cut c.args.k v box c.and-low.result c.args.all c.requires.channel low c.requires.all (omega (arith, e.count, c.if-part-eq0.false))
     c.if-low-all.false in
     let whole : c.weight-whole.result ≡ weight (map numbers c.args.colors.now) =
-    c.weight-whole.ensures.weight ∙ whole_weight box all.result all.ensures in
+    c.weight-whole.ensures.weight ∙ whole_weight box c.args.all c.requires.all in
     let gains : gain_at c.args.k (c.loop-value.value + 1) (map numbers c.args.colors.now) ≡ c.gain.result =
-    sym (gain_same c.args.k v box c.and-low.result all.result c.weight-whole.result low all.ensures whole) ∙ sym c.gain.ensures in
+    sym (gain_same c.args.k v box c.and-low.result c.args.all c.weight-whole.result low c.requires.all whole) ∙ sym c.gain.ensures in
     record { low = low; best = c.better-best.ensures box c.loop-value.invariant.best can gains }
 
 pub returns : goal.returns
 returns c =
     let box = map numbers c.args.colors.now in
     channel_done box c.args.k (c.loop-value.value + 1) c.loop-value.best c.loop-value.invariant.best
-    (bytes_past box c.args.k (c.loop-value.value + 1) c.sums_by_value-parts.ensures.bytes (omega arith))
+    (bytes_past box c.args.k (c.loop-value.value + 1) c.requires.bytes (omega arith))

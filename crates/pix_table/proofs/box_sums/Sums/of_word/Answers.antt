@@ -1,9 +1,14 @@
--- Of `Sums::of_word`: its clause for each channel.
+-- Of `Sums::of_word`: its clause for no colors, and for each channel.
 use Rattle.std.proofs.Common.{◌≡◌, ◌*◌, ◌/◌, arith, sym, subst}
 use Rattle.pix_table.specs.BestPlaces.{AreSums, is_at, sum_of, word_of}
 use Rattle.pix_table.specs.declared.box_sums.Sums.{Sums}
-use Rattle.pix_table.proofs.WordLemmas.{word_red, word_green, word_blue}
+use Rattle.pix_table.proofs.WordLemmas.{word_blue, word_green, word_none, word_red}
 use Rattle.pix_table.proofs.box_sums.Sums.of_word.Goals as goal
+
+pub returns-then-word-eq0 : goal.returns-then-word-eq0
+returns-then-word-eq0 c = λ box few bytes h.
+    let e = c.none.ensures in
+    word_none (is_at c.args.k c.args.value) c.args.k box c.args.word c.none.result bytes h c.if-word-eq0.true e.count e.red e.green e.blue
 
 pub returns-in-0 : goal.returns-in-0
 returns-in-0 c = λ box few bytes h.

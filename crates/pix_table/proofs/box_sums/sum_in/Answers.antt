@@ -1,21 +1,31 @@
--- Of `sums_in`: that the invariants of its loops hold, and that the sums are few.
+-- Of `sum_in`: that the invariants of its loops hold, and that the sums are few.
 use Rattle.std.proofs.Common.{◌≢◌, ◌+◌, ◌-◌, ◌*◌, ◌≤◌, All, arith, drop, get_or, map, subst, sym, take, length-drop, length-set, length-take, ◌∙◌}
 use Rattle.std.proofs.lemmas.List.{get_or-set_other, length-map}
-use Rattle.std.proofs.lemmas.List.Elements.{All-append, All-nil}
+use Rattle.std.proofs.lemmas.List.Elements.{All-append}
 use Rattle.pix_table.specs.Nearest.{numbers}
 use Rattle.pix_table.specs.BestPlaces.{AreBytes, AreSums, is_at}
 use Rattle.pix_table.specs.declared.box_sums.Sums.{Sums}
-use Rattle.pix_table.proofs.BoxSumLemmas.{both_few, by_value_none, count_few, sums_joined}
+use Rattle.pix_table.proofs.BoxSumLemmas.{both_few, count_few, sums_joined}
 use Rattle.pix_table.proofs.WordLemmas.{block_end, block_more, done_more, done_set, word_zero}
-use Rattle.pix_table.proofs.box_sums.sums_in.Goals as goal
+use Rattle.pix_table.proofs.box_sums.sum_in.Goals as goal
 
 abbrev nothing : Sums
 nothing = record { count = 0; red = 0; green = 0; blue = 0 }
 
+pub slice_bounds-words_in-end : goal.slice_bounds-words_in-end
+slice_bounds-words_in-end c = omega (arith, c.requires.many, length-take 65535 c.args.colors.now)
+
+pub words_in-words-requires : goal.words_in-words-requires
+words_in-words-requires c = omega (arith, length-take 65535 c.args.colors.now)
+
 pub loop-i-init : goal.loop-i-init
 loop-i-init c =
-    let e = c.none-parts.ensures in
-    record { sums = by_value_none c.args.k c.none-parts.result e.count e.red e.green e.blue; bytes = All-nil AreBytes }
+    let first = take 65535 c.args.colors.now in
+    let w = c.words_in-words.ensures in
+    record {
+      sums = c.set_sums.ensures (map numbers first) (omega (arith, length-map first numbers, length-take 65535 c.args.colors.now)) w.bytes w.words;
+      bytes = w.bytes;
+    }
 
 pub loop-value-preserved-then-words-value-eq0 : goal.loop-value-preserved-then-words-value-eq0
 loop-value-preserved-then-words-value-eq0 c =
@@ -26,7 +36,7 @@ loop-value-preserved-then-words-value-eq0 c =
     let end = c.min-end.result in
     let before = map numbers (take start xs) in
     let block = map numbers (take (end - start) (drop start xs)) in
-    let w = c.words_in-words in
+    let w = c.words_in-words-in-loop-i in
     record {
       many = c.loop-value.invariant.many;
       done = done_more (λ v s. AreSums (is_at k v) (map numbers (take end xs)) s) c.loop-value.parts value c.loop-value.invariant.done
@@ -51,13 +61,13 @@ more c =
     let end = c.min-end.result in
     let rest = take (end - start) (drop start xs) in
     c.of_word.ensures (map numbers rest) (omega (arith, length-map rest numbers, length-take (end - start) (drop start xs)))
-    c.words_in-words.ensures.bytes (c.words_in-words.ensures.words.each c.loop-value.value c.loop-value-test.true)
+    c.words_in-words-in-loop-i.ensures.bytes (c.words_in-words-in-loop-i.ensures.words.each c.loop-value.value c.loop-value-test.true)
 
 few : (c : goal.After-of_word)
     → let s = get_or c.loop-value.parts c.loop-value.value nothing in
     let t = c.of_word.result in
     (s.red + t.red ≤ 255 * (s.count + t.count)) × (s.green + t.green ≤ 255 * (s.count + t.count)) × (s.blue + t.blue ≤ 255 * (s.count + t.count))
-few c = both_few _ _ _ _ _ _ c.loop-i.invariant.bytes c.words_in-words.ensures.bytes (part c) (more c)
+few c = both_few _ _ _ _ _ _ c.loop-i.invariant.bytes c.words_in-words-in-loop-i.ensures.bytes (part c) (more c)
 
 pub and-requires-clause-few : goal.and-requires-clause-few
 and-requires-clause-few c =
@@ -93,7 +103,7 @@ loop-value-preserved c =
     let start = c.loop-i.i * 65535 in
     let end = c.min-end.result in
     let rest = take (end - start) (drop start xs) in
-    let w = c.words_in-words.ensures in
+    let w = c.words_in-words-in-loop-i.ensures in
     let e = c.and.ensures in
     let part = c.loop-value.invariant.rest value nothing (omega arith) c.loop-value-test.true in
     let more = c.of_word.ensures (map numbers rest) (omega (arith, length-map rest numbers, length-take (end - start) (drop start xs))) w.bytes
@@ -127,5 +137,5 @@ loop-i-preserved c =
       };
       bytes = subst (All AreBytes) (sym (full ∙ grown))
           (All-append AreBytes (map numbers (take start xs)) (map numbers (take (end - start) (drop start xs))) c.loop-i.invariant.bytes
-          c.words_in-words.ensures.bytes);
+          c.words_in-words-in-loop-i.ensures.bytes);
     }
