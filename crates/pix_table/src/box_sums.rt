@@ -14,7 +14,7 @@ pub(crate) const BLOCK: usize = 65535;
 /// How often this is in a word tells how many colors there are.
 const ONE: u64 = 281474976710656;
 
-/// How often this is in the rest tells the sum of the first other channel; what is left is that of the second.
+/// How often this is in the rest tells the sum of one other channel, and what is left that of the second.
 const HIGH: u64 = 16777216;
 
 /// How many colors there are, and the sums of their numbers in each channel.
@@ -119,7 +119,9 @@ impl Sums {
         weight(self.count, [self.red, self.green, self.blue])
     }
 
-    /// Returns what a cut gains, where `low` are the sums of the colors below it, and `whole` is what all weigh.
+    /// Returns what a cut gains, where `low` are the sums of the colors below it.
+    ///
+    /// All colors weigh `whole`.
     pub(crate) fn gain(self, low: Sums, whole: u128) -> u128
         requires { ArePart low self }
         ensures { result ≡ weight_by low.count low.red low.green low.blue
@@ -128,36 +130,6 @@ impl Sums {
             - whole }
     {
         (low.weight() + self.without(low).weight()).saturating_sub(whole)
-    }
-}
-
-/// For each value of each channel the sum of the words of the colors that have it.
-#[derive(Clone, Copy)]
-pub(crate) struct Words {
-    pub(crate) reds: [u64; 256],
-    pub(crate) greens: [u64; 256],
-    pub(crate) blues: [u64; 256],
-}
-
-/// Returns the words of a block of colors.
-pub(crate) fn words_of(colors: &[Color]) -> Words
-    requires { length colors.now ≤ 65535 }
-    ensures reds { AreWords 0 (map numbers colors.now) result.reds }
-    ensures greens { AreWords 1 (map numbers colors.now) result.greens }
-    ensures blues { AreWords 2 (map numbers colors.now) result.blues }
-    ensures bytes { All AreBytes (map numbers colors.now) }
-{
-    let (mut reds, mut greens, mut blues) = ([0; 256], [0; 256], [0; 256]);
-    for i in 0..colors.len() {
-        let clr = colors[i];
-        reds[usize::from(channel(clr, 0))] += word(clr, 0);
-        greens[usize::from(channel(clr, 1))] += word(clr, 1);
-        blues[usize::from(channel(clr, 2))] += word(clr, 2);
-    }
-    Words {
-        reds,
-        greens,
-        blues,
     }
 }
 
@@ -172,8 +144,9 @@ pub(crate) fn set_sums(parts: &mut [Sums; 256], words: &[u64; 256], k: usize)
     }
 }
 
-/// Sets the sums of the colors of each value of a channel to those of a box that is more than a block:
-/// each channel has a loop of its own.
+/// Sets the sums of the colors of each value of a channel to those of a box that is more than a block.
+///
+/// Each channel has a loop of its own.
 pub(crate) fn sum_blocks(parts: &mut [Sums; 256], colors: &[Color], k: usize)
     requires channel { k < 3 }
     requires many { 65535 < length colors.now }
@@ -226,7 +199,7 @@ fn words_in(colors: &[Color], k: usize) -> [u64; 256]
 
 /// Returns the word of a color: a one, and the numbers of the channels beside one.
 #[inline(always)]
-fn word(clr: Color, k: usize) -> u64
+pub(crate) fn word(clr: Color, k: usize) -> u64
     ensures word { result ≡ word_of k (numbers clr) }
     ensures bytes { AreBytes (numbers clr) }
 {

@@ -5,10 +5,11 @@ ghost use Rattle.pix_table.specs.Places.{CannotBeCut, HasBest};
 ghost use Rattle.pix_table.specs.BestPlaces.{AreByValue, AreBytes, AreSums, CanCut};
 ghost use Rattle.pix_table.specs.BestPlaces.{IsBestUpTo, gain_at};
 
-use crate::box_sums::{BLOCK, Sums, set_sums, sum_blocks, total, words_of};
+use crate::box_sums::{BLOCK, Sums, set_sums, sum_blocks, total, word};
 use crate::color::Color;
+use crate::cut::channel;
 
-/// A place of a box: the colors whose number in a channel is below a value come before it. And what a cut there gains.
+/// A place of a box, and what a cut there gains: the numbers of some colors in a channel are below a value.
 #[derive(Clone, Copy)]
 pub(crate) struct Place {
     pub(crate) channel: usize,
@@ -16,7 +17,9 @@ pub(crate) struct Place {
     pub(crate) gain: u128,
 }
 
-/// Returns the place at which a cut of a box gains most, the first of equals; or `None` where all its colors are the same.
+/// Returns the place at which a cut of a box gains most, the first of equals.
+///
+/// It is `None` where all its colors are the same.
 pub(crate) fn best_place(colors: &[Color]) -> Option<Place>
     ensures { MatchOption result (CannotBeCut (map numbers colors.now))
         (λ place. HasBest (map numbers colors.now) place.channel place.value place.gain) }
@@ -31,24 +34,33 @@ pub(crate) fn best_place(colors: &[Color]) -> Option<Place>
     }
 }
 
-/// Does what [`best_place`] does for a block of colors: in one turn over them.
+/// Does what [`best_place`] does for a block of colors, in one turn over them.
+// Out of line, so that the two ways don't add up on the stack.
+#[inline(never)]
 fn best_of_block(colors: &[Color]) -> Option<Place>
     requires some { 0 < length colors.now }
     requires few { length colors.now ≤ 65535 }
     ensures { IsBestUpTo (map numbers colors.now) 3 0 result }
 {
-    let words = words_of(colors);
+    let (mut reds, mut greens, mut blues) = ([0; 256], [0; 256], [0; 256]);
+    for i in 0..colors.len() {
+        let clr = colors[i];
+        reds[usize::from(channel(clr, 0))] += word(clr, 0);
+        greens[usize::from(channel(clr, 1))] += word(clr, 1);
+        blues[usize::from(channel(clr, 2))] += word(clr, 2);
+    }
     let mut parts = [Sums::none(); 256];
-    set_sums(&mut parts, &words.reds, 0);
+    set_sums(&mut parts, &reds, 0);
     let all = total(colors, 0, &parts);
     let best = best_in(colors, 0, &parts, all, None);
-    set_sums(&mut parts, &words.greens, 1);
+    set_sums(&mut parts, &greens, 1);
     let best = best_in(colors, 1, &parts, all, best);
-    set_sums(&mut parts, &words.blues, 2);
+    set_sums(&mut parts, &blues, 2);
     best_in(colors, 2, &parts, all, best)
 }
 
-/// Does what [`best_place`] does for more colors than a block: in a turn over them for each channel.
+/// Does what [`best_place`] does for more colors than a block, in a turn over them for each channel.
+#[inline(never)]
 fn best_of_blocks(colors: &[Color]) -> Option<Place>
     requires { 65535 < length colors.now }
     ensures { IsBestUpTo (map numbers colors.now) 3 0 result }

@@ -1,4 +1,4 @@
--- Of `words_of`: that the words are those of no colors at first, and that their sums fit.
+-- Of `best_of_block`: that the words are those of no colors at first, and that their sums fit.
 use Rattle.std.proofs.Common.{◌≡◌, ◌+◌, All, arith, get_or, length-take, map, subst, sym, take, ◌∙◌}
 use Rattle.std.proofs.lemmas.List.{get_or_default, length-map}
 use Rattle.std.proofs.lemmas.List.Elements.{All-nil, All-push}
@@ -7,7 +7,7 @@ use Rattle.pix_table.specs.BestPlaces.{AreBytes, another, is_at, other}
 use Rattle.pix_table.specs.declared.color.Color.{Color}
 use Rattle.pix_table.proofs.BoxSpans.{map_more}
 use Rattle.pix_table.proofs.WordLemmas.{word_most, words_more, words_none}
-use Rattle.pix_table.proofs.box_sums.words_of.Goals as goal
+use Rattle.pix_table.proofs.place.best_of_block.Goals as goal
 
 pub loop-i-init : goal.loop-i-init
 loop-i-init c = record { reds = words_none 0; greens = words_none 1; blues = words_none 2; bytes = All-nil AreBytes }
