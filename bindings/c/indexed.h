@@ -3,6 +3,7 @@
 #define PIX_INDEXED_H
 #include "pix.h"
 #include <stdlib.h>
+#include <string.h>
 
 static inline int plain_square(int x) {
     return x * x;
@@ -65,74 +66,104 @@ static inline unsigned plain_number(pix_srgb8 color, int channel) {
     return channel == 0 ? color.r : channel == 1 ? color.g : color.b;
 }
 
-/* How many numbers there are from the least to the greatest of a box in a channel, and where they begin. */
-static inline unsigned plain_width(const pix_srgb8 *box, size_t count, int channel, unsigned *greatest) {
-    unsigned least = 255, most = 0;
-    size_t i;
-    for (i = 0; i < count; i++) {
-        unsigned number = plain_number(box[i], channel);
-        least = number < least ? number : least;
-        most = number > most ? number : most;
-    }
-    *greatest = most;
-    return most - least + 1;
+/* A box of colors, and its cut that lowers the squared error most: where the numbers of a channel are below a value, and by
+ * how much. The channel is 3 where all of its colors are the same, so that there is no cut. */
+typedef struct plain_box {
+    pix_srgb8 *colors;
+    size_t count;
+    int channel;
+    unsigned value;
+    uint64_t gain;
+} plain_box;
+
+/* How many colors of a box have a number from `from` to `to` in a channel, and their weight: the part of the sum of their
+ * squares that their mean accounts for, rounded down. For no more than eight million colors. */
+static inline size_t plain_weight(const plain_box *box, int channel, unsigned from, unsigned to, uint64_t *weight) {
+    uint64_t sums[3] = {0, 0, 0};
+    size_t count = 0, i;
+    int k;
+    for (i = 0; i < box->count; i++)
+        if (from <= plain_number(box->colors[i], channel) && plain_number(box->colors[i], channel) <= to) {
+            count++;
+            for (k = 0; k < 3; k++)
+                sums[k] += plain_number(box->colors[i], k);
+        }
+    *weight = count ? (sums[0] * sums[0] + sums[1] * sums[1] + sums[2] * sums[2]) / count : 0;
+    return count;
 }
 
-static inline size_t plain_spread(const pix_srgb8 *box, size_t count) {
-    unsigned most;
-    return (size_t)plain_width(box, count, 0, &most) + plain_width(box, count, 1, &most) + plain_width(box, count, 2, &most);
+/* The box of these colors, with its best cut, the first of equals. */
+static inline plain_box plain_box_of(pix_srgb8 *colors, size_t count) {
+    plain_box box = {colors, count, 3, 0, 0};
+    uint64_t whole, low, high;
+    unsigned value;
+    int channel;
+    plain_weight(&box, 0, 0, 255, &whole);
+    for (channel = 0; channel < 3; channel++)
+        for (value = 1; value <= 255; value++) {
+            const size_t below = plain_weight(&box, channel, 0, value - 1, &low);
+            const size_t others = plain_weight(&box, channel, value, 255, &high);
+            const uint64_t gain = low + high > whole ? low + high - whole : 0;
+            if (below && others && (box.channel == 3 || gain > box.gain)) {
+                box.channel = channel;
+                box.value = value;
+                box.gain = gain;
+            }
+        }
+    return box;
 }
 
-static inline uint8_t plain_mean(const pix_srgb8 *box, size_t count, int channel) {
+/* Puts the colors that are below the cut of a box before its others; answers how many they are. */
+static inline size_t plain_part(const plain_box *box) {
+    size_t low = 0, i;
+    for (i = 0; i < box->count; i++)
+        if (plain_number(box->colors[i], box->channel) < box->value) {
+            const pix_srgb8 color = box->colors[i];
+            box->colors[i] = box->colors[low];
+            box->colors[low++] = color;
+        }
+    return low;
+}
+
+static inline uint8_t plain_mean(const plain_box *box, int channel) {
     size_t sum = 0, i;
-    for (i = 0; i < count; i++)
-        sum += plain_number(box[i], channel);
-    return (uint8_t)((2 * sum + count) / (2 * count));
+    for (i = 0; i < box->count; i++)
+        sum += plain_number(box->colors[i], channel);
+    return (uint8_t)((2 * sum + box->count) / (2 * box->count));
 }
 
-static inline size_t plain_below(const pix_srgb8 *box, size_t count, int channel, unsigned value) {
-    size_t below = 0, i;
-    for (i = 0; i < count; i++)
-        below += plain_number(box[i], channel) < value;
-    return below;
-}
-
-/* The table of a box, of at most `room` entries, by median cut: its mean, or the tables of its two parts. */
-static inline size_t plain_cut(const pix_srgb8 *box, size_t count, pix_srgb8 *entries, size_t room) {
-    unsigned most[3], wide[3], value = 0;
-    size_t low = 0, high = 0, share, used, spread = plain_spread(box, count), i;
-    pix_srgb8 *parts;
-    int channel, widest = 0;
-    for (channel = 0; channel < 3; channel++) {
-        wide[channel] = plain_width(box, count, channel, &most[channel]);
-        if (wide[channel] > wide[widest])
-            widest = channel;
+/* The means of at most so many boxes: each time that box is cut whose cut lowers the squared error most, the first of equals,
+ * and its parts stand where it stood. */
+static inline size_t plain_cut(pix_srgb8 *colors, size_t count, pix_srgb8 *entries, size_t room) {
+    plain_box boxes[256];
+    size_t used = 1, i;
+    boxes[0] = plain_box_of(colors, count);
+    while (used < room) {
+        size_t at = used, low;
+        plain_box cut;
+        for (i = 0; i < used; i++)
+            if (boxes[i].channel < 3 && (at == used || boxes[i].gain > boxes[at].gain))
+                at = i;
+        if (at == used)
+            break;
+        cut = boxes[at];
+        low = plain_part(&cut);
+        for (i = used++; i > at + 1; i--)
+            boxes[i] = boxes[i - 1];
+        boxes[at] = plain_box_of(cut.colors, low);
+        boxes[at + 1] = plain_box_of(cut.colors + low, cut.count - low);
     }
-    if (room == 1 || spread == 3) {
-        entries->r = plain_mean(box, count, 0);
-        entries->g = plain_mean(box, count, 1);
-        entries->b = plain_mean(box, count, 2);
-        return 1;
+    for (i = 0; i < used; i++) {
+        entries[i].r = plain_mean(&boxes[i], 0);
+        entries[i].g = plain_mean(&boxes[i], 1);
+        entries[i].b = plain_mean(&boxes[i], 2);
     }
-    while (value < most[widest] && 2 * plain_below(box, count, widest, value) < count)
-        value++;
-    parts = malloc(2 * count * sizeof *parts);
-    if (!parts)
-        abort();
-    for (i = 0; i < count; i++)
-        if (plain_number(box[i], widest) < value)
-            parts[low++] = box[i];
-        else
-            parts[count + high++] = box[i];
-    share = room * plain_spread(parts, low) / (plain_spread(parts, low) + plain_spread(parts + count, high));
-    used = plain_cut(parts, low, entries, share ? share : 1);
-    used += plain_cut(parts + count, high, entries + used, room - used);
-    free(parts);
     return used;
 }
 
-/* The table of colors: the distinct ones in order of first place, or those of median cut. */
+/* The table of colors: the distinct ones in order of first place, or the means of boxes. */
 static inline size_t plain_table(const pix_srgb8 *colors, size_t count, pix_srgb8 *entries, size_t room) {
+    pix_srgb8 *copy;
     size_t used = 0, i, j;
     for (i = 0; i < count; i++) {
         for (j = 0; j < used && plain_distance(entries[j], colors[i]); j++) {
@@ -140,9 +171,17 @@ static inline size_t plain_table(const pix_srgb8 *colors, size_t count, pix_srgb
         if (j < used)
             continue;
         if (used == room)
-            return plain_cut(colors, count, entries, room);
+            break;
         entries[used++] = colors[i];
     }
+    if (i == count)
+        return used;
+    copy = malloc(count * sizeof *copy);
+    if (!copy)
+        abort();
+    memcpy(copy, colors, count * sizeof *copy);
+    used = plain_cut(copy, count, entries, room);
+    free(copy);
     return used;
 }
 
