@@ -23,7 +23,7 @@ class Frame:
 
 
 def of_pictures(pictures, most):
-    """Returns a table for all of these pictures: their very colors where these are at most `most`, and else so many by median cut."""
+    """Returns a table for all of these pictures: their very colors where these are at most `most`, and else so many by the cut by squared error."""
     pixels = b"".join(it.pixels for it in pictures)
     marks = pix.map_indexed(bytes(3), pixels, format=pix.SRGBA8, alpha=CLEAR_BELOW, kept=1)
     has_clear = pix.count_indices(marks, 2)[1] > 0

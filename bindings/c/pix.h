@@ -53,6 +53,7 @@
  * KiB that a thread's stack needs for each call, the thread's own frames among them:
  *
  *     256   pix_map_indexed, pix_diffuse_indexed, and both with _alpha
+ *      64   pix_make_table, pix_make_table_alpha
  *      32   pix_index_pixels
  *      16   all others
  *
@@ -485,9 +486,10 @@ static inline size_t pix_diffusion_work(size_t width);
 
 /* Writes a table of the colors of `count` pixels, of at most `len` entries, and writes into `made`
  * how many it has. Where there are no more distinct colors than `len`, they are the table, in order
- * of first place. Otherwise median cut makes it. The entries past `made` may hold anything. `work`
- * has pix_table_work(count) colors; for a large picture pass a sample of its pixels. Returns
- * PIX_OK, PIX_BAD_TABLE (`len` is 0 or above 256), PIX_BAD_LENGTH, PIX_NULL or PIX_OVERLAP. */
+ * of first place. Otherwise they are the means of boxes of colors, which are cut again and again
+ * where the squared error falls most. The entries past `made` may hold anything. `work` has
+ * pix_table_work(count) colors; for a large picture pass a sample of its pixels. Returns PIX_OK,
+ * PIX_BAD_TABLE (`len` is 0 or above 256), PIX_BAD_LENGTH, PIX_NULL or PIX_OVERLAP. */
 static inline pix_status pix_make_table(const pix_srgb8 *pixels, size_t count, pix_srgb8 *work, pix_srgb8 *entries, size_t len,
                                         size_t *made);
 

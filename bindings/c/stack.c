@@ -186,7 +186,7 @@ static pix_status unpack(void) {
 }
 
 /* The calls, and the kibibytes of stack that pix.h says they need. */
-enum { FEW = 16, SETTING = 32, MATCHING = 256 };
+enum { FEW = 16, SETTING = 32, MAKING = 64, MATCHING = 256 };
 static const struct { const char *name; size_t kibibytes; pix_status (*call)(void); } calls[] = {
     {"pix_check_library", FEW, pix_check_library},
     {"pix_run", FEW, run},
@@ -198,8 +198,8 @@ static const struct { const char *name; size_t kibibytes; pix_status (*call)(voi
     {"pix_convert_in_place", FEW, convert_in_place},
     {"pix_color_of", FEW, colors_of},
     {"pix_nearest", FEW, find},
-    {"pix_make_table", FEW, make},
-    {"pix_make_table_alpha", FEW, make_alpha},
+    {"pix_make_table", MAKING, make},
+    {"pix_make_table_alpha", MAKING, make_alpha},
     {"pix_look_up", FEW, look_up},
     {"pix_count_indices", FEW, count_all},
     {"pix_pack_row", FEW, pack},

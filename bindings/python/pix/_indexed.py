@@ -137,8 +137,9 @@ def table_from(
     """Makes a table of at most `length` colors of the pixels, three bytes each: red, green and blue in sRGB.
 
     The pixels are of the format SRGB8, or of SRGBA8; one whose alpha is below `alpha` does not count. With no more than `length`
-    distinct colors the table is just those, in order of first place. Else it is made by median cut. It takes work memory of three
-    bytes a pixel; of a large picture pass a sample, as each tenth pixel.
+    distinct colors the table is just those, in order of first place. Else it has the means of boxes of colors, which are cut again and
+    again where the squared error falls most. It takes work memory of three bytes a pixel; of a large picture pass a sample, as each
+    tenth pixel.
 
     It is empty where no pixel counts. Raises PixError where `length` is not from 1 to 256, or the pixels don't fit.
     """

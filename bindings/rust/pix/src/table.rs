@@ -220,7 +220,8 @@ pub const fn diffusion_work(width: usize) -> Option<usize> {
 }
 
 /// Makes a table of the colors of `pixels` in the first of `entries`, and returns those. With no more distinct colors than entries
-/// they are the table, in order of first place. Else it is made by median cut, and what the other entries hold is not said.
+/// they are the table, in order of first place. Else it has the means of boxes of colors, which are cut again and again where
+/// the squared error falls most; what the other entries hold is not said.
 /// `work` has as many colors as there are pixels; for a large picture pass a sample of its pixels.
 ///
 /// ```

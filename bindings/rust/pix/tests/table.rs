@@ -95,7 +95,7 @@ fn tables_of_pixels() {
     let made = make_table(&few, &mut work, &mut entries).unwrap();
     assert_eq!(made, [gray(9), gray(1), gray(200)]);
     assert!(make_table(&[], &mut [], &mut entries).unwrap().is_empty());
-    // Cut where half of the colors or more are below: 0, 0, 0 and 1 make 0, and 200, 201, 200, 201 make 201, since ties go up.
+    // Cut between 1 and 200: 0, 0, 0 and 1 make 0, and 200, 201, 200, 201 make 201, since ties go up.
     let many = [0, 0, 0, 1, 200, 201, 200, 201].map(gray);
     let made = make_table(&many, &mut work, &mut entries[..2]).unwrap();
     assert_eq!(made, [gray(0), gray(201)]);

@@ -25,8 +25,8 @@ pub(super) const ENTRIES: usize = 256;
 impl ColorTable {
     /// Makes a table of the colors of a raster, of at most `limit` entries. Where the raster has no
     /// more distinct colors than that, the entries are those colors in order of first place. Else
-    /// they are the means of boxes of colors, by median cut. Returns `None` where the limit is 0 or
-    /// above 256.
+    /// they are the means of boxes of colors, by the cut by squared error. Returns `None`
+    /// where the limit is 0 or above 256.
     ///
     /// Pixels whose alpha is below `alpha` do not count. With an `alpha` of 0 every pixel counts.
     /// To keep an index for the others, make a table of one entry less than there may be indices.
