@@ -15,6 +15,38 @@ def joined(colors):
     return bytes(channel for color in colors for channel in color)
 
 
+def weight(box):
+    """The part of the sum of a box's squares that its mean accounts for, rounded down."""
+    return sum(sum(channel) ** 2 for channel in zip(*box)) // len(box)
+
+
+def best_cut(box):
+    """How much the cut gains that lowers the squared error most, the first of equals, and its parts: or None, where there is none."""
+    best = None
+    for channel in range(3):
+        for value in range(256):
+            low = [color for color in box if color[channel] < value]
+            high = [color for color in box if color[channel] >= value]
+            if low and high:
+                gain = max(0, weight(low) + weight(high) - weight(box))
+                if best is None or gain > best[0]:
+                    best = gain, low, high
+    return best
+
+
+def plain_table(colors, room):
+    """The distinct colors, or the means of boxes: each time that one is cut whose cut gains most, the first of equals."""
+    firsts = list(dict.fromkeys(colors))
+    if len(firsts) <= room:
+        return firsts
+    boxes, cuts = [colors], [best_cut(colors)]
+    while len(boxes) < room and any(cuts):
+        at = max((i for i, cut in enumerate(cuts) if cut), key=lambda i: cuts[i][0])
+        boxes[at : at + 1] = parts = cuts[at][1:]
+        cuts[at : at + 1] = map(best_cut, parts)
+    return [tuple((2 * sum(channel) + len(box)) // (2 * len(box)) for channel in zip(*box)) for box in boxes]
+
+
 class Tables(unittest.TestCase):
     def test_nearest(self):
         chance = random.Random(1)
@@ -49,6 +81,14 @@ class Tables(unittest.TestCase):
             table = pix.table_from(many, length)
             self.assertEqual(len(table), 3 * length)
         self.assertEqual(pix.table_from(many, 1), bytes((2 * sum(many[c::3]) + 2000) // 4000 for c in range(3)))
+
+    def test_cuts(self):
+        chance = random.Random(4)
+        for _ in range(40):
+            levels, room = chance.choice([2, 3, 9, 256]), chance.randrange(1, 12)
+            step, count = 255 // (levels - 1), chance.randrange(1, 40)
+            colors = [tuple(step * chance.randrange(levels) for _ in range(3)) for _ in range(count)]
+            self.assertEqual(pix.table_from(joined(colors), room), joined(plain_table(colors, room)))
 
     def test_diffused(self):
         grays = joined([(0, 0, 0), (255, 255, 255)])
