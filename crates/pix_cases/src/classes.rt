@@ -2,7 +2,7 @@
 use crate::flaw::Flaw;
 use crate::{
     buffers, channels, composites, conversions, drawings, formats, grays, hexcones, images,
-    lengths, models, palettes, regions, scripts,
+    indices, lengths, models, palettes, regions, scripts,
 };
 use std::alloc::Global;
 
@@ -28,12 +28,16 @@ pub(crate) fn answer(class: &str, words: &[&str], alloc: Global) -> Result<Strin
         "clip" => regions::clip(words, alloc),
         "make" => images::make(words, alloc),
         "draw" => drawings::draw(words, alloc),
+        "draw_gray" => drawings::draw_gray(words, alloc),
         "gray" => grays::gray(words, alloc),
+        "matte" => grays::matte(words, alloc),
         "bytes" => buffers::of_bytes(words, alloc),
         "words" => buffers::of_words(words, alloc),
         "pixels" => buffers::of_pixels(words, alloc),
         "palette" => palettes::palette(words, alloc),
         "indexed" => palettes::indexed(words, alloc),
+        "pack" => indices::pack(words, alloc),
+        "unpack" => indices::unpack(words, alloc),
         "row" => lengths::row(words, alloc),
         "table" => lengths::table(words, alloc),
         "drawings" => lengths::drawings(words, alloc),

@@ -6,6 +6,7 @@ use crate::images::{image, picture, pixel};
 use crate::regions::region;
 use crate::words::operator;
 use pix::el::Pixel;
+use pix::gray::Graya8p;
 use pix::matte::Matte8;
 use pix::ops::{Blend, Op, OpVisitor};
 use pix::rgb::Rgba8p;
@@ -14,19 +15,19 @@ use std::alloc::{AllocError, Global};
 
 /// A command, without the images that it may read.
 #[derive(Drop)]
-enum Order {
+enum Order<P> {
     /// Clears the raster.
     Clear,
     /// Copies a color.
-    Fill(Region, Rgba8p),
+    Fill(Region, P),
     /// Copies the source.
     Copy(Region, Region),
     /// Composites a color.
-    Paint(Op, Region, Rgba8p),
+    Paint(Op, Region, P),
     /// Composites the source.
     Comp(Op, Region, Region),
     /// Composites a color through the mattes.
-    Matte(Op, Region, Region, Rgba8p),
+    Matte(Op, Region, Region, P),
     /// Composites the source through the mattes.
     Mask(Op, Region, Region, Region),
     /// Composites the source at an opacity.
@@ -35,8 +36,8 @@ enum Order {
 
 /// The images that commands read.
 #[derive(Drop)]
-struct Images {
-    source: Raster<Rgba8p>,
+struct Images<P> {
+    source: Raster<P>,
     mattes: Raster<Matte8>,
 }
 
@@ -57,16 +58,31 @@ struct Images {
 ///
 /// The answer is the size and the pixels of the raster after them.
 pub(crate) fn draw(words: &[&str], alloc: Global) -> Result<String, Flaw> {
+    drawn::<Rgba8p>(words, alloc)
+}
+
+/// `list 2x1 - ; paint SrcOver 0,0,1,1 4080`: as [`draw`], on a raster of premultiplied gray and
+/// alpha.
+pub(crate) fn draw_gray(words: &[&str], alloc: Global) -> Result<String, Flaw> {
+    drawn::<Graya8p>(words, alloc)
+}
+
+/// The answer of [`draw`] for a format.
+fn drawn<P>(words: &[&str], alloc: Global) -> Result<String, Flaw>
+where
+    P: Pixel,
+    Raster<P>: Canvas<P>,
+{
     let [way, size, pixels, words @ ..] = words else {
         return Err(Flaw::Count);
     };
-    let mut raster = image(size, pixels, alloc)?;
+    let mut raster: Raster<P> = image(size, pixels, alloc)?;
     let source = named_image("source", words, alloc)?;
     let mattes = named_image("mattes", words, alloc)?;
     let images = Images { source, mattes };
-    let orders = orders(words, alloc)?;
+    let orders = orders::<P>(words, alloc)?;
     match *way {
-        "list" => run_list(&mut raster, &images, &orders, alloc)?,
+        "list" => raster.run_list(&commands_of(&images, &orders, alloc)?),
         "calls" => {
             for order in &orders {
                 call(&mut raster, &images, order);
@@ -94,7 +110,7 @@ fn named_image<P: Pixel>(name: &str, words: &[&str], alloc: Global) -> Result<Ra
 }
 
 /// The commands among the words.
-fn orders(words: &[&str], alloc: Global) -> Result<Vec<Order>, Flaw> {
+fn orders<P: Pixel>(words: &[&str], alloc: Global) -> Result<Vec<Order<P>>, Flaw> {
     let mut all = Vec::new(alloc);
     for part in words.split(|word| *word == ";") {
         if !matches!(part, [] | ["source", ..] | ["mattes", ..]) {
@@ -105,7 +121,7 @@ fn orders(words: &[&str], alloc: Global) -> Result<Vec<Order>, Flaw> {
 }
 
 /// The command of these words.
-fn order_of(words: &[&str], alloc: Global) -> Result<Order, Flaw> {
+fn order_of<P: Pixel>(words: &[&str], alloc: Global) -> Result<Order<P>, Flaw> {
     match words {
         ["clear"] => Ok(Order::Clear),
         ["fill", reg, clr] => Ok(Order::Fill(region(reg, alloc)?, pixel(clr, alloc)?)),
@@ -134,24 +150,12 @@ fn order_of(words: &[&str], alloc: Global) -> Result<Order, Flaw> {
     }
 }
 
-/// Does the commands as one list.
-fn run_list(
-    raster: &mut Raster<Rgba8p>,
-    images: &Images,
-    orders: &[Order],
-    alloc: Global,
-) -> Result<(), AllocError> {
-    let commands = commands_of(images, orders, alloc)?;
-    raster.run(&commands);
-    Ok(())
-}
-
 /// The commands with the images that they read.
-fn commands_of<'a>(
-    images: &'a Images,
-    orders: &[Order],
+fn commands_of<'a, P: Pixel>(
+    images: &'a Images<P>,
+    orders: &[Order<P>],
     alloc: Global,
-) -> Result<Vec<Command<'a, Rgba8p, Matte8>>, AllocError> {
+) -> Result<Vec<Command<'a, P, Matte8>>, AllocError> {
     orders
         .iter()
         .map(|order| command(images, order))
@@ -159,7 +163,7 @@ fn commands_of<'a>(
 }
 
 /// A command with the image that it reads.
-fn command<'a>(images: &'a Images, order: &Order) -> Command<'a, Rgba8p, Matte8> {
+fn command<'a, P: Pixel>(images: &'a Images<P>, order: &Order<P>) -> Command<'a, P, Matte8> {
     match *order {
         Order::Clear => Command::Clear,
         Order::Fill(reg, clr) => Command::CopyColor { reg, clr },
@@ -188,13 +192,13 @@ fn command<'a>(images: &'a Images, order: &Order) -> Command<'a, Rgba8p, Matte8>
 }
 
 /// A composite of the source through the mattes.
-fn masked<'a>(
-    images: &'a Images,
+fn masked<'a, P: Pixel>(
+    images: &'a Images<P>,
     op: Op,
     to: Region,
     from: Region,
     mask_from: Region,
-) -> Command<'a, Rgba8p, Matte8> {
+) -> Command<'a, P, Matte8> {
     let (src, mask) = (&images.source, &images.mattes);
     Command::RasterMatte {
         to,
@@ -207,13 +211,13 @@ fn masked<'a>(
 }
 
 /// A composite of the source at an opacity.
-fn faded<'a>(
-    images: &'a Images,
+fn faded<'a, P: Pixel>(
+    images: &'a Images<P>,
     op: Op,
     to: Region,
     from: Region,
     alpha: Matte8,
-) -> Command<'a, Rgba8p, Matte8> {
+) -> Command<'a, P, Matte8> {
     let src = &images.source;
     Command::RasterAlpha {
         to,
@@ -225,7 +229,11 @@ fn faded<'a>(
 }
 
 /// Does a command by a call of its own.
-fn call(raster: &mut Raster<Rgba8p>, images: &Images, order: &Order) {
+fn call<P>(raster: &mut Raster<P>, images: &Images<P>, order: &Order<P>)
+where
+    P: Pixel,
+    Raster<P>: Canvas<P>,
+{
     match *order {
         Order::Clear => raster.clear(),
         Order::Fill(reg, clr) => raster.copy_color(reg, clr),
@@ -234,35 +242,84 @@ fn call(raster: &mut Raster<Rgba8p>, images: &Images, order: &Order) {
         | Order::Comp(op, ..)
         | Order::Matte(op, ..)
         | Order::Mask(op, ..)
-        | Order::Fade(op, ..) => op.visit(&Composite { images, order }, raster),
+        | Order::Fade(op, ..) => raster.composite(&Composite { images, order }, op),
     }
 }
 
 /// A command that composites, as a call by an operator that is a type.
 #[derive(Drop)]
-struct Composite<'a> {
-    images: &'a Images,
-    order: &'a Order,
+struct Composite<'a, P> {
+    images: &'a Images<P>,
+    order: &'a Order<P>,
 }
 
-impl OpVisitor<Raster<Rgba8p>> for Composite<'_> {
+/// A raster of a format that is composited. Each format has the calls written out.
+trait Canvas<P> {
+    /// Does the commands as one list.
+    fn run_list(&mut self, commands: &[Command<'_, P, Matte8>]);
+
+    /// Does a command that composites by a call of its own.
+    fn composite(&mut self, composite: &Composite<'_, P>, op: Op);
+}
+
+impl Canvas<Rgba8p> for Raster<Rgba8p> {
+    fn run_list(&mut self, commands: &[Command<'_, Rgba8p, Matte8>]) {
+        self.run(commands);
+    }
+
+    fn composite(&mut self, composite: &Composite<'_, Rgba8p>, op: Op) {
+        op.visit(composite, self);
+    }
+}
+
+impl OpVisitor<Raster<Rgba8p>> for Composite<'_, Rgba8p> {
     ghost can_visit = { λ _ _. ⊤ };
 
     ghost visits = { λ _ _ _ _. ⊤ };
 
     fn visit<O: Blend>(&self, raster: &mut Raster<Rgba8p>, op: O) {
+        let (source, mattes) = (&self.images.source, &self.images.mattes);
         match *self.order {
             Order::Paint(_, reg, clr) => raster.composite_color(reg, clr, op),
-            Order::Comp(_, to, from) => raster.composite_raster(to, &self.images.source, from, op),
-            Order::Matte(_, to, from, clr) => {
-                raster.composite_matte(to, &self.images.mattes, from, clr, op);
-            }
+            Order::Comp(_, to, from) => raster.composite_raster(to, source, from, op),
+            Order::Matte(_, to, from, clr) => raster.composite_matte(to, mattes, from, clr, op),
             Order::Mask(_, to, from, mask_from) => {
-                let (source, mattes) = (&self.images.source, &self.images.mattes);
                 raster.composite_raster_matte(to, source, from, mattes, mask_from, op);
             }
             Order::Fade(_, to, from, alpha) => {
-                raster.composite_raster_alpha(to, &self.images.source, from, alpha, op);
+                raster.composite_raster_alpha(to, source, from, alpha, op);
+            }
+            _ => {}
+        }
+    }
+}
+
+impl Canvas<Graya8p> for Raster<Graya8p> {
+    fn run_list(&mut self, commands: &[Command<'_, Graya8p, Matte8>]) {
+        self.run(commands);
+    }
+
+    fn composite(&mut self, composite: &Composite<'_, Graya8p>, op: Op) {
+        op.visit(composite, self);
+    }
+}
+
+impl OpVisitor<Raster<Graya8p>> for Composite<'_, Graya8p> {
+    ghost can_visit = { λ _ _. ⊤ };
+
+    ghost visits = { λ _ _ _ _. ⊤ };
+
+    fn visit<O: Blend>(&self, raster: &mut Raster<Graya8p>, op: O) {
+        let (source, mattes) = (&self.images.source, &self.images.mattes);
+        match *self.order {
+            Order::Paint(_, reg, clr) => raster.composite_color(reg, clr, op),
+            Order::Comp(_, to, from) => raster.composite_raster(to, source, from, op),
+            Order::Matte(_, to, from, clr) => raster.composite_matte(to, mattes, from, clr, op),
+            Order::Mask(_, to, from, mask_from) => {
+                raster.composite_raster_matte(to, source, from, mattes, mask_from, op);
+            }
+            Order::Fade(_, to, from, alpha) => {
+                raster.composite_raster_alpha(to, source, from, alpha, op);
             }
             _ => {}
         }

@@ -1,4 +1,4 @@
-//! Rows, single pixels and copies of rasters of grays.
+//! Rows, single pixels and copies of rasters of grays and of mattes.
 use crate::flaw::Flaw;
 use crate::images::{all, image, picture, pixel, pixel_at, put, text};
 use crate::regions::{coordinate, region};
@@ -6,6 +6,7 @@ use crate::words::{hexadecimal, number};
 use pix::chan::Channel;
 use pix::el::Pixel;
 use pix::gray::Gray8;
+use pix::matte::Matte8;
 use pix::{Raster, Region};
 use std::alloc::Global;
 use std::mem;
@@ -36,6 +37,14 @@ pub(crate) fn gray(words: &[&str], alloc: Global) -> Result<String, Flaw> {
         return Err(Flaw::Count);
     };
     walked::<Gray8>(size, pixels, words, alloc)
+}
+
+/// `3x1 01,02,03 ; row 0 1,0,9,9`: as [`gray`], of a raster of mattes.
+pub(crate) fn matte(words: &[&str], alloc: Global) -> Result<String, Flaw> {
+    let [size, pixels, words @ ..] = words else {
+        return Err(Flaw::Count);
+    };
+    walked::<Matte8>(size, pixels, words, alloc)
 }
 
 /// The answer of [`gray`] for a format whose rasters become bytes.
@@ -132,6 +141,14 @@ trait Bytes {
 }
 
 impl Bytes for Raster<Gray8> {
+    fn bytes(&self, alloc: Global) -> Result<(Vec<u8>, Vec<u8>), Flaw> {
+        let lent = self.to_u8_vec(alloc).map_err(|_| Flaw::Memory)?;
+        let copy = self.try_clone(alloc).map_err(|_| Flaw::Memory)?;
+        Ok((lent, copy.into_u8_vec(alloc).map_err(|_| Flaw::Memory)?))
+    }
+}
+
+impl Bytes for Raster<Matte8> {
     fn bytes(&self, alloc: Global) -> Result<(Vec<u8>, Vec<u8>), Flaw> {
         let lent = self.to_u8_vec(alloc).map_err(|_| Flaw::Memory)?;
         let copy = self.try_clone(alloc).map_err(|_| Flaw::Memory)?;

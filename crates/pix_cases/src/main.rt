@@ -18,6 +18,7 @@ mod formats;
 mod grays;
 mod hexcones;
 mod images;
+mod indices;
 mod lengths;
 mod models;
 mod palettes;

@@ -178,7 +178,7 @@ fn counts_text(counts: Option<Vec<usize>>, alloc: Global) -> Result<String, Flaw
 
 /// `8 4 2x1 000000,ff0000`: the bits of indices, the limit of a palette, and the size and the
 /// pixels of a raster. The answer is the size and the indices, or `none`, and the colors of the
-/// palette.
+/// palette. With `set` for the bits the pixels are set as entries, and each has an answer.
 pub(crate) fn indexed(words: &[&str], alloc: Global) -> Result<String, Flaw> {
     let [bits, limit, size, pixels] = words else {
         return Err(Flaw::Count);
@@ -201,6 +201,13 @@ pub(crate) fn indexed(words: &[&str], alloc: Global) -> Result<String, Flaw> {
             None => answer.push_str("none")?,
             Some(image) => write_values(&mut answer, &image)?,
         },
+        "set" => {
+            let mut found = vec![in alloc; None; raster.pixels().len()]?;
+            palette.set_entries(alloc, raster.pixels(), &mut found);
+            for index in &found {
+                add(&mut answer, index_or_none(*index, alloc)?)?;
+            }
+        }
         _ => return Err(Flaw::Name),
     }
     let colors = colors_text(palette.colors(), alloc)?;
