@@ -12,7 +12,7 @@ from chromium import Failed
 
 TOP = pathlib.Path(__file__).resolve().parent.parent
 READY = "document.documentElement?.dataset.ready === 'yes'"
-EXAMPLES = TOP / "crates/pix_examples/data"
+EXAMPLES = TOP / "crates/pix_pictures/data"
 ROWS = TOP / "crates/pix_cases/data/scripts.txt"
 OPERATORS = model.operators((TOP / "docs/FORMATS.md").read_text(encoding="utf-8"))
 ORDER = re.findall(r"^row (\w+) =", (TOP / "crates/pix_ops/specs/Operators.antt").read_text(encoding="utf-8"), re.M)

@@ -1,7 +1,4 @@
-//! Renders each script of the folder `examples`, and prints whether the result is that of the file
-//! beside it.
-#![tactic(auto)]
-
+//! Scripts of the folder `examples`, each beside the text that it has to give.
 use pix_script::paint_text;
 use std::alloc::{AllocError, Global};
 use std::{fs, io};
@@ -22,11 +19,12 @@ const EXAMPLES: [&str; 12] = [
     "unknown-operator",
 ];
 
-fn main(rt: HostRuntime) -> io::Result<()> {
+/// Paints each script, and prints whether the result is that of the file beside it.
+pub(crate) fn print(rt: &HostRuntime) -> io::Result<()> {
     let alloc = rt.alloc();
     for name in EXAMPLES {
-        let script = fs::read(&rt, format!(in alloc; "{name}.paint")?)?;
-        let wanted = fs::read(&rt, format!(in alloc; "{name}.txt")?)?;
+        let script = fs::read(rt, format!(in alloc; "{name}.paint")?)?;
+        let wanted = fs::read(rt, format!(in alloc; "{name}.txt")?)?;
         let outcome = outcome(alloc, &script)?;
         let verdict = if outcome.as_slice() == wanted.as_slice() {
             "as it should be"

@@ -1,13 +1,9 @@
-//! Prints a triangle of pale and dark colors, every fourth pixel of every fourth row: red, green,
-//! blue and alpha in hexadecimal.
-//!
-//! Its hue turns from the upper left to the lower right; it grows paler to the lower left and
-//! darker to the upper right.
-#![tactic(auto)]
-
+//! A triangle of pale and dark colors. Its hue turns from the upper left to the lower right. It
+//! grows paler to the lower left and darker to the upper right.
+use crate::print_pixel;
 use pix::chan::Ch8;
 use pix::hwb::SHwb8;
-use pix::rgb::{Rgb, SRgb8};
+use pix::rgb::SRgba8;
 use pix::{Raster, RasterFault, Region};
 use std::alloc::Global;
 use std::io;
@@ -15,15 +11,16 @@ use std::io;
 /// The sides of the triangle's raster.
 const SIDE: u32 = 256;
 
-fn main(rt: HostRuntime) -> io::Result<()> {
+/// Prints the triangle, or why there is none.
+pub(crate) fn print(rt: &HostRuntime) -> io::Result<()> {
     match triangle(rt.alloc()) {
-        Ok(shown) => print_rows(&rt, &shown),
+        Ok(shown) => print_rows(rt, &shown),
         Err(fault) => println!(rt; "{fault}"),
     }
 }
 
 /// Makes the triangle of hue, whiteness and blackness, and converts it to red, green and blue.
-fn triangle(alloc: Global) -> Result<Raster<SRgb8>, RasterFault> {
+fn triangle(alloc: Global) -> Result<Raster<SRgba8>, RasterFault> {
     let mut triangle = Raster::<SHwb8>::with_clear(alloc, SIDE, SIDE)?;
     let mut y = 0_usize;
     for row in triangle.rows_mut(Region::from(())) {
@@ -32,7 +29,7 @@ fn triangle(alloc: Global) -> Result<Raster<SRgb8>, RasterFault> {
         }
         y = y.saturating_add(1);
     }
-    Raster::<SRgb8>::with_raster(alloc, &triangle)
+    Raster::<SRgba8>::with_raster(alloc, &triangle)
 }
 
 /// The color at a point: half of `x` and `y` is the hue, and how far one passes the other is
@@ -48,14 +45,10 @@ fn color(x: usize, y: usize) -> SHwb8 {
 }
 
 /// Prints every fourth pixel of every fourth row.
-fn print_rows(rt: &HostRuntime, shown: &Raster<SRgb8>) -> io::Result<()> {
+fn print_rows(rt: &HostRuntime, shown: &Raster<SRgba8>) -> io::Result<()> {
     for row in shown.pixels().chunks(SIDE as usize).step_by(4) {
         for (place, pixel) in row.iter().step_by(4).enumerate() {
-            let gap = if place > 0 { " " } else { "" };
-            let red = u8::from(Rgb::red(*pixel));
-            let green = u8::from(Rgb::green(*pixel));
-            let blue = u8::from(Rgb::blue(*pixel));
-            print!(rt; "{gap}{red:02x}{green:02x}{blue:02x}ff")?;
+            print_pixel(rt, place, *pixel)?;
         }
         println!(rt; "")?;
     }

@@ -1,12 +1,10 @@
-//! Prints a picture of many colors, and beside it the same picture indexed with a palette of few
-//! colors. Below them it prints that palette. Each pixel is its red, green, blue and alpha in
-//! hexadecimal.
-#![tactic(auto)]
-
+//! A picture of many colors, beside it the same picture indexed with a palette of few, and below
+//! them that palette.
+use crate::print_pixel;
 use pix::el::Pixel;
 use pix::gray::{Gray, Gray8};
 use pix::hsl::SHsl8;
-use pix::rgb::{Rgb, SRgb8, SRgba8};
+use pix::rgb::{SRgb8, SRgba8};
 use pix::{Palette, Raster, RasterFault, Region};
 use std::alloc::Global;
 use std::io;
@@ -17,9 +15,10 @@ const SIDE: u32 = 32;
 /// The most colors of the palette.
 const LIMIT: usize = 256;
 
-fn main(rt: HostRuntime) -> io::Result<()> {
+/// Prints the page, or why there is none.
+pub(crate) fn print(rt: &HostRuntime) -> io::Result<()> {
     match page(rt.alloc()) {
-        Ok(Some(page)) => print_rows(&rt, &page),
+        Ok(Some(page)) => print_rows(rt, &page),
         Ok(None) => println!(rt; "too many colors"),
         Err(fault) => println!(rt; "{fault}"),
     }
@@ -112,12 +111,7 @@ fn copy_table(page: &mut Raster<SRgba8>, table: &[SRgb8]) {
 fn print_rows(rt: &HostRuntime, page: &Raster<SRgba8>) -> io::Result<()> {
     for row in page.rows(Region::from(())) {
         for (place, pixel) in row.iter().enumerate() {
-            let gap = if place > 0 { " " } else { "" };
-            let red = u8::from(Rgb::red(*pixel));
-            let green = u8::from(Rgb::green(*pixel));
-            let blue = u8::from(Rgb::blue(*pixel));
-            let alpha = u8::from(pixel.alpha());
-            print!(rt; "{gap}{red:02x}{green:02x}{blue:02x}{alpha:02x}")?;
+            print_pixel(rt, place, *pixel)?;
         }
         println!(rt; "")?;
     }
