@@ -1,5 +1,5 @@
 //! Callers of the library, as a user would write them: each is proved, and tried by a test of
-//! `pix_callers`.
+//! `pix_tests`.
 #![tactic(auto)]
 
 pub mod bounds;

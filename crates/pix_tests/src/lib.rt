@@ -1,8 +1,11 @@
-//! Tests that cross the library's crates.
+//! Tests that cross the library's crates, of the callers in `pix_uses`, and of scripts that are read
+//! from one device and painted on another.
 #![tactic(auto)]
 
 #[cfg(test)]
 mod bounds;
+#[cfg(test)]
+mod callers;
 #[cfg(test)]
 mod channels;
 #[cfg(test)]
@@ -10,9 +13,13 @@ mod color_tables;
 #[cfg(test)]
 mod conversions;
 #[cfg(test)]
+mod devices;
+#[cfg(test)]
 mod ends;
 #[cfg(test)]
 mod exact;
+#[cfg(test)]
+mod examples;
 #[cfg(test)]
 mod getters;
 #[cfg(test)]
@@ -26,6 +33,8 @@ mod kinds;
 #[cfg(test)]
 mod lanes;
 #[cfg(test)]
+mod lossless;
+#[cfg(test)]
 mod operators;
 #[cfg(test)]
 mod palettes;
@@ -38,7 +47,11 @@ mod premultiplied;
 #[cfg(test)]
 mod random_lists;
 #[cfg(test)]
+mod reports;
+#[cfg(test)]
 mod rgbas;
+#[cfg(test)]
+mod scripts;
 #[cfg(test)]
 mod sixteen_bits;
 #[cfg(test)]
