@@ -8,14 +8,14 @@ use crate::color::Color;
 use crate::cut::channel;
 use crate::weight::weight;
 
-/// The most colors whose words can be added in one word.
+/// The most colors whose words may be added: their count has 16 bits, and each of two sums 24.
 pub(crate) const BLOCK: usize = 65535;
 
-/// How often this is in a word tells how many colors there are.
-const ONE: u64 = 281474976710656;
+/// What counts a color in its word, above the numbers of two channels.
+const ONE: u64 = 1 << 48;
 
-/// How often this is in the rest tells the sum of one other channel, and what is left that of the second.
-const HIGH: u64 = 16777216;
+/// What the number of the first channel is multiplied by in a word. That of the second is below it.
+const HIGH: u64 = 1 << 24;
 
 /// How many colors there are, and the sums of their numbers in each channel.
 #[derive(Clone, Copy)]
@@ -144,7 +144,7 @@ pub(crate) fn set_sums(parts: &mut [Sums; 256], words: &[u64; 256], k: usize)
     }
 }
 
-/// Sets the sums of the colors of each value of a channel to those of a box that is more than a block.
+/// Sets the sums of the colors of each value of a channel to those of a box of more than a block.
 ///
 /// Each channel has a loop of its own.
 pub(crate) fn sum_blocks(parts: &mut [Sums; 256], colors: &[Color], k: usize)
@@ -154,16 +154,16 @@ pub(crate) fn sum_blocks(parts: &mut [Sums; 256], colors: &[Color], k: usize)
     ensures bytes { All AreBytes (map numbers colors.now) }
 {
     match k {
-        0 => sum_in(parts, colors, 0),
-        1 => sum_in(parts, colors, 1),
-        2 => sum_in(parts, colors, 2),
-        _ => sum_in(parts, colors, k),
+        0 => sum_blocks_in(parts, colors, 0),
+        1 => sum_blocks_in(parts, colors, 1),
+        2 => sum_blocks_in(parts, colors, 2),
+        _ => sum_blocks_in(parts, colors, k),
     }
 }
 
 /// Does what [`sum_blocks`] does.
 #[inline(always)]
-fn sum_in(parts: &mut [Sums; 256], colors: &[Color], k: usize)
+fn sum_blocks_in(parts: &mut [Sums; 256], colors: &[Color], k: usize)
     requires channel { k < 3 }
     requires many { 65535 < length colors.now }
     ensures sums { AreByValue k (map numbers colors.now) parts.new }

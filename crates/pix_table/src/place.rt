@@ -9,7 +9,9 @@ use crate::box_sums::{BLOCK, Sums, set_sums, sum_blocks, total, word};
 use crate::color::Color;
 use crate::cut::channel;
 
-/// A place of a box, and what a cut there gains: the numbers of some colors in a channel are below a value.
+/// A place of a box, and what a cut there gains.
+///
+/// A cut parts the colors whose number in the channel is below the value from the others.
 #[derive(Clone, Copy)]
 pub(crate) struct Place {
     pub(crate) channel: usize,
@@ -59,7 +61,7 @@ fn best_of_block(colors: &[Color]) -> Option<Place>
     best_in(colors, 2, &parts, all, best)
 }
 
-/// Does what [`best_place`] does for more colors than a block, in a turn over them for each channel.
+/// Does what [`best_place`] does for more colors than a block, in a turn over them a channel.
 #[inline(never)]
 fn best_of_blocks(colors: &[Color]) -> Option<Place>
     requires { 65535 < length colors.now }

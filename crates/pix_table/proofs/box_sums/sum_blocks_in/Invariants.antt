@@ -1,9 +1,9 @@
--- What holds at each turn of the loops in `sum_in`.
+-- What holds at each turn of the loops in `sum_blocks_in`.
 use Rattle.std.proofs.Common.{◌≡◌, ◌<◌, ◌≤◌, ◌*◌, ℕ, All, length, map, take, get_or}
 use Rattle.pix_table.specs.Nearest.{numbers}
 use Rattle.pix_table.specs.BestPlaces.{AreBytes, AreByValue, AreSums, is_at}
 use Rattle.pix_table.specs.declared.box_sums.Sums.{Sums}
-use Rattle.pix_table.proofs.box_sums.sum_in.Given as goal
+use Rattle.pix_table.proofs.box_sums.sum_blocks_in.Given as goal
 
 -- they are the sums of the colors of the first i blocks
 abbrev pub invariant-loop-i : goal.invariant-loop-i

@@ -1,4 +1,4 @@
--- Of `sum_in`: that the invariants of its loops hold, and that the sums are few.
+-- Of `sum_blocks_in`: that the invariants of its loops hold, and that the sums are few.
 use Rattle.std.proofs.Common.{◌≢◌, ◌+◌, ◌-◌, ◌*◌, ◌≤◌, All, arith, drop, get_or, map, subst, sym, take, length-drop, length-set, length-take, ◌∙◌}
 use Rattle.std.proofs.lemmas.List.{get_or-set_other, length-map}
 use Rattle.std.proofs.lemmas.List.Elements.{All-append}
@@ -7,7 +7,7 @@ use Rattle.pix_table.specs.BestPlaces.{AreBytes, AreSums, is_at}
 use Rattle.pix_table.specs.declared.box_sums.Sums.{Sums}
 use Rattle.pix_table.proofs.BoxSumLemmas.{both_few, count_few, sums_joined}
 use Rattle.pix_table.proofs.WordLemmas.{block_end, block_more, done_more, done_set, word_zero}
-use Rattle.pix_table.proofs.box_sums.sum_in.Goals as goal
+use Rattle.pix_table.proofs.box_sums.sum_blocks_in.Goals as goal
 
 abbrev nothing : Sums
 nothing = record { count = 0; red = 0; green = 0; blue = 0 }
