@@ -14,7 +14,7 @@ pub(crate) const BLOCK: usize = 65535;
 /// What counts a color in its word, above the numbers of two channels.
 const ONE: u64 = 1 << 48;
 
-/// What the number of the first channel is multiplied by in a word. That of the second is below it.
+/// What the number of one channel is multiplied by in a word. That of the other is below it.
 const HIGH: u64 = 1 << 24;
 
 /// How many colors there are, and the sums of their numbers in each channel.
