@@ -55,6 +55,7 @@ pub use Rattle.pix_table.specs.Nearest as NearestEntry
 pub use Rattle.pix_table.specs.Places as CutPlaces
 pub use Rattle.pix_table.specs.Cut
 pub use Rattle.pix_table.specs.From
+pub use Rattle.pix_table.specs.Refine
 pub use Rattle.pix_table.specs.Diffusion
 pub use Rattle.pix_table.specs.LookUp
 pub use Rattle.pix_palette.specs.Palette

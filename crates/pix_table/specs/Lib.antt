@@ -8,6 +8,7 @@ pub mod BestPlaces
 pub mod Pieces
 pub mod Spans
 pub mod From
+pub mod Refine
 pub mod Diffusion
 pub mod Done
 pub mod PaletteMatch
