@@ -34,3 +34,5 @@ pub mod ColorBlockLemmas
 pub mod SpanLemmas
 pub mod BitLemmas
 pub mod Quotients
+pub mod LeastMeans
+pub mod RefinedTables
