@@ -74,7 +74,7 @@ pub fn diffuse_pixels<C: TableColor, P: TablePixel>(
         pixels,
         how,
     };
-    visit_nearest(entries, &diffusing, indices, work);
+    visit_nearest(entries, &diffusing, pixels.len(), indices, work);
 }
 
 /// Pixels that are indexed by error diffusion to the entries of a table.

@@ -95,17 +95,18 @@ fn colors_of<C: TableColor>(colors: &[C]) -> [Color; ENTRIES]
     entries
 }
 
-/// Runs an action on some items that asks for the nearest entries of a table, about once for each
-/// item.
+/// Runs an action on some items that asks for the nearest entries of a table, about `searches`
+/// times.
 ///
-/// For many items, it lists the entries that may be the nearest to a color. For few items, or few
-/// entries, it looks at all entries.
+/// For many searches, it lists the entries that may be the nearest to a color. For few searches, or
+/// few entries, it looks at all entries.
 ///
 /// Condition: the table has at least one and at most 256 entries, and the action may run on this
 /// many items with this much work memory.
 pub fn visit_nearest<C: TableColor, T, V: SearchVisitor<T>>(
     colors: &[C],
     visitor: &V,
+    searches: usize,
     items: &mut [T],
     work: &mut [Color],
 )
@@ -116,14 +117,14 @@ pub fn visit_nearest<C: TableColor, T, V: SearchVisitor<T>>(
     ensures { V.visits visitor.now (map C.channels colors.now) items.old items.new }
 {
     let mut lanes = EntryLanes::new(colors);
-    if items.len() > FEW_COLORS {
+    if searches > FEW_COLORS {
         visit_many(colors, &lanes, visitor, items, work);
     } else {
         visitor.visit(&mut lanes, items, work);
     }
 }
 
-/// Does it for many items.
+/// Does it for many searches.
 fn visit_many<C: TableColor, T, V: SearchVisitor<T>>(
     colors: &[C],
     lanes: &EntryLanes,
@@ -245,5 +246,5 @@ pub fn match_pixels<C: TableColor, P: TablePixel>(
         alpha,
         kept,
     };
-    visit_nearest(colors, &matching, indices, &mut []);
+    visit_nearest(colors, &matching, pixels.len(), indices, &mut []);
 }

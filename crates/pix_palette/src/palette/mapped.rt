@@ -154,7 +154,7 @@ where
     ensures gray { AreGray P.numbers indices.new }
 {
     let mapping = Mapping { pixels };
-    visit_nearest(colors, &mapping, indices, &mut []);
+    visit_nearest(colors, &mapping, pixels.len(), indices, &mut []);
 }
 
 /// Sets each pixel to the entry of the index at its place, up to the first index that is past the
