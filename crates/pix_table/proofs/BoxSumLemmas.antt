@@ -1,6 +1,5 @@
 -- The sums of a box, of its colors of each value of a channel, and of those below a value.
-use Rattle.std.proofs.Common.{◌≡◌, ℕ, ◌+◌, ◌-◌, ◌*◌, ◌<◌, ◌≤◌, Bool, true, cond, List, [], ◌++◌, length, replicate, get_or, sum_by, All, refl, arith, sym, ap, ap₂, ◌∙◌, subst, lt-ltb, le-ltb}
-use Rattle.std.proofs.lemmas.List.{get_or-replicate, length-replicate}
+use Rattle.std.proofs.Common.{◌≡◌, ℕ, ◌+◌, ◌-◌, ◌*◌, ◌<◌, ◌≤◌, Bool, true, cond, List, [], ◌++◌, length, get_or, sum_by, All, refl, arith, sym, ap, ap₂, ◌∙◌, subst, lt-ltb, le-ltb}
 use Rattle.std.proofs.lemmas.List.Sums.{sum_by-append}
 use Rattle.std.proofs.lemmas.Nat.{mul-le}
 use Rattle.std.proofs.Math.Nat.{div-le_of_le-mul}
@@ -22,15 +21,6 @@ sums_joined p box more s t new h g count red green blue = record {
   red = omega (arith, red, h.red, g.red, sum_by-append (λ c. cond (p c) (get_or c 0 0) 0) box more);
   green = omega (arith, green, h.green, g.green, sum_by-append (λ c. cond (p c) (get_or c 1 0) 0) box more);
   blue = omega (arith, blue, h.blue, g.blue, sum_by-append (λ c. cond (p c) (get_or c 2 0) 0) box more);
-}
-
--- at first there is no color
-pub by_value_none : (k : ℕ) (none : Sums) → none.count ≡ 0 → none.red ≡ 0 → none.green ≡ 0 → none.blue ≡ 0
-    → AreByValue k [] (replicate 256 none)
-by_value_none k none count red green blue = record {
-  many = length-replicate 256 none;
-  each = λ w d inside. subst (AreSums (is_at k w) []) (sym (get_or-replicate 256 w none d inside))
-      (record { count = count; red = red; green = green; blue = blue });
 }
 
 -- the sums of the colors below a value

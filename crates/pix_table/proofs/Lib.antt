@@ -9,10 +9,13 @@ pub mod Parts
 pub mod CutBoxes
 pub mod SumLemmas
 pub mod BoxSumLemmas
+pub mod PartedSums
 pub mod WordLemmas
+pub mod Rounds
 pub mod PlaceLemmas
 pub mod PlaceSteps
 pub mod PieceBoxes
+pub mod CutColors
 pub mod Splits
 pub mod Distinct
 pub mod Rows
@@ -36,3 +39,4 @@ pub mod BitLemmas
 pub mod Quotients
 pub mod LeastMeans
 pub mod RefinedTables
+pub mod TableRounds

@@ -26,10 +26,14 @@ is_at channel value color = nat_eq (slice_index color channel) value
 abbrev pub is_below : (channel value : ℕ) → List ℕ → Bool
 is_below channel value color = nat_lt (slice_index color channel) value
 
+-- the sums of the parts of some colors, where a function says in which of so many parts a color is
+pub record AreParted (at : List ℕ → ℕ) (count : ℕ) (colors : List (List ℕ)) (parts : List Sums) : Type 0 where
+  pub many : length parts ≡ count
+  pub each : (k : ℕ) (d : Sums) → k < count → AreSums (λ color. nat_eq (at color) k) colors (slice_index_or parts k d)
+
 -- the sums of the colors of each value of a channel
-pub record AreByValue (channel : ℕ) (box : List (List ℕ)) (parts : List Sums) : Type 0 where
-  pub many : length parts ≡ 256
-  pub each : (value : ℕ) (d : Sums) → value < 256 → AreSums (is_at channel value) box (slice_index_or parts value d)
+abbrev pub AreByValue : (channel : ℕ) → List (List ℕ) → List Sums → Type 0
+AreByValue channel box parts = AreParted (λ color. slice_index color channel) 256 box parts
 
 -- the two channels beside another
 abbrev pub other : ℕ → ℕ

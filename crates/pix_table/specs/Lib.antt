@@ -9,6 +9,7 @@ pub mod Pieces
 pub mod Spans
 pub mod From
 pub mod Refine
+pub mod Groups
 pub mod Diffusion
 pub mod Done
 pub mod PaletteMatch

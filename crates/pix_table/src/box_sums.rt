@@ -1,11 +1,11 @@
 //! Sums of colors: of a box, and of its colors of each value of a channel.
-ghost use Rattle.std.specs.Prelude.{◌≡◌, ℕ, ◌+◌, ◌-◌, ◌*◌, ◌<◌, ◌≤◌, All, List, length, map, true};
+ghost use Rattle.std.specs.Prelude.{◌≡◌, ℕ, ◌+◌, ◌-◌, ◌*◌, ◌/◌, ◌<◌, ◌≤◌, All, List, length, map, true};
 ghost use Rattle.pix_table.specs.Nearest.{numbers};
 ghost use Rattle.pix_table.specs.BestPlaces.{AreByValue, AreBytes, ArePart, AreSums, AreWords};
 ghost use Rattle.pix_table.specs.BestPlaces.{is_at, sum_of, weight_by, word_of};
 
 use crate::color::Color;
-use crate::cut::channel;
+use crate::cut::{channel, quotient};
 use crate::weight::weight;
 
 /// The most colors whose words may be added: their count has 16 bits, and each of two sums 24.
@@ -69,6 +69,26 @@ impl Sums {
         }
     }
 
+    /// Returns the sums with a color more.
+    pub(crate) fn with(self, clr: Color) -> Sums
+        requires few { self.count < 18446744073709551615 }
+        requires red { self.red ≤ 255 * self.count }
+        requires green { self.green ≤ 255 * self.count }
+        requires blue { self.blue ≤ 255 * self.count }
+        ensures count { result.count ≡ self.count + 1 }
+        ensures red { result.red ≡ self.red + clr.red }
+        ensures green { result.green ≡ self.green + clr.green }
+        ensures blue { result.blue ≡ self.blue + clr.blue }
+        ensures bytes { AreBytes (numbers clr) }
+    {
+        Sums {
+            count: self.count + 1,
+            red: self.red + u128::from(clr.red),
+            green: self.green + u128::from(clr.green),
+            blue: self.blue + u128::from(clr.blue),
+        }
+    }
+
     /// Returns the sums of these colors and of others.
     pub(crate) fn and(self, more: Sums) -> Sums
         requires few { self.count + more.count < 18446744073709551616 }
@@ -117,6 +137,26 @@ impl Sums {
         ensures few { result ≤ 195075 * self.count }
     {
         weight(self.count, [self.red, self.green, self.blue])
+    }
+
+    /// Returns the mean of the colors, to the nearest whole number in each channel, ties up.
+    ///
+    /// Condition: there is a color.
+    pub(crate) fn mean(self) -> Color
+        requires some { 0 < self.count }
+        requires red { self.red ≤ 255 * self.count }
+        requires green { self.green ≤ 255 * self.count }
+        requires blue { self.blue ≤ 255 * self.count }
+        ensures red { result.red ≡ (2 * self.red + self.count) / (2 * self.count) }
+        ensures green { result.green ≡ (2 * self.green + self.count) / (2 * self.count) }
+        ensures blue { result.blue ≡ (2 * self.blue + self.count) / (2 * self.count) }
+    {
+        let count = self.count as u128;
+        Color {
+            red: quotient(2 * self.red + count, 2 * count),
+            green: quotient(2 * self.green + count, 2 * count),
+            blue: quotient(2 * self.blue + count, 2 * count),
+        }
     }
 
     /// Returns what a cut gains, where `low` are the sums of the colors below it.

@@ -35,6 +35,7 @@ pub(crate) fn cut_table(colors: &mut [Color], entries: &mut [Color]) -> usize
     requires few { length entries.old ≤ 256 }
     ensures some { 0 < result }
     ensures within { result ≤ length entries.new }
+    ensures moved { IsPermutation (map numbers colors.old) (map numbers colors.new) }
     ensures table { IsCutTable (length entries.old) (map numbers colors.old)
         (map numbers (take result entries.new)) }
 {
@@ -159,7 +160,7 @@ fn mean(colors: &[Color], k: usize) -> u8
 
 /// Returns the whole part of a quotient that is below 256: by differences, since no processor
 /// divides numbers of 128 bits.
-fn quotient(n: u128, d: u128) -> u8
+pub(crate) fn quotient(n: u128, d: u128) -> u8
     requires some { 0 < d }
     requires few { n < 256 * d }
     ensures { result ≡ n / d }

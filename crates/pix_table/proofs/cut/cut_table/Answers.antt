@@ -1,8 +1,17 @@
--- Of `cut_table`: its clause `table`.
-use Rattle.std.proofs.Common.{◌++◌, length, drop, replicate, arith, length-take}
+-- Of `cut_table`: its clauses `moved` and `table`.
+use Rattle.std.proofs.Common.{◌++◌, length, map, take, drop, replicate, IsPermutation, arith, subst, length-take}
 use Rattle.std.proofs.lemmas.List.{length-replicate, take-append-le}
+use Rattle.pix_table.specs.Nearest.{numbers}
+use Rattle.pix_table.specs.Pieces.{boxes_of}
+use Rattle.pix_table.proofs.CutColors.{boxes_moved, boxes_whole}
 use Rattle.pix_table.proofs.PieceBoxes.{table_made}
 use Rattle.pix_table.proofs.cut.cut_table.Goals as goal
+
+pub returns-clause-moved : goal.returns-clause-moved
+returns-clause-moved c =
+    let pieces = take c.cut_boxes-count.result c.cut_boxes-count.new.pieces in
+    subst (IsPermutation (map numbers c.args.colors.now)) (boxes_whole c.cut_boxes-count.new.colors pieces c.cut_boxes-count.ensures.stand.all)
+    (boxes_moved (map numbers c.args.colors.now) (boxes_of c.cut_boxes-count.new.colors pieces) c.cut_boxes-count.ensures.boxes)
 
 pub returns-clause-table : goal.returns-clause-table
 returns-clause-table c =

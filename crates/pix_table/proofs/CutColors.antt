@@ -1,0 +1,39 @@
+-- The boxes of a list of colors have all of its colors.
+use Rattle.std.specs.List.{flat_map}
+use Rattle.std.proofs.Common.{◌≡◌, ℕ, ◌+◌, List, [], ◌∷◌, ◌++◌, length, map, take, drop, IsPermutation, refl, arith, sym, ap, ap₂, ◌∙◌, subst, append_assoc, append-nil, length-drop, take-append-drop}
+use Rattle.std.proofs.lemmas.List.{map-append}
+use Rattle.std.proofs.lemmas.List.Sums.{sum_by-cons}
+use Rattle.std.proofs.lemmas.List.Sorted.{IsPermutation-refl, IsPermutation-trans, IsPermutation-append_left, IsPermutation-append_right}
+use Rattle.std.proofs.lemmas.Grind.{flat_map-append}
+use Rattle.pix_table.specs.Cut.{AreBoxes, one, cut}
+use Rattle.pix_table.specs.Nearest.{numbers}
+use Rattle.pix_table.specs.Pieces.{boxes_of, total}
+use Rattle.pix_table.specs.declared.color.Color.{Color}
+use Rattle.pix_table.specs.declared.pieces.Piece.{Piece}
+
+abbrev colors_of : List (List (List ℕ)) → List (List ℕ)
+colors_of boxes = flat_map (λ box. box) boxes
+
+pub boxes_moved : (colors : List (List ℕ)) (boxes : List (List (List ℕ))) → AreBoxes colors boxes → IsPermutation colors (colors_of boxes)
+boxes_moved _ _ (one colors some) = subst (IsPermutation colors) (sym (append-nil colors)) (IsPermutation-refl colors)
+boxes_moved _ _ (cut colors box low high before after are next) =
+    let old : colors_of (before ++ box ∷ after) ≡ colors_of before ++ (box ++ colors_of after) = flat_map-append (λ b. b) before (box ∷ after) in
+    let new : colors_of (before ++ low ∷ high ∷ after) ≡ colors_of before ++ ((low ++ high) ++ colors_of after) =
+    flat_map-append (λ b. b) before (low ∷ high ∷ after) ∙ ap (λ l. colors_of before ++ l) (sym (append_assoc low high (colors_of after))) in
+    IsPermutation-trans colors (colors_of (before ++ box ∷ after)) (colors_of (before ++ low ∷ high ∷ after))
+    (boxes_moved colors (before ++ box ∷ after) are)
+    (rw (old, new)
+    (IsPermutation-append_right (colors_of before) (box ++ colors_of after) ((low ++ high) ++ colors_of after)
+    (IsPermutation-append_left (colors_of after) box (low ++ high) next.cut.all)))
+
+-- the boxes of pieces that have all colors
+no_colors : (xs : List Color) → 0 ≡ length xs → [] ≡ map numbers xs
+no_colors [] e = refl
+no_colors (x ∷ xs) e = absurd (omega arith)
+
+pub boxes_whole : (xs : List Color) (ps : List Piece) → total ps ≡ length xs → colors_of (boxes_of xs ps) ≡ map numbers xs
+boxes_whole xs [] e = no_colors xs e
+boxes_whole xs (p ∷ ps) e =
+    let sum : total (p ∷ ps) ≡ p.len + total ps = sum_by-cons (λ (q : Piece). q.len) p ps in
+    ap (λ l. map numbers (take p.len xs) ++ l) (boxes_whole (drop p.len xs) ps (omega (arith, sum, e, length-drop p.len xs)))
+    ∙ sym (map-append numbers (take p.len xs) (drop p.len xs)) ∙ ap (map numbers) (take-append-drop p.len xs)

@@ -1,0 +1,78 @@
+-- The sums of some colors, and of their parts, with one color more.
+use Rattle.std.proofs.Common.{◌≡◌, ℕ, zero, suc, ◌+◌, ◌<◌, ◌≤◌, Bool, true, false, cond, List, [], ◌∷◌, ◌++◌, length, set, replicate, get_or, nat_eq, sum_by, arith, sym, ap, ◌∙◌, subst, inl, inr, eq-eqb, ne_eqb, length-set}
+use Rattle.std.proofs.lemmas.Bool.{cases_eq}
+use Rattle.std.proofs.lemmas.List.{get_or-set_same, get_or-set_other, get_or-replicate, length-replicate}
+use Rattle.std.proofs.lemmas.List.Sums.{sum_by_push}
+use Rattle.pix_table.specs.Nearest.{numbers}
+use Rattle.pix_table.specs.BestPlaces.{AreBytes, AreParted, AreSums, sum_of}
+use Rattle.pix_table.specs.declared.box_sums.Sums.{Sums}
+use Rattle.pix_table.specs.declared.color.Color.{Color}
+
+pub color_bytes : (p : Color) → p.red ≤ 255 → p.green ≤ 255 → p.blue ≤ 255 → AreBytes (numbers p)
+color_bytes p r g b zero = r
+color_bytes p r g b (suc zero) = g
+color_bytes p r g b (suc (suc zero)) = b
+color_bytes p r g b (suc (suc (suc k))) = omega arith
+
+-- the sums with a color more that passes, and with one that doesn't
+push_true : (p : List ℕ → Bool) (f : List ℕ → ℕ) (box : List (List ℕ)) (c : List ℕ) → p c ≡ true
+    → sum_of p f (box ++ c ∷ []) ≡ sum_of p f box + f c
+push_true p f box c e =
+    sum_by_push (λ x. cond (p x) (f x) 0) box c ∙ ap (λ b. sum_of p f box + cond b (f c) 0) e
+
+push_false : (p : List ℕ → Bool) (f : List ℕ → ℕ) (box : List (List ℕ)) (c : List ℕ) → p c ≡ false
+    → sum_of p f box ≡ sum_of p f (box ++ c ∷ [])
+push_false p f box c e =
+    let same : sum_of p f (box ++ c ∷ []) ≡ sum_of p f box + 0 =
+    sum_by_push (λ x. cond (p x) (f x) 0) box c ∙ ap (λ b. sum_of p f box + cond b (f c) 0) e in
+    omega (arith, same)
+
+sums_more : (p : List ℕ → Bool) (box : List (List ℕ)) (c : Color) (old new : Sums) → p (numbers c) ≡ true → AreSums p box old
+    → new.count ≡ old.count + 1 → new.red ≡ old.red + c.red → new.green ≡ old.green + c.green → new.blue ≡ old.blue + c.blue
+    → AreSums p (box ++ numbers c ∷ []) new
+sums_more p box c old new e h count red green blue = record {
+  count = omega (arith, count, h.count, push_true p (λ x. 1) box (numbers c) e);
+  red = omega (arith, red, h.red, push_true p (λ x. get_or x 0 0) box (numbers c) e);
+  green = omega (arith, green, h.green, push_true p (λ x. get_or x 1 0) box (numbers c) e);
+  blue = omega (arith, blue, h.blue, push_true p (λ x. get_or x 2 0) box (numbers c) e);
+}
+
+sums_same : (p : List ℕ → Bool) (box : List (List ℕ)) (c : Color) (sums : Sums) → p (numbers c) ≡ false → AreSums p box sums
+    → AreSums p (box ++ numbers c ∷ []) sums
+sums_same p box c sums e h = record {
+  count = h.count ∙ push_false p (λ x. 1) box (numbers c) e;
+  red = h.red ∙ push_false p (λ x. get_or x 0 0) box (numbers c) e;
+  green = h.green ∙ push_false p (λ x. get_or x 1 0) box (numbers c) e;
+  blue = h.blue ∙ push_false p (λ x. get_or x 2 0) box (numbers c) e;
+}
+
+-- the sums of each part, with one color more
+pub parted_more : (at : List ℕ → ℕ) (count v : ℕ) (box more : List (List ℕ)) (parts : List Sums) (c : Color) (old new : Sums) → more ≡ box ++ numbers c ∷ []
+    → AreParted at count box parts → v ≡ at (numbers c) → v < count → old ≡ get_or parts v old
+    → new.count ≡ old.count + 1 → new.red ≡ old.red + c.red → new.green ≡ old.green + c.green → new.blue ≡ old.blue + c.blue
+    → AreParted at count more (set parts v new)
+parted_more at count v box more parts c old new grown h e small read longer red green blue = record {
+  many = length-set parts v new ∙ h.many;
+  each = λ w d inside. subst (λ l. AreSums (λ x. nat_eq (at x) w) l (get_or (set parts v new) w d)) (sym grown) (elim (cases_eq w v) [
+    | inl same ↦
+        let here : nat_eq (at (numbers c)) w ≡ true = eq-eqb (at (numbers c)) w (omega (arith, e, same)) in
+        let before : AreSums (λ x. nat_eq (at x) w) box old = subst (λ j. AreSums (λ x. nat_eq (at x) j) box old) (sym same)
+        (subst (AreSums (λ x. nat_eq (at x) v) box) (sym read) (h.each v old small)) in
+        let there : get_or (set parts v new) w d ≡ new = ap (λ j. get_or (set parts v new) j d) same ∙ get_or-set_same parts v new d (omega (arith, h.many, small)) in
+        subst (AreSums (λ x. nat_eq (at x) w) (box ++ numbers c ∷ [])) (sym there)
+        (sums_more (λ x. nat_eq (at x) w) box c old new here before longer red green blue)
+    | inr apart ↦
+        let other : nat_eq (at (numbers c)) w ≡ false = ne_eqb (at (numbers c)) w (λ eq. apart (omega (arith, e, eq))) in
+        subst (AreSums (λ x. nat_eq (at x) w) (box ++ numbers c ∷ [])) (sym (get_or-set_other parts v w new d apart))
+        (sums_same (λ x. nat_eq (at x) w) box c (get_or parts w d) other (h.each w d inside))
+  ]);
+}
+
+-- of no colors
+pub parted_none : (at : List ℕ → ℕ) (count : ℕ) (none : Sums) → none.count ≡ 0 → none.red ≡ 0 → none.green ≡ 0 → none.blue ≡ 0
+    → AreParted at count [] (replicate count none)
+parted_none at count none nil red green blue = record {
+  many = length-replicate count none;
+  each = λ w d inside. subst (AreSums (λ x. nat_eq (at x) w) []) (sym (get_or-replicate count w none d inside))
+      (record { count = nil; red = red; green = green; blue = blue });
+}

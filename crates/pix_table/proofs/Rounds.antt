@@ -1,0 +1,269 @@
+-- The colors of each entry, their sums, and the round that the sums make.
+use Rattle.std.specs.List.{flat_map}
+use Rattle.std.proofs.Common.{◌≡◌, ◌≢◌, ℕ, zero, suc, ◌+◌, ◌*◌, ◌<◌, ◌≤◌, Bool, true, false, cond, List, [], ◌∷◌, ◌++◌, length, map, take, set, replicate, get_or, nat_eq, nat_lt, filter, sum_by, count_by, All, IsPermutation, refl, arith, sym, ap, ◌∙◌, subst, inl, inr, lt-ltb, le-ltb, eq-eqb, ne_eqb, length-append, length-set}
+use Rattle.std.proofs.lemmas.Bool.{cases_lt, cases_order, cases_Bool, eqb-true}
+use Rattle.std.proofs.lemmas.List.{append-nil, get_or_append_left, get_or-append-add, get_or-take, get_or-set_other, length-map, map-set}
+use Rattle.std.proofs.lemmas.Grind.{flat_map-append, get_or-set_at}
+use Rattle.std.proofs.lemmas.List.Elements.{All-cons, All-nil, All-push}
+use Rattle.std.proofs.lemmas.List.Sums.{length-filter, sum_by-cons}
+use Rattle.std.proofs.lemmas.List.Sorted.{IsPermutation-refl, IsPermutation-sym, IsPermutation-trans, IsPermutation-cons, IsPermutation-middle, IsPermutation-append_left}
+use Rattle.pix_table.specs.Nearest.{distance_to, IsNearest, numbers}
+use Rattle.pix_table.specs.Places.{sum_in}
+use Rattle.pix_table.specs.BestPlaces.{AreBytes, AreParted, AreSums, sum_of}
+use Rattle.pix_table.specs.Cut.{mean}
+use Rattle.pix_table.specs.Refine.{AreGroups, IsRound, refined}
+use Rattle.pix_table.specs.Groups.{AreGrouped, mean_by, settled}
+use Rattle.pix_table.specs.declared.box_sums.Sums.{Sums}
+use Rattle.pix_table.specs.declared.color.Color.{Color}
+use Rattle.pix_table.proofs.BoxSumLemmas.{are_few, count_few}
+use Rattle.pix_table.proofs.PartedSums.{parted_more, parted_none}
+use Rattle.pix_table.proofs.NearestEntries.{IsNearestBelow, nearest_at_first, nearest_changes, nearest_stays, nearest_of_all}
+
+-- a color has a nearest entry
+nearest_below : (entries : List (List ℕ)) (color : List ℕ) → 0 < length entries → (i : ℕ) → i ≤ length entries
+    → (at : ℕ) × (least : ℕ) × IsNearestBelow entries color i at least
+nearest_below entries color some zero within = (0, distance_to entries color 0, nearest_at_first entries color (distance_to entries color 0) some refl)
+nearest_below entries color some (suc i) within =
+    let before = nearest_below entries color some i (omega arith) in
+    let next : i + 1 ≡ suc i = omega arith in
+    elim (cases_lt (distance_to entries color i) before.1) [
+      | inl b ↦ (
+        i,
+        distance_to entries color i,
+        subst (λ n. IsNearestBelow entries color n i (distance_to entries color i)) next
+            (nearest_changes entries color i before.0 before.1 (distance_to entries color i) before.2 (omega arith) refl b),
+      )
+      | inr b ↦ (
+        before.0,
+        before.1,
+        subst (λ n. IsNearestBelow entries color n before.0 before.1) next
+            (nearest_stays entries color i before.0 before.1 (distance_to entries color i) before.2 refl b),
+      )
+    ]
+
+pub nearest_at : (entries : List (List ℕ)) → 0 < length entries → (color : List ℕ) → (at : ℕ) × IsNearest entries color at
+nearest_at entries some color =
+    let h = nearest_below entries color some (length entries) (omega arith) in
+    (h.0, nearest_of_all entries color (length entries) h.0 h.1 refl h.2)
+
+-- the nearest is one
+pub nearest_is_one : (entries : List (List ℕ)) (color : List ℕ) (i j : ℕ) → IsNearest entries color i → IsNearest entries color j → i ≡ j
+nearest_is_one entries color i j h g = elim (cases_order i j) [
+  | inl e ↦ e
+  | inr o ↦ elim o [
+    | inl b ↦ absurd (omega (arith, g.first i b, h.least j g.stands))
+    | inr b ↦ absurd (omega (arith, h.first j b, g.least i h.stands))
+  ]
+]
+
+-- the colors of each part, where a function says in which of so many parts a color is
+module _ (at : List ℕ → ℕ) where
+  abbrev part : ℕ → List (List ℕ) → List (List ℕ)
+  part n colors = filter (λ c. nat_eq (at c) n) colors
+
+  abbrev below : ℕ → List (List ℕ) → List (List ℕ)
+  below n colors = filter (λ c. nat_lt (at c) n) colors
+
+  pub parts : ℕ → List (List ℕ) → List (List (List ℕ))
+  parts zero colors = []
+  parts (suc n) colors = parts n colors ++ part n colors ∷ []
+
+  length-parts : (n : ℕ) (colors : List (List ℕ)) → length (parts n colors) ≡ n
+  unfolding parts
+  length-parts zero colors = refl
+  length-parts (suc n) colors = omega (arith, length-append (parts n colors) (part n colors ∷ []), length-parts n colors)
+
+  part_of : (n k : ℕ) (colors : List (List ℕ)) → k < n → get_or (parts n colors) k [] ≡ part k colors
+  unfolding parts
+  part_of zero k colors h = absurd (omega arith)
+  part_of (suc n) k colors h = elim (cases_lt k n) [
+    | inl b ↦
+        get_or_append_left (parts n colors) (part n colors ∷ []) [] k (omega (arith, length-parts n colors)) ∙ part_of n k colors b
+    | inr b ↦
+        let e : k ≡ length (parts n colors) + 0 = omega (arith, length-parts n colors) in
+        let last : n ≡ k = omega arith in
+        ap (λ i. get_or (parts n colors ++ part n colors ∷ []) i []) e
+        ∙ get_or-append-add (parts n colors) (part n colors ∷ []) 0 [] ∙ ap (λ i. part i colors) last
+  ]
+
+  -- the colors of one part more
+  one_more : (n : ℕ) (colors : List (List ℕ)) → IsPermutation (below (suc n) colors) (below n colors ++ part n colors)
+  one_more n [] = IsPermutation-refl []
+  one_more n (c ∷ colors) = elim (cases_order (at c) n) [
+    | inl e ↦
+        rw (lt-ltb (at c) (suc n) (omega arith), le-ltb (at c) n (omega arith), eq-eqb (at c) n e)
+        (IsPermutation-trans (c ∷ below (suc n) colors) (c ∷ (below n colors ++ part n colors)) (below n colors ++ c ∷ part n colors)
+        (IsPermutation-cons c (below (suc n) colors) (below n colors ++ part n colors) (one_more n colors))
+        (IsPermutation-sym (below n colors ++ c ∷ part n colors) (c ∷ (below n colors ++ part n colors))
+        (IsPermutation-middle (below n colors) c (part n colors))))
+    | inr o ↦ elim o [
+      | inl b ↦
+          rw (lt-ltb (at c) (suc n) (omega arith), lt-ltb (at c) n b, ne_eqb (at c) n (λ e. omega arith))
+          (IsPermutation-cons c (below (suc n) colors) (below n colors ++ part n colors) (one_more n colors))
+      | inr b ↦
+          rw (le-ltb (at c) (suc n) (omega arith), le-ltb (at c) n (omega arith), ne_eqb (at c) n (λ e. omega arith)) (one_more n colors)
+    ]
+  ]
+
+  none_below : (colors : List (List ℕ)) → below 0 colors ≡ []
+  none_below [] = refl
+  none_below (c ∷ colors) = ap (λ b. cond b (c ∷ below 0 colors) (below 0 colors)) (le-ltb (at c) 0 (omega arith)) ∙ none_below colors
+
+  all_below : (n : ℕ) (colors : List (List ℕ)) → ((c : List ℕ) → at c < n) → below n colors ≡ colors
+  all_below n [] h = refl
+  all_below n (c ∷ colors) h =
+      ap (λ b. cond b (c ∷ below n colors) (below n colors)) (lt-ltb (at c) n (h c)) ∙ ap (λ l. c ∷ l) (all_below n colors h)
+
+  joined : (n : ℕ) (colors : List (List ℕ)) → IsPermutation (below n colors) (flat_map (λ g. g) (parts n colors))
+  unfolding parts
+  joined zero colors = subst (λ l. IsPermutation l []) (sym (none_below colors)) (IsPermutation-refl [])
+  joined (suc n) colors =
+      let last : flat_map (λ g. g) (part n colors ∷ []) ≡ part n colors = append-nil (part n colors) in
+      subst (IsPermutation (below (suc n) colors))
+      (sym (flat_map-append (λ g. g) (parts n colors) (part n colors ∷ []) ∙ ap (λ l. flat_map (λ g. g) (parts n colors) ++ l) last))
+      (IsPermutation-trans (below (suc n) colors) (below n colors ++ part n colors) (flat_map (λ g. g) (parts n colors) ++ part n colors)
+      (one_more n colors) (IsPermutation-append_left (part n colors) (below n colors) (flat_map (λ g. g) (parts n colors)) (joined n colors)))
+
+-- the parts of the nearest entries are the groups of a round
+passed : (p : List ℕ → Bool) (P : List ℕ → Type 0) (xs : List (List ℕ)) → ((x : List ℕ) → p x ≡ true → P x) → All P (filter p xs)
+passed p P [] h = All-nil P
+passed p P (x ∷ xs) h = elim (cases_Bool (p x)) [
+  | inl e ↦ subst (All P) (sym (ap (λ b. cond b (x ∷ filter p xs) (filter p xs)) e)) (All-cons P x (filter p xs) (h x e) (passed p P xs h))
+  | inr e ↦ subst (All P) (sym (ap (λ b. cond b (x ∷ filter p xs) (filter p xs)) e)) (passed p P xs h)
+]
+
+groups_are : (entries colors : List (List ℕ)) (at : List ℕ → ℕ) → ((color : List ℕ) → IsNearest entries color (at color))
+    → AreGroups entries colors (parts at (length entries) colors)
+groups_are entries colors at h = record {
+  many = length-parts at (length entries) colors;
+  all = subst (λ l. IsPermutation l (flat_map (λ g. g) (parts at (length entries) colors)))
+      (all_below at (length entries) colors (λ c. (h c).stands)) (joined at (length entries) colors);
+  nearest = λ i inside. subst (All (λ c. IsNearest entries c i)) (sym (part_of at (length entries) i colors inside))
+      (passed (λ c. nat_eq (at c) i) (λ c. IsNearest entries c i) colors (λ c e. subst (IsNearest entries c) (eqb-true (at c) i e) (h c)));
+}
+
+-- an entry by the sums of its colors
+sum_kept : (p : List ℕ → Bool) (f : List ℕ → ℕ) (xs : List (List ℕ)) → sum_of p f xs ≡ sum_by f (filter p xs)
+sum_kept p f [] = refl
+sum_kept p f (x ∷ xs) = elim (cases_Bool (p x)) [
+  | inl e ↦
+      sum_by-cons (λ c. cond (p c) (f c) 0) x xs ∙ ap (λ b. cond b (f x) 0 + sum_of p f xs) e ∙ ap (λ n. f x + n) (sum_kept p f xs)
+      ∙ sym (sum_by-cons f x (filter p xs)) ∙ sym (ap (λ b. sum_by f (cond b (x ∷ filter p xs) (filter p xs))) e)
+  | inr e ↦
+      sum_by-cons (λ c. cond (p c) (f c) 0) x xs ∙ ap (λ b. cond b (f x) 0 + sum_of p f xs) e
+      ∙ (let none : 0 + sum_of p f xs ≡ sum_of p f xs = omega arith in none) ∙ sum_kept p f xs
+      ∙ sym (ap (λ b. sum_by f (cond b (x ∷ filter p xs) (filter p xs))) e)
+]
+
+settled_is : (sums : Sums) (entry : List ℕ) (group : List (List ℕ)) → sums.count ≡ length group → sums.red ≡ sum_in 0 group → sums.green ≡ sum_in 1 group
+    → sums.blue ≡ sum_in 2 group → settled sums entry ≡ refined entry group
+settled_is sums entry [] count red green blue = ap (λ b. cond b entry (mean_by sums)) (eq-eqb sums.count 0 count)
+settled_is sums entry (c ∷ group) count red green blue =
+    ap (λ b. cond b entry (mean_by sums)) (ne_eqb sums.count 0 (λ e. omega (arith, count, e))) ∙ rw (count, red, green, blue) refl
+
+-- the sums of an entry are those of bytes
+pub sums_few : (entries colors : List (List ℕ)) (n : ℕ) (sums : List Sums) (d : Sums) → 0 < n → n ≡ length entries → AreGrouped entries colors (take n sums)
+    → (k : ℕ) → k < n
+    → ((get_or sums k d).red ≤ 255 * (get_or sums k d).count) × ((get_or sums k d).green ≤ 255 * (get_or sums k d).count)
+    × ((get_or sums k d).blue ≤ 255 * (get_or sums k d).count)
+sums_few entries colors n sums d some e grouped k inside =
+    let at : List ℕ → ℕ = (λ c. (nearest_at entries (omega (arith, e, some)) c).0) in
+    let nearest : (c : List ℕ) → IsNearest entries c (at c) = (λ c. (nearest_at entries (omega (arith, e, some)) c).1) in
+    are_few (λ c. nat_eq (at c) k) colors (get_or sums k d) grouped.bytes
+    (subst (AreSums (λ c. nat_eq (at c) k) colors) (get_or-take n sums k d inside) ((grouped.parts at nearest).each k d (omega (arith, e, inside))))
+
+-- the first i entries have moved by their sums, and the others stand
+pub record AreMoved (old new : List (List ℕ)) (sums : List Sums) (d : Sums) (i : ℕ) : Type 0 where
+  pub many : length new ≡ length old
+  pub moved : (k : ℕ) → k < i → get_or new k [] ≡ settled (get_or sums k d) (get_or old k [])
+  pub stand : (k : ℕ) → i ≤ k → get_or new k [] ≡ get_or old k []
+
+pub none_moved : (old : List (List ℕ)) (sums : List Sums) (d : Sums) → AreMoved old old sums d 0
+none_moved old sums d = record { many = refl; moved = λ k b. absurd (omega arith); stand = λ k b. refl }
+
+-- one more moves, or has no color
+pub one_moves : (old : List (List ℕ)) (es : List Color) (sums : List Sums) (d : Sums) (i : ℕ) (x : Color) → i < length es → 0 < (get_or sums i d).count
+    → numbers x ≡ mean_by (get_or sums i d) → AreMoved old (map numbers es) sums d i → AreMoved old (map numbers (set es i x)) sums d (i + 1)
+one_moves old es sums d i x inside some e h =
+    let written : map numbers (set es i x) ≡ set (map numbers es) i (numbers x) = map-set numbers es i x in
+    let here : (k : ℕ) → k ≡ i → get_or (map numbers (set es i x)) k [] ≡ numbers x =
+    (λ k same. ap (λ l. get_or l k []) written ∙ get_or-set_at (map numbers es) i k (numbers x) [] same (omega (arith, length-map es numbers))) in
+    let there : (k : ℕ) → k ≢ i → get_or (map numbers (set es i x)) k [] ≡ get_or (map numbers es) k [] =
+    (λ k apart. ap (λ l. get_or l k []) written ∙ get_or-set_other (map numbers es) i k (numbers x) [] apart) in
+    record {
+      many = ap length written ∙ length-set (map numbers es) i (numbers x) ∙ h.many;
+      moved = λ k b. elim (cases_lt k i) [
+        | inl l ↦ (let apart : k ≢ i = (λ q. omega arith) in there k apart ∙ h.moved k l)
+        | inr l ↦
+            let same : k ≡ i = omega arith in
+            here k same ∙ e ∙ ap (λ j. mean_by (get_or sums j d)) (sym same)
+            ∙ sym (ap (λ b. cond b (get_or old k []) (mean_by (get_or sums k d)))
+            (ne_eqb (get_or sums k d).count 0 (subst (λ j. (get_or sums j d).count ≡ 0 → ⊥) (sym same) (λ z. omega arith))))
+      ];
+      stand = λ k b. let apart : k ≢ i = (λ q. omega arith) in there k apart ∙ h.stand k (omega arith);
+    }
+
+pub one_stays : (old new : List (List ℕ)) (sums : List Sums) (d : Sums) (i : ℕ) → (get_or sums i d).count ≡ 0 → AreMoved old new sums d i
+    → AreMoved old new sums d (i + 1)
+one_stays old new sums d i none h = record {
+  many = h.many;
+  moved = λ k b. elim (cases_lt k i) [
+    | inl l ↦ h.moved k l
+    | inr l ↦
+        let same : i ≡ k = omega arith in
+        h.stand k l
+        ∙ sym (ap (λ b. cond b (get_or old k []) (mean_by (get_or sums k d)))
+        (eq-eqb (get_or sums k d).count 0 (subst (λ j. (get_or sums j d).count ≡ 0) same none)))
+  ];
+  stand = λ k b. h.stand k (omega arith);
+}
+
+-- the round
+pub round_made : (old colors new : List (List ℕ)) (n i : ℕ) (sums : List Sums) (d : Sums) → 0 < n → n ≡ length old → n ≤ i
+    → AreGrouped old colors (take n sums) → AreMoved old new sums d i → IsRound colors old new
+round_made old colors new n i sums d some e all grouped h =
+    let at : List ℕ → ℕ = (λ c. (nearest_at old (omega (arith, e, some)) c).0) in
+    let nearest : (c : List ℕ) → IsNearest old c (at c) = (λ c. (nearest_at old (omega (arith, e, some)) c).1) in
+    record {
+      groups = parts at (length old) colors;
+      are = groups_are old colors at nearest;
+      many = h.many;
+      each = λ k inside.
+          let s : AreSums (λ c. nat_eq (at c) k) colors (get_or sums k d) =
+          subst (AreSums (λ c. nat_eq (at c) k) colors) (get_or-take n sums k d (omega (arith, e, inside))) ((grouped.parts at nearest).each k d inside) in
+          h.moved k (omega (arith, e, inside, all))
+          ∙ settled_is (get_or sums k d) (get_or old k []) (part at k colors) (s.count ∙ sym (length-filter (λ c. nat_eq (at c) k) colors))
+          (s.red ∙ sum_kept (λ c. nat_eq (at c) k) (λ c. get_or c 0 0) colors)
+          (s.green ∙ sum_kept (λ c. nat_eq (at c) k) (λ c. get_or c 1 0) colors)
+          (s.blue ∙ sum_kept (λ c. nat_eq (at c) k) (λ c. get_or c 2 0) colors)
+          ∙ ap (refined (get_or old k [])) (sym (part_of at (length old) k colors inside));
+    }
+
+-- the sums of no colors, and of one color more
+pub grouped_none : (entries : List (List ℕ)) (n : ℕ) (none : Sums) → n ≡ length entries → none.count ≡ 0 → none.red ≡ 0 → none.green ≡ 0 → none.blue ≡ 0
+    → AreGrouped entries [] (replicate n none)
+grouped_none entries n none e count red green blue = record {
+  bytes = All-nil AreBytes;
+  parts = λ at nearest. subst (λ m. AreParted at m [] (replicate n none)) e (parted_none at n none count red green blue);
+}
+
+pub grouped_more : (entries box more : List (List ℕ)) (sums : List Sums) (c : Color) (v : ℕ) (old new : Sums) → more ≡ box ++ numbers c ∷ [] → AreBytes (numbers c)
+    → IsNearest entries (numbers c) v → old ≡ get_or sums v old → new.count ≡ old.count + 1 → new.red ≡ old.red + c.red → new.green ≡ old.green + c.green
+    → new.blue ≡ old.blue + c.blue → AreGrouped entries box sums → AreGrouped entries more (set sums v new)
+grouped_more entries box more sums c v old new grown bytes is read count red green blue h = record {
+  bytes = subst (All AreBytes) (sym grown) (All-push AreBytes box (numbers c) h.bytes bytes);
+  parts = λ at nearest.
+      parted_more at (length entries) v box more sums c old new grown (h.parts at nearest)
+      (nearest_is_one entries (numbers c) v (at (numbers c)) is (nearest (numbers c))) is.stands read count red green blue;
+}
+
+-- what is known of the sums to which a color is added
+pub sums_open : (entries box : List (List ℕ)) (sums : List Sums) (d : Sums) (v : ℕ) → v < length entries → AreGrouped entries box sums
+    → ((get_or sums v d).count ≤ length box) × ((get_or sums v d).red ≤ 255 * (get_or sums v d).count) × ((get_or sums v d).green ≤ 255 * (get_or sums v d).count)
+    × ((get_or sums v d).blue ≤ 255 * (get_or sums v d).count)
+sums_open entries box sums d v inside h =
+    let at : List ℕ → ℕ = (λ c. (nearest_at entries (omega arith) c).0) in
+    let nearest : (c : List ℕ) → IsNearest entries c (at c) = (λ c. (nearest_at entries (omega arith) c).1) in
+    let s : AreSums (λ c. nat_eq (at c) v) box (get_or sums v d) = (h.parts at nearest).each v d inside in
+    let few = are_few (λ c. nat_eq (at c) v) box (get_or sums v d) h.bytes s in
+    (count_few (λ c. nat_eq (at c) v) box (get_or sums v d) s, few.0, few.1, few.2)

@@ -1,0 +1,29 @@
+-- The rounds of a table that is made by the cut.
+use Rattle.std.specs.Prelude.{MatchOption}
+use Rattle.std.proofs.Common.{◌≡◌, ◌⊎◌, ℕ, ◌≤◌, List, Option, Some, None, IsPermutation, inl, inr, arith, sym, subst}
+use Rattle.pix_table.specs.Cut.{IsCutTable}
+use Rattle.pix_table.specs.From.{IsTableFrom}
+use Rattle.pix_table.specs.Refine.{AreRounds, IsRefinedTableFrom, squared_error}
+use Rattle.pix_table.proofs.RefinedTables.{rounds_moved, error_moved}
+
+-- no rounds leave the table of the cut
+pub unrefined : (room : ℕ) (colors table : List (List ℕ)) → IsRefinedTableFrom 0 room colors table → IsTableFrom room colors table
+unrefined room colors table (inl fit) = inl fit
+unrefined room colors table (inr h) = inr (h.0, subst (IsCutTable room colors) (sym h.3) h.2)
+
+-- what holds of the number of an answer, since something else does
+pub of_some : (P : Type 0) (Q R : ℕ → Type 0) → ((n : ℕ) → Q n → R n) → (answer : Option ℕ) → MatchOption answer P Q → MatchOption answer P R
+of_some P Q R f None h = h
+of_some P Q R f (Some n) h = f n h
+
+-- the rounds are those of the colors in any order
+pub refined_moved : (rounds room : ℕ) (xs ys first new table : List (List ℕ)) → IsPermutation xs ys → IsCutTable room ys first → AreRounds rounds xs first new
+    → squared_error new xs ≤ squared_error first xs → table ≡ new
+    → (t : List (List ℕ)) × IsCutTable room ys t × AreRounds rounds ys t table × (squared_error table ys ≤ squared_error t ys)
+refined_moved rounds room xs ys first new table moved made are less e =
+    rw e (
+      first,
+      made,
+      rounds_moved rounds xs ys first new moved are,
+      omega (arith, error_moved new xs ys moved, error_moved first xs ys moved, less),
+    )

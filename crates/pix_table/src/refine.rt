@@ -1,0 +1,88 @@
+//! Rounds by which a table fits a list of colors better.
+ghost use Rattle.std.specs.Prelude.{◌≡◌, ◌<◌, ◌≤◌, length, map, take};
+ghost use Rattle.pix_table.specs.Nearest.{numbers};
+ghost use Rattle.pix_table.specs.Refine.{AreRounds, IsRound, squared_error};
+ghost use Rattle.pix_table.specs.Groups.{AreGrouped};
+
+use crate::box_sums::Sums;
+use crate::chosen::ENTRIES;
+use crate::color::Color;
+use crate::matcher::visit_nearest;
+use crate::nearest_search::{NearestSearch, SearchVisitor};
+
+/// Moves the entries by so many rounds: in each, every color goes to its nearest entry, the first
+/// of equals, and every entry to the mean of its colors. An entry without colors stays.
+///
+/// Condition: there are 1 to 256 entries.
+pub(crate) fn refine(colors: &[Color], rounds: u8, entries: &mut [Color])
+    requires some { 0 < length entries.old }
+    requires few { length entries.old ≤ 256 }
+    ensures rounds { AreRounds rounds (map numbers colors.now) (map numbers entries.old)
+        (map numbers entries.new) }
+    ensures no_worse { squared_error (map numbers entries.new) (map numbers colors.now)
+        ≤ squared_error (map numbers entries.old) (map numbers colors.now) }
+{
+    for done in 0..rounds {
+        round(colors, entries);
+    }
+}
+
+/// Moves the entries by one round.
+fn round(colors: &[Color], entries: &mut [Color])
+    requires some { 0 < length entries.old }
+    requires few { length entries.old ≤ 256 }
+    ensures round { IsRound (map numbers colors.now) (map numbers entries.old)
+        (map numbers entries.new) }
+    ensures no_worse { squared_error (map numbers entries.new) (map numbers colors.now)
+        ≤ squared_error (map numbers entries.old) (map numbers colors.now) }
+{
+    let sums = sums_by_entry(colors, entries);
+    for i in 0..entries.len() {
+        if 0 < sums[i].count {
+            entries[i] = sums[i].mean();
+        }
+    }
+}
+
+/// Returns the sums of the colors of each entry.
+fn sums_by_entry(colors: &[Color], entries: &[Color]) -> [Sums; ENTRIES]
+    requires some { 0 < length entries.now }
+    requires few { length entries.now ≤ 256 }
+    ensures { AreGrouped (map numbers entries.now) (map numbers colors.now)
+        (take (length entries.now) result) }
+{
+    let mut sums = [Sums::none(); ENTRIES];
+    let grouping = Grouping { colors };
+    visit_nearest(
+        entries,
+        &grouping,
+        colors.len(),
+        &mut sums[..entries.len()],
+        &mut [],
+    );
+    sums
+}
+
+/// Colors, each of which is added to the sums of its nearest entry.
+#[derive(Drop)]
+struct Grouping<'a> {
+    colors: &'a [Color],
+}
+
+impl SearchVisitor<Sums> for Grouping<'_> {
+    ghost can_visit = { λ grouping entries count work. count ≡ length entries };
+
+    ghost visits = { λ grouping entries old new. length old ≡ length entries → AreGrouped entries
+        (map numbers grouping.colors.now) new };
+
+    // Out of line, as that of `Matching`.
+    #[inline(never)]
+    fn visit<N: NearestSearch>(&self, search: &mut N, items: &mut [Sums], _work: &mut [Color]) {
+        items.fill(Sums::none());
+        for i in 0..self.colors.len() {
+            let clr = self.colors[i];
+            let entry = usize::from(search.nearest_entry(clr));
+            items[entry] = items[entry].with(clr);
+        }
+    }
+}
