@@ -53,7 +53,7 @@
  * KiB that a thread's stack needs for each call, the thread's own frames among them:
  *
  *     256   pix_map_indexed, pix_diffuse_indexed, and both with _alpha
- *      96   pix_make_table, pix_make_table_alpha
+ *      64   pix_make_table, pix_make_table_alpha
  *      32   pix_index_pixels
  *      16   all others
  *
