@@ -1,6 +1,6 @@
 -- The colors of each entry, their sums, and the round that the sums make.
 use Rattle.std.specs.List.{flat_map}
-use Rattle.std.proofs.Common.{◌≡◌, ◌≢◌, ℕ, zero, suc, ◌+◌, ◌*◌, ◌<◌, ◌≤◌, Bool, true, false, cond, List, [], ◌∷◌, ◌++◌, length, map, take, set, replicate, get_or, nat_eq, nat_lt, filter, sum_by, count_by, All, IsPermutation, refl, arith, sym, ap, ◌∙◌, subst, inl, inr, lt-ltb, le-ltb, eq-eqb, ne_eqb, length-append, length-set}
+use Rattle.std.proofs.Common.{◌≡◌, ◌≢◌, ℕ, zero, suc, ◌+◌, ◌*◌, ◌<◌, ◌≤◌, Bool, true, cond, List, [], ◌∷◌, ◌++◌, length, map, take, set, replicate, get_or, nat_eq, nat_lt, filter, sum_by, All, IsPermutation, refl, arith, sym, ap, ◌∙◌, subst, inl, inr, lt-ltb, le-ltb, eq-eqb, ne_eqb, length-append, length-set}
 use Rattle.std.proofs.lemmas.Bool.{cases_lt, cases_order, cases_Bool, eqb-true}
 use Rattle.std.proofs.lemmas.List.{append-nil, get_or_append_left, get_or-append-add, get_or-take, get_or-set_other, length-map, map-set}
 use Rattle.std.proofs.lemmas.Grind.{flat_map-append, get_or-set_at}
@@ -10,7 +10,6 @@ use Rattle.std.proofs.lemmas.List.Sorted.{IsPermutation-refl, IsPermutation-sym,
 use Rattle.pix_table.specs.Nearest.{distance_to, IsNearest, numbers}
 use Rattle.pix_table.specs.Places.{sum_in}
 use Rattle.pix_table.specs.BestPlaces.{AreBytes, AreParted, AreSums, sum_of}
-use Rattle.pix_table.specs.Cut.{mean}
 use Rattle.pix_table.specs.Refine.{AreGroups, IsRound, refined}
 use Rattle.pix_table.specs.Groups.{AreGrouped, mean_by, settled}
 use Rattle.pix_table.specs.declared.box_sums.Sums.{Sums}

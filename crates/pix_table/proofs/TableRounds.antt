@@ -1,6 +1,6 @@
 -- The rounds of a table that is made by the cut.
 use Rattle.std.specs.Prelude.{MatchOption}
-use Rattle.std.proofs.Common.{◌≡◌, ◌⊎◌, ℕ, ◌≤◌, List, Option, Some, None, IsPermutation, inl, inr, arith, sym, subst}
+use Rattle.std.proofs.Common.{◌≡◌, ℕ, ◌≤◌, List, Option, Some, None, IsPermutation, inl, inr, arith, sym, subst}
 use Rattle.pix_table.specs.Cut.{IsCutTable}
 use Rattle.pix_table.specs.From.{IsTableFrom}
 use Rattle.pix_table.specs.Refine.{AreRounds, IsRefinedTableFrom, squared_error}

@@ -1,7 +1,6 @@
 -- Of `round`: that the sums make it.
-use Rattle.std.proofs.Common.{◌∷◌, [], ◌≤◌, ◌*◌, ◌≡◌, map, length, get_or, refl, arith, sym}
+use Rattle.std.proofs.Common.{◌≤◌, ◌*◌, map, length, get_or, refl, arith, sym}
 use Rattle.std.proofs.lemmas.List.{length-map}
-use Rattle.pix_table.specs.Groups.{mean_by}
 use Rattle.pix_table.specs.Nearest.{numbers}
 use Rattle.pix_table.proofs.RefinedTables.{round_falls}
 use Rattle.pix_table.proofs.Rounds.{none_moved, one_moves, one_stays, round_made, sums_few}

@@ -1,5 +1,5 @@
 -- Of `visit` of `Grouping`: the sums are those of no colors at first, and of one color more after each turn.
-use Rattle.std.proofs.Common.{◌≡◌, ◌+◌, ◌*◌, ◌<◌, ◌≤◌, ◌∷◌, ◌++◌, [], length, map, take, replicate, get_or, arith, sym, ap, subst, length-set, length-take, take_all}
+use Rattle.std.proofs.Common.{◌≡◌, ◌+◌, ◌*◌, ◌≤◌, ◌∷◌, ◌++◌, [], length, map, take, replicate, get_or, arith, sym, subst, length-set, length-take, take_all}
 use Rattle.std.proofs.lemmas.List.{get_or_default, length-map}
 use Rattle.pix_table.specs.Groups.{AreGrouped}
 use Rattle.pix_table.specs.Nearest.{IsNearest, numbers}
