@@ -5,6 +5,8 @@ use Rattle.std.proofs.lemmas.Nat.{mul-le}
 use Rattle.std.proofs.Math.Nat.{div-le_of_le-mul}
 use Rattle.pix_table.specs.Places.{IsCut, below, gain, sum_in, weight}
 use Rattle.pix_table.specs.BestPlaces.{AreByValue, AreBytes, ArePart, AreSums, CanCut, gain_at, high_weight, is_at, is_below, low_weight, sum_of, weight_by}
+use Rattle.pix_table.specs.Cut.{mean}
+use Rattle.pix_table.specs.Groups.{mean_by}
 use Rattle.pix_table.specs.declared.box_sums.Sums.{Sums}
 use Rattle.pix_table.proofs.SumLemmas.{sum_next, sum_zero, sum_few, rest_few, sum_le, sum_all, length_sum, sum_parted, sum_both}
 
@@ -124,6 +126,18 @@ full_sums p box sums bytes h full = record {
   green = omega (arith, full, h.count, h.green, sum_le p (λ x. get_or x 1 0) box, rest_few p (λ x. get_or x 1 0) box (bytes_in box 1 bytes));
   blue = omega (arith, full, h.count, h.blue, sum_le p (λ x. get_or x 2 0) box, rest_few p (λ x. get_or x 2 0) box (bytes_in box 2 bytes));
 }
+
+-- the mean of a box by its sums
+pub whole_count : (box : List (List ℕ)) (all : Sums) → AreSums (λ c. true) box all → all.count ≡ length box
+whole_count box all h = h.count ∙ length_sum box
+
+pub whole_mean : (box : List (List ℕ)) (all : Sums) → AreSums (λ c. true) box all → mean_by all ≡ mean box
+whole_mean box all h =
+    let count : all.count ≡ length box = whole_count box all h in
+    let r : all.red ≡ sum_in 0 box = h.red in
+    let g : all.green ≡ sum_in 1 box = h.green in
+    let b : all.blue ≡ sum_in 2 box = h.blue in
+    rw (count, r, g, b) refl
 
 -- what few colors weigh is little
 pub weight_few : (n r g b : ℕ) → r ≤ 255 * n → g ≤ 255 * n → b ≤ 255 * n → weight_by n r g b ≤ 195075 * n

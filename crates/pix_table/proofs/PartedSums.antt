@@ -27,7 +27,7 @@ push_false p f box c e =
     sum_by_push (λ x. cond (p x) (f x) 0) box c ∙ ap (λ b. sum_of p f box + cond b (f c) 0) e in
     omega (arith, same)
 
-sums_more : (p : List ℕ → Bool) (box : List (List ℕ)) (c : Color) (old new : Sums) → p (numbers c) ≡ true → AreSums p box old
+pub sums_more : (p : List ℕ → Bool) (box : List (List ℕ)) (c : Color) (old new : Sums) → p (numbers c) ≡ true → AreSums p box old
     → new.count ≡ old.count + 1 → new.red ≡ old.red + c.red → new.green ≡ old.green + c.green → new.blue ≡ old.blue + c.blue
     → AreSums p (box ++ numbers c ∷ []) new
 sums_more p box c old new e h count red green blue = record {

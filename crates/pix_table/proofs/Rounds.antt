@@ -1,13 +1,15 @@
 -- The colors of each entry, their sums, and the round that the sums make.
 use Rattle.std.specs.List.{flat_map}
-use Rattle.std.proofs.Common.{◌≡◌, ◌≢◌, ℕ, zero, suc, ◌+◌, ◌*◌, ◌<◌, ◌≤◌, Bool, true, cond, List, [], ◌∷◌, ◌++◌, length, map, take, set, replicate, get_or, nat_eq, nat_lt, filter, sum_by, All, IsPermutation, refl, arith, sym, ap, ◌∙◌, subst, inl, inr, lt-ltb, le-ltb, eq-eqb, ne_eqb, length-append, length-set}
-use Rattle.std.proofs.lemmas.Bool.{cases_lt, cases_order, cases_Bool, eqb-true}
+use Rattle.std.proofs.Common.{◌≡◌, ◌≢◌, ℕ, zero, suc, ◌+◌, ◌*◌, ◌<◌, ◌≤◌, Bool, true, false, not, ◌&&◌, ◌||◌, cond, List, [], ◌∷◌, ◌++◌, length, map, take, set, replicate, get_or, nat_eq, nat_lt, filter, sum_by, count_by, All, IsPermutation, refl, arith, sym, ap, ◌∙◌, subst, inl, inr, lt-ltb, le-ltb, eq-eqb, ne_eqb, length-append, length-set}
+use Rattle.std.proofs.Math.Seq.{map-set_same}
+use Rattle.std.proofs.lemmas.Bool.{cases_lt, cases_order, cases_Bool, eqb-true, true≢false, and_parts}
 use Rattle.std.proofs.lemmas.List.{append-nil, get_or_append_left, get_or-append-add, get_or-take, get_or-set_other, length-map, map-set}
 use Rattle.std.proofs.lemmas.Grind.{flat_map-append, get_or-set_at}
 use Rattle.std.proofs.lemmas.List.Elements.{All-cons, All-nil, All-push}
 use Rattle.std.proofs.lemmas.List.Sums.{length-filter, sum_by-cons}
 use Rattle.std.proofs.lemmas.List.Sorted.{IsPermutation-refl, IsPermutation-sym, IsPermutation-trans, IsPermutation-cons, IsPermutation-middle, IsPermutation-append_left}
 use Rattle.pix_table.specs.Nearest.{distance_to, IsNearest, numbers}
+use Rattle.pix_table.specs.From.{same_color}
 use Rattle.pix_table.specs.Places.{sum_in}
 use Rattle.pix_table.specs.BestPlaces.{AreBytes, AreParted, AreSums, sum_of}
 use Rattle.pix_table.specs.Refine.{AreGroups, IsRound, refined}
@@ -161,15 +163,17 @@ settled_is sums entry (c ∷ group) count red green blue =
     ap (λ b. cond b entry (mean_by sums)) (ne_eqb sums.count 0 (λ e. omega (arith, count, e))) ∙ rw (count, red, green, blue) refl
 
 -- the sums of an entry are those of bytes
-pub sums_few : (entries colors : List (List ℕ)) (n : ℕ) (sums : List Sums) (d : Sums) → 0 < n → n ≡ length entries → AreGrouped entries colors (take n sums)
-    → (k : ℕ) → k < n
+pub sums_few : (entries colors : List Color) (sums : List Sums) (d : Sums) → 0 < length entries
+    → AreGrouped (map numbers entries) (map numbers colors) (take (length entries) sums) → (k : ℕ) → k < length entries
     → ((get_or sums k d).red ≤ 255 * (get_or sums k d).count) × ((get_or sums k d).green ≤ 255 * (get_or sums k d).count)
     × ((get_or sums k d).blue ≤ 255 * (get_or sums k d).count)
-sums_few entries colors n sums d some e grouped k inside =
-    let at : List ℕ → ℕ = (λ c. (nearest_at entries (omega (arith, e, some)) c).0) in
-    let nearest : (c : List ℕ) → IsNearest entries c (at c) = (λ c. (nearest_at entries (omega (arith, e, some)) c).1) in
-    are_few (λ c. nat_eq (at c) k) colors (get_or sums k d) grouped.bytes
-    (subst (AreSums (λ c. nat_eq (at c) k) colors) (get_or-take n sums k d inside) ((grouped.parts at nearest).each k d (omega (arith, e, inside))))
+sums_few entries colors sums d some grouped k inside =
+    let at : List ℕ → ℕ = (λ c. (nearest_at (map numbers entries) (omega (arith, length-map entries numbers, some)) c).0) in
+    let nearest : (c : List ℕ) → IsNearest (map numbers entries) c (at c) =
+    (λ c. (nearest_at (map numbers entries) (omega (arith, length-map entries numbers, some)) c).1) in
+    are_few (λ c. nat_eq (at c) k) (map numbers colors) (get_or sums k d) grouped.bytes
+    (subst (AreSums (λ c. nat_eq (at c) k) (map numbers colors)) (get_or-take (length entries) sums k d inside)
+    ((grouped.parts at nearest).each k d (omega (arith, length-map entries numbers, inside))))
 
 -- the first i entries have moved by their sums, and the others stand
 pub record AreMoved (old new : List (List ℕ)) (sums : List Sums) (d : Sums) (i : ℕ) : Type 0 where
@@ -216,6 +220,20 @@ one_stays old new sums d i none h = record {
   ];
   stand = λ k b. h.stand k (omega arith);
 }
+
+-- colors that are the same have the same numbers
+same_numbers : (p q : Color) → same_color (numbers p) (numbers q) ≡ true → numbers p ≡ numbers q
+same_numbers p q e =
+    let outer = and_parts (nat_eq p.red q.red && nat_eq p.green q.green) (nat_eq p.blue q.blue) e in
+    let inner = and_parts (nat_eq p.red q.red) (nat_eq p.green q.green) outer.0 in
+    rw (eqb-true p.red q.red inner.0, eqb-true p.green q.green inner.1, eqb-true p.blue q.blue outer.1) refl
+
+-- no entry has moved, where none had and the next one does not
+pub same_more : (start : List (List ℕ)) (es : List Color) (i : ℕ) (x d : Color) (moved same new : Bool) → same ≡ same_color (numbers x) (numbers (get_or es i d))
+    → new ≡ (moved || not same) → (moved ≡ false → map numbers es ≡ start) → new ≡ false → map numbers (set es i x) ≡ start
+same_more start es i x d true same new e f h g = absurd (true≢false (sym f ∙ g))
+same_more start es i x d false false new e f h g = absurd (true≢false (sym f ∙ g))
+same_more start es i x d false true new e f h g = map-set_same numbers es i x d (same_numbers x (get_or es i d) (sym e)) ∙ h refl
 
 -- the round
 pub round_made : (old colors new : List (List ℕ)) (n i : ℕ) (sums : List Sums) (d : Sums) → 0 < n → n ≡ length old → n ≤ i

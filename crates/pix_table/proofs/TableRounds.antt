@@ -1,9 +1,9 @@
 -- The rounds of a table that is made by the cut.
 use Rattle.std.specs.Prelude.{MatchOption}
-use Rattle.std.proofs.Common.{◌≡◌, ℕ, ◌≤◌, List, Option, Some, None, IsPermutation, inl, inr, arith, sym, subst}
+use Rattle.std.proofs.Common.{◌≡◌, ◌⊎◌, ℕ, zero, suc, ◌≤◌, List, Option, Some, None, IsPermutation, refl, inl, inr, arith, sym, subst}
 use Rattle.pix_table.specs.Cut.{IsCutTable}
 use Rattle.pix_table.specs.From.{IsTableFrom}
-use Rattle.pix_table.specs.Refine.{AreRounds, IsRefinedTableFrom, squared_error}
+use Rattle.pix_table.specs.Refine.{AreRounds, IsRefinedTableFrom, IsRound, squared_error}
 use Rattle.pix_table.proofs.RefinedTables.{rounds_moved, error_moved}
 
 -- no rounds leave the table of the cut
@@ -27,3 +27,8 @@ refined_moved rounds room xs ys first new table moved made are less e =
       rounds_moved rounds xs ys first new moved are,
       omega (arith, error_moved new xs ys moved, error_moved first xs ys moved, less),
     )
+
+-- a round that moves no entry stays one, however many there are
+pub none_move : (rounds : ℕ) (colors entries : List (List ℕ)) → IsRound colors entries entries → AreRounds rounds colors entries entries
+none_move zero colors entries h = refl
+none_move (suc n) colors entries h = (entries, h, none_move n colors entries h)

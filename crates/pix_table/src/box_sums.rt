@@ -5,7 +5,7 @@ ghost use Rattle.pix_table.specs.BestPlaces.{AreByValue, AreBytes, ArePart, AreS
 ghost use Rattle.pix_table.specs.BestPlaces.{is_at, sum_of, weight_by, word_of};
 
 use crate::color::Color;
-use crate::cut::{channel, quotient};
+use crate::cut::channel;
 use crate::weight::weight;
 
 /// The most colors whose words may be added: their count has 16 bits, and each of two sums 24.
@@ -171,6 +171,35 @@ impl Sums {
     {
         (low.weight() + self.without(low).weight()).saturating_sub(whole)
     }
+}
+
+/// Returns the sums of some colors.
+pub(crate) fn sums_of(colors: &[Color]) -> Sums
+    ensures sums { AreSums (λ color. true) (map numbers colors.now) result }
+    ensures bytes { All AreBytes (map numbers colors.now) }
+{
+    let mut sums = Sums::none();
+    for i in 0..colors.len() {
+        sums = sums.with(colors[i]);
+    }
+    sums
+}
+
+/// Returns the whole part of a quotient that is below 256: by differences, since no processor
+/// divides numbers of 128 bits.
+fn quotient(n: u128, d: u128) -> u8
+    requires some { 0 < d }
+    requires few { n < 256 * d }
+    ensures { result ≡ n / d }
+{
+    let mut rest = n;
+    for q in 0..255 {
+        if rest < d {
+            return q;
+        }
+        rest -= d;
+    }
+    255
 }
 
 /// Sets the sums of the colors of each value of a channel to those of their words.

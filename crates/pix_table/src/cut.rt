@@ -1,10 +1,11 @@
 //! A table of the means of boxes of colors, which are cut where the squared error falls most.
-ghost use Rattle.std.specs.Prelude.{◌≡◌, ◌⊎◌, ℕ, ◌+◌, ◌*◌, ◌/◌, ◌<◌, ◌≤◌, List, ◌∷◌, [], All, length, map, take, drop, slice_index, IsPermutation, true, false};
+ghost use Rattle.std.specs.Prelude.{◌≡◌, ◌⊎◌, ℕ, ◌+◌, ◌<◌, ◌≤◌, List, ◌∷◌, [], All, length, map, take, drop, slice_index, IsPermutation, true, false};
 ghost use Rattle.pix_table.specs.Nearest.{numbers};
 ghost use Rattle.pix_table.specs.Places.{HasBest, IsCut};
-ghost use Rattle.pix_table.specs.Cut.{AreBoxes, IsCutTable, mean_of, mean};
+ghost use Rattle.pix_table.specs.Cut.{AreBoxes, IsCutTable, mean};
 ghost use Rattle.pix_table.specs.Pieces.{ArePieces, AreWhole, IsKnown, IsNext, boxes_of};
 
+use crate::box_sums::sums_of;
 use crate::color::Color;
 use crate::pieces::{Next, Piece, next_cut, split};
 use crate::place::Place;
@@ -139,40 +140,7 @@ fn mean_color(colors: &[Color]) -> Color
     requires { 0 < length colors.now }
     ensures { numbers result ≡ mean (map numbers colors.now) }
 {
-    Color {
-        red: mean(colors, 0),
-        green: mean(colors, 1),
-        blue: mean(colors, 2),
-    }
-}
-
-/// Returns the mean of a box in a channel. Condition: it has a color.
-fn mean(colors: &[Color], k: usize) -> u8
-    requires { 0 < length colors.now }
-    ensures { result ≡ mean_of k (map numbers colors.now) }
-{
-    let mut sum: u128 = 0;
-    for i in 0..colors.len() {
-        sum += u128::from(channel(colors[i], k));
-    }
-    quotient(2 * sum + colors.len() as u128, 2 * colors.len() as u128)
-}
-
-/// Returns the whole part of a quotient that is below 256: by differences, since no processor
-/// divides numbers of 128 bits.
-pub(crate) fn quotient(n: u128, d: u128) -> u8
-    requires some { 0 < d }
-    requires few { n < 256 * d }
-    ensures { result ≡ n / d }
-{
-    let mut rest = n;
-    for q in 0..255 {
-        if rest < d {
-            return q;
-        }
-        rest -= d;
-    }
-    255
+    sums_of(colors).mean()
 }
 
 /// Moves the colors whose number in a channel is below `value` to the front, and returns how many

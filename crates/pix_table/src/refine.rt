@@ -1,5 +1,5 @@
 //! Rounds by which a table fits a list of colors better.
-ghost use Rattle.std.specs.Prelude.{◌≡◌, ◌<◌, ◌≤◌, length, map, take};
+ghost use Rattle.std.specs.Prelude.{◌≡◌, ◌<◌, ◌≤◌, false, length, map, take};
 ghost use Rattle.pix_table.specs.Nearest.{numbers};
 ghost use Rattle.pix_table.specs.Refine.{AreRounds, IsRound, squared_error};
 ghost use Rattle.pix_table.specs.Groups.{AreGrouped};
@@ -7,6 +7,7 @@ ghost use Rattle.pix_table.specs.Groups.{AreGrouped};
 use crate::box_sums::Sums;
 use crate::chosen::ENTRIES;
 use crate::color::Color;
+use crate::from::same;
 use crate::matcher::visit_nearest;
 use crate::nearest_search::{NearestSearch, SearchVisitor};
 
@@ -23,25 +24,34 @@ pub(crate) fn refine(colors: &[Color], rounds: u8, entries: &mut [Color])
         ≤ squared_error (map numbers entries.old) (map numbers colors.now) }
 {
     for done in 0..rounds {
-        round(colors, entries);
+        let is_moved = round(colors, entries);
+        if !is_moved {
+            return;
+        }
     }
 }
 
-/// Moves the entries by one round.
-fn round(colors: &[Color], entries: &mut [Color])
+/// Moves the entries by one round, and returns whether one has moved. Where none has, none moves in
+/// the next round.
+fn round(colors: &[Color], entries: &mut [Color]) -> bool
     requires some { 0 < length entries.old }
     requires few { length entries.old ≤ 256 }
     ensures round { IsRound (map numbers colors.now) (map numbers entries.old)
         (map numbers entries.new) }
     ensures no_worse { squared_error (map numbers entries.new) (map numbers colors.now)
         ≤ squared_error (map numbers entries.old) (map numbers colors.now) }
+    ensures same { result ≡ false → map numbers entries.new ≡ map numbers entries.old }
 {
     let sums = sums_by_entry(colors, entries);
+    let mut is_moved = false;
     for i in 0..entries.len() {
         if 0 < sums[i].count {
-            entries[i] = sums[i].mean();
+            let next = sums[i].mean();
+            is_moved |= !same(next, entries[i]);
+            entries[i] = next;
         }
     }
+    is_moved
 }
 
 /// Returns the sums of the colors of each entry.

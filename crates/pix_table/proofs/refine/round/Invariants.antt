@@ -1,5 +1,5 @@
 -- What holds at each turn of the loop over `i` in `round`.
-use Rattle.std.proofs.Common.{map}
+use Rattle.std.proofs.Common.{◌≡◌, false, map}
 use Rattle.pix_table.specs.Nearest.{numbers}
 use Rattle.pix_table.specs.declared.box_sums.Sums.{Sums}
 use Rattle.pix_table.proofs.Rounds.{AreMoved}
@@ -10,4 +10,7 @@ nothing = record { count = 0; red = 0; green = 0; blue = 0 }
 
 -- the first i entries have moved, and the others stand
 abbrev pub invariant-loop-i : goal.invariant-loop-i
-invariant-loop-i l = AreMoved (map numbers l.fn.entries) (map numbers l.entries) l.sums nothing l.i
+invariant-loop-i l = record {
+  moved : AreMoved (map numbers l.fn.entries) (map numbers l.entries) l.sums nothing l.i;
+  same : l.is_moved ≡ false → map numbers l.entries ≡ map numbers l.fn.entries;
+}
