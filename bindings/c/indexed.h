@@ -185,6 +185,43 @@ static inline size_t plain_table(const pix_srgb8 *colors, size_t count, pix_srgb
     return used;
 }
 
+/* Moves each entry to the mean of the colors to which it is the nearest. One without colors stays. */
+static inline void plain_round(const pix_srgb8 *colors, size_t count, pix_srgb8 *entries, size_t used) {
+    size_t sums[256][4] = {{0}}, i;
+    for (i = 0; i < count; i++) {
+        size_t *to = sums[plain_nearest(entries, used, colors[i])];
+        to[0] += colors[i].r;
+        to[1] += colors[i].g;
+        to[2] += colors[i].b;
+        to[3]++;
+    }
+    for (i = 0; i < used; i++) {
+        const size_t n = sums[i][3];
+        if (!n)
+            continue;
+        entries[i].r = (uint8_t)((2 * sums[i][0] + n) / (2 * n));
+        entries[i].g = (uint8_t)((2 * sums[i][1] + n) / (2 * n));
+        entries[i].b = (uint8_t)((2 * sums[i][2] + n) / (2 * n));
+    }
+}
+
+/* The table of colors after so many rounds, which leave distinct colors as they are. */
+static inline size_t plain_refined(const pix_srgb8 *colors, size_t count, pix_srgb8 *entries, size_t room, unsigned rounds) {
+    const size_t used = plain_table(colors, count, entries, room);
+    while (rounds--)
+        plain_round(colors, count, entries, used);
+    return used;
+}
+
+/* The sum of the squared errors of colors that are shown by their nearest entries. */
+static inline uint64_t plain_error(const pix_srgb8 *entries, size_t used, const pix_srgb8 *colors, size_t count) {
+    uint64_t error = 0;
+    size_t i;
+    for (i = 0; i < count; i++)
+        error += (uint64_t)plain_distance(entries[plain_nearest(entries, used, colors[i])], colors[i]);
+    return error;
+}
+
 /* Hands on a part of an error, where the pixel is there. */
 static inline void plain_hand(int (*errors)[3], size_t count, size_t width, size_t from, long across, size_t down, int weight,
                               const int *error) {

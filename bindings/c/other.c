@@ -242,23 +242,19 @@ uint32_t pix_table_unpack(uint32_t bits, const uint8_t *bytes, size_t byte_count
     return PIX_OK;
 }
 
-static uint32_t made_table(const pix_srgb8 *colors, size_t count, pix_srgb8 *entries, size_t len, size_t *made) {
-    *made = plain_table(colors, count, entries, len);
-    return PIX_OK;
-}
-
-uint32_t pix_table_from(const pix_srgb8 *pixels, size_t pixel_count, pix_srgb8 *work, size_t work_len, pix_srgb8 *entries,
-                        size_t len, size_t *made) {
+uint32_t pix_table_refined(const pix_srgb8 *pixels, size_t pixel_count, uint8_t rounds, pix_srgb8 *work, size_t work_len,
+                           pix_srgb8 *entries, size_t len, size_t *made) {
     if (!len || len > 256)
         return PIX_BAD_TABLE;
     if (work_len < pixel_count)
         return PIX_BAD_LENGTH;
     (void)work;
-    return made_table(pixels, pixel_count, entries, len, made);
+    *made = plain_refined(pixels, pixel_count, entries, len, rounds);
+    return PIX_OK;
 }
 
-uint32_t pix_table_from_alpha(const pix_srgba8 *pixels, size_t pixel_count, uint8_t alpha, pix_srgb8 *work, size_t work_len,
-                              pix_srgb8 *entries, size_t len, size_t *made) {
+uint32_t pix_table_refined_alpha(const pix_srgba8 *pixels, size_t pixel_count, uint8_t alpha, uint8_t rounds, pix_srgb8 *work,
+                                 size_t work_len, pix_srgb8 *entries, size_t len, size_t *made) {
     size_t count = 0;
     if (!len || len > 256)
         return PIX_BAD_TABLE;
@@ -269,7 +265,18 @@ uint32_t pix_table_from_alpha(const pix_srgba8 *pixels, size_t pixel_count, uint
             pix_srgb8 color = {pixels[i].r, pixels[i].g, pixels[i].b};
             work[count++] = color;
         }
-    return made_table(work, count, entries, len, made);
+    *made = plain_refined(work, count, entries, len, rounds);
+    return PIX_OK;
+}
+
+uint32_t pix_table_from(const pix_srgb8 *pixels, size_t pixel_count, pix_srgb8 *work, size_t work_len, pix_srgb8 *entries,
+                        size_t len, size_t *made) {
+    return pix_table_refined(pixels, pixel_count, 0, work, work_len, entries, len, made);
+}
+
+uint32_t pix_table_from_alpha(const pix_srgba8 *pixels, size_t pixel_count, uint8_t alpha, pix_srgb8 *work, size_t work_len,
+                              pix_srgb8 *entries, size_t len, size_t *made) {
+    return pix_table_refined_alpha(pixels, pixel_count, alpha, 0, work, work_len, entries, len, made);
 }
 
 uint32_t pix_table_diffuse(const pix_srgb8 *entries, size_t len, const pix_srgb8 *pixels, size_t pixel_count, size_t width,

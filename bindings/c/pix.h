@@ -52,7 +52,7 @@
  * Stack. A call takes no memory, so what it works with is on the stack of its thread. These are the
  * KiB that a thread's stack needs for each call, the thread's own frames among them:
  *
- *     256   pix_map_indexed, pix_diffuse_indexed, and both with _alpha
+ *     256   pix_map_indexed, pix_diffuse_indexed, pix_make_table_refined, and all with _alpha
  *      64   pix_make_table, pix_make_table_alpha
  *      32   pix_index_pixels
  *      16   all others
@@ -498,6 +498,16 @@ static inline pix_status pix_make_table(const pix_srgb8 *pixels, size_t count, p
 static inline pix_status pix_make_table_alpha(const pix_srgba8 *pixels, size_t count, uint8_t alpha, pix_srgb8 *work,
                                               pix_srgb8 *entries, size_t len, size_t *made);
 
+/* Do what pix_make_table and pix_make_table_alpha do. Where there are more distinct colors than
+ * `len`, so many rounds then refine the table. In a round each color goes to its nearest entry, the
+ * first of equals. Each entry goes to the mean of its colors, rounded, and stays where it has none.
+ * No round makes the sum of the squared errors greater. A round takes about as long as
+ * pix_map_indexed, and four are enough for most pictures. */
+static inline pix_status pix_make_table_refined(const pix_srgb8 *pixels, size_t count, uint8_t rounds, pix_srgb8 *work,
+                                                pix_srgb8 *entries, size_t len, size_t *made);
+static inline pix_status pix_make_table_refined_alpha(const pix_srgba8 *pixels, size_t count, uint8_t alpha, uint8_t rounds,
+                                                      pix_srgb8 *work, pix_srgb8 *entries, size_t len, size_t *made);
+
 /* Writes the index of each of `count` pixels, in rows of `width`, with error diffusion (Floyd and
  * Steinberg). It is the index of the entry that is nearest to the color that is wanted there.
  *
@@ -677,6 +687,10 @@ uint32_t pix_table_from(const pix_srgb8 *pixels, size_t pixel_count, pix_srgb8 *
                         size_t len, size_t *made);
 uint32_t pix_table_from_alpha(const pix_srgba8 *pixels, size_t pixel_count, uint8_t alpha, pix_srgb8 *work, size_t work_len,
                               pix_srgb8 *entries, size_t len, size_t *made);
+uint32_t pix_table_refined(const pix_srgb8 *pixels, size_t pixel_count, uint8_t rounds, pix_srgb8 *work, size_t work_len,
+                           pix_srgb8 *entries, size_t len, size_t *made);
+uint32_t pix_table_refined_alpha(const pix_srgba8 *pixels, size_t pixel_count, uint8_t alpha, uint8_t rounds, pix_srgb8 *work,
+                                 size_t work_len, pix_srgb8 *entries, size_t len, size_t *made);
 uint32_t pix_table_diffuse(const pix_srgb8 *entries, size_t len, const pix_srgb8 *pixels, size_t pixel_count, size_t width,
                            pix_srgb8 *work, size_t work_len, uint8_t *indices, size_t index_count);
 uint32_t pix_table_diffuse_alpha(const pix_srgb8 *entries, size_t len, const pix_srgba8 *pixels, size_t pixel_count,
@@ -1222,10 +1236,15 @@ static inline size_t pix_diffusion_work(size_t width) {
     return width > (size_t)PTRDIFF_MAX / 16 ? SIZE_MAX : 4 * width;
 }
 
-/* Tests what a table is made in: `pixels` are so many bytes. */
-static inline pix_status pix_makes_table_(const void *pixels, size_t bytes, pix_srgb8 *work, size_t count, pix_srgb8 *entries,
+/* Tests what a table is made of and in: each of the pixels is so many bytes. */
+static inline pix_status pix_makes_table_(const void *pixels, size_t size, pix_srgb8 *work, size_t count, pix_srgb8 *entries,
                                           size_t len, size_t *made) {
+    const size_t bytes = count * size;
     pix_status status = made ? PIX_OK : PIX_NULL;
+    if (!len || len > 256)
+        return PIX_BAD_TABLE;
+    if (pix_too_many_(count))
+        return PIX_BAD_LENGTH;
     if (status == PIX_OK)
         status = pix_apart_(entries, len * sizeof *entries, pixels, bytes);
     if (status == PIX_OK)
@@ -1246,15 +1265,11 @@ static inline pix_status pix_make_table(const pix_srgb8 *pixels, size_t count, p
     const pix_srgb8 none = {0, 0, 0};
     pix_srgb8 nothing = {0, 0, 0};
     pix_status status;
-    if (!len || len > 256)
-        return PIX_BAD_TABLE;
-    if (pix_too_many_(count))
-        return PIX_BAD_LENGTH;
     if (!count) {
         pixels = &none;
         work = &nothing;
     }
-    status = pix_makes_table_(pixels, count * sizeof *pixels, work, count, entries, len, made);
+    status = pix_makes_table_(pixels, sizeof *pixels, work, count, entries, len, made);
     if (status != PIX_OK)
         return status;
     return (pix_status)pix_table_from(pixels, count, work, count, entries, len, made);
@@ -1265,18 +1280,44 @@ static inline pix_status pix_make_table_alpha(const pix_srgba8 *pixels, size_t c
     const pix_srgba8 none = {0, 0, 0, 0};
     pix_srgb8 nothing = {0, 0, 0};
     pix_status status;
-    if (!len || len > 256)
-        return PIX_BAD_TABLE;
-    if (pix_too_many_(count))
-        return PIX_BAD_LENGTH;
     if (!count) {
         pixels = &none;
         work = &nothing;
     }
-    status = pix_makes_table_(pixels, count * sizeof *pixels, work, count, entries, len, made);
+    status = pix_makes_table_(pixels, sizeof *pixels, work, count, entries, len, made);
     if (status != PIX_OK)
         return status;
     return (pix_status)pix_table_from_alpha(pixels, count, alpha, work, count, entries, len, made);
+}
+
+static inline pix_status pix_make_table_refined(const pix_srgb8 *pixels, size_t count, uint8_t rounds, pix_srgb8 *work,
+                                                pix_srgb8 *entries, size_t len, size_t *made) {
+    const pix_srgb8 none = {0, 0, 0};
+    pix_srgb8 nothing = {0, 0, 0};
+    pix_status status;
+    if (!count) {
+        pixels = &none;
+        work = &nothing;
+    }
+    status = pix_makes_table_(pixels, sizeof *pixels, work, count, entries, len, made);
+    if (status != PIX_OK)
+        return status;
+    return (pix_status)pix_table_refined(pixels, count, rounds, work, count, entries, len, made);
+}
+
+static inline pix_status pix_make_table_refined_alpha(const pix_srgba8 *pixels, size_t count, uint8_t alpha, uint8_t rounds,
+                                                      pix_srgb8 *work, pix_srgb8 *entries, size_t len, size_t *made) {
+    const pix_srgba8 none = {0, 0, 0, 0};
+    pix_srgb8 nothing = {0, 0, 0};
+    pix_status status;
+    if (!count) {
+        pixels = &none;
+        work = &nothing;
+    }
+    status = pix_makes_table_(pixels, sizeof *pixels, work, count, entries, len, made);
+    if (status != PIX_OK)
+        return status;
+    return (pix_status)pix_table_refined_alpha(pixels, count, alpha, rounds, work, count, entries, len, made);
 }
 
 /* Tests what errors are diffused in: `pixels` are so many bytes. */

@@ -149,6 +149,21 @@ static pix_status make_alpha(void) {
     return pix_make_table_alpha(shades, COUNT, 128, work, made, ENTRIES, &len);
 }
 
+static pix_status refine(void) {
+    static pix_srgb8 made[ENTRIES];
+    size_t len = 0;
+    pix_status status = pix_make_table_refined(grays, ENTRIES, 2, work, made, ENTRIES, &len);
+    for (size_t room = 1; room <= ENTRIES && status == PIX_OK; room *= 16)
+        status = pix_make_table_refined(colors, COUNT, 2, work, made, room, &len);
+    return status;
+}
+
+static pix_status refine_alpha(void) {
+    static pix_srgb8 made[ENTRIES];
+    size_t len = 0;
+    return pix_make_table_refined_alpha(shades, COUNT, 128, 2, work, made, ENTRIES, &len);
+}
+
 /* Colors that a table of each length has room for, and such as it has none for. */
 static pix_status set(void) {
     static pix_srgb8 slots[ENTRIES];
@@ -205,6 +220,8 @@ static const struct { const char *name; size_t kibibytes; pix_status (*call)(voi
     {"pix_pack_row", FEW, pack},
     {"pix_unpack_row", FEW, unpack},
     {"pix_index_pixels", SETTING, set},
+    {"pix_make_table_refined", MATCHING, refine},
+    {"pix_make_table_refined_alpha", MATCHING, refine_alpha},
     {"pix_map_indexed", MATCHING, map},
     {"pix_map_indexed_alpha", MATCHING, map_alpha},
     {"pix_diffuse_indexed", MATCHING, diffuse},

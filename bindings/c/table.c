@@ -89,6 +89,69 @@ static void made(size_t count, size_t room, unsigned levels) {
     check(got == want && !memcmp(entries, plain, want * sizeof *plain), "a table of pixels with an alpha is another one");
 }
 
+/* Whether a refined table is the one of the plain loops. */
+static int is_refined(size_t count, size_t room, uint8_t rounds, const pix_srgb8 *plain, size_t want) {
+    pix_srgb8 entries[ROOM];
+    size_t got = 999;
+    check(pix_make_table_refined(pixels, count, rounds, work, entries, room, &got) == PIX_OK, "a table is refined");
+    return got == want && !memcmp(entries, plain, want * sizeof *plain);
+}
+
+static int is_refined_alpha(size_t count, size_t room, uint8_t rounds, const pix_srgb8 *plain, size_t want) {
+    pix_srgb8 entries[ROOM];
+    size_t got = 999;
+    check(pix_make_table_refined_alpha(with_alpha, count, 128, rounds, work, entries, room, &got) == PIX_OK, "with an alpha");
+    return got == want && !memcmp(entries, plain, want * sizeof *plain);
+}
+
+/* A round makes a table that is the one of the plain loops too, and its squared error is not greater. */
+static void refined(size_t count, size_t room, unsigned levels) {
+    pix_srgb8 plain[ROOM], plain_alpha[ROOM], shown[PIXELS];
+    size_t len, len_alpha, i, left = 0;
+    uint64_t error = UINT64_MAX, now;
+    uint8_t rounds;
+    for (i = 0; i < count; i++) {
+        pixels[i] = random_color(levels);
+        pixels[i].b = (uint8_t)(pixels[i].b / (1 + i % 3));
+        with_alpha[i].r = pixels[i].r;
+        with_alpha[i].g = pixels[i].g;
+        with_alpha[i].b = pixels[i].b;
+        with_alpha[i].a = (uint8_t)(126 + i % 4);
+        if (with_alpha[i].a >= 128)
+            shown[left++] = pixels[i];
+    }
+    check(pix_make_table(pixels, count, work, plain, room, &len) == PIX_OK, "a table is made");
+    check(pix_make_table(shown, left, work, plain_alpha, room, &len_alpha) == PIX_OK, "a table of what is shown is made");
+    for (rounds = 0; rounds <= 5; rounds++) {
+        check(is_refined(count, room, rounds, plain, len), "a refined table is another one");
+        check(is_refined_alpha(count, room, rounds, plain_alpha, len_alpha), "a refined table with an alpha is another one");
+        now = plain_error(plain, len, pixels, count);
+        check(now <= error, "a round made the squared error greater");
+        error = now;
+        plain_round(pixels, count, plain, len);
+        plain_round(shown, left, plain_alpha, len_alpha);
+    }
+}
+
+static void refined_refused(void) {
+    pix_srgb8 entries[8] = {{1, 2, 3}, {4, 5, 6}}, some[8] = {{7, 8, 9}, {1, 1, 1}}, room[8] = {{5, 5, 5}};
+    pix_srgba8 with[2] = {{1, 2, 3, 4}, {5, 6, 7, 8}};
+    size_t count = 77;
+    check(pix_make_table_refined(some, 2, 1, room, entries, 0, &count) == PIX_BAD_TABLE, "a refined table of no entry");
+    check(pix_make_table_refined(some, 2, 1, room, entries, 257, &count) == PIX_BAD_TABLE, "a refined table of 257 entries");
+    check(pix_make_table_refined(some, SIZE_MAX / 2, 1, room, entries, 2, &count) == PIX_BAD_LENGTH, "too many pixels to refine");
+    check(pix_make_table_refined(some, 2, 1, NULL, entries, 2, &count) == PIX_NULL, "no work memory to refine in");
+    check(pix_make_table_refined(some, 2, 1, room, entries, 2, NULL) == PIX_NULL, "no count of a refined table");
+    check(pix_make_table_refined(some, 2, 1, some, entries, 2, &count) == PIX_OVERLAP, "refined in the pixels");
+    check(pix_make_table_refined(some, 2, 1, room, room, 2, &count) == PIX_OVERLAP, "refined entries in the work memory");
+    check(pix_make_table_refined_alpha(with, 2, 0, 1, room, entries, 0, &count) == PIX_BAD_TABLE, "with an alpha, no entry");
+    check(pix_make_table_refined_alpha(with, 2, 0, 1, room, room, 2, &count) == PIX_OVERLAP, "with an alpha, in the work memory");
+    check(pix_table_refined(some, 2, 1, room, 1, entries, 2, &count) == PIX_BAD_LENGTH, "too little work memory to refine");
+    check(pix_table_refined_alpha(with, 2, 0, 1, room, 1, entries, 2, &count) == PIX_BAD_LENGTH, "the same with an alpha");
+    check(count == 77 && entries[1].r == 4, "what is refused refines no table");
+    check(pix_make_table_refined(NULL, 0, 255, NULL, entries, 2, &count) == PIX_OK && count == 0, "a refined table of no pixels");
+}
+
 static void diffused(size_t len, size_t width, size_t count) {
     pix_srgb8 entries[ROOM];
     size_t i;
@@ -299,6 +362,7 @@ static void refused(void) {
     }
     check(pix_pack_row(1, &past, 1, &past) == PIX_OVERLAP, "a row over itself");
     made_refused();
+    refined_refused();
     cleared();
     indexed_refused();
     /* The calls themselves test lengths. */
@@ -324,6 +388,8 @@ int main(void) {
     for (i = 0; i < 60; i++)
         made(i < 30 ? i : i * 61, i % 3 ? 1 + i * 4 : 1 + i % 7, levels[i % 3]);
     made(3, 3, 2);
+    for (i = 0; i < 40; i++)
+        refined(i < 15 ? i : i * 23, i % 3 ? 1 + i * 2 : 1 + i % 7, levels[i % 3]);
     for (i = 0; i < sizeof lengths / sizeof *lengths; i++)
         for (j = 0; j < 9; j++)
             indexed(lengths[i], levels[j % 3], j < 3 ? 0 : (unsigned)(j * j * 3));

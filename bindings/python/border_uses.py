@@ -167,6 +167,8 @@ USES = [
     ),
     ("pix_table_from", False, lambda it: pix.table_from(it)),
     ("pix_table_from_alpha", False, lambda it: pix.table_from(it, format=pix.SRGBA8)),
+    ("pix_table_refined", False, lambda it: pix.table_from(it, rounds=1)),
+    ("pix_table_refined_alpha", False, lambda it: pix.table_from(it, format=pix.SRGBA8, rounds=1)),
     (
         "pix_table_diffuse",
         False,
@@ -245,7 +247,10 @@ TAKEN = [
             it.read(9), it.write(16), it.write(4), pix.SRGBA8, n(1), n(2)
         ),
     ),
-    ("table_from", lambda it, n: pix.table_from(it.read(64, "array"), n(4), pix.SRGBA8, n(1))),
+    (
+        "table_from",
+        lambda it, n: pix.table_from(it.read(64, "array"), n(4), pix.SRGBA8, n(1), n(2)),
+    ),
     (
         "diffuse_indexed",
         lambda it, n: pix.diffuse_indexed(

@@ -44,7 +44,25 @@ def plain_table(colors, room):
         at = max((i for i, cut in enumerate(cuts) if cut), key=lambda i: cuts[i][0])
         boxes[at : at + 1] = parts = cuts[at][1:]
         cuts[at : at + 1] = map(best_cut, parts)
-    return [tuple((2 * sum(channel) + len(box)) // (2 * len(box)) for channel in zip(*box)) for box in boxes]
+    return [mean(box) for box in boxes]
+
+
+def mean(box):
+    """The mean of colors, rounded, a half up."""
+    return tuple((2 * sum(channel) + len(box)) // (2 * len(box)) for channel in zip(*box))
+
+
+def plain_round(colors, table):
+    """Each entry goes to the mean of the colors to which it is the nearest, and stays where it has none."""
+    groups = [[] for _ in table]
+    for color in colors:
+        groups[plain_nearest(table, color)].append(color)
+    return [mean(group) if group else entry for entry, group in zip(table, groups)]
+
+
+def squared_error(table, colors):
+    """The sum of the squared errors of colors that are shown by their nearest entries."""
+    return sum(min(sum((x - y) ** 2 for x, y in zip(entry, color)) for entry in table) for color in colors)
 
 
 class Tables(unittest.TestCase):
@@ -89,6 +107,24 @@ class Tables(unittest.TestCase):
             step, count = 255 // (levels - 1), chance.randrange(1, 40)
             colors = [tuple(step * chance.randrange(levels) for _ in range(3)) for _ in range(count)]
             self.assertEqual(pix.table_from(joined(colors), room), joined(plain_table(colors, room)))
+
+    def test_refined(self):
+        chance = random.Random(5)
+        for _ in range(40):
+            levels, room = chance.choice([2, 3, 9, 256]), chance.randrange(1, 12)
+            step, count = 255 // (levels - 1), chance.randrange(1, 40)
+            colors = [tuple(step * chance.randrange(levels) for _ in range(3)) for _ in range(count)]
+            clear = joined((*color, 128) for color in colors) + joined((*color, 127) for color in colors[:3])
+            plain, error = plain_table(colors, room), None
+            for rounds in range(5):
+                self.assertEqual(pix.table_from(joined(colors), room, rounds=rounds), joined(plain))
+                self.assertEqual(pix.table_from(clear, room, pix.SRGBA8, 128, rounds), joined(plain))
+                before, error = error, squared_error(plain, colors)
+                self.assertTrue(before is None or error <= before)
+                plain = plain_round(colors, plain)
+        for rounds in (-1, 256):
+            with self.assertRaises(ValueError):
+                pix.table_from(b"abc", rounds=rounds)
 
     def test_diffused(self):
         grays = joined([(0, 0, 0), (255, 255, 255)])

@@ -31,6 +31,8 @@ CALLS = {
     "pix_table_match_alpha": (16, "table:3 read:4 u8 u8 write:1"),
     "pix_table_from": (32, "read:3 own size own size count"),
     "pix_table_from_alpha": (32, "read:4 u8 own size own size count"),
+    "pix_table_refined": (48, "read:3 u8 own size own size count"),
+    "pix_table_refined_alpha": (48, "read:4 u8 u8 own size own size count"),
     "pix_table_diffuse": (48, "table:3 read:3 size own size write:1"),
     "pix_table_diffuse_alpha": (48, "table:3 read:4 size u8 u8 own size write:1"),
     "pix_table_index": (16, "table:3 count own read:3 own size"),

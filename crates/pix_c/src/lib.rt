@@ -15,6 +15,7 @@ ghost use Rattle.pix_flat.specs.Run.{IsRun};
 mod bitmap;
 mod convert;
 mod layout;
+mod refine;
 mod status;
 mod table;
 mod window;

@@ -20,7 +20,7 @@
 //!
 //! | KiB | calls |
 //! |--:|---|
-//! | 256 | `pix_table_match`, `pix_table_diffuse`, and both with `_alpha` |
+//! | 256 | `pix_table_match`, `pix_table_diffuse`, `pix_table_refined`, and all with `_alpha` |
 //! | 32 | `pix_table_index` |
 //! | 16 | all others |
 //!
@@ -378,6 +378,39 @@ unsafe extern "C" {
         pixels: *const Srgba8,
         pixel_count: usize,
         alpha: u8,
+        work: *mut Srgb8,
+        work_len: usize,
+        entries: *mut Srgb8,
+        len: usize,
+        made: *mut usize,
+    ) -> u32;
+
+    /// Writes what `pix_table_from` does, refined by so many rounds.
+    ///
+    /// # Safety
+    ///
+    /// The [duties](crate#duties) are met.
+    pub fn pix_table_refined(
+        pixels: *const Srgb8,
+        pixel_count: usize,
+        rounds: u8,
+        work: *mut Srgb8,
+        work_len: usize,
+        entries: *mut Srgb8,
+        len: usize,
+        made: *mut usize,
+    ) -> u32;
+
+    /// The same of pixels with an alpha: those below `alpha` do not count.
+    ///
+    /// # Safety
+    ///
+    /// The [duties](crate#duties) are met.
+    pub fn pix_table_refined_alpha(
+        pixels: *const Srgba8,
+        pixel_count: usize,
+        alpha: u8,
+        rounds: u8,
         work: *mut Srgb8,
         work_len: usize,
         entries: *mut Srgb8,

@@ -302,6 +302,80 @@ pub fn make_table_alpha<'a>(
     Ok(&entries[..made])
 }
 
+/// Does what [`make_table`] does. Where there are more distinct colors than entries, so many rounds then refine the table. In a
+/// round each color goes to its nearest entry, the first of equals. Each entry goes to the mean of its colors, rounded, and stays
+/// where it has none. No round makes the sum of the squared errors greater.
+///
+/// ```
+/// use pix::{Srgb8, make_table, make_table_refined};
+///
+/// let gray = |v| Srgb8::new(v, v, v);
+/// let pixels = [80, 110, 160, 60, 0, 190].map(gray);
+/// let (mut work, mut entries) = ([Srgb8::default(); 6], [Srgb8::default(); 3]);
+/// assert_eq!(make_table(&pixels, &mut work, &mut entries)?, [0, 70, 153].map(gray));
+/// assert_eq!(make_table_refined(&pixels, 4, &mut work, &mut entries)?, [0, 83, 175].map(gray));
+/// # Ok::<(), pix::Error>(())
+/// ```
+///
+/// # Errors
+///
+/// As [`make_table`].
+pub fn make_table_refined<'a>(
+    pixels: &[Srgb8],
+    rounds: u8,
+    work: &mut [Srgb8],
+    entries: &'a mut [Srgb8],
+) -> Result<&'a [Srgb8], Error> {
+    check_library()?;
+    let mut made = 0;
+    // SAFETY: pointers and lengths are those of three slices and a value, and the exclusive ones share no byte with another.
+    done(unsafe {
+        pix_sys::pix_table_refined(
+            pixels.as_ptr(),
+            pixels.len(),
+            rounds,
+            work.as_mut_ptr(),
+            work.len(),
+            entries.as_mut_ptr(),
+            entries.len(),
+            &mut made,
+        )
+    })?;
+    Ok(&entries[..made])
+}
+
+/// Does what [`make_table_refined`] does, on pixels with an alpha. Those whose alpha is below `alpha` do not count, as in
+/// [`make_table_alpha`].
+///
+/// # Errors
+///
+/// As [`make_table`].
+pub fn make_table_refined_alpha<'a>(
+    pixels: &[Srgba8],
+    alpha: u8,
+    rounds: u8,
+    work: &mut [Srgb8],
+    entries: &'a mut [Srgb8],
+) -> Result<&'a [Srgb8], Error> {
+    check_library()?;
+    let mut made = 0;
+    // SAFETY: pointers and lengths are those of three slices and a value, and the exclusive ones share no byte with another.
+    done(unsafe {
+        pix_sys::pix_table_refined_alpha(
+            pixels.as_ptr(),
+            pixels.len(),
+            alpha,
+            rounds,
+            work.as_mut_ptr(),
+            work.len(),
+            entries.as_mut_ptr(),
+            entries.len(),
+            &mut made,
+        )
+    })?;
+    Ok(&entries[..made])
+}
+
 /// Sets the color of each pixel in a table, one after the other, and its index. The index is that of the entry that stands for the
 /// color, or of the next one, which is set to the color. `used` is how many of the entries are used, before and afterwards, so one
 /// table may serve several pictures. What stands for a color is its match, if that differs from it by no more than `threshold` in

@@ -2,7 +2,8 @@
 
 use pix::{
     Error, IndexDepth, Srgb8, Srgba8, Table, count_indices, diffusion_work, index_pixels,
-    make_table, make_table_alpha, pack_row, unpack_row,
+    make_table, make_table_alpha, make_table_refined, make_table_refined_alpha, pack_row,
+    unpack_row,
 };
 
 /// Bytes that look random.
@@ -113,6 +114,37 @@ fn tables_of_pixels() {
     assert_eq!(make_table(&few, &mut work, &mut none), Err(Error::Table));
     assert_eq!(make_table(&few, &mut work, &mut large), Err(Error::Table));
     let short = make_table(&few, &mut work[..3], &mut entries);
+    assert_eq!(short, Err(Error::Length));
+    assert_eq!((work, entries), before);
+}
+
+#[test]
+fn refined_tables() {
+    let gray = |v| Srgb8::new(v, v, v);
+    let mut work = [Srgb8::default(); 8];
+    let mut entries = [gray(77); 4];
+    let few = [gray(9), gray(1), gray(9), gray(200)];
+    let made = make_table_refined(&few, 3, &mut work, &mut entries).unwrap();
+    assert_eq!(made, [gray(9), gray(1), gray(200)]);
+    // By hand: the boxes are 0, then 60 and 80, then 110, 160 and 190, whose mean is 153. 110 is
+    // nearer to 70, and goes there.
+    let pixels = [80, 110, 160, 60, 0, 190].map(gray);
+    let mut made = |rounds| {
+        let made = make_table_refined(&pixels, rounds, &mut work, &mut entries[..3]);
+        made.unwrap().to_vec()
+    };
+    assert_eq!(made(0), [0, 70, 153].map(gray));
+    assert_eq!(made(1), [0, 83, 175].map(gray));
+    assert_eq!(made(255), [0, 83, 175].map(gray));
+    let alphas = [80, 110, 160, 60, 0, 190, 77];
+    let alphas = alphas.map(|v| Srgba8::new(v, v, v, 50 + u8::from(v != 77)));
+    let made = make_table_refined_alpha(&alphas, 51, 1, &mut work, &mut entries[..3]).unwrap();
+    assert_eq!(made, [0, 83, 175].map(gray));
+    let before = (work, entries);
+    let mut large = [gray(5); 257];
+    assert_eq!(make_table_refined(&few, 3, &mut work, &mut []), Err(Error::Table));
+    assert_eq!(make_table_refined(&few, 3, &mut work, &mut large), Err(Error::Table));
+    let short = make_table_refined(&few, 3, &mut work[..3], &mut entries);
     assert_eq!(short, Err(Error::Length));
     assert_eq!((work, entries), before);
 }

@@ -1,0 +1,84 @@
+//! Tables of colors that are refined.
+ghost use Rattle.std.specs.Prelude.{◌≡◌, ◌≢◌, ◌≤◌, length, map, take};
+ghost use Rattle.pix_table.specs.Nearest.{numbers};
+ghost use Rattle.pix_table.specs.From.{shown};
+ghost use Rattle.pix_table.specs.Refine.{IsRefinedTableFrom};
+ghost use Rattle.pix_c.specs.Table.{srgba8_numbers, make_status};
+
+use crate::status::{BAD_LENGTH, DONE};
+use crate::table::{BAD_TABLE, PixSrgba8};
+use pix_table::{Color, TablePixel, refined_table_from};
+
+/// Does what [`pix_table_from`](crate::table::pix_table_from) does. Where there are more distinct
+/// colors than entries, so many rounds then refine the table. In a round each color goes to its
+/// nearest entry, the first of equals. Each entry goes to the mean of its colors, rounded, and stays
+/// where it has none. No round makes the sum of the squared errors greater.
+#[unsafe(no_mangle)]
+pub extern "C" fn pix_table_refined(
+    pixels: &[Color],
+    rounds: u8,
+    work: &mut [Color],
+    entries: &mut [Color],
+    made: &mut usize,
+) -> u32
+    ensures status { result ≡
+        make_status (length entries.old) (length pixels.now) (length work.old) }
+    ensures refused { result ≢ 0 → (work.new ≡ work.old) × (entries.new ≡ entries.old)
+        × (made.new ≡ made.old) }
+    ensures done { result ≡ 0 → (made.new ≤ length entries.new)
+        × IsRefinedTableFrom rounds (length entries.old) (shown 0 (map numbers pixels.now))
+        (map numbers (take made.new entries.new)) }
+{
+    refine_table(pixels, 0, rounds, work, entries, made)
+}
+
+/// Does what [`pix_table_refined`] does, on pixels with an alpha. Those whose alpha is below `alpha`
+/// do not count.
+#[unsafe(no_mangle)]
+pub extern "C" fn pix_table_refined_alpha(
+    pixels: &[PixSrgba8],
+    alpha: u8,
+    rounds: u8,
+    work: &mut [Color],
+    entries: &mut [Color],
+    made: &mut usize,
+) -> u32
+    ensures status { result ≡
+        make_status (length entries.old) (length pixels.now) (length work.old) }
+    ensures refused { result ≢ 0 → (work.new ≡ work.old) × (entries.new ≡ entries.old)
+        × (made.new ≡ made.old) }
+    ensures done { result ≡ 0 → (made.new ≤ length entries.new)
+        × IsRefinedTableFrom rounds (length entries.old) (shown alpha (map srgba8_numbers pixels.now))
+        (map numbers (take made.new entries.new)) }
+{
+    refine_table(pixels, alpha, rounds, work, entries, made)
+}
+
+/// Makes a refined table of pixels of any kind.
+fn refine_table<P: TablePixel>(
+    pixels: &[P],
+    alpha: u8,
+    rounds: u8,
+    work: &mut [Color],
+    entries: &mut [Color],
+    made: &mut usize,
+) -> u32
+    ensures status { result ≡
+        make_status (length entries.old) (length pixels.now) (length work.old) }
+    ensures refused { result ≢ 0 → (work.new ≡ work.old) × (entries.new ≡ entries.old)
+        × (made.new ≡ made.old) }
+    ensures done { result ≡ 0 → (made.new ≤ length entries.new)
+        × IsRefinedTableFrom rounds (length entries.old) (shown alpha (map P.values pixels.now))
+        (map numbers (take made.new entries.new)) }
+{
+    if entries.is_empty() || entries.len() > 256 {
+        return BAD_TABLE;
+    }
+    match refined_table_from(pixels, alpha, rounds, work, entries) {
+        Some(count) => {
+            *made = count;
+            DONE
+        }
+        None => BAD_LENGTH,
+    }
+}
