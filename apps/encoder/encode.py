@@ -5,6 +5,7 @@ Writes pictures that Pillow reads as indexed ones: each as a PNG, or all as the 
   --into FOLDER    write each FILE as an indexed PNG of its name into this folder (the present one)
   --gif FILE       write one GIF in place of that, with one table of colors for all frames
   --colors N       at most so many colors, from 2 to 256 (256)
+  --rounds N       refine the table by so many rounds, from 0 to 255 (0)
   --dither         spread the error of each pixel over those that come after it
   --ground RRGGBB  composite transparent pictures over this color; else their clear parts stay clear
   --delay MS       how long the GIF shows each frame, in steps of 10 (100)
@@ -29,7 +30,7 @@ except ImportError as error:
     print(f"encode.py: {error}: it stands on pix and Pillow", file=sys.stderr)
     sys.exit(2)
 
-NUMBERS = {"--colors": (2, 256), "--delay": (10, 655350)}
+NUMBERS = {"--colors": (2, 256), "--rounds": (0, 255), "--delay": (10, 655350)}
 
 
 class UsageError(Exception):
@@ -40,7 +41,8 @@ class Options:
     """What was asked for."""
 
     def __init__(self, words):
-        self.values = {"--into": ".", "--gif": None, "--colors": "256", "--ground": None, "--delay": "100"}
+        self.values = {"--into": ".", "--gif": None, "--colors": "256", "--rounds": "0", "--ground": None}
+        self.values["--delay"] = "100"
         self.dithers, self.files = False, []
         words = list(words)
         while words:
@@ -59,7 +61,7 @@ class Options:
                 self.files.append(word)
         if not self.files:
             raise UsageError("name a picture")
-        self.colors, self.delay = self.number("--colors"), self.number("--delay")
+        self.colors, self.rounds, self.delay = map(self.number, ("--colors", "--rounds", "--delay"))
         self.gif, self.ground = self.values["--gif"], self.color()
         self.targets = self.paths()
 
@@ -130,7 +132,7 @@ def encode_each(options, progress):
     for name, target in zip(options.files, options.targets):
         progress.show(name)
         picture = files.read(name, options.ground)
-        colors = table.of_pictures([picture], options.colors)
+        colors = table.of_pictures([picture], options.colors, options.rounds)
         files.write_png(target, table.indexed(picture, colors, options.dithers), colors)
         progress.step()
 
@@ -143,7 +145,7 @@ def encode_all(options, progress):
         pictures.append(files.read(name, options.ground))
         progress.step()
     pictures = files.of_one_size(pictures)
-    colors = table.of_pictures(pictures, options.colors)
+    colors = table.of_pictures(pictures, options.colors, options.rounds)
     frames = []
     for name, picture in zip(options.files, pictures):
         progress.show(name)

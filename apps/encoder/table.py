@@ -22,12 +22,14 @@ class Frame:
         self.size, self.indices = size, indices
 
 
-def of_pictures(pictures, most):
-    """Returns a table for all of these pictures: their very colors where these are at most `most`, and else so many by the cut by squared error."""
+def of_pictures(pictures, most, rounds):
+    """Returns a table for all of these pictures: their very colors where these are at most `most`, and else so many by the cut by squared error,
+    which so many rounds refine."""
     pixels = b"".join(it.pixels for it in pictures)
     marks = pix.map_indexed(bytes(3), pixels, format=pix.SRGBA8, alpha=CLEAR_BELOW, kept=1)
     has_clear = pix.count_indices(marks, 2)[1] > 0
-    return Table(pix.table_from(pixels, most - has_clear, format=pix.SRGBA8, alpha=CLEAR_BELOW), has_clear)
+    how = {"format": pix.SRGBA8, "alpha": CLEAR_BELOW, "rounds": rounds}
+    return Table(pix.table_from(pixels, most - has_clear, **how), has_clear)
 
 
 def indexed(picture, table, dithers):

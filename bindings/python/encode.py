@@ -1,10 +1,10 @@
 """Makes a GIF or a PNG of indices of a picture, and reads it back.
 
-    PYTHONPATH=bindings/python python3 bindings/python/encode.py PICTURE FILE [COLORS] [--nearest]
+    PYTHONPATH=bindings/python python3 bindings/python/encode.py PICTURE FILE [COLORS] [--nearest] [--rounds=N]
 
 FILE ends in .gif or .png. COLORS is how many a table has at most, 256 without it; where the picture has pixels that are more clear than opaque, one entry is
-transparent. Errors are diffused, but with --nearest. The file is written by this program itself, and the library makes its table, its indices and its rows;
-Pillow reads the picture, and then the file, whose pixels are compared. Needs Pillow. Prints what was made, and answers 1 where the pixels differ.
+transparent. Errors are diffused, but with --nearest. N rounds refine the table, 0 without it. The file is written by this program itself, and the library makes its table, its indices and its rows;
+Pillow reads the picture, and then the file, whose pixels are compared. Needs Pillow. Prints what was made, with the mean squared error of its pixels, and answers 1 where the pixels differ.
 """
 
 import struct
@@ -12,21 +12,23 @@ import sys
 import zlib
 from typing import List, Optional, Tuple
 
-from PIL import Image
+from PIL import Image, ImageChops, ImageStat
 
 import pix
 
 # A pixel whose alpha is below this is transparent.
 CLEAR = 128
+# How many rounds refine a table where none are named.
+ROUNDS = 0
 
 
-def indexed(picture: Image.Image, colors: int, nearest: bool) -> Tuple[bytes, bytes, Optional[int]]:
+def indexed(picture: Image.Image, colors: int, nearest: bool, rounds: int = ROUNDS) -> Tuple[bytes, bytes, Optional[int]]:
     """The table of a picture, the indices of its pixels, and the index of the transparent entry, if it has one."""
     pixels = picture.convert("RGBA").tobytes()
     kept = None
     if any(alpha < CLEAR for alpha in pixels[3::4]):
         kept, colors = colors - 1, colors - 1
-    table = pix.table_from(pixels, colors, pix.Format.SRGBA8, CLEAR)
+    table = pix.table_from(pixels, colors, pix.Format.SRGBA8, CLEAR, rounds)
     if kept is not None:
         kept = len(table) // 3
     how = {"format": pix.Format.SRGBA8, "alpha": CLEAR, "kept": kept or 0}
@@ -37,6 +39,13 @@ def indexed(picture: Image.Image, colors: int, nearest: bool) -> Tuple[bytes, by
     else:
         indices = pix.diffuse_indexed(entries, pixels, picture.width, **how)
     return bytes(table) + (b"" if kept is None else bytes(3)), bytes(indices), kept
+
+
+def mean_squared_error(picture: Image.Image, shown: bytes) -> float:
+    """The mean over the pixels that are not clear of the squared errors in red, green and blue, added."""
+    difference = ImageChops.difference(picture.convert("RGB"), Image.frombytes("RGB", picture.size, shown))
+    stat = ImageStat.Stat(difference, picture.getchannel("A").point(lambda alpha: 255 * (alpha >= CLEAR)))
+    return sum(stat.sum2) / max(1, stat.count[0])
 
 
 def bits_of(count: int) -> int:
@@ -113,13 +122,14 @@ def gif(size: Tuple[int, int], table: bytes, indices: bytes, clear: Optional[int
 
 def main(words: List[str]) -> int:
     nearest = "--nearest" in words
-    names = [word for word in words if word != "--nearest"]
+    names = [word for word in words if word != "--nearest" and not word.startswith("--rounds=")]
+    rounds = [int(word[len("--rounds=") :]) for word in words if word.startswith("--rounds=")]
     if len(names) not in (2, 3) or not names[1].endswith((".gif", ".png")):
         print(__doc__, file=sys.stderr)
         return 2
     picture = Image.open(names[0]).convert("RGBA")
     colors = int(names[2]) if len(names) == 3 else 256
-    table, indices, clear = indexed(picture, colors, nearest)
+    table, indices, clear = indexed(picture, colors, nearest, (rounds or [ROUNDS])[-1])
     make = gif if names[1].endswith(".gif") else png
     with open(names[1], "wb") as file:
         file.write(make(picture.size, table, indices, clear))
@@ -129,7 +139,11 @@ def main(words: List[str]) -> int:
     alphas = bytes(0 if i == clear else 255 for i in indices)
     wanted = b"".join(bytes(shown[3 * i : 3 * i + 3]) + alphas[i : i + 1] for i in range(len(indices)))
     same = Image.open(names[1]).convert("RGBA").tobytes() == wanted
-    print(f"{names[1]}: {picture.width}x{picture.height}, {len(table) // 3} colors, Pillow reads {'the same' if same else 'OTHER'} pixels")
+    error = mean_squared_error(picture, bytes(shown))
+    print(
+        f"{names[1]}: {picture.width}x{picture.height}, {len(table) // 3} colors, mean squared error {error:.1f},"
+        f" Pillow reads {'the same' if same else 'OTHER'} pixels"
+    )
     return not same
 
 
