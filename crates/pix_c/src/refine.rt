@@ -10,9 +10,9 @@ use crate::table::{BAD_TABLE, PixSrgba8};
 use pix_table::{Color, TablePixel, refined_table_from};
 
 /// Does what [`pix_table_from`](crate::table::pix_table_from) does. Where there are more distinct
-/// colors than entries, so many rounds then refine the table. In a round each color goes to its
-/// nearest entry, the first of equals. Each entry goes to the mean of its colors, rounded, and stays
-/// where it has none. No round makes the sum of the squared errors greater.
+/// colors than entries, `rounds` rounds then refine the table. In a round each color goes to its
+/// nearest entry, the first of equals. Each entry goes to the mean of its colors, rounded, and
+/// stays where it has none. No round makes the sum of the squared errors greater.
 #[unsafe(no_mangle)]
 pub extern "C" fn pix_table_refined(
     pixels: &[Color],
@@ -32,8 +32,8 @@ pub extern "C" fn pix_table_refined(
     refine_table(pixels, 0, rounds, work, entries, made)
 }
 
-/// Does what [`pix_table_refined`] does, on pixels with an alpha. Those whose alpha is below `alpha`
-/// do not count.
+/// Does what [`pix_table_refined`] does, on pixels with an alpha. Those whose alpha is below
+/// `alpha` do not count.
 #[unsafe(no_mangle)]
 pub extern "C" fn pix_table_refined_alpha(
     pixels: &[PixSrgba8],

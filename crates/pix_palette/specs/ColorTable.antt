@@ -3,6 +3,7 @@ use Rattle.std.specs.Prelude.{◌≡◌, ℕ, ◌<◌, List, [], ◌∷◌, leng
 use Rattle.pix_table.specs.Nearest.{IsNearest}
 use Rattle.pix_table.specs.LookUp.{AreLookedUp}
 use Rattle.pix_table.specs.From.{IsTableFrom}
+use Rattle.pix_table.specs.Refine.{IsRefinedTableFrom}
 use Rattle.pix_table.specs.Setting.{Always, IsSet}
 use Rattle.pix_table.specs.Indexing.{AreIndexed}
 use Rattle.pix_table.specs.PaletteMatch.{color_difference}
@@ -65,3 +66,9 @@ pub record IsMadeOf (limit : ℕ) (pixels : List (List ℕ)) (table : ColorTable
   pub room : limit_of table ≡ limit
   pub exact : numbers table.threshold ≡ 0 ∷ 0 ∷ 0 ∷ []
   pub colors : IsTableFrom limit pixels (map numbers (entries_of table))
+
+-- the same, refined by so many rounds
+pub record IsRefinedMadeOf (rounds limit : ℕ) (pixels : List (List ℕ)) (table : ColorTable) : Type 0 where
+  pub room : limit_of table ≡ limit
+  pub exact : numbers table.threshold ≡ 0 ∷ 0 ∷ 0 ∷ []
+  pub colors : IsRefinedTableFrom rounds limit pixels (map numbers (entries_of table))

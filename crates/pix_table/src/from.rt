@@ -44,9 +44,9 @@ pub fn table_from<P: TablePixel>(
     refined_table_from(pixels, alpha, 0, work, entries)
 }
 
-/// Does what [`table_from`] does, and then so many rounds, from 0 to 255, that make the table fit
-/// better. It returns `None`, and changes nothing, where [`table_from`] does. A round takes about as
-/// long as the pixels take to be matched.
+/// Does what [`table_from`] does. Then `rounds` rounds, from 0 to 255, make the table fit
+/// better. It returns `None`, and changes nothing, where [`table_from`] does. A round takes about
+/// as long as the pixels take to be matched.
 ///
 /// In a round each color goes to its nearest entry, the first of equals. Then each entry goes to
 /// the mean of its colors, to the nearest whole number in each channel, ties up. An entry without

@@ -11,7 +11,7 @@ use crate::from::same;
 use crate::matcher::visit_nearest;
 use crate::nearest_search::{NearestSearch, SearchVisitor};
 
-/// Moves the entries by so many rounds: in each, every color goes to its nearest entry, the first
+/// Moves the entries by `rounds` rounds. In each, every color goes to its nearest entry, the first
 /// of equals, and every entry to the mean of its colors. An entry without colors stays.
 ///
 /// Condition: there are 1 to 256 entries.

@@ -77,6 +77,35 @@ fn has_indices(image: Option<Raster<Gray8>>, indices: &[u8]) -> bool {
     })
 }
 
+/// A table of at most three colors of a picture, refined by so many rounds.
+fn refined(alloc: Global, picture: &Raster<SRgba8>, rounds: u8) -> Result<ColorTable, Fail> {
+    match ColorTable::from_raster_refined(alloc, picture, 3, 0, rounds)? {
+        None => Err(Fail::from(RasterFault::Memory)),
+        Some(table) => Ok(table),
+    }
+}
+
+#[test]
+fn refined_tables(rt: HostRuntime) -> Result<(), Fail> {
+    let mut picture = Raster::with_clear(rt.alloc(), 6, 1)?;
+    let values = [80_u8, 110, 160, 60, 0, 190];
+    for (pixel, value) in picture.pixels_mut().iter_mut().zip(values) {
+        *pixel = SRgba8::new(value, value, value, 255);
+    }
+    // The boxes are 0, then 60 and 80, then 110, 160 and 190, whose mean is 153. 110 is nearer to
+    // 70, and goes there.
+    let cut = refined(rt.alloc(), &picture, 0)?;
+    assert!(rt; cut.colors() == [gray(0), gray(70), gray(153)].as_slice());
+    assert_eq!(rt; cut.limit(), 3);
+    let once = refined(rt.alloc(), &picture, 1)?;
+    assert!(rt; once.colors() == [gray(0), gray(83), gray(175)].as_slice());
+    let often = refined(rt.alloc(), &picture, 255)?;
+    assert!(rt; often.colors() == once.colors());
+    assert!(rt; ColorTable::from_raster_refined(rt.alloc(), &picture, 0, 0, 1)?.is_none());
+    assert!(rt; ColorTable::from_raster_refined(rt.alloc(), &picture, 257, 0, 1)?.is_none());
+    Ok(())
+}
+
 #[test]
 fn tables_of_a_picture(rt: HostRuntime) -> Result<(), Fail> {
     let mut picture = Raster::with_clear(rt.alloc(), 4, 1)?;

@@ -1,12 +1,14 @@
 //! Tables of the colors of a picture, and images of its indices by alpha and by error diffusion.
-ghost use Rattle.std.specs.Prelude.{◌≡◌, ◌<◌, ◌≤◌, ◌⊎◌, ◌*◌, length, map, take, IfOk, IfErr, MatchOption};
+ghost use Rattle.std.specs.Prelude.{◌≡◌, ◌<◌, ◌≤◌, ◌⊎◌, ◌*◌, ◌∷◌, [], length, map, take};
+ghost use Rattle.std.specs.Prelude.{IfOk, IfErr, MatchOption};
 ghost use Rattle.pix_table.specs.Nearest.{numbers as color_numbers, AreMatched};
 ghost use Rattle.pix_table.specs.Diffusion.{AreDiffused};
 ghost use Rattle.pix_table.specs.From.{shown};
 ghost use Rattle.pix_table.specs.SrgbColor.{srgba_numbers};
 ghost use Rattle.pix_palette.specs.Palette.{numbers};
 ghost use Rattle.pix_palette.specs.Indexing.{AreGray, shades_of, values};
-ghost use Rattle.pix_palette.specs.ColorTable.{entries_of, IsIndexImage, IsMadeOf};
+ghost use Rattle.pix_palette.specs.ColorTable.{entries_of, limit_of, IsIndexImage, IsMadeOf};
+ghost use Rattle.pix_palette.specs.ColorTable.{IsRefinedMadeOf};
 ghost use Rattle.pix_raster.specs.declared.fault.RasterFault.{RasterFault};
 
 use super::index::IndexPixel;
@@ -16,7 +18,9 @@ use pix_color::gray::Gray8;
 use pix_el::el::{Pix, Pixel};
 use pix_el::rgb::{SRgb8, SRgba8};
 use pix_raster::{Raster, RasterFault};
-use pix_table::{Color, Diffusion, TableColor, diffuse_pixels, match_pixels, table_from};
+use pix_table::{
+    Color, Diffusion, TableColor, diffuse_pixels, match_pixels, refined_table_from, table_from,
+};
 use std::alloc::Global;
 
 /// The greatest number of entries of a table that is made, or to which pixels are matched.
@@ -62,6 +66,44 @@ impl ColorTable {
     {
         let shades = shades(alloc, raster)?;
         table_of(alloc, shades.pixels(), limit, alpha)
+    }
+
+    /// Does what [`ColorTable::from_raster`] does. Where there are more distinct colors than
+    /// `limit`, `rounds` rounds then refine the table. In a round each color goes to its nearest
+    /// entry, the first of equals. Each entry goes to the mean of its colors, rounded, and stays
+    /// where it has none. No round makes the sum of the squared errors greater.
+    ///
+    /// # Errors
+    ///
+    /// `Memory` on allocation failure.
+    ///
+    /// # Examples
+    ///
+    /// ```rust
+    /// let Some(table) = ColorTable::from_raster_refined(alloc, picture, 255, 128, 4)? else {
+    ///     return Ok(None); // not for 255 entries
+    /// };
+    /// table.map_indexed_alpha(alloc, picture, 128, 255) // index 255 where the alpha is below 128
+    /// ```
+    pub fn from_raster_refined<S>(
+        alloc: Global,
+        raster: &Raster<S>,
+        limit: usize,
+        alpha: u8,
+        rounds: u8,
+    ) -> Result<Option<ColorTable>, RasterFault>
+    where
+        S: Pixel,
+        Ch8: From<S::Chan>,
+        S::Gamma: Gamma<Ch8>,
+        ensures made { IfOk result (λ answer. MatchOption answer
+            ((limit ≡ 0) ⊎ (256 < limit))
+            (IsRefinedMadeOf rounds limit (shown alpha
+            (shades_of S.format ⟦<S::Gamma as Gamma<Ch8>>⟧.mode S.numbers raster.now.pixels)))) }
+        ensures memory { IfErr result (λ fault. fault ≡ RasterFault.Memory) }
+    {
+        let shades = shades(alloc, raster)?;
+        refined_table_of(alloc, shades.pixels(), limit, alpha, rounds)
     }
 
     /// Makes a raster of indices. The value of each pixel is the index of the entry that is nearest
@@ -192,16 +234,55 @@ fn table_of(
     if limit == 0 || limit > ENTRIES {
         return Ok(None);
     }
-    let mut table = ColorTable::new(alloc, limit, SRgb8::default())?;
     let mut work = vec![in alloc; Color::default(); pixels.len()]?;
     let mut room = [Color::default(); ENTRIES];
     let entries = &mut room[..limit];
     let Some(len) = table_from(pixels, alpha, &mut work, entries) else {
         return Ok(None);
     };
-    copy_colors(&entries[..len], &mut table.slots);
-    table.len = len;
+    let table = table_with(alloc, limit, &entries[..len])?;
     Ok(Some(table))
+}
+
+/// Makes a refined table of pixels, as [`ColorTable::from_raster_refined`] does.
+fn refined_table_of(
+    alloc: Global,
+    pixels: &[SRgba8],
+    limit: usize,
+    alpha: u8,
+    rounds: u8,
+) -> Result<Option<ColorTable>, RasterFault>
+    ensures made { IfOk result (λ answer. MatchOption answer
+        ((limit ≡ 0) ⊎ (256 < limit))
+        (IsRefinedMadeOf rounds limit (shown alpha (map srgba_numbers pixels.now)))) }
+    ensures memory { IfErr result (λ fault. fault ≡ RasterFault.Memory) }
+{
+    if limit == 0 || limit > ENTRIES {
+        return Ok(None);
+    }
+    let mut work = vec![in alloc; Color::default(); pixels.len()]?;
+    let mut room = [Color::default(); ENTRIES];
+    let entries = &mut room[..limit];
+    let Some(len) = refined_table_from(pixels, alpha, rounds, &mut work, entries) else {
+        return Ok(None);
+    };
+    let table = table_with(alloc, limit, &entries[..len])?;
+    Ok(Some(table))
+}
+
+/// Makes a table of colors, of no other threshold than 0.
+fn table_with(alloc: Global, limit: usize, colors: &[Color]) -> Result<ColorTable, RasterFault>
+    requires room { length colors.now ≤ limit }
+    ensures room { IfOk result (λ table. limit_of table ≡ limit) }
+    ensures exact { IfOk result (λ table. numbers table.threshold ≡ 0 ∷ 0 ∷ 0 ∷ []) }
+    ensures colors { IfOk result (λ table.
+        map numbers (entries_of table) ≡ map color_numbers colors.now) }
+    ensures memory { IfErr result (λ fault. fault ≡ RasterFault.Memory) }
+{
+    let mut table = ColorTable::new(alloc, limit, SRgb8::default())?;
+    copy_colors(colors, &mut table.slots);
+    table.len = colors.len();
+    Ok(table)
 }
 
 /// Makes, for each pixel, the index of the nearest entry or the kept index. Returns `None` where

@@ -126,3 +126,14 @@ pub fn diffused(
     };
     table.diffuse_indexed(alloc, picture, 128, 255) // index 255 where the alpha is below 128
 }
+
+/// Indexes a picture by the nearest entries of a table of its colors, which is refined.
+pub fn refined(
+    alloc: Global,
+    picture: &Raster<SRgba8>,
+) -> Result<Option<Raster<Gray8>>, RasterFault> {
+    let Some(table) = ColorTable::from_raster_refined(alloc, picture, 255, 128, 4)? else {
+        return Ok(None); // not for 255 entries
+    };
+    table.map_indexed_alpha(alloc, picture, 128, 255) // index 255 where the alpha is below 128
+}
