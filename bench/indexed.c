@@ -12,7 +12,7 @@
 #include <stdlib.h>
 #include <time.h>
 
-enum { RUNS = 3, SAMPLE = 200000 };
+enum { RUNS = 3, SAMPLE = 200000, ROUNDS = 4 };
 
 static double now(void) {
     struct timespec t;
@@ -67,8 +67,8 @@ typedef struct {
     double table, map, error;
 } outcome;
 
-/* The library: the table of a sample of pixels that lie `step` apart, and the nearest entries or error diffusion. */
-static outcome by_pix(const picture *it, size_t colors, size_t step, int diffused, uint8_t *indices) {
+/* The library: the table of a sample of pixels that lie `step` apart, refined by some rounds, and the nearest entries or error diffusion. */
+static outcome by_pix(const picture *it, size_t colors, size_t step, uint8_t rounds, int diffused, uint8_t *indices) {
     pix_srgb8 entries[256], *work = room((it->count + 4 * it->width) * sizeof *work), *sample = room(it->count * sizeof *sample);
     outcome best = {1e9, 1e9, 0};
     for (int run = 0; run < RUNS; run++) {
@@ -80,7 +80,7 @@ static outcome by_pix(const picture *it, size_t colors, size_t step, int diffuse
         else
             for (size_t i = 0; i < it->count; i += step)
                 sample[count++] = it->pixels[i];
-        if (pix_make_table(step == 1 ? it->pixels : sample, count, work, entries, colors, &made) != PIX_OK)
+        if (pix_make_table_refined(step == 1 ? it->pixels : sample, count, rounds, work, entries, colors, &made) != PIX_OK)
             fail("no table");
         middle = now();
         table = pix_table_of(entries, made);
@@ -153,12 +153,15 @@ int main(int argc, char **argv) {
         size_t step = (it.count + SAMPLE - 1) / SAMPLE;
         for (size_t j = 0; j < sizeof numbers / sizeof *numbers; j++) {
             printf("%s, %zux%zu, %d colors\n", argv[i], it.width, it.height, numbers[j]);
-            line("pix, all pixels, nearest", by_pix(&it, (size_t)numbers[j], 1, 0, indices));
-            if (step > 1)
-                line("pix, a sample of 200,000, nearest", by_pix(&it, (size_t)numbers[j], step, 0, indices));
+            line("pix, all pixels, nearest", by_pix(&it, (size_t)numbers[j], 1, 0, 0, indices));
+            line("pix, all pixels, 4 rounds, nearest", by_pix(&it, (size_t)numbers[j], 1, ROUNDS, 0, indices));
+            if (step > 1) {
+                line("pix, a sample of 200,000, nearest", by_pix(&it, (size_t)numbers[j], step, 0, 0, indices));
+                line("pix, that sample, 4 rounds, nearest", by_pix(&it, (size_t)numbers[j], step, ROUNDS, 0, indices));
+            }
             line("libimagequant, speed 4, no dithering", by_liq(&it, numbers[j], 4, 0, indices));
             line("libimagequant, speed 10, no dithering", by_liq(&it, numbers[j], 10, 0, indices));
-            line("pix, error diffusion", by_pix(&it, (size_t)numbers[j], step, 1, indices));
+            line("pix, error diffusion", by_pix(&it, (size_t)numbers[j], step, 0, 1, indices));
             line("libimagequant, speed 4, dithering", by_liq(&it, numbers[j], 4, 1, indices));
         }
         free(indices);
