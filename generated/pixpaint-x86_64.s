@@ -1,7 +1,7 @@
 /* pix 0.2.0: the program pixpaint, for x86-64-v2 under Linux.
  * The code was proved before it was compiled; generated/README.md says what that means. Nobody edits this file: tools/generate makes it.
  *
- * sources: 9b24ea0aa046133131e6e10b97ed92130b625eb328e91b8c7d0ddc588de694e4, as tools/sources --sum pixpaint prints it
+ * sources: 79caa17d63dfaccfcd1edf3a9704589e5760476611f9c1cf87f6ad710b85d95d, as tools/sources --sum pixpaint prints it
  * kit: rattle-kit-13f logic dac8208d650f15bf
  * verdict: logic=proved functions=1 axioms=6 target=x86_64-unknown-linux-gnu cpu=x86-64-v2 sum=dac8208d650f15bf native=nat,char,string logic-built=trusted libraries-built=trusted statements=trusted
  * made by: rattle build of crates/pixpaint, with clang -S -fno-verbose-asm -fno-addrsig in the place of clang -c
