@@ -52,13 +52,14 @@
  * Stack. A call takes no memory, so what it works with is on the stack of its thread. These are the
  * KiB that a thread's stack needs for each call, the thread's own frames among them:
  *
- *     256   pix_map_indexed, pix_diffuse_indexed, pix_make_table_refined, and all with _alpha
- *      64   pix_make_table, pix_make_table_alpha
+ *     320   pix_make_table_refined, pix_make_table_refined_alpha
+ *     256   pix_map_indexed, pix_diffuse_indexed, and both with _alpha
+ *      96   pix_make_table, pix_make_table_alpha
  *      32   pix_index_pixels
  *      16   all others
  *
  * Main threads have much more, and so have new threads under glibc. Under musl a new thread has 128
- * KiB unless it asks for more (pthread_attr_setstacksize), which the calls in the first line need.
+ * KiB unless it asks for more (pthread_attr_setstacksize), which the calls in the first two lines need.
  *
  * Threads. Calls may run at once in different threads where none of them writes what another one
  * reads or writes. They may share sources, tables and lists of commands.

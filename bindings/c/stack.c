@@ -201,7 +201,7 @@ static pix_status unpack(void) {
 }
 
 /* The calls, and the kibibytes of stack that pix.h says they need. */
-enum { FEW = 16, SETTING = 32, MAKING = 64, MATCHING = 256 };
+enum { FEW = 16, SETTING = 32, MAKING = 96, MATCHING = 256, REFINING = 320 };
 static const struct { const char *name; size_t kibibytes; pix_status (*call)(void); } calls[] = {
     {"pix_check_library", FEW, pix_check_library},
     {"pix_run", FEW, run},
@@ -220,8 +220,8 @@ static const struct { const char *name; size_t kibibytes; pix_status (*call)(voi
     {"pix_pack_row", FEW, pack},
     {"pix_unpack_row", FEW, unpack},
     {"pix_index_pixels", SETTING, set},
-    {"pix_make_table_refined", MATCHING, refine},
-    {"pix_make_table_refined_alpha", MATCHING, refine_alpha},
+    {"pix_make_table_refined", REFINING, refine},
+    {"pix_make_table_refined_alpha", REFINING, refine_alpha},
     {"pix_map_indexed", MATCHING, map},
     {"pix_map_indexed_alpha", MATCHING, map_alpha},
     {"pix_diffuse_indexed", MATCHING, diffuse},

@@ -20,7 +20,9 @@
 //!
 //! | KiB | calls |
 //! |--:|---|
-//! | 256 | `pix_table_match`, `pix_table_diffuse`, `pix_table_refined`, and all with `_alpha` |
+//! | 320 | `pix_table_refined`, `pix_table_refined_alpha` |
+//! | 256 | `pix_table_match`, `pix_table_diffuse`, and both with `_alpha` |
+//! | 96 | `pix_table_from`, `pix_table_from_alpha` |
 //! | 32 | `pix_table_index` |
 //! | 16 | all others |
 //!
