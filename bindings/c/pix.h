@@ -59,7 +59,8 @@
  *      16   all others
  *
  * Main threads have much more, and so have new threads under glibc. Under musl a new thread has 128
- * KiB unless it asks for more (pthread_attr_setstacksize), which the calls in the first two lines need.
+ * KiB unless it asks for more (pthread_attr_setstacksize). The calls in the first two lines need
+ * that.
  *
  * Threads. Calls may run at once in different threads where none of them writes what another one
  * reads or writes. They may share sources, tables and lists of commands.
