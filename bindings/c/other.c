@@ -6,6 +6,7 @@
  * --stand-in for that. */
 #include "pix.h"
 #include "indexed.h"
+#include "other_seen.h"
 #include "plain.h"
 #include "plain_bitmap.h"
 #include <stdlib.h>
@@ -279,34 +280,144 @@ uint32_t pix_table_from_alpha(const pix_srgba8 *pixels, size_t pixel_count, uint
     return pix_table_refined_alpha(pixels, pixel_count, alpha, 0, work, work_len, entries, len, made);
 }
 
-uint32_t pix_table_diffuse(const pix_srgb8 *entries, size_t len, const pix_srgb8 *pixels, size_t pixel_count, size_t width,
-                           pix_srgb8 *work, size_t work_len, uint8_t *indices, size_t index_count) {
-    pix_srgba8 *opaque;
+/* What a diffusion of so many pixels is refused with. */
+static uint32_t diffusion_fault(size_t len, size_t count, size_t width, uint8_t strength, uint8_t serpentine, size_t work_len,
+                                size_t index_count) {
     if (!len || len > 256)
         return PIX_BAD_TABLE;
-    if (!width || width > SIZE_MAX / 4 || work_len != 4 * width || index_count != pixel_count)
+    if (strength > 16)
+        return PIX_BAD_STRENGTH;
+    if (!width || width > SIZE_MAX / 4 || work_len != 4 * width || index_count != count || (serpentine && count % width))
         return PIX_BAD_LENGTH;
+    return PIX_OK;
+}
+
+/* To entries without an alpha: the color of a pixel that counts is taken as it is. */
+static void diffuse_colors(const pix_srgb8 *entries, size_t len, const pix_srgba8 *pixels, size_t count, size_t width,
+                           uint8_t alpha, uint8_t kept, uint8_t strength, uint8_t serpentine, uint8_t *indices) {
+    seen table[256], *colors = zeros(count, sizeof *colors);
+    uint8_t *is_apart = zeros(count, 1);
+    diffusion it = {table, colors, is_apart, len, count, width, kept, strength, serpentine, NULL, NULL};
+    for (size_t i = 0; i < len; i++)
+        table[i] = opaque_seen(entries[i]);
+    for (size_t i = 0; i < count; i++) {
+        colors[i] = seen_as(pixels[i].r, pixels[i].g, pixels[i].b, 255);
+        is_apart[i] = pixels[i].a < alpha;
+    }
+    diffuse_all(&it, indices);
+    free(colors);
+    free(is_apart);
+}
+
+uint32_t pix_table_diffuse_by_alpha(const pix_srgb8 *entries, size_t len, const pix_srgba8 *pixels, size_t pixel_count,
+                                    size_t width, uint8_t alpha, uint8_t kept, uint8_t strength, uint8_t serpentine,
+                                    pix_srgb8 *work, size_t work_len, uint8_t *indices, size_t index_count) {
+    const uint32_t fault = diffusion_fault(len, pixel_count, width, strength, serpentine, work_len, index_count);
     (void)work;
-    opaque = malloc((pixel_count + 1) * sizeof *opaque);
-    if (!opaque)
-        abort();
+    if (!fault)
+        diffuse_colors(entries, len, pixels, pixel_count, width, alpha, kept, strength, serpentine, indices);
+    return fault;
+}
+
+uint32_t pix_table_diffuse_by(const pix_srgb8 *entries, size_t len, const pix_srgb8 *pixels, size_t pixel_count, size_t width,
+                              uint8_t strength, uint8_t serpentine, pix_srgb8 *work, size_t work_len, uint8_t *indices,
+                              size_t index_count) {
+    const uint32_t fault = diffusion_fault(len, pixel_count, width, strength, serpentine, work_len, index_count);
+    pix_srgba8 *opaque;
+    (void)work;
+    if (fault)
+        return fault;
+    opaque = zeros(pixel_count, sizeof *opaque);
     for (size_t i = 0; i < pixel_count; i++) {
-        pix_srgba8 pixel = {pixels[i].r, pixels[i].g, pixels[i].b, 255};
+        const pix_srgba8 pixel = {pixels[i].r, pixels[i].g, pixels[i].b, 255};
         opaque[i] = pixel;
     }
-    plain_diffuse(entries, len, opaque, pixel_count, width, 0, 0, indices);
+    diffuse_colors(entries, len, opaque, pixel_count, width, 0, 0, strength, serpentine, indices);
     free(opaque);
     return PIX_OK;
+}
+
+uint32_t pix_table_diffuse(const pix_srgb8 *entries, size_t len, const pix_srgb8 *pixels, size_t pixel_count, size_t width,
+                           pix_srgb8 *work, size_t work_len, uint8_t *indices, size_t index_count) {
+    return pix_table_diffuse_by(entries, len, pixels, pixel_count, width, 16, 0, work, work_len, indices, index_count);
 }
 
 uint32_t pix_table_diffuse_alpha(const pix_srgb8 *entries, size_t len, const pix_srgba8 *pixels, size_t pixel_count,
                                  size_t width, uint8_t alpha, uint8_t kept, pix_srgb8 *work, size_t work_len, uint8_t *indices,
                                  size_t index_count) {
+    return pix_table_diffuse_by_alpha(entries, len, pixels, pixel_count, width, alpha, kept, 16, 0, work, work_len, indices,
+                                      index_count);
+}
+
+/* Tables of colors with an alpha. */
+uint32_t pix_table_rgba_diffuse(const pix_srgba8 *entries, size_t len, const pix_srgba8 *pixels, size_t pixel_count,
+                                size_t width, uint8_t strength, uint8_t serpentine, pix_srgba8 *work, size_t work_len,
+                                uint8_t *indices, size_t index_count) {
+    const uint32_t fault = diffusion_fault(len, pixel_count, width, strength, serpentine, work_len, index_count);
+    seen *table, *colors;
+    uint8_t *is_apart;
+    (void)work;
+    if (fault)
+        return fault;
+    table = all_seen(entries, len);
+    colors = all_seen(pixels, pixel_count);
+    is_apart = zeros(pixel_count, 1);
+    for (size_t i = 0; i < pixel_count; i++)
+        is_apart[i] = !pixels[i].a;
+    diffusion it = {table, colors, is_apart, len, pixel_count, width, -1, strength, serpentine, NULL, NULL};
+    diffuse_all(&it, indices);
+    free(table);
+    free(colors);
+    free(is_apart);
+    return PIX_OK;
+}
+
+uint32_t pix_table_rgba_match(const pix_srgba8 *entries, size_t len, const pix_srgba8 *pixels, size_t pixel_count,
+                              uint8_t *indices, size_t index_count) {
+    seen *table;
     if (!len || len > 256)
         return PIX_BAD_TABLE;
-    if (!width || width > SIZE_MAX / 4 || work_len != 4 * width || index_count != pixel_count)
+    if (index_count != pixel_count)
+        return PIX_BAD_LENGTH;
+    table = all_seen(entries, len);
+    for (size_t i = 0; i < pixel_count; i++)
+        indices[i] = seen_nearest(table, len, pixel_seen(pixels[i]));
+    free(table);
+    return PIX_OK;
+}
+
+uint32_t pix_table_rgba_look_up(const pix_srgba8 *entries, size_t len, const uint8_t *indices, size_t index_count,
+                                pix_srgba8 *pixels, size_t pixel_count) {
+    if (index_count != pixel_count)
+        return PIX_BAD_LENGTH;
+    for (size_t i = 0; i < index_count; i++)
+        if (indices[i] >= len)
+            return PIX_BAD_INDEX;
+    for (size_t i = 0; i < index_count; i++)
+        pixels[i] = entries[indices[i]];
+    return PIX_OK;
+}
+
+uint32_t pix_table_rgba_from(const pix_srgba8 *pixels, size_t pixel_count, uint8_t rounds, pix_srgba8 *work, size_t work_len,
+                             pix_srgba8 *entries, size_t len, size_t *made) {
+    seen table[256], *colors;
+    if (!len || len > 256)
+        return PIX_BAD_TABLE;
+    if (work_len < pixel_count)
         return PIX_BAD_LENGTH;
     (void)work;
-    plain_diffuse(entries, len, pixels, pixel_count, width, alpha, kept, indices);
+    colors = all_seen(pixels, pixel_count);
+    *made = distinct_seen(colors, pixel_count, table, len);
+    if (*made > len) {
+        *made = cut_seen(colors, pixel_count, table, len);
+        for (; rounds; rounds--)
+            round_seen(colors, pixel_count, table, *made);
+    }
+    for (size_t i = 0; i < *made; i++) {
+        const int *n = table[i].n, a = n[3];
+        const pix_srgba8 entry = {by_alpha(n[0], a), by_alpha(n[1], a), by_alpha(n[2], a), (uint8_t)a};
+        entries[i] = entry;
+    }
+    free(colors);
     return PIX_OK;
 }

@@ -52,15 +52,15 @@
  * Stack. A call takes no memory, so what it works with is on the stack of its thread. These are the
  * KiB that a thread's stack needs for each call, the thread's own frames among them:
  *
- *     320   pix_make_table_refined, pix_make_table_refined_alpha
- *     256   pix_map_indexed, pix_diffuse_indexed, and both with _alpha
+ *     256   pix_make_table_refined, pix_make_table_refined_alpha, pix_make_table_rgba,
+ *           pix_map_indexed, pix_map_indexed_alpha, and each pix_diffuse_indexed..
  *      96   pix_make_table, pix_make_table_alpha
+ *      64   pix_map_indexed_rgba
  *      32   pix_index_pixels
  *      16   all others
  *
  * Main threads have much more, and so have new threads under glibc. Under musl a new thread has 128
- * KiB unless it asks for more (pthread_attr_setstacksize). The calls in the first two lines need
- * that.
+ * KiB unless it asks for more (pthread_attr_setstacksize). The calls with 256 need that.
  *
  * Threads. Calls may run at once in different threads where none of them writes what another one
  * reads or writes. They may share sources, tables and lists of commands.
@@ -80,6 +80,7 @@
 #ifndef PIX_H
 #define PIX_H
 
+#include <stdbool.h>
 #include <stddef.h>
 #include <stdint.h>
 #include <string.h>
@@ -229,7 +230,8 @@ typedef enum {
     PIX_BAD_TABLE = 11, /* a table has no entry, or more than 256 */
     PIX_BAD_INDEX = 12, /* an index is past the end, or takes more bits than it is to have */
     PIX_BAD_DEPTH = 13, /* indices take 1, 2, 4 or 8 bits */
-    PIX_FULL_TABLE = 14 /* a table has no room for a color */
+    PIX_FULL_TABLE = 14, /* a table has no room for a color */
+    PIX_BAD_STRENGTH = 15 /* errors are diffused with a strength of 0 to 16 */
 } pix_status;
 
 /* A line of English that says what a status means. */
@@ -529,6 +531,27 @@ static inline pix_status pix_diffuse_indexed(pix_table table, const pix_srgb8 *p
 static inline pix_status pix_diffuse_indexed_alpha(pix_table table, const pix_srgba8 *pixels, size_t count, size_t width,
                                                    uint8_t alpha, uint8_t kept, pix_srgb8 *work, uint8_t *indices);
 
+/* How errors are diffused.
+ *
+ *   - `strength`, from 0 to 16, is how much of an error is passed on, in sixteenths. With less
+ *     there is less noise, and areas are less like the picture. With 0 each pixel gets its nearest
+ *     entry.
+ *   - With `serpentine` every second row goes from right to left: the second, the fourth and so on.
+ *     Left and right are exchanged there, also where an error goes. That breaks up the patterns of
+ *     rows that all go one way. */
+typedef struct { uint8_t strength; bool serpentine; } pix_diffusion;
+
+/* Do what pix_diffuse_indexed and pix_diffuse_indexed_alpha do, in the way that `how` says. These
+ * two have a strength of 16, and no row goes from right to left. What is wanted at a pixel is
+ * rounded once, after its share is multiplied. Return PIX_BAD_STRENGTH too where the strength is
+ * above 16, and PIX_BAD_LENGTH where `serpentine` rows are not whole: `count` is a multiple of
+ * `width` then. */
+static inline pix_status pix_diffuse_indexed_by(pix_table table, const pix_srgb8 *pixels, size_t count, size_t width,
+                                                pix_diffusion how, pix_srgb8 *work, uint8_t *indices);
+static inline pix_status pix_diffuse_indexed_by_alpha(pix_table table, const pix_srgba8 *pixels, size_t count, size_t width,
+                                                      uint8_t alpha, uint8_t kept, pix_diffusion how, pix_srgb8 *work,
+                                                      uint8_t *indices);
+
 /* Sets the color of each of `count` pixels in a table, one after the other, and writes its index.
  * That is the index of the entry that stands for the color, or of the next entry, which is then set
  * to the color. `entries` has room for `len` of them. `used` is how many are used, before and
@@ -567,6 +590,44 @@ static inline pix_status pix_pack_row(uint32_t bits, const uint8_t *indices, siz
 /* Unpacks a row of `count` indices from pix_row_size(bits, count) bytes. Bits that are left over
  * are not looked at. Returns PIX_OK, PIX_BAD_DEPTH, PIX_BAD_LENGTH, PIX_NULL or PIX_OVERLAP. */
 static inline pix_status pix_unpack_row(uint32_t bits, const uint8_t *bytes, size_t count, uint8_t *indices);
+
+/* ---- Tables of colors with an alpha ----
+ *
+ * For files whose tables have alphas, such as a PNG with the chunks PLTE and tRNS. Entries and
+ * pixels are as there: sRGB, and not multiplied by the alpha.
+ *
+ * Two pixels are compared as they are seen, over black and over white, in 8 bits. Over black a
+ * color is its product with the alpha, rounded to the nearest. Over white it is that and 255 less
+ * the alpha. The distance of two pixels is the sum of the squares of their six differences. So the
+ * color of a clear pixel does not count, and where all are opaque each call does what the one
+ * without _rgba does. */
+
+/* A table of `len` colors with an alpha, from 1 to 256. */
+typedef struct { const pix_srgba8 *entries; size_t len; } pix_table_rgba;
+
+static inline pix_table_rgba pix_table_rgba_of(const pix_srgba8 *entries, size_t len);
+
+/* Does what pix_make_table_refined does, with a table of colors with an alpha. Pixels that are seen
+ * alike have one entry. Boxes are cut by the alpha too, after red, green and blue over black. In a
+ * round an entry also stays where the mean of its colors would make their squared error greater.
+ * The colors of the table are divided by the alpha again, so that they are seen as just what was
+ * found. `work` has pix_table_work(count) pixels. */
+static inline pix_status pix_make_table_rgba(const pix_srgba8 *pixels, size_t count, uint8_t rounds, pix_srgba8 *work,
+                                             pix_srgba8 *entries, size_t len, size_t *made);
+
+/* Writes for each of `count` pixels the index of the entry that is seen nearest to it, the first of
+ * equals. Returns what pix_map_indexed does. */
+static inline pix_status pix_map_indexed_rgba(pix_table_rgba table, const pix_srgba8 *pixels, size_t count, uint8_t *indices);
+
+/* Does what pix_diffuse_indexed_by does, with a table of colors with an alpha. Errors are those of
+ * the colors over black and of the alpha. What is wanted of a color is at most what is wanted of
+ * the alpha. A clear pixel (alpha 0) gets the entry that is seen nearest to it, takes no share, and
+ * passes on no error. `work` has pix_diffusion_work(width) pixels. */
+static inline pix_status pix_diffuse_indexed_rgba(pix_table_rgba table, const pix_srgba8 *pixels, size_t count, size_t width,
+                                                  pix_diffusion how, pix_srgba8 *work, uint8_t *indices);
+
+/* Writes the entry of each of `count` indices, as pix_look_up does. */
+static inline pix_status pix_look_up_rgba(pix_table_rgba table, const uint8_t *indices, size_t count, pix_srgba8 *pixels);
 
 /* ---- The other kinds of pixels ---- */
 
@@ -698,6 +759,12 @@ uint32_t pix_table_diffuse(const pix_srgb8 *entries, size_t len, const pix_srgb8
 uint32_t pix_table_diffuse_alpha(const pix_srgb8 *entries, size_t len, const pix_srgba8 *pixels, size_t pixel_count,
                                  size_t width, uint8_t alpha, uint8_t kept, pix_srgb8 *work, size_t work_len, uint8_t *indices,
                                  size_t index_count);
+uint32_t pix_table_diffuse_by(const pix_srgb8 *entries, size_t len, const pix_srgb8 *pixels, size_t pixel_count, size_t width,
+                              uint8_t strength, uint8_t serpentine, pix_srgb8 *work, size_t work_len, uint8_t *indices,
+                              size_t index_count);
+uint32_t pix_table_diffuse_by_alpha(const pix_srgb8 *entries, size_t len, const pix_srgba8 *pixels, size_t pixel_count,
+                                    size_t width, uint8_t alpha, uint8_t kept, uint8_t strength, uint8_t serpentine,
+                                    pix_srgb8 *work, size_t work_len, uint8_t *indices, size_t index_count);
 uint32_t pix_table_index(pix_srgb8 *entries, size_t len, size_t *used, const pix_srgb8 *threshold, const pix_srgb8 *pixels,
                          size_t pixel_count, uint8_t *indices, size_t index_count);
 uint32_t pix_table_look_up(const pix_srgb8 *entries, size_t len, const uint8_t *indices, size_t index_count,
@@ -705,6 +772,15 @@ uint32_t pix_table_look_up(const pix_srgb8 *entries, size_t len, const uint8_t *
 uint32_t pix_table_count(const uint8_t *indices, size_t index_count, size_t *counts, size_t len);
 uint32_t pix_table_pack(uint32_t bits, const uint8_t *indices, size_t index_count, uint8_t *bytes, size_t byte_count);
 uint32_t pix_table_unpack(uint32_t bits, const uint8_t *bytes, size_t byte_count, uint8_t *indices, size_t index_count);
+uint32_t pix_table_rgba_from(const pix_srgba8 *pixels, size_t pixel_count, uint8_t rounds, pix_srgba8 *work, size_t work_len,
+                             pix_srgba8 *entries, size_t len, size_t *made);
+uint32_t pix_table_rgba_match(const pix_srgba8 *entries, size_t len, const pix_srgba8 *pixels, size_t pixel_count,
+                              uint8_t *indices, size_t index_count);
+uint32_t pix_table_rgba_diffuse(const pix_srgba8 *entries, size_t len, const pix_srgba8 *pixels, size_t pixel_count,
+                                size_t width, uint8_t strength, uint8_t serpentine, pix_srgba8 *work, size_t work_len,
+                                uint8_t *indices, size_t index_count);
+uint32_t pix_table_rgba_look_up(const pix_srgba8 *entries, size_t len, const uint8_t *indices, size_t index_count,
+                                pix_srgba8 *pixels, size_t pixel_count);
 
 /* Fact number `index` of the library. The first is its version; the sizes and offsets of PIX_FACTS_
  * in bytes follow, in that order. Past the last one it is UINT32_MAX. */
@@ -819,6 +895,7 @@ static inline const char *pix_status_text(pix_status status) {
     case PIX_BAD_INDEX: return "an index is past the end, or takes more bits than it is to have";
     case PIX_BAD_DEPTH: return "indices take 1, 2, 4 or 8 bits";
     case PIX_FULL_TABLE: return "a table has no room for a color";
+    case PIX_BAD_STRENGTH: return "errors are diffused with a strength of 0 to 16";
     }
     return "no such status";
 }
@@ -1238,27 +1315,28 @@ static inline size_t pix_diffusion_work(size_t width) {
     return width > (size_t)PTRDIFF_MAX / 16 ? SIZE_MAX : 4 * width;
 }
 
-/* Tests what a table is made of and in: each of the pixels is so many bytes. */
-static inline pix_status pix_makes_table_(const void *pixels, size_t size, pix_srgb8 *work, size_t count, pix_srgb8 *entries,
-                                          size_t len, size_t *made) {
-    const size_t bytes = count * size;
+/* Tests what a table is made of and in: each of the pixels is so many bytes, and each color of the work memory and of the
+ * entries is. */
+static inline pix_status pix_makes_table_(const void *pixels, size_t size, size_t count, const void *work, const void *entries,
+                                          size_t color_size, size_t len, const size_t *made) {
+    const size_t bytes = count * size, work_bytes = count * color_size, table_bytes = len * color_size;
     pix_status status = made ? PIX_OK : PIX_NULL;
     if (!len || len > 256)
         return PIX_BAD_TABLE;
     if (pix_too_many_(count))
         return PIX_BAD_LENGTH;
     if (status == PIX_OK)
-        status = pix_apart_(entries, len * sizeof *entries, pixels, bytes);
+        status = pix_apart_(entries, table_bytes, pixels, bytes);
     if (status == PIX_OK)
-        status = pix_apart_(work, count * sizeof *work, pixels, bytes);
+        status = pix_apart_(work, work_bytes, pixels, bytes);
     if (status == PIX_OK)
-        status = pix_apart_(work, count * sizeof *work, entries, len * sizeof *entries);
+        status = pix_apart_(work, work_bytes, entries, table_bytes);
     if (status == PIX_OK)
         status = pix_apart_(made, sizeof *made, pixels, bytes);
     if (status == PIX_OK)
-        status = pix_apart_(made, sizeof *made, work, count * sizeof *work);
+        status = pix_apart_(made, sizeof *made, work, work_bytes);
     if (status == PIX_OK)
-        status = pix_apart_(made, sizeof *made, entries, len * sizeof *entries);
+        status = pix_apart_(made, sizeof *made, entries, table_bytes);
     return status;
 }
 
@@ -1271,7 +1349,7 @@ static inline pix_status pix_make_table(const pix_srgb8 *pixels, size_t count, p
         pixels = &none;
         work = &nothing;
     }
-    status = pix_makes_table_(pixels, sizeof *pixels, work, count, entries, len, made);
+    status = pix_makes_table_(pixels, sizeof *pixels, count, work, entries, sizeof *entries, len, made);
     if (status != PIX_OK)
         return status;
     return (pix_status)pix_table_from(pixels, count, work, count, entries, len, made);
@@ -1286,7 +1364,7 @@ static inline pix_status pix_make_table_alpha(const pix_srgba8 *pixels, size_t c
         pixels = &none;
         work = &nothing;
     }
-    status = pix_makes_table_(pixels, sizeof *pixels, work, count, entries, len, made);
+    status = pix_makes_table_(pixels, sizeof *pixels, count, work, entries, sizeof *entries, len, made);
     if (status != PIX_OK)
         return status;
     return (pix_status)pix_table_from_alpha(pixels, count, alpha, work, count, entries, len, made);
@@ -1301,7 +1379,7 @@ static inline pix_status pix_make_table_refined(const pix_srgb8 *pixels, size_t 
         pixels = &none;
         work = &nothing;
     }
-    status = pix_makes_table_(pixels, sizeof *pixels, work, count, entries, len, made);
+    status = pix_makes_table_(pixels, sizeof *pixels, count, work, entries, sizeof *entries, len, made);
     if (status != PIX_OK)
         return status;
     return (pix_status)pix_table_refined(pixels, count, rounds, work, count, entries, len, made);
@@ -1316,42 +1394,54 @@ static inline pix_status pix_make_table_refined_alpha(const pix_srgba8 *pixels, 
         pixels = &none;
         work = &nothing;
     }
-    status = pix_makes_table_(pixels, sizeof *pixels, work, count, entries, len, made);
+    status = pix_makes_table_(pixels, sizeof *pixels, count, work, entries, sizeof *entries, len, made);
     if (status != PIX_OK)
         return status;
     return (pix_status)pix_table_refined_alpha(pixels, count, alpha, rounds, work, count, entries, len, made);
 }
 
-/* Tests what errors are diffused in: `pixels` are so many bytes. */
-static inline pix_status pix_diffuses_(pix_table table, const void *pixels, size_t bytes, pix_srgb8 *work, size_t work_len,
-                                       uint8_t *indices, size_t count) {
-    pix_status status = pix_apart_(indices, count, table.entries, table.len * sizeof *table.entries);
+/* Tests the way that errors are diffused, and the lengths. */
+static inline pix_status pix_diffuses_by_(pix_diffusion how, size_t count, size_t width) {
+    const size_t work_len = pix_diffusion_work(width);
+    if (how.strength > 16)
+        return PIX_BAD_STRENGTH;
+    if (pix_too_many_(count) || !work_len || work_len == SIZE_MAX || (how.serpentine && count % width))
+        return PIX_BAD_LENGTH;
+    return PIX_OK;
+}
+
+/* Tests what errors are diffused in. All but the indices are so many bytes. */
+static inline pix_status pix_diffuses_(const void *entries, size_t table_bytes, const void *pixels, size_t bytes,
+                                       const void *work, size_t work_bytes, const uint8_t *indices, size_t count) {
+    pix_status status = pix_apart_(indices, count, entries, table_bytes);
     if (status == PIX_OK)
         status = pix_apart_(indices, count, pixels, bytes);
     if (status == PIX_OK)
-        status = pix_apart_(work, work_len * sizeof *work, indices, count);
+        status = pix_apart_(work, work_bytes, indices, count);
     if (status == PIX_OK)
-        status = pix_apart_(work, work_len * sizeof *work, table.entries, table.len * sizeof *table.entries);
+        status = pix_apart_(work, work_bytes, entries, table_bytes);
     if (status == PIX_OK)
-        status = pix_apart_(work, work_len * sizeof *work, pixels, bytes);
+        status = pix_apart_(work, work_bytes, pixels, bytes);
     return status;
 }
 
 static inline pix_status pix_diffuse_indexed(pix_table table, const pix_srgb8 *pixels, size_t count, size_t width, pix_srgb8 *work,
                                              uint8_t *indices) {
+    const pix_diffusion how = {16, false};
     const pix_srgb8 none = {0, 0, 0};
+    const size_t work_len = pix_diffusion_work(width);
     uint8_t nothing = 0;
-    size_t work_len = pix_diffusion_work(width);
-    pix_status status;
+    pix_status status = pix_diffuses_by_(how, count, width);
     if (!table.len || table.len > 256)
         return PIX_BAD_TABLE;
-    if (pix_too_many_(count) || !work_len || work_len == SIZE_MAX)
-        return PIX_BAD_LENGTH;
+    if (status != PIX_OK)
+        return status;
     if (!count) {
         pixels = &none;
         indices = &nothing;
     }
-    status = pix_diffuses_(table, pixels, count * sizeof *pixels, work, work_len, indices, count);
+    status = pix_diffuses_(table.entries, table.len * sizeof *table.entries, pixels, count * sizeof *pixels, work,
+                           work_len * sizeof *work, indices, count);
     if (status != PIX_OK)
         return status;
     return (pix_status)pix_table_diffuse(table.entries, table.len, pixels, count, width, work, work_len, indices, count);
@@ -1359,28 +1449,80 @@ static inline pix_status pix_diffuse_indexed(pix_table table, const pix_srgb8 *p
 
 static inline pix_status pix_diffuse_indexed_alpha(pix_table table, const pix_srgba8 *pixels, size_t count, size_t width,
                                                    uint8_t alpha, uint8_t kept, pix_srgb8 *work, uint8_t *indices) {
+    const pix_diffusion how = {16, false};
     const pix_srgba8 none = {0, 0, 0, 0};
     const pix_srgb8 no_entry = {0, 0, 0};
+    const size_t work_len = pix_diffusion_work(width);
     uint8_t nothing = 0;
-    size_t work_len = pix_diffusion_work(width);
-    pix_status status;
+    pix_status status = pix_diffuses_by_(how, count, width);
     if (table.len > 256)
         return PIX_BAD_TABLE;
-    if (pix_too_many_(count) || !work_len || work_len == SIZE_MAX)
-        return PIX_BAD_LENGTH;
+    if (status != PIX_OK)
+        return status;
     if (!table.len)
         table.entries = &no_entry;
     if (!count) {
         pixels = &none;
         indices = &nothing;
     }
-    status = pix_diffuses_(table, pixels, count * sizeof *pixels, work, work_len, indices, count);
+    status = pix_diffuses_(table.entries, table.len * sizeof *table.entries, pixels, count * sizeof *pixels, work,
+                           work_len * sizeof *work, indices, count);
     if (status != PIX_OK)
         return status;
     if (!table.len)
         return pix_keep_all_(pixels, count, alpha, kept, indices);
     return (pix_status)pix_table_diffuse_alpha(table.entries, table.len, pixels, count, width, alpha, kept, work, work_len,
                                                indices, count);
+}
+
+static inline pix_status pix_diffuse_indexed_by(pix_table table, const pix_srgb8 *pixels, size_t count, size_t width,
+                                                pix_diffusion how, pix_srgb8 *work, uint8_t *indices) {
+    const pix_srgb8 none = {0, 0, 0};
+    const size_t work_len = pix_diffusion_work(width);
+    uint8_t nothing = 0;
+    pix_status status = pix_diffuses_by_(how, count, width);
+    if (!table.len || table.len > 256)
+        return PIX_BAD_TABLE;
+    if (status != PIX_OK)
+        return status;
+    if (!count) {
+        pixels = &none;
+        indices = &nothing;
+    }
+    status = pix_diffuses_(table.entries, table.len * sizeof *table.entries, pixels, count * sizeof *pixels, work,
+                           work_len * sizeof *work, indices, count);
+    if (status != PIX_OK)
+        return status;
+    return (pix_status)pix_table_diffuse_by(table.entries, table.len, pixels, count, width, how.strength, how.serpentine, work,
+                                            work_len, indices, count);
+}
+
+static inline pix_status pix_diffuse_indexed_by_alpha(pix_table table, const pix_srgba8 *pixels, size_t count, size_t width,
+                                                      uint8_t alpha, uint8_t kept, pix_diffusion how, pix_srgb8 *work,
+                                                      uint8_t *indices) {
+    const pix_srgba8 none = {0, 0, 0, 0};
+    const pix_srgb8 no_entry = {0, 0, 0};
+    const size_t work_len = pix_diffusion_work(width);
+    uint8_t nothing = 0;
+    pix_status status = pix_diffuses_by_(how, count, width);
+    if (table.len > 256)
+        return PIX_BAD_TABLE;
+    if (status != PIX_OK)
+        return status;
+    if (!table.len)
+        table.entries = &no_entry;
+    if (!count) {
+        pixels = &none;
+        indices = &nothing;
+    }
+    status = pix_diffuses_(table.entries, table.len * sizeof *table.entries, pixels, count * sizeof *pixels, work,
+                           work_len * sizeof *work, indices, count);
+    if (status != PIX_OK)
+        return status;
+    if (!table.len)
+        return pix_keep_all_(pixels, count, alpha, kept, indices);
+    return (pix_status)pix_table_diffuse_by_alpha(table.entries, table.len, pixels, count, width, alpha, kept, how.strength,
+                                                  how.serpentine, work, work_len, indices, count);
 }
 
 static inline pix_status pix_index_pixels(pix_srgb8 *entries, size_t len, size_t *used, pix_srgb8 threshold,
@@ -1489,6 +1631,91 @@ static inline pix_status pix_unpack_row(uint32_t bits, const uint8_t *bytes, siz
     if (status != PIX_OK)
         return status;
     return (pix_status)pix_table_unpack(bits, bytes, size, indices, count);
+}
+
+static inline pix_table_rgba pix_table_rgba_of(const pix_srgba8 *entries, size_t len) {
+    pix_table_rgba table;
+    table.entries = entries;
+    table.len = len;
+    return table;
+}
+
+static inline pix_status pix_make_table_rgba(const pix_srgba8 *pixels, size_t count, uint8_t rounds, pix_srgba8 *work,
+                                             pix_srgba8 *entries, size_t len, size_t *made) {
+    const pix_srgba8 none = {0, 0, 0, 0};
+    pix_srgba8 nothing = {0, 0, 0, 0};
+    pix_status status;
+    if (!count) {
+        pixels = &none;
+        work = &nothing;
+    }
+    status = pix_makes_table_(pixels, sizeof *pixels, count, work, entries, sizeof *entries, len, made);
+    if (status != PIX_OK)
+        return status;
+    return (pix_status)pix_table_rgba_from(pixels, count, rounds, work, count, entries, len, made);
+}
+
+static inline pix_status pix_map_indexed_rgba(pix_table_rgba table, const pix_srgba8 *pixels, size_t count, uint8_t *indices) {
+    const pix_srgba8 none = {0, 0, 0, 0};
+    uint8_t nothing = 0;
+    pix_status status;
+    if (!table.len || table.len > 256)
+        return PIX_BAD_TABLE;
+    if (pix_too_many_(count))
+        return PIX_BAD_LENGTH;
+    if (!count) {
+        pixels = &none;
+        indices = &nothing;
+    }
+    status = pix_apart_(indices, count, table.entries, table.len * sizeof *table.entries);
+    if (status == PIX_OK)
+        status = pix_apart_(indices, count, pixels, count * sizeof *pixels);
+    if (status != PIX_OK)
+        return status;
+    return (pix_status)pix_table_rgba_match(table.entries, table.len, pixels, count, indices, count);
+}
+
+static inline pix_status pix_diffuse_indexed_rgba(pix_table_rgba table, const pix_srgba8 *pixels, size_t count, size_t width,
+                                                  pix_diffusion how, pix_srgba8 *work, uint8_t *indices) {
+    const pix_srgba8 none = {0, 0, 0, 0};
+    const size_t work_len = pix_diffusion_work(width);
+    uint8_t nothing = 0;
+    pix_status status = pix_diffuses_by_(how, count, width);
+    if (!table.len || table.len > 256)
+        return PIX_BAD_TABLE;
+    if (status != PIX_OK)
+        return status;
+    if (!count) {
+        pixels = &none;
+        indices = &nothing;
+    }
+    status = pix_diffuses_(table.entries, table.len * sizeof *table.entries, pixels, count * sizeof *pixels, work,
+                           work_len * sizeof *work, indices, count);
+    if (status != PIX_OK)
+        return status;
+    return (pix_status)pix_table_rgba_diffuse(table.entries, table.len, pixels, count, width, how.strength, how.serpentine,
+                                              work, work_len, indices, count);
+}
+
+static inline pix_status pix_look_up_rgba(pix_table_rgba table, const uint8_t *indices, size_t count, pix_srgba8 *pixels) {
+    const pix_srgba8 no_entry = {0, 0, 0, 0};
+    pix_srgba8 none = {0, 0, 0, 0};
+    const uint8_t nothing = 0;
+    pix_status status;
+    if (pix_too_many_(count) || pix_too_many_(table.len))
+        return PIX_BAD_LENGTH;
+    if (!count) {
+        indices = &nothing;
+        pixels = &none;
+    }
+    if (!table.len)
+        table.entries = &no_entry;
+    status = pix_apart_(pixels, count * sizeof *pixels, table.entries, table.len * sizeof *table.entries);
+    if (status == PIX_OK)
+        status = pix_apart_(pixels, count * sizeof *pixels, indices, count);
+    if (status != PIX_OK)
+        return status;
+    return (pix_status)pix_table_rgba_look_up(table.entries, table.len, indices, count, pixels, count);
 }
 
 #undef PIX_ASSERT_

@@ -1,0 +1,260 @@
+/* What other.c makes of pixels with an alpha as they are seen, and of error diffusion, from the definitions alone: the loops of
+ * indexed.h, which the tests compare with, go other ways. */
+#ifndef PIX_OTHER_SEEN_H
+#define PIX_OTHER_SEEN_H
+#include "pix.h"
+#include <stdlib.h>
+
+/* Red, green and blue over black, and the alpha. Those of a pixel that is opaque are its own. */
+typedef struct { int n[4]; } seen;
+
+static seen seen_as(int r, int g, int b, int a) {
+    const seen it = {{(2 * r * a + 255) / 510, (2 * g * a + 255) / 510, (2 * b * a + 255) / 510, a}};
+    return it;
+}
+
+static seen opaque_seen(pix_srgb8 it) {
+    return seen_as(it.r, it.g, it.b, 255);
+}
+
+static seen pixel_seen(pix_srgba8 it) {
+    return seen_as(it.r, it.g, it.b, it.a);
+}
+
+/* The squared differences over black, and over white, which is darker by as much as the alpha is more. */
+static int64_t seen_apart(seen p, seen q) {
+    int64_t sum = 0;
+    for (int k = 0; k < 3; k++) {
+        const int black = p.n[k] - q.n[k], white = black - (p.n[3] - q.n[3]);
+        sum += black * black + white * white;
+    }
+    return sum;
+}
+
+static uint8_t seen_nearest(const seen *entries, size_t len, seen color) {
+    size_t at = 0;
+    for (size_t i = 1; i < len; i++)
+        if (seen_apart(entries[i], color) < seen_apart(entries[at], color))
+            at = i;
+    return (uint8_t)at;
+}
+
+/* So many elements of a size, all of them 0. */
+static void *zeros(size_t count, size_t size) {
+    void *made = calloc(count + 1, size);
+    if (!made)
+        abort();
+    return made;
+}
+
+static seen *all_seen(const pix_srgba8 *pixels, size_t count) {
+    seen *all = zeros(count, sizeof *all);
+    for (size_t i = 0; i < count; i++)
+        all[i] = pixel_seen(pixels[i]);
+    return all;
+}
+
+/* Pixels to be diffused, in rows: those that are set apart get the index `kept`, or that of the nearest entry. */
+typedef struct {
+    const seen *entries, *pixels;
+    const uint8_t *is_apart;
+    size_t len, count, width;
+    int kept, strength, serpentine;
+    seen *wanted, *found;
+} diffusion;
+
+/* What was wanted less what was found at the pixel that lies so far before pixel k, against the way of its row, in a channel. */
+static int miss(const diffusion *it, size_t k, long across, size_t up, int channel) {
+    const size_t row = k / it->width;
+    const long left = it->serpentine && row % 2 ? -across : across, column = (long)(k % it->width) + left;
+    size_t from;
+    if (up > row || column < 0 || column >= (long)it->width)
+        return 0;
+    from = (row - up) * it->width + (size_t)column;
+    return it->wanted[from].n[channel] - it->found[from].n[channel];
+}
+
+/* A number of pixel k, and its share of the errors of four pixels: rounded to the nearest, and clamped. In the row above, which
+ * may go the other way, the pixel that came before the one above it gives 1 sixteenth where both rows go one way. */
+static int shared(const diffusion *it, size_t k, int channel) {
+    const int behind = it->serpentine ? 3 : 1, ahead = it->serpentine ? 1 : 3;
+    const int sixteenths = 7 * miss(it, k, -1, 0, channel) + behind * miss(it, k, -1, 1, channel) + 5 * miss(it, k, 0, 1, channel)
+                           + ahead * miss(it, k, 1, 1, channel);
+    const int sum = 256 * it->pixels[k].n[channel] + 128 + it->strength * sixteenths;
+    return sum < 0 ? 0 : sum / 256 > 255 ? 255 : sum / 256;
+}
+
+static void diffuse_at(const diffusion *it, size_t k, uint8_t *indices) {
+    seen *wanted = &it->wanted[k];
+    if (it->is_apart[k]) {
+        indices[k] = it->kept < 0 ? seen_nearest(it->entries, it->len, it->pixels[k]) : (uint8_t)it->kept;
+        return;
+    }
+    wanted->n[3] = shared(it, k, 3);
+    for (int channel = 0; channel < 3; channel++) {
+        const int number = shared(it, k, channel);
+        wanted->n[channel] = number < wanted->n[3] ? number : wanted->n[3];
+    }
+    indices[k] = seen_nearest(it->entries, it->len, *wanted);
+    it->found[k] = it->entries[indices[k]];
+}
+
+static void diffuse_all(diffusion *it, uint8_t *indices) {
+    it->wanted = zeros(it->count, sizeof *it->wanted);
+    it->found = zeros(it->count, sizeof *it->found);
+    for (size_t row = 0; row * it->width < it->count; row++)
+        for (size_t i = 0; i < it->width; i++) {
+            const size_t k = row * it->width + (it->serpentine && row % 2 ? it->width - 1 - i : i);
+            if (k < it->count)
+                diffuse_at(it, k, indices);
+        }
+    free(it->wanted);
+    free(it->found);
+}
+
+/* ---- Tables of colors with an alpha ---- */
+
+/* How many colors there are, and the sums of their numbers: three over black, three over white, and the alpha. */
+typedef struct { uint64_t count, of[7]; } seen_sums;
+
+static void add_seen(seen_sums *sums, seen it) {
+    sums->count++;
+    for (int k = 0; k < 3; k++) {
+        sums->of[k] += (uint64_t)it.n[k];
+        sums->of[3 + k] += (uint64_t)(it.n[k] + 255 - it.n[3]);
+    }
+    sums->of[6] += (uint64_t)it.n[3];
+}
+
+/* The part of the sum of squares that the mean accounts for, over black and over white. For no more than eight million colors. */
+static uint64_t seen_weight(const seen_sums *it) {
+    uint64_t black = 0, white = 0;
+    for (int k = 0; k < 3; k++) {
+        black += it->of[k] * it->of[k];
+        white += it->of[3 + k] * it->of[3 + k];
+    }
+    return black / it->count + white / it->count;
+}
+
+static seen seen_mean(const seen_sums *it) {
+    seen mean;
+    for (int k = 0; k < 4; k++)
+        mean.n[k] = (int)((2 * it->of[k < 3 ? k : 6] + it->count) / (2 * it->count));
+    return mean;
+}
+
+/* A box, and its best cut. The channel is 4 where all of its colors are the same. */
+typedef struct { seen *colors; size_t count; int channel, value; uint64_t gain; seen_sums all; } seen_box;
+
+/* Compares the cuts of a box at all values of a channel with the best one, by the sums of the colors of each value. */
+static void cut_channel(seen_box *box, int channel) {
+    static const seen_sums none;
+    seen_sums values[256] = {{0, {0}}}, low = none;
+    const uint64_t whole = seen_weight(&box->all);
+    for (size_t i = 0; i < box->count; i++)
+        add_seen(&values[box->colors[i].n[channel]], box->colors[i]);
+    for (int value = 1; value < 256; value++) {
+        seen_sums high = box->all;
+        uint64_t parts;
+        low.count += values[value - 1].count;
+        high.count -= low.count;
+        for (int k = 0; k < 7; k++) {
+            low.of[k] += values[value - 1].of[k];
+            high.of[k] -= low.of[k];
+        }
+        if (!low.count || !high.count)
+            continue;
+        parts = seen_weight(&low) + seen_weight(&high);
+        parts = parts > whole ? parts - whole : 0;
+        if (box->channel == 4 || parts > box->gain) {
+            box->channel = channel;
+            box->value = value;
+            box->gain = parts;
+        }
+    }
+}
+
+static seen_box seen_box_of(seen *colors, size_t count) {
+    seen_box box = {colors, count, 4, 0, 0, {0, {0}}};
+    for (size_t i = 0; i < count; i++)
+        add_seen(&box.all, colors[i]);
+    for (int channel = 0; channel < 4; channel++)
+        cut_channel(&box, channel);
+    return box;
+}
+
+/* Cuts the box that gains most again and again, and writes the means of the boxes. */
+static size_t cut_seen(seen *colors, size_t count, seen *entries, size_t room) {
+    seen_box boxes[256];
+    size_t used = 1;
+    boxes[0] = seen_box_of(colors, count);
+    for (; used < room; used++) {
+        seen_box *most = NULL, cut;
+        size_t low = 0;
+        for (size_t i = 0; i < used; i++)
+            if (boxes[i].channel < 4 && (!most || boxes[i].gain > most->gain))
+                most = &boxes[i];
+        if (!most)
+            break;
+        cut = *most;
+        for (size_t i = 0; i < cut.count; i++)
+            if (cut.colors[i].n[cut.channel] < cut.value) {
+                const seen color = cut.colors[i];
+                cut.colors[i] = cut.colors[low];
+                cut.colors[low++] = color;
+            }
+        for (size_t i = used; boxes + i > most; i--)
+            boxes[i] = boxes[i - 1];
+        most[0] = seen_box_of(cut.colors, low);
+        most[1] = seen_box_of(cut.colors + low, cut.count - low);
+    }
+    for (size_t i = 0; i < used; i++)
+        entries[i] = seen_mean(&boxes[i].all);
+    return used;
+}
+
+/* Whether the squared error of colors, by their sums, is no greater to one color than to another. What both have is left out. */
+static int is_no_worse(const seen_sums *sums, seen one, seen other) {
+    seen_sums first = {0, {0}}, second = {0, {0}};
+    int64_t less = 0;
+    add_seen(&first, one);
+    add_seen(&second, other);
+    for (int k = 0; k < 6; k++) {
+        const int64_t x = (int64_t)first.of[k], y = (int64_t)second.of[k];
+        less += (int64_t)sums->count * (y * y - x * x) + 2 * (x - y) * (int64_t)sums->of[k];
+    }
+    return less >= 0;
+}
+
+static void round_seen(const seen *colors, size_t count, seen *entries, size_t used) {
+    seen_sums sums[256] = {{0, {0}}};
+    for (size_t i = 0; i < count; i++)
+        add_seen(&sums[seen_nearest(entries, used, colors[i])], colors[i]);
+    for (size_t i = 0; i < used; i++)
+        if (sums[i].count && is_no_worse(&sums[i], seen_mean(&sums[i]), entries[i]))
+            entries[i] = seen_mean(&sums[i]);
+}
+
+static int same_seen(seen p, seen q) {
+    return p.n[0] == q.n[0] && p.n[1] == q.n[1] && p.n[2] == q.n[2] && p.n[3] == q.n[3];
+}
+
+/* The distinct colors, or one more than there is room for. */
+static size_t distinct_seen(const seen *colors, size_t count, seen *entries, size_t room) {
+    size_t used = 0, j;
+    for (size_t i = 0; i < count; i++) {
+        for (j = 0; j < used && !same_seen(entries[j], colors[i]); j++) {}
+        if (j == room)
+            return room + 1;
+        if (j == used)
+            entries[used++] = colors[i];
+    }
+    return used;
+}
+
+/* A number by an alpha, to the nearest. */
+static uint8_t by_alpha(int number, int alpha) {
+    return (uint8_t)(alpha ? (510 * number + alpha) / (2 * alpha) : 0);
+}
+
+#endif
