@@ -222,48 +222,61 @@ static inline uint64_t plain_error(const pix_srgb8 *entries, size_t used, const 
     return error;
 }
 
-/* Hands on a part of an error, where the pixel is there. */
-static inline void plain_hand(int (*errors)[3], size_t count, size_t width, size_t from, long across, size_t down, int weight,
+/* Hands on a part of an error, where the pixel is there. The numbers are red, green, blue and, of pixels that are seen, alpha. */
+static inline void plain_hand(int (*errors)[4], size_t count, size_t width, size_t from, long across, size_t down, int weight,
                               const int *error) {
     long column = (long)(from % width) + across;
     size_t to = (from / width + down) * width + (size_t)column;
     int channel;
     if (column < 0 || column >= (long)width || to >= count)
         return;
-    for (channel = 0; channel < 3; channel++)
+    for (channel = 0; channel < 4; channel++)
         errors[to][channel] += weight * error[channel];
 }
 
-static inline uint8_t plain_corrected(int number, int sixteenths) {
-    int sum = 16 * number + 8 + sixteenths;
-    return (uint8_t)(sum < 0 ? 0 : sum / 16 > 255 ? 255 : sum / 16);
+/* Hands on an error from a pixel in a row that goes to the right, where `ahead` is 1, or to the left, where it is -1. */
+static inline void plain_hand_all(int (*errors)[4], size_t count, size_t width, size_t from, long ahead, const int *error) {
+    plain_hand(errors, count, width, from, ahead, 0, 7, error);
+    plain_hand(errors, count, width, from, -ahead, 1, 3, error);
+    plain_hand(errors, count, width, from, 0, 1, 5, error);
+    plain_hand(errors, count, width, from, ahead, 1, 1, error);
+}
+
+/* The place of a step in the order in which pixels are done, and which way its row goes. */
+static inline size_t plain_place(size_t step, size_t width, int serpentine, long *ahead) {
+    *ahead = serpentine && step / width % 2 ? -1 : 1;
+    return *ahead == 1 ? step : step - step % width + (width - 1 - step % width);
+}
+
+static inline uint8_t plain_corrected(int number, int sixteenths, int strength) {
+    int sum = 256 * number + 128 + strength * sixteenths;
+    return (uint8_t)(sum < 0 ? 0 : sum / 256 > 255 ? 255 : sum / 256);
 }
 
 /* Indices by error diffusion: each pixel hands its error on to those that come after it. */
 static inline void plain_diffuse(const pix_srgb8 *entries, size_t len, const pix_srgba8 *pixels, size_t count, size_t width,
-                                 uint8_t alpha, uint8_t kept, uint8_t *indices) {
-    int(*errors)[3] = calloc(count + 1, sizeof *errors);
-    size_t k;
+                                 uint8_t alpha, uint8_t kept, pix_diffusion how, uint8_t *indices) {
+    int(*errors)[4] = (int(*)[4])calloc(count + 1, sizeof *errors);
+    size_t step;
     if (!errors)
         abort();
-    for (k = 0; k < count; k++) {
+    for (step = 0; step < count; step++) {
+        long ahead;
+        const size_t k = plain_place(step, width, how.serpentine, &ahead);
         pix_srgb8 wanted;
-        int error[3];
+        int error[4] = {0, 0, 0, 0};
         if (pixels[k].a < alpha) {
             indices[k] = kept;
             continue;
         }
-        wanted.r = plain_corrected(pixels[k].r, errors[k][0]);
-        wanted.g = plain_corrected(pixels[k].g, errors[k][1]);
-        wanted.b = plain_corrected(pixels[k].b, errors[k][2]);
+        wanted.r = plain_corrected(pixels[k].r, errors[k][0], how.strength);
+        wanted.g = plain_corrected(pixels[k].g, errors[k][1], how.strength);
+        wanted.b = plain_corrected(pixels[k].b, errors[k][2], how.strength);
         indices[k] = plain_nearest(entries, len, wanted);
         error[0] = wanted.r - entries[indices[k]].r;
         error[1] = wanted.g - entries[indices[k]].g;
         error[2] = wanted.b - entries[indices[k]].b;
-        plain_hand(errors, count, width, k, 1, 0, 7, error);
-        plain_hand(errors, count, width, k, -1, 1, 3, error);
-        plain_hand(errors, count, width, k, 0, 1, 5, error);
-        plain_hand(errors, count, width, k, 1, 1, 1, error);
+        plain_hand_all(errors, count, width, k, ahead, error);
     }
     free(errors);
 }

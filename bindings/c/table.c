@@ -152,10 +152,15 @@ static void refined_refused(void) {
     check(pix_make_table_refined(NULL, 0, 255, NULL, entries, 2, &count) == PIX_OK && count == 0, "a refined table of no pixels");
 }
 
-static void diffused(size_t len, size_t width, size_t count) {
+/* Errors are diffused as by the plain loops, and in the way of old where the strength is 16 and no row goes to the left. Rows from
+ * right to left are whole. */
+static void diffused(size_t len, size_t width, size_t count, pix_diffusion how) {
+    const pix_diffusion old = {16, false};
     pix_srgb8 entries[ROOM];
     size_t i;
     pix_table table = pix_table_of(entries, len);
+    if (how.serpentine)
+        count -= count % width;
     for (i = 0; i < len; i++)
         entries[i] = random_color(256);
     for (i = 0; i < count; i++) {
@@ -168,12 +173,23 @@ static void diffused(size_t len, size_t width, size_t count) {
         pixels[i].b = with_alpha[i].b;
     }
     check(pix_diffusion_work(width) <= PIXELS, "work memory of the test");
-    plain_diffuse(entries, len, with_alpha, count, width, 0, 0, unpacked);
+    plain_diffuse(entries, len, with_alpha, count, width, 0, 0, old, unpacked);
     check(pix_diffuse_indexed(table, pixels, count, width, work, indices) == PIX_OK, "errors are diffused");
     check(!memcmp(indices, unpacked, count), "an index by error diffusion is another one");
-    plain_diffuse(entries, len, with_alpha, count, width, 150, 99, unpacked);
+    plain_diffuse(entries, len, with_alpha, count, width, 150, 99, old, unpacked);
     check(pix_diffuse_indexed_alpha(table, with_alpha, count, width, 150, 99, work, indices) == PIX_OK, "with an alpha");
     check(!memcmp(indices, unpacked, count), "an index by error diffusion with an alpha is another one");
+    plain_diffuse(entries, len, with_alpha, count, width, 0, 0, how, unpacked);
+    check(pix_diffuse_indexed_by(table, pixels, count, width, how, work, indices) == PIX_OK, "in a way");
+    check(!memcmp(indices, unpacked, count), "an index by error diffusion in a way is another one");
+    plain_diffuse(entries, len, with_alpha, count, width, 150, 99, how, unpacked);
+    check(pix_diffuse_indexed_by_alpha(table, with_alpha, count, width, 150, 99, how, work, indices) == PIX_OK, "both");
+    check(!memcmp(indices, unpacked, count), "an index by error diffusion in a way with an alpha is another one");
+    if (how.strength)
+        return;
+    check(pix_map_indexed(table, pixels, count, unpacked) == PIX_OK, "nearest entries");
+    check(pix_diffuse_indexed_by(table, pixels, count, width, how, work, indices) == PIX_OK, "without strength");
+    check(!memcmp(indices, unpacked, count), "an index without strength is not that of the nearest entry");
 }
 
 static void counted(void) {
@@ -250,6 +266,59 @@ static void made_refused(void) {
     check(pix_table_diffuse(entries, 2, some, 2, 0, room, 0, index, 2) == PIX_BAD_LENGTH, "no row");
     check(pix_table_diffuse(entries, 2, some, 2, 2, room, 8, index, 1) == PIX_BAD_LENGTH, "fewer indices than pixels to diffuse");
     check(index[0] == 9 && index[1] == 9 && entries[0].r == 1 && some[1].g == 1 && room[0].r == 5, "what is refused stays");
+}
+
+/* By hand: two rows of two pixels of 100, in black and white. 100 is black, and its neighbor, with 700 sixteenths, is 144 and white.
+ * From right to left the last pixel is the first of its row: it gets 100 - 555 sixteenths, is 72 and black, and hands 504 on. */
+static void diffused_by_hand(void) {
+    static const struct { pix_diffusion how; uint8_t indices[4]; } rows[] = {
+        {{16, false}, {0, 1, 0, 0}}, {{16, true}, {0, 1, 1, 0}}, {{8, true}, {0, 0, 1, 0}}, {{0, true}, {0, 0, 0, 0}}};
+    static const pix_srgb8 entries[2] = {{0, 0, 0}, {255, 255, 255}};
+    pix_srgb8 gray[4], room[8];
+    uint8_t found[4];
+    size_t i;
+    memset(gray, 100, sizeof gray);
+    for (i = 0; i < sizeof rows / sizeof *rows; i++) {
+        check(pix_diffuse_indexed_by(pix_table_of(entries, 2), gray, 4, 2, rows[i].how, room, found) == PIX_OK, "a row by hand");
+        check(!memcmp(found, rows[i].indices, sizeof found), "a row by hand is another one");
+    }
+}
+
+/* What is refused before the lengths is the strength, and before that the table; rows from right to left are whole. */
+static void diffused_refused(void) {
+    static const pix_diffusion strong = {17, false}, stronger = {255, true}, turning = {16, true}, straight = {16, false};
+    pix_srgb8 entries[2] = {{1, 2, 3}, {4, 5, 6}}, some[3] = {{7, 8, 9}, {1, 1, 1}, {2, 2, 2}}, room[8] = {{5, 5, 5}};
+    pix_srgba8 with[3] = {{1, 2, 3, 4}, {5, 6, 7, 8}, {9, 9, 9, 9}};
+    uint8_t index[3] = {9, 9, 9};
+    pix_table table = pix_table_of(entries, 2);
+    check(pix_diffuse_indexed_by(table, some, 3, 2, strong, room, index) == PIX_BAD_STRENGTH, "a strength of 17");
+    check(pix_diffuse_indexed_by(table, some, 3, 0, stronger, room, index) == PIX_BAD_STRENGTH, "a strength before a width");
+    check(pix_diffuse_indexed_by(pix_table_of(entries, 0), some, 3, 2, strong, room, index) == PIX_BAD_TABLE, "a table before it");
+    check(pix_diffuse_indexed_by(table, some, 3, 2, turning, room, index) == PIX_BAD_LENGTH, "a row that is not whole");
+    check(pix_diffuse_indexed_by(table, some, 3, 0, turning, room, index) == PIX_BAD_LENGTH, "no row from right to left");
+    check(pix_diffuse_indexed_by(table, some, 3, SIZE_MAX / 4 + 2, straight, room, index) == PIX_BAD_LENGTH, "too long a row");
+    check(pix_diffuse_indexed_by(table, some, SIZE_MAX / 2, 1, turning, room, index) == PIX_BAD_LENGTH, "too many pixels in a way");
+    check(pix_diffuse_indexed_by(table, some, 3, 1, turning, NULL, index) == PIX_NULL, "no work memory in a way");
+    check(pix_diffuse_indexed_by(table, NULL, 3, 1, turning, room, index) == PIX_NULL, "no pixels in a way");
+    check(pix_diffuse_indexed_by(table, some, 3, 1, turning, some, index) == PIX_OVERLAP, "in the pixels in a way");
+    check(pix_diffuse_indexed_by(table, some, 3, 1, turning, entries, index) == PIX_OVERLAP, "in the table in a way");
+    check(pix_diffuse_indexed_by(table, some, 3, 1, turning, room, &room[1].g) == PIX_OVERLAP, "in the work memory in a way");
+    check(pix_diffuse_indexed_by_alpha(table, with, 3, 2, 1, 7, strong, room, index) == PIX_BAD_STRENGTH, "with an alpha, 17");
+    check(pix_diffuse_indexed_by_alpha(table, with, 3, 2, 1, 7, turning, room, index) == PIX_BAD_LENGTH, "with an alpha, a row");
+    check(pix_diffuse_indexed_by_alpha(table, with, 3, 1, 1, 7, turning, NULL, index) == PIX_NULL, "with an alpha, no work memory");
+    check(pix_diffuse_indexed_by_alpha(table, with, 3, 1, 1, 7, turning, room, &with[2].a) == PIX_OVERLAP, "in pixels with an alpha");
+    check(pix_diffuse_indexed_by_alpha(pix_table_of(NULL, 0), with, 3, 3, 9, 7, turning, room, index) == PIX_BAD_TABLE, "counts");
+    check(pix_table_diffuse_by(entries, 2, some, 3, 2, 17, 0, room, 8, index, 1) == PIX_BAD_STRENGTH, "a strength in the archive");
+    check(pix_table_diffuse_by(entries, 0, some, 3, 2, 17, 0, room, 8, index, 3) == PIX_BAD_TABLE, "no table in the archive");
+    check(pix_table_diffuse_by(entries, 2, some, 3, 2, 16, 1, room, 8, index, 3) == PIX_BAD_LENGTH, "a row in the archive");
+    check(pix_table_diffuse_by(entries, 2, some, 2, 2, 16, 1, room, 7, index, 2) == PIX_BAD_LENGTH, "too little work memory");
+    check(pix_table_diffuse_by(entries, 2, some, 2, 2, 16, 1, room, 8, index, 3) == PIX_BAD_LENGTH, "more indices than pixels");
+    check(pix_table_diffuse_by_alpha(entries, 2, with, 3, 2, 1, 7, 17, 0, room, 8, index, 3) == PIX_BAD_STRENGTH, "with an alpha");
+    check(pix_table_diffuse_by_alpha(entries, 2, with, 3, 2, 1, 7, 16, 1, room, 8, index, 3) == PIX_BAD_LENGTH, "a row with alphas");
+    check(index[0] == 9 && index[2] == 9 && entries[0].r == 1 && some[1].g == 1 && room[0].r == 5, "what is refused diffuses none");
+    check(pix_diffuse_indexed_by_alpha(pix_table_of(NULL, 0), with, 3, 3, 10, 7, turning, room, index) == PIX_OK, "all are clear");
+    check(index[0] == 7 && index[1] == 7 && index[2] == 7, "indices of clear pixels in a way");
+    check(pix_diffuse_indexed_by(table, NULL, 0, 2, turning, room, NULL) == PIX_OK, "no pixels to diffuse in a way");
 }
 
 /* A clear picture makes a table of no entry, and that serves it; a pixel that counts has no entry there. */
@@ -363,6 +432,7 @@ static void refused(void) {
     check(pix_pack_row(1, &past, 1, &past) == PIX_OVERLAP, "a row over itself");
     made_refused();
     refined_refused();
+    diffused_refused();
     cleared();
     indexed_refused();
     /* The calls themselves test lengths. */
@@ -377,6 +447,7 @@ int main(void) {
     static const size_t lengths[] = {1, 2, 3, 16, 17, 255, 256};
     static const unsigned levels[] = {2, 4, 256};
     static const uint32_t depths[] = {1, 2, 4, 8};
+    static const pix_diffusion ways[] = {{16, true}, {7, false}, {16, false}, {0, true}, {1, true}, {12, true}};
     size_t i, j;
     for (i = 0; i < sizeof lengths / sizeof *lengths; i++)
         for (j = 0; j < sizeof levels / sizeof *levels; j++)
@@ -395,7 +466,8 @@ int main(void) {
             indexed(lengths[i], levels[j % 3], j < 3 ? 0 : (unsigned)(j * j * 3));
     for (i = 1; i < 40; i++)
         for (j = 1; j < 4; j++)
-            diffused(j * j * 28, i, i * j * 3 + i % 3);
+            diffused(j * j * 28, i, i * j * 3 + i % 3, ways[(i + j) % 6]);
+    diffused_by_hand();
     refused();
     if (!failures)
         printf("tables of colors: the same as plain loops\n");
