@@ -20,9 +20,9 @@
 //!
 //! | KiB | calls |
 //! |--:|---|
-//! | 320 | `pix_table_refined`, `pix_table_refined_alpha` |
-//! | 256 | `pix_table_match`, `pix_table_diffuse`, and both with `_alpha` |
+//! | 256 | `pix_table_refined`, `pix_table_match`, and both with `_alpha`; `pix_table_rgba_from`, and each `pix_table_.._diffuse..` |
 //! | 96 | `pix_table_from`, `pix_table_from_alpha` |
+//! | 64 | `pix_table_rgba_match` |
 //! | 32 | `pix_table_index` |
 //! | 16 | all others |
 //!
@@ -30,8 +30,10 @@
 #![no_std]
 
 mod library;
+mod table;
 
 pub use crate::library::{LibraryFault, check_library};
+pub use crate::table::*;
 
 use core::mem::{offset_of, size_of};
 
@@ -182,6 +184,7 @@ pub mod status {
     pub const BAD_INDEX: u32 = 12;
     pub const BAD_DEPTH: u32 = 13;
     pub const FULL_TABLE: u32 = 14;
+    pub const BAD_STRENGTH: u32 = 15;
 }
 
 /// A function that runs commands on pixels `P` with mattes `M`.
@@ -312,216 +315,6 @@ unsafe extern "C" {
         commands: *const Command<Graya8, u8>,
         command_count: usize,
         done: *mut usize,
-    ) -> u32;
-
-    /// Writes the index of the entry of a table that is nearest to a color.
-    ///
-    /// # Safety
-    ///
-    /// The [duties](crate#duties) are met.
-    pub fn pix_table_nearest(
-        entries: *const Srgb8,
-        len: usize,
-        color: *const Srgb8,
-        index: *mut u8,
-    ) -> u32;
-
-    /// Writes the index of the nearest entry of each pixel.
-    ///
-    /// # Safety
-    ///
-    /// The [duties](crate#duties) are met.
-    pub fn pix_table_match(
-        entries: *const Srgb8,
-        len: usize,
-        pixels: *const Srgb8,
-        pixel_count: usize,
-        indices: *mut u8,
-        index_count: usize,
-    ) -> u32;
-
-    /// The same of pixels with an alpha: one below `alpha` has the index `kept`.
-    ///
-    /// # Safety
-    ///
-    /// The [duties](crate#duties) are met.
-    pub fn pix_table_match_alpha(
-        entries: *const Srgb8,
-        len: usize,
-        pixels: *const Srgba8,
-        pixel_count: usize,
-        alpha: u8,
-        kept: u8,
-        indices: *mut u8,
-        index_count: usize,
-    ) -> u32;
-
-    /// Writes a table of the colors of pixels, and how many entries it has.
-    ///
-    /// # Safety
-    ///
-    /// The [duties](crate#duties) are met.
-    pub fn pix_table_from(
-        pixels: *const Srgb8,
-        pixel_count: usize,
-        work: *mut Srgb8,
-        work_len: usize,
-        entries: *mut Srgb8,
-        len: usize,
-        made: *mut usize,
-    ) -> u32;
-
-    /// The same of pixels with an alpha: those below `alpha` do not count.
-    ///
-    /// # Safety
-    ///
-    /// The [duties](crate#duties) are met.
-    pub fn pix_table_from_alpha(
-        pixels: *const Srgba8,
-        pixel_count: usize,
-        alpha: u8,
-        work: *mut Srgb8,
-        work_len: usize,
-        entries: *mut Srgb8,
-        len: usize,
-        made: *mut usize,
-    ) -> u32;
-
-    /// Writes what `pix_table_from` does, refined by so many rounds.
-    ///
-    /// # Safety
-    ///
-    /// The [duties](crate#duties) are met.
-    pub fn pix_table_refined(
-        pixels: *const Srgb8,
-        pixel_count: usize,
-        rounds: u8,
-        work: *mut Srgb8,
-        work_len: usize,
-        entries: *mut Srgb8,
-        len: usize,
-        made: *mut usize,
-    ) -> u32;
-
-    /// The same of pixels with an alpha: those below `alpha` do not count.
-    ///
-    /// # Safety
-    ///
-    /// The [duties](crate#duties) are met.
-    pub fn pix_table_refined_alpha(
-        pixels: *const Srgba8,
-        pixel_count: usize,
-        alpha: u8,
-        rounds: u8,
-        work: *mut Srgb8,
-        work_len: usize,
-        entries: *mut Srgb8,
-        len: usize,
-        made: *mut usize,
-    ) -> u32;
-
-    /// Writes the index of each pixel of rows of `width` by error diffusion.
-    ///
-    /// # Safety
-    ///
-    /// The [duties](crate#duties) are met.
-    pub fn pix_table_diffuse(
-        entries: *const Srgb8,
-        len: usize,
-        pixels: *const Srgb8,
-        pixel_count: usize,
-        width: usize,
-        work: *mut Srgb8,
-        work_len: usize,
-        indices: *mut u8,
-        index_count: usize,
-    ) -> u32;
-
-    /// The same of pixels with an alpha: one below `alpha` has the index `kept`, and hands on no error.
-    ///
-    /// # Safety
-    ///
-    /// The [duties](crate#duties) are met.
-    pub fn pix_table_diffuse_alpha(
-        entries: *const Srgb8,
-        len: usize,
-        pixels: *const Srgba8,
-        pixel_count: usize,
-        width: usize,
-        alpha: u8,
-        kept: u8,
-        work: *mut Srgb8,
-        work_len: usize,
-        indices: *mut u8,
-        index_count: usize,
-    ) -> u32;
-
-    /// Sets the color of each pixel in a table, and writes its index and how many entries are used.
-    ///
-    /// # Safety
-    ///
-    /// The [duties](crate#duties) are met.
-    pub fn pix_table_index(
-        entries: *mut Srgb8,
-        len: usize,
-        used: *mut usize,
-        threshold: *const Srgb8,
-        pixels: *const Srgb8,
-        pixel_count: usize,
-        indices: *mut u8,
-        index_count: usize,
-    ) -> u32;
-
-    /// Writes the entry of each index.
-    ///
-    /// # Safety
-    ///
-    /// The [duties](crate#duties) are met.
-    pub fn pix_table_look_up(
-        entries: *const Srgb8,
-        len: usize,
-        indices: *const u8,
-        index_count: usize,
-        pixels: *mut Srgb8,
-        pixel_count: usize,
-    ) -> u32;
-
-    /// Writes how often each number below `len` stands among the indices.
-    ///
-    /// # Safety
-    ///
-    /// The [duties](crate#duties) are met.
-    pub fn pix_table_count(
-        indices: *const u8,
-        index_count: usize,
-        counts: *mut usize,
-        len: usize,
-    ) -> u32;
-
-    /// Packs a row of indices into bytes.
-    ///
-    /// # Safety
-    ///
-    /// The [duties](crate#duties) are met.
-    pub fn pix_table_pack(
-        bits: u32,
-        indices: *const u8,
-        index_count: usize,
-        bytes: *mut u8,
-        byte_count: usize,
-    ) -> u32;
-
-    /// Unpacks a row of indices from bytes.
-    ///
-    /// # Safety
-    ///
-    /// The [duties](crate#duties) are met.
-    pub fn pix_table_unpack(
-        bits: u32,
-        bytes: *const u8,
-        byte_count: usize,
-        indices: *mut u8,
-        index_count: usize,
     ) -> u32;
 
     /// Converts `count` pixels from a format to another one.

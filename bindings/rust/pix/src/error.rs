@@ -23,8 +23,8 @@ pub enum Error {
     Format,
     /// In place, a pixel would be larger.
     Larger,
-    /// Lengths don't go together: bytes that are not those of so many whole pixels, more or fewer indices than pixels, or
-    /// work memory of another length.
+    /// Lengths don't go together: bytes that are not those of so many whole pixels, more or fewer indices than pixels, work
+    /// memory of another length, or serpentine rows that are not whole.
     Length,
     /// A table of colors has no entry, or more than 256.
     Table,
@@ -32,6 +32,8 @@ pub enum Error {
     Index,
     /// A table has no room for a color.
     Full,
+    /// Errors are diffused with a strength of 0 to 16.
+    Strength,
     /// The processor is none of x86-64 with SSE4.1, and none of aarch64.
     Processor,
     /// The archive has another version or layout than the crate `pix-sys`.
@@ -52,6 +54,7 @@ impl Error {
             status::BAD_TABLE => Error::Table,
             status::BAD_INDEX => Error::Index,
             status::FULL_TABLE => Error::Full,
+            status::BAD_STRENGTH => Error::Strength,
             _ => Error::Unknown { status, index },
         }
     }
@@ -95,6 +98,7 @@ impl fmt::Display for Error {
                 f.write_str("an index is past the end, or takes more bits than it is to have")
             }
             Error::Full => f.write_str("a table has no room for a color"),
+            Error::Strength => f.write_str("errors are diffused with a strength of 0 to 16"),
             Error::Processor => LibraryFault::Processor.fmt(f),
             Error::Library => LibraryFault::Archive.fmt(f),
             Error::Unknown { status, index } => write!(f, "command {index}: status {status}"),

@@ -34,23 +34,26 @@
 //! or another language has too. Nothing else writes it while it is borrowed. Nothing else reads it while it is borrowed to
 //! be written. Both hold for each address of that memory.
 //!
-//! A call takes up to 256 KiB of stack to match pixels to a table ([`Table::map_indexed`], [`Table::diffuse_indexed`]), and 320
-//! for [`make_table_refined`]. It takes 96 KiB for [`make_table`], 32 for [`index_pixels`] and 16 for all else. Threads of `std`
-//! have 2 MiB.
+//! A call takes up to 256 KiB of stack to match pixels to a table ([`Table::map_indexed`], [`Table::diffuse_indexed`],
+//! [`TableRgba::diffuse_indexed`]), and for [`make_table_refined`] and [`make_table_rgba`]. It takes 96 KiB for [`make_table`], 64
+//! for [`TableRgba::map_indexed`], 32 for [`index_pixels`] and 16 for all else. Threads of `std` have 2 MiB.
 //!
 //! docs/PROMISES.md of the repository lists all calls in four languages, and what is proved of each.
 #![no_std]
 
 mod bitmap;
 mod command;
+mod diffusion;
 mod error;
 mod format;
 mod image;
 mod pixel;
 mod table;
+mod table_rgba;
 
 pub use crate::bitmap::{Bitmap, BitmapMut};
 pub use crate::command::{Command, Op};
+pub use crate::diffusion::Diffusion;
 pub use crate::error::Error;
 pub use crate::format::{Format, convert};
 pub use crate::image::{Bands, Image, ImageMut};
@@ -59,3 +62,4 @@ pub use crate::table::{
     IndexDepth, Srgb8, Srgba8, Table, count_indices, diffusion_work, index_pixels, make_table,
     make_table_alpha, make_table_refined, make_table_refined_alpha, pack_row, unpack_row,
 };
+pub use crate::table_rgba::{TableRgba, make_table_rgba};

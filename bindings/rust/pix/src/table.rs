@@ -39,7 +39,7 @@ impl IndexDepth {
 }
 
 /// What a status says.
-fn done(answer: u32) -> Result<(), Error> {
+pub(crate) fn done(answer: u32) -> Result<(), Error> {
     if answer == status::OK {
         Ok(())
     } else {

@@ -2,8 +2,9 @@
 #![forbid(unsafe_code)]
 
 use pix::{
-    Bitmap, BitmapMut, Command, Error, Format, Graya8, Image, ImageMut, Op, Pixel, Region, Rgba8,
-    Rgba16, Srgb8, Table, convert, diffusion_work,
+    Bitmap, BitmapMut, Command, Diffusion, Error, Format, Graya8, Image, ImageMut, Op, Pixel,
+    Region, Rgba8, Rgba16, Srgb8, Srgba8, Table, TableRgba, convert, diffusion_work,
+    make_table_rgba,
 };
 use std::time::{Duration, Instant};
 
@@ -143,5 +144,16 @@ fn rows_of_indices() {
     let no_row = at_once(|| table.diffuse_indexed(&[], 0, &mut [], &mut []));
     assert_eq!(no_row, Err(Error::Length));
     let no_pixel = at_once(|| table.diffuse_indexed(&[], 1 << 20, &mut work, &mut []));
+    assert_eq!(no_pixel, Ok(()));
+    let how = Diffusion { strength: 16, serpentine: true };
+    let turned = at_once(|| table.diffuse_indexed_by(&[], 1 << 20, how, &mut work, &mut []));
+    assert_eq!(turned, Ok(()));
+    let mut entries = [Srgba8::new(1, 2, 3, 4)];
+    let made = at_once(|| make_table_rgba(&[], 255, &mut [], &mut entries).map(<[_]>::len));
+    assert_eq!(made, Ok(0));
+    let table = TableRgba::new(&entries).unwrap();
+    let mut work = vec![Srgba8::default(); diffusion_work(1 << 20).unwrap()];
+    assert_eq!(at_once(|| table.map_indexed(&[], &mut [])), Ok(()));
+    let no_pixel = at_once(|| table.diffuse_indexed(&[], 1 << 20, how, &mut work, &mut []));
     assert_eq!(no_pixel, Ok(()));
 }

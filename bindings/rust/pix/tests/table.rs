@@ -1,9 +1,9 @@
 //! Tables of colors beside plain loops, and what is refused.
 
 use pix::{
-    Error, IndexDepth, Srgb8, Srgba8, Table, count_indices, diffusion_work, index_pixels,
-    make_table, make_table_alpha, make_table_refined, make_table_refined_alpha, pack_row,
-    unpack_row,
+    Diffusion, Error, IndexDepth, Srgb8, Srgba8, Table, TableRgba, count_indices, diffusion_work,
+    index_pixels, make_table, make_table_alpha, make_table_refined, make_table_refined_alpha,
+    make_table_rgba, pack_row, unpack_row,
 };
 
 /// Bytes that look random.
@@ -179,6 +179,181 @@ fn diffused_errors() {
     }
     assert_eq!(indices, [0, 1, 0, 0]);
     assert_eq!(diffusion_work(usize::MAX / 2), None);
+}
+
+#[test]
+fn errors_diffused_in_a_way() {
+    let gray = |v| Srgb8::new(v, v, v);
+    let entries = [gray(0), gray(255)];
+    let table = Table::new(&entries).unwrap();
+    let mut work = vec![gray(0); 8];
+    let mut indices = [9; 4];
+    let shades = [255, 255, 50, 255].map(|alpha| Srgba8::new(100, 100, 100, alpha));
+    // By hand: two rows of two pixels, and the third of the four set apart by its alpha. Its row goes from right to left where
+    // it is serpentine: the last pixel gets 100 - 555 sixteenths before it. With 8 of 16 it gets 710 sixteenths, halved.
+    for (strength, serpentine, wanted) in [
+        (16, false, [0, 1, 0, 0]),
+        (16, true, [0, 1, 1, 0]),
+        (8, true, [0, 0, 1, 0]),
+        (0, true, [0, 0, 0, 0]),
+    ] {
+        let how = Diffusion { strength, serpentine };
+        table
+            .diffuse_indexed_by(&[gray(100); 4], 2, how, &mut work, &mut indices)
+            .unwrap();
+        assert_eq!(indices, wanted);
+        let (alpha, kept) = (51, 7);
+        table
+            .diffuse_indexed_by_alpha(&shades, 2, alpha, kept, how, &mut work, &mut indices)
+            .unwrap();
+        assert_eq!(indices, [0, wanted[1], 7, 0]);
+    }
+    // Of three pixels in a row that goes from right to left, the one on the left gets what the other two hand on.
+    let (mut row, mut work) = ([9; 6], vec![gray(0); 12]);
+    let pixels = [0, 0, 0, 100, 100, 100].map(|v| Srgba8::new(v, v, v, 255));
+    let how = Diffusion { serpentine: true, ..Diffusion::default() };
+    table
+        .diffuse_indexed_by_alpha(&pixels, 3, 0, 0, how, &mut work, &mut row)
+        .unwrap();
+    assert_eq!(row, [0, 0, 0, 0, 1, 0]);
+    let before = indices;
+    let strong = Diffusion { strength: 17, ..how };
+    let mut diffuse = |count: usize, width, how, indices: &mut [u8]| {
+        table.diffuse_indexed_by(&[gray(1); 4][..count], width, how, &mut work[..8], indices)
+    };
+    assert_eq!(diffuse(4, 0, strong, &mut indices), Err(Error::Strength));
+    assert_eq!(diffuse(3, 2, how, &mut indices[..3]), Err(Error::Length));
+    assert_eq!(diffuse(4, 3, how, &mut indices), Err(Error::Length));
+    assert_eq!(diffuse(4, 2, how, &mut indices[..3]), Err(Error::Length));
+    let refused =
+        table.diffuse_indexed_by_alpha(&shades, 2, 1, 2, strong, &mut work[..8], &mut indices);
+    assert_eq!(refused, Err(Error::Strength));
+    assert_eq!(indices, before);
+}
+
+/// How far two pixels are seen apart: over black, and over white.
+fn seen_distance(p: Srgba8, q: Srgba8) -> i32 {
+    let seen = |pixel: Srgba8, ground: i32| {
+        [pixel.r, pixel.g, pixel.b].map(|v| {
+            let product = (i32::from(v) * i32::from(pixel.a) + 127) / 255;
+            product + ground * (255 - i32::from(pixel.a))
+        })
+    };
+    let apart = |ground| {
+        let (p, q) = (seen(p, ground), seen(q, ground));
+        (0..3).map(|k| (p[k] - q[k]).pow(2)).sum::<i32>()
+    };
+    apart(0) + apart(1)
+}
+
+#[test]
+fn tables_with_an_alpha() {
+    for (len, mask) in [(1, 255), (16, 0xc0), (255, 255), (256, 0xf0)] {
+        let mut next = bytes(len as u32 + 1);
+        let mut pixel = |mask: u8| {
+            let mut number = || next() & mask;
+            Srgba8::new(number(), number(), number(), number())
+        };
+        let entries: Vec<Srgba8> = (0..len).map(|_| pixel(mask)).collect();
+        let pixels: Vec<Srgba8> = (0..3000)
+            .map(|i| pixel(if i % 2 == 0 { mask } else { 255 }))
+            .collect();
+        let table = TableRgba::new(&entries).unwrap();
+        let mut indices = vec![9; pixels.len()];
+        table.map_indexed(&pixels, &mut indices).unwrap();
+        for (pixel, index) in pixels.iter().zip(&indices) {
+            // min_by_key answers the first of equals.
+            let plain = (0..len).min_by_key(|at| seen_distance(entries[*at], *pixel));
+            assert_eq!(Some(usize::from(*index)), plain);
+        }
+        let mut shown = vec![Srgba8::default(); pixels.len()];
+        table.look_up(&indices, &mut shown).unwrap();
+        for (pixel, index) in shown.iter().zip(&indices) {
+            assert_eq!(*pixel, entries[usize::from(*index)]);
+        }
+        // Without strength, errors are not diffused.
+        let (how, mut work) = (Diffusion { strength: 0, serpentine: true }, vec![pixels[0]; 400]);
+        let mut diffused = vec![9; pixels.len()];
+        table
+            .diffuse_indexed(&pixels, 100, how, &mut work, &mut diffused)
+            .unwrap();
+        assert_eq!(diffused, indices);
+    }
+}
+
+#[test]
+fn opaque_tables_with_an_alpha() {
+    let mut next = bytes(5);
+    let colors: Vec<Srgb8> = (0..600)
+        .map(|_| Srgb8::new(next(), next() / 2, next() / 4))
+        .collect();
+    let opaque = |c: &Srgb8| Srgba8::new(c.r, c.g, c.b, 255);
+    let pixels: Vec<Srgba8> = colors.iter().map(opaque).collect();
+    let (mut work, mut entries) = (vec![Srgb8::default(); 600], [Srgb8::default(); 31]);
+    let (mut room, mut slots) = (vec![Srgba8::default(); 600], [Srgba8::default(); 31]);
+    for rounds in [0, 1, 4] {
+        let plain = make_table_refined(&colors, rounds, &mut work, &mut entries).unwrap();
+        let made = make_table_rgba(&pixels, rounds, &mut room, &mut slots).unwrap();
+        assert_eq!(made, plain.iter().map(opaque).collect::<Vec<_>>());
+        let (table, with_alpha) = (Table::new(plain).unwrap(), TableRgba::new(made).unwrap());
+        let (mut one, mut other) = ([0; 600], [1; 600]);
+        for (strength, serpentine) in [(16, false), (16, true), (5, true), (11, false)] {
+            let how = Diffusion { strength, serpentine };
+            table
+                .diffuse_indexed_by(&colors, 30, how, &mut work[..120], &mut one)
+                .unwrap();
+            with_alpha
+                .diffuse_indexed(&pixels, 30, how, &mut room[..120], &mut other)
+                .unwrap();
+            assert_eq!(one, other);
+        }
+    }
+}
+
+#[test]
+fn tables_with_an_alpha_by_hand() {
+    let mut work = [Srgba8::default(); 4];
+    let mut entries = [Srgba8::new(7, 7, 7, 7); 4];
+    let some = [(200, 128), (255, 255), (9, 0), (0, 0)].map(|(v, a)| Srgba8::new(v, v, v, a));
+    // 200 at 128 is 100 over black, and 100 at 128 is nearest to 199.
+    let made = make_table_rgba(&some, 0, &mut work, &mut entries).unwrap();
+    assert_eq!(made, [(199, 128), (255, 255), (0, 0)].map(|(v, a)| Srgba8::new(v, v, v, a)));
+    // A clear pixel and an opaque white one make half of white.
+    let made = make_table_rgba(&some[1..3], 0, &mut work, &mut entries[..1]).unwrap();
+    assert_eq!(made, [Srgba8::new(255, 255, 255, 128)]);
+    let before = (work, entries);
+    let mut large = [some[0]; 257];
+    let short = make_table_rgba(&some, 1, &mut work[..3], &mut entries);
+    assert_eq!(short, Err(Error::Length));
+    assert_eq!(make_table_rgba(&some, 1, &mut work, &mut []), Err(Error::Table));
+    assert_eq!(make_table_rgba(&some, 1, &mut work, &mut large), Err(Error::Table));
+    assert_eq!(TableRgba::new(&[]).unwrap_err(), Error::Table);
+    assert_eq!(TableRgba::new(&large).unwrap_err(), Error::Table);
+    let table = TableRgba::new(&some[..2]).unwrap();
+    assert_eq!(table.entries(), &some[..2]);
+    let (mut indices, mut pixels) = ([2; 2], [some[3]; 2]);
+    assert_eq!(table.map_indexed(&some, &mut indices), Err(Error::Length));
+    assert_eq!(table.look_up(&[0, 2], &mut pixels), Err(Error::Index));
+    assert_eq!(table.look_up(&[0], &mut pixels), Err(Error::Length));
+    let strong = Diffusion { strength: 17, serpentine: false };
+    let refused = table.diffuse_indexed(&some[..2], 0, strong, &mut work, &mut indices);
+    assert_eq!(refused, Err(Error::Strength));
+    let turning = Diffusion { strength: 16, serpentine: true };
+    let refused = table.diffuse_indexed(&some[..2], 4, turning, &mut [some[0]; 16], &mut indices);
+    assert_eq!(refused, Err(Error::Length));
+    assert_eq!((work, entries, indices, pixels), (before.0, before.1, [2; 2], [some[3]; 2]));
+}
+
+/// By hand: a table with a round that moves its entries.
+#[test]
+fn rounds_with_an_alpha() {
+    let gray = |v| Srgba8::new(v, v, v, 255);
+    let pixels = [80, 110, 160, 60, 0, 190].map(gray);
+    let (mut work, mut entries) = ([gray(0); 6], [gray(0); 3]);
+    for (rounds, wanted) in [(0, [0, 70, 153]), (1, [0, 83, 175]), (255, [0, 83, 175])] {
+        let made = make_table_rgba(&pixels, rounds, &mut work, &mut entries).unwrap();
+        assert_eq!(made, wanted.map(gray));
+    }
 }
 
 #[test]

@@ -1,0 +1,318 @@
+//! The functions on tables of colors.
+
+use crate::{Srgb8, Srgba8};
+
+unsafe extern "C" {
+    /// Writes the index of the entry of a table that is nearest to a color.
+    ///
+    /// # Safety
+    ///
+    /// The [duties](crate#duties) are met.
+    pub fn pix_table_nearest(
+        entries: *const Srgb8,
+        len: usize,
+        color: *const Srgb8,
+        index: *mut u8,
+    ) -> u32;
+
+    /// Writes the index of the nearest entry of each pixel.
+    ///
+    /// # Safety
+    ///
+    /// The [duties](crate#duties) are met.
+    pub fn pix_table_match(
+        entries: *const Srgb8,
+        len: usize,
+        pixels: *const Srgb8,
+        pixel_count: usize,
+        indices: *mut u8,
+        index_count: usize,
+    ) -> u32;
+
+    /// The same of pixels with an alpha: one below `alpha` has the index `kept`.
+    ///
+    /// # Safety
+    ///
+    /// The [duties](crate#duties) are met.
+    pub fn pix_table_match_alpha(
+        entries: *const Srgb8,
+        len: usize,
+        pixels: *const Srgba8,
+        pixel_count: usize,
+        alpha: u8,
+        kept: u8,
+        indices: *mut u8,
+        index_count: usize,
+    ) -> u32;
+
+    /// Writes a table of the colors of pixels, and how many entries it has.
+    ///
+    /// # Safety
+    ///
+    /// The [duties](crate#duties) are met.
+    pub fn pix_table_from(
+        pixels: *const Srgb8,
+        pixel_count: usize,
+        work: *mut Srgb8,
+        work_len: usize,
+        entries: *mut Srgb8,
+        len: usize,
+        made: *mut usize,
+    ) -> u32;
+
+    /// The same of pixels with an alpha: those below `alpha` do not count.
+    ///
+    /// # Safety
+    ///
+    /// The [duties](crate#duties) are met.
+    pub fn pix_table_from_alpha(
+        pixels: *const Srgba8,
+        pixel_count: usize,
+        alpha: u8,
+        work: *mut Srgb8,
+        work_len: usize,
+        entries: *mut Srgb8,
+        len: usize,
+        made: *mut usize,
+    ) -> u32;
+
+    /// Writes what `pix_table_from` does, refined by so many rounds.
+    ///
+    /// # Safety
+    ///
+    /// The [duties](crate#duties) are met.
+    pub fn pix_table_refined(
+        pixels: *const Srgb8,
+        pixel_count: usize,
+        rounds: u8,
+        work: *mut Srgb8,
+        work_len: usize,
+        entries: *mut Srgb8,
+        len: usize,
+        made: *mut usize,
+    ) -> u32;
+
+    /// The same of pixels with an alpha: those below `alpha` do not count.
+    ///
+    /// # Safety
+    ///
+    /// The [duties](crate#duties) are met.
+    pub fn pix_table_refined_alpha(
+        pixels: *const Srgba8,
+        pixel_count: usize,
+        alpha: u8,
+        rounds: u8,
+        work: *mut Srgb8,
+        work_len: usize,
+        entries: *mut Srgb8,
+        len: usize,
+        made: *mut usize,
+    ) -> u32;
+
+    /// Writes the index of each pixel of rows of `width` by error diffusion.
+    ///
+    /// # Safety
+    ///
+    /// The [duties](crate#duties) are met.
+    pub fn pix_table_diffuse(
+        entries: *const Srgb8,
+        len: usize,
+        pixels: *const Srgb8,
+        pixel_count: usize,
+        width: usize,
+        work: *mut Srgb8,
+        work_len: usize,
+        indices: *mut u8,
+        index_count: usize,
+    ) -> u32;
+
+    /// The same of pixels with an alpha: one below `alpha` has the index `kept`, and hands on no error.
+    ///
+    /// # Safety
+    ///
+    /// The [duties](crate#duties) are met.
+    pub fn pix_table_diffuse_alpha(
+        entries: *const Srgb8,
+        len: usize,
+        pixels: *const Srgba8,
+        pixel_count: usize,
+        width: usize,
+        alpha: u8,
+        kept: u8,
+        work: *mut Srgb8,
+        work_len: usize,
+        indices: *mut u8,
+        index_count: usize,
+    ) -> u32;
+
+    /// The same with so many sixteenths of each error. Where `serpentine` isn't 0, every second row goes from right to left.
+    ///
+    /// # Safety
+    ///
+    /// The [duties](crate#duties) are met.
+    pub fn pix_table_diffuse_by(
+        entries: *const Srgb8,
+        len: usize,
+        pixels: *const Srgb8,
+        pixel_count: usize,
+        width: usize,
+        strength: u8,
+        serpentine: u8,
+        work: *mut Srgb8,
+        work_len: usize,
+        indices: *mut u8,
+        index_count: usize,
+    ) -> u32;
+
+    /// The same of pixels with an alpha.
+    ///
+    /// # Safety
+    ///
+    /// The [duties](crate#duties) are met.
+    pub fn pix_table_diffuse_by_alpha(
+        entries: *const Srgb8,
+        len: usize,
+        pixels: *const Srgba8,
+        pixel_count: usize,
+        width: usize,
+        alpha: u8,
+        kept: u8,
+        strength: u8,
+        serpentine: u8,
+        work: *mut Srgb8,
+        work_len: usize,
+        indices: *mut u8,
+        index_count: usize,
+    ) -> u32;
+
+    /// Sets the color of each pixel in a table, and writes its index and how many entries are used.
+    ///
+    /// # Safety
+    ///
+    /// The [duties](crate#duties) are met.
+    pub fn pix_table_index(
+        entries: *mut Srgb8,
+        len: usize,
+        used: *mut usize,
+        threshold: *const Srgb8,
+        pixels: *const Srgb8,
+        pixel_count: usize,
+        indices: *mut u8,
+        index_count: usize,
+    ) -> u32;
+
+    /// Writes the entry of each index.
+    ///
+    /// # Safety
+    ///
+    /// The [duties](crate#duties) are met.
+    pub fn pix_table_look_up(
+        entries: *const Srgb8,
+        len: usize,
+        indices: *const u8,
+        index_count: usize,
+        pixels: *mut Srgb8,
+        pixel_count: usize,
+    ) -> u32;
+
+    /// Writes how often each number below `len` stands among the indices.
+    ///
+    /// # Safety
+    ///
+    /// The [duties](crate#duties) are met.
+    pub fn pix_table_count(
+        indices: *const u8,
+        index_count: usize,
+        counts: *mut usize,
+        len: usize,
+    ) -> u32;
+
+    /// Packs a row of indices into bytes.
+    ///
+    /// # Safety
+    ///
+    /// The [duties](crate#duties) are met.
+    pub fn pix_table_pack(
+        bits: u32,
+        indices: *const u8,
+        index_count: usize,
+        bytes: *mut u8,
+        byte_count: usize,
+    ) -> u32;
+
+    /// Unpacks a row of indices from bytes.
+    ///
+    /// # Safety
+    ///
+    /// The [duties](crate#duties) are met.
+    pub fn pix_table_unpack(
+        bits: u32,
+        bytes: *const u8,
+        byte_count: usize,
+        indices: *mut u8,
+        index_count: usize,
+    ) -> u32;
+
+    /// Writes a table of colors with an alpha of pixels, refined by so many rounds, and how many entries it has.
+    ///
+    /// # Safety
+    ///
+    /// The [duties](crate#duties) are met.
+    pub fn pix_table_rgba_from(
+        pixels: *const Srgba8,
+        pixel_count: usize,
+        rounds: u8,
+        work: *mut Srgba8,
+        work_len: usize,
+        entries: *mut Srgba8,
+        len: usize,
+        made: *mut usize,
+    ) -> u32;
+
+    /// Writes the index of the entry that is seen nearest to each pixel.
+    ///
+    /// # Safety
+    ///
+    /// The [duties](crate#duties) are met.
+    pub fn pix_table_rgba_match(
+        entries: *const Srgba8,
+        len: usize,
+        pixels: *const Srgba8,
+        pixel_count: usize,
+        indices: *mut u8,
+        index_count: usize,
+    ) -> u32;
+
+    /// Writes the index of each pixel of rows of `width` by error diffusion, as `pix_table_diffuse_by` does.
+    ///
+    /// # Safety
+    ///
+    /// The [duties](crate#duties) are met.
+    pub fn pix_table_rgba_diffuse(
+        entries: *const Srgba8,
+        len: usize,
+        pixels: *const Srgba8,
+        pixel_count: usize,
+        width: usize,
+        strength: u8,
+        serpentine: u8,
+        work: *mut Srgba8,
+        work_len: usize,
+        indices: *mut u8,
+        index_count: usize,
+    ) -> u32;
+
+    /// Writes the entry of each index.
+    ///
+    /// # Safety
+    ///
+    /// The [duties](crate#duties) are met.
+    pub fn pix_table_rgba_look_up(
+        entries: *const Srgba8,
+        len: usize,
+        indices: *const u8,
+        index_count: usize,
+        pixels: *mut Srgba8,
+        pixel_count: usize,
+    ) -> u32;
+}

@@ -1,0 +1,118 @@
+//! Error diffusion with a strength, and in rows of both directions.
+
+use crate::error::Error;
+use crate::table::{Srgb8, Srgba8, Table, done};
+use pix_sys::check_library;
+
+/// How errors are diffused. The default is what [`Table::diffuse_indexed`] does: all of each error, and no row from right to left.
+///
+/// ```
+/// use pix::Diffusion;
+///
+/// let calm = Diffusion { strength: 12, ..Diffusion::default() };
+/// assert_eq!((calm.strength, calm.serpentine), (12, false));
+/// ```
+#[derive(Clone, Copy, Debug, PartialEq, Eq, Hash)]
+pub struct Diffusion {
+    /// How many sixteenths of an error are passed on, from 0 to 16. With less there is less noise, and areas are less like the
+    /// picture. With 0 each pixel gets its nearest entry.
+    pub strength: u8,
+    /// Whether every second row goes from right to left: the second, the fourth and so on. Left and right are exchanged there, also
+    /// where an error goes.
+    pub serpentine: bool,
+}
+
+impl Default for Diffusion {
+    fn default() -> Diffusion {
+        Diffusion {
+            strength: 16,
+            serpentine: false,
+        }
+    }
+}
+
+impl Table<'_> {
+    /// Does what [`diffuse_indexed`](Table::diffuse_indexed) does, in the way that `how` says. What a pixel gets of the errors before
+    /// it is multiplied by the strength, and rounded once.
+    ///
+    /// ```
+    /// use pix::{Diffusion, Srgb8, Table, diffusion_work};
+    ///
+    /// let gray = |v| Srgb8::new(v, v, v);
+    /// let entries = [gray(0), gray(255)];
+    /// let (table, mut indices) = (Table::new(&entries)?, [9; 4]);
+    /// let mut work = vec![gray(0); diffusion_work(2).unwrap()];
+    /// let how = Diffusion { serpentine: true, ..Diffusion::default() };
+    /// table.diffuse_indexed_by(&[gray(100); 4], 2, how, &mut work, &mut indices)?;
+    /// assert_eq!(indices, [0, 1, 1, 0]);
+    /// # Ok::<(), pix::Error>(())
+    /// ```
+    ///
+    /// # Errors
+    ///
+    /// `Strength` where that is above 16. `Length` as [`diffuse_indexed`](Table::diffuse_indexed), and where serpentine rows are not
+    /// whole. The indices are unchanged.
+    pub fn diffuse_indexed_by(
+        &self,
+        pixels: &[Srgb8],
+        width: usize,
+        how: Diffusion,
+        work: &mut [Srgb8],
+        indices: &mut [u8],
+    ) -> Result<(), Error> {
+        check_library()?;
+        // SAFETY: pointers and lengths are those of four slices, and the exclusive ones share no byte with another.
+        done(unsafe {
+            pix_sys::pix_table_diffuse_by(
+                self.entries().as_ptr(),
+                self.entries().len(),
+                pixels.as_ptr(),
+                pixels.len(),
+                width,
+                how.strength,
+                u8::from(how.serpentine),
+                work.as_mut_ptr(),
+                work.len(),
+                indices.as_mut_ptr(),
+                indices.len(),
+            )
+        })
+    }
+
+    /// Does what [`diffuse_indexed_alpha`](Table::diffuse_indexed_alpha) does, in the way that `how` says.
+    ///
+    /// # Errors
+    ///
+    /// As [`diffuse_indexed_by`](Table::diffuse_indexed_by).
+    #[allow(clippy::too_many_arguments)]
+    pub fn diffuse_indexed_by_alpha(
+        &self,
+        pixels: &[Srgba8],
+        width: usize,
+        alpha: u8,
+        kept: u8,
+        how: Diffusion,
+        work: &mut [Srgb8],
+        indices: &mut [u8],
+    ) -> Result<(), Error> {
+        check_library()?;
+        // SAFETY: pointers and lengths are those of four slices, and the exclusive ones share no byte with another.
+        done(unsafe {
+            pix_sys::pix_table_diffuse_by_alpha(
+                self.entries().as_ptr(),
+                self.entries().len(),
+                pixels.as_ptr(),
+                pixels.len(),
+                width,
+                alpha,
+                kept,
+                how.strength,
+                u8::from(how.serpentine),
+                work.as_mut_ptr(),
+                work.len(),
+                indices.as_mut_ptr(),
+                indices.len(),
+            )
+        })
+    }
+}

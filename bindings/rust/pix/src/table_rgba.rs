@@ -1,0 +1,165 @@
+//! Tables of colors with an alpha.
+
+use crate::diffusion::Diffusion;
+use crate::error::Error;
+use crate::table::{Srgba8, done};
+use pix_sys::check_library;
+
+/// A table of 1 to 256 colors with an alpha, which it borrows, as a PNG with the chunks PLTE and tRNS has it.
+///
+/// Two pixels are compared as they are seen, over black and over white, in 8 bits. Over black a color is its product with the alpha,
+/// rounded to the nearest. Over white it is that and 255 less the alpha. The distance of two pixels is the sum of the squares of
+/// their six differences. So the color of a clear pixel does not count, and where all are opaque the indices are those of a
+/// [`Table`](crate::Table).
+///
+/// ```
+/// use pix::{Srgba8, TableRgba};
+///
+/// let entries = [Srgba8::new(0, 0, 0, 0), Srgba8::new(255, 0, 0, 128), Srgba8::new(255, 0, 0, 255)];
+/// let pixels = [Srgba8::new(250, 9, 0, 140), Srgba8::new(80, 90, 70, 0), Srgba8::new(240, 10, 10, 255)];
+/// let mut indices = [9; 3];
+/// TableRgba::new(&entries)?.map_indexed(&pixels, &mut indices)?;
+/// assert_eq!(indices, [1, 0, 2]);
+/// # Ok::<(), pix::Error>(())
+/// ```
+#[derive(Clone, Copy, Debug)]
+pub struct TableRgba<'a> {
+    entries: &'a [Srgba8],
+}
+
+impl<'a> TableRgba<'a> {
+    /// A table of these entries, in order.
+    ///
+    /// # Errors
+    ///
+    /// `Table` where there is none, or more than 256.
+    pub fn new(entries: &'a [Srgba8]) -> Result<TableRgba<'a>, Error> {
+        if entries.is_empty() || entries.len() > 256 {
+            return Err(Error::Table);
+        }
+        Ok(TableRgba { entries })
+    }
+
+    /// The entries, in order.
+    pub fn entries(&self) -> &'a [Srgba8] {
+        self.entries
+    }
+
+    /// Sets each index to that of the entry that is seen nearest to the pixel of the same place, the first of equals.
+    ///
+    /// # Errors
+    ///
+    /// `Length` where there are not as many indices as pixels. They are unchanged.
+    pub fn map_indexed(&self, pixels: &[Srgba8], indices: &mut [u8]) -> Result<(), Error> {
+        check_library()?;
+        // SAFETY: pointers and lengths are those of three slices, and the exclusive one shares no byte with the others.
+        done(unsafe {
+            pix_sys::pix_table_rgba_match(
+                self.entries.as_ptr(),
+                self.entries.len(),
+                pixels.as_ptr(),
+                pixels.len(),
+                indices.as_mut_ptr(),
+                indices.len(),
+            )
+        })
+    }
+
+    /// Sets the index of each pixel of rows of `width` by error diffusion, as
+    /// [`Table::diffuse_indexed_by`](crate::Table::diffuse_indexed_by) does. Errors are those of the colors over black and of the
+    /// alpha. What is wanted of a color is at most what is wanted of the alpha. A clear pixel (alpha 0) gets the entry that is seen
+    /// nearest to it, takes nothing of other errors, and passes on none. `work` has [`diffusion_work`](crate::diffusion_work) pixels.
+    ///
+    /// # Errors
+    ///
+    /// As [`Table::diffuse_indexed_by`](crate::Table::diffuse_indexed_by).
+    pub fn diffuse_indexed(
+        &self,
+        pixels: &[Srgba8],
+        width: usize,
+        how: Diffusion,
+        work: &mut [Srgba8],
+        indices: &mut [u8],
+    ) -> Result<(), Error> {
+        check_library()?;
+        // SAFETY: pointers and lengths are those of four slices, and the exclusive ones share no byte with another.
+        done(unsafe {
+            pix_sys::pix_table_rgba_diffuse(
+                self.entries.as_ptr(),
+                self.entries.len(),
+                pixels.as_ptr(),
+                pixels.len(),
+                width,
+                how.strength,
+                u8::from(how.serpentine),
+                work.as_mut_ptr(),
+                work.len(),
+                indices.as_mut_ptr(),
+                indices.len(),
+            )
+        })
+    }
+
+    /// Sets each pixel to the entry of the index of the same place.
+    ///
+    /// # Errors
+    ///
+    /// `Length` where there are not as many pixels as indices, and `Index` where an index is past the end. The pixels are
+    /// unchanged.
+    pub fn look_up(&self, indices: &[u8], pixels: &mut [Srgba8]) -> Result<(), Error> {
+        check_library()?;
+        // SAFETY: pointers and lengths are those of three slices, and the exclusive one shares no byte with the others.
+        done(unsafe {
+            pix_sys::pix_table_rgba_look_up(
+                self.entries.as_ptr(),
+                self.entries.len(),
+                indices.as_ptr(),
+                indices.len(),
+                pixels.as_mut_ptr(),
+                pixels.len(),
+            )
+        })
+    }
+}
+
+/// Does what [`make_table_refined`](crate::make_table_refined) does, with a table of colors with an alpha. Pixels that are seen alike
+/// have one entry. Boxes are cut by the alpha too, after red, green and blue over black. In a round an entry also stays where the
+/// mean of its colors would make their squared error greater. The colors of the table are divided by the alpha again, so that they
+/// are seen as just what was found. `work` has as many pixels as there are pixels.
+///
+/// ```
+/// use pix::{Srgba8, make_table_rgba};
+///
+/// let (red, half, clear) = (Srgba8::new(255, 0, 0, 255), Srgba8::new(255, 0, 0, 128), Srgba8::new(7, 8, 9, 0));
+/// let (mut work, mut entries) = ([Srgba8::default(); 4], [Srgba8::default(); 256]);
+/// let made = make_table_rgba(&[red, clear, half, red], 4, &mut work, &mut entries)?;
+/// assert_eq!(made, [red, Srgba8::new(0, 0, 0, 0), half]);
+/// # Ok::<(), pix::Error>(())
+/// ```
+///
+/// # Errors
+///
+/// As [`make_table`](crate::make_table).
+pub fn make_table_rgba<'a>(
+    pixels: &[Srgba8],
+    rounds: u8,
+    work: &mut [Srgba8],
+    entries: &'a mut [Srgba8],
+) -> Result<&'a [Srgba8], Error> {
+    check_library()?;
+    let mut made = 0;
+    // SAFETY: pointers and lengths are those of three slices and a value, and the exclusive ones share no byte with another.
+    done(unsafe {
+        pix_sys::pix_table_rgba_from(
+            pixels.as_ptr(),
+            pixels.len(),
+            rounds,
+            work.as_mut_ptr(),
+            work.len(),
+            entries.as_mut_ptr(),
+            entries.len(),
+            &mut made,
+        )
+    })?;
+    Ok(&entries[..made])
+}
