@@ -82,6 +82,24 @@ static void repeat(int size) {
     check(pix_repeat_image(NULL, 0, whole, source, none, PIX_OP_SRC) == 0, "pix_repeat_image from", size);
 }
 
+/* Rows of indices without pixels, as long as can be in the memory that there is. */
+static void index_none(int size) {
+    static pix_srgb8 work[4 << 16];
+    static pix_srgba8 shade_work[4 << 16];
+    static const pix_srgb8 color = {1, 2, 3};
+    static const pix_srgba8 shade = {1, 2, 3, 4};
+    const pix_diffusion how = {16, true};
+    const pix_table table = pix_table_of(&color, 1);
+    const pix_table_rgba shades = pix_table_rgba_of(&shade, 1);
+    pix_srgba8 entries[256];
+    size_t made = 9;
+    check(pix_diffuse_indexed_by(table, NULL, 0, 1 << 16, how, work, NULL) == PIX_OK, "pix_diffuse_indexed_by", size);
+    check(pix_diffuse_indexed_rgba(shades, NULL, 0, 1 << 16, how, shade_work, NULL) == PIX_OK, "pix_diffuse_indexed_rgba", size);
+    check(pix_map_indexed_rgba(shades, NULL, 0, NULL) == PIX_OK, "pix_map_indexed_rgba", size);
+    check(pix_look_up_rgba(shades, NULL, 0, NULL) == PIX_OK, "pix_look_up_rgba", size);
+    check(pix_make_table_rgba(NULL, 0, 255, NULL, entries, 256, &made) == PIX_OK && !made, "pix_make_table_rgba", size);
+}
+
 int main(void) {
     const pix_region whole = pix_region_of(0, 0, LONG, LONG);
     began = clock();
@@ -94,6 +112,7 @@ int main(void) {
         }
         convert(size);
         repeat(size);
+        index_none(size);
     }
     printf("empty: each call on no pixels answers at once\n");
     return 0;

@@ -176,7 +176,7 @@ static inline size_t plain_table(const pix_srgb8 *colors, size_t count, pix_srgb
     }
     if (i == count)
         return used;
-    copy = malloc(count * sizeof *copy);
+    copy = (pix_srgb8 *)malloc(count * sizeof *copy);
     if (!copy)
         abort();
     memcpy(copy, colors, count * sizeof *copy);

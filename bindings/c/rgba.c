@@ -2,7 +2,7 @@
  *
  *     rgba [TABLES]
  *
- * So many random tables are made, refined, matched and diffused to; 2000 without the word. */
+ * So many random tables are made, refined, matched and diffused to; 1000 without the word. */
 #include "indexed_rgba.h"
 #include <stdio.h>
 
@@ -234,7 +234,7 @@ static void refused(void) {
 }
 
 int main(int count, char **words) {
-    const long tables = count > 1 ? atol(words[1]) : 2000;
+    const long tables = count > 1 ? atol(words[1]) : 1000;
     long i;
     by_hand();
     refused();

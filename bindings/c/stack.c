@@ -16,7 +16,7 @@ static pix_graya8 pixels_graya8[COUNT], source_graya8[COUNT];
 static uint8_t mattes[COUNT], indices[COUNT], packed[COUNT], bytes[COUNT * 8], more_bytes[COUNT * 8];
 static uint16_t mattes16[COUNT];
 static pix_srgb8 colors[COUNT], noise[ENTRIES], grays[ENTRIES], equals[ENTRIES], work[4 * COUNT];
-static pix_srgba8 shades[COUNT];
+static pix_srgba8 shades[COUNT], shade_work[4 * COUNT];
 static size_t counts[ENTRIES];
 
 /* Any colors, so that each asks for a list of its own; and tables of any colors, of grays, and of few that differ. */
@@ -129,11 +129,29 @@ EACH_TABLE_(map, pix_map_indexed(table, colors, count, indices))
 EACH_TABLE_(map_alpha, pix_map_indexed_alpha(table, shades, count, 128, 255, indices))
 EACH_TABLE_(diffuse, pix_diffuse_indexed(table, colors, count, SIDE, work, indices))
 EACH_TABLE_(diffuse_alpha, pix_diffuse_indexed_alpha(table, shades, count, SIDE, 128, 255, work, indices))
+#define ODD_ (pix_diffusion){11, false}
+#define TURNING_ (pix_diffusion){(uint8_t)(count % 17), true}
+EACH_TABLE_(diffuse_by, pix_diffuse_indexed_by(table, colors, count, SIDE, ODD_, work, indices))
+EACH_TABLE_(diffuse_by_alpha, pix_diffuse_indexed_by_alpha(table, shades, count, SIDE, 128, 255, ODD_, work, indices))
+EACH_TABLE_(diffuse_turning, pix_diffuse_indexed_by(table, colors, count, (count + 1) / 2, TURNING_, work, indices))
+EACH_TABLE_(diffuse_turning_alpha,
+            pix_diffuse_indexed_by_alpha(table, shades, count, (count + 1) / 2, 128, 255, TURNING_, work, indices))
+#define SHADES_ pix_table_rgba_of(shades, table.len)
+EACH_TABLE_(map_rgba, pix_map_indexed_rgba(SHADES_, shades, count, indices))
+EACH_TABLE_(diffuse_rgba, pix_diffuse_indexed_rgba(SHADES_, shades, count, SIDE, ODD_, shade_work, indices))
+EACH_TABLE_(diffuse_turning_rgba,
+            pix_diffuse_indexed_rgba(SHADES_, shades, count, (count + 1) / 2, TURNING_, shade_work, indices))
 
 static pix_status look_up(void) {
     static pix_srgb8 found[COUNT];
     memset(indices, 7, sizeof indices);
     return pix_look_up(pix_table_of(noise, ENTRIES), indices, COUNT, found);
+}
+
+static pix_status look_up_rgba(void) {
+    static pix_srgba8 found[COUNT];
+    memset(indices, 7, sizeof indices);
+    return pix_look_up_rgba(pix_table_rgba_of(shades, ENTRIES), indices, COUNT, found);
 }
 
 static pix_status make(void) {
@@ -162,6 +180,15 @@ static pix_status refine_alpha(void) {
     static pix_srgb8 made[ENTRIES];
     size_t len = 0;
     return pix_make_table_refined_alpha(shades, COUNT, 128, 2, work, made, ENTRIES, &len);
+}
+
+static pix_status make_rgba(void) {
+    static pix_srgba8 made[ENTRIES];
+    size_t len = 0;
+    pix_status status = pix_make_table_rgba(shades, ENTRIES, 2, shade_work, made, ENTRIES, &len);
+    for (size_t room = 1; room <= ENTRIES && status == PIX_OK; room *= 16)
+        status = pix_make_table_rgba(shades, COUNT, 2, shade_work, made, room, &len);
+    return status;
 }
 
 /* Colors that a table of each length has room for, and such as it has none for. */
@@ -201,7 +228,7 @@ static pix_status unpack(void) {
 }
 
 /* The calls, and the kibibytes of stack that pix.h says they need. */
-enum { FEW = 16, SETTING = 32, MAKING = 96, MATCHING = 256, REFINING = 320 };
+enum { FEW = 16, SETTING = 32, MATCHING_RGBA = 64, MAKING = 96, MATCHING = 256 };
 static const struct { const char *name; size_t kibibytes; pix_status (*call)(void); } calls[] = {
     {"pix_check_library", FEW, pix_check_library},
     {"pix_run", FEW, run},
@@ -220,12 +247,21 @@ static const struct { const char *name; size_t kibibytes; pix_status (*call)(voi
     {"pix_pack_row", FEW, pack},
     {"pix_unpack_row", FEW, unpack},
     {"pix_index_pixels", SETTING, set},
-    {"pix_make_table_refined", REFINING, refine},
-    {"pix_make_table_refined_alpha", REFINING, refine_alpha},
+    {"pix_make_table_refined", MATCHING, refine},
+    {"pix_make_table_refined_alpha", MATCHING, refine_alpha},
+    {"pix_make_table_rgba", MATCHING, make_rgba},
     {"pix_map_indexed", MATCHING, map},
     {"pix_map_indexed_alpha", MATCHING, map_alpha},
     {"pix_diffuse_indexed", MATCHING, diffuse},
     {"pix_diffuse_indexed_alpha", MATCHING, diffuse_alpha},
+    {"pix_diffuse_indexed_by", MATCHING, diffuse_by},
+    {"pix_diffuse_indexed_by, serpentine", MATCHING, diffuse_turning},
+    {"pix_diffuse_indexed_by_alpha", MATCHING, diffuse_by_alpha},
+    {"pix_diffuse_indexed_by_alpha, serpentine", MATCHING, diffuse_turning_alpha},
+    {"pix_diffuse_indexed_rgba", MATCHING, diffuse_rgba},
+    {"pix_diffuse_indexed_rgba, serpentine", MATCHING, diffuse_turning_rgba},
+    {"pix_map_indexed_rgba", MATCHING_RGBA, map_rgba},
+    {"pix_look_up_rgba", FEW, look_up_rgba},
 };
 
 static void *run_call(void *call) {
