@@ -1315,8 +1315,8 @@ static inline size_t pix_diffusion_work(size_t width) {
     return width > (size_t)PTRDIFF_MAX / 16 ? SIZE_MAX : 4 * width;
 }
 
-/* Tests what a table is made of and in: each of the pixels is so many bytes, and each color of the work memory and of the
- * entries is. */
+/* Tests what a table is made of and in. Each of the pixels is so many bytes, and so is each color of
+ * the work memory and of the entries. */
 static inline pix_status pix_makes_table_(const void *pixels, size_t size, size_t count, const void *work, const void *entries,
                                           size_t color_size, size_t len, const size_t *made) {
     const size_t bytes = count * size, work_bytes = count * color_size, table_bytes = len * color_size;
