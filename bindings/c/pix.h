@@ -710,10 +710,11 @@ typedef struct {
 /* ---- What libpix_c.a has ----
  *
  * The functions above call these, which are proved. They test sizes, kinds, regions, operators,
- * sources, formats, lengths, tables, indices and depths. Here no pointer may be null or badly
- * aligned, even where its length is 0, and even in commands of kinds that do not use it. The image,
- * `done` and `dst` may share memory with nothing else that is passed. Lengths are counted in
- * elements. `stride` is at least the width, and 0 does not stand for it. */
+ * sources, formats, lengths, tables, indices, depths and strengths. Here no pointer may be null or
+ * badly aligned, even where its length is 0, and even in commands of kinds that do not use it. The
+ * image, `done` and `dst` may share memory with nothing else that is passed. Lengths are counted in
+ * elements. `stride` is at least the width, and 0 does not stand for it. `serpentine` is 0 where
+ * all rows go from left to right. */
 
 uint32_t pix_run_commands(pix_rgba8 *pixels, size_t pixel_count, uint32_t width, uint32_t height, uint32_t stride,
                           const pix_command *commands, size_t command_count, size_t *done);

@@ -32,17 +32,20 @@ static uint8_t level(unsigned levels) {
 static pix_srgba8 pixels[MOST], work[4 * MOST];
 static plain_seen seen[MOST];
 
-/* Pixels of few or many levels. Their alphas are any, the ends, or all of them. */
+/* Pixels of few or many levels, or such as differ by a few units, of which a mean may fit worse than its entry does. Their alphas
+ * are any, the ends, or all of them. */
 static size_t random_pixels(int is_opaque) {
     static const unsigned counts[] = {2, 3, 6, 52, 256};
     const size_t count = any(MOST + 1);
-    const unsigned levels = counts[any(5)], shades = counts[any(5)];
+    const unsigned levels = counts[any(5)], shades = counts[any(5)], near = any(3) ? 0 : 2 + any(6), base = any(248);
     size_t i;
     for (i = 0; i < count; i++) {
-        pixels[i].r = level(levels);
-        pixels[i].g = level(levels);
-        pixels[i].b = level(any(4) ? levels : 2);
-        pixels[i].a = is_opaque ? 255 : level(any(3) ? shades : 2);
+        pixels[i].r = near ? (uint8_t)(base + any(near)) : level(levels);
+        pixels[i].g = near ? (uint8_t)(base + any(near)) : level(levels);
+        pixels[i].b = near ? (uint8_t)(base + any(near)) : level(any(4) ? levels : 2);
+        pixels[i].a = near ? (uint8_t)(247 - base + any(near)) : level(any(3) ? shades : 2);
+        if (is_opaque)
+            pixels[i].a = 255;
         seen[i] = plain_see(pixels[i]);
     }
     return count;
@@ -88,7 +91,7 @@ static void used(const pix_srgba8 *entries, const plain_seen *plain, size_t len,
 /* A table is that of the plain loops after each number of rounds, and no round makes its squared error greater. */
 static void made(void) {
     const size_t count = random_pixels(0), room = any(3) ? 1 + any(8) : 1 + any(ROOM);
-    const unsigned rounds = any(4);
+    const unsigned rounds = any(6);
     pix_srgba8 entries[ROOM];
     plain_seen plain[ROOM];
     size_t len, got = 999;
