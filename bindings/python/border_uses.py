@@ -170,24 +170,24 @@ USES = [
     ("pix_table_refined", False, lambda it: pix.table_from(it, rounds=1)),
     ("pix_table_refined_alpha", False, lambda it: pix.table_from(it, format=pix.SRGBA8, rounds=1)),
     (
-        "pix_table_diffuse",
+        "pix_table_diffuse_by",
         False,
         lambda it: pix.diffuse_indexed(memoryview(it)[:300], bytes(300), 10),
     ),
-    ("pix_table_diffuse", False, lambda it: pix.diffuse_indexed(bytes(3), it, 10)),
-    ("pix_table_diffuse", True, lambda it: pix.diffuse_indexed(bytes(3), bytes(3 * SIZE), 10, it)),
+    ("pix_table_diffuse_by", False, lambda it: pix.diffuse_indexed(bytes(3), it, 10)),
+    ("pix_table_diffuse_by", True, lambda it: pix.diffuse_indexed(bytes(3), bytes(3 * SIZE), 10, it)),
     (
-        "pix_table_diffuse_alpha",
+        "pix_table_diffuse_by_alpha",
         False,
         lambda it: pix.diffuse_indexed(memoryview(it)[:300], bytes(400), 10, format=pix.SRGBA8),
     ),
     (
-        "pix_table_diffuse_alpha",
+        "pix_table_diffuse_by_alpha",
         False,
         lambda it: pix.diffuse_indexed(bytes(3), it, 10, format=pix.SRGBA8),
     ),
     (
-        "pix_table_diffuse_alpha",
+        "pix_table_diffuse_by_alpha",
         True,
         lambda it: pix.diffuse_indexed(bytes(3), bytes(4 * SIZE), 10, it, pix.SRGBA8),
     ),
@@ -200,6 +200,36 @@ USES = [
     ("pix_table_look_up", False, lambda it: pix.look_up(memoryview(it)[:300], bytes(300))),
     ("pix_table_look_up", False, lambda it: pix.look_up(bytes(768), it)),
     ("pix_table_look_up", True, lambda it: pix.look_up(bytes(768), bytes(SIZE // 3), it)),
+    ("pix_table_rgba_from", False, lambda it: pix.table_rgba_from(it)),
+    (
+        "pix_table_rgba_match",
+        False,
+        lambda it: pix.map_indexed_rgba(memoryview(it)[:400], bytes(400)),
+    ),
+    ("pix_table_rgba_match", False, lambda it: pix.map_indexed_rgba(bytes(4), it)),
+    ("pix_table_rgba_match", True, lambda it: pix.map_indexed_rgba(bytes(4), bytes(4 * SIZE), it)),
+    (
+        "pix_table_rgba_diffuse",
+        False,
+        lambda it: pix.diffuse_indexed_rgba(memoryview(it)[:400], bytes(400), 10),
+    ),
+    ("pix_table_rgba_diffuse", False, lambda it: pix.diffuse_indexed_rgba(bytes(4), it, 10)),
+    (
+        "pix_table_rgba_diffuse",
+        True,
+        lambda it: pix.diffuse_indexed_rgba(bytes(4), bytes(4 * SIZE), 10, it),
+    ),
+    (
+        "pix_table_rgba_look_up",
+        False,
+        lambda it: pix.look_up_rgba(memoryview(it)[:400], bytes(400)),
+    ),
+    ("pix_table_rgba_look_up", False, lambda it: pix.look_up_rgba(bytes(1024), it)),
+    (
+        "pix_table_rgba_look_up",
+        True,
+        lambda it: pix.look_up_rgba(bytes(1024), bytes(SIZE // 4), it),
+    ),
     ("pix_table_count", False, lambda it: pix.count_indices(it)),
     ("pix_table_pack", False, lambda it: pix.pack_row(8, it)),
     ("pix_table_pack", True, lambda it: pix.pack_row(8, bytes(SIZE), it)),
@@ -254,8 +284,26 @@ TAKEN = [
     (
         "diffuse_indexed",
         lambda it, n: pix.diffuse_indexed(
-            it.read(9), it.write(16), n(2), it.write(4), pix.SRGBA8, n(1), n(2)
+            it.read(9), it.write(16), n(2), it.write(4), pix.SRGBA8, n(1), n(2), n(9), True
         ),
+    ),
+    (
+        "table_rgba_from",
+        lambda it, n: pix.table_rgba_from(it.read(64, "array"), n(4), n(2)),
+    ),
+    (
+        "map_indexed_rgba",
+        lambda it, n: pix.map_indexed_rgba(it.read(12), it.write(16), it.write(4)),
+    ),
+    (
+        "diffuse_indexed_rgba",
+        lambda it, n: pix.diffuse_indexed_rgba(
+            it.read(12), it.write(16), n(2), it.write(4), n(9), True
+        ),
+    ),
+    (
+        "look_up_rgba",
+        lambda it, n: pix.look_up_rgba(it.read(12, "array"), it.read(3), it.write(12)),
     ),
     (
         "index_pixels",

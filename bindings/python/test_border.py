@@ -154,6 +154,14 @@ class ChangingMemory(unittest.TestCase):
         ):
             self.assertEqual(self.rooms(use), [(768, table.ljust(768, b"\0"))])
         self.assertEqual(pix.look_up(bytes(897) + b"\1\2\3", b"\0"), bytes(3))
+        table, pixels = bytes(range(1, 9)), bytes(12)
+        for use in (
+            lambda: pix.map_indexed_rgba(table, pixels),
+            lambda: pix.diffuse_indexed_rgba(table, pixels, 3),
+            lambda: pix.look_up_rgba(table, bytes(3)),
+        ):
+            self.assertEqual(self.rooms(use), [(1024, table.ljust(1024, b"\0"))])
+        self.assertEqual(pix.look_up_rgba(bytes(1196) + b"\1\2\3\4", b"\0"), bytes(4))
 
     def test_counts_have_room_for_each_index(self):
         counts = _indexed._COUNTS
@@ -204,6 +212,7 @@ class ChangingMemory(unittest.TestCase):
         try:
             colors = pix.look_up(b"\7\7\7", indices)
             self.assertLessEqual(set(colors), {0, 7})
+            self.assertLessEqual(set(pix.look_up_rgba(b"\7\7\7\7", indices)), {0, 7})
         except pix.PixError as fault:
             self.assertEqual(fault.status, pix.Status.BAD_INDEX)
         try:

@@ -65,6 +65,129 @@ def squared_error(table, colors):
     return sum(min(sum((x - y) ** 2 for x, y in zip(entry, color)) for entry in table) for color in colors)
 
 
+def seen(pixel):
+    """A pixel with an alpha as it is seen over black: its colors times its alpha, rounded, and the alpha."""
+    return (*((2 * channel * pixel[3] + 255) // 510 for channel in pixel[:3]), pixel[3])
+
+
+def straight(color):
+    """The pixel that is seen as a color: its alpha is divided out again, rounded, a half up."""
+    alpha = color[3]
+    return (*((510 * channel + alpha) // (2 * alpha) if alpha else 0 for channel in color[:3]), alpha)
+
+
+def over_white(color):
+    return tuple(channel + 255 - color[3] for channel in color[:3])
+
+
+def seen_distance(one, other):
+    """How far apart two seen colors are: their squared differences over black and over white, added."""
+    pairs = [*zip(one[:3], other[:3]), *zip(over_white(one), over_white(other))]
+    return sum((x - y) ** 2 for x, y in pairs)
+
+
+def seen_nearest(colors, color):
+    """The first seen color of those that are nearest."""
+    return min(range(len(colors)), key=lambda i: seen_distance(colors[i], color))
+
+
+def seen_weight(box):
+    return weight([color[:3] for color in box]) + weight(list(map(over_white, box)))
+
+
+def seen_cut(box):
+    """The cut of a box of seen colors that gains most, the first of equals: by a color over black, or by the alpha."""
+    best = None
+    for channel in range(4):
+        for value in sorted({color[channel] for color in box})[1:]:
+            low = [color for color in box if color[channel] < value]
+            high = [color for color in box if color[channel] >= value]
+            gain = max(0, seen_weight(low) + seen_weight(high) - seen_weight(box))
+            if best is None or gain > best[0]:
+                best = gain, low, high
+    return best
+
+
+def seen_table(pixels, room, rounds):
+    """The table of pixels with an alpha, as seen colors."""
+    colors = list(map(seen, pixels))
+    firsts = list(dict.fromkeys(colors))
+    if len(firsts) <= room:
+        return firsts
+    boxes = [colors]
+    while len(boxes) < room:
+        cuts = [seen_cut(box) for box in boxes]
+        at = max((i for i, cut in enumerate(cuts) if cut), key=lambda i: cuts[i][0])
+        boxes[at : at + 1] = cuts[at][1:]
+    entries = list(map(mean, boxes))
+    for _ in range(rounds):
+        groups = [[] for _ in entries]
+        for color in colors:
+            groups[seen_nearest(entries, color)].append(color)
+        entries = [settled(entry, group) for entry, group in zip(entries, groups)]
+    return entries
+
+
+def settled(entry, group):
+    """The mean of an entry's colors, where their squared error is no greater by it, or the entry."""
+    error = lambda shown: sum(seen_distance(shown, color) for color in group)
+    return mean(group) if group and error(mean(group)) <= error(entry) else entry
+
+
+def plain_diffused(width, pixels, strength, serpentine, chosen):
+    """Error diffusion: `chosen` has, for a pixel and the function from a number and what it got to what is wanted, the
+    index and the errors, or no errors."""
+    got, indices = {}, bytearray(len(pixels))
+    for y in range(len(pixels) // width):
+        way = -1 if serpentine and y % 2 else 1
+        for x in range(width)[::way]:
+            took = got.get((x, y), (0,) * 4)
+            wanted = lambda i, number: min(255, max(0, (256 * number + 128 + strength * took[i]) // 256))
+            indices[width * y + x], errors = chosen(pixels[width * y + x], wanted)
+            for right, down, share in ((way, 0, 7), (-way, 1, 3), (0, 1, 5), (way, 1, 1)):
+                at = x + right, y + down
+                if errors and 0 <= at[0] < width:
+                    got[at] = tuple(a + share * b for a, b in zip(got.get(at, (0,) * 4), errors))
+    return bytes(indices)
+
+
+def by_colors(table, alpha, kept):
+    """How a pixel is chosen among colors; one below an alpha is kept, and has no errors."""
+
+    def chosen(pixel, wanted):
+        if pixel[3] < alpha:
+            return kept, None
+        color = tuple(wanted(i, pixel[i]) for i in range(3))
+        at = plain_nearest(table, color)
+        return at, (*(x - y for x, y in zip(color, table[at])), 0)
+
+    return chosen
+
+
+def by_alphas(table):
+    """How a pixel is chosen among colors with an alpha; a clear one has no errors."""
+    colors = list(map(seen, table))
+
+    def chosen(pixel, wanted):
+        if not pixel[3]:
+            return seen_nearest(colors, (0, 0, 0, 0)), None
+        numbers = seen(pixel)
+        alpha = wanted(3, numbers[3])
+        color = (*(min(alpha, wanted(i, numbers[i])) for i in range(3)), alpha)
+        at = seen_nearest(colors, color)
+        return at, tuple(x - y for x, y in zip(color, colors[at]))
+
+    return chosen
+
+
+def any_pixels(chance, count):
+    """Pixels with alphas of some kinds, of a few levels or of all."""
+    levels = chance.choice([2, 3, 9, 256])
+    alphas = chance.choice([(0, 255), (0, 1, 128, 255), range(256)])
+    step = 255 // (levels - 1)
+    return [(*(step * chance.randrange(levels) for _ in range(3)), chance.choice(alphas)) for _ in range(count)]
+
+
 class Tables(unittest.TestCase):
     def test_nearest(self):
         chance = random.Random(1)
@@ -138,6 +261,73 @@ class Tables(unittest.TestCase):
         found = pix.diffuse_indexed(grays, clear, 2, format=pix.Format.SRGBA8, alpha=1, kept=9)
         self.assertEqual(found, b"\x09\0")
         self.assertEqual(pix.diffuse_indexed(grays, b"", 5), b"")
+
+    def test_diffused_by_options(self):
+        chance = random.Random(6)
+        for _ in range(60):
+            width, high, strength = chance.randrange(1, 9), chance.randrange(5), chance.randrange(17)
+            pixels = any_pixels(chance, width * high)
+            table = [color[:3] for color in any_pixels(chance, chance.randrange(1, 7))]
+            for serpentine in (False, True):
+                how = {"strength": strength, "serpentine": serpentine}
+                wanted = plain_diffused(width, pixels, strength, serpentine, by_colors(table, 0, 0))
+                found = pix.diffuse_indexed(joined(table), joined(pixel[:3] for pixel in pixels), width, **how)
+                self.assertEqual(found, wanted)
+                wanted = plain_diffused(width, pixels, strength, serpentine, by_colors(table, 2, 9))
+                found = pix.diffuse_indexed(joined(table), joined(pixels), width, None, pix.SRGBA8, 2, 9, **how)
+                self.assertEqual(found, wanted)
+        noise = bytes(chance.randrange(256) for _ in range(300))
+        some = noise[:12]
+        self.assertEqual(pix.diffuse_indexed(some, noise, 10, strength=0), pix.map_indexed(some, noise))
+        self.assertEqual(pix.diffuse_indexed(some, noise, 10, strength=16), pix.diffuse_indexed(some, noise, 10))
+
+    def test_seen_nearest(self):
+        chance = random.Random(7)
+        for length in (1, 2, 16, 256):
+            table, pixels = any_pixels(chance, length), any_pixels(chance, 200)
+            colors = list(map(seen, table))
+            wanted = bytes(seen_nearest(colors, seen(pixel)) for pixel in pixels)
+            self.assertEqual(pix.map_indexed_rgba(joined(table), joined(pixels)), wanted)
+            self.assertEqual(pix.look_up_rgba(joined(table), wanted), joined(table[i] for i in wanted))
+        # Of a clear pixel the color doesn't count, and of a nearly clear one hardly.
+        self.assertEqual(pix.map_indexed_rgba(b"\xff\xff\xff\0\0\0\0\0", b"\0\0\0\0"), b"\0")
+        self.assertEqual(pix.map_indexed_rgba(b"\xff\0\0\x09\0\0\xff\xff", b"\0\0\xff\x0a"), b"\0")
+
+    def test_seen_tables(self):
+        chance = random.Random(8)
+        for _ in range(40):
+            room, rounds = chance.randrange(1, 10), chance.randrange(4)
+            pixels = any_pixels(chance, chance.randrange(1, 40))
+            wanted = seen_table(pixels, room, rounds)
+            made = pix.table_rgba_from(joined(pixels), room, rounds)
+            self.assertEqual(made, joined(map(straight, wanted)))
+            back = [seen(made[i : i + 4]) for i in range(0, len(made), 4)]
+            self.assertEqual(back, wanted)
+        self.assertEqual(pix.table_rgba_from(b""), b"")
+        self.assertEqual(pix.table_rgba_from(joined([(9, 8, 7, 0), (1, 2, 3, 255), (0, 0, 0, 0)])), b"\0\0\0\0\1\2\3\xff")
+
+    def test_seen_diffused(self):
+        chance = random.Random(9)
+        for _ in range(60):
+            width, high, strength = chance.randrange(1, 9), chance.randrange(5), chance.randrange(17)
+            pixels, table = any_pixels(chance, width * high), any_pixels(chance, chance.randrange(1, 7))
+            for serpentine in (False, True):
+                wanted = plain_diffused(width, pixels, strength, serpentine, by_alphas(table))
+                found = pix.diffuse_indexed_rgba(joined(table), joined(pixels), width, None, strength, serpentine)
+                self.assertEqual(found, wanted)
+
+    def test_opaque_pixels_as_without_alpha(self):
+        chance = random.Random(10)
+        colors = [tuple(chance.randrange(256) for _ in range(3)) for _ in range(600)]
+        plain, opaque = joined(colors), joined((*color, 255) for color in colors)
+        for length, rounds in ((2, 0), (7, 1), (100, 4), (256, 2)):
+            table, other = pix.table_from(plain, length, rounds=rounds), pix.table_rgba_from(opaque, length, rounds)
+            self.assertEqual(pix.look_up(table, bytes(range(length))), joined(other[i : i + 3] for i in range(0, len(other), 4)))
+            self.assertEqual(set(other[3::4]), {255})
+            self.assertEqual(pix.map_indexed_rgba(other, opaque), pix.map_indexed(table, plain))
+            for how in ((16, False), (11, True)):
+                found = pix.diffuse_indexed_rgba(other, opaque, 30, None, *how)
+                self.assertEqual(found, pix.diffuse_indexed(table, plain, 30, strength=how[0], serpentine=how[1]))
 
     def test_tables_of_clear_pictures(self):
         clear = joined((9, 9, 9, i) for i in range(20))
@@ -220,8 +410,26 @@ class Tables(unittest.TestCase):
         self.refused(status.BAD_INDEX, pix.pack_row, 1, b"\0\2", bytearray(1))
         self.refused(status.BAD_LENGTH, pix.pack_row, 1, b"\0", kept)
         self.refused(status.BAD_LENGTH, pix.unpack_row, 1, b"\0\0", kept)
+        self.refused(status.BAD_TABLE, pix.map_indexed_rgba, b"", b"")
+        self.refused(status.BAD_TABLE, pix.diffuse_indexed_rgba, bytes(4 * 257), b"abcd", 1)
+        self.refused(status.BAD_TABLE, pix.table_rgba_from, b"abcd", 0)
+        self.refused(status.BAD_TABLE, pix.table_rgba_from, b"abcd", 257)
+        self.refused(status.BAD_LENGTH, pix.map_indexed_rgba, b"abc", b"abcd")
+        self.refused(status.BAD_LENGTH, pix.map_indexed_rgba, b"abcd", b"abc")
+        self.refused(status.BAD_LENGTH, pix.map_indexed_rgba, b"abcd", b"abcd", kept)
+        self.refused(status.BAD_LENGTH, pix.table_rgba_from, b"abc")
+        self.refused(status.BAD_LENGTH, pix.diffuse_indexed_rgba, b"abcd", bytes(12), 2)
+        self.refused(status.BAD_LENGTH, pix.diffuse_indexed_rgba, b"abcd", b"abcd", 1, kept)
+        self.refused(status.BAD_INDEX, pix.look_up_rgba, b"abcd", b"\0\1")
+        self.refused(status.BAD_LENGTH, pix.look_up_rgba, b"abcd", b"\0", bytearray(3))
+        # After the table, and before the lengths.
+        for strength in (-1, 17, 256 + 16):
+            self.refused(status.BAD_STRENGTH, pix.diffuse_indexed, b"abc", b"abcd", 0, strength=strength)
+            self.refused(status.BAD_STRENGTH, pix.diffuse_indexed_rgba, b"abcd", b"abc", 0, kept, strength)
+            self.refused(status.BAD_TABLE, pix.diffuse_indexed, b"", b"abc", 1, strength=strength)
         self.assertEqual(kept, b"\x09\x09")
         for wrong in (-1, 256):
+            self.assertRaises(ValueError, pix.table_rgba_from, b"abcd", 256, wrong)
             self.assertRaises(ValueError, pix.map_indexed, b"abc", b"abcd", format=pix.Format.SRGBA8, alpha=wrong)
         self.assertRaises(TypeError, pix.map_indexed, b"abc", b"abc", b"\0")
         shared = bytearray(6)

@@ -28,7 +28,8 @@ A list that is run often is made a CommandList, which is tested once: image.run(
 as many commands take one by one.
 
 map_indexed() makes indices into a table of colors of a picture, for files such as GIF and PNG of a palette; look_up() makes
-colors of them again, and pack_row() bytes of several indices each.
+colors of them again, and pack_row() bytes of several indices each. map_indexed_rgba() does it with a table of colors with
+an alpha, which PNG can have.
 
 A picture may be painted tile by tile, each an Image of its own that runs the same commands at its place, as
 tile.run(*commands, origin=(left, top)); that is the picture painted whole. Several threads may paint bands of rows of
@@ -58,7 +59,8 @@ from pix._command import Command
 from pix._convert import convert
 from pix._image import Image
 from pix._indexed import (
-    count_indices, diffuse_indexed, index_pixels, look_up, map_indexed, pack_row, row_size, table_from, unpack_row,
+    count_indices, diffuse_indexed, diffuse_indexed_rgba, index_pixels, look_up, look_up_rgba, map_indexed, map_indexed_rgba,
+    pack_row, row_size, table_from, table_rgba_from, unpack_row,
 )  # fmt: skip
 from pix._list import CommandList
 from pix._makers import (
@@ -75,7 +77,7 @@ __all__ = [
     "Command", "CommandList", "Color", "Srgb", "srgb", "clear", "copy_color", "copy_image", "composite_color", "composite_image", "composite_matte",
     "composite_image_matte", "composite_image_alpha", "repeat_image", "convert", "convert_bitmap", "color_of",
     "table_from", "map_indexed", "diffuse_indexed", "index_pixels", "look_up", "count_indices", "row_size", "pack_row",
-    "unpack_row",
+    "unpack_row", "table_rgba_from", "map_indexed_rgba", "diffuse_indexed_rgba", "look_up_rgba",
     "SRGBA8", "SRGBA8P", "SBGRA8", "SBGRA8P", "SRGB8", "SBGR8", "SGRAY8", "SGRAYA8", "SRGBX8", "SBGRX8",
 ]  # fmt: skip
 
@@ -90,6 +92,8 @@ for _public in (Op, Format, Status, PixError, PixelType, Image, Matte, Command, 
 for _public in (Color, Srgb, srgb, color_of):
     _public.__module__ = __name__
 for _public in (table_from, map_indexed, diffuse_indexed, index_pixels, look_up, count_indices, row_size, pack_row, unpack_row):
+    _public.__module__ = __name__
+for _public in (table_rgba_from, map_indexed_rgba, diffuse_indexed_rgba, look_up_rgba):
     _public.__module__ = __name__
 for _public in (clear, copy_color, copy_image, composite_color, composite_image, composite_matte):
     _public.__module__ = __name__

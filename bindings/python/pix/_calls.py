@@ -10,9 +10,9 @@ from pix._memory import Memory
 from pix._turns import turns
 from pix._values import PixError, Status
 
-# How many colors a table has at most, and how many bytes they take.
+# How many colors a table has at most, and the memory that they take, by the bytes of each.
 ENTRIES = 256
-_TABLE = ctypes.c_ubyte * (3 * ENTRIES)
+_TABLES = {size: ctypes.c_ubyte * (size * ENTRIES) for size in (3, 4)}
 
 # Copies bytes, and keeps the interpreter's lock or lets it go.
 _MOVES = [kind(None).memmove for kind in (ctypes.PyDLL, ctypes.CDLL)]
@@ -39,13 +39,13 @@ class Copy:
         )
 
 
-def padded(table: Memory, length: int) -> Copy:
-    """A copy of a table with room for each entry that an index can be.
+def padded(table: Memory, length: int, size: int = 3) -> Copy:
+    """A copy of a table of entries of some bytes, with room for each entry that an index can be.
 
     A call is told that it has `length` bytes. So an index that changes under the call, after the
     library has tested it, is that of a wrong color, and of no other memory.
     """
-    return Copy(table, _TABLE(), length)
+    return Copy(table, _TABLES[size](), length)
 
 
 def copied_rows(memory: Memory, wide: int, apart: int, rows: int) -> bytearray:
@@ -99,7 +99,7 @@ class Call:
                 arguments.append(one)
                 continue
             if role == "table" and type(one) is Memory:
-                one = padded(one, one.length)
+                one = padded(one, one.length, size)
             if type(one) is Copy:
                 copies.append(one)
                 read.append(one.source)

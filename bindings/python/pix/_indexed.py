@@ -13,7 +13,9 @@ from pix._values import Format, PixError, Status
 _match, _match_alpha = Call("pix_table_match"), Call("pix_table_match_alpha")
 _from, _from_alpha = Call("pix_table_from"), Call("pix_table_from_alpha")
 _refined, _refined_alpha = Call("pix_table_refined"), Call("pix_table_refined_alpha")
-_diffuse, _diffuse_alpha = Call("pix_table_diffuse"), Call("pix_table_diffuse_alpha")
+_diffuse, _diffuse_alpha = Call("pix_table_diffuse_by"), Call("pix_table_diffuse_by_alpha")
+_rgba_from, _rgba_match = Call("pix_table_rgba_from"), Call("pix_table_rgba_match")
+_rgba_diffuse, _rgba_look_up = Call("pix_table_rgba_diffuse"), Call("pix_table_rgba_look_up")
 _index, _look_up, _count_all = Call("pix_table_index"), Call("pix_table_look_up"), Call("pix_table_count")
 _pack, _unpack = Call("pix_table_pack"), Call("pix_table_unpack")
 _COUNTS = ctypes.c_size_t * ENTRIES
@@ -72,6 +74,14 @@ def _table(buffer: Any, size: int) -> Memory:
     return memory
 
 
+def _table_rgba(buffer: Any) -> Memory:
+    """The memory of a table of colors with an alpha."""
+    memory = _read(buffer)
+    if not 0 < _count(memory, 4) <= ENTRIES:
+        raise PixError(Status.BAD_TABLE)
+    return memory
+
+
 def _kept_by(match: Any) -> Any:
     """What a function that matches does where there is no entry: it takes pixels that are all below the alpha."""
 
@@ -98,6 +108,17 @@ def _indices(indices: Any, count: int, *read: Memory) -> Tuple[Any, Memory]:
     if target.length != count:
         raise PixError(Status.BAD_LENGTH)
     return indices, target
+
+
+def _across(strength: int, width: int, pixels: Memory, size: int) -> int:
+    """The width of the rows in which the errors of pixels of a size are handed on. All rows have to be whole; without
+    pixels any width will do."""
+    if not 0 <= strength <= 16:
+        raise PixError(Status.BAD_STRENGTH)
+    count = _count(pixels, size)
+    if width < 1 or count % width:
+        raise PixError(Status.BAD_LENGTH)
+    return min(width, count) or 1
 
 
 def map_indexed(
@@ -174,6 +195,8 @@ def diffuse_indexed(
     format: Format = Format.SRGB8,
     alpha: SupportsIndex = 0,
     kept: SupportsIndex = 0,
+    strength: SupportsIndex = 16,
+    serpentine: bool = False,
 ) -> Any:
     """Does what `map_indexed` does, for a picture of rows of `width` pixels, by error diffusion.
 
@@ -181,25 +204,88 @@ def diffuse_indexed(
     one below on the left, 5 to the one below, and 1 to the one below on the right (Floyd and Steinberg). What is wanted is a whole
     number in each channel: a half is rounded up, and it is kept from 0 to 255. A pixel whose alpha is below `alpha` passes on none.
 
-    Raises PixError where the table, the width or the lengths don't fit, and leaves `indices` as they were.
+    `strength` is how many sixteenths of the errors are passed on: 16 are all of them, and with 0 each pixel has the nearest entry.
+    With `serpentine` every other row, the second first, goes from right to left, and the shares are mirrored there.
+
+    Raises PixError where the table, the strength, the width or the lengths don't fit, and leaves `indices` as they were.
     """
-    size = _pixel_size(format)
-    alpha, kept, across = _byte(alpha, "alpha"), _byte(kept, "index"), index(width)
+    size, share, across = _pixel_size(format), index(strength), index(width)
+    alpha, kept, back = _byte(alpha, "alpha"), _byte(kept, "index"), int(bool(serpentine))
     entries, source = _table(table, size), _read(pixels)
-    count = _count(source, size)
-    if across < 1 or count % across:
-        raise PixError(Status.BAD_LENGTH)
+    across, count = _across(share, across, source, size), _count(source, size)
     indices, target = _indices(indices, count, entries, source)
     if not entries.length:
         _keep(count, entries, source, alpha, kept, target)
         return indices
-    across = min(across, count) or 1  # a picture of no pixels may have rows of any width
     room = Memory(bytearray(3 * 4 * across))
-    own = room.address, 4 * across
+    how = share, back, room.address, 4 * across
     if size == 3:
-        _diffuse(count, entries, source, across, *own, target)
+        _diffuse(count, entries, source, across, *how, target)
     else:
-        _diffuse_alpha(count, entries, source, across, alpha, kept, *own, target)
+        _diffuse_alpha(count, entries, source, across, alpha, kept, *how, target)
+    return indices
+
+
+def table_rgba_from(pixels: Buffer, length: SupportsIndex = 256, rounds: SupportsIndex = 0) -> bytearray:
+    """Makes a table of at most `length` colors with an alpha of the pixels, four bytes each, for pictures whose alphas are kept.
+
+    The pixels, and the entries, are of the format SRGBA8: red, green, blue and alpha, which the colors are not multiplied by. Pixels
+    and entries count as they are seen over black and over white. So all clear pixels are one color, and of nearly clear ones the
+    color hardly counts. With no more than `length` distinct colors, as they are seen, the table is just those, in order of first
+    place. Else it is made by cuts, and refined by so many `rounds`, as table_from() makes one of colors. Of opaque pixels it has the
+    colors that table_from() makes of them. It takes work memory of four bytes a pixel.
+
+    Raises PixError where `length` is not from 1 to 256, or the pixels don't fit.
+    """
+    rounds, most = _byte(rounds, "number of rounds"), index(length)
+    source = _read(pixels)
+    count = _count(source, 4)
+    if not 0 < most <= ENTRIES:
+        raise PixError(Status.BAD_TABLE)
+    entries, made = bytearray(4 * most), ctypes.c_size_t()
+    target, room = Memory(entries), Memory(bytearray(4 * count))
+    _rgba_from(count * (1 + rounds), source, rounds, room.address, count, target.address, most, made)
+    return entries[: 4 * made.value]
+
+
+def map_indexed_rgba(table: Buffer, pixels: Buffer, indices: Any = None) -> Any:
+    """Writes for each pixel the index of the entry that is seen nearest to it, and returns `indices`, without which it makes a
+    bytearray.
+
+    The table has from 1 to 256 colors with an alpha, as table_rgba_from() makes them, and the pixels are of the format SRGBA8. The
+    nearest entry, the first of equals, is the one with the least sum of the squares of the differences in red, green and blue over
+    black and over white.
+
+    Raises PixError where the table or the lengths don't fit, and leaves `indices` as they were.
+    """
+    entries, source = _table_rgba(table), _read(pixels)
+    count = _count(source, 4)
+    indices, target = _indices(indices, count, entries, source)
+    _rgba_match(count, entries, source, target)
+    return indices
+
+
+def diffuse_indexed_rgba(
+    table: Buffer,
+    pixels: Buffer,
+    width: SupportsIndex,
+    indices: Any = None,
+    strength: SupportsIndex = 16,
+    serpentine: bool = False,
+) -> Any:
+    """Does what `map_indexed_rgba` does, for a picture of rows of `width` pixels, by error diffusion.
+
+    Errors in the alpha, and in the colors multiplied by it, are passed on as diffuse_indexed() passes on those in the colors. A clear
+    pixel takes none and passes on none.
+
+    Raises PixError where the table, the strength, the width or the lengths don't fit, and leaves `indices` as they were.
+    """
+    share, across, back = index(strength), index(width), int(bool(serpentine))
+    entries, source = _table_rgba(table), _read(pixels)
+    across, count = _across(share, across, source, 4), _count(source, 4)
+    indices, target = _indices(indices, count, entries, source)
+    room = Memory(bytearray(4 * 4 * across))
+    _rgba_diffuse(count, entries, source, across, share, back, room.address, 4 * across, target)
     return indices
 
 
@@ -240,14 +326,24 @@ def look_up(table: Buffer, indices: Buffer, pixels: Any = None) -> Any:
 
     Raises PixError where an index is past the end of the table, or the lengths don't fit, and leaves `pixels` as they were.
     """
+    return _looked_up(_look_up, 3, table, indices, pixels)
+
+
+def look_up_rgba(table: Buffer, indices: Buffer, pixels: Any = None) -> Any:
+    """Does what `look_up` does, with a table of colors with an alpha, of four bytes each."""
+    return _looked_up(_rgba_look_up, 4, table, indices, pixels)
+
+
+def _looked_up(call: Call, size: int, table: Buffer, indices: Buffer, pixels: Any) -> Any:
+    """Writes the entry, of so many bytes, of each index."""
     entries, source = _read(table), _read(indices)
-    entry_count = min(_count(entries, 3), ENTRIES)
+    entry_count = min(_count(entries, size), ENTRIES)
     if pixels is None:
-        pixels = bytearray(3 * source.length)
+        pixels = bytearray(size * source.length)
     target = _written(pixels, entries, source)
-    if _count(target, 3) != source.length:
+    if _count(target, size) != source.length:
         raise PixError(Status.BAD_LENGTH)
-    _look_up(source.length, padded(entries, 3 * entry_count), source, target)
+    call(source.length, padded(entries, size * entry_count, size), source, target)
     return pixels
 
 

@@ -14,7 +14,7 @@ LONG = 500_000
 # is used, which is an address and a count of elements of so many bytes: a call takes its turn by just that.
 #
 #   read:n, write:n   read, or written
-#   table:3           read in a copy that has room for 256 colors
+#   table:n           read in a copy that has room for 256 colors
 #   image:n           written by commands, which read their sources
 #
 # The others are numbers; `own` is memory that nobody else knows, and `count` a number there.
@@ -33,10 +33,14 @@ CALLS = {
     "pix_table_from_alpha": (32, "read:4 u8 own size own size count"),
     "pix_table_refined": (48, "read:3 u8 own size own size count"),
     "pix_table_refined_alpha": (48, "read:4 u8 u8 own size own size count"),
-    "pix_table_diffuse": (48, "table:3 read:3 size own size write:1"),
-    "pix_table_diffuse_alpha": (48, "table:3 read:4 size u8 u8 own size write:1"),
+    "pix_table_diffuse_by": (48, "table:3 read:3 size u8 u8 own size write:1"),
+    "pix_table_diffuse_by_alpha": (48, "table:3 read:4 size u8 u8 u8 u8 own size write:1"),
     "pix_table_index": (16, "table:3 count own read:3 own size"),
     "pix_table_look_up": (1, "table:3 read:1 write:3"),
+    "pix_table_rgba_from": (48, "read:4 u8 own size own size count"),
+    "pix_table_rgba_match": (24, "table:4 read:4 write:1"),
+    "pix_table_rgba_diffuse": (64, "table:4 read:4 size u8 u8 own size write:1"),
+    "pix_table_rgba_look_up": (1, "table:4 read:1 write:4"),
     "pix_table_count": (1, "read:1 own size"),
     "pix_table_pack": (1, "u32 read:1 write:1"),
     "pix_table_unpack": (1, "u32 read:1 write:1"),

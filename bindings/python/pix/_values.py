@@ -167,6 +167,7 @@ class Status(IntEnum):
     BAD_INDEX = 12
     BAD_DEPTH = 13
     FULL_TABLE = 14
+    BAD_STRENGTH = 15
 
 
 _TEXTS = {
@@ -181,6 +182,7 @@ _TEXTS = {
     Status.BAD_INDEX: "an index is past the end, or takes more bits than it is to have",
     Status.BAD_DEPTH: "indices take 1, 2, 4 or 8 bits",
     Status.FULL_TABLE: "a table has no room for a color",
+    Status.BAD_STRENGTH: "errors are diffused with a strength of 0 to 16",
 }
 
 
