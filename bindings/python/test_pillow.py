@@ -1,5 +1,6 @@
 """Pictures of Pillow: what becomes of each mode, and pictures of indices."""
 
+import io
 import struct
 import sys
 import tempfile
@@ -339,6 +340,44 @@ class Indexed(unittest.TestCase):
         self.assertRaisesRegex(
             ValueError, "no room for clear pixels", clear.to_pillow, "P", bytes(768)
         )
+
+    def test_alphas_that_are_kept(self):
+        """Few colors come back with their alphas, through a PNG too; many become the nearest."""
+        few = gradient("RGB").quantize(9).convert("RGBA")
+        few.putalpha(gradient("L").point(lambda level: 255 if level > 90 else level // 30 * 20))
+        image = pix.Image.from_pillow(few)
+        picture = image.to_pillow("P", keep_alpha=True)
+        self.assertEqual(picture.mode, "P")
+        over_black = lambda it: [
+            (*((2 * level * pixel[3] + 255) // 510 for level in pixel[:3]), pixel[3])
+            for pixel in it.convert("RGBA").getdata()
+        ]
+        self.assertEqual(over_black(picture), over_black(image.to_pillow()))
+        alphas = picture.info["transparency"]
+        self.assertTrue(alphas and all(alpha < 255 for alpha in alphas))
+        file = io.BytesIO()
+        picture.save(file, "PNG")
+        with pillow.open(file) as read:
+            self.assertEqual(read.info["transparency"], alphas)
+            back = pix.Image.from_pillow(read)
+        self.assertEqual(back.pixels, pix.Image.from_pillow(picture).pixels)
+        table = bytes((200, 30, 90, 255, 0, 0, 0, 0, 255, 255, 255, 128))
+        pixels = image.to_array(pix.SRGBA8)
+        for diffuse, indices in (
+            (False, pix.map_indexed_rgba(table, pixels)),
+            (True, pix.diffuse_indexed_rgba(table, pixels, SIZE[0])),
+        ):
+            for colors in (table, ["#c81e5a", (0, 0, 0, 0), "#ffffff80"]):
+                picture = image.to_pillow("P", colors, diffuse, keep_alpha=True)
+                self.assertEqual(picture.tobytes(), bytes(indices))
+                shown = bytes(pix.look_up_rgba(table, indices))
+                self.assertEqual(picture.convert("RGBA").tobytes(), shown)
+        opaque = pix.Image.from_pillow(gradient("RGB")).to_pillow("P", keep_alpha=True)
+        self.assertNotIn("transparency", opaque.info)
+        self.assertEqual(pix.Image.new(0, 3).to_pillow("P", keep_alpha=True).size, (0, 3))
+        for wrong in (b"", bytes(3), bytes(4 * 257), []):
+            self.assertRaises(ValueError, image.to_pillow, "P", wrong, keep_alpha=True)
+        self.assertRaises(ValueError, image.to_pillow, "RGBA", keep_alpha=True)
 
     def test_what_is_refused(self):
         image = pix.Image.new(2, 2)

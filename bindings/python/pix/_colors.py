@@ -255,14 +255,15 @@ def refuse_mistaken(color: Tuple[int, ...], kind: PixelType) -> None:
     raise ValueError(f"{color} {why}: write {instead}, or {meant}")
 
 
-def table_of(table: Any) -> bytes:
-    """The bytes of a table of at most 256 colors: a buffer of three bytes each, or texts and
-    tuples as srgb() takes them."""
+def table_of(table: Any, size: int = 3) -> bytes:
+    """The bytes of a table of at most 256 colors: a buffer of three bytes each, or of four with an
+    alpha, or texts and tuples as srgb() takes them."""
     try:
         entries = memoryview(table).tobytes()
     except TypeError:
         colors = [color if type(color) is Srgb else srgb(color) for color in table]
-        entries = b"".join(color._bytes[:3] for color in colors)
-    if not entries or len(entries) % 3 or len(entries) > 768:
-        raise ValueError(f"{len(entries)} bytes are no table of 1 to 256 colors of three bytes")
+        entries = b"".join(color._bytes[:size] for color in colors)
+    if not entries or len(entries) % size or len(entries) > 256 * size:
+        word = {3: "three", 4: "four"}[size]
+        raise ValueError(f"{len(entries)} bytes are no table of 1 to 256 colors of {word} bytes")
     return entries

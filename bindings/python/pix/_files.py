@@ -145,7 +145,7 @@ def saved(image: Any, file: Any, format: Optional[str], options: Any) -> None:
             raise TypeError(f"{kind} takes no options: {', '.join(options)}")
         put(file, encoded(image, str(kind)))
         return
-    picture = picture_of(image, "RGBA", None, False)
+    picture = picture_of(image, "RGBA")
     picture = plain(image, picture, picture.getchannel("A").getextrema()[0] == 255)
     try:
         picture.save(file, format, **options)

@@ -162,21 +162,28 @@ class Image(View):
         kind, facts = kind_of(type), facts_of(picture, white)
         return image_of(picture, facts, lambda width, height: cls.new(width, height, kind))
 
-    def to_pillow(self, mode: str = "RGBA", table: Any = None, diffuse: bool = False) -> Any:
+    def to_pillow(
+        self,
+        mode: str = "RGBA",
+        table: Any = None,
+        diffuse: bool = False,
+        keep_alpha: bool = False,
+    ) -> Any:
         """The picture as one of Pillow, of the mode RGBA, RGB, L or LA; or of P: of indices into a
         table of colors.
 
         `table` is a buffer of three bytes for each color, or has texts and tuples as srgb() takes
         them; without it one of the picture's own colors is made. With `diffuse` the error of each
         pixel is handed on to those beside it. Pixels whose alpha is below 128 become an entry of
-        their own, which is transparent.
+        their own, which is transparent. With `keep_alpha` each color has an alpha, of a fourth
+        byte: PNG keeps them, and GIF has no such colors.
 
         >>> image = pix.Image.new(2, 1)
         >>> image.run(pix.copy_color((0, 0, 2, 1), pix.srgb("#c87828")))
         >>> image.to_pillow("P", ["#000", "#c80"]).getpixel((0, 0))
         1
         """
-        return picture_of(self, mode, table, diffuse)
+        return picture_of(self, mode, table, diffuse, keep_alpha)
 
     def _bitmap(self) -> Bitmap:
         """The rows as a bitmap."""

@@ -10,7 +10,14 @@ from typing import Any, Callable, NamedTuple, Optional, Tuple
 from pix._bitmap import Bitmap, write
 from pix._colors import table_of
 from pix._fresh import lit, looked_up, scaled, zeros
-from pix._indexed import diffuse_indexed, map_indexed, table_from
+from pix._indexed import (
+    diffuse_indexed,
+    diffuse_indexed_rgba,
+    map_indexed,
+    map_indexed_rgba,
+    table_from,
+    table_rgba_from,
+)
 from pix._values import Format, Status
 
 # How many bytes of a picture are read at once: they stay in a core's own cache; and where Pillow
@@ -186,19 +193,21 @@ def read_levels(strip: Any, facts: Facts) -> Tuple[Any, Format]:
     return both, Format.GRAYA16
 
 
-def picture_of(image: Any, mode: str, table: Any, diffuse: bool) -> Any:
+def picture_of(
+    image: Any, mode: str, table: Any = None, diffuse: bool = False, keep_alpha: bool = False
+) -> Any:
     """A picture of Pillow of an image."""
     from PIL import Image as pillow
 
     if mode == "P":
-        return indexed(image, table, diffuse)
+        return (indexed_rgba if keep_alpha else indexed)(image, table, diffuse)
     if mode not in _MADE:
         raise ValueError(
             f"mode {mode!r} is none of {', '.join(_MADE)} and P: make RGB, and convert that by"
             " Pillow"
         )
-    if table is not None:
-        raise ValueError(f"a picture of mode {mode} has no table: write to_pillow('P', table)")
+    if table is not None or keep_alpha:
+        raise ValueError(f"a picture of mode {mode} has no table: write to_pillow('P', ..)")
     size, format = (image.width, image.height), _MADE[mode]
     if not image.width or not image.height:
         return pillow.new(mode, size)
@@ -269,4 +278,32 @@ def indexed(image: Any, table: Any, diffuse: bool) -> Any:
     picture.putpalette(entries + bytes(3) if has_clear else entries)
     if has_clear:
         picture.info["transparency"] = kept
+    return picture
+
+
+def indexed_rgba(image: Any, table: Any, diffuse: bool) -> Any:
+    """A picture of indices into a table of colors with an alpha, which is made where none is given:
+    then those that are not opaque come first, since a PNG keeps the alphas up to the last of
+    them."""
+    from PIL import Image as pillow
+
+    size, pixels = (image.width, image.height), pixels_of(image, Format.SRGBA8)
+    if not image.width or not image.height:
+        return pillow.new("P", size)
+    if table is None:
+        made = table_rgba_from(pixels)
+        each = [bytes(made[i : i + 4]) for i in range(0, len(made), 4)]
+        entries = b"".join(sorted(each, key=lambda entry: entry[3] == 255))
+    else:
+        entries = table_of(table, 4)
+    indices = (
+        diffuse_indexed_rgba(entries, pixels, image.width)
+        if diffuse
+        else map_indexed_rgba(entries, pixels)
+    )
+    picture = pillow.frombuffer("P", size, indices, "raw", "P", 0, 1)
+    picture.putpalette(bytes(n for i, n in enumerate(entries) if i % 4 < 3))
+    alphas = entries[3::4].rstrip(b"\xff")
+    if alphas:
+        picture.info["transparency"] = alphas
     return picture
