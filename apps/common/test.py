@@ -137,9 +137,14 @@ class OfText(OddFiles):
 
 
 class OfEncoder(OddFiles):
-    """Which reads by Pillow, and so all of them."""
+    """Which reads by Pillow, and so all of them; what is animated becomes a GIF."""
 
     program = ENCODER
+
+    def setUp(self):
+        super().setUp()
+        self.moving = [file for file in self.files if file.path.stem == "animated"]
+        self.files = [file for file in self.files if file not in self.moving]
 
     def is_read(self, file):
         return bool(file.size)
@@ -153,6 +158,21 @@ class OfEncoder(OddFiles):
 
     def test_odd_files(self):
         self.compare(self.drawn)
+
+    def test_animated_files(self):
+        made = self.folder / "made.gif"
+        for file in self.moving:
+            with self.subTest(file=file.path.name):
+                self.refuses(1, "it has 2 frames, and a PNG has one", *self.words(file.path, file.size))
+                self.run_program("--gif", made, file.path)
+                with Image.open(file.path) as asked, Image.open(made) as found:
+                    self.assertEqual((asked.n_frames, found.n_frames), (2, 2))
+                    for number in range(2):
+                        asked.seek(number)
+                        found.seek(number)
+                        self.assert_same(over_gray(found.convert("RGBA")), over_gray(asked.convert("RGBA")), 1)
+                        self.assertEqual(found.info["duration"], 100)
+        self.assertEqual(len(self.moving), 3)
 
 
 def processor_seconds():

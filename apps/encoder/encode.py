@@ -5,15 +5,21 @@ Writes pictures that Pillow reads as indexed ones: each as a PNG, or all as the 
   --into FOLDER    write each FILE as an indexed PNG of its name into this folder (the present one)
   --gif FILE       write one GIF in place of that, with one table of colors for all frames
   --colors N       at most so many colors, from 2 to 256 (256)
-  --rounds N       refine the table by so many rounds, from 0 to 255 (0)
+  --rounds N       refine the table by so many rounds, from 0 to 255 (4)
   --dither         spread the error of each pixel over those that come after it
-  --ground RRGGBB  composite transparent pictures over this color; else their clear parts stay clear
-  --delay MS       how long the GIF shows each frame, in steps of 10 (100)
+  --strength N     with --dither, spread so many sixteenths of it, from 0 to 16 (16)
+  --serpentine     with --dither, go from right to left in every other row
+  --ground RRGGBB  composite transparent pictures over this color; else their alphas stay
+  --delay MS       how long the GIF shows each still picture, in steps of 10 (100)
   --help           print this
 
-On a terminal a bar shows how many pictures are done. No picture is written over one that is read. It
-needs pix and Pillow. The status is 0, 1 after a file that can't be read or written, or 2 after another
-use, or where something is missing.
+A PNG keeps alphas. In a GIF each pixel is clear or opaque: those with an alpha below 128 are clear. An
+animated FILE becomes frames of the GIF with the times of its own, and no PNG.
+
+Prints a line for each file that is written: its size, its colors, its bytes, and the mean squared error
+of its pixels, averaged over black and white. On a terminal a bar shows how many pictures are done. No
+picture is written over one that is read. It needs pix and Pillow. The status is 0, 1 after a file that
+can't be read or written, or 2 after another use, or where something is missing.
 """
 
 import os
@@ -30,7 +36,7 @@ except ImportError as error:
     print(f"encode.py: {error}: it stands on pix and Pillow", file=sys.stderr)
     sys.exit(2)
 
-NUMBERS = {"--colors": (2, 256), "--rounds": (0, 255), "--delay": (10, 655350)}
+NUMBERS = {"--colors": (2, 256), "--rounds": (0, 255), "--strength": (0, 16), "--delay": (10, 655350)}
 
 
 class UsageError(Exception):
@@ -41,14 +47,14 @@ class Options:
     """What was asked for."""
 
     def __init__(self, words):
-        self.values = {"--into": ".", "--gif": None, "--colors": "256", "--rounds": "0", "--ground": None}
-        self.values["--delay"] = "100"
-        self.dithers, self.files = False, []
+        self.values = {"--into": ".", "--gif": None, "--colors": "256", "--rounds": "4", "--ground": None}
+        self.values.update({"--delay": "100", "--strength": "16"})
+        self.flags, self.files = set(), []
         words = list(words)
         while words:
             word = words.pop(0)
-            if word == "--dither":
-                self.dithers = True
+            if word in ("--dither", "--serpentine"):
+                self.flags.add(word)
             elif word == "--":
                 self.files, words = self.files + words, []
             elif word in self.values:
@@ -62,6 +68,7 @@ class Options:
         if not self.files:
             raise UsageError("name a picture")
         self.colors, self.rounds, self.delay = map(self.number, ("--colors", "--rounds", "--delay"))
+        self.diffusion = self.spreading()
         self.gif, self.ground = self.values["--gif"], self.color()
         self.targets = self.paths()
 
@@ -71,6 +78,11 @@ class Options:
         if not (text.isascii() and text.isdigit() and least <= int(text[:9]) <= most):
             raise UsageError(f"{option} takes a number from {least} to {most}, and not {text}")
         return int(text)
+
+    def spreading(self):
+        """Returns how errors are spread, or None."""
+        diffusion = table.Diffusion(self.number("--strength"), "--serpentine" in self.flags)
+        return diffusion if "--dither" in self.flags else None
 
     def color(self):
         """Returns red, green and blue of the ground, or None."""
@@ -127,31 +139,47 @@ class Progress:
             print("\r\x1b[K", end="", file=sys.stderr, flush=True)
 
 
+def tell(progress, name, frames, count, error):
+    """Prints what was written."""
+    width, height = frames[0].size
+    many = f"{len(frames)} frames, " if len(frames) > 1 else ""
+    progress.end()
+    said = f"{name}: {width}x{height}, {many}{len(frames[0].table)} colors, {count} bytes, mean squared error {error:.2f}"
+    print(said, flush=True)
+
+
 def encode_each(options, progress):
     """Writes each picture as a PNG with a table of its own."""
     for name, target in zip(options.files, options.targets):
         progress.show(name)
-        picture = files.read(name, options.ground)
-        colors = table.of_pictures([picture], options.colors, options.rounds)
-        files.write_png(target, table.indexed(picture, colors, options.dithers), colors)
+        picture = files.read_one(name, options.ground)
+        colors = table.of_picture(picture, options.colors, options.rounds)
+        frame = table.indexed(picture, colors, options.diffusion)
+        count = files.write_png(target, frame)
+        tell(progress, target, [frame], count, files.squared_error(picture, frame))
         progress.step()
 
 
 def encode_all(options, progress):
     """Writes all pictures as frames of one GIF: they are read for its table, and then become indices."""
-    pictures = []
+    pictures, names = [], []
     for name in options.files:
         progress.show(name)
-        pictures.append(files.read(name, options.ground))
+        found = files.read(name, options.ground)
+        pictures, names = pictures + found, names + [name] * len(found)
         progress.step()
+    progress.count += len(pictures) - len(options.files)
     pictures = files.of_one_size(pictures)
-    colors = table.of_pictures(pictures, options.colors, options.rounds)
+    colors = table.of_frames(pictures, options.colors, options.rounds)
     frames = []
-    for name, picture in zip(options.files, pictures):
+    for name, picture in zip(names, pictures):
         progress.show(name)
-        frames.append(table.indexed(picture, colors, options.dithers))
+        frames.append(table.indexed_frame(picture, colors, options.diffusion))
         progress.step()
-    files.write_gif(options.gif, frames, colors, options.delay)
+    times = [options.delay if picture.time is None else picture.time for picture in pictures]
+    count = files.write_gif(options.gif, frames, times)
+    errors = [files.squared_error(*both) for both in zip(pictures, frames)]
+    tell(progress, options.gif, frames, count, sum(errors) / len(errors))
 
 
 def main(words):

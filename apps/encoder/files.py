@@ -5,11 +5,18 @@ import struct
 import zlib
 
 import PIL.Image
+import PIL.ImageChops
 import PIL.ImageOps
+import PIL.ImageSequence
+import PIL.ImageStat
 import pix
 
-# The longest side of a GIF.
-GIF_SIDE = 65535
+# The longest side of a GIF, and its longest time, in milliseconds.
+GIF_SIDE, GIF_TIME = 65535, 655350
+# The kinds of files whose pictures are shown one after the other.
+MOVING = ("GIF", "PNG", "WEBP")
+# How hard zlib tries. Level 9 takes three times as long and more, for one or two hundredths of the size.
+LEVEL = 6
 
 
 class PictureError(Exception):
@@ -17,10 +24,11 @@ class PictureError(Exception):
 
 
 class Picture:
-    """Pixels of red, green, blue and alpha in sRGB, a byte each, in rows without gaps; `size` is the width and the height."""
+    """Pixels of red, green, blue and alpha in sRGB, a byte each, in rows without gaps; `size` is the width and the height. `time` is
+    how many milliseconds a frame of a moving picture is shown, or None."""
 
-    def __init__(self, size, pixels):
-        self.size, self.pixels = size, pixels
+    def __init__(self, size, pixels, time=None):
+        self.size, self.pixels, self.time = size, pixels, time
 
     @property
     def region(self):
@@ -61,22 +69,46 @@ def pixels_of(picture, clear):
     return picture.convert("RGBA").tobytes()
 
 
+def still(file):
+    """Returns the picture of a file that was opened, the first one of several, the right way up."""
+    clear = clear_color(file)
+    upright = PIL.ImageOps.exif_transpose(file)
+    return Picture(upright.size, bytes(pixels_of(upright, clear)))
+
+
+def moving(file):
+    """Returns the frames of a file that was opened, each as it is shown."""
+    frames = []
+    for frame in PIL.ImageSequence.Iterator(file):
+        shown = PIL.ImageOps.exif_transpose(frame.convert("RGBA"))
+        time = min(GIF_TIME, max(0, int(frame.info.get("duration", 0))))
+        frames.append(Picture(shown.size, shown.tobytes(), time))
+    return frames
+
+
 def read(name, ground=None):
-    """Returns the picture of a file, the first one of several, the right way up; over a color of sRGB where one is given."""
+    """Returns the pictures of a file: one, or the frames of a moving picture; over a color of sRGB where one is given."""
     try:
         with PIL.Image.open(name) as file:
-            clear = clear_color(file)
-            upright = PIL.ImageOps.exif_transpose(file)
-            picture = Picture(upright.size, bytes(pixels_of(upright, clear)))
+            moves = file.format in MOVING and getattr(file, "n_frames", 1) > 1
+            pictures = moving(file) if moves else [still(file)]
     except PIL.UnidentifiedImageError:
         raise PictureError(f"{name}: Pillow knows no such picture") from None
     except OSError as error:
         raise PictureError(f"{name}: {error.strerror or error}") from None
     except (SyntaxError, ValueError, MemoryError, PIL.Image.DecompressionBombError) as error:
         raise PictureError(f"{name}: {error}") from None
-    if 0 in picture.size:
+    if any(0 in picture.size for picture in pictures):
         raise PictureError(f"{name}: it has no pixels")
-    return picture if ground is None else over(picture, ground)
+    return pictures if ground is None else [over(picture, ground) for picture in pictures]
+
+
+def read_one(name, ground=None):
+    """Returns the picture of a file that has one."""
+    pictures = read(name, ground)
+    if len(pictures) > 1:
+        raise PictureError(f"{name}: it has {len(pictures)} frames, and a PNG has one: --gif FILE keeps them")
+    return pictures[0]
 
 
 def over(picture, color):
@@ -84,7 +116,7 @@ def over(picture, color):
     light = pix.Image.from_array(picture.pixels, pix.SRGBA8, size=picture.size)
     ground = pix.Image.new(*picture.size, pix.RGBA16)
     ground.run(pix.copy_color(picture.region, pix.color_of(pix.SRGB8, color)), pix.composite_image(picture.region, light))
-    return Picture(picture.size, bytes(ground.to_array(pix.SRGBA8)))
+    return Picture(picture.size, bytes(ground.to_array(pix.SRGBA8)), picture.time)
 
 
 def of_one_size(pictures):
@@ -95,7 +127,7 @@ def of_one_size(pictures):
         left, top = (width - picture.size[0]) // 2, (height - picture.size[1]) // 2
         sheet = pix.Image.new(width, height)
         sheet.run(pix.copy_image((left, top, *picture.size), pix.Image(picture.pixels, *picture.size)))
-        return Picture((width, height), bytes(sheet.pixels))
+        return Picture((width, height), bytes(sheet.pixels), picture.time)
 
     return [it if it.size == (width, height) else middle(it) for it in pictures]
 
@@ -114,29 +146,45 @@ def chunk(kind, data):
     return struct.pack(">I", len(data)) + kind + data + struct.pack(">I", zlib.crc32(kind + data))
 
 
-def write_png(name, frame, table):
-    """Writes an indexed PNG, of as few of 1, 2, 4 or 8 bits a pixel as the table needs."""
-    (width, height), count = frame.size, len(table.entries) // 3
-    bits = next(bits for bits in (1, 2, 4, 8) if count <= 2**bits)
+def write_png(name, frame):
+    """Writes an indexed PNG, of as few of 1, 2, 4 or 8 bits a pixel as the table needs, and returns how many bytes it has."""
+    (width, height), table = frame.size, frame.table
+    bits = next(bits for bits in (1, 2, 4, 8) if len(table) <= 2**bits)
     # Each row of indices is packed, and has no filter.
     rows = [b"\0" + pix.pack_row(bits, frame.indices[width * y : width * (y + 1)]) for y in range(height)]
-    alphas = b"" if table.clear is None else b"\xff" * table.clear + b"\0"
-    parts = [(b"IHDR", struct.pack(">IIBBBBB", width, height, bits, 3, 0, 0, 0)), (b"sRGB", b"\0"), (b"PLTE", table.entries)]
-    parts += [(b"tRNS", alphas)] if alphas else []
-    parts += [(b"IDAT", zlib.compress(b"".join(rows), 9)), (b"IEND", b"")]
-    write(name, b"\x89PNG\r\n\x1a\n" + b"".join(chunk(*part) for part in parts))
+    parts = [(b"IHDR", struct.pack(">IIBBBBB", width, height, bits, 3, 0, 0, 0)), (b"sRGB", b"\0"), (b"PLTE", table.colors)]
+    parts += [(b"tRNS", table.alphas)] if table.alphas else []
+    parts += [(b"IDAT", zlib.compress(b"".join(rows), LEVEL)), (b"IEND", b"")]
+    data = b"\x89PNG\r\n\x1a\n" + b"".join(chunk(*part) for part in parts)
+    write(name, data)
+    return len(data)
 
 
-def write_gif(name, frames, table, delay):
-    """Writes a GIF with one table of colors: without `palette`, Pillow gives each frame one of its own."""
+def write_gif(name, frames, times):
+    """Writes a GIF with one table of colors, and returns how many bytes it has: without `palette`, Pillow gives each frame one of
+    its own."""
     if max(frames[0].size) > GIF_SIDE:
         raise PictureError(f"{name}: a GIF has sides of at most {GIF_SIDE} pixels")
-    data, pictures = io.BytesIO(), []
+    data, pictures, table = io.BytesIO(), [], frames[0].table
     for frame in frames:
         pictures.append(PIL.Image.frombytes("P", frame.size, bytes(frame.indices)))
-        pictures[-1].putpalette(table.entries)
-    options = {"save_all": True, "append_images": pictures[1:], "duration": delay, "loop": 0, "optimize": False, "interlace": False}
+        pictures[-1].putpalette(table.colors)
+    options = {"save_all": True, "append_images": pictures[1:], "duration": times, "loop": 0, "optimize": False, "interlace": False}
     if table.clear is not None:
         options["transparency"] = table.clear
-    pictures[0].save(data, "GIF", palette=bytes(table.entries), disposal=2, **options)
+    pictures[0].save(data, "GIF", palette=table.colors, disposal=2, **options)
     write(name, data.getbuffer())
+    return len(data.getbuffer())
+
+
+def squared_error(picture, frame):
+    """Returns the mean squared error of a picture as it is seen: in red, green and blue, added, over black and over white,
+    averaged."""
+    both = [PIL.Image.frombytes("RGBA", picture.size, bytes(pixels)) for pixels in (picture.pixels, frame.pixels)]
+    total = 0.0
+    for level in (0, 255):
+        ground = PIL.Image.new("RGBA", picture.size, (level, level, level, 255))
+        over_it = [PIL.Image.alpha_composite(ground, it).convert("RGB") for it in both]
+        stat = PIL.ImageStat.Stat(PIL.ImageChops.difference(*over_it))
+        total += sum(stat.sum2) / stat.count[0] / 2
+    return total

@@ -11,6 +11,7 @@ import itertools
 import os
 import pathlib
 import pty
+import re
 import struct
 import subprocess
 import sys
@@ -67,13 +68,41 @@ class Encoder(Trial):
             self.assertEqual(bits, wanted)
             self.assert_same(made, flag)
 
-    def test_clear_pixels_stay_clear(self):
+    def assert_seen(self, picture, other):
+        """Two pictures look the same over black and over white."""
+        for level in (0, 255):
+            grounds = [Image.new("RGBA", it.size, (level, level, level, 255)) for it in (picture, other)]
+            self.assert_same(*map(Image.alpha_composite, grounds, (picture.convert("RGBA"), other)), most=1)
+
+    def test_alphas_stay(self):
+        """In a PNG the colors that are not opaque come first, and have their alphas; in a GIF a pixel is clear or opaque."""
         flag = self.flag((200, 0, 0, 255), (0, 0, 0, 0), (0, 9, 200, 128), (0, 9, 200, 127), (0, 0, 0, 255))
         made, bits = self.png(flag)
-        self.assertEqual(bits, 2)
-        self.assert_same(made, self.flag((200, 0, 0, 255), (0, 0, 0, 0), (0, 9, 200, 255), (0, 0, 0, 0), (0, 0, 0, 255)))
-        made, _ = self.png(self.flag((9, 9, 9, 0)))
-        self.assertEqual(made.convert("RGBA").getextrema()[3], (0, 0))
+        self.assertEqual((bits, made.info["transparency"]), (4, bytes((0, 128, 127))))
+        self.assert_seen(made, flag)
+        [frame], _, _ = self.gif(self.picture("flag.png", flag))
+        self.assert_same(frame, self.flag((200, 0, 0, 255), (0, 0, 0, 0), (0, 9, 200, 255), (0, 0, 0, 0), (0, 0, 0, 255)))
+        for alpha in (0, 9):
+            clear = self.flag((9, 9, 9, alpha))
+            self.assert_seen(self.png(clear)[0], clear)
+            [frame], _, _ = self.gif(self.picture("clear.png", clear))
+            self.assertEqual(frame.getextrema()[3], (0, 0))
+        self.assertNotIn("transparency", self.png(self.flag((9, 9, 9, 255)))[0].info)
+
+    def test_a_drawing_with_alphas(self):
+        """In a few colors it looks much as it is: the mean squared error that is printed is small, and it is that of the file."""
+        made = self.folder / "leaf.png"
+        said = self.run_program("--into", self.folder, "--colors", 16, LEAF).stdout
+        error = float(re.fullmatch(rf"{made}: 320x320, 16 colors, {made.stat().st_size} bytes, mean squared error (.*)\n", said)[1])
+        self.assertLess(error, 50)
+        sums = []
+        for level in (0, 255):
+            ground = Image.new("RGBA", (320, 320), (level, level, level, 255))
+            both = [Image.alpha_composite(ground, open_picture(path)).tobytes() for path in (LEAF, made)]
+            sums.append(sum((a - b) ** 2 for a, b in zip(*both)) / 320**2)
+        self.assertAlmostEqual(error, sum(sums) / 2, 2)
+        rough = self.run_program("--into", self.folder, "--colors", 16, "--rounds", 0, LEAF).stdout
+        self.assertGreater(float(rough.split()[-1]), error)
 
     def test_each_pixel_has_the_nearest_color(self):
         """No other color of the table is nearer to a pixel than its own, and of equals it is the first; in a GIF as in a PNG."""
@@ -100,23 +129,34 @@ class Encoder(Trial):
         self.assertLess(apart[1], apart[0] / 2)
 
     def test_errors_are_handed_on(self):
-        """Each pixel has the color nearest to its own and what it gets of the errors before it, by Floyd and Steinberg."""
+        """Each pixel has the color that is seen nearest to its own and what it gets of the errors before it, by Floyd and
+        Steinberg; with less strength it gets less, and with --serpentine every other row is mirrored."""
         photo = open_picture(LAKE).crop((200, 150, 223, 165))
         photo.paste((0, 0, 0, 0), (5, 5, 9, 8))
-        made, _ = self.png(photo, "--colors", 6, "--dither")
-        table = made.getpalette()[:18]
-        colors, clear = [table[i : i + 3] for i in range(0, 15, 3)], 5
-        got = {}
-        for place, pixel, index in zip(itertools.product(range(15), range(23)), photo.getdata(), made.getdata(), strict=True):
-            if pixel[3] < 128:
-                self.assertEqual(index, clear)
+        for strength, words in ((16, []), (16, ["--serpentine"]), (9, ["--strength", 9]), (5, ["--strength", 5, "--serpentine"])):
+            made, _ = self.png(photo, "--colors", 6, "--dither", *words)
+            self.assertEqual(made.info["transparency"], 0)
+            colors = [(0, 0, 0, 0), *((*made.getpalette()[i : i + 3], 255) for i in range(3, 18, 3))]
+            self.diffused(photo, made, colors, strength, "--serpentine" in words)
+
+    def diffused(self, photo, made, colors, strength, serpentine):
+        """Looks at each pixel of a picture that is opaque or clear: the first color is clear, and the others are opaque."""
+        got, pixels, indices = {}, list(photo.getdata()), list(made.getdata())
+        over_white = lambda color: [level + 255 - color[3] for level in color[:3]]
+        squares = lambda one, other: sum((a - b) ** 2 for a, b in zip(one, other))
+        for y, step in itertools.product(range(photo.height), range(photo.width)):
+            way = -1 if serpentine and y % 2 else 1
+            x = step if way > 0 else photo.width - 1 - step
+            pixel, index = pixels[y * photo.width + x], indices[y * photo.width + x]
+            if pixel[3] == 0:
+                self.assertEqual(index, 0)
                 continue
-            wanted = [min(255, max(0, (16 * n + 8 + e) // 16)) for n, e in zip(pixel, got.get(place, (0, 0, 0)))]
-            apart = [sum((a - b) ** 2 for a, b in zip(color, wanted)) for color in colors]
-            self.assertEqual(index, apart.index(min(apart)), place)
-            for down, across, part in ((0, 1, 7), (1, -1, 3), (1, 0, 5), (1, 1, 1)):
-                to = (place[0] + down, place[1] + across)
-                got[to] = [e + part * (a - b) for e, a, b in zip(got.get(to, (0, 0, 0)), wanted, colors[index])]
+            wanted = [min(255, max(0, (256 * n + 128 + strength * e) // 256)) for n, e in zip(pixel, got.get((x, y), (0, 0, 0, 0)))]
+            apart = [squares(color[:3], wanted) + squares(over_white(color), over_white(wanted)) for color in colors]
+            self.assertEqual(index, apart.index(min(apart)), (x, y))
+            for down, across, part in ((0, way, 7), (1, -way, 3), (1, 0, 5), (1, way, 1)):
+                to = (x + across, y + down)
+                got[to] = [e + part * (a - b) for e, a, b in zip(got.get(to, (0, 0, 0, 0)), wanted, colors[index])]
 
     def test_over_a_color(self):
         """What is half transparent is composited in light: half of white over black is 188."""
@@ -142,6 +182,21 @@ class Encoder(Trial):
         self.assert_same(frames[0], wanted)
         self.assert_same(frames[1], large)
 
+    def test_animated_files(self):
+        """Frames stay, and each its time, beside a still picture too; a PNG has room for one, and none is left out unsaid."""
+        flags = [self.flag((255, 0, 0, 255), (n, 255, 0, 255), (0, 0, 255, 255)) for n in (10, 20, 30)]
+        motion = {"save_all": True, "append_images": flags[1:], "duration": [50, 120, 70]}
+        for name, more in (("moves.gif", {}), ("moves.png", {}), ("moves.webp", {"lossless": True})):
+            path = self.picture(name, flags[0], **motion, **more)
+            still = self.picture("still.png", flags[0])
+            frames, times, (_, local, read) = self.gif(path)
+            self.assertEqual((times, local, len(read)), ([50, 120, 70], 0, 3))
+            for frame, flag in zip(frames, flags, strict=True):
+                self.assert_same(frame, flag)
+            frames, times, _ = self.gif("--delay", 200, path, still)
+            self.assertEqual((times, len(frames)), ([50, 120, 70, 200], 4))
+            self.refuses(1, f"{path}: it has 3 frames, and a PNG has one: --gif FILE keeps them", "--into", self.folder / "made", path)
+
     def test_the_right_way_up(self):
         """What the camera noted is heeded."""
         turned = Image.new("RGB", (30, 10), (0, 90, 0))
@@ -161,7 +216,7 @@ class Encoder(Trial):
         self.assertEqual([pixel[:3] for pixel in made.convert("RGBA").getdata()], [(level,) * 3 for level in wanted])
 
     def test_the_bar(self):
-        """On a terminal a bar shows each picture, and is taken away; elsewhere nothing is shown."""
+        """On a terminal a bar shows each picture, and is taken away; a line for each goes elsewhere."""
         flags = [self.picture(f"{number}.png", self.flag((number, 2, 3, 255))) for number in range(3)]
         words = [*self.program, "--into", self.folder / "made", *flags]
         (self.folder / "made").mkdir()
@@ -170,7 +225,8 @@ class Encoder(Trial):
         os.close(theirs)
         shown = os.read(ours, 65536).decode()
         os.close(ours)
-        self.assertEqual((ran.returncode, ran.stdout), (0, b""))
+        self.assertEqual(ran.returncode, 0)
+        self.assertEqual([line.split()[-1] for line in ran.stdout.splitlines()], [b"0.00"] * 3)
         for done in range(3):
             self.assertIn(f"{done} of 3", shown)
         self.assertTrue(shown.endswith("\r\x1b[K"))
@@ -183,6 +239,7 @@ class Encoder(Trial):
             ("name a picture",), ("--wide: there is no such option", "--wide", LEAF), ("--colors: a value is missing", LEAF, "--colors"),
             ("--colors takes a number from 2 to 256, and not 1", "--colors", "1", LEAF), ("and not 257", "--colors", "257", LEAF),
             ("and not -4", "--colors", "-4", LEAF), ("and not ten", "--colors", "ten", LEAF), ("and not 9\u00b2", "--colors", "9\u00b2", LEAF),
+            ("--strength takes a number from 0 to 16, and not 17", "--strength", "17", LEAF), ("--rounds takes", "--rounds", "256", LEAF),
             ("--delay takes", "--delay", "9", LEAF), ("six hexadecimal digits", "--ground", "fff", LEAF), ("and not +fffff", "--ground", "+fffff", LEAF),
         ]:  # fmt: skip
             self.refuses(2, sentence, *words)
@@ -208,8 +265,12 @@ class Encoder(Trial):
         ]:  # fmt: skip
             self.refuses(1, str(file), "--into", self.folder / "made", file)
         small = self.picture("small.png", self.flag((1, 2, 3, 255)))
+        (self.folder / "more").mkdir()
         for words in (["--into", self.folder / "none"], ["--gif", self.folder], ["--gif", "/dev/full"], ["--gif", self.folder / "none/out.gif"]):
             self.refuses(1, str(words[1]), *words, small)
+        with open("/dev/full", "w") as full:
+            ran = subprocess.run([*map(str, self.program), "--into", self.folder / "more", small], stdout=full, stderr=subprocess.PIPE, text=True)
+        self.assertEqual((ran.returncode, ran.stderr.count("\n")), (1, 1))
 
 
 def blocks_of(data, at):
