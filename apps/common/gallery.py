@@ -5,8 +5,8 @@
 
 A picture is followed by its command, as an indented block: it writes a file of the picture's name into out/gallery. With --pictures what is made is put
 in the place of what stands there. A picture has to be the same, but where fonts or JPEG files were read: another version of FreeType, HarfBuzz, the font or
-libjpeg may draw it a little otherwise, and then it has to be near. Needs Pillow, and the programs in apps/out, which tools/apps builds. The status is 1 where
-one is another.
+libjpeg may draw it a little otherwise, and then it has to be near. So may another pngquant; where there is none, its pictures are left as they are. Needs
+Pillow, and the programs in apps/out, which tools/apps builds. The status is 1 where one is another.
 """
 
 import os
@@ -64,7 +64,7 @@ def trouble(picture, command):
     pairs = list(zip(mine, there))
     if all(one.size == other.size and one.tobytes() == other.tobytes() for one, other in pairs):
         return ""
-    if not re.search(r"apps/out/text|apps/encoder|\.jpg", command):
+    if not re.search(r"apps/out/text|apps/encoder|\.jpg|^pngquant ", command, re.M):
         return "it is another picture"
     return "" if all(is_near(*pair) for pair in pairs) else "it is not even near"
 
@@ -84,6 +84,9 @@ def main():
             continue
         if "bindings/python" in command and not LIBRARY.is_file():
             print(f"gallery: {name} is not made: no library for Python is built yet")
+            continue
+        if re.search(r"^pngquant ", command, re.M) and not shutil.which("pngquant"):
+            print(f"gallery: {name} is not made: there is no pngquant here")
             continue
         count += 1
         said = trouble((PAGE.parent / name).resolve(), command)

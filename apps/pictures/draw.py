@@ -3,8 +3,9 @@
 
     apps/pictures/draw.py FOLDER
 
-lake.jpg is as a photograph is, with grain and soft gradients; leaf.png is a drawing with a soft, transparent ground; and
-atlas.png has eight sprites of 32 by 32 pixels side by side. None of them is anybody else's. Needs Pillow.
+lake.jpg is as a photograph is, with grain and soft gradients; leaf.png is a drawing with a soft, transparent ground;
+window.png is the window of a program, with flat colors and soft edges; and atlas.png has eight sprites of 32 by 32 pixels
+side by side. None of them is anybody else's. Needs Pillow.
 """
 
 import math
@@ -156,8 +157,47 @@ def atlas():
     return picture
 
 
+def paint_lines(draw, rng, box, color):
+    """Draws lines of short strokes into a box, as words that are too small to be read."""
+    left, top, right, bottom = box
+    for y in range(top, bottom, 36):
+        x = left
+        while x < right - 60:
+            long = rng.randrange(16, 72, 8)
+            draw.rounded_rectangle((x, y, min(x + long, right), y + 11), 5, fill=color)
+            x += long + 14
+
+
+def window():
+    """Returns the window of a program: a bar, a list, cards, buttons and small marks of other colors."""
+    rng, share = random.Random(7), 4
+    picture = Image.new("RGB", (320 * share, 200 * share), (244, 246, 248))
+    draw = ImageDraw.Draw(picture)
+    picture.paste(gradient(1280, [(0, (58, 92, 158)), (96, (38, 66, 122))]), (0, 0))
+    paint_lines(draw, rng, (150, 40, 560, 70), (236, 240, 250))
+    for place, color in enumerate([(226, 86, 78), (238, 186, 64), (98, 186, 92)]):
+        draw.ellipse((24 + 38 * place, 36, 50 + 38 * place, 62), fill=color)
+    draw.rectangle((0, 96, 340, 800), fill=(226, 231, 238))
+    draw.rectangle((0, 176, 340, 248), fill=(66, 124, 214))
+    for row in range(7):
+        dark = (255, 255, 255) if row == 1 else (92, 104, 120)
+        draw.ellipse((28, 122 + 72 * row, 56, 150 + 72 * row), fill=dark)
+        paint_lines(draw, rng, (80, 130 + 72 * row, 300, 150 + 72 * row), dark)
+    draw.ellipse((282, 336, 318, 372), fill=(214, 48, 60))
+    for left, top in ((380, 136), (820, 136), (380, 456), (820, 456)):
+        draw.rounded_rectangle((left + 4, top + 6, left + 404, top + 286), 16, fill=(208, 214, 222))
+        draw.rounded_rectangle((left, top, left + 400, top + 280), 16, fill=(255, 255, 255))
+        paint_lines(draw, rng, (left + 28, top + 32, left + 220, top + 60), (36, 44, 58))
+        paint_lines(draw, rng, (left + 28, top + 84, left + 376, top + 190), (150, 160, 174))
+        draw.rounded_rectangle((left + 28, top + 214, left + 160, top + 256), 20, fill=(66, 124, 214))
+        draw.rounded_rectangle((left + 178, top + 214, left + 310, top + 256), 20, outline=(66, 124, 214), width=4)
+    draw.ellipse((1136, 168, 1176, 208), fill=(40, 160, 120))
+    return picture.resize((320, 200), Image.LANCZOS)
+
+
 def main():
     folder = pathlib.Path(sys.argv[1])
+    window().save(folder / "window.png", optimize=True)
     lake().save(folder / "lake.jpg", quality=90)
     leaf().save(folder / "leaf.png", optimize=True)
     atlas().save(folder / "atlas.png", optimize=True)
