@@ -31,6 +31,11 @@ class Picture:
         self.size, self.pixels, self.time = size, pixels, time
 
     @property
+    def is_opaque(self):
+        """Whether all of its pixels are."""
+        return self.pixels[3::4].count(255) * 4 == len(self.pixels)
+
+    @property
     def region(self):
         """All of the picture."""
         return (0, 0, *self.size)
@@ -179,12 +184,13 @@ def write_gif(name, frames, times):
 
 def squared_error(picture, frame):
     """Returns the mean squared error of a picture as it is seen: in red, green and blue, added, over black and over white,
-    averaged."""
+    averaged. Opaque pixels are seen alike over both."""
     both = [PIL.Image.frombytes("RGBA", picture.size, bytes(pixels)) for pixels in (picture.pixels, frame.pixels)]
+    levels = (0, 255) if frame.table.alphas or not picture.is_opaque else (0,)
     total = 0.0
-    for level in (0, 255):
+    for level in levels:
         ground = PIL.Image.new("RGBA", picture.size, (level, level, level, 255))
         over_it = [PIL.Image.alpha_composite(ground, it).convert("RGB") for it in both]
         stat = PIL.ImageStat.Stat(PIL.ImageChops.difference(*over_it))
-        total += sum(stat.sum2) / stat.count[0] / 2
+        total += sum(stat.sum2) / stat.count[0] / len(levels)
     return total

@@ -42,6 +42,8 @@ class Diffusion:
 def of_picture(picture, most, rounds):
     """Returns a table for a picture whose alphas are kept: its very colors where these are at most `most`, and else so many by the
     cut by squared error, which so many rounds refine. Those that are not opaque come first."""
+    if picture.is_opaque:
+        return of_frames([picture], most, rounds)
     made = bytes(pix.table_rgba_from(picture.pixels, most, rounds))
     entries = [made[i : i + 4] for i in range(0, len(made), 4)]
     return Table(b"".join(sorted(entries, key=lambda entry: entry[3] == 255)))
@@ -58,7 +60,9 @@ def of_frames(pictures, most, rounds):
 
 def indexed(picture, table, diffusion):
     """Returns the index of the color that is seen nearest for each pixel, or, with a diffusion, of one that makes up for the
-    errors before it."""
+    errors before it. Of an opaque picture that is the nearest color, which is found sooner."""
+    if picture.is_opaque:
+        return indexed_frame(picture, table, diffusion)
     if diffusion is None:
         return Frame(picture.size, pix.map_indexed_rgba(table.entries, picture.pixels), table)
     how = diffusion.how

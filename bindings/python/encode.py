@@ -54,6 +54,9 @@ def read(name: str) -> Moving:
 
 def with_alphas(picture: Image.Image, colors: int, rounds: int, diffusion: Optional[Dict[str, Any]]) -> Tuple[bytes, bytes]:
     """The table of a picture, four bytes a color, and the indices of its pixels. The colors that are not opaque come first."""
+    if picture.getextrema()[3] == (255, 255):  # the same, and sooner
+        table, [indices] = with_clear([picture], colors, rounds, diffusion)
+        return table, indices
     pixels = picture.tobytes()
     made = pix.table_rgba_from(pixels, colors, rounds)
     entries = sorted((bytes(made[i : i + 4]) for i in range(0, len(made), 4)), key=lambda entry: entry[3] == 255)
