@@ -1,18 +1,45 @@
-/* Times making an image of indices beside libimagequant: a table, and the index of each pixel. See README.md.
+/* Makes an image of indices of a picture, times that, or measures how far two pictures are apart: bench/indexed asks for it.
  *
- *   indexed PICTURE.ppm..
+ *   indexed make WAY COLORS PICTURE MADE    prints the processor's seconds for the table and for the indices, the least of RUNS
+ *   indexed apart PICTURE MADE              prints the mean squared error over black, over white and over a checkerboard,
+ *                                           and then the same after a blur
  *
- * Prints a line for each picture, number of colors and way: the processor's seconds for the table and for the indices,
- * the least of three runs, and the mean squared error: the sum over red, green and blue of the square of what a pixel's
- * entry differs by, on the average of all pixels. */
+ * A picture is a line with its width and its height, and then red, green, blue and alpha of each pixel. What is made is the
+ * entry of each pixel's index. A picture with an alpha gets a table with alpha. */
 #define _POSIX_C_SOURCE 199309L
 #include "pix.h"
 #include <libimagequant.h>
+#include <math.h>
 #include <stdio.h>
 #include <stdlib.h>
 #include <time.h>
 
-enum { RUNS = 3, SAMPLE = 200000, ROUNDS = 4 };
+#ifndef RUNS
+#define RUNS 3
+#endif
+
+enum { SAMPLE = 200000, SQUARE = 8, REACH = 6 };
+static const double SIGMA = 1.5;
+
+/* How an image of indices is made: by libimagequant of some speed, or by the library with some rounds; of all pixels or of a
+ * sample; with the nearest entries, or with error diffusion. */
+typedef struct {
+    const char *name;
+    int speed;
+    float dithering;
+    uint8_t rounds;
+    int of_sample, diffused;
+    uint8_t strength;
+    bool serpentine;
+} way;
+
+static const way WAYS[] = {
+    {"cut", 0, 0, 0, 0, 0, 0, false},          {"rounds", 0, 0, 4, 0, 0, 0, false},
+    {"sample-cut", 0, 0, 0, 1, 0, 0, false},   {"sample-rounds", 0, 0, 4, 1, 0, 0, false},
+    {"diffused", 0, 0, 4, 0, 1, 16, false},    {"weaker", 0, 0, 4, 0, 1, 12, true},
+    {"liq", 4, 0, 0, 0, 0, 0, false},          {"liq-fast", 10, 0, 0, 0, 0, 0, false},
+    {"liq-dithered", 4, 1, 0, 0, 0, 0, false},
+};
 
 static double now(void) {
     struct timespec t;
@@ -34,138 +61,206 @@ static void *room(size_t bytes) {
 
 typedef struct {
     size_t width, height, count;
-    pix_srgb8 *pixels;
+    bool is_opaque;
+    pix_srgba8 *pixels;
 } picture;
 
 static picture read_picture(const char *name) {
     picture it;
     FILE *file = fopen(name, "rb");
-    if (!file || fscanf(file, "P6 %zu %zu 255", &it.width, &it.height) != 2 || fgetc(file) == EOF)
+    if (!file || fscanf(file, "%zu %zu", &it.width, &it.height) != 2 || fgetc(file) == EOF)
         fail(name);
     it.count = it.width * it.height;
     it.pixels = room(it.count * sizeof *it.pixels);
     if (fread(it.pixels, sizeof *it.pixels, it.count, file) != it.count)
         fail(name);
     fclose(file);
+    it.is_opaque = true;
+    for (size_t i = 0; i < it.count; i++)
+        it.is_opaque = it.is_opaque && it.pixels[i].a == 255;
     return it;
 }
 
-static double squared(int x) {
-    return (double)(x * x);
-}
-
-static double mean_squared_error(const picture *it, const pix_srgb8 *entries, const uint8_t *indices) {
-    double sum = 0;
-    for (size_t i = 0; i < it->count; i++) {
-        pix_srgb8 p = it->pixels[i], q = entries[indices[i]];
-        sum += squared(p.r - q.r) + squared(p.g - q.g) + squared(p.b - q.b);
-    }
-    return sum / (double)it->count;
+static void write_picture(const char *name, const picture *it, const pix_srgba8 *entries, const uint8_t *indices) {
+    FILE *file = fopen(name, "wb");
+    if (!file)
+        fail(name);
+    fprintf(file, "%zu %zu\n", it->width, it->height);
+    for (size_t i = 0; i < it->count; i++)
+        fwrite(&entries[indices[i]], sizeof *entries, 1, file);
+    if (fclose(file))
+        fail(name);
 }
 
 typedef struct {
-    double table, map, error;
-} outcome;
+    double table, map;
+} seconds;
 
-/* The library: the table of a sample of pixels that lie `step` apart, refined by some rounds, and the nearest entries or error diffusion. */
-static outcome by_pix(const picture *it, size_t colors, size_t step, uint8_t rounds, int diffused, uint8_t *indices) {
-    pix_srgb8 entries[256], *work = room((it->count + 4 * it->width) * sizeof *work), *sample = room(it->count * sizeof *sample);
-    outcome best = {1e9, 1e9, 0};
-    for (int run = 0; run < RUNS; run++) {
-        size_t made = 0, count = 0;
-        double start = now(), middle, end;
-        pix_table table;
-        if (step == 1)
-            count = it->count;
-        else
-            for (size_t i = 0; i < it->count; i += step)
-                sample[count++] = it->pixels[i];
-        if (pix_make_table_refined(step == 1 ? it->pixels : sample, count, rounds, work, entries, colors, &made) != PIX_OK)
-            fail("no table");
-        middle = now();
-        table = pix_table_of(entries, made);
-        if ((diffused ? pix_diffuse_indexed(table, it->pixels, it->count, it->width, work, indices)
-                      : pix_map_indexed(table, it->pixels, it->count, indices))
-            != PIX_OK)
-            fail("no indices");
-        end = now();
-        best.table = middle - start < best.table ? middle - start : best.table;
-        best.map = end - middle < best.map ? end - middle : best.map;
-    }
-    best.error = mean_squared_error(it, entries, indices);
-    free(work);
-    free(sample);
-    return best;
+static void note(seconds *least, double start, double middle, double end) {
+    least->table = middle - start < least->table ? middle - start : least->table;
+    least->map = end - middle < least->map ? end - middle : least->map;
 }
 
-static outcome by_liq(const picture *it, int colors, int speed, float dithering, uint8_t *indices) {
-    uint8_t *pixels = room(4 * it->count);
-    outcome best = {1e9, 1e9, 0};
-    for (size_t i = 0; i < it->count; i++) {
-        memcpy(pixels + 4 * i, &it->pixels[i], 3);
-        pixels[4 * i + 3] = 255;
-    }
-    for (int run = 0; run < RUNS; run++) {
-        double start = now(), middle, end;
-        pix_srgb8 entries[256];
-        liq_attr *how = liq_attr_create();
-        liq_image *image;
-        liq_result *result;
-        const liq_palette *palette;
-        liq_set_max_colors(how, colors);
-        liq_set_speed(how, speed);
-        image = liq_image_create_rgba(how, pixels, (int)it->width, (int)it->height, 0);
-        if (liq_image_quantize(image, how, &result) != LIQ_OK)
-            fail("libimagequant makes no table");
-        middle = now();
-        liq_set_dithering_level(result, dithering);
-        if (liq_write_remapped_image(result, image, indices, it->count) != LIQ_OK)
-            fail("libimagequant makes no indices");
-        end = now();
-        palette = liq_get_palette(result);
-        for (unsigned i = 0; i < palette->count; i++) {
-            entries[i].r = palette->entries[i].r;
-            entries[i].g = palette->entries[i].g;
-            entries[i].b = palette->entries[i].b;
-        }
-        best.table = middle - start < best.table ? middle - start : best.table;
-        best.map = end - middle < best.map ? end - middle : best.map;
-        best.error = mean_squared_error(it, entries, indices);
-        liq_result_destroy(result);
-        liq_image_destroy(image);
-        liq_attr_destroy(how);
+/* The library, on the colors of an opaque picture. */
+static void by_colors(const picture *it, const way *how, size_t colors, pix_srgba8 *entries, uint8_t *indices, seconds *least) {
+    size_t step = how->of_sample ? (it->count + SAMPLE - 1) / SAMPLE : 1, count = 0, made = 0;
+    pix_srgb8 *pixels = room(it->count * sizeof *pixels), *sample = room(it->count * sizeof *pixels);
+    pix_srgb8 own[256], *work = room((it->count + 4 * it->width) * sizeof *work);
+    const pix_diffusion diffusion = {how->strength, how->serpentine};
+    double start, middle;
+    uint32_t status;
+    for (size_t i = 0; i < it->count; i++)
+        memcpy(&pixels[i], &it->pixels[i], 3);
+    start = now();
+    for (size_t i = 0; i < it->count && step > 1; i += step)
+        sample[count++] = pixels[i];
+    status = pix_make_table_refined(step > 1 ? sample : pixels, step > 1 ? count : it->count, how->rounds, work, own, colors, &made);
+    middle = now();
+    if (status == PIX_OK && how->diffused)
+        status = pix_diffuse_indexed_by(pix_table_of(own, made), pixels, it->count, it->width, diffusion, work, indices);
+    else if (status == PIX_OK)
+        status = pix_map_indexed(pix_table_of(own, made), pixels, it->count, indices);
+    if (status != PIX_OK)
+        fail("the library makes no indices");
+    note(least, start, middle, now());
+    for (size_t i = 0; i < made; i++) {
+        memcpy(&entries[i], &own[i], 3);
+        entries[i].a = 255;
     }
     free(pixels);
-    return best;
+    free(sample);
+    free(work);
 }
 
-static void line(const char *way, outcome made) {
-    printf("  %-42s %8.3f s %8.3f s %9.2f\n", way, made.table, made.map, made.error);
-    fflush(stdout);
+/* The library, on a picture with an alpha. */
+static void by_alphas(const picture *it, const way *how, size_t colors, pix_srgba8 *entries, uint8_t *indices, seconds *least) {
+    pix_srgba8 *work = room((it->count + 4 * it->width) * sizeof *work);
+    const pix_diffusion diffusion = {how->strength, how->serpentine};
+    size_t made = 0;
+    double start = now(), middle;
+    uint32_t status = pix_make_table_rgba(it->pixels, it->count, how->rounds, work, entries, colors, &made);
+    const pix_table_rgba table = {entries, made};
+    middle = now();
+    if (status == PIX_OK && how->diffused)
+        status = pix_diffuse_indexed_rgba(table, it->pixels, it->count, it->width, diffusion, work, indices);
+    else if (status == PIX_OK)
+        status = pix_map_indexed_rgba(table, it->pixels, it->count, indices);
+    if (status != PIX_OK)
+        fail("the library makes no indices");
+    note(least, start, middle, now());
+    free(work);
+}
+
+static void by_liq(const picture *it, const way *how, size_t colors, pix_srgba8 *entries, uint8_t *indices, seconds *least) {
+    double start = now(), middle;
+    liq_attr *attributes = liq_attr_create();
+    liq_image *image;
+    liq_result *result;
+    const liq_palette *palette;
+    liq_set_max_colors(attributes, (int)colors);
+    liq_set_speed(attributes, how->speed);
+    image = liq_image_create_rgba(attributes, it->pixels, (int)it->width, (int)it->height, 0);
+    if (liq_image_quantize(image, attributes, &result) != LIQ_OK)
+        fail("libimagequant makes no table");
+    middle = now();
+    liq_set_dithering_level(result, how->dithering);
+    if (liq_write_remapped_image(result, image, indices, it->count) != LIQ_OK)
+        fail("libimagequant makes no indices");
+    note(least, start, middle, now());
+    palette = liq_get_palette(result);
+    for (unsigned i = 0; i < palette->count; i++)
+        memcpy(&entries[i], &palette->entries[i], sizeof *entries);
+    liq_result_destroy(result);
+    liq_image_destroy(image);
+    liq_attr_destroy(attributes);
+}
+
+static int make(const char *name, const char *colors, const char *from, const char *to) {
+    const picture it = read_picture(from);
+    uint8_t *indices = room(it.count);
+    pix_srgba8 entries[256];
+    seconds least = {1e9, 1e9};
+    const way *how = NULL;
+    for (size_t i = 0; i < sizeof WAYS / sizeof *WAYS; i++)
+        if (!strcmp(WAYS[i].name, name))
+            how = &WAYS[i];
+    if (!how)
+        fail(name);
+    for (int run = 0; run < RUNS; run++)
+        (how->speed ? by_liq : it.is_opaque ? by_colors : by_alphas)(&it, how, strtoul(colors, NULL, 10), entries, indices, &least);
+    write_picture(to, &it, entries, indices);
+    printf("%.6f %.6f\n", least.table, least.map);
+    return 0;
+}
+
+/* The level of a channel of a pixel that is seen over another level. */
+static double over(const pix_srgba8 *pixel, int channel, double ground) {
+    const uint8_t levels[] = {pixel->r, pixel->g, pixel->b};
+    return ground + (levels[channel] - ground) * pixel->a / 255;
+}
+
+/* The difference of two pictures over a ground, -1 for a checkerboard of grays, in one channel. */
+static void differ(const picture *it, const picture *other, double ground, int channel, double *apart) {
+    for (size_t i = 0; i < it->count; i++) {
+        size_t square = i % it->width / SQUARE + i / it->width / SQUARE;
+        double level = ground >= 0 ? ground : square % 2 ? 153 : 102;
+        apart[i] = over(&it->pixels[i], channel, level) - over(&other->pixels[i], channel, level);
+    }
+}
+
+/* A Gaussian blur along the rows or along the columns; what lies outside is as at the edge. */
+static void blur(const picture *it, const double *from, double *to, bool down) {
+    long width = (long)it->width, height = (long)it->height;
+    double shares[2 * REACH + 1], sum = 0;
+    for (int k = -REACH; k <= REACH; k++)
+        sum += shares[k + REACH] = exp(-k * k / (2 * SIGMA * SIGMA));
+    for (long y = 0; y < height; y++)
+        for (long x = 0; x < width; x++) {
+            double mean = 0;
+            for (int k = -REACH; k <= REACH; k++) {
+                long at = (down ? y : x) + k, last = (down ? height : width) - 1;
+                at = at < 0 ? 0 : at > last ? last : at;
+                mean += shares[k + REACH] * from[down ? at * width + x : y * width + at];
+            }
+            to[y * width + x] = mean / sum;
+        }
+}
+
+static double sum_of_squares(const double *numbers, size_t count) {
+    double sum = 0;
+    for (size_t i = 0; i < count; i++)
+        sum += numbers[i] * numbers[i];
+    return sum;
+}
+
+static int apart(const char *name, const char *other_name) {
+    static const double grounds[] = {0, 255, -1};
+    const picture it = read_picture(name), other = read_picture(other_name);
+    double *difference = room(it.count * sizeof *difference), *half = room(it.count * sizeof *half), blurred[3] = {0, 0, 0};
+    if (it.width != other.width || it.height != other.height)
+        fail("pictures of other sizes");
+    for (int ground = 0; ground < 3; ground++) {
+        double plain = 0;
+        for (int channel = 0; channel < 3; channel++) {
+            differ(&it, &other, grounds[ground], channel, difference);
+            plain += sum_of_squares(difference, it.count);
+            blur(&it, difference, half, false);
+            blur(&it, half, difference, true);
+            blurred[ground] += sum_of_squares(difference, it.count);
+        }
+        printf("%.4f ", plain / (double)it.count);
+    }
+    for (int ground = 0; ground < 3; ground++)
+        printf("%.4f ", blurred[ground] / (double)it.count);
+    printf("\n");
+    return 0;
 }
 
 int main(int argc, char **argv) {
-    static const int numbers[] = {256, 16};
-    printf("%-44s %10s %10s %9s\n", "", "table", "indices", "error");
-    for (int i = 1; i < argc; i++) {
-        picture it = read_picture(argv[i]);
-        uint8_t *indices = room(it.count);
-        size_t step = (it.count + SAMPLE - 1) / SAMPLE;
-        for (size_t j = 0; j < sizeof numbers / sizeof *numbers; j++) {
-            printf("%s, %zux%zu, %d colors\n", argv[i], it.width, it.height, numbers[j]);
-            line("pix, all pixels, nearest", by_pix(&it, (size_t)numbers[j], 1, 0, 0, indices));
-            line("pix, all pixels, 4 rounds, nearest", by_pix(&it, (size_t)numbers[j], 1, ROUNDS, 0, indices));
-            if (step > 1) {
-                line("pix, a sample of 200,000, nearest", by_pix(&it, (size_t)numbers[j], step, 0, 0, indices));
-                line("pix, that sample, 4 rounds, nearest", by_pix(&it, (size_t)numbers[j], step, ROUNDS, 0, indices));
-            }
-            line("libimagequant, speed 4, no dithering", by_liq(&it, numbers[j], 4, 0, indices));
-            line("libimagequant, speed 10, no dithering", by_liq(&it, numbers[j], 10, 0, indices));
-            line("pix, error diffusion", by_pix(&it, (size_t)numbers[j], step, 0, 1, indices));
-            line("libimagequant, speed 4, dithering", by_liq(&it, numbers[j], 4, 1, indices));
-        }
-        free(indices);
-        free(it.pixels);
-    }
-    return 0;
+    if (argc == 6 && !strcmp(argv[1], "make"))
+        return make(argv[2], argv[3], argv[4], argv[5]);
+    if (argc == 4 && !strcmp(argv[1], "apart"))
+        return apart(argv[2], argv[3]);
+    fail("make WAY COLORS PICTURE MADE, or apart PICTURE MADE");
+    return 2;
 }
