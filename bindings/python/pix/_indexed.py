@@ -134,7 +134,7 @@ def map_indexed(
     The table has from 1 to 256 colors of three bytes: red, green and blue in sRGB. The pixels are of the format SRGB8, or of
     SRGBA8. The nearest entry, the first of equals, is the one with the least sum of the squares of the differences in red, green
     and blue. A pixel whose alpha is below `alpha` has the index `kept`; of the others the alpha is not looked at. Where all pixels
-    are below it, the table may be empty, as table_from() makes it of them.
+    are below it, the table may be empty, as table_from() makes it of them. Where the table has alphas too, take map_indexed_rgba().
 
     Raises PixError where the table or the lengths don't fit, and leaves `indices` as they were.
     """
