@@ -56,6 +56,8 @@ pub use Rattle.pix_table.specs.Places as CutPlaces
 pub use Rattle.pix_table.specs.Cut
 pub use Rattle.pix_table.specs.From
 pub use Rattle.pix_table.specs.Refine
+pub use Rattle.pix_table.specs.Seen
+pub use Rattle.pix_table.specs.SeenTables
 pub use Rattle.pix_table.specs.Diffusion
 pub use Rattle.pix_table.specs.LookUp
 pub use Rattle.pix_palette.specs.Palette
@@ -63,3 +65,4 @@ pub use Rattle.pix_palette.specs.Entries
 pub use Rattle.pix_palette.specs.Histogram
 pub use Rattle.pix_palette.specs.Indexing
 pub use Rattle.pix_palette.specs.ColorTable
+pub use Rattle.pix_palette.specs.RgbaTable

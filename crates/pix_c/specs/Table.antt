@@ -6,11 +6,6 @@ use Rattle.pix_table.specs.declared.row.IndexDepth.{IndexDepth}
 use Rattle.pix_table.specs.declared.row.IndexDepth.TheVariants.{One, Two, Four, Eight}
 use Rattle.pix_table.specs.declared.row.RowFault.{RowFault}
 use Rattle.pix_table.specs.declared.row.RowFault.TheVariants.{Length, Index}
-use Rattle.pix_c.specs.declared.table.PixSrgba8.{PixSrgba8}
-
--- the numbers of a pixel with an alpha
-abbrev pub srgba8_numbers : PixSrgba8 → List ℕ
-srgba8_numbers pixel = pixel.red ∷ pixel.green ∷ pixel.blue ∷ pixel.alpha ∷ []
 
 -- whether there are as many entries as a table has: at least one, and at most 256
 abbrev pub is_table : ℕ → Bool

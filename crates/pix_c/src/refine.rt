@@ -3,11 +3,12 @@ ghost use Rattle.std.specs.Prelude.{◌≡◌, ◌≢◌, ◌≤◌, length, map
 ghost use Rattle.pix_table.specs.Nearest.{numbers};
 ghost use Rattle.pix_table.specs.From.{shown};
 ghost use Rattle.pix_table.specs.Refine.{IsRefinedTableFrom};
-ghost use Rattle.pix_c.specs.Table.{srgba8_numbers, make_status};
+ghost use Rattle.pix_table.specs.Seen.{rgba_numbers};
+ghost use Rattle.pix_c.specs.Table.{make_status};
 
 use crate::status::{BAD_LENGTH, DONE};
-use crate::table::{BAD_TABLE, PixSrgba8};
-use pix_table::{Color, TablePixel, refined_table_from};
+use crate::table::BAD_TABLE;
+use pix_table::{Color, RgbaColor, TablePixel, refined_table_from};
 
 /// Does what [`pix_table_from`](crate::table::pix_table_from) does. Where there are more distinct
 /// colors than entries, `rounds` rounds then refine the table. In a round each color goes to its
@@ -36,7 +37,7 @@ pub extern "C" fn pix_table_refined(
 /// `alpha` do not count.
 #[unsafe(no_mangle)]
 pub extern "C" fn pix_table_refined_alpha(
-    pixels: &[PixSrgba8],
+    pixels: &[RgbaColor],
     alpha: u8,
     rounds: u8,
     work: &mut [Color],
@@ -48,7 +49,7 @@ pub extern "C" fn pix_table_refined_alpha(
     ensures refused { result ≢ 0 → (work.new ≡ work.old) × (entries.new ≡ entries.old)
         × (made.new ≡ made.old) }
     ensures done { result ≡ 0 → (made.new ≤ length entries.new)
-        × IsRefinedTableFrom rounds (length entries.old) (shown alpha (map srgba8_numbers pixels.now))
+        × IsRefinedTableFrom rounds (length entries.old) (shown alpha (map rgba_numbers pixels.now))
         (map numbers (take made.new entries.new)) }
 {
     refine_table(pixels, alpha, rounds, work, entries, made)

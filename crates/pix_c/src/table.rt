@@ -2,21 +2,21 @@
 ghost use Rattle.std.specs.Prelude.{◌≡◌, ◌≢◌, ℕ, ◌<◌, ◌≤◌, List, length, map, take, Some, slice_index};
 ghost use Rattle.pix_table.specs.Nearest.{numbers, IsNearest, AreMatched};
 ghost use Rattle.pix_table.specs.LookUp.{AreLookedUp, AreCounted};
+ghost use Rattle.pix_table.specs.Seen.{rgba_numbers};
 ghost use Rattle.pix_table.specs.From.{shown, IsTableFrom};
-ghost use Rattle.pix_table.specs.Diffusion.{AreDiffused};
 ghost use Rattle.pix_table.specs.Packing.{ArePacked, AreUnpacked};
 ghost use Rattle.pix_table.specs.Setting.{Always, IsSet};
 ghost use Rattle.pix_table.specs.Indexing.{AreSet, IsStopped};
 ghost use Rattle.pix_table.specs.declared.color.Color.{Color};
 ghost use Rattle.pix_table.specs.declared.row.IndexDepth.{IndexDepth};
-ghost use Rattle.pix_c.specs.Table.{srgba8_numbers, nearest_status, match_status, look_up_status};
-ghost use Rattle.pix_c.specs.Table.{make_status, diffuse_status, index_status};
+ghost use Rattle.pix_c.specs.Table.{nearest_status, match_status, look_up_status};
+ghost use Rattle.pix_c.specs.Table.{make_status, index_status};
 ghost use Rattle.pix_c.specs.Table.{count_status, pack_status, unpack_status, depth_of, row_status};
 
 use crate::status::{BAD_LENGTH, DONE};
 use pix_table::{
-    Color, Diffusion, IndexDepth, RowFault, TablePixel, count, diffuse_pixels, index_pixels,
-    look_up, match_pixels, nearest, pack_row, table_from, unpack_row,
+    Color, IndexDepth, RgbaColor, RowFault, TablePixel, count, index_pixels, look_up, match_pixels,
+    nearest, pack_row, table_from, unpack_row,
 };
 
 /// A table has no entry, or more than 256.
@@ -30,36 +30,6 @@ pub const BAD_DEPTH: u32 = 13;
 
 /// A table has no room for a color.
 pub const FULL_TABLE: u32 = 14;
-
-/// A pixel of red, green, blue and alpha of eight bits each, in sRGB, not multiplied by the alpha.
-#[repr(C)]
-#[derive(Clone, Copy, Debug, PartialEq, Eq)]
-pub struct PixSrgba8 {
-    /// The red channel.
-    pub red: u8,
-    /// The green channel.
-    pub green: u8,
-    /// The blue channel.
-    pub blue: u8,
-    /// The alpha.
-    pub alpha: u8,
-}
-
-impl TablePixel for PixSrgba8 {
-    ghost values = { srgba8_numbers };
-
-    fn rgb(self) -> Color {
-        Color {
-            red: self.red,
-            green: self.green,
-            blue: self.blue,
-        }
-    }
-
-    fn alpha(self) -> u8 {
-        self.alpha
-    }
-}
 
 /// Writes the index of the entry that is nearest to a color, the first of equals. The distance is
 /// the sum of the squares of the differences in red, green and blue.
@@ -105,7 +75,7 @@ pub extern "C" fn pix_table_match(entries: &[Color], pixels: &[Color], indices: 
 #[unsafe(no_mangle)]
 pub extern "C" fn pix_table_match_alpha(
     entries: &[Color],
-    pixels: &[PixSrgba8],
+    pixels: &[RgbaColor],
     alpha: u8,
     kept: u8,
     indices: &mut [u8],
@@ -114,7 +84,7 @@ pub extern "C" fn pix_table_match_alpha(
         match_status (length entries.now) (length pixels.now) (length indices.old) }
     ensures refused { result ≢ 0 → indices.new ≡ indices.old }
     ensures done { result ≡ 0 → AreMatched (map numbers entries.now) alpha kept
-        (map srgba8_numbers pixels.now) indices.new }
+        (map rgba_numbers pixels.now) indices.new }
 {
     match_all(entries, pixels, alpha, kept, indices)
 }
@@ -172,7 +142,7 @@ pub extern "C" fn pix_table_from(
 /// do not count.
 #[unsafe(no_mangle)]
 pub extern "C" fn pix_table_from_alpha(
-    pixels: &[PixSrgba8],
+    pixels: &[RgbaColor],
     alpha: u8,
     work: &mut [Color],
     entries: &mut [Color],
@@ -183,7 +153,7 @@ pub extern "C" fn pix_table_from_alpha(
     ensures refused { result ≢ 0 → (work.new ≡ work.old) × (entries.new ≡ entries.old)
         × (made.new ≡ made.old) }
     ensures done { result ≡ 0 → (made.new ≤ length entries.new)
-        × IsTableFrom (length entries.old) (shown alpha (map srgba8_numbers pixels.now))
+        × IsTableFrom (length entries.old) (shown alpha (map rgba_numbers pixels.now))
         (map numbers (take made.new entries.new)) }
 {
     make_table(pixels, alpha, work, entries, made)
@@ -215,83 +185,6 @@ fn make_table<P: TablePixel>(
         }
         None => BAD_LENGTH,
     }
-}
-
-/// Writes for each pixel, in rows of `width`, its index by error diffusion. The index is that of
-/// the entry that is nearest to the pixel plus its share of the errors before it. An error is what
-/// was wanted less the entry that was found. The pixel on the right gets 7 sixteenths of it, the
-/// one below on the left 3, the one below 5, and the one below on the right 1.
-///
-/// Returns 0 when they are written. Else nothing is written. The status is then 11 where there is
-/// no entry or more than 256. Otherwise it is 7, which has three causes: a row has no pixel, `work`
-/// has not just four rows of colors, or there are not as many indices as pixels.
-#[unsafe(no_mangle)]
-pub extern "C" fn pix_table_diffuse(
-    entries: &[Color],
-    pixels: &[Color],
-    width: usize,
-    work: &mut [Color],
-    indices: &mut [u8],
-) -> u32
-    ensures status { result ≡ diffuse_status (length entries.now) (length pixels.now) width
-        (length work.old) (length indices.old) }
-    ensures refused { result ≢ 0 → (work.new ≡ work.old) × (indices.new ≡ indices.old) }
-    ensures done { result ≡ 0 → AreDiffused (map numbers entries.now) 0 0 width
-        (map numbers pixels.now) indices.new }
-{
-    let how = Diffusion {
-        width,
-        alpha: 0,
-        kept: 0,
-    };
-    diffuse(entries, pixels, how, work, indices)
-}
-
-/// Does what [`pix_table_diffuse`] does, on pixels with an alpha. A pixel whose alpha is below
-/// `alpha` gets the index `kept`, and hands on no error.
-#[unsafe(no_mangle)]
-pub extern "C" fn pix_table_diffuse_alpha(
-    entries: &[Color],
-    pixels: &[PixSrgba8],
-    width: usize,
-    alpha: u8,
-    kept: u8,
-    work: &mut [Color],
-    indices: &mut [u8],
-) -> u32
-    ensures status { result ≡ diffuse_status (length entries.now) (length pixels.now) width
-        (length work.old) (length indices.old) }
-    ensures refused { result ≢ 0 → (work.new ≡ work.old) × (indices.new ≡ indices.old) }
-    ensures done { result ≡ 0 → AreDiffused (map numbers entries.now) alpha kept width
-        (map srgba8_numbers pixels.now) indices.new }
-{
-    let how = Diffusion { width, alpha, kept };
-    diffuse(entries, pixels, how, work, indices)
-}
-
-/// Diffuses errors of pixels of any kind.
-fn diffuse<P: TablePixel>(
-    entries: &[Color],
-    pixels: &[P],
-    how: Diffusion,
-    work: &mut [Color],
-    indices: &mut [u8],
-) -> u32
-    ensures status { result ≡ diffuse_status (length entries.now) (length pixels.now) how.width
-        (length work.old) (length indices.old) }
-    ensures refused { result ≢ 0 → (work.new ≡ work.old) × (indices.new ≡ indices.old) }
-    ensures done { result ≡ 0 → AreDiffused (map numbers entries.now) how.alpha how.kept how.width
-        (map P.values pixels.now) indices.new }
-{
-    if entries.is_empty() || entries.len() > 256 {
-        return BAD_TABLE;
-    }
-    let rows = work.len() / 4;
-    if how.width == 0 || work.len() % 4 != 0 || rows != how.width || indices.len() != pixels.len() {
-        return BAD_LENGTH;
-    }
-    diffuse_pixels(entries, pixels, how, work, indices);
-    DONE
 }
 
 /// Sets the color of each pixel in a table, one after the other, and writes its index. The index is

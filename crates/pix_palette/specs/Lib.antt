@@ -4,3 +4,4 @@ pub mod Indexing
 pub mod ColorTable
 pub mod Finder
 pub mod Entries
+pub mod RgbaTable

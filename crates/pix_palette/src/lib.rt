@@ -3,4 +3,5 @@
 
 mod palette;
 
-pub use palette::{ColorTable, Palette};
+pub use palette::{ColorTable, Palette, RgbaTable};
+pub use pix_table::DiffusionWay;

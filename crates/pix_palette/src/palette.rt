@@ -20,6 +20,7 @@ mod lists;
 mod made;
 mod mapped;
 mod near;
+mod rgba_table;
 mod slots;
 mod table;
 
@@ -28,6 +29,7 @@ use self::table::{Threshold, ThresholdFn};
 use pix_el::rgb::SRgb8;
 use pix_raster::RasterFault;
 use pix_table::{TableColor, standing};
+pub use rgba_table::RgbaTable;
 pub use slots::ColorTable;
 use std::alloc::Global;
 pub use table::Palette;

@@ -49,6 +49,8 @@ mod random_lists;
 #[cfg(test)]
 mod reports;
 #[cfg(test)]
+mod rgba_tables;
+#[cfg(test)]
 mod rgbas;
 #[cfg(test)]
 mod scripts;

@@ -205,7 +205,7 @@ impl ColorTable {
 }
 
 /// Makes a copy of a raster whose pixels are colors with an alpha.
-fn shades<S>(alloc: Global, raster: &Raster<S>) -> Result<Raster<SRgba8>, RasterFault>
+pub(super) fn shades<S>(alloc: Global, raster: &Raster<S>) -> Result<Raster<SRgba8>, RasterFault>
 where
     S: Pixel,
     Ch8: From<S::Chan>,
@@ -356,7 +356,7 @@ fn srgb(clr: Color) -> SRgb8
 }
 
 /// Makes an image of indices, as large as another one that has as many pixels.
-fn index_image(
+pub(super) fn index_image(
     alloc: Global,
     size: &Raster<SRgba8>,
     indices: &[u8],

@@ -159,7 +159,11 @@ where
 
 /// Sets each pixel to the entry of the index at its place, up to the first index that is past the
 /// end. Returns whether there is no such index.
-fn look_up_pixels<P: IndexPixel>(entries: &[SRgb8], indices: &[P], pixels: &mut [SRgb8]) -> bool
+pub(super) fn look_up_pixels<C: Copy, P: IndexPixel>(
+    entries: &[C],
+    indices: &[P],
+    pixels: &mut [C],
+) -> bool
     requires { length pixels.old ≡ length indices.now }
     ensures inside { result ≡ all_below (length entries.now) (values P.numbers indices.now) }
     ensures found { result ≡ true

@@ -1,7 +1,7 @@
 //! Palettes. A palette is made and used up in one function.
 use pix::gray::Gray8;
 use pix::rgb::{SRgb8, SRgba8};
-use pix::{ColorTable, Palette, Raster, RasterFault};
+use pix::{ColorTable, Palette, Raster, RasterFault, RgbaTable};
 use std::alloc::Global;
 
 /// Sets colors, and asks for them.
@@ -136,4 +136,18 @@ pub fn refined(
         return Ok(None); // not for 255 entries
     };
     table.map_indexed_alpha(alloc, picture, 128, 255) // index 255 where the alpha is below 128
+}
+
+/// Shows a picture in the colors of a table that keeps its alphas.
+pub fn with_alpha(
+    alloc: Global,
+    picture: &Raster<SRgba8>,
+) -> Result<Option<Raster<SRgba8>>, RasterFault> {
+    let Some(table) = RgbaTable::from_raster(alloc, picture, 256, 4)? else {
+        return Ok(None); // not for 256 entries
+    };
+    let Some(indices) = table.map_indexed(alloc, picture)? else {
+        return Ok(None); // the table has no entry
+    };
+    table.look_up(alloc, &indices)
 }

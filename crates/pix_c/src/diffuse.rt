@@ -1,0 +1,99 @@
+//! Images of indices by error diffusion.
+ghost use Rattle.std.specs.Prelude.{◌≡◌, ◌≢◌, length, map};
+ghost use Rattle.pix_table.specs.Nearest.{numbers};
+ghost use Rattle.pix_table.specs.Seen.{rgba_numbers};
+ghost use Rattle.pix_table.specs.Diffusion.{AreDiffused};
+ghost use Rattle.pix_table.specs.SeenDiffusion.{AreSeenDiffused};
+ghost use Rattle.pix_table.specs.declared.diffuse.DiffusionWay.TheVariants.{Straight};
+ghost use Rattle.pix_c.specs.Table.{diffuse_status, diffuse_by_status, way_of};
+
+use crate::status::{BAD_LENGTH, DONE};
+use crate::table::BAD_TABLE;
+use pix_table::{
+    Color, Diffusion, DiffusionWay, RgbaColor, RgbaDiffusion, Seen, TablePixel, diffuse_pixels,
+    diffuse_rgba_pixels,
+};
+
+/// A strength of error diffusion is above 16.
+pub const BAD_STRENGTH: u32 = 15;
+
+/// All of an error is handed on.
+const WHOLE: u8 = 16;
+
+/// Writes for each pixel, in rows of `width`, its index by error diffusion. The index is that of
+/// the entry that is nearest to the pixel plus its share of the errors before it. An error is what
+/// was wanted less the entry that was found. The pixel on the right gets 7 sixteenths of it, the
+/// one below on the left 3, the one below 5, and the one below on the right 1.
+///
+/// Returns 0 when they are written. Else nothing is written. The status is then 11 where there is
+/// no entry or more than 256. Otherwise it is 7, which has three causes: a row has no pixel, `work`
+/// has not just four rows of colors, or there are not as many indices as pixels.
+#[unsafe(no_mangle)]
+pub extern "C" fn pix_table_diffuse(
+    entries: &[Color],
+    pixels: &[Color],
+    width: usize,
+    work: &mut [Color],
+    indices: &mut [u8],
+) -> u32
+    ensures status { result ≡ diffuse_status (length entries.now) (length pixels.now) width
+        (length work.old) (length indices.old) }
+    ensures refused { result ≢ 0 → (work.new ≡ work.old) × (indices.new ≡ indices.old) }
+    ensures done { result ≡ 0 → AreDiffused (map numbers entries.now) 0 0 width
+        (map numbers pixels.now) indices.new }
+{
+    let how = Diffusion {
+        width,
+        alpha: 0,
+        kept: 0,
+    };
+    diffuse(entries, pixels, how, work, indices)
+}
+
+/// Does what [`pix_table_diffuse`] does, on pixels with an alpha. A pixel whose alpha is below
+/// `alpha` gets the index `kept`, and hands on no error.
+#[unsafe(no_mangle)]
+pub extern "C" fn pix_table_diffuse_alpha(
+    entries: &[Color],
+    pixels: &[RgbaColor],
+    width: usize,
+    alpha: u8,
+    kept: u8,
+    work: &mut [Color],
+    indices: &mut [u8],
+) -> u32
+    ensures status { result ≡ diffuse_status (length entries.now) (length pixels.now) width
+        (length work.old) (length indices.old) }
+    ensures refused { result ≢ 0 → (work.new ≡ work.old) × (indices.new ≡ indices.old) }
+    ensures done { result ≡ 0 → AreDiffused (map numbers entries.now) alpha kept width
+        (map rgba_numbers pixels.now) indices.new }
+{
+    let how = Diffusion { width, alpha, kept };
+    diffuse(entries, pixels, how, work, indices)
+}
+
+/// Diffuses errors of pixels of any kind.
+fn diffuse<P: TablePixel>(
+    entries: &[Color],
+    pixels: &[P],
+    how: Diffusion,
+    work: &mut [Color],
+    indices: &mut [u8],
+) -> u32
+    ensures status { result ≡ diffuse_status (length entries.now) (length pixels.now) how.width
+        (length work.old) (length indices.old) }
+    ensures refused { result ≢ 0 → (work.new ≡ work.old) × (indices.new ≡ indices.old) }
+    ensures done { result ≡ 0 → AreDiffused (map numbers entries.now) how.alpha how.kept how.width
+        (map P.values pixels.now) indices.new }
+{
+    if entries.is_empty() || entries.len() > 256 {
+        return BAD_TABLE;
+    }
+    let rows = work.len() / 4;
+    if how.width == 0 || work.len() % 4 != 0 || rows != how.width || indices.len() != pixels.len() {
+        return BAD_LENGTH;
+    }
+    diffuse_pixels(entries, pixels, how, work, indices);
+    DONE
+}
+

@@ -1,0 +1,101 @@
+//! Tables of colors with an alpha, as they are seen over black and over white.
+ghost use Rattle.std.specs.Prelude.{◌≡◌, ◌≢◌, ◌≤◌, length, map, take};
+ghost use Rattle.pix_table.specs.LookUp.{AreLookedUp};
+ghost use Rattle.pix_table.specs.Seen.{AreSeenMatched, rgba_numbers};
+ghost use Rattle.pix_table.specs.SeenTables.{IsRgbaTableFrom};
+ghost use Rattle.pix_c.specs.Table.{look_up_status, make_status, match_status};
+
+use crate::status::{BAD_LENGTH, DONE};
+use crate::table::{BAD_INDEX, BAD_TABLE};
+use pix_table::{RgbaColor, Seen, look_up, match_rgba_pixels, rgba_table_from};
+
+/// Writes a table of the colors of the pixels, with their alphas, into the first of the entries,
+/// and into `made` how many it has. How far two pixels are apart is the sum of the squares of their
+/// differences over black and over white, in red, green and blue.
+///
+/// With no more distinct colors than entries, as they are seen, they are the table, in order of
+/// first place. Else it is made by the cut by squared error, and refined by `rounds` rounds. In a
+/// round each color goes to its nearest entry, the first of equals. Each entry goes to the mean of
+/// its colors, rounded, where that makes their squared error no greater. Else it stays. The other
+/// entries may hold anything.
+///
+/// Returns 0 when it is made. Else nothing is written. The status is then 11 where there is no
+/// entry or more than 256, and otherwise 7, where `work` has fewer colors than there are pixels.
+#[unsafe(no_mangle)]
+pub extern "C" fn pix_table_rgba_from(
+    pixels: &[RgbaColor],
+    rounds: u8,
+    work: &mut [Seen],
+    entries: &mut [RgbaColor],
+    made: &mut usize,
+) -> u32
+    ensures status { result ≡
+        make_status (length entries.old) (length pixels.now) (length work.old) }
+    ensures refused { result ≢ 0 → (work.new ≡ work.old) × (entries.new ≡ entries.old)
+        × (made.new ≡ made.old) }
+    ensures done { result ≡ 0 → (made.new ≤ length entries.new)
+        × IsRgbaTableFrom rounds (length entries.old) (map rgba_numbers pixels.now)
+        (map rgba_numbers (take made.new entries.new)) }
+{
+    if entries.is_empty() || entries.len() > 256 {
+        return BAD_TABLE;
+    }
+    match rgba_table_from(pixels, rounds, work, entries) {
+        Some(count) => {
+            *made = count;
+            DONE
+        }
+        None => BAD_LENGTH,
+    }
+}
+
+/// Writes for each pixel the index of the entry that is seen nearest to it, the first of equals.
+///
+/// Returns 0 when they are written. Else nothing is written. The status is then 11 where there is
+/// no entry or more than 256, and otherwise 7, where there are not as many indices as pixels.
+#[unsafe(no_mangle)]
+pub extern "C" fn pix_table_rgba_match(
+    entries: &[RgbaColor],
+    pixels: &[RgbaColor],
+    indices: &mut [u8],
+) -> u32
+    ensures status { result ≡
+        match_status (length entries.now) (length pixels.now) (length indices.old) }
+    ensures refused { result ≢ 0 → indices.new ≡ indices.old }
+    ensures done { result ≡ 0 → AreSeenMatched (map rgba_numbers entries.now)
+        (map rgba_numbers pixels.now) indices.new }
+{
+    if entries.is_empty() || entries.len() > 256 {
+        return BAD_TABLE;
+    }
+    if indices.len() != pixels.len() {
+        return BAD_LENGTH;
+    }
+    match_rgba_pixels(entries, pixels, indices);
+    DONE
+}
+
+/// Writes the entry of each index.
+///
+/// Returns 0 when they are written. Else nothing is written. The status is then 7 where there are
+/// not as many pixels as indices, and otherwise 12, where an index is past the entries.
+#[unsafe(no_mangle)]
+pub extern "C" fn pix_table_rgba_look_up(
+    entries: &[RgbaColor],
+    indices: &[u8],
+    pixels: &mut [RgbaColor],
+) -> u32
+    ensures status { result ≡
+        look_up_status (length entries.now) indices.now (length pixels.old) }
+    ensures refused { result ≢ 0 → pixels.new ≡ pixels.old }
+    ensures done { result ≡ 0 → AreLookedUp entries.now indices.now pixels.new }
+{
+    if pixels.len() != indices.len() {
+        return BAD_LENGTH;
+    }
+    if look_up(entries, indices, pixels) {
+        DONE
+    } else {
+        BAD_INDEX
+    }
+}

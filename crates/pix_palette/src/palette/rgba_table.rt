@@ -1,0 +1,245 @@
+//! Tables of colors with an alpha, and images of their indices.
+ghost use Rattle.std.specs.Prelude.{◌≡◌, ◌<◌, ◌≤◌, ◌⊎◌, [], false, length, map, nat_eq};
+ghost use Rattle.std.specs.Prelude.{IfOk, IfErr, MatchOption};
+ghost use Rattle.pix_table.specs.LookUp.{all_below};
+ghost use Rattle.pix_table.specs.Seen.{rgba_numbers, AreSeenMatched};
+ghost use Rattle.pix_table.specs.SeenTables.{IsRgbaTableFrom};
+ghost use Rattle.pix_table.specs.SrgbColor.{srgba_numbers};
+ghost use Rattle.pix_palette.specs.Indexing.{shades_of, values};
+ghost use Rattle.pix_palette.specs.ColorTable.{IsIndexImage};
+ghost use Rattle.pix_palette.specs.RgbaTable.{colors_of_table, IsRgbaLookedUp};
+ghost use Rattle.pix_raster.specs.declared.fault.RasterFault.{RasterFault};
+
+use super::made::{ENTRIES, index_image, shades};
+use super::mapped::look_up_pixels;
+use pix_chan::chan::{Ch8, Gamma};
+use pix_color::gray::Gray8;
+use pix_el::el::{Pix, Pixel};
+use pix_el::rgb::SRgba8;
+use pix_raster::{Raster, RasterFault};
+use pix_table::{RgbaColor, Seen, match_rgba_pixels, rgba_table_from};
+use std::alloc::Global;
+
+/// A list of colors with an alpha, as files of indexed images with partial alphas have it.
+///
+/// How far two colors are apart is the sum of the squares of their differences in red, green and
+/// blue, as they are seen over black and over white.
+///
+/// # Examples
+///
+/// ```rust
+/// let Some(table) = RgbaTable::from_raster(alloc, picture, 256, 4)? else {
+///     return Ok(None); // not for 256 entries
+/// };
+/// let Some(indices) = table.map_indexed(alloc, picture)? else {
+///     return Ok(None); // the table has no entry
+/// };
+/// table.look_up(alloc, &indices)
+/// ```
+#[derive(Drop)]
+pub struct RgbaTable {
+    entries: Vec<SRgba8>,
+}
+
+impl RgbaTable {
+    /// Makes a table of the colors of a raster, of at most `limit` entries. Returns `None` where the
+    /// limit is 0 or above 256.
+    ///
+    /// Where the raster has no more distinct colors than that, as they are seen, the entries are
+    /// those colors in order of first place. Else they are the means of boxes of colors, by the cut
+    /// by squared error, and then `rounds` rounds refine them. In a round each color goes to its
+    /// nearest entry, the first of equals. Each entry goes to the mean of its colors, rounded, where
+    /// that makes their squared error no greater. No round makes the squared error of all greater.
+    ///
+    /// # Errors
+    ///
+    /// `Memory` on allocation failure.
+    pub fn from_raster<S>(
+        alloc: Global,
+        raster: &Raster<S>,
+        limit: usize,
+        rounds: u8,
+    ) -> Result<Option<RgbaTable>, RasterFault>
+    where
+        S: Pixel,
+        Ch8: From<S::Chan>,
+        S::Gamma: Gamma<Ch8>,
+        ensures made { IfOk result (λ answer. MatchOption answer
+            ((limit ≡ 0) ⊎ (256 < limit))
+            (λ table. IsRgbaTableFrom rounds limit
+            (shades_of S.format ⟦<S::Gamma as Gamma<Ch8>>⟧.mode S.numbers raster.now.pixels)
+            (map srgba_numbers (colors_of_table table)))) }
+        ensures memory { IfErr result (λ fault. fault ≡ RasterFault.Memory) }
+    {
+        let shades = shades(alloc, raster)?;
+        rgba_table_of(alloc, shades.pixels(), limit, rounds)
+    }
+
+    /// Makes a table of these colors.
+    ///
+    /// # Errors
+    ///
+    /// `Memory` on allocation failure.
+    pub fn with_colors(alloc: Global, colors: &[SRgba8]) -> Result<RgbaTable, RasterFault>
+        ensures colors { IfOk result (λ table. colors_of_table table ≡ colors.now) }
+        ensures memory { IfErr result (λ fault. fault ≡ RasterFault.Memory) }
+    {
+        let Ok(entries) = Vec::from_slice(alloc, colors) else {
+            return Err(RasterFault::Memory);
+        };
+        Ok(RgbaTable { entries })
+    }
+
+    /// Returns the colors in order.
+    pub fn colors(&self) -> &[SRgba8]
+        ensures { result.now ≡ colors_of_table self.now }
+    {
+        &self.entries
+    }
+
+    /// Returns the number of entries.
+    pub fn len(&self) -> usize
+        ensures { result ≡ length (colors_of_table self.now) }
+    {
+        self.entries.len()
+    }
+
+    /// Returns whether there is no entry.
+    pub fn is_empty(&self) -> bool
+        ensures { result ≡ nat_eq (length (colors_of_table self.now)) 0 }
+    {
+        self.entries.len() == 0
+    }
+
+    /// Makes a raster of indices. The value of each pixel is the index of the entry that is seen
+    /// nearest to the pixel at its place, the first of equals. Returns `None` where there is no
+    /// entry, or more than 256.
+    ///
+    /// # Errors
+    ///
+    /// `Memory` on allocation failure.
+    pub fn map_indexed<S>(
+        &self,
+        alloc: Global,
+        raster: &Raster<S>,
+    ) -> Result<Option<Raster<Gray8>>, RasterFault>
+    where
+        S: Pixel,
+        Ch8: From<S::Chan>,
+        S::Gamma: Gamma<Ch8>,
+        ensures mapped { IfOk result (λ answer. MatchOption answer
+            ((length (colors_of_table self.now) ≡ 0) ⊎ (256 < length (colors_of_table self.now)))
+            (λ image. IsIndexImage ⟦<Gray8 as Pixel>⟧.numbers raster.now.width raster.now.height image
+            × AreSeenMatched (map srgba_numbers (colors_of_table self.now))
+            (shades_of S.format ⟦<S::Gamma as Gamma<Ch8>>⟧.mode S.numbers raster.now.pixels)
+            (values ⟦<Gray8 as Pixel>⟧.numbers image.pixels))) }
+        ensures memory { IfErr result (λ fault. fault ≡ RasterFault.Memory) }
+    {
+        let shades = shades(alloc, raster)?;
+        let Some(indices) = rgba_matched(alloc, self.colors(), shades.pixels())? else {
+            return Ok(None);
+        };
+        let image = index_image(alloc, &shades, &indices)?;
+        Ok(Some(image))
+    }
+
+    /// Makes a raster of the colors of indices. Each pixel is the entry of the index at its place.
+    /// Returns `None` where an index is past the end.
+    ///
+    /// # Errors
+    ///
+    /// `Memory` on allocation failure, which comes first.
+    pub fn look_up(
+        &self,
+        alloc: Global,
+        indices: &Raster<Gray8>,
+    ) -> Result<Option<Raster<SRgba8>>, RasterFault>
+        ensures colors { IfOk result (λ answer. MatchOption answer
+            (all_below (length (colors_of_table self.now))
+            (values ⟦<Gray8 as Pixel>⟧.numbers indices.now.pixels) ≡ false)
+            (IsRgbaLookedUp (colors_of_table self.now) indices.now.width indices.now.height
+            (values ⟦<Gray8 as Pixel>⟧.numbers indices.now.pixels))) }
+        ensures memory { IfErr result (λ fault. fault ≡ RasterFault.Memory) }
+    {
+        match Raster::with_clear(alloc, indices.width(), indices.height()) {
+            Err(_) => Err(RasterFault::Memory),
+            Ok(mut image) => {
+                if look_up_pixels(self.colors(), indices.pixels(), image.pixels_mut()) {
+                    Ok(Some(image))
+                } else {
+                    Ok(None)
+                }
+            }
+        }
+    }
+}
+
+/// Makes a table of pixels, as [`RgbaTable::from_raster`] does.
+fn rgba_table_of(
+    alloc: Global,
+    pixels: &[SRgba8],
+    limit: usize,
+    rounds: u8,
+) -> Result<Option<RgbaTable>, RasterFault>
+    ensures made { IfOk result (λ answer. MatchOption answer
+        ((limit ≡ 0) ⊎ (256 < limit))
+        (λ table. IsRgbaTableFrom rounds limit (map srgba_numbers pixels.now)
+        (map srgba_numbers (colors_of_table table)))) }
+    ensures memory { IfErr result (λ fault. fault ≡ RasterFault.Memory) }
+{
+    if limit == 0 || limit > ENTRIES {
+        return Ok(None);
+    }
+    let mut work = vec![in alloc; Seen::default(); pixels.len()]?;
+    let mut room = [RgbaColor::default(); ENTRIES];
+    let entries = &mut room[..limit];
+    let Some(len) = rgba_table_from(pixels, rounds, &mut work, entries) else {
+        return Ok(None);
+    };
+    let mut colors = vec![in alloc; SRgba8::default(); len]?;
+    copy_rgba(&entries[..len], &mut colors);
+    Ok(Some(RgbaTable { entries: colors }))
+}
+
+/// Sets slots to colors. There are as many colors as slots.
+fn copy_rgba(colors: &[RgbaColor], slots: &mut [SRgba8])
+    requires { length slots.old ≡ length colors.now }
+    ensures { map srgba_numbers slots.new ≡ map rgba_numbers colors.now }
+{
+    for i in 0..colors.len() {
+        slots[i] = srgba(colors[i]);
+    }
+}
+
+/// Returns a color as a pixel.
+fn srgba(clr: RgbaColor) -> SRgba8
+    ensures { srgba_numbers result ≡ rgba_numbers clr }
+{
+    Pix::with_channels([
+        Ch8::new(clr.red),
+        Ch8::new(clr.green),
+        Ch8::new(clr.blue),
+        Ch8::new(clr.alpha),
+    ])
+}
+
+/// Makes, for each pixel, the index of the entry that is seen nearest to it. Returns `None` where
+/// there is no entry, or more than 256.
+fn rgba_matched(
+    alloc: Global,
+    colors: &[SRgba8],
+    pixels: &[SRgba8],
+) -> Result<Option<Vec<u8>>, RasterFault>
+    ensures mapped { IfOk result (λ answer. MatchOption answer
+        ((length colors.now ≡ 0) ⊎ (256 < length colors.now))
+        (λ indices. AreSeenMatched (map srgba_numbers colors.now)
+        (map srgba_numbers pixels.now) indices.items)) }
+    ensures memory { IfErr result (λ fault. fault ≡ RasterFault.Memory) }
+{
+    if colors.is_empty() || colors.len() > ENTRIES {
+        return Ok(None);
+    }
+    let mut indices = vec![in alloc; 0; pixels.len()]?;
+    match_rgba_pixels(colors, pixels, &mut indices);
+    Ok(Some(indices))
+}
