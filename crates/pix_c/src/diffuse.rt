@@ -2,23 +2,18 @@
 ghost use Rattle.std.specs.Prelude.{◌≡◌, ◌≢◌, length, map};
 ghost use Rattle.pix_table.specs.Nearest.{numbers};
 ghost use Rattle.pix_table.specs.Seen.{rgba_numbers};
-ghost use Rattle.pix_table.specs.Diffusion.{AreDiffused};
-ghost use Rattle.pix_table.specs.SeenDiffusion.{AreSeenDiffused};
-ghost use Rattle.pix_table.specs.declared.diffuse.DiffusionWay.TheVariants.{Straight};
-ghost use Rattle.pix_c.specs.Table.{diffuse_status, diffuse_by_status, way_of};
+ghost use Rattle.pix_table.specs.Diffusion.{AreDiffused, AreDiffusedBy};
+ghost use Rattle.pix_c.specs.Table.{are_rows, diffuse_status, diffuse_by_status, way_of};
 
 use crate::status::{BAD_LENGTH, DONE};
 use crate::table::BAD_TABLE;
-use pix_table::{
-    Color, Diffusion, DiffusionWay, RgbaColor, RgbaDiffusion, Seen, TablePixel, diffuse_pixels,
-    diffuse_rgba_pixels,
-};
+use pix_table::{Color, Diffusion, DiffusionWay, RgbaColor, TablePixel, diffuse_pixels};
 
 /// A strength of error diffusion is above 16.
 pub const BAD_STRENGTH: u32 = 15;
 
-/// All of an error is handed on.
-const WHOLE: u8 = 16;
+/// The strength that hands on whole errors.
+pub(crate) const WHOLE: u8 = 16;
 
 /// Writes for each pixel, in rows of `width`, its index by error diffusion. The index is that of
 /// the entry that is nearest to the pixel plus its share of the errors before it. An error is what
@@ -46,6 +41,8 @@ pub extern "C" fn pix_table_diffuse(
         width,
         alpha: 0,
         kept: 0,
+        strength: WHOLE,
+        way: DiffusionWay::Straight,
     };
     diffuse(entries, pixels, how, work, indices)
 }
@@ -68,8 +65,89 @@ pub extern "C" fn pix_table_diffuse_alpha(
     ensures done { result ≡ 0 → AreDiffused (map numbers entries.now) alpha kept width
         (map rgba_numbers pixels.now) indices.new }
 {
-    let how = Diffusion { width, alpha, kept };
+    let how = Diffusion {
+        width,
+        alpha,
+        kept,
+        strength: WHOLE,
+        way: DiffusionWay::Straight,
+    };
     diffuse(entries, pixels, how, work, indices)
+}
+
+/// Does what [`pix_table_diffuse`] does with `strength` sixteenths of each error. Where
+/// `serpentine` is not 0, every second row goes from right to left, and the shares are mirrored
+/// in it.
+///
+/// Returns 0 when all indices are written. Else nothing is written. The status is then 11 where
+/// there is no entry or more than 256, and otherwise 15, where the strength is above 16. Otherwise
+/// it is 7, where a length is wrong as for [`pix_table_diffuse`], or where rows turn and the pixels
+/// are not whole rows.
+#[unsafe(no_mangle)]
+pub extern "C" fn pix_table_diffuse_by(
+    entries: &[Color],
+    pixels: &[Color],
+    width: usize,
+    strength: u8,
+    serpentine: u8,
+    work: &mut [Color],
+    indices: &mut [u8],
+) -> u32
+    ensures status { result ≡ diffuse_by_status (length entries.now) (length pixels.now) width
+        strength (way_of serpentine) (length work.old) (length indices.old) }
+    ensures refused { result ≢ 0 → (work.new ≡ work.old) × (indices.new ≡ indices.old) }
+    ensures done { result ≡ 0 → AreDiffusedBy (way_of serpentine) strength
+        (map numbers entries.now) 0 0 width (map numbers pixels.now) indices.new }
+{
+    let how = Diffusion {
+        width,
+        alpha: 0,
+        kept: 0,
+        strength,
+        way: way_of(serpentine),
+    };
+    diffuse(entries, pixels, how, work, indices)
+}
+
+/// Does what [`pix_table_diffuse_by`] does, on pixels with an alpha. A pixel whose alpha is below
+/// `alpha` gets the index `kept`, and hands on no error.
+#[unsafe(no_mangle)]
+pub extern "C" fn pix_table_diffuse_by_alpha(
+    entries: &[Color],
+    pixels: &[RgbaColor],
+    width: usize,
+    alpha: u8,
+    kept: u8,
+    strength: u8,
+    serpentine: u8,
+    work: &mut [Color],
+    indices: &mut [u8],
+) -> u32
+    ensures status { result ≡ diffuse_by_status (length entries.now) (length pixels.now) width
+        strength (way_of serpentine) (length work.old) (length indices.old) }
+    ensures refused { result ≢ 0 → (work.new ≡ work.old) × (indices.new ≡ indices.old) }
+    ensures done { result ≡ 0 → AreDiffusedBy (way_of serpentine) strength
+        (map numbers entries.now) alpha kept width (map rgba_numbers pixels.now) indices.new }
+{
+    let how = Diffusion {
+        width,
+        alpha,
+        kept,
+        strength,
+        way: way_of(serpentine),
+    };
+    diffuse(entries, pixels, how, work, indices)
+}
+
+/// Returns the way of a flag: serpentine where it is not 0.
+pub(crate) fn way_of(serpentine: u8) -> DiffusionWay
+    ensures { result ≡ way_of serpentine }
+{
+    if serpentine == 0 {
+        DiffusionWay::Straight
+    } else {
+        DiffusionWay::Serpentine
+    }
 }
 
 /// Diffuses errors of pixels of any kind.
@@ -80,20 +158,41 @@ fn diffuse<P: TablePixel>(
     work: &mut [Color],
     indices: &mut [u8],
 ) -> u32
-    ensures status { result ≡ diffuse_status (length entries.now) (length pixels.now) how.width
-        (length work.old) (length indices.old) }
+    ensures status { result ≡ diffuse_by_status (length entries.now) (length pixels.now) how.width
+        how.strength how.way (length work.old) (length indices.old) }
     ensures refused { result ≢ 0 → (work.new ≡ work.old) × (indices.new ≡ indices.old) }
-    ensures done { result ≡ 0 → AreDiffused (map numbers entries.now) how.alpha how.kept how.width
-        (map P.values pixels.now) indices.new }
+    ensures done { result ≡ 0 → AreDiffusedBy how.way how.strength (map numbers entries.now)
+        how.alpha how.kept how.width (map P.values pixels.now) indices.new }
 {
     if entries.is_empty() || entries.len() > 256 {
         return BAD_TABLE;
     }
-    let rows = work.len() / 4;
-    if how.width == 0 || work.len() % 4 != 0 || rows != how.width || indices.len() != pixels.len() {
+    if how.strength > WHOLE {
+        return BAD_STRENGTH;
+    }
+    if !are_rows(pixels.len(), how.width, how.way, work.len(), indices.len()) {
         return BAD_LENGTH;
     }
     diffuse_pixels(entries, pixels, how, work, indices);
     DONE
 }
 
+/// Returns whether pixels are rows that can be taken in a way, there are as many indices, and there
+/// are four rows of work memory.
+pub(crate) fn are_rows(
+    pixels: usize,
+    width: usize,
+    way: DiffusionWay,
+    work: usize,
+    indices: usize,
+) -> bool
+    ensures { result ≡ are_rows pixels width way work indices }
+{
+    if width == 0 || work % 4 != 0 || work / 4 != width || indices != pixels {
+        return false;
+    }
+    match way {
+        DiffusionWay::Straight => true,
+        DiffusionWay::Serpentine => pixels % width == 0,
+    }
+}

@@ -14,20 +14,29 @@ ghost use Rattle.pix_flat.specs.Run.{IsRun};
 
 mod bitmap;
 mod convert;
+mod diffuse;
 mod layout;
 mod refine;
+mod rgba;
 mod status;
 mod table;
 mod window;
 
 pub use crate::bitmap::{pix_convert_rows, pix_pixel_size};
 pub use crate::convert::pix_convert_bytes;
+pub use crate::diffuse::{
+    BAD_STRENGTH, pix_table_diffuse, pix_table_diffuse_alpha, pix_table_diffuse_by,
+    pix_table_diffuse_by_alpha,
+};
 pub use crate::layout::pix_layout;
+pub use crate::rgba::{
+    pix_table_rgba_diffuse, pix_table_rgba_from, pix_table_rgba_look_up, pix_table_rgba_match,
+};
 pub use crate::status::{
     BAD_FORMAT, BAD_KIND, BAD_LENGTH, BAD_OP, BAD_REGION, BAD_SIZE, BAD_SOURCE, DONE,
 };
 pub use crate::table::{
-    BAD_DEPTH, BAD_INDEX, BAD_TABLE, FULL_TABLE, PixSrgba8, pix_table_count, pix_table_index,
+    BAD_DEPTH, BAD_INDEX, BAD_TABLE, FULL_TABLE, pix_table_count, pix_table_index,
     pix_table_look_up, pix_table_match, pix_table_match_alpha, pix_table_nearest, pix_table_pack,
     pix_table_unpack,
 };

@@ -3,11 +3,17 @@ ghost use Rattle.std.specs.Prelude.{◌≡◌, ◌≢◌, ◌≤◌, length, map
 ghost use Rattle.pix_table.specs.LookUp.{AreLookedUp};
 ghost use Rattle.pix_table.specs.Seen.{AreSeenMatched, rgba_numbers};
 ghost use Rattle.pix_table.specs.SeenTables.{IsRgbaTableFrom};
-ghost use Rattle.pix_c.specs.Table.{look_up_status, make_status, match_status};
+ghost use Rattle.pix_table.specs.SeenDiffusion.{AreSeenDiffused};
+ghost use Rattle.pix_c.specs.Table.{diffuse_by_status, look_up_status, make_status, match_status};
+ghost use Rattle.pix_c.specs.Table.{way_of};
 
+use crate::diffuse::{BAD_STRENGTH, WHOLE, are_rows, way_of};
 use crate::status::{BAD_LENGTH, DONE};
 use crate::table::{BAD_INDEX, BAD_TABLE};
-use pix_table::{RgbaColor, Seen, look_up, match_rgba_pixels, rgba_table_from};
+use pix_table::{
+    RgbaColor, RgbaDiffusion, Seen, diffuse_rgba_pixels, look_up, match_rgba_pixels,
+    rgba_table_from,
+};
 
 /// Writes a table of the colors of the pixels, with their alphas, into the first of the entries,
 /// and into `made` how many it has. How far two pixels are apart is the sum of the squares of their
@@ -98,4 +104,45 @@ pub extern "C" fn pix_table_rgba_look_up(
     } else {
         BAD_INDEX
     }
+}
+
+/// Writes for each pixel, in rows of `width`, its index by error diffusion, as
+/// [`pix_table_diffuse_by`](crate::diffuse::pix_table_diffuse_by) does: that of the entry which is
+/// seen nearest to the pixel plus its share of the errors before it. Errors are those of colors
+/// times their alphas, and of the alphas. A pixel of the alpha 0 has no share and hands on no error.
+///
+/// The statuses are those of `pix_table_diffuse_by`.
+#[unsafe(no_mangle)]
+pub extern "C" fn pix_table_rgba_diffuse(
+    entries: &[RgbaColor],
+    pixels: &[RgbaColor],
+    width: usize,
+    strength: u8,
+    serpentine: u8,
+    work: &mut [Seen],
+    indices: &mut [u8],
+) -> u32
+    ensures status { result ≡ diffuse_by_status (length entries.now) (length pixels.now) width
+        strength (way_of serpentine) (length work.old) (length indices.old) }
+    ensures refused { result ≢ 0 → (work.new ≡ work.old) × (indices.new ≡ indices.old) }
+    ensures done { result ≡ 0 → AreSeenDiffused (way_of serpentine) strength
+        (map rgba_numbers entries.now) width (map rgba_numbers pixels.now) indices.new }
+{
+    if entries.is_empty() || entries.len() > 256 {
+        return BAD_TABLE;
+    }
+    if strength > WHOLE {
+        return BAD_STRENGTH;
+    }
+    let way = way_of(serpentine);
+    if !are_rows(pixels.len(), width, way, work.len(), indices.len()) {
+        return BAD_LENGTH;
+    }
+    let how = RgbaDiffusion {
+        width,
+        strength,
+        way,
+    };
+    diffuse_rgba_pixels(entries, pixels, how, work, indices);
+    DONE
 }

@@ -1,8 +1,8 @@
 //! Tables of the colors of a picture, and images of its indices by alpha and by error diffusion.
-ghost use Rattle.std.specs.Prelude.{◌≡◌, ◌<◌, ◌≤◌, ◌⊎◌, ◌*◌, ◌∷◌, [], length, map, take};
+ghost use Rattle.std.specs.Prelude.{◌≡◌, ◌<◌, ◌≤◌, ◌⊎◌, ◌*◌, ◌%◌, ◌∷◌, [], length, map, take};
 ghost use Rattle.std.specs.Prelude.{IfOk, IfErr, MatchOption};
 ghost use Rattle.pix_table.specs.Nearest.{numbers as color_numbers, AreMatched};
-ghost use Rattle.pix_table.specs.Diffusion.{AreDiffused};
+ghost use Rattle.pix_table.specs.Diffusion.{AreDiffused, AreDiffusedBy};
 ghost use Rattle.pix_table.specs.From.{shown};
 ghost use Rattle.pix_table.specs.SrgbColor.{srgba_numbers};
 ghost use Rattle.pix_palette.specs.Palette.{numbers};
@@ -19,12 +19,16 @@ use pix_el::el::{Pix, Pixel};
 use pix_el::rgb::{SRgb8, SRgba8};
 use pix_raster::{Raster, RasterFault};
 use pix_table::{
-    Color, Diffusion, TableColor, diffuse_pixels, match_pixels, refined_table_from, table_from,
+    Color, Diffusion, DiffusionWay, TableColor, diffuse_pixels, match_pixels, refined_table_from,
+    table_from,
 };
 use std::alloc::Global;
 
 /// The greatest number of entries of a table that is made, or to which pixels are matched.
 pub(super) const ENTRIES: usize = 256;
+
+/// The strength that hands on whole errors.
+pub(super) const WHOLE: u8 = 16;
 
 impl ColorTable {
     /// Makes a table of the colors of a raster, of at most `limit` entries. Where the raster has no
@@ -190,18 +194,100 @@ impl ColorTable {
             (values ⟦<Gray8 as Pixel>⟧.numbers image.pixels))) }
         ensures memory { IfErr result (λ fault. fault ≡ RasterFault.Memory) }
     {
-        let shades = shades(alloc, raster)?;
-        let how = Diffusion {
-            width: shades.width() as usize,
+        diffused_image(
+            self.colors(),
+            alloc,
+            raster,
             alpha,
             kept,
-        };
-        let Some(indices) = diffused(alloc, self.colors(), shades.pixels(), how)? else {
-            return Ok(None);
-        };
-        let image = index_image(alloc, &shades, &indices)?;
-        Ok(Some(image))
+            WHOLE,
+            DiffusionWay::Straight,
+        )
     }
+
+    /// Does what [`ColorTable::diffuse_indexed`] does, with `strength` sixteenths of each error, and
+    /// in a way. In the serpentine way every second row goes from right to left, and the shares are
+    /// mirrored in it. Returns `None` also where the strength is above 16.
+    ///
+    /// # Errors
+    ///
+    /// `Memory` on allocation failure.
+    ///
+    /// # Examples
+    ///
+    /// ```rust
+    /// let Some(table) = ColorTable::from_raster(alloc, picture, 255, 128)? else {
+    ///     return Ok(None); // not for 255 entries
+    /// };
+    /// table.diffuse_indexed_by(alloc, picture, 128, 255, 12, DiffusionWay::Serpentine)
+    /// ```
+    pub fn diffuse_indexed_by<S>(
+        &self,
+        alloc: Global,
+        raster: &Raster<S>,
+        alpha: u8,
+        kept: u8,
+        strength: u8,
+        way: DiffusionWay,
+    ) -> Result<Option<Raster<Gray8>>, RasterFault>
+    where
+        S: Pixel,
+        Ch8: From<S::Chan>,
+        S::Gamma: Gamma<Ch8>,
+        ensures diffused { IfOk result (λ answer. MatchOption answer
+            ((length (entries_of self.now) ≡ 0) ⊎ (256 < length (entries_of self.now))
+            ⊎ (16 < strength))
+            (λ image. IsIndexImage ⟦<Gray8 as Pixel>⟧.numbers raster.now.width raster.now.height image
+            × AreDiffusedBy way strength (map numbers (entries_of self.now)) alpha kept
+            raster.now.width
+            (shades_of S.format ⟦<S::Gamma as Gamma<Ch8>>⟧.mode S.numbers raster.now.pixels)
+            (values ⟦<Gray8 as Pixel>⟧.numbers image.pixels))) }
+        ensures memory { IfErr result (λ fault. fault ≡ RasterFault.Memory) }
+    {
+        if strength > WHOLE {
+            return Ok(None);
+        }
+        diffused_image(self.colors(), alloc, raster, alpha, kept, strength, way)
+    }
+}
+
+/// Makes a raster of indices by error diffusion, as [`ColorTable::diffuse_indexed_by`] does with an
+/// alpha, a kept index and a strength.
+fn diffused_image<S>(
+    colors: &[SRgb8],
+    alloc: Global,
+    raster: &Raster<S>,
+    alpha: u8,
+    kept: u8,
+    strength: u8,
+    way: DiffusionWay,
+) -> Result<Option<Raster<Gray8>>, RasterFault>
+where
+    S: Pixel,
+    Ch8: From<S::Chan>,
+    S::Gamma: Gamma<Ch8>,
+    requires { strength ≤ 16 }
+    ensures diffused { IfOk result (λ answer. MatchOption answer
+        ((length colors.now ≡ 0) ⊎ (256 < length colors.now))
+        (λ image. IsIndexImage ⟦<Gray8 as Pixel>⟧.numbers raster.now.width raster.now.height image
+        × AreDiffusedBy way strength (map numbers colors.now) alpha kept raster.now.width
+        (shades_of S.format ⟦<S::Gamma as Gamma<Ch8>>⟧.mode S.numbers raster.now.pixels)
+        (values ⟦<Gray8 as Pixel>⟧.numbers image.pixels))) }
+    ensures memory { IfErr result (λ fault. fault ≡ RasterFault.Memory) }
+{
+    let shades = shades(alloc, raster)?;
+    let how = Diffusion {
+        width: shades.width() as usize,
+        alpha,
+        kept,
+        strength,
+        way,
+    };
+    let Some(indices) = diffused(alloc, colors, shades.pixels(), how)? else {
+        return Ok(None);
+    };
+    let image = index_image(alloc, &shades, &indices)?;
+    Ok(Some(image))
 }
 
 /// Makes a copy of a raster whose pixels are colors with an alpha.
@@ -318,10 +404,12 @@ fn diffused(
 ) -> Result<Option<Vec<u8>>, RasterFault>
     requires row { how.width ≡ 0 → length pixels.now ≡ 0 }
     requires few { how.width < 4294967296 }
+    requires strength { how.strength ≤ 16 }
+    requires whole { length pixels.now % how.width ≡ 0 }
     ensures diffused { IfOk result (λ answer. MatchOption answer
         ((length colors.now ≡ 0) ⊎ (256 < length colors.now))
-        (λ indices. AreDiffused (map numbers colors.now) how.alpha how.kept how.width
-        (map srgba_numbers pixels.now) indices.items)) }
+        (λ indices. AreDiffusedBy how.way how.strength (map numbers colors.now) how.alpha how.kept
+        how.width (map srgba_numbers pixels.now) indices.items)) }
     ensures memory { IfErr result (λ fault. fault ≡ RasterFault.Memory) }
 {
     if colors.is_empty() || colors.len() > ENTRIES {

@@ -1,8 +1,9 @@
 //! Tables of colors with an alpha, and images of their indices.
-ghost use Rattle.std.specs.Prelude.{◌≡◌, ◌<◌, ◌≤◌, ◌⊎◌, [], false, length, map, nat_eq};
+ghost use Rattle.std.specs.Prelude.{◌≡◌, ◌<◌, ◌≤◌, ◌⊎◌, ◌%◌, [], false, length, map, nat_eq};
 ghost use Rattle.std.specs.Prelude.{IfOk, IfErr, MatchOption};
 ghost use Rattle.pix_table.specs.LookUp.{all_below};
 ghost use Rattle.pix_table.specs.Seen.{rgba_numbers, AreSeenMatched};
+ghost use Rattle.pix_table.specs.SeenDiffusion.{AreSeenDiffused};
 ghost use Rattle.pix_table.specs.SeenTables.{IsRgbaTableFrom};
 ghost use Rattle.pix_table.specs.SrgbColor.{srgba_numbers};
 ghost use Rattle.pix_palette.specs.Indexing.{shades_of, values};
@@ -10,14 +11,17 @@ ghost use Rattle.pix_palette.specs.ColorTable.{IsIndexImage};
 ghost use Rattle.pix_palette.specs.RgbaTable.{colors_of_table, IsRgbaLookedUp};
 ghost use Rattle.pix_raster.specs.declared.fault.RasterFault.{RasterFault};
 
-use super::made::{ENTRIES, index_image, shades};
+use super::made::{ENTRIES, WHOLE, index_image, shades};
 use super::mapped::look_up_pixels;
 use pix_chan::chan::{Ch8, Gamma};
 use pix_color::gray::Gray8;
 use pix_el::el::{Pix, Pixel};
 use pix_el::rgb::SRgba8;
 use pix_raster::{Raster, RasterFault};
-use pix_table::{RgbaColor, Seen, match_rgba_pixels, rgba_table_from};
+use pix_table::{
+    DiffusionWay, RgbaColor, RgbaDiffusion, Seen, diffuse_rgba_pixels, match_rgba_pixels,
+    rgba_table_from,
+};
 use std::alloc::Global;
 
 /// A list of colors with an alpha, as files of indexed images with partial alphas have it.
@@ -143,6 +147,52 @@ impl RgbaTable {
         Ok(Some(image))
     }
 
+    /// Makes a raster of indices by error diffusion, with `strength` sixteenths of each error, and in
+    /// a way. The value of each pixel is the index of the entry that is seen nearest to it plus its
+    /// share of the errors of the pixels before it. Errors are those of colors times their alphas,
+    /// and of the alphas. A pixel of the alpha 0 has no share and hands on no error. Returns `None`
+    /// where there is no entry, or more than 256, or where the strength is above 16.
+    ///
+    /// # Errors
+    ///
+    /// `Memory` on allocation failure.
+    pub fn diffuse_indexed<S>(
+        &self,
+        alloc: Global,
+        raster: &Raster<S>,
+        strength: u8,
+        way: DiffusionWay,
+    ) -> Result<Option<Raster<Gray8>>, RasterFault>
+    where
+        S: Pixel,
+        Ch8: From<S::Chan>,
+        S::Gamma: Gamma<Ch8>,
+        ensures diffused { IfOk result (λ answer. MatchOption answer
+            ((length (colors_of_table self.now) ≡ 0) ⊎ (256 < length (colors_of_table self.now))
+            ⊎ (16 < strength))
+            (λ image. IsIndexImage ⟦<Gray8 as Pixel>⟧.numbers raster.now.width raster.now.height image
+            × AreSeenDiffused way strength (map srgba_numbers (colors_of_table self.now))
+            raster.now.width
+            (shades_of S.format ⟦<S::Gamma as Gamma<Ch8>>⟧.mode S.numbers raster.now.pixels)
+            (values ⟦<Gray8 as Pixel>⟧.numbers image.pixels))) }
+        ensures memory { IfErr result (λ fault. fault ≡ RasterFault.Memory) }
+    {
+        if strength > WHOLE {
+            return Ok(None);
+        }
+        let shades = shades(alloc, raster)?;
+        let how = RgbaDiffusion {
+            width: shades.width() as usize,
+            strength,
+            way,
+        };
+        let Some(indices) = rgba_diffused(alloc, self.colors(), shades.pixels(), how)? else {
+            return Ok(None);
+        };
+        let image = index_image(alloc, &shades, &indices)?;
+        Ok(Some(image))
+    }
+
     /// Makes a raster of the colors of indices. Each pixel is the entry of the index at its place.
     /// Returns `None` where an index is past the end.
     ///
@@ -241,5 +291,35 @@ fn rgba_matched(
     }
     let mut indices = vec![in alloc; 0; pixels.len()]?;
     match_rgba_pixels(colors, pixels, &mut indices);
+    Ok(Some(indices))
+}
+
+/// Makes the indices of the pixels of rows by error diffusion. Returns `None` where there is no
+/// entry, or more than 256.
+fn rgba_diffused(
+    alloc: Global,
+    colors: &[SRgba8],
+    pixels: &[SRgba8],
+    how: RgbaDiffusion,
+) -> Result<Option<Vec<u8>>, RasterFault>
+    requires row { how.width ≡ 0 → length pixels.now ≡ 0 }
+    requires few { how.width < 4294967296 }
+    requires strength { how.strength ≤ 16 }
+    requires whole { length pixels.now % how.width ≡ 0 }
+    ensures diffused { IfOk result (λ answer. MatchOption answer
+        ((length colors.now ≡ 0) ⊎ (256 < length colors.now))
+        (λ indices. AreSeenDiffused how.way how.strength (map srgba_numbers colors.now) how.width
+        (map srgba_numbers pixels.now) indices.items)) }
+    ensures memory { IfErr result (λ fault. fault ≡ RasterFault.Memory) }
+{
+    if colors.is_empty() || colors.len() > ENTRIES {
+        return Ok(None);
+    }
+    let mut indices = vec![in alloc; 0; pixels.len()]?;
+    if how.width == 0 {
+        return Ok(Some(indices));
+    }
+    let mut work = vec![in alloc; Seen::default(); 4 * how.width]?;
+    diffuse_rgba_pixels(colors, pixels, how, &mut work, &mut indices);
     Ok(Some(indices))
 }
