@@ -3,7 +3,8 @@ use Rattle.std.specs.Prelude.{MatchOption}
 use Rattle.std.proofs.Common.{◌≡◌, ◌⊎◌, ℕ, zero, suc, ◌≤◌, List, Option, Some, None, IsPermutation, refl, inl, inr, arith, sym, subst}
 use Rattle.pix_table.specs.Cut.{IsCutTable}
 use Rattle.pix_table.specs.From.{IsTableFrom}
-use Rattle.pix_table.specs.Refine.{AreRounds, IsRefinedTableFrom, IsRound, squared_error}
+use Rattle.pix_table.specs.Nearest.{distance}
+use Rattle.pix_table.specs.Refine.{AreRounds, AreRoundsBy, IsRefinedTableFrom, IsRoundBy, refined, squared_error}
 use Rattle.pix_table.proofs.RefinedTables.{rounds_moved, error_moved}
 
 -- no rounds leave the table of the cut
@@ -24,11 +25,12 @@ refined_moved rounds room xs ys first new table moved made are less e =
     rw e (
       first,
       made,
-      rounds_moved rounds xs ys first new moved are,
-      omega (arith, error_moved new xs ys moved, error_moved first xs ys moved, less),
+      rounds_moved distance refined rounds xs ys first new moved are,
+      omega (arith, error_moved distance new xs ys moved, error_moved distance first xs ys moved, less),
     )
 
 -- a round that moves no entry stays one, however many there are
-pub none_move : (rounds : ℕ) (colors entries : List (List ℕ)) → IsRound colors entries entries → AreRounds rounds colors entries entries
-none_move zero colors entries h = refl
-none_move (suc n) colors entries h = (entries, h, none_move n colors entries h)
+pub none_move : (apart : List ℕ → List ℕ → ℕ) (settle : List ℕ → List (List ℕ) → List ℕ) (rounds : ℕ) (colors entries : List (List ℕ))
+    → IsRoundBy apart settle colors entries entries → AreRoundsBy apart settle rounds colors entries entries
+none_move apart settle zero colors entries h = refl
+none_move apart settle (suc n) colors entries h = (entries, h, none_move apart settle n colors entries h)

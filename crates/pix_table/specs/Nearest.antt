@@ -20,11 +20,16 @@ distance p q =
 abbrev pub distance_to : List (List ℕ) → List ℕ → ℕ → ℕ
 distance_to entries color i = distance (slice_index_or entries i []) color
 
--- the entry i is the nearest to a color: none is nearer, and none before it is as near
-pub record IsNearest (entries : List (List ℕ)) (color : List ℕ) (i : ℕ) : Type 0 where
+-- the entry i is the nearest to a color, by how far apart two are: none is nearer, and none before it
+-- is as near
+pub record IsNearestBy (apart : List ℕ → List ℕ → ℕ) (entries : List (List ℕ)) (color : List ℕ) (i : ℕ) : Type 0 where
   pub stands : i < length entries
-  pub least : (k : ℕ) → k < length entries → distance_to entries color i ≤ distance_to entries color k
-  pub first : (k : ℕ) → k < i → distance_to entries color i < distance_to entries color k
+  pub least : (k : ℕ) → k < length entries → apart (slice_index_or entries i []) color ≤ apart (slice_index_or entries k []) color
+  pub first : (k : ℕ) → k < i → apart (slice_index_or entries i []) color < apart (slice_index_or entries k []) color
+
+-- the same by the sum of the squared differences
+abbrev pub IsNearest : (entries : List (List ℕ)) (color : List ℕ) (i : ℕ) → Type 0
+IsNearest entries color i = IsNearestBy distance entries color i
 
 -- the index of the nearest entry, or none where there is no entry
 abbrev pub IsNearestOf : List (List ℕ) → List ℕ → Option ℕ → Type 0

@@ -2,41 +2,58 @@
 -- 1982).
 use Rattle.std.specs.Prelude.{◌⊎◌, ◌≡◌, ℕ, zero, suc, ◌<◌, ◌≤◌, List, [], ◌∷◌, length, fold, min, slice_index_or, All, sum_by, IsPermutation}
 use Rattle.std.specs.List.{flat_map}
-use Rattle.pix_table.specs.Nearest.{distance, IsNearest}
+use Rattle.pix_table.specs.Nearest.{distance, IsNearestBy}
 use Rattle.pix_table.specs.Cut.{mean, IsCutTable}
 use Rattle.pix_table.specs.From.{distinct}
 
 -- the colors of each entry, in any order: those to which it is the nearest, the first of equals
-pub record AreGroups (entries colors : List (List ℕ)) (groups : List (List (List ℕ))) : Type 0 where
+pub record AreGroupsBy (apart : List ℕ → List ℕ → ℕ) (entries colors : List (List ℕ)) (groups : List (List (List ℕ))) : Type 0 where
   pub many : length groups ≡ length entries
   pub all : IsPermutation colors (flat_map (λ group. group) groups)
-  pub nearest : (i : ℕ) → i < length entries → All (λ color. IsNearest entries color i) (slice_index_or groups i [])
+  pub nearest : (i : ℕ) → i < length entries → All (λ color. IsNearestBy apart entries color i) (slice_index_or groups i [])
+
+-- a round: each entry settles among its colors
+pub record IsRoundBy (apart : List ℕ → List ℕ → ℕ) (settle : List ℕ → List (List ℕ) → List ℕ) (colors old new : List (List ℕ)) : Type 0 where
+  pub groups : List (List (List ℕ))
+  pub are : AreGroupsBy apart old colors groups
+  pub many : length new ≡ length old
+  pub each : (i : ℕ) → i < length old → slice_index_or new i [] ≡ settle (slice_index_or old i []) (slice_index_or groups i [])
+
+-- so many rounds, one after the other
+abbrev pub AreRoundsBy : (apart : List ℕ → List ℕ → ℕ) (settle : List ℕ → List (List ℕ) → List ℕ) → ℕ → (colors old new : List (List ℕ)) → Type 0
+AreRoundsBy apart settle zero colors old new = new ≡ old
+AreRoundsBy apart settle (suc n) colors old new =
+    (next : List (List ℕ)) × IsRoundBy apart settle colors old next × AreRoundsBy apart settle n colors next new
+
+-- how far the nearest of some entries is from a color
+abbrev pub least_distance_by : (apart : List ℕ → List ℕ → ℕ) → List (List ℕ) → List ℕ → ℕ
+least_distance_by apart [] color = 0
+least_distance_by apart (entry ∷ entries) color = fold (λ least e. min least (apart e color)) (apart entry color) entries
+
+-- the sum of the squared errors of a list of colors, each of which is shown by its nearest entry
+abbrev pub squared_error_by : (apart : List ℕ → List ℕ → ℕ) → (entries colors : List (List ℕ)) → ℕ
+squared_error_by apart entries colors = sum_by (λ color. least_distance_by apart entries color) colors
 
 -- an entry after a round: the mean of its colors, or itself where it has none
 abbrev pub refined : List ℕ → List (List ℕ) → List ℕ
 refined entry [] = entry
 refined entry (color ∷ colors) = mean (color ∷ colors)
 
--- a round: each entry goes to the mean of its colors
-pub record IsRound (colors old new : List (List ℕ)) : Type 0 where
-  pub groups : List (List (List ℕ))
-  pub are : AreGroups old colors groups
-  pub many : length new ≡ length old
-  pub each : (i : ℕ) → i < length old → slice_index_or new i [] ≡ refined (slice_index_or old i []) (slice_index_or groups i [])
+-- all of these by the sum of the squared differences, where each entry goes to the mean of its colors
+abbrev pub AreGroups : (entries colors : List (List ℕ)) (groups : List (List (List ℕ))) → Type 0
+AreGroups entries colors groups = AreGroupsBy distance entries colors groups
 
--- so many rounds, one after the other
+abbrev pub IsRound : (colors old new : List (List ℕ)) → Type 0
+IsRound colors old new = IsRoundBy distance refined colors old new
+
 abbrev pub AreRounds : ℕ → (colors old new : List (List ℕ)) → Type 0
-AreRounds zero colors old new = new ≡ old
-AreRounds (suc n) colors old new = (next : List (List ℕ)) × IsRound colors old next × AreRounds n colors next new
+AreRounds n colors old new = AreRoundsBy distance refined n colors old new
 
--- how far the nearest of some entries is from a color
 abbrev pub least_distance : List (List ℕ) → List ℕ → ℕ
-least_distance [] color = 0
-least_distance (entry ∷ entries) color = fold (λ least e. min least (distance e color)) (distance entry color) entries
+least_distance entries color = least_distance_by distance entries color
 
--- the sum of the squared errors of a list of colors, each of which is shown by its nearest entry
 abbrev pub squared_error : (entries colors : List (List ℕ)) → ℕ
-squared_error entries colors = sum_by (λ color. least_distance entries color) colors
+squared_error entries colors = squared_error_by distance entries colors
 
 -- the table of a list of colors after so many rounds, of at most so many entries: its distinct colors,
 -- where there is room for them, and else that of the cuts, refined, whose squared error is no greater

@@ -1,7 +1,8 @@
 -- Of `refine`: that its rounds are as many as were asked for.
 use Rattle.std.proofs.Common.{◌≡◌, ◌+◌, ◌-◌, suc, map, refl, arith, sym, subst}
-use Rattle.pix_table.specs.Nearest.{numbers}
-use Rattle.pix_table.specs.Refine.{AreRounds, IsRound}
+use Rattle.pix_table.specs.Nearest.{distance, numbers}
+use Rattle.pix_table.specs.Refine.{AreRounds, IsRound, refined}
+use Rattle.pix_table.proofs.LeastMeans.{refined_least}
 use Rattle.pix_table.proofs.RefinedTables.{rounds_fall}
 use Rattle.pix_table.proofs.TableRounds.{none_move}
 use Rattle.pix_table.proofs.refine.refine.Goals as goal
@@ -27,11 +28,11 @@ returns-then-not-is_moved-clause-rounds c =
     subst (λ l. IsRound (map numbers c.args.colors.now) l (map numbers c.round-is_moved.new.entries)) (sym same) c.round-is_moved.ensures.round in
     c.loop-done.invariant new
     (subst (λ l. AreRounds (c.args.rounds - c.loop-done.done) (map numbers c.args.colors.now) l (map numbers c.round-is_moved.new.entries)) same
-    (none_move (c.args.rounds - c.loop-done.done) (map numbers c.args.colors.now) new round))
+    (none_move distance refined (c.args.rounds - c.loop-done.done) (map numbers c.args.colors.now) new round))
 
 pub returns-then-not-is_moved-clause-no_worse : goal.returns-then-not-is_moved-clause-no_worse
 returns-then-not-is_moved-clause-no_worse c =
-    rounds_fall c.args.rounds (map numbers c.args.colors.now) (map numbers c.args.entries.now) (map numbers c.round-is_moved.new.entries)
+    rounds_fall distance refined refined_least c.args.rounds (map numbers c.args.colors.now) (map numbers c.args.entries.now) (map numbers c.round-is_moved.new.entries)
     (returns-then-not-is_moved-clause-rounds c)
 
 pub returns-clause-rounds : goal.returns-clause-rounds
@@ -42,4 +43,4 @@ returns-clause-rounds c =
 
 pub returns-clause-no_worse : goal.returns-clause-no_worse
 returns-clause-no_worse c =
-    rounds_fall c.args.rounds (map numbers c.args.colors.now) (map numbers c.args.entries.now) (map numbers c.loop-done.entries) (returns-clause-rounds c)
+    rounds_fall distance refined refined_least c.args.rounds (map numbers c.args.colors.now) (map numbers c.args.entries.now) (map numbers c.loop-done.entries) (returns-clause-rounds c)

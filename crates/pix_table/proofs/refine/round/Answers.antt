@@ -1,8 +1,10 @@
 -- Of `round`: that the sums make it.
 use Rattle.std.proofs.Common.{◌≤◌, ◌*◌, map, length, get_or, refl, arith, sym}
 use Rattle.std.proofs.lemmas.List.{length-map}
-use Rattle.pix_table.specs.Nearest.{numbers}
+use Rattle.pix_table.specs.Nearest.{distance, numbers}
+use Rattle.pix_table.specs.Refine.{refined}
 use Rattle.pix_table.specs.declared.color.Color.{Color}
+use Rattle.pix_table.proofs.LeastMeans.{refined_least}
 use Rattle.pix_table.proofs.RefinedTables.{round_falls}
 use Rattle.pix_table.proofs.Rounds.{none_moved, one_moves, one_stays, round_made, same_more, sums_few}
 use Rattle.pix_table.proofs.refine.round.Invariants.{nothing}
@@ -60,4 +62,4 @@ returns-clause-round c =
 
 pub returns-clause-no_worse : goal.returns-clause-no_worse
 returns-clause-no_worse c =
-    round_falls (map numbers c.args.colors.now) (map numbers c.args.entries.now) (map numbers c.loop-i.entries) (returns-clause-round c)
+    round_falls distance refined refined_least (map numbers c.args.colors.now) (map numbers c.args.entries.now) (map numbers c.loop-i.entries) (returns-clause-round c)
