@@ -1,4 +1,6 @@
 pub mod Nearest
+pub mod Seen
+pub mod SeenLanes
 pub mod Boxes
 pub mod LookUp
 pub mod Packing

@@ -4,11 +4,75 @@ ghost use Rattle.std.specs.Simd.Lanes.{zip2};
 ghost use Rattle.pix_chan.specs.Number.{saturating_sum};
 ghost use Rattle.pix_table.specs.Nearest.{distance, numbers, squared_difference};
 ghost use Rattle.pix_table.specs.ColorBlocks.{channels_in};
-ghost use Rattle.pix_table.specs.Lanes.{IsNearestLane, IsLeastOf};
+ghost use Rattle.pix_table.specs.Lanes.{IsNearestLane, IsLeastOf, lane_distance};
 
 use crate::color::Color;
 use crate::color_block::{ColorBlock, SIZE};
 use std::simd::prelude::*;
+
+/// Sixteen colors, whose distances from another one are found at once.
+pub(crate) trait LaneBlock {
+    /// What is searched for.
+    type Sought: Copy;
+
+    /// How far it is from the color in a lane.
+    ghost apart: { Self → Self.Sought → ℕ → ℕ };
+
+    /// Returns the distance of each lane, or 65535 where it is greater.
+    fn distances(&self, sought: Self::Sought) -> u16x16
+        ensures long { length result ≡ 16 }
+        ensures each { (i : ℕ) → i < 16
+            → slice_index result i ≡ min 65535 (apart self.now sought i) };
+
+    /// Returns the distance of each lane.
+    fn wide_distances(&self, sought: Self::Sought) -> u32x16
+        ensures long { length result ≡ 16 }
+        ensures each { (i : ℕ) → i < 16 → slice_index result i ≡ apart self.now sought i }
+        ensures few { (i : ℕ) → i < 16 → slice_index result i < 16777216 };
+}
+
+impl LaneBlock for ColorBlock {
+    type Sought = Color;
+
+    ghost apart = { λ block clr i. distance (channels_in block i) (numbers clr) };
+
+    #[inline(always)]
+    fn distances(&self, sought: Color) -> u16x16 {
+        distances(self, sought)
+    }
+
+    #[inline(always)]
+    fn wide_distances(&self, sought: Color) -> u32x16 {
+        wide_distances(self, sought)
+    }
+}
+
+/// Returns the distance of a color from each of sixteen, or 65535 where it is greater.
+#[inline(always)]
+pub(crate) fn distances(block: &ColorBlock, clr: Color) -> u16x16
+    ensures long { length result ≡ 16 }
+    ensures each { (i : ℕ) → i < 16
+        → slice_index result i ≡ min 65535 (distance (channels_in block.now i) (numbers clr)) }
+{
+    let red = squares(u8x16::from_array(block.red), clr.red);
+    let green = squares(u8x16::from_array(block.green), clr.green);
+    let blue = squares(u8x16::from_array(block.blue), clr.blue);
+    sums(sums(red, green), blue)
+}
+
+/// Returns the distance of a color from each of sixteen.
+#[inline(always)]
+pub(crate) fn wide_distances(block: &ColorBlock, clr: Color) -> u32x16
+    ensures long { length result ≡ 16 }
+    ensures each { (i : ℕ) → i < 16
+        → slice_index result i ≡ distance (channels_in block.now i) (numbers clr) }
+    ensures few { (i : ℕ) → i < 16 → slice_index result i < 196608 }
+{
+    let red = squares(u8x16::from_array(block.red), clr.red);
+    let green = squares(u8x16::from_array(block.green), clr.green);
+    let blue = squares(u8x16::from_array(block.blue), clr.blue);
+    wide_sums(red, green, blue)
+}
 
 /// The least key of lanes in which no color is nearer than 65535.
 const FAR: u32 = 4294901760;
@@ -27,23 +91,10 @@ fn squares(xs: u8x16, y: u8) -> u16x16
 
 /// Returns the sum of each two lanes, or 65535 where it is greater.
 #[inline(always)]
-fn sums(xs: u16x16, ys: u16x16) -> u16x16
+pub(crate) fn sums(xs: u16x16, ys: u16x16) -> u16x16
     ensures { result ≡ zip2 (saturating_sum 65535) xs ys }
 {
     xs.saturating_add(ys)
-}
-
-/// Returns the distance of a color from each of sixteen, or 65535 where it is greater.
-#[inline(always)]
-fn distances(block: &ColorBlock, clr: Color) -> u16x16
-    ensures long { length result ≡ 16 }
-    ensures each { (i : ℕ) → i < 16
-        → slice_index result i ≡ min 65535 (distance (channels_in block.now i) (numbers clr)) }
-{
-    let red = squares(u8x16::from_array(block.red), clr.red);
-    let green = squares(u8x16::from_array(block.green), clr.green);
-    let blue = squares(u8x16::from_array(block.blue), clr.blue);
-    sums(sums(red, green), blue)
 }
 
 /// Returns the lesser number of each lane.
@@ -92,52 +143,60 @@ fn least_of(keys: [u32; SIZE]) -> u32
 
 /// Returns the lane of the color that is nearest to another one, the first of equals.
 #[inline]
-pub(crate) fn nearest_lane(blocks: &[ColorBlock], clr: Color) -> u8
+pub(crate) fn nearest_lane<B: LaneBlock>(blocks: &[B], sought: B::Sought) -> u8
     requires some { 0 < length blocks.now }
     requires few { length blocks.now ≤ 16 }
-    ensures { IsNearestLane blocks.now (numbers clr) (16 * length blocks.now) result }
+    ensures { (none : B) → IsNearestLane (lane_distance (λ block. B.apart block sought) none
+        blocks.now) (16 * length blocks.now) result }
 {
     let mut least = u16x16::splat(65535);
     let mut at = u16x16::splat(0);
     for j in 0..blocks.len() {
-        let now = lesser(least, distances(&blocks[j], clr));
+        let now = lesser(least, blocks[j].distances(sought));
         at = blocks_of(now, least, at, j as u16);
         least = now;
     }
     let key = least_of(keys(least, at));
     if key >= FAR {
-        return nearest_far_lane(blocks, clr);
+        return nearest_far_lane(blocks, sought);
     }
     (key % 256) as u8
 }
 
-/// Returns the sums of three numbers of each lane, 256 times, and the lane's number in block `j`
-/// among those of all blocks.
+/// Returns the sum of three numbers of each lane.
 #[inline(always)]
-fn wide_keys(red: u16x16, green: u16x16, blue: u16x16, j: usize) -> u32x16
-    requires { j < 16 }
+fn wide_sums(red: u16x16, green: u16x16, blue: u16x16) -> u32x16
     ensures long { length result ≡ 16 }
     ensures each { (i : ℕ) → i < 16 → slice_index result i
-        ≡ (slice_index red i + slice_index green i + slice_index blue i) * 256 + (16 * j + i) }
+        ≡ slice_index red i + slice_index green i + slice_index blue i }
+    ensures few { (i : ℕ) → i < 16 → slice_index result i < 196608 }
 {
-    let lanes = u16x16::from_array(LANES).cast::<u32>() + u32x16::splat(16 * j as u32);
-    let sum = red.cast::<u32>() + green.cast::<u32>() + blue.cast::<u32>();
-    sum * u32x16::splat(256) + lanes
+    red.cast::<u32>() + green.cast::<u32>() + blue.cast::<u32>()
 }
 
-/// Returns for each lane of block `j` its distance from a color, 256 times, and its number among
-/// those of all blocks.
+/// Returns the sum of each two lanes.
 #[inline(always)]
-fn far_keys(block: &ColorBlock, clr: Color, j: usize) -> u32x16
-    requires { j < 16 }
+pub(crate) fn added(xs: u32x16, ys: u32x16) -> u32x16
+    requires first { (i : ℕ) → i < 16 → slice_index xs i < 196608 }
+    requires second { (i : ℕ) → i < 16 → slice_index ys i < 196608 }
     ensures long { length result ≡ 16 }
-    ensures each { (i : ℕ) → i < 16 → slice_index result i
-        ≡ distance (channels_in block.now i) (numbers clr) * 256 + (16 * j + i) }
+    ensures each { (i : ℕ) → i < 16 → slice_index result i ≡ slice_index xs i + slice_index ys i }
 {
-    let red = squares(u8x16::from_array(block.red), clr.red);
-    let green = squares(u8x16::from_array(block.green), clr.green);
-    let blue = squares(u8x16::from_array(block.blue), clr.blue);
-    wide_keys(red, green, blue, j)
+    xs + ys
+}
+
+/// Returns the number of each lane, 256 times, and the lane's number in block `j` among those of
+/// all blocks.
+#[inline(always)]
+fn wide_keys(far: u32x16, j: usize) -> u32x16
+    requires block { j < 16 }
+    requires few { (i : ℕ) → i < 16 → slice_index far i < 16777216 }
+    ensures long { length result ≡ 16 }
+    ensures each { (i : ℕ) → i < 16
+        → slice_index result i ≡ slice_index far i * 256 + (16 * j + i) }
+{
+    let lanes = u16x16::from_array(LANES).cast::<u32>() + u32x16::splat(16 * j as u32);
+    far * u32x16::splat(256) + lanes
 }
 
 /// Returns the lesser key of each lane.
@@ -151,14 +210,15 @@ fn lesser_wide(xs: u32x16, ys: u32x16) -> u32x16
 /// Returns the lane of the nearest color as [`nearest_lane`] does, also where each is farther than
 /// 16 bits can count.
 #[inline(never)]
-fn nearest_far_lane(blocks: &[ColorBlock], clr: Color) -> u8
+fn nearest_far_lane<B: LaneBlock>(blocks: &[B], sought: B::Sought) -> u8
     requires some { 0 < length blocks.now }
     requires few { length blocks.now ≤ 16 }
-    ensures { IsNearestLane blocks.now (numbers clr) (16 * length blocks.now) result }
+    ensures { (none : B) → IsNearestLane (lane_distance (λ block. B.apart block sought) none
+        blocks.now) (16 * length blocks.now) result }
 {
-    let mut least = far_keys(&blocks[0], clr, 0);
+    let mut least = wide_keys(blocks[0].wide_distances(sought), 0);
     for j in 1..blocks.len() {
-        least = lesser_wide(least, far_keys(&blocks[j], clr, j));
+        least = lesser_wide(least, wide_keys(blocks[j].wide_distances(sought), j));
     }
     (least_of(least.to_array()) % 256) as u8
 }

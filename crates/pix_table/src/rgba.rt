@@ -1,0 +1,7 @@
+//! Tables of colors with an alpha.
+pub(crate) mod color;
+pub(crate) mod lanes;
+pub(crate) mod matched;
+
+pub use crate::rgba::color::{RgbaColor, Seen};
+pub use crate::rgba::matched::match_rgba_pixels;

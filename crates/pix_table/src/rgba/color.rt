@@ -1,0 +1,150 @@
+//! Colors with an alpha, and how they are seen.
+ghost use Rattle.std.specs.Prelude.{◌≡◌, ◌≤◌};
+ghost use Rattle.pix_chan.specs.Product.{channel_product};
+ghost use Rattle.pix_table.specs.Seen.{
+    AreSeen, over_alpha, rgba_numbers, seen, seen_numbers, straight,
+};
+
+use crate::color::{Color, TablePixel};
+use pix_chan::chan::Ch8;
+
+/// Red, green and blue, and an alpha by which they are not multiplied, of eight bits each.
+#[repr(C)]
+#[derive(Clone, Copy, Debug, Default, PartialEq, Eq)]
+pub struct RgbaColor {
+    /// The red channel.
+    pub red: u8,
+    /// The green channel.
+    pub green: u8,
+    /// The blue channel.
+    pub blue: u8,
+    /// The alpha.
+    pub alpha: u8,
+}
+
+impl TablePixel for RgbaColor {
+    ghost values = { rgba_numbers };
+
+    fn rgb(self) -> Color {
+        Color {
+            red: self.red,
+            green: self.green,
+            blue: self.blue,
+        }
+    }
+
+    fn alpha(self) -> u8 {
+        self.alpha
+    }
+}
+
+/// A pixel as it is seen over black: red, green and blue times its alpha, and the alpha.
+#[repr(C)]
+#[derive(Clone, Copy, Debug, Default, PartialEq, Eq)]
+pub struct Seen {
+    /// The red channel times the alpha.
+    pub red: u8,
+    /// The green channel times the alpha.
+    pub green: u8,
+    /// The blue channel times the alpha.
+    pub blue: u8,
+    /// The alpha.
+    pub alpha: u8,
+}
+
+/// Returns how a pixel is seen.
+#[inline(always)]
+pub(crate) fn seen_of<P: TablePixel>(pixel: P) -> Seen
+    ensures numbers { seen_numbers result ≡ seen (P.values pixel) }
+    ensures seen { AreSeen (seen_numbers result) }
+{
+    let color = pixel.rgb();
+    let alpha = pixel.alpha();
+    Seen {
+        red: product(color.red, alpha),
+        green: product(color.green, alpha),
+        blue: product(color.blue, alpha),
+        alpha,
+    }
+}
+
+/// Returns the product of a channel and an alpha, rounded to the nearest.
+#[inline(always)]
+fn product(number: u8, alpha: u8) -> u8
+    ensures product { result ≡ channel_product 255 number alpha }
+    ensures few { result ≤ alpha }
+{
+    u8::from(Ch8::new(number) * Ch8::new(alpha))
+}
+
+/// Returns the color that is seen as `color`, not multiplied by its alpha.
+pub(crate) fn straight(color: Seen) -> RgbaColor
+    requires { AreSeen (seen_numbers color) }
+    ensures { rgba_numbers result ≡ straight (seen_numbers color) }
+{
+    RgbaColor {
+        red: over_alpha(color.red, color.alpha),
+        green: over_alpha(color.green, color.alpha),
+        blue: over_alpha(color.blue, color.alpha),
+        alpha: color.alpha,
+    }
+}
+
+/// Returns a channel that is divided by an alpha no less than it, rounded to the nearest, ties up.
+fn over_alpha(number: u8, alpha: u8) -> u8
+    requires { number ≤ alpha }
+    ensures { result ≡ over_alpha number alpha }
+{
+    if alpha == 0 {
+        return 0;
+    }
+    let ratio = (510 * u32::from(number) + u32::from(alpha)) / (2 * u32::from(alpha));
+    ratio as u8
+}
+
+#[cfg(test)]
+mod tests {
+    use super::*;
+
+    /// Returns a color with an alpha.
+    fn rgba(red: u8, green: u8, blue: u8, alpha: u8) -> RgbaColor {
+        RgbaColor {
+            red,
+            green,
+            blue,
+            alpha,
+        }
+    }
+
+    #[test]
+    fn sees_half_clear_color(rt: HostRuntime) {
+        let seen = seen_of(rgba(255, 128, 1, 128));
+        assert_eq!(rt;
+            seen,
+            Seen {
+                red: 128,
+                green: 64,
+                blue: 1,
+                alpha: 128
+            }
+        );
+        assert_eq!(rt; straight(seen), rgba(255, 128, 2, 128));
+    }
+
+    #[test]
+    fn sees_opaque_color_as_it_is(rt: HostRuntime) {
+        let seen = seen_of(Color {
+            red: 7,
+            green: 8,
+            blue: 9,
+        });
+        assert_eq!(rt; straight(seen), rgba(7, 8, 9, 255));
+    }
+
+    #[test]
+    fn sees_clear_color_as_black(rt: HostRuntime) {
+        let seen = seen_of(rgba(200, 100, 50, 0));
+        assert_eq!(rt; seen, Seen::default());
+        assert_eq!(rt; straight(seen), rgba(0, 0, 0, 0));
+    }
+}
