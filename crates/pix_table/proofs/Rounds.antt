@@ -1,6 +1,6 @@
 -- The colors of each entry, their sums, and the round that the sums make.
 use Rattle.std.specs.List.{flat_map}
-use Rattle.std.proofs.Common.{◌≡◌, ◌≢◌, ℕ, zero, suc, ◌+◌, ◌*◌, ◌<◌, ◌≤◌, Bool, true, false, not, ◌&&◌, ◌||◌, cond, List, [], ◌∷◌, ◌++◌, length, map, take, set, replicate, get_or, nat_eq, nat_lt, filter, sum_by, count_by, All, IsPermutation, refl, arith, sym, ap, ◌∙◌, subst, inl, inr, lt-ltb, le-ltb, eq-eqb, ne_eqb, length-append, length-set}
+use Rattle.std.proofs.Common.{◌≡◌, ◌≢◌, ℕ, zero, suc, ◌+◌, ◌-◌, ◌*◌, ◌<◌, ◌≤◌, Bool, true, false, not, ◌&&◌, ◌||◌, cond, List, [], ◌∷◌, ◌++◌, length, map, take, set, replicate, get_or, nat_eq, nat_lt, filter, sum_by, count_by, All, IsPermutation, refl, arith, sym, ap, ◌∙◌, subst, inl, inr, lt-ltb, le-ltb, eq-eqb, ne_eqb, length-append, length-set}
 use Rattle.std.proofs.Math.Seq.{map-set_same}
 use Rattle.std.proofs.lemmas.Bool.{cases_lt, cases_order, cases_Bool, eqb-true, true≢false, and_parts}
 use Rattle.std.proofs.lemmas.List.{append-nil, get_or_append_left, get_or-append-add, get_or-take, get_or-set_other, length-map, map-set}
@@ -8,58 +8,75 @@ use Rattle.std.proofs.lemmas.Grind.{flat_map-append, get_or-set_at}
 use Rattle.std.proofs.lemmas.List.Elements.{All-cons, All-nil, All-push}
 use Rattle.std.proofs.lemmas.List.Sums.{length-filter, sum_by-cons}
 use Rattle.std.proofs.lemmas.List.Sorted.{IsPermutation-refl, IsPermutation-sym, IsPermutation-trans, IsPermutation-cons, IsPermutation-middle, IsPermutation-append_left}
-use Rattle.pix_table.specs.Nearest.{distance_to, IsNearest, numbers}
+use Rattle.pix_table.specs.Nearest.{distance, IsNearest, IsNearestBy, numbers}
 use Rattle.pix_table.specs.From.{same_color}
 use Rattle.pix_table.specs.Places.{sum_in}
 use Rattle.pix_table.specs.BestPlaces.{AreBytes, AreParted, AreSums, sum_of}
-use Rattle.pix_table.specs.Refine.{AreGroups, IsRound, refined}
+use Rattle.pix_table.specs.Refine.{AreGroupsBy, IsRound, refined}
 use Rattle.pix_table.specs.Groups.{AreGrouped, mean_by, settled}
 use Rattle.pix_table.specs.declared.box_sums.Sums.{Sums}
 use Rattle.pix_table.specs.declared.color.Color.{Color}
 use Rattle.pix_table.proofs.BoxSumLemmas.{are_few, count_few}
 use Rattle.pix_table.proofs.PartedSums.{parted_more, parted_none}
-use Rattle.pix_table.proofs.NearestEntries.{IsNearestBelow, nearest_at_first, nearest_changes, nearest_stays, nearest_of_all}
 
--- a color has a nearest entry
-nearest_below : (entries : List (List ℕ)) (color : List ℕ) → 0 < length entries → (i : ℕ) → i ≤ length entries
-    → (at : ℕ) × (least : ℕ) × IsNearestBelow entries color i at least
-nearest_below entries color some zero within = (0, distance_to entries color 0, nearest_at_first entries color (distance_to entries color 0) some refl)
-nearest_below entries color some (suc i) within =
-    let before = nearest_below entries color some i (omega arith) in
-    let next : i + 1 ≡ suc i = omega arith in
-    elim (cases_lt (distance_to entries color i) before.1) [
-      | inl b ↦ (
-        i,
-        distance_to entries color i,
-        subst (λ n. IsNearestBelow entries color n i (distance_to entries color i)) next
-            (nearest_changes entries color i before.0 before.1 (distance_to entries color i) before.2 (omega arith) refl b),
-      )
-      | inr b ↦ (
-        before.0,
-        before.1,
-        subst (λ n. IsNearestBelow entries color n before.0 before.1) next
-            (nearest_stays entries color i before.0 before.1 (distance_to entries color i) before.2 refl b),
-      )
+-- by any measure of how far two colors are apart
+module _ (apart : List ℕ → List ℕ → ℕ) where
+  -- a color has a nearest entry
+  nearest_up_to : (entries : List (List ℕ)) (color : List ℕ) (n : ℕ)
+      → (at : ℕ) × (at ≤ n) × ((k : ℕ) → k ≤ n → apart (get_or entries at []) color ≤ apart (get_or entries k []) color)
+      × ((k : ℕ) → k < at → apart (get_or entries at []) color < apart (get_or entries k []) color)
+  nearest_up_to entries color zero = (
+    0,
+    omega arith,
+    λ k b. (let same : 0 ≡ k = omega arith in
+        subst (λ j. apart (get_or entries 0 []) color ≤ apart (get_or entries j []) color) same (omega arith)),
+    λ k b. absurd (omega arith),
+  )
+  nearest_up_to entries color (suc n) =
+      let before = nearest_up_to entries color n in
+      elim (cases_lt (apart (get_or entries (suc n) []) color) (apart (get_or entries before.0 []) color)) [
+        | inl nearer ↦ (
+          suc n,
+          omega arith,
+          λ k b. elim (cases_lt k (suc n)) [
+            | inl l ↦ omega (arith, nearer, before.2 k (omega arith))
+            | inr l ↦
+                let same : suc n ≡ k = omega arith in
+                subst (λ j. apart (get_or entries (suc n) []) color ≤ apart (get_or entries j []) color) same (omega arith)
+          ],
+          λ k b. omega (arith, nearer, before.2 k (omega arith)),
+        )
+        | inr farther ↦ (
+          before.0,
+          omega (arith, before.1),
+          λ k b. elim (cases_lt k (suc n)) [
+            | inl l ↦ before.2 k (omega arith)
+            | inr l ↦
+                let same : suc n ≡ k = omega arith in
+                subst (λ j. apart (get_or entries before.0 []) color ≤ apart (get_or entries j []) color) same farther
+          ],
+          before.3,
+        )
+      ]
+
+  pub nearest_at : (entries : List (List ℕ)) → 0 < length entries → (color : List ℕ) → (at : ℕ) × IsNearestBy apart entries color at
+  nearest_at entries some color =
+      let h = nearest_up_to entries color (length entries - 1) in
+      (h.0, record { stands = omega (arith, h.1); least = λ k b. h.2 k (omega arith); first = h.3 })
+
+  -- the nearest is one
+  pub nearest_is_one : (entries : List (List ℕ)) (color : List ℕ) (i j : ℕ) → IsNearestBy apart entries color i → IsNearestBy apart entries color j → i ≡ j
+  nearest_is_one entries color i j h g = elim (cases_order i j) [
+    | inl e ↦ e
+    | inr o ↦ elim o [
+      | inl b ↦ absurd (omega (arith, g.first i b, h.least j g.stands))
+      | inr b ↦ absurd (omega (arith, h.first j b, g.least i h.stands))
     ]
-
-pub nearest_at : (entries : List (List ℕ)) → 0 < length entries → (color : List ℕ) → (at : ℕ) × IsNearest entries color at
-nearest_at entries some color =
-    let h = nearest_below entries color some (length entries) (omega arith) in
-    (h.0, nearest_of_all entries color (length entries) h.0 h.1 refl h.2)
-
--- the nearest is one
-pub nearest_is_one : (entries : List (List ℕ)) (color : List ℕ) (i j : ℕ) → IsNearest entries color i → IsNearest entries color j → i ≡ j
-nearest_is_one entries color i j h g = elim (cases_order i j) [
-  | inl e ↦ e
-  | inr o ↦ elim o [
-    | inl b ↦ absurd (omega (arith, g.first i b, h.least j g.stands))
-    | inr b ↦ absurd (omega (arith, h.first j b, g.least i h.stands))
   ]
-]
 
 -- the colors of each part, where a function says in which of so many parts a color is
 module _ (at : List ℕ → ℕ) where
-  abbrev part : ℕ → List (List ℕ) → List (List ℕ)
+  abbrev pub part : ℕ → List (List ℕ) → List (List ℕ)
   part n colors = filter (λ c. nat_eq (at c) n) colors
 
   abbrev below : ℕ → List (List ℕ) → List (List ℕ)
@@ -74,7 +91,7 @@ module _ (at : List ℕ → ℕ) where
   length-parts zero colors = refl
   length-parts (suc n) colors = omega (arith, length-append (parts n colors) (part n colors ∷ []), length-parts n colors)
 
-  part_of : (n k : ℕ) (colors : List (List ℕ)) → k < n → get_or (parts n colors) k [] ≡ part k colors
+  pub part_of : (n k : ℕ) (colors : List (List ℕ)) → k < n → get_or (parts n colors) k [] ≡ part k colors
   unfolding parts
   part_of zero k colors h = absurd (omega arith)
   part_of (suc n) k colors h = elim (cases_lt k n) [
@@ -133,14 +150,14 @@ passed p P (x ∷ xs) h = elim (cases_Bool (p x)) [
   | inr e ↦ subst (All P) (sym (ap (λ b. cond b (x ∷ filter p xs) (filter p xs)) e)) (passed p P xs h)
 ]
 
-groups_are : (entries colors : List (List ℕ)) (at : List ℕ → ℕ) → ((color : List ℕ) → IsNearest entries color (at color))
-    → AreGroups entries colors (parts at (length entries) colors)
-groups_are entries colors at h = record {
+pub groups_are : (apart : List ℕ → List ℕ → ℕ) (entries colors : List (List ℕ)) (at : List ℕ → ℕ) → ((color : List ℕ) → IsNearestBy apart entries color (at color))
+    → AreGroupsBy apart entries colors (parts at (length entries) colors)
+groups_are apart entries colors at h = record {
   many = length-parts at (length entries) colors;
   all = subst (λ l. IsPermutation l (flat_map (λ g. g) (parts at (length entries) colors)))
       (all_below at (length entries) colors (λ c. (h c).stands)) (joined at (length entries) colors);
-  nearest = λ i inside. subst (All (λ c. IsNearest entries c i)) (sym (part_of at (length entries) i colors inside))
-      (passed (λ c. nat_eq (at c) i) (λ c. IsNearest entries c i) colors (λ c e. subst (IsNearest entries c) (eqb-true (at c) i e) (h c)));
+  nearest = λ i inside. subst (All (λ c. IsNearestBy apart entries c i)) (sym (part_of at (length entries) i colors inside))
+      (passed (λ c. nat_eq (at c) i) (λ c. IsNearestBy apart entries c i) colors (λ c e. subst (IsNearestBy apart entries c) (eqb-true (at c) i e) (h c)));
 }
 
 -- an entry by the sums of its colors
@@ -168,9 +185,9 @@ pub sums_few : (entries colors : List Color) (sums : List Sums) (d : Sums) → 0
     → ((get_or sums k d).red ≤ 255 * (get_or sums k d).count) × ((get_or sums k d).green ≤ 255 * (get_or sums k d).count)
     × ((get_or sums k d).blue ≤ 255 * (get_or sums k d).count)
 sums_few entries colors sums d some grouped k inside =
-    let at : List ℕ → ℕ = (λ c. (nearest_at (map numbers entries) (omega (arith, length-map entries numbers, some)) c).0) in
+    let at : List ℕ → ℕ = (λ c. (nearest_at distance (map numbers entries) (omega (arith, length-map entries numbers, some)) c).0) in
     let nearest : (c : List ℕ) → IsNearest (map numbers entries) c (at c) =
-    (λ c. (nearest_at (map numbers entries) (omega (arith, length-map entries numbers, some)) c).1) in
+    (λ c. (nearest_at distance (map numbers entries) (omega (arith, length-map entries numbers, some)) c).1) in
     are_few (λ c. nat_eq (at c) k) (map numbers colors) (get_or sums k d) grouped.bytes
     (subst (AreSums (λ c. nat_eq (at c) k) (map numbers colors)) (get_or-take (length entries) sums k d inside)
     ((grouped.parts at nearest).each k d (omega (arith, length-map entries numbers, inside))))
@@ -229,21 +246,26 @@ same_numbers p q e =
     rw (eqb-true p.red q.red inner.0, eqb-true p.green q.green inner.1, eqb-true p.blue q.blue outer.1) refl
 
 -- no entry has moved, where none had and the next one does not
+pub same_more_by : {X : Type 0} (f : X → List ℕ) (start : List (List ℕ)) (es : List X) (i : ℕ) (x d : X) (moved same new : Bool)
+    → (same ≡ true → f x ≡ f (get_or es i d)) → new ≡ (moved || not same) → (moved ≡ false → map f es ≡ start) → new ≡ false → map f (set es i x) ≡ start
+same_more_by f start es i x d true same new e is h g = absurd (true≢false (sym is ∙ g))
+same_more_by f start es i x d false false new e is h g = absurd (true≢false (sym is ∙ g))
+same_more_by f start es i x d false true new e is h g = map-set_same f es i x d (e refl) ∙ h refl
+
 pub same_more : (start : List (List ℕ)) (es : List Color) (i : ℕ) (x d : Color) (moved same new : Bool) → same ≡ same_color (numbers x) (numbers (get_or es i d))
     → new ≡ (moved || not same) → (moved ≡ false → map numbers es ≡ start) → new ≡ false → map numbers (set es i x) ≡ start
-same_more start es i x d true same new e f h g = absurd (true≢false (sym f ∙ g))
-same_more start es i x d false false new e f h g = absurd (true≢false (sym f ∙ g))
-same_more start es i x d false true new e f h g = map-set_same numbers es i x d (same_numbers x (get_or es i d) (sym e)) ∙ h refl
+same_more start es i x d moved same new e is h g =
+    same_more_by numbers start es i x d moved same new (λ t. same_numbers x (get_or es i d) (sym e ∙ t)) is h g
 
 -- the round
 pub round_made : (old colors new : List (List ℕ)) (n i : ℕ) (sums : List Sums) (d : Sums) → 0 < n → n ≡ length old → n ≤ i
     → AreGrouped old colors (take n sums) → AreMoved old new sums d i → IsRound colors old new
 round_made old colors new n i sums d some e all grouped h =
-    let at : List ℕ → ℕ = (λ c. (nearest_at old (omega (arith, e, some)) c).0) in
-    let nearest : (c : List ℕ) → IsNearest old c (at c) = (λ c. (nearest_at old (omega (arith, e, some)) c).1) in
+    let at : List ℕ → ℕ = (λ c. (nearest_at distance old (omega (arith, e, some)) c).0) in
+    let nearest : (c : List ℕ) → IsNearest old c (at c) = (λ c. (nearest_at distance old (omega (arith, e, some)) c).1) in
     record {
       groups = parts at (length old) colors;
-      are = groups_are old colors at nearest;
+      are = groups_are distance old colors at nearest;
       many = h.many;
       each = λ k inside.
           let s : AreSums (λ c. nat_eq (at c) k) colors (get_or sums k d) =
@@ -271,7 +293,7 @@ grouped_more entries box more sums c v old new grown bytes is read count red gre
   bytes = subst (All AreBytes) (sym grown) (All-push AreBytes box (numbers c) h.bytes bytes);
   parts = λ at nearest.
       parted_more at (length entries) v box more sums c old new grown (h.parts at nearest)
-      (nearest_is_one entries (numbers c) v (at (numbers c)) is (nearest (numbers c))) is.stands read count red green blue;
+      (nearest_is_one distance entries (numbers c) v (at (numbers c)) is (nearest (numbers c))) is.stands read count red green blue;
 }
 
 -- what is known of the sums to which a color is added
@@ -279,8 +301,8 @@ pub sums_open : (entries box : List (List ℕ)) (sums : List Sums) (d : Sums) (v
     → ((get_or sums v d).count ≤ length box) × ((get_or sums v d).red ≤ 255 * (get_or sums v d).count) × ((get_or sums v d).green ≤ 255 * (get_or sums v d).count)
     × ((get_or sums v d).blue ≤ 255 * (get_or sums v d).count)
 sums_open entries box sums d v inside h =
-    let at : List ℕ → ℕ = (λ c. (nearest_at entries (omega arith) c).0) in
-    let nearest : (c : List ℕ) → IsNearest entries c (at c) = (λ c. (nearest_at entries (omega arith) c).1) in
+    let at : List ℕ → ℕ = (λ c. (nearest_at distance entries (omega arith) c).0) in
+    let nearest : (c : List ℕ) → IsNearest entries c (at c) = (λ c. (nearest_at distance entries (omega arith) c).1) in
     let s : AreSums (λ c. nat_eq (at c) v) box (get_or sums v d) = (h.parts at nearest).each v d inside in
     let few = are_few (λ c. nat_eq (at c) v) box (get_or sums v d) h.bytes s in
     (count_few (λ c. nat_eq (at c) v) box (get_or sums v d) s, few.0, few.1, few.2)

@@ -16,13 +16,17 @@ shown alpha pixels = map color_of (filter (λ pixel. nat_le alpha (alpha_of pixe
 abbrev pub same_color : List ℕ → List ℕ → Bool
 same_color p q = nat_eq (slice_index p 0) (slice_index q 0) && nat_eq (slice_index p 1) (slice_index q 1) && nat_eq (slice_index p 2) (slice_index q 2)
 
--- colors with one more at the end, if it is not among them
-abbrev pub with_color : List (List ℕ) → List ℕ → List (List ℕ)
-with_color colors color = if list_any (λ c. same_color c color) colors then colors else colors ++ color ∷ []
+-- colors with one more at the end, if none of them is the same
+abbrev pub with_color_by : (List ℕ → List ℕ → Bool) → List (List ℕ) → List ℕ → List (List ℕ)
+with_color_by same colors color = if list_any (λ c. same c color) colors then colors else colors ++ color ∷ []
+
+-- the distinct colors of a list, in order of first place, by what is the same
+abbrev pub distinct_by : (List ℕ → List ℕ → Bool) → List (List ℕ) → List (List ℕ)
+distinct_by same colors = fold (with_color_by same) [] colors
 
 -- the distinct colors of a list, in order of first place
 abbrev pub distinct : List (List ℕ) → List (List ℕ)
-distinct colors = fold with_color [] colors
+distinct colors = distinct_by same_color colors
 
 -- the table of a list of colors, of at most a number of entries: its distinct colors, where there
 -- is room for them, and else that of the cut by squared error
