@@ -28,7 +28,7 @@ square x y = elim (cases_lt x y) [
 ]
 
 -- the squared differences of a number from those of a list, by sums
-squares : (f : List ℕ → ℕ) (x : ℕ) (box : List (List ℕ))
+pub squares : (f : List ℕ → ℕ) (x : ℕ) (box : List (List ℕ))
     → sum_by (λ c. squared_difference x (f c)) box + 2 * (x * sum_by f box) ≡ length box * (x * x) + sum_by (λ c. f c * f c) box
 squares f x [] = omega arith
 squares f x (c ∷ box) =
@@ -84,7 +84,7 @@ channel_least k e box some =
       least_by (length box) (sum_in k box) (mean_of k box) e bounds.0 bounds.1,
     )
 
-by_channels : (p : List ℕ) (box : List (List ℕ)) → sum_by (λ c. distance p c) box
+pub by_channels : (p : List ℕ) (box : List (List ℕ)) → sum_by (λ c. distance p c) box
     ≡ sum_by (λ c. squared_difference (get_or p 0 0) (get_or c 0 0)) box + sum_by (λ c. squared_difference (get_or p 1 0) (get_or c 1 0)) box
     + sum_by (λ c. squared_difference (get_or p 2 0) (get_or c 2 0)) box
 by_channels p [] = refl

@@ -40,3 +40,5 @@ pub mod Quotients
 pub mod LeastMeans
 pub mod RefinedTables
 pub mod TableRounds
+pub mod SeenErrors
+pub mod SeenRounds

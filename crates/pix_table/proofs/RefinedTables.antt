@@ -19,7 +19,7 @@ sum_joined f (group ∷ groups) =
       sum_joined f groups,
     )
 
-sum_le : {X : Type 0} (f g : X → ℕ) (xs : List X) → All (λ x. f x ≤ g x) xs → sum_by f xs ≤ sum_by g xs
+pub sum_le : {X : Type 0} (f g : X → ℕ) (xs : List X) → All (λ x. f x ≤ g x) xs → sum_by f xs ≤ sum_by g xs
 sum_le f g [] h = omega arith
 sum_le f g (x ∷ xs) h =
     omega (

@@ -23,3 +23,5 @@ pub mod Lanes
 pub mod EntryLanes
 pub mod SrgbColor
 pub mod ColorBlocks
+pub mod SeenGroups
+pub mod SeenTables

@@ -187,7 +187,7 @@ pub(crate) fn sums_of(colors: &[Color]) -> Sums
 
 /// Returns the whole part of a quotient that is below 256: by differences, since no processor
 /// divides numbers of 128 bits.
-fn quotient(n: u128, d: u128) -> u8
+pub(crate) fn quotient(n: u128, d: u128) -> u8
     requires some { 0 < d }
     requires few { n < 256 * d }
     ensures { result ≡ n / d }

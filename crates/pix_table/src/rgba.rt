@@ -1,7 +1,9 @@
 //! Tables of colors with an alpha.
 pub(crate) mod color;
+pub(crate) mod groups;
 pub(crate) mod lanes;
 pub(crate) mod matched;
+pub(crate) mod refine;
 
 pub use crate::rgba::color::{RgbaColor, Seen};
 pub use crate::rgba::matched::match_rgba_pixels;

@@ -1,0 +1,44 @@
+-- Of `seen_round`: that the sums make it.
+use Rattle.std.proofs.Common.{◌≡◌, map, length, get_or, refl, arith, sym, ◌∙◌}
+use Rattle.std.proofs.lemmas.List.{length-map}
+use Rattle.pix_table.specs.Seen.{seen_numbers}
+use Rattle.pix_table.specs.declared.rgba.color.Seen.{Seen}
+use Rattle.pix_table.proofs.Rounds.{same_more_by}
+use Rattle.pix_table.proofs.SeenRounds.{group_of, none_settled, one_settles, round_made, same_numbers, seen_at}
+use Rattle.pix_table.proofs.rgba.refine.seen_round.Invariants.{nothing}
+use Rattle.pix_table.proofs.rgba.refine.seen_round.Goals as goal
+
+abbrev black : Seen
+black = record { red = 0; green = 0; blue = 0; alpha = 0 }
+
+pub loop-i-init : goal.loop-i-init
+loop-i-init c = record {
+  settled = none_settled (map seen_numbers c.args.entries.now) c.sum_groups.new.sums nothing c.requires.entries;
+  same = λ e. refl;
+}
+
+pub settled-next-requires-clause-sums : goal.settled-next-requires-clause-sums
+settled-next-requires-clause-sums c =
+    let h = group_of (map seen_numbers c.args.entries.now) (map seen_numbers c.args.colors.now) c.sum_groups.new.sums nothing c.loop-i.i
+    (omega (arith, length-map c.args.entries.now seen_numbers)) c.sum_groups.ensures in
+    (h.0, h.1)
+
+pub settled-next-requires-clause-entry : goal.settled-next-requires-clause-entry
+settled-next-requires-clause-entry c = seen_at c.loop-i.entries c.loop-i.i black (omega arith) c.loop-i.invariant.settled.seen
+
+pub loop-i-preserved : goal.loop-i-preserved
+loop-i-preserved c =
+    let e = c.settled-next.ensures in
+    record {
+      settled = one_settles (map seen_numbers c.args.entries.now) c.loop-i.entries c.sum_groups.new.sums nothing c.loop-i.i c.settled-next.result black (omega arith)
+          e.seen e.settled c.loop-i.invariant.settled;
+      same = λ none.
+          same_more_by seen_numbers (map seen_numbers c.args.entries.now) c.loop-i.entries c.loop-i.i c.settled-next.result black c.loop-i.is_moved c.same.result _
+          (λ is. same_numbers c.settled-next.result (get_or c.loop-i.entries c.loop-i.i black) (sym c.same.ensures ∙ is)) refl c.loop-i.invariant.same none;
+    }
+
+pub returns-clause-round : goal.returns-clause-round
+returns-clause-round c =
+    round_made (map seen_numbers c.args.entries.now) (map seen_numbers c.args.colors.now) (map seen_numbers c.loop-i.entries) c.loop-i.i c.sum_groups.new.sums
+    nothing (omega (arith, c.requires.some, length-map c.args.entries.now seen_numbers)) (omega (arith, c.loop-i-test.false, length-map c.args.entries.now seen_numbers))
+    c.sum_groups.ensures c.loop-i.invariant.settled

@@ -1,0 +1,29 @@
+-- The sums of the seen colors of each entry, as a round takes them. No clause of a public call cites this file.
+use Rattle.std.specs.Prelude.{◌≡◌, ℕ, ◌+◌, ◌-◌, ◌*◌, ◌<◌, List, length, slice_index, slice_index_or, filter, nat_eq, All}
+use Rattle.pix_table.specs.Nearest.{IsNearestBy}
+use Rattle.pix_table.specs.Places.{sum_in}
+use Rattle.pix_table.specs.Seen.{AreSeen, seen_distance}
+use Rattle.pix_table.specs.declared.rgba.groups.GroupSums.{GroupSums}
+
+-- how many seen colors a group has, and the sums of their numbers
+pub record AreGroupSums (group : List (List ℕ)) (sums : GroupSums) : Type 0 where
+  pub seen : All AreSeen group
+  pub count : sums.count ≡ length group
+  pub red : sums.red ≡ sum_in 0 group
+  pub green : sums.green ≡ sum_in 1 group
+  pub blue : sums.blue ≡ sum_in 2 group
+  pub alpha : sums.alpha ≡ sum_in 3 group
+
+-- the sums of each group of colors, where a function says in which of so many groups a color is
+pub record AreSumsOf (at : List ℕ → ℕ) (count : ℕ) (colors : List (List ℕ)) (sums : List GroupSums) : Type 0 where
+  pub many : length sums ≡ count
+  pub each : (k : ℕ) (d : GroupSums) → k < count → AreGroupSums (filter (λ color. nat_eq (at color) k) colors) (slice_index_or sums k d)
+
+-- the sums of the colors of each entry: those to which it is the nearest, the first of equals
+abbrev pub AreSeenGrouped : (entries colors : List (List ℕ)) (sums : List GroupSums) → Type 0
+AreSeenGrouped entries colors sums =
+    (at : List ℕ → ℕ) → ((color : List ℕ) → IsNearestBy seen_distance entries color (at color)) → AreSumsOf at (length entries) colors sums
+
+-- the products of the numbers of two colors over black and over white, added: of each red, green and blue, and what white adds to them
+abbrev pub product_by : (r g b w s t u v : ℕ) → ℕ
+product_by r g b w s t u v = r * s + g * t + b * u + (r + w) * (s + v) + (g + w) * (t + v) + (b + w) * (u + v)

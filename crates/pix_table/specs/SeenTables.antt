@@ -1,0 +1,46 @@
+-- A table of colors with an alpha, made of the pixels of a picture.
+use Rattle.std.specs.Prelude.{◌⊎◌, ◌≡◌, ℕ, ◌<◌, ◌≤◌, Bool, List, [], ◌∷◌, ◌&&◌, length, map, slice_index, sum_by, nat_eq, nat_le, if◌then◌else◌}
+use Rattle.pix_table.specs.Nearest.{alpha_of}
+use Rattle.pix_table.specs.From.{distinct_by, same_color}
+use Rattle.pix_table.specs.Refine.{AreRoundsBy, squared_error_by}
+use Rattle.pix_table.specs.Seen.{seen, seen_distance, straight}
+use Rattle.pix_table.specs.SeenCut.{IsSeenCutTable, seen_mean}
+
+-- the sum of the squared errors of some colors that are shown by one
+abbrev pub error_to : List ℕ → List (List ℕ) → ℕ
+error_to entry colors = sum_by (λ color. seen_distance entry color) colors
+
+-- an entry after a round: the mean of its colors, where that makes their squared error no greater,
+-- and else itself
+abbrev pub seen_settled : List ℕ → List (List ℕ) → List ℕ
+seen_settled entry [] = entry
+seen_settled entry (color ∷ colors) =
+    if nat_le (error_to (seen_mean (color ∷ colors)) (color ∷ colors)) (error_to entry (color ∷ colors))
+    then seen_mean (color ∷ colors) else entry
+
+-- the four numbers of a pixel: its color, and its alpha
+abbrev pub four_of : List ℕ → List ℕ
+four_of pixel = slice_index pixel 0 ∷ slice_index pixel 1 ∷ slice_index pixel 2 ∷ alpha_of pixel ∷ []
+
+-- whether two seen colors are the same
+abbrev pub same_seen : List ℕ → List ℕ → Bool
+same_seen p q = same_color p q && nat_eq (slice_index p 3) (slice_index q 3)
+
+-- the pixels that are seen as none before them
+abbrev pub distinct_pixels : List (List ℕ) → List (List ℕ)
+distinct_pixels pixels = distinct_by (λ p q. same_seen (seen p) (seen q)) (map four_of pixels)
+
+-- the table of a list of seen colors where there is no room for all: that of the cut, refined by so
+-- many rounds, whose squared error is no greater than it was
+abbrev pub IsSeenTable : (rounds room : ℕ) → (colors table : List (List ℕ)) → Type 0
+IsSeenTable rounds room colors table =
+    (first : List (List ℕ)) × IsSeenCutTable room colors first × AreRoundsBy seen_distance seen_settled rounds colors first table
+    × (squared_error_by seen_distance table colors ≤ squared_error_by seen_distance first colors)
+
+-- the table of some pixels: the distinct ones, where there is room for them, and else the pixels that
+-- are seen as the table of what they are seen as
+abbrev pub IsRgbaTableFrom : (rounds room : ℕ) → (pixels table : List (List ℕ)) → Type 0
+IsRgbaTableFrom rounds room pixels table =
+    ((length (distinct_pixels pixels) ≤ room) × (table ≡ distinct_pixels pixels))
+    ⊎ ((room < length (distinct_pixels pixels)) × (colors : List (List ℕ)) × IsSeenTable rounds room (map seen pixels) colors
+    × (table ≡ map straight colors))
