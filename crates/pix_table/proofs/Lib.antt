@@ -42,3 +42,4 @@ pub mod RefinedTables
 pub mod TableRounds
 pub mod SeenErrors
 pub mod SeenRounds
+pub mod SeenMade

@@ -45,7 +45,7 @@ pub use crate::kept::Cache;
 pub use crate::look::{are_below, count, look_up};
 pub use crate::matcher::{match_pixels, visit_nearest};
 pub use crate::nearest_search::{NearestSearch, SearchVisitor};
-pub use crate::rgba::{RgbaColor, Seen};
+pub use crate::rgba::{RgbaColor, Seen, rgba_table_from};
 pub use crate::row::{IndexDepth, RowFault, pack_row, unpack_row};
 pub use crate::search::nearest;
 pub use crate::set::{set_entry, set_kept};

@@ -1,9 +1,11 @@
 //! Tables of colors with an alpha.
 pub(crate) mod color;
+pub(crate) mod from;
 pub(crate) mod groups;
 pub(crate) mod lanes;
 pub(crate) mod matched;
 pub(crate) mod refine;
 
 pub use crate::rgba::color::{RgbaColor, Seen};
+pub use crate::rgba::from::rgba_table_from;
 pub use crate::rgba::matched::match_rgba_pixels;
