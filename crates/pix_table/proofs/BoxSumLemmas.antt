@@ -3,8 +3,8 @@ use Rattle.std.proofs.Common.{◌≡◌, ℕ, ◌+◌, ◌-◌, ◌*◌, ◌<◌
 use Rattle.std.proofs.lemmas.List.Sums.{sum_by-append}
 use Rattle.std.proofs.lemmas.Nat.{mul-le}
 use Rattle.std.proofs.Math.Nat.{div-le_of_le-mul}
-use Rattle.pix_table.specs.Places.{IsCut, below, gain, sum_in, weight}
-use Rattle.pix_table.specs.BestPlaces.{AreByValue, AreBytes, ArePart, AreSums, CanCut, gain_at, high_weight, is_at, is_below, low_weight, sum_of, weight_by}
+use Rattle.pix_table.specs.Places.{IsCutBy, below, gain, sum_in, weight}
+use Rattle.pix_table.specs.BestPlaces.{AreByValue, AreBytes, ArePart, AreSums, CanCutBy, gain_at, high_weight, is_at, is_below, low_weight, sum_of, weight_by}
 use Rattle.pix_table.specs.Cut.{mean}
 use Rattle.pix_table.specs.Groups.{mean_by}
 use Rattle.pix_table.specs.declared.box_sums.Sums.{Sums}
@@ -110,7 +110,7 @@ are_part p box low all bytes h whole some others =
     }
 
 -- equal sums weigh as much
-weigh_same : (n r g b m x y z : ℕ) → n ≡ m → r ≡ x → g ≡ y → b ≡ z → weight_by n r g b ≡ weight_by m x y z
+pub weigh_same : (n r g b m x y z : ℕ) → n ≡ m → r ≡ x → g ≡ y → b ≡ z → weight_by n r g b ≡ weight_by m x y z
 weigh_same n r g b m x y z e f h i = rw (e, f, h, i) refl
 
 pub whole_weight : (box : List (List ℕ)) (all : Sums) → AreSums (λ c. true) box all → weight_by all.count all.red all.green all.blue ≡ weight box
@@ -162,21 +162,21 @@ gain_same k v box low all whole h g e =
     ∙ ap (λ w. low_weight k v box + high_weight k v box - w) e
 
 -- the sums of a cut's parts
-module _ (box : List (List ℕ)) (k v : ℕ) (low high : List (List ℕ)) (h : IsCut box k v low high) where
-  low_sum : (f : List ℕ → ℕ) → sum_of (is_below k v) f box ≡ sum_by f low
+module _ {n : ℕ} (box : List (List ℕ)) (k v : ℕ) (low high : List (List ℕ)) (h : IsCutBy n box k v low high) where
+  pub low_sum : (f : List ℕ → ℕ) → sum_of (is_below k v) f box ≡ sum_by f low
   low_sum f =
       sum_parted (is_below k v) f box low high h.all (λ j d inside. lt-ltb _ v (h.below j d inside)) (λ j d inside. le-ltb _ v (h.others j d inside))
 
-  high_sum : (f : List ℕ → ℕ) → sum_by f box - sum_of (is_below k v) f box ≡ sum_by f high
+  pub high_sum : (f : List ℕ → ℕ) → sum_by f box - sum_of (is_below k v) f box ≡ sum_by f high
   high_sum f = omega (arith, low_sum f, sum_both f box low high h.all)
 
-  low_length : below k v box ≡ length low
+  pub low_length : below k v box ≡ length low
   low_length = low_sum (λ x. 1) ∙ length_sum low
 
-  high_length : length box - below k v box ≡ length high
+  pub high_length : length box - below k v box ≡ length high
   high_length = omega (arith, high_sum (λ x. 1), length_sum box, length_sum high)
 
-  pub cut_can : CanCut box k v
+  pub cut_can : CanCutBy n box k v
   cut_can = record {
     stands = h.stands;
     some_below = omega (arith, low_length, h.some_below);

@@ -12,10 +12,14 @@ pub mod BoxSumLemmas
 pub mod PartedSums
 pub mod WordLemmas
 pub mod Rounds
+pub mod PlacesBy
 pub mod PlaceLemmas
 pub mod PlaceSteps
+pub mod SeenSumLemmas
+pub mod SeenWeights
 pub mod PieceBoxes
 pub mod CutColors
+pub mod SeenTable
 pub mod Splits
 pub mod Distinct
 pub mod Rows

@@ -4,7 +4,7 @@ use Rattle.std.proofs.lemmas.Bool.{cases_eq}
 use Rattle.std.proofs.lemmas.List.{get_or-set_same, get_or-set_other, get_or-replicate, length-replicate}
 use Rattle.std.proofs.lemmas.List.Sums.{sum_by_push}
 use Rattle.pix_table.specs.Nearest.{numbers}
-use Rattle.pix_table.specs.BestPlaces.{AreBytes, AreParted, AreSums, sum_of}
+use Rattle.pix_table.specs.BestPlaces.{AreBytes, AreParted, ArePartedBy, AreSums, sum_of}
 use Rattle.pix_table.specs.declared.box_sums.Sums.{Sums}
 use Rattle.pix_table.specs.declared.color.Color.{Color}
 
@@ -15,12 +15,12 @@ color_bytes p r g b (suc (suc zero)) = b
 color_bytes p r g b (suc (suc (suc k))) = omega arith
 
 -- the sums with a color more that passes, and with one that doesn't
-push_true : (p : List ℕ → Bool) (f : List ℕ → ℕ) (box : List (List ℕ)) (c : List ℕ) → p c ≡ true
+pub push_true : (p : List ℕ → Bool) (f : List ℕ → ℕ) (box : List (List ℕ)) (c : List ℕ) → p c ≡ true
     → sum_of p f (box ++ c ∷ []) ≡ sum_of p f box + f c
 push_true p f box c e =
     sum_by_push (λ x. cond (p x) (f x) 0) box c ∙ ap (λ b. sum_of p f box + cond b (f c) 0) e
 
-push_false : (p : List ℕ → Bool) (f : List ℕ → ℕ) (box : List (List ℕ)) (c : List ℕ) → p c ≡ false
+pub push_false : (p : List ℕ → Bool) (f : List ℕ → ℕ) (box : List (List ℕ)) (c : List ℕ) → p c ≡ false
     → sum_of p f box ≡ sum_of p f (box ++ c ∷ [])
 push_false p f box c e =
     let same : sum_of p f (box ++ c ∷ []) ≡ sum_of p f box + 0 =
@@ -46,27 +46,35 @@ sums_same p box c sums e h = record {
   blue = h.blue ∙ push_false p (λ x. get_or x 2 0) box (numbers c) e;
 }
 
+-- what is known of each part, with one color more: of the part that has it, and of the others
+pub parted_by_more : {S : Type 0} (are : (List ℕ → Bool) → List (List ℕ) → S → Type 0) (at : List ℕ → ℕ) (count v : ℕ) (box more : List (List ℕ))
+    (parts : List S) (c : List ℕ) (old new : S) → more ≡ box ++ c ∷ [] → ArePartedBy are at count box parts → v ≡ at c → v < count
+    → old ≡ get_or parts v old → ((p : List ℕ → Bool) → p c ≡ true → are p box old → are p (box ++ c ∷ []) new)
+    → ((p : List ℕ → Bool) (s : S) → p c ≡ false → are p box s → are p (box ++ c ∷ []) s) → ArePartedBy are at count more (set parts v new)
+parted_by_more are at count v box more parts c old new grown h e small read longer same_still = record {
+  many = length-set parts v new ∙ h.many;
+  each = λ w d inside. subst (λ l. are (λ x. nat_eq (at x) w) l (get_or (set parts v new) w d)) (sym grown) (elim (cases_eq w v) [
+    | inl same ↦
+        let here : nat_eq (at c) w ≡ true = eq-eqb (at c) w (omega (arith, e, same)) in
+        let before : are (λ x. nat_eq (at x) w) box old = subst (λ j. are (λ x. nat_eq (at x) j) box old) (sym same)
+        (subst (are (λ x. nat_eq (at x) v) box) (sym read) (h.each v old small)) in
+        let there : get_or (set parts v new) w d ≡ new = ap (λ j. get_or (set parts v new) j d) same ∙ get_or-set_same parts v new d (omega (arith, h.many, small)) in
+        subst (are (λ x. nat_eq (at x) w) (box ++ c ∷ [])) (sym there) (longer (λ x. nat_eq (at x) w) here before)
+    | inr apart ↦
+        let other : nat_eq (at c) w ≡ false = ne_eqb (at c) w (λ eq. apart (omega (arith, e, eq))) in
+        subst (are (λ x. nat_eq (at x) w) (box ++ c ∷ [])) (sym (get_or-set_other parts v w new d apart))
+        (same_still (λ x. nat_eq (at x) w) (get_or parts w d) other (h.each w d inside))
+  ]);
+}
+
 -- the sums of each part, with one color more
 pub parted_more : (at : List ℕ → ℕ) (count v : ℕ) (box more : List (List ℕ)) (parts : List Sums) (c : Color) (old new : Sums) → more ≡ box ++ numbers c ∷ []
     → AreParted at count box parts → v ≡ at (numbers c) → v < count → old ≡ get_or parts v old
     → new.count ≡ old.count + 1 → new.red ≡ old.red + c.red → new.green ≡ old.green + c.green → new.blue ≡ old.blue + c.blue
     → AreParted at count more (set parts v new)
-parted_more at count v box more parts c old new grown h e small read longer red green blue = record {
-  many = length-set parts v new ∙ h.many;
-  each = λ w d inside. subst (λ l. AreSums (λ x. nat_eq (at x) w) l (get_or (set parts v new) w d)) (sym grown) (elim (cases_eq w v) [
-    | inl same ↦
-        let here : nat_eq (at (numbers c)) w ≡ true = eq-eqb (at (numbers c)) w (omega (arith, e, same)) in
-        let before : AreSums (λ x. nat_eq (at x) w) box old = subst (λ j. AreSums (λ x. nat_eq (at x) j) box old) (sym same)
-        (subst (AreSums (λ x. nat_eq (at x) v) box) (sym read) (h.each v old small)) in
-        let there : get_or (set parts v new) w d ≡ new = ap (λ j. get_or (set parts v new) j d) same ∙ get_or-set_same parts v new d (omega (arith, h.many, small)) in
-        subst (AreSums (λ x. nat_eq (at x) w) (box ++ numbers c ∷ [])) (sym there)
-        (sums_more (λ x. nat_eq (at x) w) box c old new here before longer red green blue)
-    | inr apart ↦
-        let other : nat_eq (at (numbers c)) w ≡ false = ne_eqb (at (numbers c)) w (λ eq. apart (omega (arith, e, eq))) in
-        subst (AreSums (λ x. nat_eq (at x) w) (box ++ numbers c ∷ [])) (sym (get_or-set_other parts v w new d apart))
-        (sums_same (λ x. nat_eq (at x) w) box c (get_or parts w d) other (h.each w d inside))
-  ]);
-}
+parted_more at count v box more parts c old new grown h e small read longer red green blue =
+    parted_by_more AreSums at count v box more parts (numbers c) old new grown h e small read
+    (λ p here before. sums_more p box c old new here before longer red green blue) (λ p s other before. sums_same p box c s other before)
 
 -- of no colors
 pub parted_none : (at : List ℕ → ℕ) (count : ℕ) (none : Sums) → none.count ≡ 0 → none.red ≡ 0 → none.green ≡ 0 → none.blue ≡ 0

@@ -1,99 +1,21 @@
--- The best of the places of a box, one place after the other.
-use Rattle.std.proofs.Common.{◌⊎◌, ◌≡◌, ℕ, ◌+◌, ◌<◌, ◌≤◌, List, Option, Some, None, arith, sym, subst, inl, inr, refl}
-use Rattle.std.proofs.lemmas.Bool.{cases_lt}
+-- The best of the places of a box of red, green and blue, one place after the other.
+use Rattle.std.proofs.Common.{◌≡◌, ℕ, ◌+◌, ◌<◌, ◌≤◌, List, Option}
 use Rattle.pix_table.specs.Places.{IsBefore}
 use Rattle.pix_table.specs.BestPlaces.{CanCut, IsBestBefore, IsBestUpTo, gain_at}
 use Rattle.pix_table.specs.declared.place.Place.{Place}
-
--- the places before the next one: those before this one, and this one
-before_next : (c w k v : ℕ) → IsBefore c w k (v + 1) → IsBefore c w k v ⊎ ((c ≡ k) × (w ≡ v))
-before_next c w k v h = elim h [
-  | inl b ↦ inl (inl b)
-  | inr b ↦ elim (cases_lt w v) [
-    | inl s ↦ inl (inr (b.0, s))
-    | inr s ↦ let e : w ≡ v = omega (arith, b.1, s) in inr (b.0, e)
-  ]
-]
-
-before_more : (c w k v : ℕ) → IsBefore c w k v → IsBefore c w k (v + 1)
-before_more c w k v h = elim h [
-  | inl b ↦ inl b
-  | inr b ↦ let s : w < v + 1 = omega (arith, b.1) in inr (b.0, s)
-]
-
--- what holds of a place holds of the same place
-at_same : (P : ℕ → ℕ → Type 0) (c w k v : ℕ) → c ≡ k → w ≡ v → P k v → P c w
-at_same P c w k v e f h = subst (λ i. P i w) (sym e) (subst (λ j. P k j) (sym f) h)
-
-can_same : (box : List (List ℕ)) (c w k v : ℕ) → c ≡ k → w ≡ v → CanCut box c w → CanCut box k v
-can_same box c w k v e f h = at_same (λ i j. CanCut box i j) k v c w (sym e) (sym f) h
+use Rattle.pix_table.proofs.PlacesBy.{kept_by, taken_by, done_by}
 
 -- the best so far stays where the next is no better
 pub kept : (box : List (List ℕ)) (k v : ℕ) (old : Place) → IsBestBefore box k v old → (CanCut box k v → gain_at k v box ≤ old.gain)
     → IsBestBefore box k (v + 1) old
-kept box k v old h next = record {
-  before = before_more _ _ k v h.before;
-  cut = h.cut;
-  gains = h.gains;
-  best = λ c w before can. elim (before_next c w k v before) [
-    | inl b ↦ h.best c w b can
-    | inr e ↦ at_same (λ i j. gain_at i j box ≤ old.gain) c w k v e.0 e.1 (next (can_same box c w k v e.0 e.1 can))
-  ];
-  first = h.first;
-}
+kept = kept_by 3 gain_at
 
 -- a place that is better than all before it is the best
 pub taken : (box : List (List ℕ)) (p : Place) → CanCut box p.channel p.value → gain_at p.channel p.value box ≡ p.gain
     → ((c w : ℕ) → IsBefore c w p.channel p.value → CanCut box c w → gain_at c w box < p.gain) → IsBestBefore box p.channel (p.value + 1) p
-taken box p can gains before = record {
-  before = let s : p.value < p.value + 1 = omega arith in inr (refl, s);
-  cut = can;
-  gains = gains;
-  best = λ c w b also. elim (before_next c w p.channel p.value b) [
-    | inl earlier ↦ let less : gain_at c w box < p.gain = before c w earlier also in omega (arith, less)
-    | inr e ↦ at_same (λ i j. gain_at i j box ≤ p.gain) c w p.channel p.value e.0 e.1 (omega (arith, gains))
-  ];
-  first = before;
-}
-
--- a place is passed by where an earlier one has the same gain
-pub passed : (box : List (List ℕ)) (k v : ℕ) (best : Option Place) → IsBestUpTo box k v best
-    → (CanCut box k v → (w : ℕ) × (w < v) × CanCut box k w × (gain_at k v box ≡ gain_at k w box)) → IsBestUpTo box k (v + 1) best
-passed box k v None h same = λ c w before can. elim (before_next c w k v before) [
-  | inl b ↦ h c w b can
-  | inr e ↦ let s = same (can_same box c w k v e.0 e.1 can) in h k s.0 (inr (refl, s.1)) s.2
-]
-passed box k v (Some old) h same = kept box k v old h (λ can.
-    let s = same can in
-    let less : gain_at k s.0 box ≤ old.gain = h.best k s.0 (inr (refl, s.1)) s.2 in
-    omega (arith, less, s.3))
+taken = taken_by 3 gain_at
 
 -- where the box can be cut at no place of a channel from m on, the best before m is that of the whole channel
-earlier : (box : List (List ℕ)) (k m : ℕ) → ((v : ℕ) → m ≤ v → CanCut box k v → ⊥) → (c w : ℕ) → IsBefore c w (k + 1) 0 → CanCut box c w
-    → IsBefore c w k m
-earlier box k m none c w before can = elim before [
-  | inr b ↦ absurd (omega (arith, b.1))
-  | inl b ↦ elim (cases_lt c k) [
-    | inl s ↦ inl s
-    | inr s ↦
-        let e : c ≡ k = omega (arith, b, s) in
-        elim (cases_lt w m) [
-          | inl less ↦ inr (e, less)
-          | inr past ↦ absurd (none w past (can_same box c w k w e refl can))
-        ]
-  ]
-]
-
 pub channel_done : (box : List (List ℕ)) (k m : ℕ) (best : Option Place) → IsBestUpTo box k m best
     → ((v : ℕ) → m ≤ v → CanCut box k v → ⊥) → IsBestUpTo box (k + 1) 0 best
-channel_done box k m None h none = λ c w before can. h c w (earlier box k m none c w before can) can
-channel_done box k m (Some p) h none = record {
-  before = elim h.before [
-    | inl b ↦ let s : p.channel < k + 1 = omega (arith, b) in inl s
-    | inr b ↦ let s : p.channel < k + 1 = omega (arith, b.0) in inl s
-  ];
-  cut = h.cut;
-  gains = h.gains;
-  best = λ c w before can. h.best c w (earlier box k m none c w before can) can;
-  first = h.first;
-}
+channel_done = done_by 3 gain_at

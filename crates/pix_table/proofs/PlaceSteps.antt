@@ -1,27 +1,42 @@
 -- The steps of a search for the best place of a box.
-use Rattle.std.proofs.Common.{◌≡◌, ◌≢◌, ℕ, ◌+◌, ◌<◌, ◌≤◌, Bool, true, List, ◌++◌, length, map, All, Option, Some, None, MatchOption, length-append, refl, arith, sym, ◌∙◌, subst, inl, lt-ltb}
+use Rattle.std.proofs.Common.{◌≡◌, ◌≢◌, ℕ, ◌+◌, ◌<◌, ◌≤◌, Bool, true, List, ◌++◌, length, map, All, Option, Some, None, MatchOption, length-append, refl, arith, sym, ◌∙◌, subst, inl, inr, lt-ltb}
 use Rattle.std.proofs.lemmas.List.{length-map}
 use Rattle.std.proofs.lemmas.List.Sorted.{length_permutation}
 use Rattle.pix_table.specs.Nearest.{numbers}
-use Rattle.pix_table.specs.Places.{CannotBeCut, HasBest, weight}
-use Rattle.pix_table.specs.BestPlaces.{AreBytes, AreSums, CanCut, IsBestUpTo, is_at, is_below}
+use Rattle.pix_table.specs.Places.{CannotBeCut, CannotBeCutBy, HasBest, HasBestBy, IsBefore, IsCutBy, below, gain_by, weight}
+use Rattle.pix_table.specs.BestPlaces.{AreBytes, AreSums, CanCut, CanCutBy, IsBestUpTo, IsBestUpToBy, gain_at, is_at, is_below}
 use Rattle.pix_table.specs.declared.box_sums.Sums.{Sums}
 use Rattle.pix_table.specs.declared.color.Color.{Color}
 use Rattle.pix_table.specs.declared.place.Place.{Place}
 use Rattle.pix_table.proofs.SumLemmas.{sum_zero, sum_grows, sum_all, length_sum}
 use Rattle.pix_table.proofs.BoxSumLemmas.{below_more, are_few, count_few, gain_same, cut_can, cut_gain}
-use Rattle.pix_table.proofs.PlaceLemmas.{passed}
+use Rattle.pix_table.proofs.PlacesBy.{passing}
 
 -- at 0 there is no cut
+pub begun_by : (n : ℕ) (gains_at : ℕ → ℕ → List (List ℕ) → ℕ) (box : List (List ℕ)) (k : ℕ) (best : Option Place)
+    → IsBestUpToBy n gains_at box k 0 best → IsBestUpToBy n gains_at box k 1 best
+begun_by n gains_at box k best h =
+    passing n gains_at box k 0 best h (λ can. absurd (omega (arith, can.some_below, sum_zero k (λ c. 1) box)))
+
 pub begun : (box : List (List ℕ)) (k : ℕ) (best : Option Place) → IsBestUpTo box k 0 best → IsBestUpTo box k 1 best
-begun box k best h = passed box k 0 best h (λ can. absurd (omega (arith, can.some_below, sum_zero k (λ c. 1) box)))
+begun = begun_by 3 gain_at
+
+-- there is no place before the first
+pub none_first : (n : ℕ) (box : List (List ℕ)) (c v : ℕ) → IsBefore c v 0 0 → CanCutBy n box c v → ⊥
+none_first n box c v before can = elim before [
+  | inl b ↦ absurd (omega (arith, b))
+  | inr b ↦ absurd (omega (arith, b.1))
+]
 
 -- from a value on that all colors are below there is no cut
+pub past_all : {n : ℕ} (box : List (List ℕ)) (k m : ℕ) → length box ≤ below k m box → (v : ℕ) → m ≤ v → CanCutBy n box k v → ⊥
+past_all box k m full v past can = omega (arith, full, can.some_others, sum_grows k m v (λ c. 1) box past)
+
 pub full_past : (box : List (List ℕ)) (k m : ℕ) (low : Sums) → AreSums (is_below k m) box low → length box ≤ low.count
     → (v : ℕ) → m ≤ v → CanCut box k v → ⊥
-full_past box k m low h full v past can = omega (arith, h.count, full, can.some_others, sum_grows k m v (λ c. 1) box past)
+full_past box k m low h full = past_all box k m (omega (arith, h.count, full))
 
-pub bytes_past : (box : List (List ℕ)) (k m : ℕ) → All AreBytes box → 256 ≤ m → (v : ℕ) → m ≤ v → CanCut box k v → ⊥
+pub bytes_past : {n : ℕ} (box : List (List ℕ)) (k m : ℕ) → All AreBytes box → 256 ≤ m → (v : ℕ) → m ≤ v → CanCutBy n box k v → ⊥
 bytes_past box k m bytes large v past can =
     let each : All (λ c. is_below k v c ≡ true) box = (λ j d inside. lt-ltb _ v (omega (arith, bytes j d inside k))) in
     omega (arith, can.some_others, sum_all (is_below k v) (λ c. 1) box each, length_sum box)
@@ -36,7 +51,7 @@ same_below k v box low part bytes h g none =
 pub passed_by : (k v : ℕ) (box : List (List ℕ)) (low all : Sums) (best : Option Place) → AreSums (λ c. true) box all
     → AreSums (is_below k v) box low → AreSums (is_below k (v + 1)) box low → IsBestUpTo box k (v + 1) best → IsBestUpTo box k (v + 1 + 1) best
 passed_by k v box low all best whole h g before =
-    passed box k (v + 1) best before (λ can. (
+    passing 3 gain_at box k (v + 1) best before (λ can. (
       v,
       omega arith,
       record {
@@ -65,22 +80,30 @@ can_cut k v box low all stands h whole some apart = record {
 }
 
 -- one color alone can't be cut
-pub one_color : (xs : List Color) → length xs < 2 → CannotBeCut (map numbers xs)
-one_color xs few channel value low high h =
-    omega (arith, few, length-map xs numbers, length_permutation (map numbers xs) (low ++ high) h.all, length-append low high, h.some_below, h.some_others)
+pub one_alone : {n : ℕ} (box : List (List ℕ)) → length box < 2 → CannotBeCutBy n box
+one_alone box few channel value low high h =
+    omega (arith, few, length_permutation box (low ++ high) h.all, length-append low high, h.some_below, h.some_others)
 
--- the best of all places
-pub best_of_all : (box : List (List ℕ)) (best : Option Place) → IsBestUpTo box 3 0 best
-    → MatchOption best (CannotBeCut box) (λ place. HasBest box place.channel place.value place.gain)
-best_of_all box None h = λ c v low high cut. h c v (inl cut.stands) (cut_can box c v low high cut)
-best_of_all box (Some p) h = record {
+pub one_color : (xs : List Color) → length xs < 2 → CannotBeCut (map numbers xs)
+one_color xs few = one_alone (map numbers xs) (omega (arith, few, length-map xs numbers))
+
+-- the best of all places, where a cut gains what is known of its place
+pub best_found : (n : ℕ) (gains_at : ℕ → ℕ → List (List ℕ) → ℕ) (weigh : List (List ℕ) → ℕ) (box : List (List ℕ)) (best : Option Place)
+    → ((c v : ℕ) (low high : List (List ℕ)) → IsCutBy n box c v low high → gains_at c v box ≡ gain_by weigh box low high)
+    → IsBestUpToBy n gains_at box n 0 best
+    → MatchOption best (CannotBeCutBy n box) (λ place. HasBestBy n weigh box place.channel place.value place.gain)
+best_found n gains_at weigh box None same h = λ c v low high cut. h c v (inl cut.stands) (cut_can box c v low high cut)
+best_found n gains_at weigh box (Some p) same h = record {
   stands = h.cut.stands;
   some_below = h.cut.some_below;
   some_others = h.cut.some_others;
-  gains = λ low high cut. sym (cut_gain box p.channel p.value low high cut) ∙ h.gains;
+  gains = λ low high cut. sym (same p.channel p.value low high cut) ∙ h.gains;
   place = record {
-    best = λ c v low high cut. subst (λ g. g ≤ p.gain) (cut_gain box c v low high cut) (h.best c v (inl cut.stands) (cut_can box c v low high cut));
-    first = λ c v low high cut before.
-        subst (λ g. g < p.gain) (cut_gain box c v low high cut) (h.first c v before (cut_can box c v low high cut));
+    best = λ c v low high cut. subst (λ g. g ≤ p.gain) (same c v low high cut) (h.best c v (inl cut.stands) (cut_can box c v low high cut));
+    first = λ c v low high cut before. subst (λ g. g < p.gain) (same c v low high cut) (h.first c v before (cut_can box c v low high cut));
   };
 }
+
+pub best_of_all : (box : List (List ℕ)) (best : Option Place) → IsBestUpTo box 3 0 best
+    → MatchOption best (CannotBeCut box) (λ place. HasBest box place.channel place.value place.gain)
+best_of_all box best h = best_found 3 gain_at weight box best (cut_gain box) h

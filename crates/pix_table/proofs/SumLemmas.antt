@@ -100,6 +100,40 @@ pub sum_le : (p : List ℕ → Bool) (f : List ℕ → ℕ) (box : List (List �
 sum_le p f [] = omega arith
 sum_le p f (c ∷ box) = omega (arith, sum_by-cons f c box, sum_of_first p f c box, part_le (p c) (f c), sum_le p f box)
 
+-- where one number of each color is at most another, so are their sums, and those of the colors that don't pass
+part_at_most : (b : Bool) (x y : ℕ) → x ≤ y → cond b x 0 ≤ cond b y 0
+part_at_most true x y h = h
+part_at_most false x y h = omega arith
+
+pub sum_at_most : (p : List ℕ → Bool) (f g : List ℕ → ℕ) (box : List (List ℕ)) → All (λ c. f c ≤ g c) box → sum_of p f box ≤ sum_of p g box
+sum_at_most p f g [] h = omega arith
+sum_at_most p f g (c ∷ box) h =
+    omega (
+      arith,
+      sum_of_first p f c box,
+      sum_of_first p g c box,
+      part_at_most (p c) (f c) (g c) (All-head (λ x. f x ≤ g x) c box h),
+      sum_at_most p f g box (All-tail (λ x. f x ≤ g x) c box h),
+    )
+
+others_at_most : (b : Bool) (x y : ℕ) → x ≤ y → x + cond b y 0 ≤ cond b x 0 + y
+others_at_most true x y h = omega arith
+others_at_most false x y h = omega (arith, h)
+
+pub rest_at_most : (p : List ℕ → Bool) (f g : List ℕ → ℕ) (box : List (List ℕ)) → All (λ c. f c ≤ g c) box
+    → sum_by f box + sum_of p g box ≤ sum_of p f box + sum_by g box
+rest_at_most p f g [] h = omega arith
+rest_at_most p f g (c ∷ box) h =
+    omega (
+      arith,
+      sum_by-cons f c box,
+      sum_by-cons g c box,
+      sum_of_first p f c box,
+      sum_of_first p g c box,
+      others_at_most (p c) (f c) (g c) (All-head (λ x. f x ≤ g x) c box h),
+      rest_at_most p f g box (All-tail (λ x. f x ≤ g x) c box h),
+    )
+
 -- of colors of a value, the sum of the channel is as many times the value
 one_own : (x v : ℕ) → cond (nat_eq x v) x 0 ≡ v * cond (nat_eq x v) 1 0
 one_own x v = elim (cases_eq x v) [

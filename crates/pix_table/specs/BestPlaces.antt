@@ -26,10 +26,15 @@ is_at channel value color = nat_eq (slice_index color channel) value
 abbrev pub is_below : (channel value : ℕ) → List ℕ → Bool
 is_below channel value color = nat_lt (slice_index color channel) value
 
--- the sums of the parts of some colors, where a function says in which of so many parts a color is
-pub record AreParted (at : List ℕ → ℕ) (count : ℕ) (colors : List (List ℕ)) (parts : List Sums) : Type 0 where
+-- what a function says of the sums of the parts of some colors, where another says in which of so many parts a color is
+pub record ArePartedBy {S : Type 0} (are : (List ℕ → Bool) → List (List ℕ) → S → Type 0) (at : List ℕ → ℕ) (count : ℕ)
+    (colors : List (List ℕ)) (parts : List S) : Type 0 where
   pub many : length parts ≡ count
-  pub each : (k : ℕ) (d : Sums) → k < count → AreSums (λ color. nat_eq (at color) k) colors (slice_index_or parts k d)
+  pub each : (k : ℕ) (d : S) → k < count → are (λ color. nat_eq (at color) k) colors (slice_index_or parts k d)
+
+-- the sums of the parts of some colors
+abbrev pub AreParted : (at : List ℕ → ℕ) (count : ℕ) (colors : List (List ℕ)) (parts : List Sums) → Type 0
+AreParted at count colors parts = ArePartedBy AreSums at count colors parts
 
 -- the sums of the colors of each value of a channel
 abbrev pub AreByValue : (channel : ℕ) → List (List ℕ) → List Sums → Type 0
@@ -87,20 +92,32 @@ abbrev pub gain_at : (channel value : ℕ) → List (List ℕ) → ℕ
 gain_at channel value box = low_weight channel value box + high_weight channel value box - weight box
 
 -- whether a box can be cut at a place
-pub record CanCut (box : List (List ℕ)) (channel value : ℕ) : Type 0 where
-  pub stands : channel < 3
+pub record CanCutBy (channels : ℕ) (box : List (List ℕ)) (channel value : ℕ) : Type 0 where
+  pub stands : channel < channels
   pub some_below : 0 < below channel value box
   pub some_others : below channel value box < length box
 
--- the best of the places before another
-pub record IsBestBefore (box : List (List ℕ)) (channel value : ℕ) (place : Place) : Type 0 where
+-- the best of the places before another, where it is known what a cut at each gains
+pub record IsBestBeforeBy (channels : ℕ) (gains_at : (channel value : ℕ) → List (List ℕ) → ℕ) (box : List (List ℕ)) (channel value : ℕ)
+    (place : Place) : Type 0 where
   pub before : IsBefore place.channel place.value channel value
-  pub cut : CanCut box place.channel place.value
-  pub gains : gain_at place.channel place.value box ≡ place.gain
-  pub best : (c v : ℕ) → IsBefore c v channel value → CanCut box c v → gain_at c v box ≤ place.gain
-  pub first : (c v : ℕ) → IsBefore c v place.channel place.value → CanCut box c v → gain_at c v box < place.gain
+  pub cut : CanCutBy channels box place.channel place.value
+  pub gains : gains_at place.channel place.value box ≡ place.gain
+  pub best : (c v : ℕ) → IsBefore c v channel value → CanCutBy channels box c v → gains_at c v box ≤ place.gain
+  pub first : (c v : ℕ) → IsBefore c v place.channel place.value → CanCutBy channels box c v → gains_at c v box < place.gain
 
 -- the same, or none where the box can be cut at none of them
+abbrev pub IsBestUpToBy : (channels : ℕ) (gains_at : (channel value : ℕ) → List (List ℕ) → ℕ) (box : List (List ℕ)) (channel value : ℕ)
+    → Option Place → Type 0
+IsBestUpToBy channels gains_at box channel value None = (c v : ℕ) → IsBefore c v channel value → CanCutBy channels box c v → ⊥
+IsBestUpToBy channels gains_at box channel value (Some place) = IsBestBeforeBy channels gains_at box channel value place
+
+-- the same for red, green and blue
+abbrev pub CanCut : (box : List (List ℕ)) (channel value : ℕ) → Type 0
+CanCut box channel value = CanCutBy 3 box channel value
+
+abbrev pub IsBestBefore : (box : List (List ℕ)) (channel value : ℕ) (place : Place) → Type 0
+IsBestBefore box channel value place = IsBestBeforeBy 3 gain_at box channel value place
+
 abbrev pub IsBestUpTo : (box : List (List ℕ)) (channel value : ℕ) → Option Place → Type 0
-IsBestUpTo box channel value None = (c v : ℕ) → IsBefore c v channel value → CanCut box c v → ⊥
-IsBestUpTo box channel value (Some place) = IsBestBefore box channel value place
+IsBestUpTo box channel value place = IsBestUpToBy 3 gain_at box channel value place

@@ -1,24 +1,27 @@
 -- A table of colors by the cut by squared error: the means of boxes of colors, which are cut where the
 -- squared error falls most (X. Wu, Efficient statistical computations for optimal color quantization,
--- Graphics Gems II, 1991).
+-- Graphics Gems II, 1991). How many channels the colors have, what a box weighs and what its mean is,
+-- are the parameters of what is said of any kind of color.
 use Rattle.std.specs.Prelude.{◌⊎◌, ◌≡◌, ℕ, ◌+◌, ◌*◌, ◌/◌, ◌<◌, ◌≤◌, List, [], ◌∷◌, ◌++◌, length, map, All}
-use Rattle.pix_table.specs.Places.{IsCut, IsBestPlace, CannotBeCut, gain, sum_in}
+use Rattle.pix_table.specs.Places.{IsCutBy, IsBestPlaceBy, CannotBeCutBy, gain_by, sum_in, weight}
 
 -- of a list of boxes the one that is cut next, at its best place: that whose cut gains most, the first
 -- of equals
-pub record IsNextCut (before : List (List (List ℕ))) (box low high : List (List ℕ)) (after : List (List (List ℕ))) : Type 0 where
+pub record IsNextCutBy (channels : ℕ) (weigh : List (List ℕ) → ℕ) (before : List (List (List ℕ))) (box low high : List (List ℕ))
+    (after : List (List (List ℕ))) : Type 0 where
   pub channel : ℕ
   pub value : ℕ
-  pub cut : IsCut box channel value low high
-  pub place : IsBestPlace box channel value (gain box low high)
-  pub best : All (λ b. (c v : ℕ) (l h : List (List ℕ)) → IsCut b c v l h → gain b l h ≤ gain box low high) after
-  pub first : All (λ b. (c v : ℕ) (l h : List (List ℕ)) → IsCut b c v l h → gain b l h < gain box low high) before
+  pub cut : IsCutBy channels box channel value low high
+  pub place : IsBestPlaceBy channels weigh box channel value (gain_by weigh box low high)
+  pub best : All (λ b. (c v : ℕ) (l h : List (List ℕ)) → IsCutBy channels b c v l h → gain_by weigh b l h ≤ gain_by weigh box low high) after
+  pub first : All (λ b. (c v : ℕ) (l h : List (List ℕ)) → IsCutBy channels b c v l h → gain_by weigh b l h < gain_by weigh box low high) before
 
 -- the boxes of a list of colors: all of them in one, or two in the place of the one that is cut next
-pub data AreBoxes : List (List ℕ) → List (List (List ℕ)) → Type 0 where
-  one : (colors : List (List ℕ)) → 0 < length colors → AreBoxes colors (colors ∷ [])
-  cut : (colors box low high : List (List ℕ)) (before after : List (List (List ℕ))) → AreBoxes colors (before ++ box ∷ after)
-      → IsNextCut before box low high after → AreBoxes colors (before ++ low ∷ high ∷ after)
+pub data AreBoxesBy (channels : ℕ) (weigh : List (List ℕ) → ℕ) : List (List ℕ) → List (List (List ℕ)) → Type 0 where
+  one : (colors : List (List ℕ)) → 0 < length colors → AreBoxesBy channels weigh colors (colors ∷ [])
+  cut : (colors box low high : List (List ℕ)) (before after : List (List (List ℕ)))
+      → AreBoxesBy channels weigh colors (before ++ box ∷ after) → IsNextCutBy channels weigh before box low high after
+      → AreBoxesBy channels weigh colors (before ++ low ∷ high ∷ after)
 
 -- the mean of a box in a channel, to the nearest whole number, ties up
 abbrev pub mean_of : ℕ → List (List ℕ) → ℕ
@@ -30,9 +33,14 @@ mean box = mean_of 0 box ∷ mean_of 1 box ∷ mean_of 2 box ∷ []
 
 -- the table of a list of colors, of at most so many entries: the means of its boxes. There are as many
 -- as there is room for, or none of them can be cut
-pub record IsCutTable (room : ℕ) (colors table : List (List ℕ)) : Type 0 where
+pub record IsCutTableBy (channels : ℕ) (weigh : List (List ℕ) → ℕ) (middle : List (List ℕ) → List ℕ) (room : ℕ)
+    (colors table : List (List ℕ)) : Type 0 where
   pub boxes : List (List (List ℕ))
-  pub are : AreBoxes colors boxes
+  pub are : AreBoxesBy channels weigh colors boxes
   pub few : length boxes ≤ room
-  pub full : (length boxes ≡ room) ⊎ All CannotBeCut boxes
-  pub means : table ≡ map mean boxes
+  pub full : (length boxes ≡ room) ⊎ All (CannotBeCutBy channels) boxes
+  pub means : table ≡ map middle boxes
+
+-- the same for red, green and blue
+abbrev pub IsCutTable : (room : ℕ) (colors table : List (List ℕ)) → Type 0
+IsCutTable room colors table = IsCutTableBy 3 weight mean room colors table

@@ -2,35 +2,35 @@
 -- call cites this file.
 use Rattle.std.specs.Prelude.{◌≡◌, ℕ, ◌<◌, ◌≤◌, List, [], ◌∷◌, length, map, take, drop, All, sum_by, Option, Some, None, MatchOption, IfSome, HoldsAt}
 use Rattle.std.specs.List.{AllZip}
-use Rattle.pix_table.specs.Nearest.{numbers}
-use Rattle.pix_table.specs.Places.{CannotBeCut, HasBest}
-use Rattle.pix_table.specs.declared.color.Color.{Color}
+use Rattle.pix_table.specs.Places.{CannotBeCutBy, HasBestBy}
 use Rattle.pix_table.specs.declared.place.Place.{Place}
 use Rattle.pix_table.specs.declared.pieces.Piece.{Piece}
 use Rattle.pix_table.specs.declared.pieces.Next.{Next}
 
 -- the best place of a box, or none where it cannot be cut
-abbrev pub IsPlaceOf : List (List ℕ) → Option Place → Type 0
-IsPlaceOf box place = MatchOption place (CannotBeCut box) (λ p. HasBest box p.channel p.value p.gain)
+abbrev pub IsPlaceOf : (channels : ℕ) (weigh : List (List ℕ) → ℕ) → List (List ℕ) → Option Place → Type 0
+IsPlaceOf channels weigh box place =
+    MatchOption place (CannotBeCutBy channels box) (λ p. HasBestBy channels weigh box p.channel p.value p.gain)
 
 -- a piece has the place of its box
-abbrev pub IsKnown : List (List ℕ) → Piece → Type 0
-IsKnown box piece = IsPlaceOf box piece.place
+abbrev pub IsKnown : (channels : ℕ) (weigh : List (List ℕ) → ℕ) → List (List ℕ) → Piece → Type 0
+IsKnown channels weigh box piece = IsPlaceOf channels weigh box piece.place
 
 -- how many colors some pieces have
 abbrev pub total : List Piece → ℕ
 total pieces = sum_by (λ p. p.len) pieces
 
--- the boxes of pieces that lie one after the other in a list of colors
-abbrev pub boxes_of : List Color → List Piece → List (List (List ℕ))
-boxes_of colors [] = []
-boxes_of colors (p ∷ pieces) = map numbers (take p.len colors) ∷ boxes_of (drop p.len colors) pieces
+-- the boxes of pieces that lie one after the other in a list of colors, by the numbers of a color
+abbrev pub boxes_of : {X : Type 0} → (X → List ℕ) → List X → List Piece → List (List (List ℕ))
+boxes_of numbers colors [] = []
+boxes_of numbers colors (p ∷ pieces) = map numbers (take p.len colors) ∷ boxes_of numbers (drop p.len colors) pieces
 
 -- pieces have all colors of a list, none is empty, and each has the place of its box
-pub record ArePieces (colors : List Color) (pieces : List Piece) : Type 0 where
+pub record ArePieces {X : Type 0} (channels : ℕ) (weigh : List (List ℕ) → ℕ) (numbers : X → List ℕ) (colors : List X)
+    (pieces : List Piece) : Type 0 where
   pub all : total pieces ≡ length colors
   pub some : All (λ p. 0 < p.len) pieces
-  pub known : AllZip IsKnown (boxes_of colors pieces) pieces
+  pub known : AllZip (IsKnown channels weigh) (boxes_of numbers colors pieces) pieces
 
 -- no piece can be cut
 abbrev pub AreWhole : List Piece → Type 0

@@ -1,14 +1,15 @@
 //! A table of the means of boxes of colors, which are cut where the squared error falls most.
-ghost use Rattle.std.specs.Prelude.{◌≡◌, ◌⊎◌, ℕ, ◌+◌, ◌<◌, ◌≤◌, List, ◌∷◌, [], All, length, map, take, drop, slice_index, IsPermutation, true, false};
+ghost use Rattle.std.specs.Prelude.{◌≡◌, ◌⊎◌, ℕ, ◌+◌, ◌<◌, ◌≤◌, List, ◌∷◌, [], All, length, map, take, drop, slice_index, IsPermutation, ⊤, true, false};
 ghost use Rattle.pix_table.specs.Nearest.{numbers};
-ghost use Rattle.pix_table.specs.Places.{HasBest, IsCut};
-ghost use Rattle.pix_table.specs.Cut.{AreBoxes, IsCutTable, mean};
+ghost use Rattle.pix_table.specs.Places.{HasBestBy, IsCutBy, weight};
+ghost use Rattle.pix_table.specs.Cut.{AreBoxesBy, IsCutTable, IsCutTableBy, mean};
 ghost use Rattle.pix_table.specs.Pieces.{ArePieces, AreWhole, IsKnown, IsNext, boxes_of};
 
 use crate::box_sums::sums_of;
 use crate::color::Color;
+use crate::cutting::Cutting;
 use crate::pieces::{Next, Piece, next_cut, split};
-use crate::place::Place;
+use crate::place::{Place, best_place};
 
 /// How many entries a table has at most.
 const ROOM: usize = 256;
@@ -26,6 +27,31 @@ pub(crate) fn channel(clr: Color, channel: usize) -> u8
     }
 }
 
+impl Cutting for Color {
+    ghost parts = { numbers };
+
+    ghost channels = { 3 };
+
+    ghost weigh = { weight };
+
+    ghost middle = { mean };
+
+    ghost fits = { λ color. ⊤ };
+
+    #[inline(always)]
+    fn channel(self, k: usize) -> u8 {
+        channel(self, k)
+    }
+
+    fn best_place(colors: &[Color]) -> Option<Place> {
+        best_place(colors)
+    }
+
+    fn mean_color(colors: &[Color]) -> Color {
+        mean_color(colors)
+    }
+}
+
 /// Writes the table of some colors into the first of the entries, and returns how many they are.
 /// The colors come into another order.
 ///
@@ -40,6 +66,21 @@ pub(crate) fn cut_table(colors: &mut [Color], entries: &mut [Color]) -> usize
     ensures table { IsCutTable (length entries.old) (map numbers colors.old)
         (map numbers (take result entries.new)) }
 {
+    cut_colors(colors, entries)
+}
+
+/// Does what [`cut_table`] does, for any kind of color.
+pub(crate) fn cut_colors<C: Cutting>(colors: &mut [C], entries: &mut [C]) -> usize
+    requires some { 0 < length colors.old }
+    requires fit { All C.fits (map C.parts colors.old) }
+    requires room { 0 < length entries.old }
+    requires few { length entries.old ≤ 256 }
+    ensures some { 0 < result }
+    ensures within { result ≤ length entries.new }
+    ensures moved { IsPermutation (map C.parts colors.old) (map C.parts colors.new) }
+    ensures table { IsCutTableBy C.channels C.weigh C.middle (length entries.old)
+        (map C.parts colors.old) (map C.parts (take result entries.new)) }
+{
     let mut pieces = [Piece::none(); ROOM];
     let room = entries.len();
     let count = cut_boxes(colors, &mut pieces[..room]);
@@ -49,14 +90,15 @@ pub(crate) fn cut_table(colors: &mut [Color], entries: &mut [Color]) -> usize
 
 /// Cuts the colors into boxes and returns how many there are: as many as there is room for pieces,
 /// or fewer where none of them can be cut.
-fn cut_boxes(colors: &mut [Color], pieces: &mut [Piece]) -> usize
+fn cut_boxes<C: Cutting>(colors: &mut [C], pieces: &mut [Piece]) -> usize
     requires some { 0 < length colors.old }
+    requires fit { All C.fits (map C.parts colors.old) }
     requires room { 0 < length pieces.old }
     ensures some { 0 < result }
     ensures within { result ≤ length pieces.new }
-    ensures stand { ArePieces colors.new (take result pieces.new) }
-    ensures boxes { AreBoxes (map numbers colors.old)
-        (boxes_of colors.new (take result pieces.new)) }
+    ensures stand { ArePieces C.channels C.weigh C.parts colors.new (take result pieces.new) }
+    ensures boxes { AreBoxesBy C.channels C.weigh (map C.parts colors.old)
+        (boxes_of C.parts colors.new (take result pieces.new)) }
     ensures full { (result ≡ length pieces.new) ⊎ AreWhole (take result pieces.new) }
 {
     pieces[0] = Piece::of(colors);
@@ -72,15 +114,18 @@ fn cut_boxes(colors: &mut [Color], pieces: &mut [Piece]) -> usize
 /// Cuts that of the first `count` boxes whose cut gains most, the first of equals.
 ///
 /// Returns whether there is one that can be cut.
-fn cut_next(colors: &mut [Color], pieces: &mut [Piece], count: usize) -> bool
+fn cut_next<C: Cutting>(colors: &mut [C], pieces: &mut [Piece], count: usize) -> bool
+    requires fit { All C.fits (map C.parts colors.old) }
     requires room { count < length pieces.old }
-    requires stand { ArePieces colors.old (take count pieces.old) }
+    requires stand { ArePieces C.channels C.weigh C.parts colors.old (take count pieces.old) }
     ensures whole { result ≡ false → (colors.new ≡ colors.old) × (pieces.new ≡ pieces.old)
         × AreWhole (take count pieces.new) }
-    ensures stand { result ≡ true → ArePieces colors.new (take (count + 1) pieces.new) }
+    ensures stand { result ≡ true
+        → ArePieces C.channels C.weigh C.parts colors.new (take (count + 1) pieces.new) }
     ensures boxes { result ≡ true → (start : List (List ℕ))
-        → AreBoxes start (boxes_of colors.old (take count pieces.old))
-        → AreBoxes start (boxes_of colors.new (take (count + 1) pieces.new)) }
+        → AreBoxesBy C.channels C.weigh start (boxes_of C.parts colors.old (take count pieces.old))
+        → AreBoxesBy C.channels C.weigh start
+        (boxes_of C.parts colors.new (take (count + 1) pieces.new)) }
 {
     match next_cut(&pieces[..count]) {
         None => false,
@@ -92,14 +137,16 @@ fn cut_next(colors: &mut [Color], pieces: &mut [Piece], count: usize) -> bool
 }
 
 /// Cuts the box that is next of the first `count`.
-fn cut_at(colors: &mut [Color], pieces: &mut [Piece], count: usize, next: Next)
+fn cut_at<C: Cutting>(colors: &mut [C], pieces: &mut [Piece], count: usize, next: Next)
+    requires fit { All C.fits (map C.parts colors.old) }
     requires room { count < length pieces.old }
-    requires stand { ArePieces colors.old (take count pieces.old) }
+    requires stand { ArePieces C.channels C.weigh C.parts colors.old (take count pieces.old) }
     requires next { IsNext (take count pieces.old) next }
-    ensures stand { ArePieces colors.new (take (count + 1) pieces.new) }
+    ensures stand { ArePieces C.channels C.weigh C.parts colors.new (take (count + 1) pieces.new) }
     ensures boxes { (start : List (List ℕ))
-        → AreBoxes start (boxes_of colors.old (take count pieces.old))
-        → AreBoxes start (boxes_of colors.new (take (count + 1) pieces.new)) }
+        → AreBoxesBy C.channels C.weigh start (boxes_of C.parts colors.old (take count pieces.old))
+        → AreBoxesBy C.channels C.weigh start
+        (boxes_of C.parts colors.new (take (count + 1) pieces.new)) }
 {
     let end = next.start + pieces[next.at].len;
     let (low, high) = cut_piece(&mut colors[next.start..end], next.place);
@@ -107,30 +154,36 @@ fn cut_at(colors: &mut [Color], pieces: &mut [Piece], count: usize, next: Next)
 }
 
 /// Cuts a box at its best place, and returns its two pieces.
-fn cut_piece(colors: &mut [Color], place: Place) -> (Piece, Piece)
-    requires { HasBest (map numbers colors.old) place.channel place.value place.gain }
+fn cut_piece<C: Cutting>(colors: &mut [C], place: Place) -> (Piece, Piece)
+    requires fit { All C.fits (map C.parts colors.old) }
+    requires best { HasBestBy C.channels C.weigh (map C.parts colors.old) place.channel
+        place.value place.gain }
     ensures all { result.0.len + result.1.len ≡ length colors.new }
-    ensures low { IsKnown (map numbers (take result.0.len colors.new)) result.0 }
-    ensures high { IsKnown (map numbers (drop result.0.len colors.new)) result.1 }
-    ensures cut { IsCut (map numbers colors.old) place.channel place.value
-        (map numbers (take result.0.len colors.new))
-        (map numbers (drop result.0.len colors.new)) }
+    ensures low { IsKnown C.channels C.weigh (map C.parts (take result.0.len colors.new))
+        result.0 }
+    ensures high { IsKnown C.channels C.weigh (map C.parts (drop result.0.len colors.new))
+        result.1 }
+    ensures cut { IsCutBy C.channels (map C.parts colors.old) place.channel place.value
+        (map C.parts (take result.0.len colors.new))
+        (map C.parts (drop result.0.len colors.new)) }
 {
     let at = partition(colors, place.channel, place.value);
-    (Piece::of(&colors[..at]), Piece::of(&colors[at..]))
+    let (low, high) = colors.split_at(at);
+    (Piece::of(low), Piece::of(high))
 }
 
 /// Writes the means of the boxes into the first of the entries.
-fn write_means(colors: &[Color], pieces: &[Piece], entries: &mut [Color])
-    requires stand { ArePieces colors.now pieces.now }
+fn write_means<C: Cutting>(colors: &[C], pieces: &[Piece], entries: &mut [C])
+    requires fit { All C.fits (map C.parts colors.now) }
+    requires stand { ArePieces C.channels C.weigh C.parts colors.now pieces.now }
     requires room { length pieces.now ≤ length entries.old }
-    ensures { map numbers (take (length pieces.now) entries.new)
-        ≡ map mean (boxes_of colors.now pieces.now) }
+    ensures { map C.parts (take (length pieces.now) entries.new)
+        ≡ map C.middle (boxes_of C.parts colors.now pieces.now) }
 {
     let mut start = 0;
     for i in 0..pieces.len() {
         let end = start + pieces[i].len;
-        entries[i] = mean_color(&colors[start..end]);
+        entries[i] = C::mean_color(&colors[start..end]);
         start = end;
     }
 }
@@ -145,31 +198,32 @@ fn mean_color(colors: &[Color]) -> Color
 
 /// Moves the colors whose number in a channel is below `value` to the front, and returns how many
 /// they are. Each channel has a loop of its own.
-fn partition(colors: &mut [Color], k: usize, value: u8) -> usize
+fn partition<C: Cutting>(colors: &mut [C], k: usize, value: u8) -> usize
     ensures within { result ≤ length colors.new }
     ensures moved { IsPermutation colors.old colors.new }
-    ensures front { All (λ c. slice_index (numbers c) k < value) (take result colors.new) }
-    ensures back { All (λ c. value ≤ slice_index (numbers c) k) (drop result colors.new) }
+    ensures front { All (λ c. slice_index (C.parts c) k < value) (take result colors.new) }
+    ensures back { All (λ c. value ≤ slice_index (C.parts c) k) (drop result colors.new) }
 {
     match k {
         0 => partition_in(colors, 0, value),
         1 => partition_in(colors, 1, value),
         2 => partition_in(colors, 2, value),
+        3 => partition_in(colors, 3, value),
         _ => partition_in(colors, k, value),
     }
 }
 
 /// Does what [`partition`] does.
 #[inline(always)]
-fn partition_in(colors: &mut [Color], k: usize, value: u8) -> usize
+fn partition_in<C: Cutting>(colors: &mut [C], k: usize, value: u8) -> usize
     ensures within { result ≤ length colors.new }
     ensures moved { IsPermutation colors.old colors.new }
-    ensures front { All (λ c. slice_index (numbers c) k < value) (take result colors.new) }
-    ensures back { All (λ c. value ≤ slice_index (numbers c) k) (drop result colors.new) }
+    ensures front { All (λ c. slice_index (C.parts c) k < value) (take result colors.new) }
+    ensures back { All (λ c. value ≤ slice_index (C.parts c) k) (drop result colors.new) }
 {
     let mut at = 0;
     for i in 0..colors.len() {
-        let is_low = channel(colors[i], k) < value;
+        let is_low = colors[i].channel(k) < value;
         colors.swap(at, i);
         at += usize::from(is_low);
     }

@@ -12,6 +12,7 @@ mod chosen;
 mod color;
 mod color_block;
 mod cut;
+mod cutting;
 mod diffuse;
 mod entry_lanes;
 mod from;

@@ -1,10 +1,9 @@
 //! The boxes of a cut: pieces of one slice of colors, one after the other.
-ghost use Rattle.std.specs.Prelude.{◌≡◌, ℕ, ◌+◌, ◌<◌, ◌≤◌, ◌^◌, List, [], ◌∷◌, ◌++◌, length, map, take, drop};
-ghost use Rattle.pix_table.specs.Nearest.{numbers};
+ghost use Rattle.std.specs.Prelude.{◌≡◌, ℕ, ◌+◌, ◌<◌, ◌≤◌, ◌^◌, All, List, [], ◌∷◌, ◌++◌, length, map, take, drop};
 ghost use Rattle.pix_table.specs.Pieces.{IsKnown, IsNextOrNone, total};
 
-use crate::color::Color;
-use crate::place::{Place, best_place};
+use crate::cutting::Cutting;
+use crate::place::Place;
 
 /// A piece of a slice of colors: how many they are, and the place where a cut gains most, if it can
 /// be cut.
@@ -32,13 +31,14 @@ impl Piece {
     }
 
     /// Returns the piece of some colors.
-    pub(crate) fn of(colors: &[Color]) -> Piece
+    pub(crate) fn of<C: Cutting>(colors: &[C]) -> Piece
+        requires { All C.fits (map C.parts colors.now) }
         ensures all { result.len ≡ length colors.now }
-        ensures known { IsKnown (map numbers colors.now) result }
+        ensures known { IsKnown C.channels C.weigh (map C.parts colors.now) result }
     {
         Piece {
             len: colors.len(),
-            place: best_place(colors),
+            place: C::best_place(colors),
         }
     }
 }

@@ -1,12 +1,13 @@
 -- Of `cut_at`: that the pieces are boxes of the colors.
 use Rattle.std.proofs.Common.{◌≡◌, ℕ, ◌+◌, ◌-◌, ◌<◌, ◌++◌, ◌∷◌, List, None, length, take, drop, get_or, arith, sym, ap, ◌∙◌, subst, length-take}
 use Rattle.std.proofs.lemmas.List.{get_or-take, take-take}
-use Rattle.pix_table.specs.Cut.{AreBoxes}
+use Rattle.pix_table.specs.Cut.{AreBoxesBy}
 use Rattle.pix_table.specs.Pieces.{ArePieces, boxes_of}
-use Rattle.pix_table.specs.declared.color.Color.{Color}
 use Rattle.pix_table.specs.declared.pieces.Piece.{Piece}
+use Rattle.pix_table.proofs.CutBoxes.{fit_piece}
 use Rattle.pix_table.proofs.PieceBoxes.{next_known, boxes_stand, pieces_stand}
 use borrow.Rule.Slice.PartMut.{put_mid}
+use Rattle.pix_table.proofs.cut.cut_at.Given as given
 use Rattle.pix_table.proofs.cut.cut_at.Goals as goal
 use Rattle.pix_table.proofs.cut.cut_at.Goals.{After-pieces-1}
 
@@ -22,31 +23,38 @@ width pieces count at start stands =
     omega (arith, e)
 
 -- the pieces after the split
-pieces_are : (c : After-pieces-1)
+pieces_are : (g : given.Over) (c : After-pieces-1 g)
     → take c.args.next.at (take c.args.count c.args.pieces.now) ++ c.cut_piece.result.0 ∷ c.cut_piece.result.1 ∷ drop (c.args.next.at + 1) (take c.args.count c.args.pieces.now)
     ≡ take (c.args.count + 1) c.split.new.pieces
-pieces_are c =
+pieces_are g c =
     ap (λ l. l ++ c.cut_piece.result.0 ∷ c.cut_piece.result.1 ∷ drop (c.args.next.at + 1) (take c.args.count c.args.pieces.now))
     (take-take c.args.next.at c.args.count c.args.pieces.now (omega (arith, c.requires.next.stands, length-take c.args.count c.args.pieces.now)))
     ∙ sym c.split.ensures
 
-pub cut_piece-requires : goal.cut_piece-requires
-cut_piece-requires c =
-    next_known c.args.colors.now (take c.args.count c.args.pieces.now) c.args.next none _ c.requires.stand c.requires.next
-    (width c.args.pieces.now c.args.count c.args.next.at c.args.next.start c.requires.next.stands)
+pub cut_piece-requires-clause-fit : goal.cut_piece-requires-clause-fit
+cut_piece-requires-clause-fit g c = fit_piece g.C.Cutting.parts g.C.Cutting.fits c.args.colors.now c.args.next.start _ c.requires.fit
+
+pub cut_piece-requires-clause-best : goal.cut_piece-requires-clause-best
+cut_piece-requires-clause-best g c =
+    next_known g.C.Cutting.parts g.C.Cutting.channels g.C.Cutting.weigh c.args.colors.now (take c.args.count c.args.pieces.now) c.args.next none _
+    c.requires.stand c.requires.next (width c.args.pieces.now c.args.count c.args.next.at c.args.next.start c.requires.next.stands)
 
 pub returns-clause-stand : goal.returns-clause-stand
-returns-clause-stand c =
-    subst (ArePieces _) (pieces_are c)
-    (pieces_stand c.args.colors.now (take c.args.count c.args.pieces.now) c.args.next none _ c.requires.stand c.requires.next
-    (width c.args.pieces.now c.args.count c.args.next.at c.args.next.start c.requires.next.stands) c.cut_piece.new.colors c.cut_piece.result.0
-    c.cut_piece.result.1 c.cut_piece.auto.colors c.cut_piece.ensures.all c.cut_piece.ensures.low c.cut_piece.ensures.high c.cut_piece.ensures.cut)
+returns-clause-stand g c =
+    let colors : List g.row.C.Denot =
+    put_mid c.args.next.start (c.args.next.start + (get_or c.args.pieces.now c.args.next.at none).len - c.args.next.start) c.args.colors.now c.cut_piece.new.colors in
+    subst (λ l. ArePieces g.C.Cutting.channels g.C.Cutting.weigh g.C.Cutting.parts colors l) (pieces_are g c)
+    (pieces_stand g.C.Cutting.parts g.C.Cutting.channels g.C.Cutting.weigh c.args.colors.now (take c.args.count c.args.pieces.now) c.args.next none _
+    c.requires.stand c.requires.next (width c.args.pieces.now c.args.count c.args.next.at c.args.next.start c.requires.next.stands)
+    c.cut_piece.new.colors c.cut_piece.result.0 c.cut_piece.result.1 c.cut_piece.auto.colors c.cut_piece.ensures.all c.cut_piece.ensures.low
+    c.cut_piece.ensures.high c.cut_piece.ensures.cut)
 
 pub returns-clause-boxes : goal.returns-clause-boxes
-returns-clause-boxes c start h =
-    let colors : List Color =
+returns-clause-boxes g c start h =
+    let colors : List g.row.C.Denot =
     put_mid c.args.next.start (c.args.next.start + (get_or c.args.pieces.now c.args.next.at none).len - c.args.next.start) c.args.colors.now c.cut_piece.new.colors in
-    subst (λ l. AreBoxes start (boxes_of colors l)) (pieces_are c)
-    (boxes_stand c.args.colors.now (take c.args.count c.args.pieces.now) c.args.next none _ c.requires.stand c.requires.next
-    (width c.args.pieces.now c.args.count c.args.next.at c.args.next.start c.requires.next.stands) c.cut_piece.new.colors c.cut_piece.result.0
-    c.cut_piece.result.1 c.cut_piece.auto.colors c.cut_piece.ensures.all c.cut_piece.ensures.low c.cut_piece.ensures.high c.cut_piece.ensures.cut start h)
+    subst (λ l. AreBoxesBy g.C.Cutting.channels g.C.Cutting.weigh start (boxes_of g.C.Cutting.parts colors l)) (pieces_are g c)
+    (boxes_stand g.C.Cutting.parts g.C.Cutting.channels g.C.Cutting.weigh c.args.colors.now (take c.args.count c.args.pieces.now) c.args.next none _
+    c.requires.stand c.requires.next (width c.args.pieces.now c.args.count c.args.next.at c.args.next.start c.requires.next.stands)
+    c.cut_piece.new.colors c.cut_piece.result.0 c.cut_piece.result.1 c.cut_piece.auto.colors c.cut_piece.ensures.all c.cut_piece.ensures.low
+    c.cut_piece.ensures.high c.cut_piece.ensures.cut start h)

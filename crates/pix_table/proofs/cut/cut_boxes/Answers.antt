@@ -1,16 +1,24 @@
--- Of `cut_boxes`: that all colors are one box at first.
-use Rattle.std.proofs.Common.{map, sym, subst}
+-- Of `cut_boxes`: that all colors are one box at first, and that the condition on them still holds.
+use Rattle.std.proofs.Common.{map, take, sym, subst}
 use Rattle.std.proofs.lemmas.List.{take_more_set}
-use Rattle.pix_table.specs.Cut.{AreBoxes}
-use Rattle.pix_table.specs.Nearest.{numbers}
+use Rattle.pix_table.specs.Cut.{AreBoxesBy}
 use Rattle.pix_table.specs.Pieces.{ArePieces, boxes_of}
+use Rattle.pix_table.proofs.CutColors.{boxes_fit}
 use Rattle.pix_table.proofs.PieceBoxes.{one_stands, one_box}
 use Rattle.pix_table.proofs.cut.cut_boxes.Goals as goal
 
 pub loop-count-init : goal.loop-count-init
-loop-count-init c = record {
-  stand = subst (ArePieces c.args.colors.now) (sym (take_more_set c.args.pieces.now 0 c.of.result c.requires.room))
-      (one_stands c.args.colors.now c.of.result c.requires.some c.of.ensures.all c.of.ensures.known);
-  boxes = subst (λ l. AreBoxes (map numbers c.args.colors.now) (boxes_of c.args.colors.now l))
-      (sym (take_more_set c.args.pieces.now 0 c.of.result c.requires.room)) (one_box c.args.colors.now c.of.result c.requires.some c.of.ensures.all);
+loop-count-init g c = record {
+  stand = subst (ArePieces g.C.Cutting.channels g.C.Cutting.weigh g.C.Cutting.parts c.args.colors.now)
+      (sym (take_more_set c.args.pieces.now 0 c.of.result c.requires.room))
+      (one_stands g.C.Cutting.parts g.C.Cutting.channels g.C.Cutting.weigh c.args.colors.now c.of.result c.requires.some c.of.ensures.all c.of.ensures.known);
+  boxes = subst
+      (λ l. AreBoxesBy g.C.Cutting.channels g.C.Cutting.weigh (map g.C.Cutting.parts c.args.colors.now) (boxes_of g.C.Cutting.parts c.args.colors.now l))
+      (sym (take_more_set c.args.pieces.now 0 c.of.result c.requires.room))
+      (one_box g.C.Cutting.parts g.C.Cutting.channels g.C.Cutting.weigh c.args.colors.now c.of.result c.requires.some c.of.ensures.all);
 }
+
+pub cut_next-is_cut-requires-clause-fit : goal.cut_next-is_cut-requires-clause-fit
+cut_next-is_cut-requires-clause-fit g c =
+    boxes_fit g.C.Cutting.fits g.C.Cutting.parts (map g.C.Cutting.parts c.args.colors.now) c.loop-count.colors (take c.loop-count.count c.loop-count.pieces)
+    c.loop-count.invariant.boxes c.loop-count.invariant.stand.all c.requires.fit

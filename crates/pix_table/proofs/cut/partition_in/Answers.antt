@@ -4,18 +4,16 @@ use Rattle.std.proofs.lemmas.Bool.{cases_lt}
 use Rattle.std.proofs.lemmas.List.{get_or_default}
 use Rattle.std.proofs.lemmas.List.Sorted.{IsPermutation-trans}
 use mir.Val.{bool_byte}
-use Rattle.pix_table.specs.Nearest.{numbers}
-use Rattle.pix_table.specs.declared.color.Color.{Color}
 use Rattle.pix_table.proofs.Parts.{AreBelow, AreOthers, below_swapped, others_swapped, below_kept, others_kept}
 use Rattle.pix_table.proofs.cut.partition_in.Goals as goal
 
 pub loop-i-preserved : goal.loop-i-preserved
-loop-i-preserved c =
-    let f : Color → ℕ = (λ p. get_or (numbers p) c.args.k 0) in
+loop-i-preserved g c =
+    let f : g.row.C.Denot → ℕ = (λ p. get_or (g.C.Cutting.parts p) c.args.k 0) in
     let at : ℕ = c.loop-i.at in
     let inside : c.loop-i.i < length c.loop-i.colors = omega arith in
-    let here : (d : Color) → c.channel.result ≡ f (get_or c.loop-i.colors c.loop-i.i d) =
-    (λ d. c.channel.ensures ∙ ap f (get_or_default c.loop-i.colors c.loop-i.i _ d inside)) in
+    let here : (d : g.row.C.Denot) → c.channel.result ≡ f (get_or c.loop-i.colors c.loop-i.i d) =
+    (λ d. c.channel.ensures ∙ ap f (c.index-colors-i.is ∙ get_or_default c.loop-i.colors c.loop-i.i _ d inside)) in
     elim (cases_lt c.channel.result c.args.value) [
       | inl b ↦
           let one : c.from-at.result ≡ 1 = c.from-at.ensures ∙ ap bool_byte (lt-ltb _ _ b) in

@@ -1,14 +1,12 @@
 -- What holds at each turn of the loop over `i` in `partition_in`.
 use Rattle.std.proofs.Common.{◌<◌, ◌≤◌, ℕ, get_or, IsPermutation}
-use Rattle.pix_table.specs.Nearest.{numbers}
-use Rattle.pix_table.specs.declared.color.Color.{Color}
 use Rattle.pix_table.proofs.cut.partition_in.Given as goal
 
 -- of the first i colors those below the value come first
 abbrev pub invariant-loop-i : goal.invariant-loop-i
-invariant-loop-i l = record {
+invariant-loop-i g l = record {
   within : l.at ≤ l.i;
   moved : IsPermutation l.fn.colors l.colors;
-  front : (j : ℕ) (d : Color) → j < l.at → get_or (numbers (get_or l.colors j d)) l.k 0 < l.value;
-  back : (j : ℕ) (d : Color) → l.at ≤ j → j < l.i → l.value ≤ get_or (numbers (get_or l.colors j d)) l.k 0;
+  front : (j : ℕ) (d : g.row.C.Denot) → j < l.at → get_or (g.C.Cutting.parts (get_or l.colors j d)) l.k 0 < l.value;
+  back : (j : ℕ) (d : g.row.C.Denot) → l.at ≤ j → j < l.i → l.value ≤ get_or (g.C.Cutting.parts (get_or l.colors j d)) l.k 0;
 }
