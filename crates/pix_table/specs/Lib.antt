@@ -8,6 +8,8 @@ pub mod Places
 pub mod Cut
 pub mod BestPlaces
 pub mod Pieces
+pub mod SeenCut
+pub mod SeenSums
 pub mod Spans
 pub mod From
 pub mod Refine

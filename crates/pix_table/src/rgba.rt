@@ -1,10 +1,13 @@
 //! Tables of colors with an alpha.
 pub(crate) mod color;
+pub(crate) mod cut;
 pub(crate) mod from;
 pub(crate) mod groups;
 pub(crate) mod lanes;
 pub(crate) mod matched;
+pub(crate) mod place;
 pub(crate) mod refine;
+pub(crate) mod sums;
 
 pub use crate::rgba::color::{RgbaColor, Seen};
 pub use crate::rgba::from::rgba_table_from;

@@ -1,0 +1,196 @@
+//! Sums of colors that are seen.
+ghost use Rattle.std.specs.Prelude.{◌≡◌, ℕ, ◌+◌, ◌-◌, ◌*◌, ◌/◌, ◌<◌, ◌≤◌, All, List, length, map, slice_index, true};
+ghost use Rattle.pix_table.specs.Seen.{AreSeen, seen_numbers};
+ghost use Rattle.pix_table.specs.SeenSums.{AreFew, AreSeenByValue, AreSeenPart, AreSeenSums};
+ghost use Rattle.pix_table.specs.SeenSums.{seen_weight_by};
+
+use crate::box_sums::quotient;
+use crate::rgba::color::Seen;
+use crate::weight::weight;
+
+/// How many seen colors there are, and the sums of their numbers.
+#[derive(Clone, Copy)]
+pub(crate) struct SeenSums {
+    pub(crate) count: usize,
+    pub(crate) red: u128,
+    pub(crate) green: u128,
+    pub(crate) blue: u128,
+    pub(crate) alpha: u128,
+}
+
+impl SeenSums {
+    /// Returns the sums of no colors.
+    pub(crate) fn none() -> SeenSums
+        ensures count { result.count ≡ 0 }
+        ensures red { result.red ≡ 0 }
+        ensures green { result.green ≡ 0 }
+        ensures blue { result.blue ≡ 0 }
+        ensures alpha { result.alpha ≡ 0 }
+    {
+        SeenSums {
+            count: 0,
+            red: 0,
+            green: 0,
+            blue: 0,
+            alpha: 0,
+        }
+    }
+
+    /// Returns the sums with a color more.
+    #[inline(always)]
+    pub(crate) fn with(self, clr: Seen) -> SeenSums
+        requires count { self.count < 18446744073709551615 }
+        requires few { AreFew self }
+        ensures count { result.count ≡ self.count + 1 }
+        ensures red { result.red ≡ self.red + clr.red }
+        ensures green { result.green ≡ self.green + clr.green }
+        ensures blue { result.blue ≡ self.blue + clr.blue }
+        ensures alpha { result.alpha ≡ self.alpha + clr.alpha }
+    {
+        SeenSums {
+            count: self.count + 1,
+            red: self.red + u128::from(clr.red),
+            green: self.green + u128::from(clr.green),
+            blue: self.blue + u128::from(clr.blue),
+            alpha: self.alpha + u128::from(clr.alpha),
+        }
+    }
+
+    /// Returns the sums of these colors and of others.
+    pub(crate) fn and(self, more: SeenSums) -> SeenSums
+        requires count { self.count + more.count < 18446744073709551616 }
+        requires few { AreFew self }
+        requires more { AreFew more }
+        ensures count { result.count ≡ self.count + more.count }
+        ensures red { result.red ≡ self.red + more.red }
+        ensures green { result.green ≡ self.green + more.green }
+        ensures blue { result.blue ≡ self.blue + more.blue }
+        ensures alpha { result.alpha ≡ self.alpha + more.alpha }
+    {
+        SeenSums {
+            count: self.count + more.count,
+            red: self.red + more.red,
+            green: self.green + more.green,
+            blue: self.blue + more.blue,
+            alpha: self.alpha + more.alpha,
+        }
+    }
+
+    /// Returns the sums of these colors without some of them.
+    fn without(self, part: SeenSums) -> SeenSums
+        requires { AreSeenPart part self }
+        ensures count { result.count ≡ self.count - part.count }
+        ensures red { result.red ≡ self.red - part.red }
+        ensures green { result.green ≡ self.green - part.green }
+        ensures blue { result.blue ≡ self.blue - part.blue }
+        ensures alpha { result.alpha ≡ self.alpha - part.alpha }
+    {
+        SeenSums {
+            count: self.count - part.count,
+            red: self.red - part.red,
+            green: self.green - part.green,
+            blue: self.blue - part.blue,
+            alpha: self.alpha - part.alpha,
+        }
+    }
+
+    /// Returns what they weigh, over black and over white. Condition: there is a color.
+    pub(crate) fn weight(self) -> u128
+        requires some { 0 < self.count }
+        requires few { AreFew self }
+        ensures weight { result
+            ≡ seen_weight_by self.count self.red self.green self.blue self.alpha }
+        ensures few { result ≤ 390150 * self.count }
+    {
+        let black = weight(self.count, [self.red, self.green, self.blue]);
+        let clear = 255 * self.count as u128 - self.alpha;
+        let white = [self.red + clear, self.green + clear, self.blue + clear];
+        black + weight(self.count, white)
+    }
+
+    /// Returns the mean of the colors, to the nearest whole number in each channel, ties up.
+    ///
+    /// Condition: there is a color.
+    pub(crate) fn mean(self) -> Seen
+        requires some { 0 < self.count }
+        requires few { AreFew self }
+        ensures red { result.red ≡ (2 * self.red + self.count) / (2 * self.count) }
+        ensures green { result.green ≡ (2 * self.green + self.count) / (2 * self.count) }
+        ensures blue { result.blue ≡ (2 * self.blue + self.count) / (2 * self.count) }
+        ensures alpha { result.alpha ≡ (2 * self.alpha + self.count) / (2 * self.count) }
+    {
+        let count = self.count as u128;
+        Seen {
+            red: quotient(2 * self.red + count, 2 * count),
+            green: quotient(2 * self.green + count, 2 * count),
+            blue: quotient(2 * self.blue + count, 2 * count),
+            alpha: quotient(2 * self.alpha + count, 2 * count),
+        }
+    }
+
+    /// Returns what a cut gains, where `low` are the sums of the colors below it.
+    ///
+    /// All colors weigh `whole`.
+    pub(crate) fn gain(self, low: SeenSums, whole: u128) -> u128
+        requires { AreSeenPart low self }
+        ensures { result ≡ seen_weight_by low.count low.red low.green low.blue low.alpha
+            + seen_weight_by (self.count - low.count) (self.red - low.red)
+            (self.green - low.green) (self.blue - low.blue) (self.alpha - low.alpha)
+            - whole }
+    {
+        (low.weight() + self.without(low).weight()).saturating_sub(whole)
+    }
+}
+
+/// Returns the number of a channel: 0 is red, 1 green, 2 blue, 3 the alpha.
+#[inline(always)]
+pub(crate) fn seen_channel(clr: Seen, channel: usize) -> u8
+    ensures { result ≡ slice_index (seen_numbers clr) channel }
+{
+    match channel {
+        0 => clr.red,
+        1 => clr.green,
+        2 => clr.blue,
+        3 => clr.alpha,
+        _ => 0,
+    }
+}
+
+/// Returns the sums of some colors.
+pub(crate) fn seen_sums_of(colors: &[Seen]) -> SeenSums
+    requires { All AreSeen (map seen_numbers colors.now) }
+    ensures { AreSeenSums (λ color. true) (map seen_numbers colors.now) result }
+{
+    let mut sums = SeenSums::none();
+    for i in 0..colors.len() {
+        sums = sums.with(colors[i]);
+    }
+    sums
+}
+
+/// Sets the sums of the colors of each value of a channel. Each channel has a loop of its own.
+pub(crate) fn sum_values(parts: &mut [SeenSums; 256], colors: &[Seen], k: usize)
+    requires { All AreSeen (map seen_numbers colors.now) }
+    ensures { AreSeenByValue k (map seen_numbers colors.now) parts.new }
+{
+    match k {
+        0 => sum_values_in(parts, colors, 0),
+        1 => sum_values_in(parts, colors, 1),
+        2 => sum_values_in(parts, colors, 2),
+        3 => sum_values_in(parts, colors, 3),
+        _ => sum_values_in(parts, colors, k),
+    }
+}
+
+/// Does what [`sum_values`] does.
+#[inline(always)]
+fn sum_values_in(parts: &mut [SeenSums; 256], colors: &[Seen], k: usize)
+    requires { All AreSeen (map seen_numbers colors.now) }
+    ensures { AreSeenByValue k (map seen_numbers colors.now) parts.new }
+{
+    *parts = [SeenSums::none(); 256];
+    for i in 0..colors.len() {
+        let value = usize::from(seen_channel(colors[i], k));
+        parts[value] = parts[value].with(colors[i]);
+    }
+}
