@@ -1,192 +1,275 @@
 -- Pixels by error diffusion, one after the other.
-use Rattle.std.proofs.Common.{◌≡◌, ◌≢◌, ℕ, ◌+◌, ◌-◌, ◌*◌, ◌/◌, ◌%◌, ◌<◌, ◌≤◌, List, [], ◌∷◌, ◌++◌, length, get_or, set, Bool, true, false, ◌&&◌, nat_lt, nat_le, refl, arith, sym, ap, ◌∙◌, subst, inl, inr, length-append, mod-lt, get_or-set_same, get_or-set_other, div-add-mod', mul-le-mul_right, add-mul}
+use Rattle.std.proofs.Common.{◌≡◌, ◌≢◌, ℕ, ◌+◌, ◌-◌, ◌*◌, ◌%◌, ◌<◌, ◌≤◌, List, [], ◌∷◌, ◌++◌, length, map, get_or, set, reverse, Bool, true, false, ◌&&◌, nat_lt, nat_le, refl, arith, sym, ap, ap₂, ◌∙◌, subst, inl, inr, length-append, mod-lt}
+use mathlib.Core.List.{reverse_aux}
 use Rattle.std.proofs.lemmas.Bool.{cases_lt, lt-ltb, leb-true}
-use Rattle.std.proofs.lemmas.Bool.Decides.{nat_tests}
-use Rattle.std.proofs.Math.Nat.{zero-mod, mod-eq_of_lt}
-use Rattle.std.proofs.lemmas.List.{get_or_append_left, get_or_push}
-use Rattle.pix_table.specs.Nearest.{IsNearest, numbers, alpha_of}
-use Rattle.pix_table.specs.Diffusion.{none, clear, shown, wanted_at, black, part, handed}
+use Rattle.std.proofs.Math.Nat.{zero-mod, mod-le}
+use Rattle.std.proofs.lemmas.List.{length-map, map-set, get_or_append_left, get_or_push, get_or-reverse, get_or-set_same, get_or-set_other}
+use Rattle.pix_table.specs.Nearest.{IsNearestBy, alpha_of}
+use Rattle.pix_table.specs.Diffusion.{IsDiffused, none, clear, shown, in_picture, number_above, wanted_at, part, handed, share_before, share_next}
 use Rattle.pix_table.specs.Done.{AreLatest, AreDone, AreNear, IsMissAbove, IsMiss}
-use Rattle.pix_table.specs.declared.color.Color.{Color}
-use Rattle.pix_table.specs.declared.diffuse.Miss.{Miss}
-use Rattle.pix_table.specs.declared.diffuse.Near.{Near}
-use Rattle.pix_table.proofs.Rows.{next_turn, next_in_turn, turn_before}
-
--- numbers that lie less than m apart leave different numbers over by m
-pub apart : (j k m : ℕ) → j < k → k < j + m → j % m ≢ k % m
-apart j k m less near e = elim (cases_lt (j / m) (k / m)) [
-  | inl b ↦
-      let more : (j / m + 1) * m ≤ k / m * m = mul-le-mul_right {m = j / m + 1} {n = k / m} m (omega arith) in
-      let open_up : (j / m + 1) * m ≡ j / m * m + 1 * m = add-mul (j / m) 1 m in
-      absurd (omega (arith, more, open_up, div-add-mod' j m, div-add-mod' k m, e))
-  | inr b ↦
-      let more : k / m * m ≤ j / m * m = mul-le-mul_right {m = k / m} {n = j / m} m b in
-      absurd (omega (arith, more, div-add-mod' j m, div-add-mod' k m, e))
-]
+use Rattle.pix_table.specs.declared.diffuse.DiffusionWay.{DiffusionWay}
+use Rattle.pix_table.specs.declared.diffuse.DiffusionWay.TheVariants.{Straight, Serpentine}
+use Rattle.pix_table.specs.declared.spread.Miss.{Miss}
+use Rattle.pix_table.specs.declared.spread.Near.{Near}
+use Rattle.pix_table.proofs.Ways.{above_before, same_begin, goes_on, at_end, places_apart}
+use Rattle.pix_table.proofs.Rows.{next_in_turn}
 
 -- with one color more
-pub latest_more : (all : List (List ℕ)) (w : List ℕ) (width k : ℕ) (xs : List Color) (p : Color) → 0 < width → length all ≡ k → length xs ≡ width
-    → numbers p ≡ w → AreLatest all width k xs → AreLatest (all ++ w ∷ []) width (k + 1) (set xs (k % width) p)
-latest_more all w width k xs p some many long is h j d before near = elim (cases_lt j k) [
-  | inl b ↦
-      let other : j % width ≢ k % width = apart j k width b (omega arith) in
-      ap numbers (get_or-set_other xs (k % width) (j % width) p d other) ∙ h j d b (omega arith)
-      ∙ sym (get_or_append_left all (w ∷ []) [] j (omega arith))
-  | inr b ↦
-      let e : k ≡ j = omega arith in
-      let inside : k % width < length xs = omega (arith, mod-lt k {m = width} (omega arith)) in
-      subst (λ i. numbers (get_or (set xs (k % width) p) (i % width) d) ≡ get_or (all ++ w ∷ []) i []) e
-      (ap numbers (get_or-set_same xs (k % width) p d inside) ∙ is ∙ sym (get_or_push all w [] k many))
-]
+pub latest_more : (way : DiffusionWay) (all : List (List ℕ)) (w : List ℕ) (width first count : ℕ) (xs : List (List ℕ)) → count < width → length all ≡ first + count → length xs ≡ width
+    → AreLatest way all width first count xs → AreLatest way (all ++ w ∷ []) width first (count + 1) (set xs count w)
+latest_more way all w width first count xs some many long h = record {
+  row = λ p before inside. elim (cases_lt p count) [
+    | inl b ↦
+        let other : p ≢ count = λ e. absurd (omega arith) in
+        get_or-set_other xs count p w [] other ∙ h.row p b inside ∙ sym (get_or_append_left all (w ∷ []) [] (first + p) (omega arith))
+    | inr b ↦
+        let e : count ≡ p = omega arith in
+        subst (λ i. get_or (set xs count w) i [] ≡ get_or (all ++ w ∷ []) (first + i) []) e
+        (get_or-set_same xs count w [] (omega arith) ∙ sym (get_or_push all w [] (first + count) many))
+  ];
+  above = λ p after inside past.
+      let other : p ≢ count = λ e. absurd (omega arith) in
+      get_or-set_other xs count p w [] other ∙ h.above p (omega arith) inside past
+      ∙ sym (get_or_append_left all (w ∷ []) [] (number_above way width first p) (omega (arith, many, above_before way width first p inside past)));
+}
+
+-- the same within a row, at the next pixel
+pub on_in_row : (way : DiffusionWay) (all : List (List ℕ)) (width k next : ℕ) (xs : List (List ℕ)) → 0 < width → next ≡ (k + 1) % width → 0 < next
+    → AreLatest way all width (k - k % width) (k % width + 1) xs → AreLatest way all width (k + 1 - next) next xs
+on_in_row way all width k next xs some is on h =
+    let inside : k % width + 1 < width = goes_on k width some (omega (arith, is)) in
+    let place : k % width + 1 ≡ next = next_in_turn k width (k % width) refl inside ∙ sym is in
+    let begin : k - k % width ≡ k + 1 - next = sym (same_begin k width inside) ∙ ap (λ n. k + 1 - n) (sym is) in
+    subst (λ f. AreLatest way all width f next xs) begin (subst (λ p. AreLatest way all width (k - k % width) p xs) place h)
+
+-- a whole row is above the next one: from left to right, and in the other order
+pub straight_on : (all : List (List ℕ)) (width k next : ℕ) (xs : List (List ℕ)) → 0 < width → next ≡ (k + 1) % width → next ≡ 0
+    → AreLatest Straight all width (k - k % width) (k % width + 1) xs → AreLatest Straight all width (k + 1 - next) next xs
+straight_on all width k next xs some is end h =
+    let whole : k % width + 1 ≡ width = at_end k width some (sym is ∙ end) in
+    record {
+      row = λ p before inside. absurd (omega arith);
+      above = λ p after inside past. h.row p (omega arith) inside ∙ ap (λ i. get_or all i []) (omega (arith, mod-le k width));
+    }
+
+map_aux : {X : Type 0} (f : X → List ℕ) (xs ys : List X) → map f (reverse_aux xs ys) ≡ reverse_aux (map f xs) (map f ys)
+map_aux f [] ys = refl
+map_aux f (x ∷ xs) ys = map_aux f xs (x ∷ ys)
+
+pub turned_round : {X : Type 0} (f : X → List ℕ) (all : List (List ℕ)) (width k next : ℕ) (xs ys : List X) → 0 < width → next ≡ (k + 1) % width → next ≡ 0 → length xs ≡ width → ys ≡ reverse xs
+    → AreLatest Serpentine all width (k - k % width) (k % width + 1) (map f xs) → AreLatest Serpentine all width (k + 1 - next) next (map f ys)
+turned_round f all width k next xs ys some is end long turned h =
+    let whole : k % width + 1 ≡ width = at_end k width some (sym is ∙ end) in
+    let same : map f ys ≡ reverse (map f xs) = ap (map f) turned ∙ map_aux f xs [] in
+    let many : length (map f xs) ≡ width = length-map xs f ∙ long in
+    record {
+      row = λ p before inside. absurd (omega arith);
+      above = λ p after inside past. ap (λ l. get_or l p []) same ∙ get_or-reverse (map f xs) p [] (omega (arith, many))
+          ∙ h.row (length (map f xs) - 1 - p) (omega (arith, many)) (omega (arith, many))
+          ∙ ap (λ i. get_or all i []) (omega (arith, many, mod-le k width));
+    }
+
+-- what is said of the last colors with one more, where it is said of the colors that have these numbers
+pub turned_as : {X : Type 0} (f : X → List ℕ) (way : DiffusionWay) (width k next column : ℕ) (xs ys zs : List X) (x : X) (w : List ℕ) → ys ≡ set xs column x → column ≡ k % width → f x ≡ w → next ≡ (k + 1) % width
+    → ((all : List (List ℕ)) → AreLatest way all width (k - k % width) (k % width + 1) (map f ys) → AreLatest way all width (k + 1 - next) next (map f zs))
+    → (all : List (List ℕ)) → AreLatest way all width (k - k % width) (k % width + 1) (set (map f xs) (k % width) w)
+    → AreLatest way all width (k + 1 - (k + 1) % width) ((k + 1) % width) (map f zs)
+turned_as f way width k next column xs ys zs x w is place number after turned =
+    let e : map f ys ≡ set (map f xs) (k % width) w =
+    ap (map f) is ∙ map-set f xs column x ∙ ap (λ n. set (map f xs) n (f x)) place ∙ ap (λ v. set (map f xs) (k % width) v) number in
+    λ all h. subst (λ n. AreLatest way all width (k + 1 - n) n (map f zs)) after
+    (turned all (subst (λ l. AreLatest way all width (k - k % width) (k % width + 1) l) (sym e) h))
 
 -- so many sixteenths are so many times one
 scaled : (there : Bool) (n : ℕ) (color : List ℕ) (c : ℕ) → part there n color c ≡ n * part there 1 color c
 scaled true n color c = ap (λ x. n * x) (omega arith)
 scaled false n color c = omega arith
 
--- what pixel k gets in a channel of the four misses around it, each of which is 255 too great
-pub together : (ws gs : List (List ℕ)) (width k c left left_above above right_above : ℕ)
-    → left + part (nat_lt 0 (k % width)) 1 (get_or gs (k - 1) []) c ≡ 255 + part (nat_lt 0 (k % width)) 1 (get_or ws (k - 1) []) c
-    → left_above + part (nat_lt 0 (k % width) && nat_lt width k) 1 (get_or gs (k - (width + 1)) []) c
-    ≡ 255 + part (nat_lt 0 (k % width) && nat_lt width k) 1 (get_or ws (k - (width + 1)) []) c
-    → above + part (nat_le width k) 1 (get_or gs (k - width) []) c ≡ 255 + part (nat_le width k) 1 (get_or ws (k - width) []) c
-    → right_above + part (nat_lt (k % width + 1) width && nat_le width k) 1 (get_or gs (k - (width - 1)) []) c
-    ≡ 255 + part (nat_lt (k % width + 1) width && nat_le width k) 1 (get_or ws (k - (width - 1)) []) c
-    → 7 * left + left_above + 5 * above + 3 * right_above + handed width gs k c ≡ 4080 + handed width ws k c
-together ws gs width k c left left_above above right_above a b d e =
-    omega (
-      arith,
-      scaled (nat_lt 0 (k % width)) 7 (get_or ws (k - 1) []) c,
-      scaled (nat_lt 0 (k % width)) 7 (get_or gs (k - 1) []) c,
-      scaled (nat_le width k) 5 (get_or ws (k - width) []) c,
-      scaled (nat_le width k) 5 (get_or gs (k - width) []) c,
-      scaled (nat_lt (k % width + 1) width && nat_le width k) 3 (get_or ws (k - (width - 1)) []) c,
-      scaled (nat_lt (k % width + 1) width && nat_le width k) 3 (get_or gs (k - (width - 1)) []) c,
-    )
+-- the sums of four misses, each of which is 255 too great, and of the parts of four colors
+sum_of : (way : DiffusionWay) (left left_above above right_above a b c d w x y z : ℕ) → left + a ≡ 255 + w → left_above + b ≡ 255 + x → above + c ≡ 255 + y → right_above + d ≡ 255 + z
+    → 7 * left + share_before way * left_above + 5 * above + share_next way * right_above + (7 * a + share_before way * b + 5 * c + share_next way * d)
+    ≡ 4080 + (7 * w + share_before way * x + 5 * y + share_next way * z)
+sum_of Straight left left_above above right_above a b c d w x y z e f g h = omega arith
+sum_of Serpentine left left_above above right_above a b c d w x y z e f g h = omega arith
+
+-- a pixel's share is that of four parts
+in_parts : (way : DiffusionWay) (colors : List (List ℕ)) (width first place c : ℕ)
+    → handed way width colors first place c
+    ≡ 7 * part (nat_lt 0 place) 1 (get_or colors (first + place - 1) []) c
+    + share_before way * part (nat_lt 0 place && nat_le width first) 1 (get_or colors (number_above way width first (place - 1)) []) c
+    + 5 * part (nat_le width first) 1 (get_or colors (number_above way width first place) []) c
+    + share_next way * part (nat_lt (place + 1) width && nat_le width first) 1 (get_or colors (number_above way width first (place + 1)) []) c
+in_parts way colors width first place c =
+    ap₂ (λ x y. x + y)
+    (ap₂ (λ x y. x + y)
+    (ap₂ (λ x y. x + y) (scaled (nat_lt 0 place) 7 (get_or colors (first + place - 1) []) c)
+    (scaled (nat_lt 0 place && nat_le width first) (share_before way) (get_or colors (number_above way width first (place - 1)) []) c))
+    (scaled (nat_le width first) 5 (get_or colors (number_above way width first place) []) c))
+    (scaled (nat_lt (place + 1) width && nat_le width first) (share_next way) (get_or colors (number_above way width first (place + 1)) []) c)
+
+-- what a pixel gets in a channel of the four misses around it, each of which is 255 too great
+pub together : (way : DiffusionWay) (ws gs : List (List ℕ)) (width first place c left left_above above right_above : ℕ)
+    → left + part (nat_lt 0 place) 1 (get_or gs (first + place - 1) []) c ≡ 255 + part (nat_lt 0 place) 1 (get_or ws (first + place - 1) []) c
+    → left_above + part (nat_lt 0 place && nat_le width first) 1 (get_or gs (number_above way width first (place - 1)) []) c
+    ≡ 255 + part (nat_lt 0 place && nat_le width first) 1 (get_or ws (number_above way width first (place - 1)) []) c
+    → above + part (nat_le width first) 1 (get_or gs (number_above way width first place) []) c
+    ≡ 255 + part (nat_le width first) 1 (get_or ws (number_above way width first place) []) c
+    → right_above + part (nat_lt (place + 1) width && nat_le width first) 1 (get_or gs (number_above way width first (place + 1)) []) c
+    ≡ 255 + part (nat_lt (place + 1) width && nat_le width first) 1 (get_or ws (number_above way width first (place + 1)) []) c
+    → 7 * left + share_before way * left_above + 5 * above + share_next way * right_above + handed way width gs first place c ≡ 4080 + handed way width ws first place c
+together way ws gs width first place c left left_above above right_above a b d e =
+    ap (λ x. 7 * left + share_before way * left_above + 5 * above + share_next way * right_above + x) (in_parts way gs width first place c)
+    ∙ sum_of way left left_above above right_above _ _ _ _ _ _ _ _ a b d e
+    ∙ ap (λ x. 4080 + x) (sym (in_parts way ws width first place c))
+
+-- the same sum by another name
+pub in_channel : (h s f w : ℕ) → h ≡ s → s + f ≡ 4080 + w → h + f ≡ 4080 + w
+in_channel h s f w e all = omega arith
+
+-- no miss where a color is both wanted and found
+pub no_miss : (color : List ℕ) → IsMiss true color color (record { red = 255; green = 255; blue = 255; alpha = 255 })
+no_miss color = record { red = refl; green = refl; blue = refl; alpha = refl }
 
 -- the same miss, of the same pixel if it is there
-moved : (s t : Bool) (w f x g : List ℕ) (miss : Miss) → t ≡ s → (t ≡ true → x ≡ w) → (t ≡ true → g ≡ f) → IsMiss s w f miss → IsMiss t x g miss
+pub moved : (s t : Bool) (w f x g : List ℕ) (miss : Miss) → t ≡ s → (t ≡ true → x ≡ w) → (t ≡ true → g ≡ f) → IsMiss s w f miss → IsMiss t x g miss
 moved true true w f x g miss e a b h = subst (λ y. IsMiss true y g miss) (sym (a refl)) (subst (λ y. IsMiss true w y miss) (sym (b refl)) h)
-moved false false w f x g miss e a b h = record { red = h.red; green = h.green; blue = h.blue }
+moved false false w f x g miss e a b h = record { red = h.red; green = h.green; blue = h.blue; alpha = h.alpha }
 moved true false w f x g miss e a b h = cc
 moved false true w f x g miss e a b h = cc
 
-earlier : (ws : List (List ℕ)) (w : List ℕ) (i j : ℕ) → i ≡ j → j < length ws → get_or (ws ++ w ∷ []) i [] ≡ get_or ws j []
-earlier ws w i j e less = ap (λ n. get_or (ws ++ w ∷ []) n []) e ∙ get_or_append_left ws (w ∷ []) [] j less
-
-within : (k width : ℕ) → 0 < width → 0 < (k + 1) % width → k % width + 1 < width
-within k width some more = elim (cases_lt (k % width + 1) width) [
-  | inl b ↦ b
-  | inr b ↦ absurd (omega (arith, next_turn k width (k % width) refl (omega (arith, mod-lt k {m = width} some))))
-]
-
--- a pixel within a row has a pixel above if the one before it has one above on the right
-same_row : (k width : ℕ) → k % width + 1 < width → width ≤ k + 1 → width ≤ k
-same_row k width inside past = elim (cases_lt k width) [
-  | inl b ↦
-      let e : k % width ≡ k = mod-eq_of_lt b in
-      absurd (omega arith)
-  | inr b ↦ b
-]
-
--- where the color above pixel k on the right is kept
-pub above_kept : (k width column next : ℕ) → column ≡ k % width → column + 1 < width → width ≤ k → next ≡ (k + 1) % width
-    → (next ≡ (k - (width - 1)) % width) × (k - (width - 1) < k) × (k ≤ k - (width - 1) + width)
-above_kept k width column next e inside past is =
-    let here = turn_before k width column (width - 1) e (omega arith) (omega arith) (omega arith) (omega arith) in
-    let after : column + 1 ≡ (k + 1) % width = next_in_turn k width column e inside in
-    (omega (arith, here, after, is), omega arith, omega arith)
+-- a miss above a row is kept when one color comes after it
+kept_above : (way : DiffusionWay) (ws gs : List (List ℕ)) (w g : List ℕ) (width first p place : ℕ) (s t : Bool) (miss : Miss) → p < width → length ws ≡ first + place → length gs ≡ first + place
+    → t ≡ s → (t ≡ true → width ≤ first) → IsMiss s (get_or ws (number_above way width first p) []) (get_or gs (number_above way width first p) []) miss
+    → IsMiss t (get_or (ws ++ w ∷ []) (number_above way width first p) []) (get_or (gs ++ g ∷ []) (number_above way width first p) []) miss
+kept_above way ws gs w g width first p place s t miss inside many_wanted many_found e there h =
+    moved s t _ _ _ _ miss e
+    (λ y. get_or_append_left ws (w ∷ []) [] (number_above way width first p) (omega (arith, above_before way width first p inside (there y))))
+    (λ y. get_or_append_left gs (g ∷ []) [] (number_above way width first p) (omega (arith, above_before way width first p inside (there y)))) h
 
 -- what is near the next pixel of a row
-near_more : (ws gs : List (List ℕ)) (w g : List ℕ) (width k : ℕ) (near : Near) (left right_above : Miss) → 0 < width → length ws ≡ k → length gs ≡ k
-    → AreNear ws gs width k near → IsMissAbove ws gs width k right_above → IsMiss true w g left → 0 < (k + 1) % width
-    → AreNear (ws ++ w ∷ []) (gs ++ g ∷ []) width (k + 1) (record { left = left; left_above = near.above; above = right_above })
-near_more ws gs w g width k near left right_above some many_wanted many_found h above here more =
-    let inside : k % width + 1 < width = within k width some more in
-    let begun : nat_lt 0 ((k + 1) % width) ≡ true = lt-ltb 0 ((k + 1) % width) more in
-    let inner : nat_lt (k % width + 1) width ≡ true = lt-ltb (k % width + 1) width inside in
-    let last : k + 1 - 1 ≡ k = omega arith in
-    let row : nat_lt 0 ((k + 1) % width) && nat_lt width (k + 1) ≡ nat_le width k = rw begun (grind (arith, nat_tests)) in
-    let up : nat_le width (k + 1) ≡ nat_lt (k % width + 1) width && nat_le width k = rw inner (elim (cases_lt k width) [
-      | inl b ↦
-          let not : k + 1 < width = elim (cases_lt (k + 1) width) [ inl d ↦ d | inr d ↦ absurd (omega (arith, same_row k width inside d)) ] in
-          grind (arith, nat_tests)
-      | inr b ↦ grind (arith, nat_tests)
-    ]) in
+near_more : (way : DiffusionWay) (ws gs : List (List ℕ)) (w g : List ℕ) (width first place : ℕ) (near : Near) (left right_above : Miss)
+    → length ws ≡ first + place → length gs ≡ first + place → place + 1 < width
+    → AreNear way ws gs width first place near → IsMissAbove way ws gs width first place right_above → IsMiss true w g left
+    → AreNear way (ws ++ w ∷ []) (gs ++ g ∷ []) width first (place + 1) (record { left = left; left_above = near.above; above = right_above })
+near_more way ws gs w g width first place near left right_above many_wanted many_found inside h above here =
+    let begun : nat_lt 0 (place + 1) ≡ true = lt-ltb 0 (place + 1) (omega arith) in
+    let inner : nat_lt (place + 1) width ≡ true = lt-ltb (place + 1) width inside in
+    let last : first + (place + 1) - 1 ≡ first + place = omega arith in
+    let before : place + 1 - 1 ≡ place = omega arith in
+    let row : nat_lt 0 (place + 1) && nat_le width first ≡ nat_le width first = rw begun refl in
+    let up : nat_le width first ≡ nat_lt (place + 1) width && nat_le width first = rw inner refl in
     record {
-      left = moved true _ w g _ _ left begun (λ t. ap (λ n. get_or (ws ++ w ∷ []) n []) last ∙ get_or_push ws w [] k many_wanted)
-          (λ t. ap (λ n. get_or (gs ++ g ∷ []) n []) last ∙ get_or_push gs g [] k many_found) here;
-      left_above = moved (nat_le width k) _ (get_or ws (k - width) []) (get_or gs (k - width) []) _ _ near.above row
-          (λ t. let past : width ≤ k = leb-true width k (sym row ∙ t) in earlier ws w _ (k - width) (omega arith) (omega arith))
-          (λ t. let past : width ≤ k = leb-true width k (sym row ∙ t) in earlier gs g _ (k - width) (omega arith) (omega arith)) h.above;
-      above = moved (nat_lt (k % width + 1) width && nat_le width k) _ (get_or ws (k - (width - 1)) []) (get_or gs (k - (width - 1)) []) _ _ right_above up
-          (λ t. let past : width ≤ k = same_row k width inside (leb-true width (k + 1) t) in earlier ws w _ (k - (width - 1)) (omega arith) (omega arith))
-          (λ t. let past : width ≤ k = same_row k width inside (leb-true width (k + 1) t) in earlier gs g _ (k - (width - 1)) (omega arith) (omega arith)) above;
+      left = moved true _ w g _ _ left begun (λ t. ap (λ n. get_or (ws ++ w ∷ []) n []) last ∙ get_or_push ws w [] (first + place) many_wanted)
+          (λ t. ap (λ n. get_or (gs ++ g ∷ []) n []) last ∙ get_or_push gs g [] (first + place) many_found) here;
+      left_above = subst (λ q. IsMiss (nat_lt 0 (place + 1) && nat_le width first) (get_or (ws ++ w ∷ []) (number_above way width first q) [])
+          (get_or (gs ++ g ∷ []) (number_above way width first q) []) near.above) (sym before)
+          (kept_above way ws gs w g width first place place _ _ near.above (omega arith) many_wanted many_found row
+          (λ t. leb-true width first (sym row ∙ t)) h.above);
+      above = kept_above way ws gs w g width first (place + 1) place _ _ right_above inside many_wanted many_found up (λ t. leb-true width first t) above;
     }
 
-pub none_done : (entries : List (List ℕ)) (alpha kept width : ℕ) (pixels : List (List ℕ)) (wanted found : List Color) (near : Near)
-    → AreDone entries alpha kept width pixels 0 wanted found near []
-none_done entries alpha kept width pixels wanted found near = record {
+pub none_done : (color : (ℕ → ℕ) → List ℕ) (apart : List ℕ → List ℕ → ℕ) (way : DiffusionWay) (strength : ℕ) (entries : List (List ℕ)) (alpha kept width : ℕ) (pixels wanted found : List (List ℕ)) (near : Near) (indices : List ℕ) → 0 < width
+    → AreDone color apart way strength entries alpha kept width pixels 0 wanted found near indices
+none_done color apart way strength entries alpha kept width pixels wanted found near indices some = record {
   all_wanted = [];
   all_found = [];
+  along = [];
   diffused = none;
   many = refl;
   many_wanted = refl;
   many_found = refl;
-  last_wanted = λ j d before close. absurd (omega arith);
-  last_found = λ j d before close. absurd (omega arith);
+  last_wanted = record { row = λ p before inside. absurd (omega (arith, zero-mod width)); above = λ p after inside past. absurd (omega (arith, zero-mod width)) };
+  last_found = record { row = λ p before inside. absurd (omega (arith, zero-mod width)); above = λ p after inside past. absurd (omega (arith, zero-mod width)) };
   near_within = λ within. absurd (omega (arith, zero-mod width));
+  each = λ j before. absurd (omega arith);
 }
 
-module _ (entries : List (List ℕ)) (alpha kept width : ℕ) (pixels : List (List ℕ)) (k : ℕ) (wanted found : List Color) (near around : Near) (indices : List ℕ) (right_above left : Miss)
-    (some : 0 < width) (long_wanted : length wanted ≡ width) (long_found : length found ≡ width)
-    (h : AreDone entries alpha kept width pixels k wanted found near indices)
-    (is_around : AreNear h.all_wanted h.all_found width k around) (is_above : IsMissAbove h.all_wanted h.all_found width k right_above) where
-  pub clear_done : (p : Color) → numbers p ≡ black → IsMiss true (numbers p) (numbers p) left → alpha_of (get_or pixels k []) < alpha
-      → AreDone entries alpha kept width pixels (k + 1) (set wanted (k % width) p) (set found (k % width) p)
-      (record { left = left; left_above = around.above; above = right_above }) (indices ++ kept ∷ [])
-  clear_done p e missed below = record {
-    all_wanted = h.all_wanted ++ black ∷ [];
-    all_found = h.all_found ++ black ∷ [];
-    diffused = clear h.all_wanted h.all_found indices h.diffused (subst (λ n. alpha_of (get_or pixels n []) < alpha) (sym h.many) below);
-    many = omega (arith, length-append indices (kept ∷ []), h.many);
-    many_wanted = omega (arith, length-append h.all_wanted (black ∷ []), h.many_wanted);
-    many_found = omega (arith, length-append h.all_found (black ∷ []), h.many_found);
-    last_wanted = latest_more h.all_wanted black width k wanted p some h.many_wanted long_wanted e h.last_wanted;
-    last_found = latest_more h.all_found black width k found p some h.many_found long_found e h.last_found;
-    near_within = near_more h.all_wanted h.all_found black black width k around left right_above some h.many_wanted h.many_found is_around is_above
-        (subst (λ l. IsMiss true l l left) e missed);
-  }
-
-  pub shown_done : (p q : Color) (i : ℕ)
-      → ((ws gs : List (List ℕ)) → AreLatest ws width k wanted → AreLatest gs width k found → AreNear ws gs width k around
-      → IsMissAbove ws gs width k right_above → numbers p ≡ wanted_at width ws gs k (get_or pixels k []))
-      → alpha ≤ alpha_of (get_or pixels k []) → IsNearest entries (numbers p) i → numbers q ≡ get_or entries i []
-      → IsMiss true (numbers p) (numbers q) left
-      → AreDone entries alpha kept width pixels (k + 1) (set wanted (k % width) p) (set found (k % width) q)
-      (record { left = left; left_above = around.above; above = right_above }) (indices ++ i ∷ [])
-  shown_done p q i is above nearest entry missed =
-      let w : List ℕ = wanted_at width h.all_wanted h.all_found (length indices) (get_or pixels (length indices) []) in
-      let e : numbers p ≡ wanted_at width h.all_wanted h.all_found (length indices) (get_or pixels (length indices) []) =
-      is h.all_wanted h.all_found h.last_wanted h.last_found is_around is_above ∙ ap (λ n. wanted_at width h.all_wanted h.all_found n (get_or pixels n [])) (sym h.many) in
+module _ (color : (ℕ → ℕ) → List ℕ) (apart : List ℕ → List ℕ → ℕ) (way : DiffusionWay) (strength : ℕ) (entries : List (List ℕ)) (alpha kept width : ℕ) (pixels : List (List ℕ)) (k : ℕ)
+    (wanted found : List (List ℕ)) (near around : Near) (indices : List ℕ) (right_above left : Miss)
+    (some : 0 < width) (inside : in_picture way width k < length indices) (long_wanted : length wanted ≡ width) (long_found : length found ≡ width)
+    (h : AreDone color apart way strength entries alpha kept width pixels k wanted found near indices)
+    (is_around : AreNear way h.all_wanted h.all_found width (k - k % width) (k % width) around)
+    (is_above : IsMissAbove way h.all_wanted h.all_found width (k - k % width) (k % width) right_above) where
+  -- with a color that is wanted, one that is found, and an index more; the rows are put in the order of
+  -- the next pixel
+  more : (w g : List ℕ) (i : ℕ) (next_wanted next_found : List (List ℕ))
+      → IsDiffused color apart way strength entries alpha kept width pixels (h.all_wanted ++ w ∷ []) (h.all_found ++ g ∷ []) (h.along ++ i ∷ [])
+      → IsMiss true w g left
+      → ((ws : List (List ℕ)) → AreLatest way ws width (k - k % width) (k % width + 1) (set wanted (k % width) w)
+      → AreLatest way ws width (k + 1 - (k + 1) % width) ((k + 1) % width) next_wanted)
+      → ((gs : List (List ℕ)) → AreLatest way gs width (k - k % width) (k % width + 1) (set found (k % width) g)
+      → AreLatest way gs width (k + 1 - (k + 1) % width) ((k + 1) % width) next_found)
+      → AreDone color apart way strength entries alpha kept width pixels (k + 1) next_wanted next_found
+      (record { left = left; left_above = around.above; above = right_above }) (set indices (in_picture way width k) i)
+  more w g i next_wanted next_found diffused missed turned_wanted turned_found =
+      let here : k ≡ k - k % width + k % width = omega (arith, mod-le k width) in
+      let column : k % width < width = mod-lt k {m = width} some in
       record {
         all_wanted = h.all_wanted ++ w ∷ [];
-        all_found = h.all_found ++ get_or entries i [] ∷ [];
-        diffused = shown h.all_wanted h.all_found indices i h.diffused (subst (λ n. alpha ≤ alpha_of (get_or pixels n [])) (sym h.many) above)
-            (subst (λ c. IsNearest entries c i) e nearest);
-        many = omega (arith, length-append indices (i ∷ []), h.many);
+        all_found = h.all_found ++ g ∷ [];
+        along = h.along ++ i ∷ [];
+        diffused = diffused;
+        many = omega (arith, length-append h.along (i ∷ []), h.many);
         many_wanted = omega (arith, length-append h.all_wanted (w ∷ []), h.many_wanted);
-        many_found = omega (arith, length-append h.all_found (get_or entries i [] ∷ []), h.many_found);
-        last_wanted = latest_more h.all_wanted w width k wanted p some h.many_wanted long_wanted e h.last_wanted;
-        last_found = latest_more h.all_found (get_or entries i []) width k found q some h.many_found long_found entry h.last_found;
-        near_within = near_more h.all_wanted h.all_found w (get_or entries i []) width k around left right_above some h.many_wanted h.many_found is_around is_above
-            (subst (λ l. IsMiss true l (get_or entries i []) left) e (subst (λ l. IsMiss true (numbers p) l left) entry missed));
+        many_found = omega (arith, length-append h.all_found (g ∷ []), h.many_found);
+        last_wanted = turned_wanted (h.all_wanted ++ w ∷ [])
+            (latest_more way h.all_wanted w width (k - k % width) (k % width) wanted column (h.many_wanted ∙ here) long_wanted h.last_wanted);
+        last_found = turned_found (h.all_found ++ g ∷ [])
+            (latest_more way h.all_found g width (k - k % width) (k % width) found column (h.many_found ∙ here) long_found h.last_found);
+        near_within = λ within.
+            let on : k % width + 1 < width = goes_on k width some within in
+            let begin : k + 1 - (k + 1) % width ≡ k - k % width = same_begin k width on in
+            let place : (k + 1) % width ≡ k % width + 1 = sym (next_in_turn k width (k % width) refl on) in
+            subst (λ f. AreNear way (h.all_wanted ++ w ∷ []) (h.all_found ++ g ∷ []) width f ((k + 1) % width)
+            (record { left = left; left_above = around.above; above = right_above })) (sym begin)
+            (subst (λ p. AreNear way (h.all_wanted ++ w ∷ []) (h.all_found ++ g ∷ []) width (k - k % width) p
+            (record { left = left; left_above = around.above; above = right_above })) (sym place)
+            (near_more way h.all_wanted h.all_found w g width (k - k % width) (k % width) around left right_above (h.many_wanted ∙ here) (h.many_found ∙ here) on
+            is_around is_above missed));
+        each = λ j before. elim (cases_lt j k) [
+          | inl b ↦ get_or-set_other indices (in_picture way width k) (in_picture way width j) i 0 (places_apart way width j k some b)
+              ∙ h.each j b ∙ sym (get_or_append_left h.along (i ∷ []) 0 j (omega (arith, h.many)))
+          | inr b ↦
+              let e : k ≡ j = omega arith in
+              subst (λ n. get_or (set indices (in_picture way width k) i) (in_picture way width n) 0 ≡ get_or (h.along ++ i ∷ []) n 0) e
+              (get_or-set_same indices (in_picture way width k) i 0 inside ∙ sym (get_or_push h.along i 0 k h.many))
+        ];
       }
 
+  pub clear_done : (next_wanted next_found : List (List ℕ)) → IsMiss true (color (λ c. 0)) (color (λ c. 0)) left
+      → alpha_of (get_or pixels (in_picture way width k) []) < alpha
+      → ((ws : List (List ℕ)) → AreLatest way ws width (k - k % width) (k % width + 1) (set wanted (k % width) (color (λ c. 0)))
+      → AreLatest way ws width (k + 1 - (k + 1) % width) ((k + 1) % width) next_wanted)
+      → ((gs : List (List ℕ)) → AreLatest way gs width (k - k % width) (k % width + 1) (set found (k % width) (color (λ c. 0)))
+      → AreLatest way gs width (k + 1 - (k + 1) % width) ((k + 1) % width) next_found)
+      → AreDone color apart way strength entries alpha kept width pixels (k + 1) next_wanted next_found
+      (record { left = left; left_above = around.above; above = right_above }) (set indices (in_picture way width k) kept)
+  clear_done next_wanted next_found missed below turned_wanted turned_found =
+      more (color (λ c. 0)) (color (λ c. 0)) kept next_wanted next_found
+      (clear h.all_wanted h.all_found h.along h.diffused (subst (λ n. alpha_of (get_or pixels (in_picture way width n) []) < alpha) (sym h.many) below))
+      missed turned_wanted turned_found
+
+  pub shown_done : (w g : List ℕ) (i : ℕ) (next_wanted next_found : List (List ℕ))
+      → w ≡ wanted_at color way strength width h.all_wanted h.all_found (k - k % width) (k % width) (get_or pixels (in_picture way width k) [])
+      → alpha ≤ alpha_of (get_or pixels (in_picture way width k) []) → IsNearestBy apart entries w i → g ≡ get_or entries i [] → IsMiss true w g left
+      → ((ws : List (List ℕ)) → AreLatest way ws width (k - k % width) (k % width + 1) (set wanted (k % width) w)
+      → AreLatest way ws width (k + 1 - (k + 1) % width) ((k + 1) % width) next_wanted)
+      → ((gs : List (List ℕ)) → AreLatest way gs width (k - k % width) (k % width + 1) (set found (k % width) g)
+      → AreLatest way gs width (k + 1 - (k + 1) % width) ((k + 1) % width) next_found)
+      → AreDone color apart way strength entries alpha kept width pixels (k + 1) next_wanted next_found
+      (record { left = left; left_above = around.above; above = right_above }) (set indices (in_picture way width k) i)
+  shown_done w g i next_wanted next_found is above nearest entry missed turned_wanted turned_found =
+      more w g i next_wanted next_found
+      (subst (λ f. IsDiffused color apart way strength entries alpha kept width pixels (h.all_wanted ++ w ∷ []) (h.all_found ++ f ∷ []) (h.along ++ i ∷ [])) (sym entry)
+      (shown h.all_wanted h.all_found h.along w i h.diffused
+      (subst (λ n. alpha ≤ alpha_of (get_or pixels (in_picture way width n) [])) (sym h.many) above)
+      (subst (λ n. w ≡ wanted_at color way strength width h.all_wanted h.all_found (n - n % width) (n % width) (get_or pixels (in_picture way width n) [])) (sym h.many) is)
+      nearest))
+      missed turned_wanted turned_found
+
 -- the same lists are done alike
-pub alike : (entries : List (List ℕ)) (alpha kept width : ℕ) (pixels : List (List ℕ)) (k : ℕ) (ws vs gs fs : List Color) (near : Near) (is js : List ℕ)
-    → vs ≡ ws → fs ≡ gs → js ≡ is → AreDone entries alpha kept width pixels k ws gs near is → AreDone entries alpha kept width pixels k vs fs near js
-alike entries alpha kept width pixels k ws vs gs fs near is js e f g h =
-    subst (λ v. AreDone entries alpha kept width pixels k v fs near js) (sym e)
-    (subst (λ x. AreDone entries alpha kept width pixels k ws x near js) (sym f)
-    (subst (λ j. AreDone entries alpha kept width pixels k ws gs near j) (sym g) h))
+pub alike : (color : (ℕ → ℕ) → List ℕ) (apart : List ℕ → List ℕ → ℕ) (way : DiffusionWay) (strength : ℕ) (entries : List (List ℕ)) (alpha kept width : ℕ) (pixels : List (List ℕ)) (k : ℕ)
+    (ws gs : List (List ℕ)) (near : Near) (is js : List ℕ) → js ≡ is
+    → AreDone color apart way strength entries alpha kept width pixels k ws gs near is → AreDone color apart way strength entries alpha kept width pixels k ws gs near js
+alike color apart way strength entries alpha kept width pixels k ws gs near is js e h =
+    subst (λ j. AreDone color apart way strength entries alpha kept width pixels k ws gs near j) (sym e) h

@@ -23,6 +23,7 @@ pub mod SeenTable
 pub mod Splits
 pub mod Distinct
 pub mod Rows
+pub mod Ways
 pub mod Diffused
 pub mod Corners
 pub mod LaneSquares

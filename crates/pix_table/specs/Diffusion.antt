@@ -1,54 +1,93 @@
 -- Error diffusion by Floyd and Steinberg, in whole numbers.
-use Rattle.std.specs.Prelude.{◌≡◌, ℕ, ◌+◌, ◌-◌, ◌*◌, ◌/◌, ◌%◌, ◌<◌, ◌≤◌, min, List, [], ◌∷◌, ◌++◌, Bool, ◌&&◌, nat_lt, nat_le, length, slice_index, slice_index_or, if◌then◌else◌}
-use Rattle.pix_table.specs.Nearest.{IsNearest, alpha_of}
+use Rattle.std.specs.Prelude.{◌≡◌, ℕ, ◌+◌, ◌-◌, ◌*◌, ◌/◌, ◌%◌, ◌<◌, ◌≤◌, min, List, [], ◌∷◌, ◌++◌, Bool, false, ◌&&◌, nat_lt, nat_le, length, slice_index, slice_index_or, if◌then◌else◌}
+use Rattle.pix_table.specs.Nearest.{IsNearestBy, distance, alpha_of}
+use Rattle.pix_table.specs.declared.diffuse.DiffusionWay.{DiffusionWay}
+use Rattle.pix_table.specs.declared.diffuse.DiffusionWay.TheVariants.{Straight, Serpentine}
+
+-- a way goes through the rows from above. Its pixel k is in a row from right to left: in the
+-- serpentine way in every second row
+abbrev pub is_back : DiffusionWay → (width k : ℕ) → Bool
+is_back Straight width k = false
+is_back Serpentine width k = nat_lt 0 (k / width % 2)
+
+-- where pixel k of a way is in the picture
+abbrev pub in_picture : DiffusionWay → (width k : ℕ) → ℕ
+in_picture way width k = if is_back way width k then k - k % width + (width - (k % width + 1)) else k
+
+-- the number in a way of the pixel above a place of the row that begins with number `first`
+abbrev pub number_above : DiffusionWay → (width first place : ℕ) → ℕ
+number_above Straight width first place = first + place - width
+number_above Serpentine width first place = first - (place + 1)
 
 -- sixteenths of a color's number in a channel, where there is such a color
 abbrev pub part : Bool → ℕ → List ℕ → ℕ → ℕ
 part there sixteenths color channel = if there then sixteenths * slice_index color channel else 0
 
--- the share of pixel k, in rows of a width, in the colors before it: 7 sixteenths of the one to the
--- left, 1 of the one above that, 5 of the one above, and 3 of the one to the right of that
-abbrev pub handed : (width : ℕ) → List (List ℕ) → ℕ → ℕ → ℕ
-handed width colors k channel =
-    part (nat_lt 0 (k % width)) 7 (slice_index_or colors (k - 1) []) channel
-    + part (nat_lt 0 (k % width) && nat_lt width k) 1 (slice_index_or colors (k - (width + 1)) []) channel
-    + part (nat_le width k) 5 (slice_index_or colors (k - width) []) channel
-    + part (nat_lt (k % width + 1) width && nat_le width k) 3 (slice_index_or colors (k - (width - 1)) []) channel
+-- a pixel hands 3 sixteenths on to the pixel below that is behind it in the direction of its row, and 1
+-- to the one ahead. In the serpentine way the row above has the other direction: what a pixel gets from
+-- the one above the pixel before it, and from the one above the next
+abbrev pub share_before : DiffusionWay → ℕ
+share_before Straight = 1
+share_before Serpentine = 3
 
--- a number plus its share of the colors that were wanted less the colors that were found, rounded
--- to the nearest, ties up, and kept within 0 to 255
-abbrev pub corrected : (number wanted found : ℕ) → ℕ
-corrected number wanted found = min 255 ((16 * number + 8 + wanted - found) / 16)
+abbrev pub share_next : DiffusionWay → ℕ
+share_next Straight = 3
+share_next Serpentine = 1
 
--- the color that is wanted at pixel k: the pixel's own, plus its share of the errors before it
-abbrev pub wanted_at : (width : ℕ) → (wanted found : List (List ℕ)) → ℕ → List ℕ → List ℕ
-wanted_at width wanted found k pixel =
-    corrected (slice_index pixel 0) (handed width wanted k 0) (handed width found k 0)
-    ∷ corrected (slice_index pixel 1) (handed width wanted k 1) (handed width found k 1)
-    ∷ corrected (slice_index pixel 2) (handed width wanted k 2) (handed width found k 2) ∷ []
+-- the share in the colors before it of the pixel at a place of the row that begins with number `first`:
+-- 7 sixteenths of the one before it in the row, 5 of the one above, and 1 and 3 of the two beside that
+abbrev pub handed : DiffusionWay → (width : ℕ) → List (List ℕ) → (first place : ℕ) → ℕ → ℕ
+handed way width colors first place channel =
+    part (nat_lt 0 place) 7 (slice_index_or colors (first + place - 1) []) channel
+    + part (nat_lt 0 place && nat_le width first) (share_before way) (slice_index_or colors (number_above way width first (place - 1)) []) channel
+    + part (nat_le width first) 5 (slice_index_or colors (number_above way width first place) []) channel
+    + part (nat_lt (place + 1) width && nat_le width first) (share_next way) (slice_index_or colors (number_above way width first (place + 1)) []) channel
 
--- black, which stands for both colors of a pixel that hands on no error
-abbrev pub black : List ℕ
-black = 0 ∷ 0 ∷ 0 ∷ []
+-- a number plus so many sixteenths of its share of the colors that were wanted less the colors that
+-- were found, rounded to the nearest, ties up, and kept within 0 to 255
+abbrev pub corrected : (strength number wanted found : ℕ) → ℕ
+corrected strength number wanted found = min 255 ((256 * number + 128 + strength * wanted - strength * found) / 256)
 
--- the first pixels of rows, one after the other: what is wanted at each, what is found for it, and
--- its index. A pixel whose alpha is below one has the kept index, and hands on no error. Any other
--- has the index of the entry that is nearest to what is wanted, and finds that entry.
-pub data IsDiffused (entries : List (List ℕ)) (alpha kept width : ℕ) (pixels : List (List ℕ)) : List (List ℕ) → List (List ℕ) → List ℕ → Type 0 where
-  none : IsDiffused entries alpha kept width pixels [] [] []
-  clear : (wanted found : List (List ℕ)) (indices : List ℕ) → IsDiffused entries alpha kept width pixels wanted found indices
-      → alpha_of (slice_index_or pixels (length indices) []) < alpha
-      → IsDiffused entries alpha kept width pixels (wanted ++ black ∷ []) (found ++ black ∷ []) (indices ++ kept ∷ [])
-  shown : (wanted found : List (List ℕ)) (indices : List ℕ) (i : ℕ) → IsDiffused entries alpha kept width pixels wanted found indices
-      → alpha ≤ alpha_of (slice_index_or pixels (length indices) [])
-      → IsNearest entries (wanted_at width wanted found (length indices) (slice_index_or pixels (length indices) [])) i
-      → IsDiffused entries alpha kept width pixels
-      (wanted ++ wanted_at width wanted found (length indices) (slice_index_or pixels (length indices) []) ∷ [])
-      (found ++ slice_index_or entries i [] ∷ []) (indices ++ i ∷ [])
+-- the color of a number for each channel
+abbrev pub rgb_of : (ℕ → ℕ) → List ℕ
+rgb_of number = number 0 ∷ number 1 ∷ number 2 ∷ []
 
--- the indices of all pixels of rows of a width by error diffusion
-pub record AreDiffused (entries : List (List ℕ)) (alpha kept width : ℕ) (pixels : List (List ℕ)) (indices : List ℕ) : Type 0 where
+-- the color that is wanted at a place: the pixel's own, plus its share of the errors before it
+abbrev pub wanted_at : ((ℕ → ℕ) → List ℕ) → DiffusionWay → (strength width : ℕ) → (wanted found : List (List ℕ)) → (first place : ℕ) → List ℕ → List ℕ
+wanted_at color way strength width wanted found first place pixel =
+    color (λ channel. corrected strength (slice_index pixel channel) (handed way width wanted first place channel) (handed way width found first place channel))
+
+-- the first pixels of a way through rows, one after the other: what is wanted at each, what is found
+-- for it, and its index. A pixel whose alpha is below one has the kept index, and hands on no error:
+-- both colors are 0. Any other has the index of the entry that is nearest to what is wanted, and finds
+-- that entry.
+pub data IsDiffused (color : (ℕ → ℕ) → List ℕ) (apart : List ℕ → List ℕ → ℕ) (way : DiffusionWay) (strength : ℕ) (entries : List (List ℕ)) (alpha kept width : ℕ) (pixels : List (List ℕ)) : List (List ℕ) → List (List ℕ) → List ℕ → Type 0 where
+  none : IsDiffused color apart way strength entries alpha kept width pixels [] [] []
+  clear : (wanted found : List (List ℕ)) (indices : List ℕ) → IsDiffused color apart way strength entries alpha kept width pixels wanted found indices
+      → alpha_of (slice_index_or pixels (in_picture way width (length indices)) []) < alpha
+      → IsDiffused color apart way strength entries alpha kept width pixels
+      (wanted ++ color (λ channel. 0) ∷ []) (found ++ color (λ channel. 0) ∷ []) (indices ++ kept ∷ [])
+  shown : (wanted found : List (List ℕ)) (indices : List ℕ) (w : List ℕ) (i : ℕ) → IsDiffused color apart way strength entries alpha kept width pixels wanted found indices
+      → alpha ≤ alpha_of (slice_index_or pixels (in_picture way width (length indices)) [])
+      → w ≡ wanted_at color way strength width wanted found (length indices - length indices % width) (length indices % width)
+      (slice_index_or pixels (in_picture way width (length indices)) [])
+      → IsNearestBy apart entries w i
+      → IsDiffused color apart way strength entries alpha kept width pixels (wanted ++ w ∷ []) (found ++ slice_index_or entries i [] ∷ []) (indices ++ i ∷ [])
+
+-- the indices of all pixels of rows of a width: those of a way through them
+pub record IsWayThrough (color : (ℕ → ℕ) → List ℕ) (apart : List ℕ → List ℕ → ℕ) (way : DiffusionWay) (strength : ℕ) (entries : List (List ℕ)) (alpha kept width : ℕ) (pixels : List (List ℕ)) (indices : List ℕ) : Type 0 where
   pub wanted : List (List ℕ)
   pub found : List (List ℕ)
-  pub diffused : IsDiffused entries alpha kept width pixels wanted found indices
+  pub along : List ℕ
+  pub diffused : IsDiffused color apart way strength entries alpha kept width pixels wanted found along
+  pub whole : length along ≡ length pixels
   pub many : length indices ≡ length pixels
+  pub each : (k : ℕ) → k < length pixels → slice_index indices (in_picture way width k) ≡ slice_index along k
+
+-- the indices of all pixels by error diffusion, in a way and with so many sixteenths of the errors
+abbrev pub AreDiffusedBy : DiffusionWay → (strength : ℕ) (entries : List (List ℕ)) (alpha kept width : ℕ) (pixels : List (List ℕ)) (indices : List ℕ) → Type 0
+AreDiffusedBy way strength entries alpha kept width pixels indices = IsWayThrough rgb_of distance way strength entries alpha kept width pixels indices
+
+-- the same from left to right in each row, with the whole errors
+abbrev pub AreDiffused : (entries : List (List ℕ)) (alpha kept width : ℕ) (pixels : List (List ℕ)) (indices : List ℕ) → Type 0
+AreDiffused entries alpha kept width pixels indices = AreDiffusedBy Straight 16 entries alpha kept width pixels indices

@@ -1,12 +1,14 @@
 //! Error diffusion by Floyd and Steinberg, in whole numbers.
 ghost use Rattle.std.specs.Prelude.{◌≡◌, ℕ, ◌+◌, ◌-◌, ◌*◌, ◌%◌, ◌^◌, ◌<◌, ◌≤◌, List, [], length, map, true, slice_index_or, MatchOption};
-ghost use Rattle.pix_table.specs.Nearest.{numbers};
-ghost use Rattle.pix_table.specs.Diffusion.{AreDiffused, corrected, wanted_at};
-ghost use Rattle.pix_table.specs.Done.{AreLatest, IsMiss, IsMissAbove, AreNear, AreDone};
+ghost use Rattle.pix_table.specs.Diffusion.{AreDiffusedBy, IsWayThrough, in_picture, is_back};
+ghost use Rattle.pix_table.specs.Done.{AreLatest, AreNear, IsMiss, IsMissAbove};
+ghost use Rattle.pix_table.specs.declared.diffuse.DiffusionWay.{DiffusionWay};
+ghost use Rattle.pix_table.specs.declared.diffuse.DiffusionWay.TheVariants.{Serpentine};
 
 use crate::color::{Color, TableColor, TablePixel};
 use crate::matcher::visit_nearest;
 use crate::nearest_search::{NearestSearch, SearchVisitor};
+use crate::spread::{FindsNearest, Miss, NO_MISS, Near, ShownAs, Spread};
 
 /// How the pixels of a picture are indexed by error diffusion.
 #[derive(Clone, Copy, Debug, PartialEq, Eq)]
@@ -17,24 +19,20 @@ pub struct Diffusion {
     pub alpha: u8,
     /// The index of those pixels.
     pub kept: u8,
+    /// How many sixteenths of the errors are handed on: at most 16.
+    pub strength: u8,
+    /// In which order the pixels of a row are taken.
+    pub way: DiffusionWay,
 }
 
-/// What was wanted at a pixel less what was found for it, in each channel. It is stored with 255
-/// added, so that it is not below zero.
-#[derive(Clone, Copy)]
-struct Miss {
-    red: u16,
-    green: u16,
-    blue: u16,
-}
-
-/// The misses at three of the four pixels that hand on errors to a pixel. The fourth is above it on
-/// the right.
-#[derive(Clone, Copy)]
-struct Near {
-    left: Miss,
-    left_above: Miss,
-    above: Miss,
+/// A way through the rows of a picture, which are taken from above.
+#[derive(Clone, Copy, Debug, PartialEq, Eq)]
+pub enum DiffusionWay {
+    /// Each row from left to right.
+    Straight,
+    /// The first row from left to right, the second from right to left, and so on in turn. In a row
+    /// from right to left the shares are mirrored too.
+    Serpentine,
 }
 
 /// Returns how many colors of work memory [`diffuse_pixels`] takes for rows of this many pixels,
@@ -49,11 +47,13 @@ pub fn diffusion_work(width: usize) -> Option<usize>
 /// to the pixel's color plus its share of the errors of the pixels before it.
 ///
 /// The pixels are in rows, from left to right and from above. The error of a pixel is what was
-/// wanted there less the entry that was found. The pixel on the right gets 7 sixteenths of it, the
-/// one below on the left 3, the one below 5, and the one below on the right 1.
+/// wanted there less the entry that was found. The next pixel of the row gets 7 sixteenths of it,
+/// the one below the pixel before it 3, the one below it 5, and the one below the next 1. Each gets
+/// `how.strength` sixteenths of its share.
 ///
-/// Condition: there is at least one entry and at most 256, a row has a pixel, there are as many
-/// indices as pixels, and `work` has four rows of colors.
+/// Condition: there is at least one entry and at most 256, a row has a pixel, at most 16 sixteenths
+/// are handed on, there are as many indices as pixels, and `work` has four rows of colors. In the
+/// serpentine way the rows are whole.
 pub fn diffuse_pixels<C: TableColor, P: TablePixel>(
     entries: &[C],
     pixels: &[P],
@@ -64,10 +64,12 @@ pub fn diffuse_pixels<C: TableColor, P: TablePixel>(
     requires some { 0 < length entries.now }
     requires few_entries { length entries.now ≤ 256 }
     requires row { 0 < how.width }
+    requires strength { how.strength ≤ 16 }
+    requires whole { how.way ≡ Serpentine → length pixels.now % how.width ≡ 0 }
     requires work { length work.old ≡ 4 * how.width }
     requires many { length indices.old ≡ length pixels.now }
-    ensures { AreDiffused (map C.channels entries.now) how.alpha how.kept how.width
-        (map P.values pixels.now) indices.new }
+    ensures { AreDiffusedBy how.way how.strength (map C.channels entries.now) how.alpha how.kept
+        how.width (map P.values pixels.now) indices.new }
 {
     let diffusing = Diffusing {
         entries,
@@ -87,12 +89,15 @@ struct Diffusing<'a, C, P> {
 
 impl<C: TableColor, P: TablePixel> SearchVisitor<u8> for Diffusing<'_, C, P> {
     ghost can_visit = { λ diffusing entries count work. (0 < diffusing.how.width)
+        × (diffusing.how.strength ≤ 16)
+        × (diffusing.how.way ≡ Serpentine
+        → length diffusing.pixels.now % diffusing.how.width ≡ 0)
         × (entries ≡ map C.channels diffusing.entries.now)
         × (work ≡ 4 * diffusing.how.width) × (count ≡ length diffusing.pixels.now) };
 
     ghost visits = { λ diffusing entries old new. entries ≡ map C.channels diffusing.entries.now
-        → AreDiffused entries diffusing.how.alpha diffusing.how.kept diffusing.how.width
-        (map P.values diffusing.pixels.now) new };
+        → AreDiffusedBy diffusing.how.way diffusing.how.strength entries diffusing.how.alpha
+        diffusing.how.kept diffusing.how.width (map P.values diffusing.pixels.now) new };
 
     // Out of line. Where it is inlined, a matcher is put together on the stack beside its place.
     #[inline(never)]
@@ -112,52 +117,57 @@ impl<C: TableColor, P: TablePixel> SearchVisitor<u8> for Diffusing<'_, C, P> {
 }
 
 /// Does it with a row of the colors that were last wanted, and a row of those that were last found.
-fn diffuse_all<N: NearestSearch, C: TableColor, P: TablePixel>(
+pub(crate) fn diffuse_all<S, N, C, P>(
     search: &mut N,
     entries: &[C],
     pixels: &[P],
     how: Diffusion,
-    wanted: &mut [Color],
-    found: &mut [Color],
+    wanted: &mut [S],
+    found: &mut [S],
     indices: &mut [u8],
 )
+where
+    S: Spread,
+    N: FindsNearest<S>,
+    C: ShownAs<S>,
+    P: TablePixel,
     requires row { 0 < how.width }
+    requires strength { how.strength ≤ 16 }
+    requires whole { how.way ≡ Serpentine → length pixels.now % how.width ≡ 0 }
     requires wanted { length wanted.old ≡ how.width }
     requires found { length found.old ≡ how.width }
     requires many { length indices.old ≡ length pixels.now }
-    requires entries { N.finds search.old (map C.channels entries.now) }
-    ensures { AreDiffused (map C.channels entries.now) how.alpha how.kept how.width
-        (map P.values pixels.now) indices.new }
+    requires entries { N.among search.old (map C.shown entries.now) }
+    ensures { IsWayThrough S.of_channels S.apart how.way how.strength (map C.shown entries.now)
+        how.alpha how.kept how.width (map (λ pixel. S.given (P.values pixel)) pixels.now)
+        indices.new }
 {
-    let black = Color {
-        red: 0,
-        green: 0,
-        blue: 0,
-    };
-    let none = missed(black, black);
+    let black = S::none();
     let mut near = Near {
-        left: none,
-        left_above: none,
-        above: none,
+        left: NO_MISS,
+        left_above: NO_MISS,
+        above: NO_MISS,
     };
     let mut column = 0;
+    let mut back = false;
     for k in 0..pixels.len() {
-        let around = begun(near, wanted, found, how.width, k, column);
-        let right_above = right_above(wanted, found, how.width, k, column);
-        let clear = pixels[k].alpha() < how.alpha;
-        let mut left = none;
+        let at = place_of(how, back, k, column);
+        let around = begun(near, wanted, found, how, k, column);
+        let right_above = right_above(wanted, found, how, k, column);
+        let clear = pixels[at].alpha() < how.alpha;
+        let mut left = NO_MISS;
         if clear {
-            indices[k] = how.kept;
+            indices[at] = how.kept;
             wanted[column] = black;
             found[column] = black;
         } else {
-            let color = wanted_at(pixels[k], around, right_above);
-            let index = search.nearest_entry(color);
-            let entry = entries[usize::from(index)].color();
-            indices[k] = index;
+            let color = S::wanted(pixels[at], how, around, right_above);
+            let index = search.find(color);
+            let entry = entries[usize::from(index)].shown();
+            indices[at] = index;
             wanted[column] = color;
             found[column] = entry;
-            left = missed(color, entry);
+            left = color.missed(entry);
         }
         near = Near {
             left,
@@ -165,143 +175,93 @@ fn diffuse_all<N: NearestSearch, C: TableColor, P: TablePixel>(
             above: right_above,
         };
         column = next_place(column, how.width);
+        back = turned(how, back, k, column, wanted, found);
+    }
+}
+
+/// Returns where the pixel of number `k` in a way is in the picture.
+#[inline(always)]
+fn place_of(how: Diffusion, back: bool, k: usize, column: usize) -> usize
+    requires row { 0 < how.width }
+    requires column { column ≡ k % how.width }
+    requires back { back ≡ is_back how.way how.width k }
+    requires few { in_picture how.way how.width k < 2 ^ 64 }
+    ensures { result ≡ in_picture how.way how.width k }
+{
+    if back {
+        k - column + (how.width - (column + 1))
+    } else {
+        k
     }
 }
 
 /// Returns the misses around pixel `k`. At the start of a row they are those of the row above, and
 /// else those in `near`.
 #[inline(always)]
-fn begun(
+fn begun<S: Spread>(
     near: Near,
-    wanted: &[Color],
-    found: &[Color],
-    width: usize,
+    wanted: &[S],
+    found: &[S],
+    how: Diffusion,
     k: usize,
     column: usize,
 ) -> Near
-    requires row { 0 < width }
-    requires column { column ≡ k % width }
-    requires wanted { length wanted.now ≡ width }
-    requires found { length found.now ≡ width }
-    ensures { (ws gs : List (List ℕ)) → AreLatest ws width k wanted.now
-        → AreLatest gs width k found.now
-        → (0 < k % width → AreNear ws gs width k near)
-        → AreNear ws gs width k result }
+    requires row { 0 < how.width }
+    requires column { column ≡ k % how.width }
+    requires wanted { length wanted.now ≡ how.width }
+    requires found { length found.now ≡ how.width }
+    ensures { (ws gs : List (List ℕ))
+        → AreLatest how.way ws how.width (k - column) column (map S.spread wanted.now)
+        → AreLatest how.way gs how.width (k - column) column (map S.spread found.now)
+        → (0 < column → AreNear how.way ws gs how.width (k - column) column near)
+        → AreNear how.way ws gs how.width (k - column) column result }
 {
     if column > 0 {
         return near;
     }
-    let none = Miss {
-        red: 255,
-        green: 255,
-        blue: 255,
-    };
     Near {
-        left: none,
-        left_above: none,
-        above: missed_at(wanted, found, width <= k, column),
+        left: NO_MISS,
+        left_above: NO_MISS,
+        above: missed_at(wanted, found, how.width <= k, column),
     }
 }
 
-/// Returns the miss of the pixel above pixel `k` on the right.
+/// Returns the miss of the pixel above the next one.
 #[inline(always)]
-fn right_above(wanted: &[Color], found: &[Color], width: usize, k: usize, column: usize) -> Miss
-    requires row { 0 < width }
-    requires column { column ≡ k % width }
-    requires wanted { length wanted.now ≡ width }
-    requires found { length found.now ≡ width }
-    ensures { (ws gs : List (List ℕ)) → AreLatest ws width k wanted.now
-        → AreLatest gs width k found.now → IsMissAbove ws gs width k result }
+fn right_above<S: Spread>(
+    wanted: &[S],
+    found: &[S],
+    how: Diffusion,
+    k: usize,
+    column: usize,
+) -> Miss
+    requires row { 0 < how.width }
+    requires column { column ≡ k % how.width }
+    requires wanted { length wanted.now ≡ how.width }
+    requires found { length found.now ≡ how.width }
+    ensures { (ws gs : List (List ℕ))
+        → AreLatest how.way ws how.width (k - column) column (map S.spread wanted.now)
+        → AreLatest how.way gs how.width (k - column) column (map S.spread found.now)
+        → IsMissAbove how.way ws gs how.width (k - column) column result }
 {
-    let above = width <= k;
-    let there = column + 1 < width && above;
-    missed_at(wanted, found, there, next_place(column, width))
+    let above = how.width <= k;
+    let there = column + 1 < how.width && above;
+    missed_at(wanted, found, there, next_place(column, how.width))
 }
 
 /// Returns the miss of the pixel whose colors are kept at a place, if there is one.
 #[inline(always)]
-fn missed_at(wanted: &[Color], found: &[Color], there: bool, at: usize) -> Miss
+fn missed_at<S: Spread>(wanted: &[S], found: &[S], there: bool, at: usize) -> Miss
     requires wanted { at < length wanted.now }
     requires found { at < length found.now }
-    ensures { (ws gs : List (List ℕ)) (width k j : ℕ) → AreLatest ws width k wanted.now
-        → AreLatest gs width k found.now
-        → (there ≡ true → (at ≡ j % width) × (j < k) × (k ≤ j + width))
-        → IsMiss there (slice_index_or ws j []) (slice_index_or gs j []) result }
+    ensures { IsMiss there (slice_index_or (map S.spread wanted.now) at [])
+        (slice_index_or (map S.spread found.now) at []) result }
 {
     if there {
-        missed(wanted[at], found[at])
+        wanted[at].missed(found[at])
     } else {
-        Miss {
-            red: 255,
-            green: 255,
-            blue: 255,
-        }
+        NO_MISS
     }
-}
-
-/// Returns the miss of a pixel for which these colors were wanted and found.
-#[inline(always)]
-fn missed(wanted: Color, found: Color) -> Miss
-    ensures { IsMiss true (numbers wanted) (numbers found) result }
-{
-    Miss {
-        red: 255 + u16::from(wanted.red) - u16::from(found.red),
-        green: 255 + u16::from(wanted.green) - u16::from(found.green),
-        blue: 255 + u16::from(wanted.blue) - u16::from(found.blue),
-    }
-}
-
-/// Returns the color that is wanted at a pixel with these misses around it.
-#[inline(always)]
-fn wanted_at<P: TablePixel>(pixel: P, near: Near, right_above: Miss) -> Color
-    ensures { (ws gs : List (List ℕ)) (width k : ℕ) → AreNear ws gs width k near
-        → IsMissAbove ws gs width k right_above
-        → numbers result ≡ wanted_at width ws gs k (P.values pixel) }
-{
-    let Near {
-        left,
-        left_above,
-        above,
-    } = near;
-    let own = pixel.rgb();
-    Color {
-        red: corrected(
-            own.red,
-            handed(left.red, left_above.red, above.red, right_above.red),
-        ),
-        green: corrected(
-            own.green,
-            handed(left.green, left_above.green, above.green, right_above.green),
-        ),
-        blue: corrected(
-            own.blue,
-            handed(left.blue, left_above.blue, above.blue, right_above.blue),
-        ),
-    }
-}
-
-/// Returns a pixel's share in a channel of the misses around it, in sixteenths.
-#[inline(always)]
-fn handed(left: u16, left_above: u16, above: u16, right_above: u16) -> u32
-    ensures sum { result ≡ 7 * left + left_above + 5 * above + 3 * right_above }
-    ensures few { result ≤ 1048560 }
-{
-    7 * u32::from(left) + u32::from(left_above) + 5 * u32::from(above) + 3 * u32::from(right_above)
-}
-
-/// Returns a number plus its share, in sixteenths, of misses that are 255 too great.
-#[inline(always)]
-fn corrected(number: u8, handed: u32) -> u8
-    requires { handed ≤ 1048560 }
-    ensures { (wanted found : ℕ) → handed + found ≡ 4080 + wanted
-        → result ≡ corrected number wanted found }
-{
-    let sum = 16 * u32::from(number) + 8 + handed;
-    if sum <= 4080 {
-        return 0;
-    }
-    let rounded = (sum - 4080) / 16;
-    if rounded > 255 { 255 } else { rounded as u8 }
 }
 
 /// Returns the place after one, which is the first one after the last.
@@ -312,4 +272,103 @@ fn next_place(place: usize, len: usize) -> usize
     ensures next { (k : ℕ) → place ≡ k % len → result ≡ (k + 1) % len }
 {
     if place + 1 < len { place + 1 } else { 0 }
+}
+
+/// Returns whether the next pixel is in a row from right to left. Where a row begins that goes the
+/// other way than the one before it, the colors of that one are put in the new order.
+#[inline(always)]
+fn turned<S: Spread>(
+    how: Diffusion,
+    back: bool,
+    k: usize,
+    next: usize,
+    wanted: &mut [S],
+    found: &mut [S],
+) -> bool
+    requires row { 0 < how.width }
+    requires next { next ≡ (k + 1) % how.width }
+    requires back { back ≡ is_back how.way how.width k }
+    requires wanted { length wanted.old ≡ how.width }
+    requires found { length found.old ≡ how.width }
+    ensures back { result ≡ is_back how.way how.width (k + 1) }
+    ensures long_wanted { length wanted.new ≡ how.width }
+    ensures long_found { length found.new ≡ how.width }
+    ensures wanted { (ws : List (List ℕ)) → AreLatest how.way ws how.width (k - k % how.width)
+        (k % how.width + 1) (map S.spread wanted.old) → AreLatest how.way ws how.width
+        (k + 1 - next) next (map S.spread wanted.new) }
+    ensures found { (gs : List (List ℕ)) → AreLatest how.way gs how.width (k - k % how.width)
+        (k % how.width + 1) (map S.spread found.old) → AreLatest how.way gs how.width
+        (k + 1 - next) next (map S.spread found.new) }
+{
+    if next > 0 {
+        return back;
+    }
+    match how.way {
+        DiffusionWay::Straight => false,
+        DiffusionWay::Serpentine => {
+            wanted.reverse();
+            found.reverse();
+            !back
+        }
+    }
+}
+
+#[cfg(test)]
+mod tests {
+    use super::*;
+
+    /// Returns a gray.
+    fn gray(value: u8) -> Color {
+        Color {
+            red: value,
+            green: value,
+            blue: value,
+        }
+    }
+
+    /// Returns the indices of three rows of grays, to black and white.
+    fn indices(strength: u8, way: DiffusionWay) -> [u8; 9]
+        requires { strength ≤ 16 }
+    {
+        let pixels = [
+            gray(130),
+            gray(90),
+            gray(80),
+            gray(60),
+            gray(80),
+            gray(70),
+            gray(110),
+            gray(80),
+            gray(130),
+        ];
+        let how = Diffusion {
+            width: 3,
+            alpha: 0,
+            kept: 0,
+            strength,
+            way,
+        };
+        let mut indices = [9; 9];
+        let mut work = [Color::default(); 12];
+        diffuse_pixels(&[gray(0), gray(255)], &pixels, how, &mut work, &mut indices);
+        indices
+    }
+
+    #[test]
+    fn hands_errors_on(rt: HostRuntime) {
+        let whole = indices(16, DiffusionWay::Straight);
+        assert_eq!(rt; whole, [1, 0, 0, 0, 0, 1, 1, 0, 0]);
+        let half = indices(8, DiffusionWay::Straight);
+        assert_eq!(rt; half, [1, 0, 0, 0, 0, 0, 0, 1, 0]);
+        let none = indices(0, DiffusionWay::Straight);
+        assert_eq!(rt; none, [1, 0, 0, 0, 0, 0, 0, 0, 1]);
+    }
+
+    #[test]
+    fn turns_at_each_row(rt: HostRuntime) {
+        let whole = indices(16, DiffusionWay::Serpentine);
+        assert_eq!(rt; whole, [1, 0, 0, 0, 1, 0, 0, 0, 1]);
+        let half = indices(8, DiffusionWay::Serpentine);
+        assert_eq!(rt; half, [1, 0, 0, 0, 0, 0, 0, 1, 1]);
+    }
 }

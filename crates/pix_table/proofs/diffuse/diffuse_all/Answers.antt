@@ -1,73 +1,151 @@
--- Of `diffuse_all`: its clause, and that the invariant of its loop over `k` holds at first and
--- after each turn.
-use Rattle.std.proofs.Common.{◌≡◌, ◌+◌, ◌%◌, ◌<◌, ◌≤◌, ℕ, [], true, length, map, take, set, get_or, refl, arith, sym, ap, ◌∙◌, subst}
+-- Of `diffuse_all`: that its places are within the picture, and that the invariant of its loop over
+-- `k` holds at first and after each turn.
+use Rattle.std.proofs.Common.{◌≡◌, ◌+◌, ◌-◌, ◌%◌, ◌<◌, ◌≤◌, ℕ, [], true, length, map, set, get_or, refl, arith, sym, ap, ◌∙◌, subst}
 use Rattle.std.proofs.Math.Nat.{zero-mod}
-use Rattle.std.proofs.lemmas.List.{length-map, get_or-map, take_more_set}
-use Rattle.pix_table.specs.Nearest.{numbers, alpha_of, IsNearest}
-use Rattle.pix_table.specs.Diffusion.{wanted_at}
-use Rattle.pix_table.specs.Done.{IsMiss}
-use Rattle.pix_table.specs.declared.color.Color.{Color}
-use Rattle.pix_table.proofs.Diffused.{none_done, clear_done, shown_done, alike}
+use Rattle.std.proofs.lemmas.List.{length-map, get_or-map}
+use Rattle.pix_table.specs.Nearest.{IsNearestBy, alpha_of}
+use Rattle.pix_table.specs.Diffusion.{in_picture, wanted_at}
+use Rattle.pix_table.specs.Done.{AreLatest, AreNear, IsMiss, IsMissAbove}
+use Rattle.pix_table.proofs.Diffused.{none_done, no_miss, clear_done, shown_done, alike, turned_as}
+use Rattle.pix_table.proofs.Ways.{begins, in_picture_below}
 use Rattle.pix_table.proofs.diffuse.diffuse_all.Goals as goal
 use Rattle.pix_table.proofs.diffuse.diffuse_all.Goals.{then-clear, else-clear}
 
 pub loop-k-init : goal.loop-k-init
-loop-k-init g c = record { done = none_done _ _ _ _ _ _ _ _; same = c.requires.entries; column = sym (zero-mod c.args.how.width) }
+loop-k-init g c = record {
+  done = none_done _ _ _ _ _ _ _ _ _ _ _ _ _ c.requires.row;
+  same = c.requires.entries;
+  column = sym (zero-mod c.args.how.width);
+  back = begins c.args.how.way c.args.how.width;
+}
+
+pub place_of-at-requires-clause-few : goal.place_of-at-requires-clause-few
+place_of-at-requires-clause-few g c =
+    omega (arith, in_picture_below c.args.how.way c.args.how.width (length c.args.pixels.now) c.loop-k.k c.requires.row c.loop-k-test.true c.requires.whole)
+
+pub offset_bounds-pixels-at : goal.offset_bounds-pixels-at
+offset_bounds-pixels-at g c =
+    omega (arith, c.place_of-at.ensures, in_picture_below c.args.how.way c.args.how.width (length c.args.pixels.now) c.loop-k.k c.requires.row c.loop-k-test.true c.requires.whole)
+
+pub bounds-pixels-at : goal.bounds-pixels-at
+bounds-pixels-at g c =
+    omega (arith, c.place_of-at.ensures, in_picture_below c.args.how.way c.args.how.width (length c.args.pixels.now) c.loop-k.k c.requires.row c.loop-k-test.true c.requires.whole)
+
+pub bounds-indices-at : goal.bounds-indices-at
+bounds-indices-at g c =
+    omega (
+      arith,
+      c.place_of-at.ensures,
+      c.loop-k.auto.indices,
+      c.requires.many,
+      in_picture_below c.args.how.way c.args.how.width (length c.args.pixels.now) c.loop-k.k c.requires.row c.loop-k-test.true c.requires.whole,
+    )
+
+pub offset_bounds-pixels-at-else-clear : goal.offset_bounds-pixels-at-else-clear
+offset_bounds-pixels-at-else-clear g c =
+    omega (arith, c.place_of-at.ensures, in_picture_below c.args.how.way c.args.how.width (length c.args.pixels.now) c.loop-k.k c.requires.row c.loop-k-test.true c.requires.whole)
+
+pub bounds-pixels-at-else-clear : goal.bounds-pixels-at-else-clear
+bounds-pixels-at-else-clear g c =
+    omega (arith, c.place_of-at.ensures, in_picture_below c.args.how.way c.args.how.width (length c.args.pixels.now) c.loop-k.k c.requires.row c.loop-k-test.true c.requires.whole)
+
+pub offset_bounds-entries-from : goal.offset_bounds-entries-from
+offset_bounds-entries-from g c =
+    let nearest = c.find-index.ensures.nearest (map g.C.ShownAs.shown c.args.entries.now) c.loop-k.invariant.same in
+    omega (arith, c.from.ensures, nearest.stands, length-map c.args.entries.now g.C.ShownAs.shown)
+
+pub bounds-entries-from : goal.bounds-entries-from
+bounds-entries-from g c =
+    let nearest = c.find-index.ensures.nearest (map g.C.ShownAs.shown c.args.entries.now) c.loop-k.invariant.same in
+    omega (arith, c.from.ensures, nearest.stands, length-map c.args.entries.now g.C.ShownAs.shown)
+
+pub bounds-indices-at-else-clear : goal.bounds-indices-at-else-clear
+bounds-indices-at-else-clear g c =
+    omega (
+      arith,
+      c.place_of-at.ensures,
+      c.loop-k.auto.indices,
+      c.requires.many,
+      in_picture_below c.args.how.way c.args.how.width (length c.args.pixels.now) c.loop-k.k c.requires.row c.loop-k-test.true c.requires.whole,
+    )
 
 pub loop-k-preserved : goal.loop-k-preserved
 loop-k-preserved g c =
+    let way = c.args.how.way in
+    let width : ℕ = c.args.how.width in
     let k : ℕ = c.loop-k.k in
-    let entries = map g.C.TableColor.channels c.args.entries.now in
-    let black : Color = record { red = 0; green = 0; blue = 0 } in
-    let pixel : g.P.TablePixel.values c.index-pixels-k.result ≡ get_or (map g.P.TablePixel.values c.args.pixels.now) c.loop-k.k [] =
-    ap g.P.TablePixel.values c.index-pixels-k.is
-    ∙ sym (get_or-map g.P.TablePixel.values c.args.pixels.now c.loop-k.k c.index-pixels-k.result [] c.loop-k-test.true) in
-    let long_wanted : length c.loop-k.wanted ≡ c.args.how.width = c.loop-k.auto.wanted ∙ c.requires.wanted in
-    let long_found : length c.loop-k.found ≡ c.args.how.width = c.loop-k.auto.found ∙ c.requires.found in
-    let column : c.next_place-column.result ≡ (c.loop-k.k + 1) % c.args.how.width = c.next_place-column.ensures.next c.loop-k.k c.loop-k.invariant.column in
+    let f = g.S.Spread.spread in
+    let entries = map g.C.ShownAs.shown c.args.entries.now in
+    let pixels = map (λ pixel. g.S.Spread.given (g.P.TablePixel.values pixel)) c.args.pixels.now in
+    let place : c.loop-k.column ≡ c.loop-k.k % c.args.how.width = c.loop-k.invariant.column in
+    let within : c.place_of-at.result < length c.args.pixels.now =
+    omega (arith, c.place_of-at.ensures, in_picture_below c.args.how.way c.args.how.width (length c.args.pixels.now) c.loop-k.k c.requires.row c.loop-k-test.true c.requires.whole) in
+    let inside : in_picture c.args.how.way c.args.how.width c.loop-k.k < length c.loop-k.indices =
+    omega (arith, c.place_of-at.ensures, within, c.loop-k.auto.indices, c.requires.many) in
+    let pixel : g.S.Spread.given (g.P.TablePixel.values c.index-pixels-at.result)
+    ≡ get_or (map (λ pixel. g.S.Spread.given (g.P.TablePixel.values pixel)) c.args.pixels.now) (in_picture c.args.how.way c.args.how.width c.loop-k.k) [] =
+    ap (λ v. g.S.Spread.given (g.P.TablePixel.values v)) c.index-pixels-at.is ∙ sym (get_or-map (λ v. g.S.Spread.given (g.P.TablePixel.values v)) c.args.pixels.now c.place_of-at.result c.index-pixels-at.result [] within)
+    ∙ ap (λ n. get_or pixels n []) c.place_of-at.ensures in
+    let alpha : alpha_of (g.S.Spread.given (g.P.TablePixel.values c.index-pixels-at.result)) ≡ c.alpha.result =
+    g.met.S.Spread.same_alpha (g.P.TablePixel.values c.index-pixels-at.result) ∙ sym c.alpha.ensures in
+    let long_wanted : length (map g.S.Spread.spread c.loop-k.wanted) ≡ c.args.how.width = length-map c.loop-k.wanted f ∙ c.loop-k.auto.wanted ∙ c.requires.wanted in
+    let long_found : length (map g.S.Spread.spread c.loop-k.found) ≡ c.args.how.width = length-map c.loop-k.found f ∙ c.loop-k.auto.found ∙ c.requires.found in
+    let next : c.next_place-column.result ≡ (c.loop-k.k + 1) % c.args.how.width = c.next_place-column.ensures.next c.loop-k.k c.loop-k.invariant.column in
     let done = c.loop-k.invariant.done in
-    let around = c.begun-around.ensures done.all_wanted done.all_found done.last_wanted done.last_found done.near_within in
-    let above_right = c.right_above-right_above.ensures done.all_wanted done.all_found done.last_wanted done.last_found in
+    let last_wanted : AreLatest c.args.how.way done.all_wanted c.args.how.width (c.loop-k.k - c.loop-k.column) c.loop-k.column (map g.S.Spread.spread c.loop-k.wanted) =
+    subst (λ n. AreLatest way done.all_wanted width (k - n) n (map f c.loop-k.wanted)) (sym place) done.last_wanted in
+    let last_found : AreLatest c.args.how.way done.all_found c.args.how.width (c.loop-k.k - c.loop-k.column) c.loop-k.column (map g.S.Spread.spread c.loop-k.found) =
+    subst (λ n. AreLatest way done.all_found width (k - n) n (map f c.loop-k.found)) (sym place) done.last_found in
+    let around : AreNear c.args.how.way done.all_wanted done.all_found c.args.how.width (c.loop-k.k - c.loop-k.k % c.args.how.width) (c.loop-k.k % c.args.how.width) c.begun-around.result =
+    subst (λ n. AreNear way done.all_wanted done.all_found width (k - n) n c.begun-around.result) place
+    (c.begun-around.ensures done.all_wanted done.all_found last_wanted last_found
+    (λ some. subst (λ n. AreNear way done.all_wanted done.all_found width (k - n) n c.loop-k.near) (sym place) (done.near_within (subst (λ n. 0 < n) place some)))) in
+    let above_right : IsMissAbove c.args.how.way done.all_wanted done.all_found c.args.how.width (c.loop-k.k - c.loop-k.k % c.args.how.width) (c.loop-k.k % c.args.how.width) c.right_above-right_above.result =
+    subst (λ n. IsMissAbove way done.all_wanted done.all_found width (k - n) n c.right_above-right_above.result) place
+    (c.right_above-right_above.ensures done.all_wanted done.all_found last_wanted last_found) in
     elim c.if-clear.branch [
       | then-clear w ↦
-          let below : alpha_of (g.P.TablePixel.values c.index-pixels-k.result) < c.args.how.alpha = omega (arith, c.alpha.ensures, w.if-clear.true) in
+          let below : alpha_of (g.S.Spread.given (g.P.TablePixel.values c.index-pixels-at.result)) < c.args.how.alpha = omega (arith, alpha, w.if-clear.true) in
           record {
-            done = alike _ _ _ _ _ _ _ _ _ _ _ _ _
-                (w.wanted-is ∙ ap (λ m. set c.loop-k.wanted m black) c.loop-k.invariant.column)
-                (w.found-is ∙ ap (λ m. set c.loop-k.found m black) c.loop-k.invariant.column)
-                (ap (take (c.loop-k.k + 1)) w.indices-is ∙ take_more_set c.loop-k.indices c.loop-k.k c.args.how.kept (omega arith))
-                (clear_done _ _ _ _ _ _ _ _ _ _ _ _ _ c.requires.row long_wanted long_found c.loop-k.invariant.done around above_right black refl
-                (subst (λ m. IsMiss true (numbers black) (numbers black) m) (sym w.left-is) c.missed-none.ensures)
-                (subst (λ v. alpha_of v < c.args.how.alpha) pixel below));
-            same = subst (λ m. g.N.NearestSearch.finds m entries) (sym w.search-is) c.loop-k.invariant.same;
-            column = column;
+            done = alike _ _ _ _ _ _ _ _ _ _ _ _ _ _ _
+                (w.indices-is ∙ ap (λ n. set c.loop-k.indices n c.args.how.kept) c.place_of-at.ensures)
+                (clear_done _ _ _ _ _ _ _ _ _ _ _ _ _ _ _ _ _ c.requires.row inside long_wanted long_found done around above_right _ _
+                (subst (λ m. IsMiss true (g.S.Spread.of_channels (λ c. 0)) (g.S.Spread.of_channels (λ c. 0)) m) (sym w.left-is) (no_miss (g.S.Spread.of_channels (λ c. 0))))
+                (subst (λ v. alpha_of v < c.args.how.alpha) pixel below)
+                (turned_as f way width k _ _ c.loop-k.wanted _ _ _ _ w.wanted-is place c.none-black.ensures next c.turned-back.ensures.wanted)
+                (turned_as f way width k _ _ c.loop-k.found _ _ _ _ w.found-is place c.none-black.ensures next c.turned-back.ensures.found));
+            same = subst (λ m. g.N.FindsNearest.among m entries) (sym w.search-is) c.loop-k.invariant.same;
+            column = next;
+            back = c.turned-back.ensures.back;
           }
       | else-clear w ↦
-          let p : Color = w.wanted_at-color.result in
-          let i : ℕ = w.nearest_entry-index.result in
-          let q : Color = w.color-entry.result in
+          let i : ℕ = w.find-index.result in
           let e = w.index-entries-from.result in
-          let again : g.P.TablePixel.values w.index-pixels-k-else-clear.result ≡ get_or (map g.P.TablePixel.values c.args.pixels.now) c.loop-k.k [] =
-          ap g.P.TablePixel.values w.index-pixels-k-else-clear.is
-          ∙ sym (get_or-map g.P.TablePixel.values c.args.pixels.now c.loop-k.k w.index-pixels-k-else-clear.result [] c.loop-k-test.true) in
-          let above : c.args.how.alpha ≤ alpha_of (g.P.TablePixel.values c.index-pixels-k.result) = omega (arith, c.alpha.ensures, w.if-clear.false) in
-          let nearest : IsNearest entries (numbers w.wanted_at-color.result) w.nearest_entry-index.result =
-          w.nearest_entry-index.ensures.nearest entries c.loop-k.invariant.same in
-          let inside : w.nearest_entry-index.result < length c.args.entries.now =
-          omega (arith, nearest.stands, length-map c.args.entries.now g.C.TableColor.channels) in
-          let entry : numbers w.color-entry.result ≡ get_or entries w.nearest_entry-index.result [] =
-          w.color-entry.ensures ∙ ap g.C.TableColor.channels w.index-entries-from.is ∙ ap (λ j. g.C.TableColor.channels (get_or c.args.entries.now j e)) w.from.ensures
-          ∙ sym (get_or-map g.C.TableColor.channels c.args.entries.now w.nearest_entry-index.result e [] inside) in
+          let again : g.S.Spread.given (g.P.TablePixel.values w.index-pixels-at-else-clear.result)
+          ≡ get_or (map (λ pixel. g.S.Spread.given (g.P.TablePixel.values pixel)) c.args.pixels.now) (in_picture c.args.how.way c.args.how.width c.loop-k.k) [] =
+          ap (λ v. g.S.Spread.given (g.P.TablePixel.values v)) w.index-pixels-at-else-clear.is
+          ∙ sym (get_or-map (λ v. g.S.Spread.given (g.P.TablePixel.values v)) c.args.pixels.now c.place_of-at.result w.index-pixels-at-else-clear.result [] within)
+          ∙ ap (λ n. get_or pixels n []) c.place_of-at.ensures in
+          let above : c.args.how.alpha ≤ alpha_of (g.S.Spread.given (g.P.TablePixel.values c.index-pixels-at.result)) = omega (arith, alpha, w.if-clear.false) in
+          let nearest : IsNearestBy g.S.Spread.apart entries (g.S.Spread.spread w.wanted-color.result) w.find-index.result =
+          w.find-index.ensures.nearest entries c.loop-k.invariant.same in
+          let stands : w.find-index.result < length c.args.entries.now =
+          omega (arith, nearest.stands, length-map c.args.entries.now g.C.ShownAs.shown) in
+          let entry : g.S.Spread.spread w.shown-entry.result ≡ get_or entries w.find-index.result [] =
+          w.shown-entry.ensures ∙ ap g.C.ShownAs.shown w.index-entries-from.is ∙ ap (λ j. g.C.ShownAs.shown (get_or c.args.entries.now j e)) w.from.ensures
+          ∙ sym (get_or-map g.C.ShownAs.shown c.args.entries.now w.find-index.result e [] stands) in
           record {
-            done = alike _ _ _ _ _ _ _ _ _ _ _ _ _
-                (w.wanted-is ∙ ap (λ m. set c.loop-k.wanted m p) c.loop-k.invariant.column)
-                (w.found-is ∙ ap (λ m. set c.loop-k.found m q) c.loop-k.invariant.column)
-                (ap (take (c.loop-k.k + 1)) w.indices-is ∙ take_more_set c.loop-k.indices c.loop-k.k i (omega arith))
-                (shown_done _ _ _ _ _ _ _ _ _ _ _ _ _ c.requires.row long_wanted long_found c.loop-k.invariant.done around above_right p q i
-                (λ ws gs _ _ a b. w.wanted_at-color.ensures ws gs c.args.how.width c.loop-k.k a b ∙ ap (wanted_at c.args.how.width ws gs c.loop-k.k) again)
+            done = alike _ _ _ _ _ _ _ _ _ _ _ _ _ _ _
+                (w.indices-is ∙ ap (λ n. set c.loop-k.indices n i) c.place_of-at.ensures)
+                (shown_done _ _ _ _ _ _ _ _ _ _ _ _ _ _ _ _ _ c.requires.row inside long_wanted long_found done around above_right _ _ _ _ _
+                (w.wanted-color.ensures.wanted width done.all_wanted done.all_found (k - k % width) (k % width) around above_right
+                ∙ ap (wanted_at g.S.Spread.of_channels way c.args.how.strength width done.all_wanted done.all_found (k - k % width) (k % width)) again)
                 (subst (λ v. c.args.how.alpha ≤ alpha_of v) pixel above) nearest entry
-                (subst (λ m. IsMiss true (numbers p) (numbers q) m) (sym w.left-is) w.missed-left.ensures));
-            same = subst (λ m. g.N.NearestSearch.finds m entries) (sym w.search-is) (w.nearest_entry-index.ensures.same entries c.loop-k.invariant.same);
-            column = column;
+                (subst (λ m. IsMiss true (f w.wanted-color.result) (f w.shown-entry.result) m) (sym w.left-is) w.missed-left.ensures)
+                (turned_as f way width k _ _ c.loop-k.wanted _ _ _ _ w.wanted-is place refl next c.turned-back.ensures.wanted)
+                (turned_as f way width k _ _ c.loop-k.found _ _ _ _ w.found-is place refl next c.turned-back.ensures.found));
+            same = subst (λ m. g.N.FindsNearest.among m entries) (sym w.search-is) (w.find-index.ensures.same entries c.loop-k.invariant.same);
+            column = next;
+            back = c.turned-back.ensures.back;
           }
     ]

@@ -1,12 +1,15 @@
 -- What holds at each turn of the loop over `k` in `diffuse_all`.
-use Rattle.std.proofs.Common.{◌≡◌, ◌%◌, map, take}
+use Rattle.std.proofs.Common.{◌≡◌, ◌%◌, map}
+use Rattle.pix_table.specs.Diffusion.{is_back}
 use Rattle.pix_table.specs.Done.{AreDone}
 use Rattle.pix_table.proofs.diffuse.diffuse_all.Given as goal
 
--- the first k pixels are diffused
+-- the first k pixels of the way are diffused
 abbrev pub invariant-loop-k : goal.invariant-loop-k
 invariant-loop-k g l = record {
-  done : AreDone (map g.C.TableColor.channels l.entries) l.how.alpha l.how.kept l.how.width (map g.P.TablePixel.values l.pixels) l.k l.wanted l.found l.near (take l.k l.indices);
-  same : g.N.NearestSearch.finds l.search (map g.C.TableColor.channels l.entries);
+  done : AreDone g.S.Spread.of_channels g.S.Spread.apart l.how.way l.how.strength (map g.C.ShownAs.shown l.entries) l.how.alpha l.how.kept l.how.width
+      (map (λ pixel. g.S.Spread.given (g.P.TablePixel.values pixel)) l.pixels) l.k (map g.S.Spread.spread l.wanted) (map g.S.Spread.spread l.found) l.near l.indices;
+  same : g.N.FindsNearest.among l.search (map g.C.ShownAs.shown l.entries);
   column : l.column ≡ l.k % l.how.width;
+  back : l.back ≡ is_back l.how.way l.how.width l.k;
 }

@@ -1,35 +1,34 @@
 -- Of `right_above`: where that pixel is kept.
-use Rattle.std.proofs.Common.{◌≡◌, ◌+◌, ◌-◌, ◌%◌, ◌<◌, ◌≤◌, ◌&&◌, [], get_or, true, false, nat_lt, nat_le, arith, sym, ◌∙◌, subst}
-use Rattle.std.proofs.lemmas.Bool.{leb-true, lt-ltb, le-ltb}
-use Rattle.pix_table.specs.Done.{IsMiss}
-use Rattle.pix_table.proofs.Diffused.{above_kept}
+use Rattle.std.proofs.Common.{◌≡◌, ℕ, ◌+◌, ◌-◌, ◌<◌, ◌≤◌, ◌&&◌, [], map, get_or, true, false, nat_lt, nat_le, arith, sym, ap, ◌∙◌, mod-lt}
+use Rattle.std.proofs.lemmas.Bool.{lt-ltb, le-ltb}
+use Rattle.std.proofs.lemmas.Bool.Decides.{nat_tests}
+use Rattle.std.proofs.Math.Nat.{mod-eq_of_lt}
+use Rattle.pix_table.proofs.Diffused.{moved}
+use Rattle.pix_table.proofs.Ways.{same_test}
 use Rattle.pix_table.proofs.diffuse.right_above.Goals as goal
-use Rattle.pix_table.proofs.diffuse.right_above.Goals.{then-column-width, else-column-width}
+use Rattle.pix_table.proofs.diffuse.right_above.Goals.{then-column-how, else-column-how}
+
+both : (place w f : ℕ) → nat_lt (place + 1) w && nat_le w f ≡ true → (place + 1 < w) × (w ≤ f)
+both place w f t = (grind (arith, nat_tests), grind (arith, nat_tests))
 
 pub returns : goal.returns
-returns c = λ ws gs wanted found.
-    let is : c.if-column-width.there ≡ nat_lt (c.args.k % c.args.width + 1) c.args.width && nat_le c.args.width c.args.k =
-    elim c.if-column-width.branch [
-      | then-column-width w ↦
-          let inner : nat_lt (c.args.k % c.args.width + 1) c.args.width ≡ true =
-          lt-ltb (c.args.k % c.args.width + 1) c.args.width (omega (arith, c.requires.column, w.if-column-width.true)) in
-          rw inner w.there-is
-      | else-column-width w ↦
-          let outer : nat_lt (c.args.k % c.args.width + 1) c.args.width ≡ false =
-          le-ltb (c.args.k % c.args.width + 1) c.args.width (omega (arith, c.requires.column, w.if-column-width.false)) in
-          rw outer (w.there-is ∙ le-ltb (c.args.column + 1) c.args.width w.if-column-width.false)
+returns g c = λ ws gs wanted found.
+    let w = c.args.how.width in
+    let place = c.args.column in
+    let below : place < w = omega (arith, mod-lt c.args.k {m = w} c.requires.row, c.requires.column) in
+    let is : nat_lt (place + 1) w && nat_le w (c.args.k - place) ≡ c.if-column-how.there =
+    elim c.if-column-how.branch [
+      | then-column-how v ↦
+          let inner : nat_lt (place + 1) w ≡ true = lt-ltb (place + 1) w (omega (arith, v.if-column-how.true)) in
+          rw inner (same_test c.args.k w place c.requires.row c.requires.column ∙ sym v.there-is)
+      | else-column-how v ↦
+          let outer : nat_lt (place + 1) w ≡ false = le-ltb (place + 1) w v.if-column-how.false in
+          rw outer (sym (v.there-is ∙ outer))
     ] in
-    let kept : c.if-column-width.there ≡ true
-    → (c.next_place.result ≡ (c.args.k - (c.args.width - 1)) % c.args.width) × (c.args.k - (c.args.width - 1) < c.args.k)
-    × (c.args.k ≤ c.args.k - (c.args.width - 1) + c.args.width) =
-    λ t. elim c.if-column-width.branch [
-      | then-column-width w ↦
-          let past : c.args.width ≤ c.args.k = leb-true c.args.width c.args.k (sym w.there-is ∙ t) in
-          above_kept c.args.k c.args.width c.args.column c.next_place.result c.requires.column w.if-column-width.true past
-          (c.next_place.ensures.next c.args.k c.requires.column)
-      | else-column-width w ↦
-          let no : false ≡ true = sym (w.there-is ∙ le-ltb (c.args.column + 1) c.args.width w.if-column-width.false) ∙ t in
-          cc
-    ] in
-    subst (λ b. IsMiss b (get_or ws (c.args.k - (c.args.width - 1)) []) (get_or gs (c.args.k - (c.args.width - 1)) []) c.missed_at.result) is
-    (c.missed_at.ensures ws gs c.args.width c.args.k (c.args.k - (c.args.width - 1)) wanted found kept)
+    let inside : nat_lt (place + 1) w && nat_le w (c.args.k - place) ≡ true → (place + 1 < w) × (w ≤ c.args.k - place) = λ t. both place w (c.args.k - place) t in
+    let next : nat_lt (place + 1) w && nat_le w (c.args.k - place) ≡ true → c.next_place.result ≡ place + 1 = λ t.
+    c.next_place.ensures.next place (sym (mod-eq_of_lt below)) ∙ mod-eq_of_lt (inside t).0 in
+    moved c.if-column-how.there (nat_lt (place + 1) w && nat_le w (c.args.k - place)) _ _ _ _ c.missed_at.result is
+    (λ t. sym (ap (λ n. get_or (map g.S.Spread.spread c.args.wanted.now) n []) (next t) ∙ wanted.above (place + 1) (omega arith) (inside t).0 (inside t).1))
+    (λ t. sym (ap (λ n. get_or (map g.S.Spread.spread c.args.found.now) n []) (next t) ∙ found.above (place + 1) (omega arith) (inside t).0 (inside t).1))
+    c.missed_at.ensures
