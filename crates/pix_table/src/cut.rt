@@ -56,6 +56,8 @@ impl Cutting for Color {
 /// The colors come into another order.
 ///
 /// Condition: there is a color, and there are 1 to 256 entries.
+// Out of line, so that its stack and that of the rounds do not add up.
+#[inline(never)]
 pub(crate) fn cut_table(colors: &mut [Color], entries: &mut [Color]) -> usize
     requires some { 0 < length colors.old }
     requires room { 0 < length entries.old }

@@ -15,6 +15,8 @@ use crate::nearest_search::{NearestSearch, SearchVisitor};
 /// of equals, and every entry to the mean of its colors. An entry without colors stays.
 ///
 /// Condition: there are 1 to 256 entries.
+// Out of line, so that its stack and that of the cut do not add up.
+#[inline(never)]
 pub(crate) fn refine(colors: &[Color], rounds: u8, entries: &mut [Color])
     requires some { 0 < length entries.old }
     requires few { length entries.old ≤ 256 }
@@ -42,7 +44,8 @@ fn round(colors: &[Color], entries: &mut [Color]) -> bool
         ≤ squared_error (map numbers entries.old) (map numbers colors.now) }
     ensures same { result ≡ false → map numbers entries.new ≡ map numbers entries.old }
 {
-    let sums = sums_by_entry(colors, entries);
+    let mut sums = [Sums::none(); ENTRIES];
+    set_sums_by_entry(colors, entries, &mut sums);
     let mut is_moved = false;
     for i in 0..entries.len() {
         if 0 < sums[i].count {
@@ -54,14 +57,13 @@ fn round(colors: &[Color], entries: &mut [Color]) -> bool
     is_moved
 }
 
-/// Returns the sums of the colors of each entry.
-fn sums_by_entry(colors: &[Color], entries: &[Color]) -> [Sums; ENTRIES]
+/// Sets the first sums to those of the colors of each entry.
+fn set_sums_by_entry(colors: &[Color], entries: &[Color], sums: &mut [Sums; ENTRIES])
     requires some { 0 < length entries.now }
     requires few { length entries.now ≤ 256 }
     ensures { AreGrouped (map numbers entries.now) (map numbers colors.now)
-        (take (length entries.now) result) }
+        (take (length entries.now) sums.new) }
 {
-    let mut sums = [Sums::none(); ENTRIES];
     let grouping = Grouping { colors };
     visit_nearest(
         entries,
@@ -70,7 +72,6 @@ fn sums_by_entry(colors: &[Color], entries: &[Color]) -> [Sums; ENTRIES]
         &mut sums[..entries.len()],
         &mut [],
     );
-    sums
 }
 
 /// Colors, each of which is added to the sums of its nearest entry.

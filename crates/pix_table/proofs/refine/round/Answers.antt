@@ -15,7 +15,7 @@ abbrev black : Color
 black = record { red = 0; green = 0; blue = 0 }
 
 pub loop-i-init : goal.loop-i-init
-loop-i-init c = record { moved = none_moved (map numbers c.args.entries.now) c.sums_by_entry-sums.result nothing; same = λ e. refl }
+loop-i-init c = record { moved = none_moved (map numbers c.args.entries.now) c.set_sums_by_entry.new.sums nothing; same = λ e. refl }
 
 pub loop-i-preserved : goal.loop-i-preserved
 loop-i-preserved c =
@@ -24,7 +24,7 @@ loop-i-preserved c =
           let e = w.mean-next.ensures in
           record {
             moved = rw w.entries-is
-                (one_moves (map numbers c.args.entries.now) c.loop-i.entries c.sums_by_entry-sums.result nothing c.loop-i.i w.mean-next.result (omega arith)
+                (one_moves (map numbers c.args.entries.now) c.loop-i.entries c.set_sums_by_entry.new.sums nothing c.loop-i.i w.mean-next.result (omega arith)
                 w.if-sums-i-gt0.true (rw (e.red, e.green, e.blue) refl) c.loop-i.invariant.moved);
             same = λ none. rw w.entries-is
                 (same_more (map numbers c.args.entries.now) c.loop-i.entries c.loop-i.i w.mean-next.result black c.loop-i.is_moved w.same.result c.if-sums-i-gt0.is_moved
@@ -33,7 +33,7 @@ loop-i-preserved c =
       | else-sums-i-gt0 w ↦
           rw (w.entries-is, w.is_moved-is)
           (record {
-            moved = one_stays (map numbers c.args.entries.now) (map numbers c.loop-i.entries) c.sums_by_entry-sums.result nothing c.loop-i.i
+            moved = one_stays (map numbers c.args.entries.now) (map numbers c.loop-i.entries) c.set_sums_by_entry.new.sums nothing c.loop-i.i
                 (omega (arith, w.if-sums-i-gt0.false)) c.loop-i.invariant.moved;
             same = c.loop-i.invariant.same;
           })
@@ -41,23 +41,23 @@ loop-i-preserved c =
 
 pub mean-next-requires-clause-red : goal.mean-next-requires-clause-red
 mean-next-requires-clause-red c =
-    (sums_few c.args.entries.now c.args.colors.now c.sums_by_entry-sums.result nothing c.requires.some c.sums_by_entry-sums.ensures c.loop-i.i
+    (sums_few c.args.entries.now c.args.colors.now c.set_sums_by_entry.new.sums nothing c.requires.some c.set_sums_by_entry.ensures c.loop-i.i
     c.loop-i-test.true).0
 
 pub mean-next-requires-clause-green : goal.mean-next-requires-clause-green
 mean-next-requires-clause-green c =
-    (sums_few c.args.entries.now c.args.colors.now c.sums_by_entry-sums.result nothing c.requires.some c.sums_by_entry-sums.ensures c.loop-i.i
+    (sums_few c.args.entries.now c.args.colors.now c.set_sums_by_entry.new.sums nothing c.requires.some c.set_sums_by_entry.ensures c.loop-i.i
     c.loop-i-test.true).1
 
 pub mean-next-requires-clause-blue : goal.mean-next-requires-clause-blue
 mean-next-requires-clause-blue c =
-    (sums_few c.args.entries.now c.args.colors.now c.sums_by_entry-sums.result nothing c.requires.some c.sums_by_entry-sums.ensures c.loop-i.i
+    (sums_few c.args.entries.now c.args.colors.now c.set_sums_by_entry.new.sums nothing c.requires.some c.set_sums_by_entry.ensures c.loop-i.i
     c.loop-i-test.true).2
 
 pub returns-clause-round : goal.returns-clause-round
 returns-clause-round c =
     round_made (map numbers c.args.entries.now) (map numbers c.args.colors.now) (map numbers c.loop-i.entries) (length c.args.entries.now) c.loop-i.i
-    c.sums_by_entry-sums.result nothing c.requires.some (sym (length-map c.args.entries.now numbers)) c.loop-i-test.false c.sums_by_entry-sums.ensures
+    c.set_sums_by_entry.new.sums nothing c.requires.some (sym (length-map c.args.entries.now numbers)) c.loop-i-test.false c.set_sums_by_entry.ensures
     c.loop-i.invariant.moved
 
 pub returns-clause-no_worse : goal.returns-clause-no_worse
