@@ -8,6 +8,7 @@ ghost use Rattle.pix_table.specs.Pieces.{ArePieces, AreWhole, IsKnown, IsNext, b
 use crate::box_sums::sums_of;
 use crate::color::Color;
 use crate::cutting::Cutting;
+use crate::exchange::exchange;
 use crate::pieces::{Next, Piece, next_cut, split};
 use crate::place::{Place, best_place};
 
@@ -226,7 +227,7 @@ fn partition_in<C: Cutting>(colors: &mut [C], k: usize, value: u8) -> usize
     let mut at = 0;
     for i in 0..colors.len() {
         let is_low = colors[i].channel(k) < value;
-        colors.swap(at, i);
+        exchange(colors, at, i);
         at += usize::from(is_low);
     }
     at

@@ -15,6 +15,7 @@ mod cut;
 mod cutting;
 mod diffuse;
 mod entry_lanes;
+mod exchange;
 mod from;
 mod in_blocks;
 mod index;

@@ -19,12 +19,12 @@ loop-i-preserved g c =
           let one : c.from-at.result ≡ 1 = c.from-at.ensures ∙ ap bool_byte (lt-ltb _ _ b) in
           record {
             within = omega (arith, c.loop-i.invariant.within, one);
-            moved = IsPermutation-trans _ _ _ c.loop-i.invariant.moved c.swap.ensures.permutation;
-            front = subst (λ n. AreBelow f c.args.value c.swap.new.self (at + n)) (sym one)
-                (below_swapped f c.args.value c.loop-i.colors c.swap.new.self at c.loop-i.i c.loop-i.invariant.within c.swap.ensures.by_index
+            moved = IsPermutation-trans _ _ _ c.loop-i.invariant.moved c.exchange.ensures.permutation;
+            front = subst (λ n. AreBelow f c.args.value c.exchange.new.items (at + n)) (sym one)
+                (below_swapped f c.args.value c.loop-i.colors c.exchange.new.items at c.loop-i.i c.loop-i.invariant.within c.exchange.ensures.by_index
                 c.loop-i.invariant.front (λ d. subst (λ n. n < c.args.value) (here d) b));
-            back = subst (λ n. AreOthers f c.args.value c.swap.new.self (at + n) (c.loop-i.i + 1)) (sym one)
-                (others_swapped f c.args.value c.loop-i.colors c.swap.new.self at c.loop-i.i c.loop-i.invariant.within c.swap.ensures.by_index
+            back = subst (λ n. AreOthers f c.args.value c.exchange.new.items (at + n) (c.loop-i.i + 1)) (sym one)
+                (others_swapped f c.args.value c.loop-i.colors c.exchange.new.items at c.loop-i.i c.loop-i.invariant.within c.exchange.ensures.by_index
                 c.loop-i.invariant.back);
           }
       | inr b ↦
@@ -32,12 +32,12 @@ loop-i-preserved g c =
           let same : at + c.from-at.result ≡ at = omega (arith, none) in
           record {
             within = omega (arith, c.loop-i.invariant.within, none);
-            moved = IsPermutation-trans _ _ _ c.loop-i.invariant.moved c.swap.ensures.permutation;
-            front = subst (λ n. AreBelow f c.args.value c.swap.new.self n) (sym same)
-                (below_kept f c.args.value c.loop-i.colors c.swap.new.self at c.loop-i.i c.loop-i.invariant.within c.swap.ensures.by_index
+            moved = IsPermutation-trans _ _ _ c.loop-i.invariant.moved c.exchange.ensures.permutation;
+            front = subst (λ n. AreBelow f c.args.value c.exchange.new.items n) (sym same)
+                (below_kept f c.args.value c.loop-i.colors c.exchange.new.items at c.loop-i.i c.loop-i.invariant.within c.exchange.ensures.by_index
                 c.loop-i.invariant.front);
-            back = subst (λ n. AreOthers f c.args.value c.swap.new.self n (c.loop-i.i + 1)) (sym same)
-                (others_kept f c.args.value c.loop-i.colors c.swap.new.self at c.loop-i.i c.loop-i.invariant.within c.swap.ensures.by_index
+            back = subst (λ n. AreOthers f c.args.value c.exchange.new.items n (c.loop-i.i + 1)) (sym same)
+                (others_kept f c.args.value c.loop-i.colors c.exchange.new.items at c.loop-i.i c.loop-i.invariant.within c.exchange.ensures.by_index
                 c.loop-i.invariant.back (λ d. subst (λ n. c.args.value ≤ n) (here d) b));
           }
     ]
