@@ -45,16 +45,15 @@ below_more k v box low part new h g count red green blue = record {
   blue = omega (arith, blue, h.blue, g.blue, sum_next k v (λ x. get_or x 2 0) box);
 }
 
--- the same, where the sums of the value stand at its place
-pub part_at : (k v j : ℕ) (box : List (List ℕ)) (parts : List Sums) (d : Sums) → AreByValue k box parts → j ≡ v → v < 256
-    → AreSums (is_at k v) box (get_or parts j d)
-part_at k v j box parts d h e small = subst (λ i. AreSums (is_at k v) box (get_or parts i d)) (sym e) (h.each v d small)
+-- the same, where the value has another name
+pub part_at : (k v j : ℕ) (box : List (List ℕ)) (part : Sums) → AreSums (is_at k j) box part → j ≡ v → AreSums (is_at k v) box part
+part_at k v j box part h e = subst (λ i. AreSums (is_at k i) box part) e h
 
-pub below_next : (k v j : ℕ) (box : List (List ℕ)) (parts : List Sums) (d low new : Sums) → AreByValue k box parts → j ≡ v → v < 256
-    → AreSums (is_below k v) box low → new.count ≡ low.count + (get_or parts j d).count → new.red ≡ low.red + (get_or parts j d).red
-    → new.green ≡ low.green + (get_or parts j d).green → new.blue ≡ low.blue + (get_or parts j d).blue → AreSums (is_below k (v + 1)) box new
-below_next k v j box parts d low new h e small before count red green blue =
-    below_more k v box low (get_or parts j d) new before (part_at k v j box parts d h e small) count red green blue
+pub below_next : (k v j : ℕ) (box : List (List ℕ)) (low part new : Sums) → AreSums (is_at k j) box part → j ≡ v → AreSums (is_below k v) box low
+    → new.count ≡ low.count + part.count → new.red ≡ low.red + part.red → new.green ≡ low.green + part.green
+    → new.blue ≡ low.blue + part.blue → AreSums (is_below k (v + 1)) box new
+below_next k v j box low part new h e before count red green blue =
+    below_more k v box low part new before (part_at k v j box part h e) count red green blue
 
 -- all colors are below 256
 pub below_all : (k : ℕ) (box : List (List ℕ)) (all : Sums) → All AreBytes box → AreSums (is_below k 256) box all → AreSums (λ c. true) box all

@@ -122,6 +122,18 @@ module _ (v word : ℕ) (box : List (List ℕ)) (high low : ℕ) (few : length b
     blue = ap (λ n. v * n) (word_count (is_at 2 v) 2 box word few bytes h) ∙ sym (sum_own 2 v box);
   }
 
+-- the sums of all colors, in the words of two channels
+pub words_sums : (box : List (List ℕ)) (beside_red beside_green red green blue : ℕ) → length box ≤ 65535 → All AreBytes box
+    → beside_red ≡ sum_of (λ c. true) (word_of 0) box → beside_green ≡ sum_of (λ c. true) (word_of 1) box
+    → red ≡ beside_green / 16777216 % 16777216 → green ≡ beside_red / 16777216 % 16777216 → blue ≡ beside_red % 16777216
+    → AreSums (λ c. true) box (record { count = beside_red / 281474976710656; red = red; green = green; blue = blue })
+words_sums box beside_red beside_green red green blue few bytes h g r s t = record {
+  count = word_count (λ c. true) 0 box beside_red few bytes h;
+  red = r ∙ word_other (λ c. true) 1 box beside_green few bytes g;
+  green = s ∙ word_other (λ c. true) 0 box beside_red few bytes h;
+  blue = t ∙ word_another (λ c. true) 0 box beside_red few bytes h;
+}
+
 -- a word of 0 is of no colors
 pub word_none : (p : List ℕ → Bool) (k : ℕ) (box : List (List ℕ)) (word : ℕ) (none : Sums) → All AreBytes box
     → word ≡ sum_of p (word_of k) box → word ≡ 0 → none.count ≡ 0 → none.red ≡ 0 → none.green ≡ 0 → none.blue ≡ 0 → AreSums p box none

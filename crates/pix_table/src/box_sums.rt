@@ -1,12 +1,12 @@
 //! Sums of colors: of a box, and of its colors of each value of a channel.
-ghost use Rattle.std.specs.Prelude.{◌≡◌, ℕ, ◌+◌, ◌-◌, ◌*◌, ◌/◌, ◌<◌, ◌≤◌, All, List, length, map, true};
+ghost use Rattle.std.specs.Prelude.{◌≡◌, ℕ, ◌+◌, ◌-◌, ◌*◌, ◌/◌, ◌<◌, ◌≤◌, All, List, [], ◌++◌, length, map, true};
 ghost use Rattle.pix_table.specs.Nearest.{numbers};
 ghost use Rattle.pix_table.specs.BestPlaces.{AreByValue, AreBytes, ArePart, AreSums, AreWords};
 ghost use Rattle.pix_table.specs.BestPlaces.{is_at, sum_of, weight_by, word_of};
 
 use crate::color::Color;
 use crate::cut::channel;
-use crate::weight::weight;
+use crate::weight::{weight, weight_of_few};
 
 /// The most colors whose words may be added: their count has 16 bits, and each of two sums 24.
 pub(crate) const BLOCK: usize = 65535;
@@ -171,6 +171,36 @@ impl Sums {
     {
         (low.weight() + self.without(low).weight()).saturating_sub(whole)
     }
+
+    /// Does what [`Sums::gain`] does for the sums of a block, in 64 bits.
+    #[inline(always)]
+    fn gain_of_few(self, low: Sums, whole: u128) -> u128
+        requires few { self.count ≤ 65535 }
+        requires part { ArePart low self }
+        requires whole { whole ≤ 195075 * self.count }
+        ensures { result ≡ weight_by low.count low.red low.green low.blue
+            + weight_by (self.count - low.count) (self.red - low.red) (self.green - low.green)
+            (self.blue - low.blue)
+            - whole }
+    {
+        let high = self.without(low);
+        u128::from((low.weight_of_few() + high.weight_of_few()).saturating_sub(whole as u64))
+    }
+
+    /// Does what [`Sums::weight`] does for the sums of a block, in 64 bits.
+    #[inline(always)]
+    fn weight_of_few(self) -> u64
+        requires some { 0 < self.count }
+        requires few { self.count ≤ 65535 }
+        requires red { self.red ≤ 255 * self.count }
+        requires green { self.green ≤ 255 * self.count }
+        requires blue { self.blue ≤ 255 * self.count }
+        ensures weight { result ≡ weight_by self.count self.red self.green self.blue }
+        ensures few { result ≤ 195075 * self.count }
+    {
+        let (red, green, blue) = (self.red as u64, self.green as u64, self.blue as u64);
+        weight_of_few(self.count as u64, red, green, blue)
+    }
 }
 
 /// Returns the sums of some colors.
@@ -202,68 +232,169 @@ pub(crate) fn quotient(n: u128, d: u128) -> u8
     255
 }
 
-/// Sets the sums of the colors of each value of a channel to those of their words.
-pub(crate) fn set_sums(parts: &mut [Sums; 256], words: &[u64; 256], k: usize)
-    requires { k < 3 }
-    ensures { (box : List (List ℕ)) → length box ≤ 65535 → All AreBytes box
-        → AreWords k box words.now → AreByValue k box parts.new }
+/// The sums of the colors of each value of a channel.
+pub(crate) trait ByValue {
+    /// They are those of a box in a channel.
+    ghost sums: { Self → ℕ → List (List ℕ) → Type 0 };
+
+    /// Returns the sums of the colors that have a value in the channel.
+    fn at(&self, k: usize, value: usize) -> Sums
+        requires channel { k < 3 }
+        requires value { value < 256 }
+        ensures { (box : List (List ℕ)) → sums self.now k box
+            → AreSums (is_at k value) box result };
+
+    /// Returns what a cut gains, where `low` are the sums of the colors below it.
+    ///
+    /// All colors weigh `whole`.
+    fn gain(&self, all: Sums, low: Sums, whole: u128) -> u128
+        requires sums { (k : ℕ) × (box : List (List ℕ)) × sums self.now k box
+            × AreSums (λ color. true) box all }
+        requires part { ArePart low all }
+        requires whole { whole ≤ 195075 * all.count }
+        ensures { result ≡ weight_by low.count low.red low.green low.blue
+            + weight_by (all.count - low.count) (all.red - low.red) (all.green - low.green)
+            (all.blue - low.blue)
+            - whole };
+}
+
+impl ByValue for [Sums; 256] {
+    ghost sums = { λ parts k box. AreByValue k box parts };
+
+    #[inline(always)]
+    fn at(&self, _k: usize, value: usize) -> Sums {
+        self[value]
+    }
+
+    fn gain(&self, all: Sums, low: Sums, whole: u128) -> u128 {
+        all.gain(low, whole)
+    }
+}
+
+/// Words of at most a block of colors.
+impl ByValue for [u64; 256] {
+    ghost sums = { λ words k box. (length box ≤ 65535) × All AreBytes box × AreWords k box words };
+
+    #[inline(always)]
+    fn at(&self, k: usize, value: usize) -> Sums {
+        Sums::of_word(self[value], k, value)
+    }
+
+    #[inline(always)]
+    fn gain(&self, all: Sums, low: Sums, whole: u128) -> u128 {
+        all.gain_of_few(low, whole)
+    }
+}
+
+/// Adds a block of colors to the words of no colors, in one turn.
+///
+/// The words of each value of each channel are those of the colors that have it.
+#[inline(always)]
+pub(crate) fn add_words(
+    colors: &[Color],
+    reds: &mut [u64; 256],
+    greens: &mut [u64; 256],
+    blues: &mut [u64; 256],
+)
+    requires few { length colors.now ≤ 65535 }
+    requires red_none { AreWords 0 [] reds.old }
+    requires green_none { AreWords 1 [] greens.old }
+    requires blue_none { AreWords 2 [] blues.old }
+    ensures reds { AreWords 0 (map numbers colors.now) reds.new }
+    ensures greens { AreWords 1 (map numbers colors.now) greens.new }
+    ensures blues { AreWords 2 (map numbers colors.now) blues.new }
+    ensures bytes { All AreBytes (map numbers colors.now) }
+{
+    for i in 0..colors.len() {
+        let clr = colors[i];
+        reds[usize::from(channel(clr, 0))] += word(clr, 0);
+        greens[usize::from(channel(clr, 1))] += word(clr, 1);
+        blues[usize::from(channel(clr, 2))] += word(clr, 2);
+    }
+}
+
+/// Returns the sums of a block of colors, of the words of the values of two channels.
+pub(crate) fn total_of_words(colors: &[Color], reds: &[u64; 256], greens: &[u64; 256]) -> Sums
+    requires few { length colors.now ≤ 65535 }
+    requires reds { AreWords 0 (map numbers colors.now) reds.now }
+    requires greens { AreWords 1 (map numbers colors.now) greens.now }
+    requires bytes { All AreBytes (map numbers colors.now) }
+    ensures { AreSums (λ color. true) (map numbers colors.now) result }
+{
+    let beside_red = word_sum(colors, 0, reds);
+    let beside_green = word_sum(colors, 1, greens);
+    Sums {
+        count: (beside_red / ONE) as usize,
+        red: u128::from(beside_green / HIGH % HIGH),
+        green: u128::from(beside_red / HIGH % HIGH),
+        blue: u128::from(beside_red % HIGH),
+    }
+}
+
+/// Returns the sum of the words of a block of colors for one channel.
+fn word_sum(colors: &[Color], k: usize, words: &[u64; 256]) -> u64
+    requires few { length colors.now ≤ 65535 }
+    requires words { AreWords k (map numbers colors.now) words.now }
+    requires bytes { All AreBytes (map numbers colors.now) }
+    ensures { result ≡ sum_of (λ color. true) (word_of k) (map numbers colors.now) }
+{
+    let mut sum = 0;
+    for value in 0..256 {
+        sum += words[value];
+    }
+    sum
+}
+
+/// Adds a box of colors to the sums of no colors, block by block, in one turn.
+pub(crate) fn add_blocks(
+    colors: &[Color],
+    reds: &mut [Sums; 256],
+    greens: &mut [Sums; 256],
+    blues: &mut [Sums; 256],
+)
+    requires red_none { AreByValue 0 [] reds.old }
+    requires green_none { AreByValue 1 [] greens.old }
+    requires blue_none { AreByValue 2 [] blues.old }
+    ensures reds { AreByValue 0 (map numbers colors.now) reds.new }
+    ensures greens { AreByValue 1 (map numbers colors.now) greens.new }
+    ensures blues { AreByValue 2 (map numbers colors.now) blues.new }
+    ensures bytes { All AreBytes (map numbers colors.now) }
+{
+    for i in 0..colors.len() / BLOCK + 1 {
+        let start = i * BLOCK;
+        let end = colors.len().min(start + BLOCK);
+        let (before, block) = (&colors[..start], &colors[start..end]);
+        let (mut red_words, mut green_words, mut blue_words) = ([0; 256], [0; 256], [0; 256]);
+        add_words(block, &mut red_words, &mut green_words, &mut blue_words);
+        add_block(before, block, 0, &red_words, reds);
+        add_block(before, block, 1, &green_words, greens);
+        add_block(before, block, 2, &blue_words, blues);
+    }
+}
+
+/// Adds a block of colors to the sums of those before it, by its words.
+fn add_block(
+    before: &[Color],
+    block: &[Color],
+    k: usize,
+    words: &[u64; 256],
+    parts: &mut [Sums; 256],
+)
+    requires channel { k < 3 }
+    requires few { length block.now ≤ 65535 }
+    requires all { length before.now + length block.now < 18446744073709551616 }
+    requires words { AreWords k (map numbers block.now) words.now }
+    requires bytes { All AreBytes (map numbers block.now) }
+    requires sums { AreByValue k (map numbers before.now) parts.old }
+    requires bytes_before { All AreBytes (map numbers before.now) }
+    ensures { AreByValue k (map numbers before.now ++ map numbers block.now) parts.new }
 {
     for value in 0..256 {
-        parts[value] = Sums::of_word(words[value], k, value);
-    }
-}
-
-/// Sets the sums of the colors of each value of a channel to those of a box of more than a block.
-///
-/// Each channel has a loop of its own.
-pub(crate) fn sum_blocks(parts: &mut [Sums; 256], colors: &[Color], k: usize)
-    requires channel { k < 3 }
-    requires many { 65535 < length colors.now }
-    ensures sums { AreByValue k (map numbers colors.now) parts.new }
-    ensures bytes { All AreBytes (map numbers colors.now) }
-{
-    match k {
-        0 => sum_blocks_in(parts, colors, 0),
-        1 => sum_blocks_in(parts, colors, 1),
-        2 => sum_blocks_in(parts, colors, 2),
-        _ => sum_blocks_in(parts, colors, k),
-    }
-}
-
-/// Does what [`sum_blocks`] does.
-#[inline(always)]
-fn sum_blocks_in(parts: &mut [Sums; 256], colors: &[Color], k: usize)
-    requires channel { k < 3 }
-    requires many { 65535 < length colors.now }
-    ensures sums { AreByValue k (map numbers colors.now) parts.new }
-    ensures bytes { All AreBytes (map numbers colors.now) }
-{
-    let words = words_in(&colors[..BLOCK], k);
-    set_sums(parts, &words, k);
-    for i in 1..colors.len() / BLOCK + 1 {
-        let end = colors.len().min((i + 1) * BLOCK);
-        let words = words_in(&colors[i * BLOCK..end], k);
-        for value in 0..256 {
-            if words[value] == 0 {
-                continue;
-            }
-            parts[value] = parts[value].and(Sums::of_word(words[value], k, value));
+        if words[value] == 0 {
+            continue;
         }
+        parts[value] = parts[value].and(Sums::of_word(words[value], k, value));
     }
-}
-
-/// Returns the words of a block of colors for one channel.
-#[inline(always)]
-fn words_in(colors: &[Color], k: usize) -> [u64; 256]
-    requires { length colors.now ≤ 65535 }
-    ensures words { AreWords k (map numbers colors.now) result }
-    ensures bytes { All AreBytes (map numbers colors.now) }
-{
-    let mut words = [0; 256];
-    for i in 0..colors.len() {
-        words[usize::from(channel(colors[i], k))] += word(colors[i], k);
-    }
-    words
 }
 
 /// Returns the word of a color: a one, and the numbers of the channels beside one.

@@ -2,12 +2,11 @@
 ghost use Rattle.std.specs.Prelude.{◌≡◌, ℕ, ◌+◌, ◌<◌, ◌≤◌, All, List, length, map, MatchOption, true};
 ghost use Rattle.pix_table.specs.Nearest.{numbers};
 ghost use Rattle.pix_table.specs.Places.{CannotBeCut, HasBest};
-ghost use Rattle.pix_table.specs.BestPlaces.{AreByValue, AreBytes, AreSums, CanCut};
+ghost use Rattle.pix_table.specs.BestPlaces.{AreBytes, AreSums, CanCut};
 ghost use Rattle.pix_table.specs.BestPlaces.{IsBestUpTo, gain_at};
 
-use crate::box_sums::{BLOCK, Sums, set_sums, sum_blocks, total, word};
+use crate::box_sums::{BLOCK, ByValue, Sums, add_blocks, add_words, total, total_of_words};
 use crate::color::Color;
-use crate::cut::channel;
 
 /// A place of a box, and what a cut there gains.
 ///
@@ -36,7 +35,7 @@ pub(crate) fn best_place(colors: &[Color]) -> Option<Place>
     }
 }
 
-/// Does what [`best_place`] does for a block of colors, in one turn over them.
+/// Does what [`best_place`] does for a block of colors.
 // Out of line, so that the two ways don't add up on the stack.
 #[inline(never)]
 fn best_of_block(colors: &[Color]) -> Option<Place>
@@ -45,49 +44,39 @@ fn best_of_block(colors: &[Color]) -> Option<Place>
     ensures { IsBestUpTo (map numbers colors.now) 3 0 result }
 {
     let (mut reds, mut greens, mut blues) = ([0; 256], [0; 256], [0; 256]);
-    for i in 0..colors.len() {
-        let clr = colors[i];
-        reds[usize::from(channel(clr, 0))] += word(clr, 0);
-        greens[usize::from(channel(clr, 1))] += word(clr, 1);
-        blues[usize::from(channel(clr, 2))] += word(clr, 2);
-    }
-    let mut parts = [Sums::none(); 256];
-    set_sums(&mut parts, &reds, 0);
-    let all = total(colors, 0, &parts);
-    let best = best_in(colors, 0, &parts, all, None);
-    set_sums(&mut parts, &greens, 1);
-    let best = best_in(colors, 1, &parts, all, best);
-    set_sums(&mut parts, &blues, 2);
-    best_in(colors, 2, &parts, all, best)
+    add_words(colors, &mut reds, &mut greens, &mut blues);
+    let all = total_of_words(colors, &reds, &greens);
+    let best = best_in(colors, 0, &reds, all, None);
+    let best = best_in(colors, 1, &greens, all, best);
+    best_in(colors, 2, &blues, all, best)
 }
 
-/// Does what [`best_place`] does for more colors than a block, in a turn over them a channel.
+/// Does what [`best_place`] does for more colors than a block.
 #[inline(never)]
 fn best_of_blocks(colors: &[Color]) -> Option<Place>
-    requires { 65535 < length colors.now }
+    requires { 0 < length colors.now }
     ensures { IsBestUpTo (map numbers colors.now) 3 0 result }
 {
-    let mut parts = [Sums::none(); 256];
-    sum_blocks(&mut parts, colors, 0);
-    let all = total(colors, 0, &parts);
-    let best = best_in(colors, 0, &parts, all, None);
-    sum_blocks(&mut parts, colors, 1);
-    let best = best_in(colors, 1, &parts, all, best);
-    sum_blocks(&mut parts, colors, 2);
-    best_in(colors, 2, &parts, all, best)
+    let mut reds = [Sums::none(); 256];
+    let (mut greens, mut blues) = (reds, reds);
+    add_blocks(colors, &mut reds, &mut greens, &mut blues);
+    let all = total(colors, 0, &reds);
+    let best = best_in(colors, 0, &reds, all, None);
+    let best = best_in(colors, 1, &greens, all, best);
+    best_in(colors, 2, &blues, all, best)
 }
 
 /// Returns the best place up to the end of a channel, where `best` is the best before it.
-fn best_in(
+fn best_in<P: ByValue>(
     colors: &[Color],
     k: usize,
-    parts: &[Sums; 256],
+    parts: &P,
     all: Sums,
     best: Option<Place>,
 ) -> Option<Place>
     requires some { 0 < length colors.now }
     requires channel { k < 3 }
-    requires sums { AreByValue k (map numbers colors.now) parts.now }
+    requires sums { P.sums parts.now k (map numbers colors.now) }
     requires all { AreSums (λ color. true) (map numbers colors.now) all }
     requires bytes { All AreBytes (map numbers colors.now) }
     requires before { IsBestUpTo (map numbers colors.now) k 0 best }
@@ -97,7 +86,7 @@ fn best_in(
     let mut best = best;
     let mut low = Sums::none();
     for value in 0..255 {
-        let part = parts[usize::from(value)];
+        let part = parts.at(k, usize::from(value));
         if part.count == 0 {
             continue;
         }
@@ -108,7 +97,7 @@ fn best_in(
         let place = Place {
             channel: k,
             value: value + 1,
-            gain: all.gain(low, whole),
+            gain: parts.gain(all, low, whole),
         };
         best = better(best, place);
     }

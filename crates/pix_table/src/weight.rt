@@ -32,7 +32,8 @@ pub(crate) fn weight(count: usize, sums: [u128; 3]) -> u128
 }
 
 /// Does what [`weight`] does for sums of at most 31 bits.
-fn weight_of_few(count: u64, red: u64, green: u64, blue: u64) -> u64
+#[inline(always)]
+pub(crate) fn weight_of_few(count: u64, red: u64, green: u64, blue: u64) -> u64
     requires some { 0 < count }
     requires red { red < 2147483648 }
     requires green { green < 2147483648 }
@@ -43,6 +44,7 @@ fn weight_of_few(count: u64, red: u64, green: u64, blue: u64) -> u64
 }
 
 /// Returns the square of a number of at most 31 bits.
+#[inline(always)]
 fn square(n: u64) -> u64
     requires { n < 2147483648 }
     ensures square { result ≡ n * n }

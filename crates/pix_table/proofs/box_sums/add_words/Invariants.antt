@@ -1,8 +1,8 @@
--- What holds at each turn of the loop over `i` in `best_of_block`.
+-- What holds at each turn of the loop over `i` in `add_words`.
 use Rattle.std.proofs.Common.{All, map, take}
 use Rattle.pix_table.specs.Nearest.{numbers}
 use Rattle.pix_table.specs.BestPlaces.{AreBytes, AreWords}
-use Rattle.pix_table.proofs.place.best_of_block.Given as goal
+use Rattle.pix_table.proofs.box_sums.add_words.Given as goal
 
 -- they are the words of the first i colors
 abbrev pub invariant-loop-i : goal.invariant-loop-i

@@ -1,0 +1,14 @@
+-- What holds at each turn of the loop over `value` in `add_block`.
+use Rattle.std.proofs.Common.{◌≡◌, ◌<◌, ◌≤◌, ◌++◌, ℕ, length, map, get_or}
+use Rattle.pix_table.specs.Nearest.{numbers}
+use Rattle.pix_table.specs.BestPlaces.{AreSums, is_at}
+use Rattle.pix_table.specs.declared.box_sums.Sums.{Sums}
+use Rattle.pix_table.proofs.box_sums.add_block.Given as goal
+
+-- the sums of the values below `value` have the colors of this block too
+abbrev pub invariant-loop-value : goal.invariant-loop-value
+invariant-loop-value l = record {
+  many : length l.parts ≡ 256;
+  done : (v : ℕ) (d : Sums) → v < l.value → AreSums (is_at l.k v) (map numbers l.before ++ map numbers l.block) (get_or l.parts v d);
+  rest : (v : ℕ) (d : Sums) → l.value ≤ v → v < 256 → AreSums (is_at l.k v) (map numbers l.before) (get_or l.parts v d);
+}

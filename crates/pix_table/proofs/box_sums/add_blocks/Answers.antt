@@ -1,0 +1,32 @@
+-- Of `add_blocks`: that words of 0 are those of no colors, and that the invariant of its loop holds after each turn.
+use Rattle.std.proofs.Common.{◌+◌, ◌-◌, ◌*◌, All, arith, drop, map, subst, sym, take, ◌∙◌}
+use Rattle.std.proofs.lemmas.List.Elements.{All-append}
+use Rattle.pix_table.specs.Nearest.{numbers}
+use Rattle.pix_table.specs.BestPlaces.{AreByValue, AreBytes}
+use Rattle.pix_table.proofs.WordLemmas.{block_end, block_more, words_none}
+use Rattle.pix_table.proofs.box_sums.add_blocks.Goals as goal
+
+pub add_words-requires-clause-red_none : goal.add_words-requires-clause-red_none
+add_words-requires-clause-red_none c = words_none 0
+
+pub add_words-requires-clause-green_none : goal.add_words-requires-clause-green_none
+add_words-requires-clause-green_none c = words_none 1
+
+pub add_words-requires-clause-blue_none : goal.add_words-requires-clause-blue_none
+add_words-requires-clause-blue_none c = words_none 2
+
+pub loop-i-preserved : goal.loop-i-preserved
+loop-i-preserved c =
+    let xs = c.args.colors.now in
+    let start = c.loop-i.i * 65535 in
+    let end = c.min-end.result in
+    let next = (c.loop-i.i + 1) * 65535 in
+    let grown = block_end xs end next (omega (arith, c.min-end.ensures)) ∙ block_more xs start end (omega arith) in
+    record {
+      reds = subst (λ l. AreByValue 0 l c.add_block.new.parts) (sym grown) c.add_block.ensures;
+      greens = subst (λ l. AreByValue 1 l c.add_block-in-loop-i.new.parts) (sym grown) c.add_block-in-loop-i.ensures;
+      blues = subst (λ l. AreByValue 2 l c.add_block-in-loop-i-2.new.parts) (sym grown) c.add_block-in-loop-i-2.ensures;
+      bytes = subst (All AreBytes) (sym grown)
+          (All-append AreBytes (map numbers (take start xs)) (map numbers (take (end - start) (drop start xs))) c.loop-i.invariant.bytes
+          c.add_words.ensures.bytes);
+    }
