@@ -180,7 +180,7 @@ static void by_hand(void) {
 
 static void refused(void) {
     static const pix_diffusion how = {16, false}, strong = {17, false}, turning = {16, true};
-    pix_srgba8 entries[257] = {{1, 2, 3, 4}, {5, 6, 7, 8}}, some[3] = {{7, 8, 9, 10}, {1, 1, 1, 1}, {2, 2, 2, 2}};
+    pix_srgba8 entries[257] = {{1, 2, 3, 4}, {5, 6, 7, 8}}, some[8] = {{7, 8, 9, 10}, {1, 1, 1, 1}, {2, 2, 2, 2}};
     pix_srgba8 room[8] = {{5, 5, 5, 5}};
     const pix_table_rgba table = pix_table_rgba_of(entries, 2), none = pix_table_rgba_of(entries, 0);
     const pix_table_rgba large = pix_table_rgba_of(entries, 257);
@@ -196,6 +196,7 @@ static void refused(void) {
     check(pix_make_table_rgba(some, 3, 1, some, entries, 2, &count) == PIX_OVERLAP, "work memory in the pixels");
     check(pix_make_table_rgba(some, 3, 1, room, some + 2, 2, &count) == PIX_OVERLAP, "entries in the pixels");
     check(pix_make_table_rgba(some, 3, 1, room, room + 2, 2, &count) == PIX_OVERLAP, "entries in the work memory");
+    check(pix_make_table_rgba(room + 3, 3, 1, some, room, 4, &count) == PIX_OVERLAP, "the last entry in the pixels");
     check(pix_table_rgba_from(some, 3, 1, room, 2, entries, 2, &count) == PIX_BAD_LENGTH, "too little work memory");
     check(pix_table_rgba_from(some, 3, 1, room, 2, entries, 0, &count) == PIX_BAD_TABLE, "a table before the work memory");
     check(count == 77, "what is refused makes no table");

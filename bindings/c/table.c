@@ -287,7 +287,7 @@ static void diffused_by_hand(void) {
 /* What is refused before the lengths is the strength, and before that the table; rows from right to left are whole. */
 static void diffused_refused(void) {
     static const pix_diffusion strong = {17, false}, stronger = {255, true}, turning = {16, true}, straight = {16, false};
-    pix_srgb8 entries[2] = {{1, 2, 3}, {4, 5, 6}}, some[3] = {{7, 8, 9}, {1, 1, 1}, {2, 2, 2}}, room[8] = {{5, 5, 5}};
+    pix_srgb8 entries[8] = {{1, 2, 3}, {4, 5, 6}}, some[8] = {{7, 8, 9}, {1, 1, 1}, {2, 2, 2}}, room[8] = {{5, 5, 5}};
     pix_srgba8 with[3] = {{1, 2, 3, 4}, {5, 6, 7, 8}, {9, 9, 9, 9}};
     uint8_t index[3] = {9, 9, 9};
     pix_table table = pix_table_of(entries, 2);
