@@ -218,22 +218,37 @@ static inline uint64_t plain_seen_error(const plain_seen *entries, size_t used, 
     return error;
 }
 
-/* The table before the rounds: the distinct colors in order of first place, or the means of boxes. Answers whether it was cut. */
-static inline int plain_seen_table(const plain_seen *colors, size_t count, plain_seen *entries, size_t room, size_t *used) {
-    plain_seen *copy;
+/* The pixels that are seen as none before them, in order, where there is room for all. Answers whether there is. */
+static inline int plain_seen_distinct(const pix_srgba8 *pixels, size_t count, pix_srgba8 *entries, size_t room, size_t *used) {
     size_t i, j;
     *used = 0;
     for (i = 0; i < count; i++) {
-        for (j = 0; j < *used && (plain_distance(entries[j].black, colors[i].black) || entries[j].a != colors[i].a); j++) {
+        const plain_seen color = plain_see(pixels[i]);
+        for (j = 0; j < *used; j++) {
+            const plain_seen other = plain_see(entries[j]);
+            if (!plain_distance(other.black, color.black) && other.a == color.a)
+                break;
         }
         if (j < *used)
             continue;
         if (*used == room)
-            break;
-        entries[(*used)++] = colors[i];
+            return 0;
+        entries[(*used)++] = pixels[i];
     }
-    if (i == count)
+    return 1;
+}
+
+/* The table before the rounds, as it is seen: of those pixels, or else the means of boxes. Answers whether it was cut. */
+static inline int plain_seen_table(const pix_srgba8 *pixels, const plain_seen *colors, size_t count, plain_seen *entries,
+                                   size_t room, size_t *used) {
+    pix_srgba8 distinct[256];
+    plain_seen *copy;
+    size_t i;
+    if (plain_seen_distinct(pixels, count, distinct, room, used)) {
+        for (i = 0; i < *used; i++)
+            entries[i] = plain_see(distinct[i]);
         return 0;
+    }
     copy = (plain_seen *)malloc(count * sizeof *copy);
     if (!copy)
         abort();

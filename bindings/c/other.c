@@ -401,23 +401,22 @@ uint32_t pix_table_rgba_look_up(const pix_srgba8 *entries, size_t len, const uin
 uint32_t pix_table_rgba_from(const pix_srgba8 *pixels, size_t pixel_count, uint8_t rounds, pix_srgba8 *work, size_t work_len,
                              pix_srgba8 *entries, size_t len, size_t *made) {
     seen table[256], *colors;
+    size_t places[256];
+    int is_cut;
     if (!len || len > 256)
         return PIX_BAD_TABLE;
     if (work_len < pixel_count)
         return PIX_BAD_LENGTH;
     (void)work;
     colors = all_seen(pixels, pixel_count);
-    *made = distinct_seen(colors, pixel_count, table, len);
-    if (*made > len) {
+    *made = distinct_seen(colors, pixel_count, places, len);
+    is_cut = *made > len;
+    if (is_cut)
         *made = cut_seen(colors, pixel_count, table, len);
-        for (; rounds; rounds--)
-            round_seen(colors, pixel_count, table, *made);
-    }
-    for (size_t i = 0; i < *made; i++) {
-        const int *n = table[i].n, a = n[3];
-        const pix_srgba8 entry = {by_alpha(n[0], a), by_alpha(n[1], a), by_alpha(n[2], a), (uint8_t)a};
-        entries[i] = entry;
-    }
+    for (; is_cut && rounds; rounds--)
+        round_seen(colors, pixel_count, table, *made);
+    for (size_t i = 0; i < *made; i++)
+        entries[i] = is_cut ? straight_of(table[i]) : pixels[places[i]];
     free(colors);
     return PIX_OK;
 }

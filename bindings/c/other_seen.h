@@ -239,15 +239,15 @@ static int same_seen(seen p, seen q) {
     return p.n[0] == q.n[0] && p.n[1] == q.n[1] && p.n[2] == q.n[2] && p.n[3] == q.n[3];
 }
 
-/* The distinct colors, or one more than there is room for. */
-static size_t distinct_seen(const seen *colors, size_t count, seen *entries, size_t room) {
+/* How many of the colors differ from all before them, and the places of these; or one more than there is room for. */
+static size_t distinct_seen(const seen *colors, size_t count, size_t *places, size_t room) {
     size_t used = 0, j;
     for (size_t i = 0; i < count; i++) {
-        for (j = 0; j < used && !same_seen(entries[j], colors[i]); j++) {}
+        for (j = 0; j < used && !same_seen(colors[places[j]], colors[i]); j++) {}
         if (j == room)
             return room + 1;
         if (j == used)
-            entries[used++] = colors[i];
+            places[used++] = i;
     }
     return used;
 }
@@ -255,6 +255,13 @@ static size_t distinct_seen(const seen *colors, size_t count, seen *entries, siz
 /* A number by an alpha, to the nearest. */
 static uint8_t by_alpha(int number, int alpha) {
     return (uint8_t)(alpha ? (510 * number + alpha) / (2 * alpha) : 0);
+}
+
+/* The pixel that is seen as a color. */
+static pix_srgba8 straight_of(seen color) {
+    const int *n = color.n;
+    const pix_srgba8 pixel = {by_alpha(n[0], n[3]), by_alpha(n[1], n[3]), by_alpha(n[2], n[3]), (uint8_t)n[3]};
+    return pixel;
 }
 
 #endif

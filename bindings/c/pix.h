@@ -607,11 +607,12 @@ typedef struct { const pix_srgba8 *entries; size_t len; } pix_table_rgba;
 
 static inline pix_table_rgba pix_table_rgba_of(const pix_srgba8 *entries, size_t len);
 
-/* Does what pix_make_table_refined does, with a table of colors with an alpha. Pixels that are seen
- * alike have one entry. Boxes are cut by the alpha too, after red, green and blue over black. In a
+/* Does what pix_make_table_refined does, with a table of colors with an alpha. Of pixels that are
+ * seen alike the first one counts. Where there is room for all of these, they are the table, just
+ * as they are. Otherwise boxes are cut by the alpha too, after red, green and blue over black. In a
  * round an entry also stays where the mean of its colors would make their squared error greater.
- * The colors of the table are divided by the alpha again, so that they are seen as just what was
- * found. `work` has pix_table_work(count) pixels. */
+ * What is found is divided by its alpha in the end, and is still seen as just that. `work` has
+ * pix_table_work(count) pixels. */
 static inline pix_status pix_make_table_rgba(const pix_srgba8 *pixels, size_t count, uint8_t rounds, pix_srgba8 *work,
                                              pix_srgba8 *entries, size_t len, size_t *made);
 

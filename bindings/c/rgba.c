@@ -51,11 +51,12 @@ static size_t random_pixels(int is_opaque) {
     return count;
 }
 
-static int are_equal(const pix_srgba8 *entries, const plain_seen *plain, size_t len) {
+/* Whether entries are seen as those of the plain loops, and are these divided by their alphas, or pixels as they are. */
+static int are_equal(const pix_srgba8 *entries, const plain_seen *plain, const pix_srgba8 *distinct, size_t len) {
     size_t i;
     int equal = 1;
     for (i = 0; i < len; i++) {
-        const pix_srgba8 want = plain_straight(plain[i]);
+        const pix_srgba8 want = distinct ? distinct[i] : plain_straight(plain[i]);
         const plain_seen shown = plain_see(entries[i]);
         equal &= !memcmp(&entries[i], &want, sizeof want) && !plain_seen_distance(shown, plain[i]) && shown.a == plain[i].a;
     }
@@ -92,15 +93,16 @@ static void used(const pix_srgba8 *entries, const plain_seen *plain, size_t len,
 static void made(void) {
     const size_t count = random_pixels(0), room = any(3) ? 1 + any(8) : 1 + any(ROOM);
     const unsigned rounds = any(6);
-    pix_srgba8 entries[ROOM];
+    pix_srgba8 entries[ROOM], distinct[ROOM];
     plain_seen plain[ROOM];
     size_t len, got = 999;
     uint64_t error = UINT64_MAX;
     unsigned round = 0;
-    const int is_cut = plain_seen_table(seen, count, plain, room, &len);
+    const int is_cut = plain_seen_table(pixels, seen, count, plain, room, &len);
+    check(is_cut != plain_seen_distinct(pixels, count, distinct, room, &got), "the plain loops agree");
     for (;;) {
         check(pix_make_table_rgba(pixels, count, (uint8_t)round, work, entries, room, &got) == PIX_OK, "a table is made");
-        check(got == len && are_equal(entries, plain, len), "a table is another one");
+        check(got == len && are_equal(entries, plain, is_cut ? NULL : distinct, len), "a table is another one");
         check(plain_seen_error(plain, len, seen, count) <= error, "a round made the squared error greater");
         error = plain_seen_error(plain, len, seen, count);
         check(is_cut || !error, "a color has no entry, though there is room");
@@ -143,32 +145,47 @@ static void opaque(void) {
     check(!memcmp(one, other, count), "an opaque pixel has another index by error diffusion with alphas");
 }
 
-/* Each color that a pixel is seen as comes back from a table: that is each number up to each alpha. */
+/* Of each alpha, all levels: the entries are pixels, each the first that is seen so. With room for one entry less, each box but one
+ * has one color that is seen, and this is divided by the alpha to the nearest and seen as it was. */
 static void each_color(void) {
     pix_srgba8 all[256], room[256], entries[256];
     unsigned a, v;
     size_t len = 0;
     int same = 1;
     for (a = 0; a < 256; a++) {
+        unsigned found = 0;
         for (v = 0; v < 256; v++)
             all[v].r = all[v].g = all[v].b = (uint8_t)v, all[v].a = (uint8_t)a;
         check(pix_make_table_rgba(all, 256, 3, room, entries, 256, &len) == PIX_OK, "a table of all levels");
         check(len == a + 1, "a table has not all colors of an alpha");
-        for (v = 0; v < len; v++)
-            same &= plain_see(entries[v]).black.g == v && entries[v].a == a;
+        for (v = 0; v < 256 && found < len; v++)
+            if (plain_see(all[v]).black.g == found)
+                same &= !memcmp(&entries[found++], &all[v], sizeof *all);
+        check(same && found == len, "an entry is not the first pixel that is seen so");
+        if (!a)
+            continue;
+        check(pix_make_table_rgba(all, 256, 0, room, entries, a, &len) == PIX_OK && len == a, "a table of one entry less");
+        for (v = 0; v < len; v++) {
+            const pix_srgba8 want = plain_straight(plain_see(entries[v]));
+            same &= !memcmp(&entries[v], &want, sizeof want) && (!v || plain_see(want).black.r > plain_see(entries[v - 1]).black.r);
+        }
+        check(same, "an entry is not a color by its alpha");
     }
-    check(same, "a color is seen otherwise than the pixel of which it is");
 }
 
-/* By hand. Half of 200 is 100 over black and 227 over white; the mean of an opaque white and a clear pixel is half of white. */
+/* By hand. Half of 200 is 100 over black and 227 over white. The mean of an opaque white and a clear pixel is half of white. Of half
+ * of 200, black and white, black has an entry of its own; the others have 178 at 192, which is 236 before it is multiplied. */
 static void by_hand(void) {
+    static const pix_srgba8 three[3] = {{200, 200, 200, 128}, {0, 0, 0, 255}, {255, 255, 255, 255}};
     static const pix_srgba8 some[4] = {{200, 200, 200, 128}, {255, 255, 255, 255}, {9, 9, 9, 0}, {0, 0, 0, 0}};
     static const pix_srgba8 table[3] = {{255, 255, 255, 255}, {0, 0, 0, 255}, {200, 200, 200, 127}};
     pix_srgba8 room[4], entries[4];
     uint8_t indices[4];
     size_t len = 0;
     check(pix_make_table_rgba(some, 4, 0, room, entries, 4, &len) == PIX_OK && len == 3, "clear pixels have one entry");
-    check(entries[0].r == 199 && entries[0].a == 128 && entries[2].r == 0 && entries[2].a == 0, "entries by hand");
+    check(!memcmp(entries, some, 3 * sizeof *some), "entries by hand are the first pixels that are seen so");
+    check(pix_make_table_rgba(three, 3, 0, room, entries, 2, &len) == PIX_OK && len == 2, "two entries for three");
+    check(entries[0].r == 0 && entries[0].a == 255 && entries[1].g == 236 && entries[1].a == 192, "entries by hand");
     check(pix_make_table_rgba(some + 1, 2, 0, room, entries, 1, &len) == PIX_OK && len == 1, "one entry for two");
     check(entries[0].r == 255 && entries[0].a == 128, "the mean of white and clear");
     check(pix_map_indexed_rgba(pix_table_rgba_of(table, 3), some, 4, indices) == PIX_OK, "matched by hand");

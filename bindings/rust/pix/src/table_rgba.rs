@@ -122,10 +122,11 @@ impl<'a> TableRgba<'a> {
     }
 }
 
-/// Does what [`make_table_refined`](crate::make_table_refined) does, with a table of colors with an alpha. Pixels that are seen alike
-/// have one entry. Boxes are cut by the alpha too, after red, green and blue over black. In a round an entry also stays where the
-/// mean of its colors would make their squared error greater. The colors of the table are divided by the alpha again, so that they
-/// are seen as just what was found. `work` has as many pixels as there are pixels.
+/// Does what [`make_table_refined`](crate::make_table_refined) does, with a table of colors with an alpha. Of pixels that are seen
+/// alike the first one counts. Where there is room for all of these, they are the table, just as they are. Else boxes are cut by the
+/// alpha too, after red, green and blue over black. In a round an entry also stays where the mean of its colors would make their
+/// squared error greater. What is found is divided by its alpha in the end, and is still seen as just that. `work` is as long as
+/// `pixels`.
 ///
 /// ```
 /// use pix::{Srgba8, make_table_rgba};
@@ -133,7 +134,7 @@ impl<'a> TableRgba<'a> {
 /// let (red, half, clear) = (Srgba8::new(255, 0, 0, 255), Srgba8::new(255, 0, 0, 128), Srgba8::new(7, 8, 9, 0));
 /// let (mut work, mut entries) = ([Srgba8::default(); 4], [Srgba8::default(); 256]);
 /// let made = make_table_rgba(&[red, clear, half, red], 4, &mut work, &mut entries)?;
-/// assert_eq!(made, [red, Srgba8::new(0, 0, 0, 0), half]);
+/// assert_eq!(made, [red, clear, half]);
 /// # Ok::<(), pix::Error>(())
 /// ```
 ///

@@ -315,9 +315,14 @@ fn tables_with_an_alpha_by_hand() {
     let mut work = [Srgba8::default(); 4];
     let mut entries = [Srgba8::new(7, 7, 7, 7); 4];
     let some = [(200, 128), (255, 255), (9, 0), (0, 0)].map(|(v, a)| Srgba8::new(v, v, v, a));
-    // 200 at 128 is 100 over black, and 100 at 128 is nearest to 199.
+    // Clear pixels are seen alike, and the first of them is the entry.
     let made = make_table_rgba(&some, 0, &mut work, &mut entries).unwrap();
-    assert_eq!(made, [(199, 128), (255, 255), (0, 0)].map(|(v, a)| Srgba8::new(v, v, v, a)));
+    assert_eq!(made, &some[..3]);
+    // 200 at 128 is 100 over black and 227 over white, and so nearer to white than to black. With white it makes 178 at 192, which
+    // is 236 before it is multiplied.
+    let three = [(200, 128), (0, 255), (255, 255)].map(|(v, a)| Srgba8::new(v, v, v, a));
+    let made = make_table_rgba(&three, 0, &mut work, &mut entries[..2]).unwrap();
+    assert_eq!(made, [(0, 255), (236, 192)].map(|(v, a)| Srgba8::new(v, v, v, a)));
     // A clear pixel and an opaque white one make half of white.
     let made = make_table_rgba(&some[1..3], 0, &mut work, &mut entries[..1]).unwrap();
     assert_eq!(made, [Srgba8::new(255, 255, 255, 128)]);
