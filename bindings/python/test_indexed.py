@@ -109,11 +109,13 @@ def seen_cut(box):
 
 
 def seen_table(pixels, room, rounds):
-    """The table of pixels with an alpha, as seen colors."""
-    colors = list(map(seen, pixels))
-    firsts = list(dict.fromkeys(colors))
+    """The table of pixels with an alpha: the pixels themselves that are seen as none before them, or what is seen as the
+    means of boxes."""
+    colors, firsts = list(map(seen, pixels)), {}
+    for color, pixel in zip(colors, pixels):
+        firsts.setdefault(color, pixel)
     if len(firsts) <= room:
-        return firsts
+        return list(firsts.values())
     boxes = [colors]
     while len(boxes) < room:
         cuts = [seen_cut(box) for box in boxes]
@@ -125,7 +127,7 @@ def seen_table(pixels, room, rounds):
         for color in colors:
             groups[seen_nearest(entries, color)].append(color)
         entries = [settled(entry, group) for entry, group in zip(entries, groups)]
-    return entries
+    return list(map(straight, entries))
 
 
 def settled(entry, group):
@@ -298,13 +300,14 @@ class Tables(unittest.TestCase):
         for _ in range(40):
             room, rounds = chance.randrange(1, 10), chance.randrange(4)
             pixels = any_pixels(chance, chance.randrange(1, 40))
-            wanted = seen_table(pixels, room, rounds)
             made = pix.table_rgba_from(joined(pixels), room, rounds)
-            self.assertEqual(made, joined(map(straight, wanted)))
-            back = [seen(made[i : i + 4]) for i in range(0, len(made), 4)]
-            self.assertEqual(back, wanted)
+            self.assertEqual(made, joined(seen_table(pixels, room, rounds)))
         self.assertEqual(pix.table_rgba_from(b""), b"")
-        self.assertEqual(pix.table_rgba_from(joined([(9, 8, 7, 0), (1, 2, 3, 255), (0, 0, 0, 0)])), b"\0\0\0\0\1\2\3\xff")
+        # Few colors are kept as they are, the first of those that are seen alike.
+        few = joined([(9, 8, 7, 0), (1, 2, 3, 255), (0, 0, 0, 0), (200, 3, 90, 1), (210, 4, 80, 1), (7, 7, 7, 77)])
+        self.assertEqual(pix.table_rgba_from(few), joined([(9, 8, 7, 0), (1, 2, 3, 255), (200, 3, 90, 1), (7, 7, 7, 77)]))
+        for color in any_pixels(chance, 100):
+            self.assertEqual(seen(straight(seen(color))), seen(color))
 
     def test_seen_diffused(self):
         chance = random.Random(9)

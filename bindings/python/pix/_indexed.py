@@ -231,9 +231,9 @@ def table_rgba_from(pixels: Buffer, length: SupportsIndex = 256, rounds: Support
 
     The pixels, and the entries, are of the format SRGBA8: red, green, blue and alpha, which the colors are not multiplied by. Pixels
     and entries count as they are seen over black and over white. So all clear pixels are one color, and of nearly clear ones the
-    color hardly counts. With no more than `length` distinct colors, as they are seen, the table is just those, in order of first
-    place. Else it is made by cuts, and refined by so many `rounds`, as table_from() makes one of colors. Of opaque pixels it has the
-    colors that table_from() makes of them. It takes work memory of four bytes a pixel.
+    color hardly counts. Where no more than `length` distinct colors are seen, the table has just the pixels that are seen as none
+    before them, in order and as they are. Else it is made by cuts, and refined by so many `rounds`, as table_from() makes one of
+    colors. Of opaque pixels it has the colors that table_from() makes of them. It takes work memory of four bytes a pixel.
 
     Raises PixError where `length` is not from 1 to 256, or the pixels don't fit.
     """
