@@ -20,11 +20,12 @@ same_distance colors entries color p k e = ap (λ c. distance c color) e
 -- the entry in the nearest lane is the nearest entry
 pub nearest_entry : (entries : List (List ℕ)) (lanes : EntryLanes) (blocks : List ColorBlock) (color : List ℕ) (p : ℕ) → AreLanes entries lanes
     → length blocks ≡ blocks_for lanes.len → ((k : ℕ) → k < blocks_for lanes.len → get_or blocks k no_block ≡ get_or lanes.blocks k no_block)
-    → IsNearestLane blocks color (16 * length blocks) p → IsNearest entries color (get_or lanes.indices p 0)
+    → IsNearestLane (lane_distance (λ block i. distance (channels_in block i) color) no_block blocks) (16 * length blocks) p
+    → IsNearest entries color (get_or lanes.indices p 0)
 nearest_entry entries lanes blocks color p h long same near =
     let n : ℕ = 16 * blocks_for lanes.len in
     let all : 16 * length blocks ≡ n = ap (λ k. 16 * k) long in
-    let far : (q : ℕ) → q < n → lane_distance blocks color q ≡ distance_to entries color (get_or lanes.indices q 0) =
+    let far : (q : ℕ) → q < n → lane_distance (λ block i. distance (channels_in block i) color) no_block blocks q ≡ distance_to entries color (get_or lanes.indices q 0) =
     (λ q b.
     let inside : q / 16 < blocks_for lanes.len = omega arith in
     let block = h.blocks (q / 16) inside in

@@ -61,10 +61,10 @@ module _ (xs ys ats bs : List ℕ) (lx : length xs ≡ 16) (ly : length ys ≡ 1
       ∙ ap (λ t. cond t (get_or ats i 0) (get_or bs i 0)) e)
 
 -- one number in every lane
-splat_long : (n : ℕ) → length (replicate 16 n) ≡ 16
+pub splat_long : (n : ℕ) → length (replicate 16 n) ≡ 16
 splat_long n = length-replicate 16 n
 
-splat_at : (n i : ℕ) → i < 16 → get_or (replicate 16 n) i 0 ≡ n
+pub splat_at : (n i : ℕ) → i < 16 → get_or (replicate 16 n) i 0 ≡ n
 splat_at n i below = get_or-replicate 16 i n 0 below
 
 -- the number of each lane
@@ -95,28 +95,41 @@ key_at least ats i long other below small few =
     let k = lane_of (mul (2 ^ 16)) ats (replicate 16 16) i other (splat_long 16) below in
     rw (e, f, g, h, k, same_at least i long below, splat_at 65536 i below, splat_at 16 i below, lanes_are i below) (omega arith)
 
--- the keys of block j, of three numbers of each lane; m is 16 times j
-module _ (reds greens blues : List ℕ) (m : ℕ) (lr : length reds ≡ 16) (lg : length greens ≡ 16) (lb : length blues ≡ 16) where
+-- the sum of two numbers of a wide lane
+pub added_at : (xs ys : List ℕ) (i : ℕ) → length xs ≡ 16 → length ys ≡ 16 → i < 16 → get_or xs i 0 + get_or ys i 0 < 2 ^ 32
+    → get_or (zip2 (add (2 ^ 32)) xs ys) i 0 ≡ get_or xs i 0 + get_or ys i 0
+added_at xs ys i long other below few =
+    let e = lane_of (add (2 ^ 32)) xs ys i long other below in
+    rw e (omega arith)
+
+-- the sum of three numbers of a lane
+module _ (reds greens blues : List ℕ) (lr : length reds ≡ 16) (lg : length greens ≡ 16) (lb : length blues ≡ 16) where
   abbrev two : List ℕ
   two = zip2 (add (2 ^ 32)) (map same reds) (map same greens)
-
-  abbrev three : List ℕ
-  three = zip2 (add (2 ^ 32)) two (map same blues)
-
-  abbrev high : List ℕ
-  high = zip2 (mul (2 ^ 32)) three (replicate 16 256)
-
-  abbrev low : List ℕ
-  low = zip2 (add (2 ^ 32)) (map same numbers) (replicate 16 m)
 
   two_long : length two ≡ 16
   two_long = long_of (add (2 ^ 32)) (map same reds) (map same greens) (length-map reds same ∙ lr) (length-map greens same ∙ lg)
 
-  three_long : length three ≡ 16
-  three_long = long_of (add (2 ^ 32)) two (map same blues) two_long (length-map blues same ∙ lb)
+  pub long_wide_sum : length (zip2 (add (2 ^ 32)) two (map same blues)) ≡ 16
+  long_wide_sum = long_of (add (2 ^ 32)) two (map same blues) two_long (length-map blues same ∙ lb)
+
+  pub wide_sum_at : (i : ℕ) → i < 16 → get_or reds i 0 < 65536 → get_or greens i 0 < 65536 → get_or blues i 0 < 65536
+      → get_or (zip2 (add (2 ^ 32)) two (map same blues)) i 0 ≡ get_or reds i 0 + get_or greens i 0 + get_or blues i 0
+  wide_sum_at i below sr sg sb =
+      let g = lane_of (add (2 ^ 32)) two (map same blues) i two_long (length-map blues same ∙ lb) below in
+      let h = lane_of (add (2 ^ 32)) (map same reds) (map same greens) i (length-map reds same ∙ lr) (length-map greens same ∙ lg) below in
+      rw (g, h, same_at reds i lr below, same_at greens i lg below, same_at blues i lb below) (omega arith)
+
+-- the keys of block j, of a number of each lane; m is 16 times j
+module _ (far : List ℕ) (m : ℕ) (long : length far ≡ 16) where
+  abbrev high : List ℕ
+  high = zip2 (mul (2 ^ 32)) far (replicate 16 256)
+
+  abbrev low : List ℕ
+  low = zip2 (add (2 ^ 32)) (map same numbers) (replicate 16 m)
 
   high_long : length high ≡ 16
-  high_long = long_of (mul (2 ^ 32)) three (replicate 16 256) three_long (splat_long 256)
+  high_long = long_of (mul (2 ^ 32)) far (replicate 16 256) long (splat_long 256)
 
   low_long : length low ≡ 16
   low_long = long_of (add (2 ^ 32)) (map same numbers) (replicate 16 m) refl (splat_long m)
@@ -124,25 +137,10 @@ module _ (reds greens blues : List ℕ) (m : ℕ) (lr : length reds ≡ 16) (lg 
   pub long_wide_key : length (zip2 (add (2 ^ 32)) high low) ≡ 16
   long_wide_key = long_of (add (2 ^ 32)) high low high_long low_long
 
-  pub wide_key_at : (i j : ℕ) → i < 16 → j < 16 → m ≡ 16 * j → get_or reds i 0 < 65536 → get_or greens i 0 < 65536 → get_or blues i 0 < 65536
-      → get_or (zip2 (add (2 ^ 32)) high low) i 0 ≡ (get_or reds i 0 + get_or greens i 0 + get_or blues i 0) * 256 + (16 * j + i)
-  wide_key_at i j below few is sr sg sb =
+  pub wide_key_at : (i j : ℕ) → i < 16 → j < 16 → m ≡ 16 * j → get_or far i 0 < 16777216
+      → get_or (zip2 (add (2 ^ 32)) high low) i 0 ≡ get_or far i 0 * 256 + (16 * j + i)
+  wide_key_at i j below few is small =
       let e = lane_of (add (2 ^ 32)) high low i high_long low_long below in
-      let f = lane_of (mul (2 ^ 32)) three (replicate 16 256) i three_long (splat_long 256) below in
-      let g = lane_of (add (2 ^ 32)) two (map same blues) i two_long (length-map blues same ∙ lb) below in
-      let h = lane_of (add (2 ^ 32)) (map same reds) (map same greens) i (length-map reds same ∙ lr) (length-map greens same ∙ lg) below in
+      let f = lane_of (mul (2 ^ 32)) far (replicate 16 256) i long (splat_long 256) below in
       let k = lane_of (add (2 ^ 32)) (map same numbers) (replicate 16 m) i refl (splat_long m) below in
-      rw (
-        e,
-        f,
-        g,
-        h,
-        k,
-        same_at reds i lr below,
-        same_at greens i lg below,
-        same_at blues i lb below,
-        splat_at 256 i below,
-        splat_at m i below,
-        same_at numbers i refl below,
-        lanes_are i below,
-      ) (omega arith)
+      rw (e, f, k, splat_at 256 i below, splat_at m i below, same_at numbers i refl below, lanes_are i below) (omega arith)

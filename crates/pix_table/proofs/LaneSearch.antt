@@ -1,13 +1,12 @@
 -- The nearest lane.
 use Rattle.std.specs.Prelude.{min, nat_eq, if◌then◌else◌}
-use Rattle.std.proofs.Common.{◌≡◌, ℕ, ◌+◌, ◌*◌, ◌/◌, ◌%◌, ◌<◌, ◌≤◌, List, length, get_or, ap, sym, ◌∙◌, subst, arith, inl, inr}
+use Rattle.std.proofs.Common.{◌≡◌, ℕ, ◌+◌, ◌*◌, ◌/◌, ◌%◌, ◌<◌, ◌≤◌, List, length, get_or, replicate, ap, sym, ◌∙◌, subst, arith, inl, inr}
+use lib.Lanes.{zip2}
 use Rattle.std.proofs.lemmas.Bool.{cases_lt}
 use Rattle.std.proofs.lemmas.Bool.Decides.{nat_tests}
 use Rattle.std.proofs.lemmas.List.{get_or_default}
-use Rattle.pix_table.specs.Nearest.{distance}
-use Rattle.pix_table.specs.ColorBlocks.{channels_in}
-use Rattle.pix_table.specs.Lanes.{IsNearestLane, IsLeastIn, IsLeastKeyIn, IsLeastOf, lane_distance, no_block}
-use Rattle.pix_table.specs.declared.color_block.ColorBlock.{ColorBlock}
+use Rattle.pix_table.proofs.LaneNumbers.{lane_of, long_of, splat_at, splat_long}
+use Rattle.pix_table.specs.Lanes.{IsNearestLane, IsLeastIn, IsLeastKeyIn, IsLeastOf, lane_distance}
 
 -- one key more
 pub least_more : (keys : List ℕ) (i least new : ℕ) → IsLeastOf keys i least → new ≡ min least (get_or keys i 0) → IsLeastOf keys (i + 1) new
@@ -31,16 +30,6 @@ least_more keys i least new h e = elim (cases_lt (get_or keys i 0) least) [
     ];
   }
 ]
-
--- no block yet
-pub none_in : (d : ℕ → ℕ) (i : ℕ) → IsLeastIn d i 0 65535 0
-none_in d i = record {
-  bound = omega arith;
-  few = omega arith;
-  below = λ k b. absurd (omega arith);
-  first = λ k b. absurd (omega arith);
-  is = λ b. absurd (omega arith);
-}
 
 -- one block more, whose distance in the lane is far, up to 65535
 pub more_in : (d : ℕ → ℕ) (i j least at far now next : ℕ) → j < 16 → IsLeastIn d i j least at → far ≡ min 65535 (d (16 * j + i)) → now ≡ min least far
@@ -78,12 +67,11 @@ lane_is : (p : ℕ) → 16 * (p / 16) + p % 16 ≡ p
 lane_is p = omega arith
 
 -- the least key of all lanes is that of the nearest one, where that is nearer than 65535
-pub nearest_of_lanes : (blocks : List ColorBlock) (color : List ℕ) (n : ℕ) (least ats keys : List ℕ) (key : ℕ)
-    → ((i : ℕ) → i < 16 → IsLeastIn (lane_distance blocks color) i n (get_or least i 0) (get_or ats i 0))
+pub nearest_of_lanes : (d : ℕ → ℕ) (n : ℕ) (least ats keys : List ℕ) (key : ℕ)
+    → ((i : ℕ) → i < 16 → IsLeastIn d i n (get_or least i 0) (get_or ats i 0))
     → ((i : ℕ) → i < 16 → get_or keys i 0 ≡ get_or least i 0 * 65536 + (16 * get_or ats i 0 + i))
-    → IsLeastOf keys 16 key → key < 4294901760 → IsNearestLane blocks color (16 * n) (key % 256)
-nearest_of_lanes blocks color n least ats keys key each own h near =
-    let d : ℕ → ℕ = lane_distance blocks color in
+    → IsLeastOf keys 16 key → key < 4294901760 → IsNearestLane d (16 * n) (key % 256)
+nearest_of_lanes d n least ats keys key each own h near =
     let i : ℕ = h.at in
     let here = each i h.stands in
     let a : ℕ = get_or ats i 0 in
@@ -149,11 +137,10 @@ more_key d i j least key now h e m = elim (cases_lt key least) [
   }
 ]
 
-pub nearest_of_wide_keys : (blocks : List ColorBlock) (color : List ℕ) (n : ℕ) (keys : List ℕ) (key : ℕ) → n ≤ 16
-    → ((i : ℕ) → i < 16 → IsLeastKeyIn (lane_distance blocks color) i n (get_or keys i 0))
-    → IsLeastOf keys 16 key → IsNearestLane blocks color (16 * n) (key % 256)
-nearest_of_wide_keys blocks color n keys key few each h =
-    let d : ℕ → ℕ = lane_distance blocks color in
+pub nearest_of_wide_keys : (d : ℕ → ℕ) (n : ℕ) (keys : List ℕ) (key : ℕ) → n ≤ 16
+    → ((i : ℕ) → i < 16 → IsLeastKeyIn d i n (get_or keys i 0))
+    → IsLeastOf keys 16 key → IsNearestLane d (16 * n) (key % 256)
+nearest_of_wide_keys d n keys key few each h =
     let here = each h.at h.stands in
     let p : ℕ = 16 * here.at + h.at in
     let e : key ≡ d p * 256 + p = h.is ∙ here.is in
@@ -173,12 +160,85 @@ nearest_of_wide_keys blocks color n keys key few each h =
     }
 
 -- how far a color is from one of a block
-pub lane_distance_is : (blocks : List ColorBlock) (color : List ℕ) (j i : ℕ) (d : ColorBlock) → j < length blocks → i < 16
-    → distance (channels_in (get_or blocks j d) i) color ≡ lane_distance blocks color (16 * j + i)
-lane_distance_is blocks color j i d below few =
-    let own : get_or blocks j d ≡ get_or blocks j no_block = get_or_default blocks j d no_block below in
+pub lane_distance_is : {B : Type 0} (apart : B → ℕ → ℕ) (none : B) (blocks : List B) (j i : ℕ) (d : B) → j < length blocks → i < 16
+    → apart (get_or blocks j d) i ≡ lane_distance apart none blocks (16 * j + i)
+lane_distance_is apart none blocks j i d below few =
+    let own : get_or blocks j d ≡ get_or blocks j none = get_or_default blocks j d none below in
     let q : j ≡ (16 * j + i) / 16 = omega arith in
     let r : i ≡ (16 * j + i) % 16 = omega arith in
-    ap (λ (b : ColorBlock). distance (channels_in b i) color) own
-    ∙ ap (λ k. distance (channels_in (get_or blocks k no_block) i) color) q
-    ∙ ap (λ k. distance (channels_in (get_or blocks ((16 * j + i) / 16) no_block) k) color) r
+    ap (λ b. apart b i) own
+    ∙ ap (λ k. apart (get_or blocks k none) i) q
+    ∙ ap (λ k. apart (get_or blocks ((16 * j + i) / 16) none) k) r
+
+-- the least distance of each lane in the first j blocks
+pub record AreLeastIn {B : Type 0} (apart : B → ℕ → ℕ) (blocks : List B) (j : ℕ) (least ats : List ℕ) : Type 0 where
+  pub long_least : length least ≡ 16
+  pub long_at : length ats ≡ 16
+  pub few : (i : ℕ) → i < 16 → get_or ats i 0 < 16
+  pub each : (none : B) (i : ℕ) → i < 16 → IsLeastIn (lane_distance apart none blocks) i j (get_or least i 0) (get_or ats i 0)
+
+-- no block yet
+pub none_in : {B : Type 0} (apart : B → ℕ → ℕ) (blocks : List B) → AreLeastIn apart blocks 0 (replicate 16 65535) (replicate 16 0)
+none_in apart blocks = record {
+  long_least = splat_long 65535;
+  long_at = splat_long 0;
+  few = λ i b. omega (arith, splat_at 0 i b);
+  each = λ d i b. record {
+    bound = omega (arith, splat_at 65535 i b);
+    few = omega (arith, splat_at 0 i b);
+    below = λ k c. absurd (omega arith);
+    first = λ k c. absurd (omega (arith, splat_at 0 i b));
+    is = λ less. absurd (omega (arith, splat_at 65535 i b));
+  };
+}
+
+-- one block more, whose distances are far, up to 65535
+pub lanes_more : {B : Type 0} (apart : B → ℕ → ℕ) (blocks : List B) (j : ℕ) (block : B) (least ats far now next : List ℕ) → j < 16 → j < length blocks
+    → block ≡ get_or blocks j block → AreLeastIn apart blocks j least ats → length far ≡ 16
+    → ((i : ℕ) → i < 16 → get_or far i 0 ≡ min 65535 (apart block i))
+    → now ≡ zip2 min least far → length next ≡ 16
+    → ((i : ℕ) → i < 16 → get_or next i 0 ≡ (if nat_eq (get_or now i 0) (get_or least i 0) then get_or ats i 0 else j))
+    → AreLeastIn apart blocks (j + 1) now next
+lanes_more {B = B} apart blocks j block least ats far now next few inside read h long is now_is long_next next_is =
+    let each : (none : B) (i : ℕ) → i < 16 → IsLeastIn (lane_distance apart none blocks) i (j + 1) (get_or now i 0) (get_or next i 0) =
+    (λ none i below.
+    let there = is i below ∙ ap (λ b. min 65535 (apart b i)) read ∙ ap (min 65535) (lane_distance_is apart none blocks j i block inside below) in
+    let lesser = ap (λ xs. get_or xs i 0) now_is ∙ lane_of min least far i h.long_least long below in
+    more_in (lane_distance apart none blocks) i j _ _ _ _ _ few (h.each none i below) there lesser (next_is i below)) in
+    record {
+      long_least = ap length now_is ∙ long_of min least far h.long_least long;
+      long_at = long_next;
+      few = λ i below. let e = each block i below in e.few;
+      each = each;
+    }
+
+-- the least key of each lane in the first j blocks
+pub record AreLeastKeysIn {B : Type 0} (apart : B → ℕ → ℕ) (blocks : List B) (j : ℕ) (keys : List ℕ) : Type 0 where
+  pub long : length keys ≡ 16
+  pub each : (none : B) (i : ℕ) → i < 16 → IsLeastKeyIn (lane_distance apart none blocks) i j (get_or keys i 0)
+
+-- the keys of a block, of the distance of each lane
+pub record AreKeys {B : Type 0} (apart : B → ℕ → ℕ) (block : B) (j : ℕ) (keys : List ℕ) : Type 0 where
+  pub long : length keys ≡ 16
+  pub each : (i : ℕ) → i < 16 → get_or keys i 0 ≡ apart block i * 256 + (16 * j + i)
+
+pub keys_are : {B : Type 0} (apart : B → ℕ → ℕ) (block : B) (j : ℕ) (far keys : List ℕ) → ((i : ℕ) → i < 16 → get_or far i 0 ≡ apart block i) → length keys ≡ 16
+    → ((i : ℕ) → i < 16 → get_or keys i 0 ≡ get_or far i 0 * 256 + (16 * j + i)) → AreKeys apart block j keys
+keys_are apart block j far keys is long each = record { long = long; each = λ i b. each i b ∙ ap (λ n. n * 256 + (16 * j + i)) (is i b) }
+
+pub first_keys : {B : Type 0} (apart : B → ℕ → ℕ) (blocks : List B) (block : B) (keys : List ℕ) → 0 < length blocks → block ≡ get_or blocks 0 block → AreKeys apart block 0 keys
+    → AreLeastKeysIn apart blocks 1 keys
+first_keys apart blocks block keys some read h = record {
+  long = h.long;
+  each = λ none i b. first_key (lane_distance apart none blocks) i _
+      (h.each i b ∙ ap (λ n. n * 256 + (16 * 0 + i)) (ap (λ c. apart c i) read ∙ lane_distance_is apart none blocks 0 i block some b));
+}
+
+pub more_keys : {B : Type 0} (apart : B → ℕ → ℕ) (blocks : List B) (j : ℕ) (block : B) (least keys now : List ℕ) → j < length blocks
+    → block ≡ get_or blocks j block → AreLeastKeysIn apart blocks j least → AreKeys apart block j keys → now ≡ zip2 min least keys → AreLeastKeysIn apart blocks (j + 1) now
+more_keys apart blocks j block least keys now inside read h k now_is = record {
+  long = ap length now_is ∙ long_of min least keys h.long k.long;
+  each = λ none i b. more_key (lane_distance apart none blocks) i j _ _ _ (h.each none i b)
+      (k.each i b ∙ ap (λ n. n * 256 + (16 * j + i)) (ap (λ c. apart c i) read ∙ lane_distance_is apart none blocks j i block inside b))
+      (ap (λ xs. get_or xs i 0) now_is ∙ lane_of min least keys i h.long k.long b);
+}

@@ -114,7 +114,7 @@ module _ (apart : List ℕ → List ℕ → ℕ) where
 
 -- and where an entry settles so that it is no farther from its colors, in all
 module _ (apart : List ℕ → List ℕ → ℕ) (settle : List ℕ → List (List ℕ) → List ℕ)
-  (settled_least : (entry : List ℕ) (group : List (List ℕ)) → sum_by (λ c. apart (settle entry group) c) group ≤ sum_by (λ c. apart entry c) group) where
+    (settled_least : (entry : List ℕ) (group : List (List ℕ)) → sum_by (λ c. apart (settle entry group) c) group ≤ sum_by (λ c. apart entry c) group) where
   group_falls : (colors old new : List (List ℕ)) (round : IsRoundBy apart settle colors old new) (i : ℕ) → i < length old
       → sum_by (λ color. least_distance_by apart new color) (get_or round.groups i [])
       ≤ sum_by (λ color. least_distance_by apart old color) (get_or round.groups i [])

@@ -1,6 +1,6 @@
 -- The rounds of a table that is made by the cut.
 use Rattle.std.specs.Prelude.{MatchOption}
-use Rattle.std.proofs.Common.{◌≡◌, ◌⊎◌, ℕ, zero, suc, ◌≤◌, List, Option, Some, None, IsPermutation, refl, inl, inr, arith, sym, subst}
+use Rattle.std.proofs.Common.{◌≡◌, ℕ, zero, suc, ◌≤◌, List, Option, Some, None, IsPermutation, refl, inl, inr, arith, sym, subst}
 use Rattle.pix_table.specs.Cut.{IsCutTable}
 use Rattle.pix_table.specs.From.{IsTableFrom}
 use Rattle.pix_table.specs.Nearest.{distance}

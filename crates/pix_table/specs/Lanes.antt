@@ -1,7 +1,5 @@
 -- The entries of a table in lanes. No clause of a public call cites this file.
 use Rattle.std.specs.Prelude.{◌≡◌, ℕ, ◌+◌, ◌*◌, ◌/◌, ◌%◌, ◌<◌, ◌≤◌, List, [], slice_index, slice_index_or}
-use Rattle.pix_table.specs.Nearest.{distance}
-use Rattle.pix_table.specs.ColorBlocks.{channels_in}
 use Rattle.pix_table.specs.declared.color_block.ColorBlock.{ColorBlock}
 
 -- no colors
@@ -9,14 +7,14 @@ abbrev pub no_block : ColorBlock
 no_block = record { red = []; green = []; blue = [] }
 
 -- how far a color is from the one in a lane: lane p is number p % 16 of block p / 16
-abbrev pub lane_distance : List ColorBlock → List ℕ → ℕ → ℕ
-lane_distance blocks color p = distance (channels_in (slice_index_or blocks (p / 16) no_block) (p % 16)) color
+abbrev pub lane_distance : {B : Type 0} (apart : B → ℕ → ℕ) (none : B) → List B → ℕ → ℕ
+lane_distance apart none blocks p = apart (slice_index_or blocks (p / 16) none) (p % 16)
 
--- of the first n lanes the one that is nearest to a color, the first of equals
-pub record IsNearestLane (blocks : List ColorBlock) (color : List ℕ) (n p : ℕ) : Type 0 where
+-- of the first n lanes the one at the least distance, the first of equals
+pub record IsNearestLane (far : ℕ → ℕ) (n p : ℕ) : Type 0 where
   pub stands : p < n
-  pub least : (q : ℕ) → q < n → lane_distance blocks color p ≤ lane_distance blocks color q
-  pub first : (q : ℕ) → q < p → lane_distance blocks color p < lane_distance blocks color q
+  pub least : (q : ℕ) → q < n → far p ≤ far q
+  pub first : (q : ℕ) → q < p → far p < far q
 
 -- the least distance in lane i of the first j blocks, up to 65535, and the first block that has it
 pub record IsLeastIn (d : ℕ → ℕ) (i j least at : ℕ) : Type 0 where

@@ -1,18 +1,10 @@
 -- Of `wide_keys`: the key of each lane.
 use Rattle.std.proofs.Common.{arith}
-use Rattle.std.proofs.lemmas.Simd.{Each1-get_or}
-use mir.Syntax.{w16}
-use mir.Val.{Fits}
 use Rattle.pix_table.proofs.LaneNumbers.{wide_key_at, long_wide_key}
 use Rattle.pix_table.proofs.lanes.wide_keys.Goals as goal
 
 pub returns-clause-long : goal.returns-clause-long
-returns-clause-long c = long_wide_key c.args.red c.args.green c.args.blue _ (omega arith) (omega arith) (omega arith)
+returns-clause-long c = long_wide_key c.args.far _ (omega arith)
 
 pub returns-clause-each : goal.returns-clause-each
-returns-clause-each c = λ i below.
-    let red = Each1-get_or (Fits w16) c.args.red i 0 (omega arith) c.fits-red.1 in
-    let green = Each1-get_or (Fits w16) c.args.green i 0 (omega arith) c.fits-green.1 in
-    let blue = Each1-get_or (Fits w16) c.args.blue i 0 (omega arith) c.fits-blue.1 in
-    wide_key_at c.args.red c.args.green c.args.blue _ (omega arith) (omega arith) (omega arith) i c.args.j below c.requires (omega arith)
-    red.fits green.fits blue.fits
+returns-clause-each c = λ i below. wide_key_at c.args.far _ (omega arith) i c.args.j below c.requires.block (omega arith) (c.requires.few i below)

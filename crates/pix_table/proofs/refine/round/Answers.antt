@@ -1,5 +1,5 @@
 -- Of `round`: that the sums make it.
-use Rattle.std.proofs.Common.{◌≤◌, ◌*◌, map, length, get_or, refl, arith, sym}
+use Rattle.std.proofs.Common.{map, length, refl, arith, sym}
 use Rattle.std.proofs.lemmas.List.{length-map}
 use Rattle.pix_table.specs.Nearest.{distance, numbers}
 use Rattle.pix_table.specs.Refine.{refined}

@@ -3,6 +3,7 @@ use Rattle.std.proofs.Common.{arith, sym, subst, get_or}
 use Rattle.std.proofs.lemmas.List.{length-take-le, get_or-take}
 use Rattle.pix_table.specs.Nearest.{IsNearest, numbers}
 use Rattle.pix_table.specs.EntryLanes.{blocks_for}
+use Rattle.pix_table.specs.Lanes.{no_block}
 use Rattle.pix_table.proofs.LaneEntries.{nearest_entry}
 use Rattle.pix_table.proofs.entry_lanes.EntryLanes.nearest.Goals as goal
 
@@ -11,4 +12,4 @@ returns c = λ entries h.
     let lanes = c.args.self.now in
     subst (λ p. IsNearest entries (numbers c.args.clr) (get_or lanes.indices p 0)) (sym c.from.ensures)
     (nearest_entry entries lanes _ (numbers c.args.clr) _ h
-    (length-take-le (blocks_for lanes.len) lanes.blocks (omega arith)) (λ k b. get_or-take (blocks_for lanes.len) lanes.blocks k _ b) c.nearest_lane-lane.ensures)
+    (length-take-le (blocks_for lanes.len) lanes.blocks (omega arith)) (λ k b. get_or-take (blocks_for lanes.len) lanes.blocks k _ b) (c.nearest_lane-lane.ensures no_block))
