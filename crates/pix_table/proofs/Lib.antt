@@ -48,3 +48,5 @@ pub mod TableRounds
 pub mod SeenErrors
 pub mod SeenRounds
 pub mod SeenMade
+pub mod SeenColors
+pub mod SeenLaneEntries

@@ -2,7 +2,7 @@
 use Rattle.std.specs.Prelude.{slice_get}
 use Rattle.std.proofs.Common.{◌≡◌, ◌≢◌, ℕ, ◌+◌, ◌<◌, List, [], ◌∷◌, ◌++◌, length, map, take, set, get_or, refl, arith, sym, ap, ◌∙◌, subst, inl, inr, Some, length-set}
 use Rattle.std.proofs.lemmas.Bool.{cases_lt}
-use Rattle.std.proofs.lemmas.List.{get_or-set_other, map-append, take_more, take_more_set}
+use Rattle.std.proofs.lemmas.List.{get_or-set_other, length-map, map-append, map-set, take_more, take_more_set}
 use Rattle.std.proofs.lemmas.Option.{slice_get_read, slice_get-get_or}
 use Rattle.std.proofs.lemmas.Grind.{get_or-set_at}
 
@@ -40,3 +40,18 @@ looked_more entries xs at i x inside there read before k below = elim (cases_lt 
       slice_get-get_or (set xs i x) k x (omega (arith, length-set xs i x)) ∙ ap Some (get_or-set_at xs i k x x e inside)
       ∙ sym (slice_get_read entries (length entries) (at i) x refl there read) ∙ ap (λ j. slice_get entries (at j)) (sym e)
 ]
+
+-- what holds of what f makes of each element below i, and of the one that is written there, holds
+-- of each below i + 1
+pub mapped_more : {X : Type 0} (f : X → List ℕ) (P : ℕ → List ℕ → Type 0) (xs : List X) (i : ℕ) (x : X) → i < length xs
+    → ((k : ℕ) → k < i → P k (get_or (map f xs) k [])) → P i (f x) → (k : ℕ) → k < i + 1 → P k (get_or (map f (set xs i x)) k [])
+mapped_more f P xs i x inside before here k below =
+    let written : get_or (map f (set xs i x)) k [] ≡ get_or (set (map f xs) i (f x)) k [] = ap (λ l. get_or l k []) (map-set f xs i x) in
+    elim (cases_lt k i) [
+      | inl b ↦
+          let apart : k ≢ i = (λ e. omega arith) in
+          subst (P k) (sym (written ∙ get_or-set_other (map f xs) i k (f x) [] apart)) (before k b)
+      | inr b ↦
+          let e : k ≡ i = omega arith in
+          subst (P k) (sym (written ∙ get_or-set_at (map f xs) i k (f x) [] e (omega (arith, length-map xs f)))) (subst (λ j. P j (f x)) (sym e) here)
+    ]

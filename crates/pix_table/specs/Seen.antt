@@ -30,8 +30,8 @@ seen pixel =
 -- the color of a pixel over white
 abbrev pub over_white : List ℕ → List ℕ
 over_white color =
-    slice_index color 0 + (255 - slice_index color 3) ∷ slice_index color 1 + (255 - slice_index color 3)
-    ∷ slice_index color 2 + (255 - slice_index color 3) ∷ []
+    (slice_index color 0 + (255 - slice_index color 3)) ∷ (slice_index color 1 + (255 - slice_index color 3))
+    ∷ (slice_index color 2 + (255 - slice_index color 3)) ∷ []
 
 -- how far apart two pixels are seen: over black and over white, added
 abbrev pub seen_distance : List ℕ → List ℕ → ℕ

@@ -1,10 +1,9 @@
 -- Colors that are seen, in lanes. No clause of a public call cites this file.
-use Rattle.std.specs.Prelude.{◌≡◌, ℕ, ◌+◌, ◌-◌, ◌*◌, ◌/◌, ◌<◌, ◌≤◌, List, [], ◌∷◌, length, min, slice_index, slice_index_or}
+use Rattle.std.specs.Prelude.{◌≡◌, ℕ, ◌-◌, ◌*◌, ◌<◌, List, [], ◌∷◌, length, min, slice_index, slice_index_or}
 use Rattle.pix_table.specs.ColorBlocks.{IsBlock}
 use Rattle.pix_table.specs.Seen.{over_white}
 use Rattle.pix_table.specs.Lanes.{no_block}
-use Rattle.pix_table.specs.EntryLanes.{blocks_for}
-use Rattle.pix_table.specs.declared.rgba.lanes.SeenBlock.{SeenBlock}
+use Rattle.pix_table.specs.declared.rgba.views.SeenBlock.{SeenBlock}
 use Rattle.pix_table.specs.declared.rgba.lanes.SeenLanes.{SeenLanes}
 
 -- the color of a pixel over black

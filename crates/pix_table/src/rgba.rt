@@ -8,6 +8,7 @@ pub(crate) mod matched;
 pub(crate) mod place;
 pub(crate) mod refine;
 pub(crate) mod sums;
+mod views;
 
 pub use crate::rgba::color::{RgbaColor, Seen};
 pub use crate::rgba::from::rgba_table_from;

@@ -2,7 +2,12 @@
 ghost use Rattle.std.specs.Prelude.{◌≡◌, ◌≤◌};
 ghost use Rattle.pix_chan.specs.Product.{channel_product};
 ghost use Rattle.pix_table.specs.Seen.{
-    AreSeen, over_alpha, rgba_numbers, seen, seen_numbers, straight,
+  AreSeen,
+  over_alpha,
+  rgba_numbers,
+  seen,
+  seen_numbers,
+  straight,
 };
 
 use crate::color::{Color, TablePixel};
