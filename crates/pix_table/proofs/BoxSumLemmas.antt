@@ -4,7 +4,7 @@ use Rattle.std.proofs.lemmas.List.Sums.{sum_by-append}
 use Rattle.std.proofs.lemmas.Nat.{mul-le}
 use Rattle.std.proofs.Math.Nat.{div-le_of_le-mul}
 use Rattle.pix_table.specs.Places.{IsCutBy, below, gain, sum_in, weight}
-use Rattle.pix_table.specs.BestPlaces.{AreByValue, AreBytes, ArePart, AreSums, CanCutBy, gain_at, high_weight, is_at, is_below, low_weight, sum_of, weight_by}
+use Rattle.pix_table.specs.BestPlaces.{AreBytes, ArePart, AreSums, CanCutBy, gain_at, high_weight, is_at, is_below, low_weight, sum_of, weight_by}
 use Rattle.pix_table.specs.Cut.{mean}
 use Rattle.pix_table.specs.Groups.{mean_by}
 use Rattle.pix_table.specs.declared.box_sums.Sums.{Sums}

@@ -17,6 +17,7 @@ pub mod PlaceLemmas
 pub mod PlaceSteps
 pub mod SeenSumLemmas
 pub mod SeenWeights
+pub mod Gains
 pub mod PieceBoxes
 pub mod CutColors
 pub mod SeenTable

@@ -6,7 +6,7 @@ ghost use Rattle.pix_table.specs.BestPlaces.{is_at, sum_of, weight_by, word_of};
 
 use crate::color::Color;
 use crate::cut::channel;
-use crate::weight::{weight, weight_of_few};
+use crate::weight::{square, weight, weight_of_few};
 
 /// The most colors whose words may be added: their count has 16 bits, and each of two sums 24.
 pub(crate) const BLOCK: usize = 65535;
@@ -16,6 +16,12 @@ const ONE: u64 = 1 << 48;
 
 /// What the number of one channel is multiplied by in a word. That of the other is below it.
 const HIGH: u64 = 1 << 24;
+
+/// More than a cut of a block gains.
+const MUCH: u128 = 1 << 62;
+
+/// Fewer colors than these have sums whose mean is found in 64 bits.
+const MANY: u128 = 1 << 54;
 
 /// How many colors there are, and the sums of their numbers in each channel.
 #[derive(Clone, Copy)]
@@ -187,6 +193,38 @@ impl Sums {
         u128::from((low.weight_of_few() + high.weight_of_few()).saturating_sub(whole as u64))
     }
 
+    /// Returns whether it tells, without a division, that such a cut gains at most `most`.
+    #[inline(always)]
+    fn gains_little(self, low: Sums, whole: u128, most: u128) -> bool
+        requires few { self.count ≤ 65535 }
+        requires part { ArePart low self }
+        requires whole { whole ≤ 195075 * self.count }
+        ensures { result ≡ true → weight_by low.count low.red low.green low.blue
+            + weight_by (self.count - low.count) (self.red - low.red) (self.green - low.green)
+            (self.blue - low.blue)
+            - whole ≤ most }
+    {
+        let high = self.without(low);
+        let (count, others) = (low.count as u64, high.count as u64);
+        let squares = u128::from(low.squares_of_few()) * u128::from(others);
+        let other_squares = u128::from(high.squares_of_few()) * u128::from(count);
+        most < MUCH
+            && squares + other_squares
+                < u128::from(most as u64 + whole as u64 + 1) * u128::from(count * others)
+    }
+
+    /// Returns the squares of the sums of a block, added.
+    #[inline(always)]
+    fn squares_of_few(self) -> u64
+        requires few { self.count ≤ 65535 }
+        requires red { self.red ≤ 255 * self.count }
+        requires green { self.green ≤ 255 * self.count }
+        requires blue { self.blue ≤ 255 * self.count }
+        ensures { result ≡ self.red * self.red + self.green * self.green + self.blue * self.blue }
+    {
+        square(self.red as u64) + square(self.green as u64) + square(self.blue as u64)
+    }
+
     /// Does what [`Sums::weight`] does for the sums of a block, in 64 bits.
     #[inline(always)]
     fn weight_of_few(self) -> u64
@@ -215,13 +253,16 @@ pub(crate) fn sums_of(colors: &[Color]) -> Sums
     sums
 }
 
-/// Returns the whole part of a quotient that is below 256: by differences, since no processor
-/// divides numbers of 128 bits.
+/// Returns the whole part of a quotient that is below 256. Numbers of 128 bits are divided by
+/// differences, since no processor divides them.
 pub(crate) fn quotient(n: u128, d: u128) -> u8
     requires some { 0 < d }
     requires few { n < 256 * d }
     ensures { result ≡ n / d }
 {
+    if d < 2 * MANY {
+        return (n as u64 / d as u64) as u8;
+    }
     let mut rest = n;
     for q in 0..255 {
         if rest < d {
@@ -256,6 +297,17 @@ pub(crate) trait ByValue {
             + weight_by (all.count - low.count) (all.red - low.red) (all.green - low.green)
             (all.blue - low.blue)
             - whole };
+
+    /// Returns whether it tells, without a division, that such a cut gains at most `most`.
+    fn gains_little(&self, all: Sums, low: Sums, whole: u128, most: u128) -> bool
+        requires sums { (k : ℕ) × (box : List (List ℕ)) × sums self.now k box
+            × AreSums (λ color. true) box all }
+        requires part { ArePart low all }
+        requires whole { whole ≤ 195075 * all.count }
+        ensures { result ≡ true → weight_by low.count low.red low.green low.blue
+            + weight_by (all.count - low.count) (all.red - low.red) (all.green - low.green)
+            (all.blue - low.blue)
+            - whole ≤ most };
 }
 
 impl ByValue for [Sums; 256] {
@@ -268,6 +320,10 @@ impl ByValue for [Sums; 256] {
 
     fn gain(&self, all: Sums, low: Sums, whole: u128) -> u128 {
         all.gain(low, whole)
+    }
+
+    fn gains_little(&self, _all: Sums, _low: Sums, _whole: u128, _most: u128) -> bool {
+        false
     }
 }
 
@@ -283,6 +339,11 @@ impl ByValue for [u64; 256] {
     #[inline(always)]
     fn gain(&self, all: Sums, low: Sums, whole: u128) -> u128 {
         all.gain_of_few(low, whole)
+    }
+
+    #[inline(always)]
+    fn gains_little(&self, all: Sums, low: Sums, whole: u128, most: u128) -> bool {
+        all.gains_little(low, whole, most)
     }
 }
 

@@ -1,9 +1,9 @@
 //! The place at which a cut of a box of colors lowers the squared error most.
-ghost use Rattle.std.specs.Prelude.{◌≡◌, ℕ, ◌+◌, ◌<◌, ◌≤◌, All, List, length, map, MatchOption, true};
+ghost use Rattle.std.specs.Prelude.{◌≡◌, ℕ, ◌+◌, ◌-◌, ◌*◌, ◌<◌, ◌≤◌, All, List, length, map, MatchOption, true};
 ghost use Rattle.pix_table.specs.Nearest.{numbers};
 ghost use Rattle.pix_table.specs.Places.{CannotBeCut, HasBest};
 ghost use Rattle.pix_table.specs.BestPlaces.{AreBytes, AreSums, CanCut};
-ghost use Rattle.pix_table.specs.BestPlaces.{IsBestUpTo, gain_at};
+ghost use Rattle.pix_table.specs.BestPlaces.{ArePart, IsBestUpTo, gain_at, weight_by};
 
 use crate::box_sums::{BLOCK, ByValue, Sums, add_blocks, add_words, total, total_of_words};
 use crate::color::Color;
@@ -94,14 +94,49 @@ fn best_in<P: ByValue>(
         if low.count == all.count {
             return best;
         }
-        let place = Place {
-            channel: k,
-            value: value + 1,
-            gain: parts.gain(all, low, whole),
-        };
-        best = better(best, place);
+        best = better_at(parts, all, low, whole, best, k, value + 1);
     }
     best
+}
+
+/// Returns the better of the best place so far and the next one, the first of equals.
+///
+/// `low` are the sums of the colors below the next one, and all colors weigh `whole`.
+#[inline(always)]
+fn better_at<P: ByValue>(
+    parts: &P,
+    all: Sums,
+    low: Sums,
+    whole: u128,
+    best: Option<Place>,
+    k: usize,
+    value: u8,
+) -> Option<Place>
+    requires sums { (j : ℕ) × (box : List (List ℕ)) × P.sums parts.now j box
+        × AreSums (λ color. true) box all }
+    requires part { ArePart low all }
+    requires whole { whole ≤ 195075 * all.count }
+    ensures { (box : List (List ℕ)) → IsBestUpTo box k value best → CanCut box k value
+        → gain_at k value box ≡ weight_by low.count low.red low.green low.blue
+        + weight_by (all.count - low.count) (all.red - low.red) (all.green - low.green)
+        (all.blue - low.blue)
+        - whole
+        → IsBestUpTo box k (value + 1) result }
+{
+    if let Some(old) = best {
+        if parts.gains_little(all, low, whole, old.gain) {
+            return best;
+        }
+    }
+    let gain = parts.gain(all, low, whole);
+    better(
+        best,
+        Place {
+            channel: k,
+            value,
+            gain,
+        },
+    )
 }
 
 /// Returns the better of the best place so far and the next one, the first of equals.

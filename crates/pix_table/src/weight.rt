@@ -45,7 +45,7 @@ pub(crate) fn weight_of_few(count: u64, red: u64, green: u64, blue: u64) -> u64
 
 /// Returns the square of a number of at most 31 bits.
 #[inline(always)]
-fn square(n: u64) -> u64
+pub(crate) fn square(n: u64) -> u64
     requires { n < 2147483648 }
     ensures square { result ≡ n * n }
     ensures few { result < 4611686018427387904 }

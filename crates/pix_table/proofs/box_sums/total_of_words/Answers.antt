@@ -1,5 +1,5 @@
 -- Of `total_of_words`: that the parts of the words are the sums.
-use Rattle.std.proofs.Common.{arith, map, ◌∙◌}
+use Rattle.std.proofs.Common.{arith, map}
 use Rattle.std.proofs.lemmas.List.{length-map}
 use Rattle.pix_table.specs.Nearest.{numbers}
 use Rattle.pix_table.proofs.WordLemmas.{words_sums}

@@ -1,5 +1,5 @@
 -- Of `exchange`: that the two items stand in each other's place.
-use Rattle.std.proofs.Common.{◌≡◌, List, [], ◌∷◌, ℕ, ◌<◌, get_or, length, length-set, set, refl, sym, ap, ap₂, ◌∙◌, inl, inr, arith}
+use Rattle.std.proofs.Common.{◌≡◌, List, ℕ, ◌<◌, get_or, length, length-set, set, ap, ap₂, ◌∙◌, inl, inr, arith}
 use Rattle.std.specs.List.{SwappedAt, swap}
 use Rattle.std.proofs.lemmas.Bool.{cases_eq}
 use Rattle.std.proofs.lemmas.List.{get_or_default, get_or-set_same, get_or-set_other}
@@ -28,7 +28,7 @@ module _ {X : Type 0} (xs ys : List X) (i j : ℕ) (first : i < length xs) (seco
     earlier,
     later,
     (λ k d s t. ap (λ l. get_or l k d) (sets d) ∙ get_or-set_other (set xs i (get_or xs j d)) j k (get_or xs i d) d t
-    ∙ get_or-set_other xs i k (get_or xs j d) d s),
+        ∙ get_or-set_other xs i k (get_or xs j d) d s),
     sets,
   )
 

@@ -2,7 +2,7 @@
 use Rattle.std.proofs.Common.{◌≡◌, ◌+◌, ◌*◌, ◌≤◌, ◌∙◌, arith, sym, map, length}
 use Rattle.pix_table.specs.Nearest.{numbers}
 use Rattle.pix_table.specs.Places.{weight}
-use Rattle.pix_table.specs.BestPlaces.{AreSums, gain_at, is_below}
+use Rattle.pix_table.specs.BestPlaces.{AreSums, is_below}
 use Rattle.pix_table.proofs.SumLemmas.{length_sum}
 use Rattle.pix_table.proofs.BoxSumLemmas.{below_none, below_next, part_at, are_few, are_part, both_few, gain_same, whole_weight}
 use Rattle.pix_table.proofs.PlaceLemmas.{channel_done}
@@ -69,11 +69,11 @@ returns-then-low-all g c =
     channel_done box c.args.k (c.loop-value.value + 1) c.loop-value.best c.loop-value.invariant.best
     (full_past box c.args.k (c.loop-value.value + 1) c.and-low.result low (omega (arith, long, c.if-low-all.true)))
 
-pub gain-requires-clause-sums : goal.gain-requires-clause-sums
-gain-requires-clause-sums g c = (c.args.k, map numbers c.args.colors.now, c.requires.sums, c.requires.all)
+pub better_at-best-requires-clause-sums : goal.better_at-best-requires-clause-sums
+better_at-best-requires-clause-sums g c = (c.args.k, map numbers c.args.colors.now, c.requires.sums, c.requires.all)
 
-pub gain-requires-clause-part : goal.gain-requires-clause-part
-gain-requires-clause-part g c =
+pub better_at-best-requires-clause-part : goal.better_at-best-requires-clause-part
+better_at-best-requires-clause-part g c =
     let box = map numbers c.args.colors.now in
     let e = c.and-low.ensures in
     let low = below_next c.args.k c.loop-value.value c.from.result (map numbers c.args.colors.now) c.loop-value.low c.at-part.result c.and-low.result
@@ -81,8 +81,8 @@ gain-requires-clause-part g c =
     are_part _ box c.and-low.result c.args.all c.requires.bytes low c.requires.all (omega (arith, e.count, c.if-part-eq0.false))
     (some_others _ box c.and-low.result c.args.all low c.requires.all c.if-low-all.false)
 
-pub gain-requires-clause-whole : goal.gain-requires-clause-whole
-gain-requires-clause-whole g c = c.weight-whole.ensures.few
+pub better_at-best-requires-clause-whole : goal.better_at-best-requires-clause-whole
+better_at-best-requires-clause-whole g c = c.weight-whole.ensures.few
 
 pub loop-value-preserved : goal.loop-value-preserved
 loop-value-preserved g c =
@@ -95,9 +95,8 @@ loop-value-preserved g c =
     (omega (arith, e.count, c.if-part-eq0.false)) c.if-low-all.false in
     let whole : c.weight-whole.result ≡ weight (map numbers c.args.colors.now) =
     c.weight-whole.ensures.weight ∙ whole_weight box c.args.all c.requires.all in
-    let gains : gain_at c.args.k (c.loop-value.value + 1) (map numbers c.args.colors.now) ≡ c.gain.result =
-    sym (gain_same c.args.k v box c.and-low.result c.args.all c.weight-whole.result low c.requires.all whole) ∙ sym c.gain.ensures in
-    record { low = low; best = c.better-best.ensures box c.loop-value.invariant.best can gains }
+    let gains = sym (gain_same c.args.k v box c.and-low.result c.args.all c.weight-whole.result low c.requires.all whole) in
+    record { low = low; best = c.better_at-best.ensures box c.loop-value.invariant.best can gains }
 
 pub returns : goal.returns
 returns g c =
