@@ -125,8 +125,8 @@ pub extern "C" fn pix_table_rgba_diffuse(
     ensures status { result ≡ diffuse_by_status (length entries.now) (length pixels.now) width
         strength (way_of serpentine) (length work.old) (length indices.old) }
     ensures refused { result ≢ 0 → (work.new ≡ work.old) × (indices.new ≡ indices.old) }
-    ensures done { result ≡ 0 → AreSeenDiffused (way_of serpentine) strength
-        (map rgba_numbers entries.now) width (map rgba_numbers pixels.now) indices.new }
+    ensures done { result ≡ 0 → AreSeenDiffused (way_of serpentine) strength width
+        (map rgba_numbers entries.now) (map rgba_numbers pixels.now) indices.new }
 {
     if entries.is_empty() || entries.len() > 256 {
         return BAD_TABLE;

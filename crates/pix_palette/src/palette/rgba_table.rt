@@ -171,8 +171,8 @@ impl RgbaTable {
             ((length (colors_of_table self.now) ≡ 0) ⊎ (256 < length (colors_of_table self.now))
             ⊎ (16 < strength))
             (λ image. IsIndexImage ⟦<Gray8 as Pixel>⟧.numbers raster.now.width raster.now.height image
-            × AreSeenDiffused way strength (map srgba_numbers (colors_of_table self.now))
-            raster.now.width
+            × AreSeenDiffused way strength raster.now.width
+            (map srgba_numbers (colors_of_table self.now))
             (shades_of S.format ⟦<S::Gamma as Gamma<Ch8>>⟧.mode S.numbers raster.now.pixels)
             (values ⟦<Gray8 as Pixel>⟧.numbers image.pixels))) }
         ensures memory { IfErr result (λ fault. fault ≡ RasterFault.Memory) }
@@ -308,7 +308,7 @@ fn rgba_diffused(
     requires whole { length pixels.now % how.width ≡ 0 }
     ensures diffused { IfOk result (λ answer. MatchOption answer
         ((length colors.now ≡ 0) ⊎ (256 < length colors.now))
-        (λ indices. AreSeenDiffused how.way how.strength (map srgba_numbers colors.now) how.width
+        (λ indices. AreSeenDiffused how.way how.strength how.width (map srgba_numbers colors.now)
         (map srgba_numbers pixels.now) indices.items)) }
     ensures memory { IfErr result (λ fault. fault ≡ RasterFault.Memory) }
 {
@@ -316,10 +316,14 @@ fn rgba_diffused(
         return Ok(None);
     }
     let mut indices = vec![in alloc; 0; pixels.len()]?;
-    if how.width == 0 {
-        return Ok(Some(indices));
-    }
-    let mut work = vec![in alloc; Seen::default(); 4 * how.width]?;
-    diffuse_rgba_pixels(colors, pixels, how, &mut work, &mut indices);
+    // Where a row has no pixel, there is none.
+    let width = how.width.max(1);
+    let mut work = vec![in alloc; Seen::default(); 4 * width]?;
+    let rows = RgbaDiffusion {
+        width,
+        strength: how.strength,
+        way: how.way,
+    };
+    diffuse_rgba_pixels(colors, pixels, rows, &mut work, &mut indices);
     Ok(Some(indices))
 }
