@@ -2,7 +2,7 @@
 use pix::el::Pixel;
 use pix::gray::Gray8;
 use pix::rgb::{SRgb8, SRgba8};
-use pix::{ColorTable, Raster, RasterFault, RgbaTable};
+use pix::{ColorTable, DiffusionWay, Raster, RasterFault, RgbaTable};
 use std::alloc::Global;
 use std::test::Fail;
 
@@ -56,9 +56,10 @@ fn few_colors_come_back(rt: HostRuntime) -> Result<(), Fail> {
 #[test]
 fn opaque_pictures_have_the_usual_table(rt: HostRuntime) -> Result<(), Fail> {
     let mut picture = Raster::with_clear(rt.alloc(), 64, 1)?;
-    for (i, pixel) in picture.pixels_mut().iter_mut().enumerate() {
-        let n = (i * 83 % 256) as u8;
+    let mut n = 0_u8;
+    for pixel in picture.pixels_mut().iter_mut() {
         *pixel = SRgba8::new(n, n / 2, 255 - n, 255);
+        n = n.wrapping_add(83);
     }
     for rounds in [0, 1, 4] {
         let Some(usual) = ColorTable::from_raster_refined(rt.alloc(), &picture, 7, 0, rounds)? else {
@@ -87,6 +88,63 @@ fn limits_of_tables_with_alpha(rt: HostRuntime) -> Result<(), Fail> {
     let Some(indices) = two.map_indexed(rt.alloc(), &picture)? else {
         return Err(Fail::from(RasterFault::Memory));
     };
-    assert_eq!(rt; indices.pixels()[0], Gray8::new(1u8));
+    for pixel in indices.pixels() {
+        assert_eq!(rt; *pixel, Gray8::new(1u8));
+    }
+    Ok(())
+}
+
+#[test]
+fn clear_pixels_hand_on_nothing(rt: HostRuntime) -> Result<(), Fail> {
+    let (clear, gray) = (SRgba8::new(9, 9, 9, 0), SRgba8::new(100, 100, 100, 255));
+    let picture = row(rt.alloc(), &[gray, clear, gray, clear])?;
+    let black = SRgba8::new(0, 0, 0, 255);
+    let colors = RgbaTable::with_colors(rt.alloc(), &[black, SRgba8::new(255, 255, 255, 255)])?;
+    // Clear is as far from black as from white. What is lost at the first gray doesn't reach the
+    // second one.
+    for way in [DiffusionWay::Straight, DiffusionWay::Serpentine] {
+        let Some(indices) = colors.diffuse_indexed(rt.alloc(), &picture, 16, way)? else {
+            return Err(Fail::from(RasterFault::Memory));
+        };
+        for pixel in indices.pixels() {
+            assert_eq!(rt; *pixel, Gray8::new(0u8));
+        }
+    }
+    let none = colors.diffuse_indexed(rt.alloc(), &picture, 17, DiffusionWay::Straight)?;
+    assert!(rt; none.is_none());
+    let empty = Raster::with_clear(rt.alloc(), 0, 3)?;
+    let same: &Raster<SRgba8> = &empty;
+    let made = colors.diffuse_indexed(rt.alloc(), same, 16, DiffusionWay::Serpentine)?;
+    assert!(rt; made.is_some_and(|image| image.pixels().is_empty() && image.height() == 3));
+    Ok(())
+}
+
+#[test]
+fn strengths_and_ways(rt: HostRuntime) -> Result<(), Fail> {
+    let mut picture = Raster::with_clear(rt.alloc(), 4, 2)?;
+    for pixel in picture.pixels_mut().iter_mut() {
+        *pixel = SRgba8::new(100, 100, 100, 255);
+    }
+    let mut table = ColorTable::new(rt.alloc(), 2, SRgb8::default())?;
+    table.set_entry(SRgb8::new(0u8, 0, 0));
+    table.set_entry(SRgb8::new(255u8, 255, 255));
+    let usual = table.diffuse_indexed(rt.alloc(), &picture, 0, 0)?;
+    let whole = table.diffuse_indexed_by(
+        rt.alloc(), &picture, 0, 0, 16, DiffusionWay::Straight,
+    )?;
+    let nothing = table.diffuse_indexed_by(
+        rt.alloc(), &picture, 0, 0, 0, DiffusionWay::Serpentine,
+    )?;
+    let (Some(usual), Some(whole), Some(nothing)) = (usual, whole, nothing) else {
+        return Err(Fail::from(RasterFault::Memory));
+    };
+    assert!(rt; usual.pixels() == whole.pixels());
+    for pixel in nothing.pixels() {
+        assert_eq!(rt; *pixel, Gray8::new(0u8));
+    }
+    let none = table.diffuse_indexed_by(
+        rt.alloc(), &picture, 0, 0, 17, DiffusionWay::Straight,
+    )?;
+    assert!(rt; none.is_none());
     Ok(())
 }

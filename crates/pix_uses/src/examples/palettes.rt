@@ -1,7 +1,7 @@
 //! Palettes. A palette is made and used up in one function.
 use pix::gray::Gray8;
 use pix::rgb::{SRgb8, SRgba8};
-use pix::{ColorTable, Palette, Raster, RasterFault, RgbaTable};
+use pix::{ColorTable, DiffusionWay, Palette, Raster, RasterFault, RgbaTable};
 use std::alloc::Global;
 
 /// Sets colors, and asks for them.
@@ -125,6 +125,17 @@ pub fn diffused(
         return Ok(None); // not for 255 entries
     };
     table.diffuse_indexed(alloc, picture, 128, 255) // index 255 where the alpha is below 128
+}
+
+/// Indexes a picture by error diffusion that goes to and fro, with three quarters of each error.
+pub fn diffused_by(
+    alloc: Global,
+    picture: &Raster<SRgba8>,
+) -> Result<Option<Raster<Gray8>>, RasterFault> {
+    let Some(table) = ColorTable::from_raster(alloc, picture, 255, 128)? else {
+        return Ok(None); // not for 255 entries
+    };
+    table.diffuse_indexed_by(alloc, picture, 128, 255, 12, DiffusionWay::Serpentine)
 }
 
 /// Indexes a picture by the nearest entries of a table of its colors, which is refined.
