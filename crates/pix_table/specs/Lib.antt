@@ -27,3 +27,4 @@ pub mod SrgbColor
 pub mod ColorBlocks
 pub mod SeenGroups
 pub mod SeenTables
+pub mod SeenDiffusion

@@ -48,7 +48,9 @@ pub use crate::kept::Cache;
 pub use crate::look::{are_below, count, look_up};
 pub use crate::matcher::{match_pixels, visit_nearest};
 pub use crate::nearest_search::{NearestSearch, SearchVisitor};
-pub use crate::rgba::{RgbaColor, Seen, rgba_table_from};
+pub use crate::rgba::{
+    RgbaColor, RgbaDiffusion, Seen, diffuse_rgba_pixels, match_rgba_pixels, rgba_table_from,
+};
 pub use crate::row::{IndexDepth, RowFault, pack_row, unpack_row};
 pub use crate::search::nearest;
 pub use crate::set::{set_entry, set_kept};

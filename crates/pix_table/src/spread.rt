@@ -196,7 +196,13 @@ impl Spread for Color {
 /// Returns a pixel's share in a channel of the misses around it, in sixteenths. In the serpentine
 /// way the row above goes the other way.
 #[inline(always)]
-fn handed(way: DiffusionWay, left: u16, left_above: u16, above: u16, right_above: u16) -> u32
+pub(crate) fn handed(
+    way: DiffusionWay,
+    left: u16,
+    left_above: u16,
+    above: u16,
+    right_above: u16,
+) -> u32
     ensures sum { result ≡ 7 * left + share_before way * left_above + 5 * above
         + share_next way * right_above }
     ensures few { result ≤ 1048560 }
@@ -211,7 +217,7 @@ fn handed(way: DiffusionWay, left: u16, left_above: u16, above: u16, right_above
 /// Returns a number plus so many sixteenths of its share of misses that are 255 too great. The
 /// share is in sixteenths itself.
 #[inline(always)]
-fn corrected(number: u8, strength: u8, handed: u32) -> u8
+pub(crate) fn corrected(number: u8, strength: u8, handed: u32) -> u8
     requires strength { strength ≤ 16 }
     requires handed { handed ≤ 1048560 }
     ensures { (wanted found : ℕ) → handed + found ≡ 4080 + wanted

@@ -1,0 +1,252 @@
+//! Error diffusion of colors with an alpha.
+ghost use Rattle.std.specs.Prelude.{◌≡◌, ℕ, ◌*◌, ◌%◌, ◌<◌, ◌≤◌, List, length, map, min, refl};
+ghost use Rattle.pix_table.specs.Seen.{AreSeen, seen, seen_distance, seen_numbers};
+ghost use Rattle.pix_table.specs.SeenDiffusion.{AreSeenDiffused, seen_of_channels};
+ghost use Rattle.pix_table.specs.SeenLanes.{AreSeenLanes};
+ghost use Rattle.pix_table.specs.declared.diffuse.DiffusionWay.TheVariants.{Serpentine};
+
+use crate::color::TablePixel;
+use crate::diffuse::{Diffusion, DiffusionWay, diffuse_all};
+use crate::rgba::color::{Seen, seen_of};
+use crate::rgba::lanes::SeenLanes;
+use crate::rgba::matched::seen_entries;
+use crate::spread::{FindsNearest, Miss, Near, ShownAs, Spread, corrected, handed};
+
+/// How the pixels of a picture are indexed by error diffusion to a table of colors with an alpha.
+#[derive(Clone, Copy, Debug, PartialEq, Eq)]
+pub struct RgbaDiffusion {
+    /// How many pixels a row has: at least one.
+    pub width: usize,
+    /// How many sixteenths of the errors are handed on: at most 16.
+    pub strength: u8,
+    /// In which order the pixels of a row are taken.
+    pub way: DiffusionWay,
+}
+
+/// Sets the index of each pixel by error diffusion, as [`diffuse_pixels`] does, to a table of
+/// colors with an alpha. The index is that of the entry that is seen nearest to the pixel plus its
+/// share of the errors of the pixels before it.
+///
+/// Errors are handed on in red, green and blue over black, and in the alpha. What is wanted at a
+/// pixel is above its alpha in no channel. A pixel with the alpha 0 takes no share: it gets the
+/// entry that is seen nearest to it, and hands on no error.
+///
+/// Condition: there is at least one entry and at most 256, a row has a pixel, at most 16 sixteenths
+/// are handed on, there are as many indices as pixels, and `work` has four rows of colors. In the
+/// serpentine way the rows are whole.
+///
+/// [`diffuse_pixels`]: crate::diffuse_pixels
+pub fn diffuse_rgba_pixels<E: TablePixel, P: TablePixel>(
+    entries: &[E],
+    pixels: &[P],
+    how: RgbaDiffusion,
+    work: &mut [Seen],
+    indices: &mut [u8],
+)
+    requires some { 0 < length entries.now }
+    requires few_entries { length entries.now ≤ 256 }
+    requires row { 0 < how.width }
+    requires strength { how.strength ≤ 16 }
+    requires whole { how.way ≡ Serpentine → length pixels.now % how.width ≡ 0 }
+    requires work { length work.old ≡ 4 * how.width }
+    requires many { length indices.old ≡ length pixels.now }
+    ensures { AreSeenDiffused how.way how.strength how.width (map E.values entries.now)
+        (map P.values pixels.now) indices.new }
+{
+    let colors = seen_entries(entries);
+    let mut lanes = SeenLanes::of(&colors[..entries.len()]);
+    let (wanted, rest) = work.split_at_mut(how.width);
+    let (found, _) = rest.split_at_mut(how.width);
+    let how = Diffusion {
+        width: how.width,
+        alpha: 1,
+        kept: lanes.nearest(Seen::none()),
+        strength: how.strength,
+        way: how.way,
+    };
+    diffuse_all(
+        &mut lanes,
+        &colors[..entries.len()],
+        pixels,
+        how,
+        wanted,
+        found,
+        indices,
+    );
+}
+
+impl FindsNearest<Seen> for SeenLanes {
+    ghost among = { λ lanes entries. AreSeenLanes entries lanes };
+
+    #[inline(always)]
+    fn find(&mut self, clr: Seen) -> u8 {
+        self.nearest(clr)
+    }
+}
+
+impl ShownAs<Seen> for Seen {
+    ghost shown = { seen_numbers };
+
+    #[inline(always)]
+    fn shown(self) -> Seen {
+        self
+    }
+}
+
+impl Spread for Seen {
+    ghost spread = { seen_numbers };
+
+    ghost of_channels = { seen_of_channels };
+
+    ghost given = { seen };
+
+    ghost apart = { seen_distance };
+
+    ghost can_be = { AreSeen };
+
+    #[inline(always)]
+    fn none() -> Seen {
+        Seen {
+            red: 0,
+            green: 0,
+            blue: 0,
+            alpha: 0,
+        }
+    }
+
+    #[inline(always)]
+    fn missed(self, found: Seen) -> Miss {
+        Miss {
+            red: 255 + u16::from(self.red) - u16::from(found.red),
+            green: 255 + u16::from(self.green) - u16::from(found.green),
+            blue: 255 + u16::from(self.blue) - u16::from(found.blue),
+            alpha: 255 + u16::from(self.alpha) - u16::from(found.alpha),
+        }
+    }
+
+    #[inline(always)]
+    fn wanted<P: TablePixel>(pixel: P, how: Diffusion, near: Near, right_above: Miss) -> Seen {
+        let Near {
+            left,
+            left_above,
+            above,
+        } = near;
+        let way = how.way;
+        let own = seen_of(pixel);
+        let alpha = corrected(
+            own.alpha,
+            how.strength,
+            handed(
+                way,
+                left.alpha,
+                left_above.alpha,
+                above.alpha,
+                right_above.alpha,
+            ),
+        );
+        let red = corrected(
+            own.red,
+            how.strength,
+            handed(way, left.red, left_above.red, above.red, right_above.red),
+        );
+        let green = corrected(
+            own.green,
+            how.strength,
+            handed(
+                way,
+                left.green,
+                left_above.green,
+                above.green,
+                right_above.green,
+            ),
+        );
+        let blue = corrected(
+            own.blue,
+            how.strength,
+            handed(
+                way,
+                left.blue,
+                left_above.blue,
+                above.blue,
+                right_above.blue,
+            ),
+        );
+        Seen {
+            red: at_most(red, alpha),
+            green: at_most(green, alpha),
+            blue: at_most(blue, alpha),
+            alpha,
+        }
+    }
+
+    ghost same_alpha = { λ pixel. refl };
+}
+
+/// Returns a number, or an alpha that is less.
+#[inline(always)]
+fn at_most(number: u8, alpha: u8) -> u8
+    ensures { result ≡ min alpha number }
+{
+    if number > alpha { alpha } else { number }
+}
+
+#[cfg(test)]
+mod tests {
+    use super::*;
+    use crate::rgba::color::RgbaColor;
+
+    /// Returns a color with an alpha.
+    fn rgba(red: u8, green: u8, blue: u8, alpha: u8) -> RgbaColor {
+        RgbaColor {
+            red,
+            green,
+            blue,
+            alpha,
+        }
+    }
+
+    /// Returns the indices of two rows of pixels, of which the first is clear.
+    fn indices(strength: u8, way: DiffusionWay) -> [u8; 6]
+        requires { strength ≤ 16 }
+    {
+        let entries = [
+            rgba(0, 0, 0, 0),
+            rgba(255, 0, 0, 128),
+            rgba(0, 0, 255, 255),
+            rgba(255, 255, 255, 255),
+        ];
+        let pixels = [
+            rgba(0, 0, 0, 0),
+            rgba(120, 0, 200, 255),
+            rgba(0, 0, 200, 160),
+            rgba(0, 100, 200, 160),
+            rgba(0, 0, 0, 255),
+            rgba(120, 0, 200, 160),
+        ];
+        let how = RgbaDiffusion {
+            width: 3,
+            strength,
+            way,
+        };
+        let mut indices = [9; 6];
+        let mut work = [Seen::default(); 12];
+        diffuse_rgba_pixels(&entries, &pixels, how, &mut work, &mut indices);
+        indices
+    }
+
+    #[test]
+    fn diffuses_seen_colors(rt: HostRuntime) {
+        let straight = indices(16, DiffusionWay::Straight);
+        assert_eq!(rt; straight, [0, 2, 1, 0, 1, 2]);
+        let serpentine = indices(16, DiffusionWay::Serpentine);
+        assert_eq!(rt; serpentine, [0, 2, 1, 2, 1, 2]);
+    }
+
+    #[test]
+    fn diffuses_less(rt: HostRuntime) {
+        let straight = indices(6, DiffusionWay::Straight);
+        assert_eq!(rt; straight, [0, 2, 2, 0, 1, 1]);
+        let serpentine = indices(6, DiffusionWay::Serpentine);
+        assert_eq!(rt; serpentine, [0, 2, 2, 2, 1, 1]);
+    }
+}
