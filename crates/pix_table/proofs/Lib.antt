@@ -46,8 +46,8 @@ pub mod Quotients
 pub mod LeastMeans
 pub mod RefinedTables
 pub mod TableRounds
+pub mod SeenColors
+pub mod SeenLaneEntries
 pub mod SeenErrors
 pub mod SeenRounds
 pub mod SeenMade
-pub mod SeenColors
-pub mod SeenLaneEntries

@@ -1,19 +1,19 @@
 -- The squared error of seen colors that are shown by one, by the sums of their numbers.
 use Rattle.std.proofs.Common.{◌≡◌, ℕ, ◌+◌, ◌-◌, ◌*◌, ◌/◌, ◌<◌, ◌≤◌, Bool, true, false, List, [], ◌∷◌, ◌++◌, length, map, get_or, sum_by, nat_le, All, refl, arith, sym, ap, inl, inr, if◌then◌else◌, ◌∙◌, length-append}
 use Rattle.std.proofs.lemmas.Bool.{cases_lt, le-leb, lt-leb, leb-true}
-use Rattle.std.proofs.lemmas.Nat.{le-div, mul-le}
+use Rattle.std.proofs.lemmas.Nat.{mul-le}
 use Rattle.std.proofs.lemmas.List.{length-map}
 use Rattle.std.proofs.lemmas.List.Sums.{sum_by-cons, sum_by-le, sum_by_push}
-use Rattle.std.proofs.lemmas.List.Elements.{All-head, All-push, All-tail}
-use Rattle.std.proofs.Math.Nat.{div-mul-le_self}
+use Rattle.std.proofs.lemmas.List.Elements.{All-head, All-nil, All-push, All-tail}
 use Rattle.pix_table.specs.Nearest.{distance}
 use Rattle.pix_table.specs.Places.{sum_in}
 use Rattle.pix_table.specs.Seen.{AreSeen, over_white, seen_distance, seen_numbers}
 use Rattle.pix_table.specs.SeenCut.{seen_mean}
 use Rattle.pix_table.specs.SeenGroups.{AreGroupSums, product_by}
+use Rattle.pix_table.specs.SeenSums.{AreFew}
 use Rattle.pix_table.specs.SeenTables.{error_to, seen_settled}
 use Rattle.pix_table.specs.declared.rgba.color.Seen.{Seen}
-use Rattle.pix_table.specs.declared.rgba.groups.GroupSums.{GroupSums}
+use Rattle.pix_table.specs.declared.rgba.sums.SeenSums.{SeenSums}
 use Rattle.pix_table.proofs.LeastMeans.{by_channels, squares}
 use Rattle.pix_table.proofs.RefinedTables.{sum_le}
 
@@ -89,7 +89,7 @@ joined : (e b w n x y z r s t u v p q : ℕ) → e ≡ b + w → b + 2 * (x * s 
 joined e b w n x y z r s t u v p q all black white = omega (arith, all, black, white)
 
 -- the squared error to a color, by the sums
-error_is : (p : List ℕ) (group : List (List ℕ)) (s : GroupSums) → AreGroupSums group s
+error_is : (p : List ℕ) (group : List (List ℕ)) (s : SeenSums) → AreGroupSums group s
     → error_to p group
     + 2 * product_by (get_or p 0 0) (get_or p 1 0) (get_or p 2 0) (255 - get_or p 3 0) s.red s.green s.blue (255 * s.count - s.alpha)
     ≡ s.count
@@ -112,7 +112,7 @@ same_order e f a b m n q h g = elim (cases_lt f e) [
   | inr most ↦ le-leb (m + 2 * b) (n + 2 * a) (omega (arith, most, h, g)) ∙ sym (le-leb e f most)
 ]
 
-pub compared : (p q : List ℕ) (group : List (List ℕ)) (s : GroupSums) → AreGroupSums group s
+pub compared : (p q : List ℕ) (group : List (List ℕ)) (s : SeenSums) → AreGroupSums group s
     → nat_le
     (s.count
     * product_by (get_or p 0 0) (get_or p 1 0) (get_or p 2 0) (255 - get_or p 3 0) (get_or p 0 0) (get_or p 1 0) (get_or p 2 0) (255 - get_or p 3 0)
@@ -138,25 +138,28 @@ product_few r g b w s t u v most red green blue also more last =
     )
 
 -- the sums of seen colors: none of the first three is above the last, which is one of bytes
-pub sums_few : (group : List (List ℕ)) (s : GroupSums) → AreGroupSums group s
-    → (s.red ≤ s.alpha) × (s.green ≤ s.alpha) × (s.blue ≤ s.alpha) × (s.alpha ≤ 255 * s.count)
-sums_few group s h = (
-  omega (arith, h.red, h.alpha, sum_le (λ c. get_or c 0 0) (λ c. get_or c 3 0) group (λ j d inside. (h.seen j d inside).red)),
-  omega (arith, h.green, h.alpha, sum_le (λ c. get_or c 1 0) (λ c. get_or c 3 0) group (λ j d inside. (h.seen j d inside).green)),
-  omega (arith, h.blue, h.alpha, sum_le (λ c. get_or c 2 0) (λ c. get_or c 3 0) group (λ j d inside. (h.seen j d inside).blue)),
-  omega (arith, h.count, h.alpha, sum_by-le (λ c. get_or c 3 0) 255 group (λ j d inside. (h.seen j d inside).alpha)),
-)
+pub sums_few : (group : List (List ℕ)) (s : SeenSums) → AreGroupSums group s → AreFew s
+sums_few group s h = record {
+  red = omega (arith, h.red, h.alpha, sum_le (λ c. get_or c 0 0) (λ c. get_or c 3 0) group (λ j d inside. (h.seen j d inside).red));
+  green = omega (arith, h.green, h.alpha, sum_le (λ c. get_or c 1 0) (λ c. get_or c 3 0) group (λ j d inside. (h.seen j d inside).green));
+  blue = omega (arith, h.blue, h.alpha, sum_le (λ c. get_or c 2 0) (λ c. get_or c 3 0) group (λ j d inside. (h.seen j d inside).blue));
+  alpha = omega (arith, h.count, h.alpha, sum_by-le (λ c. get_or c 3 0) 255 group (λ j d inside. (h.seen j d inside).alpha));
+}
 
 -- and what they and the rests come to is no more than that
-pub terms_few : (group : List (List ℕ)) (s : GroupSums) → AreGroupSums group s
+pub terms_few : (group : List (List ℕ)) (s : SeenSums) → AreGroupSums group s
     → (s.red + (255 * s.count - s.alpha) ≤ 255 * s.count) × (s.green + (255 * s.count - s.alpha) ≤ 255 * s.count)
     × (s.blue + (255 * s.count - s.alpha) ≤ 255 * s.count)
 terms_few group s h =
     let few = sums_few group s h in
-    (omega (arith, few.0, few.3), omega (arith, few.1, few.3), omega (arith, few.2, few.3))
+    (omega (arith, few.red, few.alpha), omega (arith, few.green, few.alpha), omega (arith, few.blue, few.alpha))
+
+-- the sums of no colors
+pub group_none : (s : SeenSums) → s.count ≡ 0 → s.red ≡ 0 → s.green ≡ 0 → s.blue ≡ 0 → s.alpha ≡ 0 → AreGroupSums [] s
+group_none s count red green blue alpha = record { seen = All-nil AreSeen; count = count; red = red; green = green; blue = blue; alpha = alpha }
 
 -- the sums of a color more
-pub group_more : (group : List (List ℕ)) (c : Seen) (s t : GroupSums) → AreGroupSums group s → AreSeen (seen_numbers c) → t.count ≡ s.count + 1
+pub group_more : (group : List (List ℕ)) (c : Seen) (s t : SeenSums) → AreGroupSums group s → AreSeen (seen_numbers c) → t.count ≡ s.count + 1
     → t.red ≡ s.red + c.red → t.green ≡ s.green + c.green → t.blue ≡ s.blue + c.blue → t.alpha ≡ s.alpha + c.alpha
     → AreGroupSums (group ++ seen_numbers c ∷ []) t
 group_more group c s t h seen count red green blue alpha = record {
@@ -168,34 +171,19 @@ group_more group c s t h seen count red green blue alpha = record {
   alpha = omega (arith, alpha, h.alpha, sum_by_push (λ x. get_or x 3 0) group (seen_numbers c));
 }
 
--- the mean by the sums, which is a seen color
-quotient_le : (m n k : ℕ) → 0 < k → m ≤ n → m / k ≤ n / k
-quotient_le m n k some less = le-div (m / k) n k some (omega (arith, div-mul-le_self m k))
-
-pub mean_seen : (group : List (List ℕ)) (s : GroupSums) → AreGroupSums group s → 0 < s.count
-    → ((2 * s.red + s.count) / (2 * s.count) ≤ (2 * s.alpha + s.count) / (2 * s.count))
-    × ((2 * s.green + s.count) / (2 * s.count) ≤ (2 * s.alpha + s.count) / (2 * s.count))
-    × ((2 * s.blue + s.count) / (2 * s.count) ≤ (2 * s.alpha + s.count) / (2 * s.count))
-mean_seen group s h some =
-    let few = sums_few group s h in
-    let twice : 0 < 2 * s.count = omega arith in (
-      quotient_le _ _ (2 * s.count) twice (omega (arith, few.0)),
-      quotient_le _ _ (2 * s.count) twice (omega (arith, few.1)),
-      quotient_le _ _ (2 * s.count) twice (omega (arith, few.2)),
-    )
-
-pub mean_by_sums : (group : List (List ℕ)) (s : GroupSums) (r g b a : ℕ) → AreGroupSums group s → r ≡ (2 * s.red + s.count) / (2 * s.count)
+-- the mean by the sums
+pub mean_by_sums : (group : List (List ℕ)) (s : SeenSums) (r g b a : ℕ) → AreGroupSums group s → r ≡ (2 * s.red + s.count) / (2 * s.count)
     → g ≡ (2 * s.green + s.count) / (2 * s.count) → b ≡ (2 * s.blue + s.count) / (2 * s.count) → a ≡ (2 * s.alpha + s.count) / (2 * s.count)
     → r ∷ g ∷ b ∷ a ∷ [] ≡ seen_mean group
 mean_by_sums group s r g b a h red green blue alpha =
     rw (red, green, blue, alpha, h.count, h.red, h.green, h.blue, h.alpha) refl
 
 -- where an entry settles
-pub settled_none : (entry : List ℕ) (group : List (List ℕ)) (s : GroupSums) → AreGroupSums group s → s.count ≡ 0 → entry ≡ seen_settled entry group
+pub settled_none : (entry : List ℕ) (group : List (List ℕ)) (s : SeenSums) → AreGroupSums group s → s.count ≡ 0 → entry ≡ seen_settled entry group
 settled_none entry [] s h none = refl
 settled_none entry (c ∷ group) s h none = absurd (omega (arith, h.count, none))
 
-pub settled_some : (entry mean : List ℕ) (group : List (List ℕ)) (s : GroupSums) (is_less : Bool) → AreGroupSums group s → 0 < s.count → mean ≡ seen_mean group
+pub settled_some : (entry mean : List ℕ) (group : List (List ℕ)) (s : SeenSums) (is_less : Bool) → AreGroupSums group s → 0 < s.count → mean ≡ seen_mean group
     → is_less ≡ nat_le (error_to mean group) (error_to entry group) → (if is_less then mean else entry) ≡ seen_settled entry group
 settled_some entry mean [] s is_less h some is test = absurd (omega (arith, h.count, some))
 settled_some entry mean (c ∷ group) s is_less h some is test =

@@ -1,7 +1,7 @@
 -- A table of the pixels of a picture: those that are seen as none before them, and the table of the cut after the rounds.
 use Rattle.std.specs.List.{list_any}
-use Rattle.std.proofs.Common.{◌≡◌, ℕ, ◌+◌, ◌<◌, ◌≤◌, Bool, true, false, ◌||◌, List, [], ◌∷◌, ◌++◌, length, map, take, drop, set, get_or, All, IsPermutation, refl, arith, sym, ap, ◌∙◌, subst, length-append}
-use Rattle.std.proofs.lemmas.List.{length-map, map-append, take_more_set}
+use Rattle.std.proofs.Common.{◌≡◌, ℕ, ◌+◌, ◌<◌, ◌≤◌, Bool, true, false, ◌||◌, List, [], ◌∷◌, ◌++◌, length, map, take, drop, set, get_or, IsPermutation, refl, arith, ap, ◌∙◌, length-append}
+use Rattle.std.proofs.lemmas.List.{map-append, take_more_set}
 use Rattle.pix_table.specs.Refine.{AreRoundsBy, squared_error_by}
 use Rattle.pix_table.specs.Seen.{seen, seen_distance}
 use Rattle.pix_table.specs.SeenCut.{IsSeenCutTable}

@@ -1,7 +1,7 @@
 -- The seen colors of each entry, their sums, and the round that they make.
 use Rattle.std.proofs.Common.{◌≡◌, ◌≢◌, ℕ, ◌+◌, ◌<◌, ◌≤◌, Bool, true, false, not, cond, List, [], ◌∷◌, ◌++◌, length, map, set, replicate, get_or, nat_eq, filter, All, refl, arith, sym, ap, ◌∙◌, subst, inl, inr, eq-eqb, ne_eqb, length-set}
 use Rattle.std.proofs.lemmas.Bool.{cases_lt, cases_eq, and_parts, eqb-true}
-use Rattle.std.proofs.lemmas.List.{append-nil, get_or-map, get_or-replicate, get_or-set_same, get_or-set_other, length-map, length-replicate, map-set}
+use Rattle.std.proofs.lemmas.List.{append-nil, get_or-map, get_or-replicate, get_or-set_other, length-map, length-replicate, map-set}
 use Rattle.std.proofs.lemmas.Grind.{get_or-set_at}
 use Rattle.std.proofs.lemmas.List.Elements.{All-set, filter-append}
 use Rattle.std.proofs.lemmas.List.Filters.{length-filter_both}
@@ -12,11 +12,11 @@ use Rattle.pix_table.specs.Seen.{AreSeen, seen_distance, seen_numbers}
 use Rattle.pix_table.specs.SeenGroups.{AreGroupSums, AreSeenGrouped, AreSumsOf}
 use Rattle.pix_table.specs.SeenTables.{same_seen, seen_settled}
 use Rattle.pix_table.specs.declared.rgba.color.Seen.{Seen}
-use Rattle.pix_table.specs.declared.rgba.groups.GroupSums.{GroupSums}
+use Rattle.pix_table.specs.declared.rgba.sums.SeenSums.{SeenSums}
 use Rattle.pix_table.proofs.Rounds.{groups_are, nearest_at, nearest_is_one, part, part_of, parts}
 
 -- the sums of no colors
-pub grouped_none : (entries : List (List ℕ)) (n : ℕ) (none : GroupSums) → n ≡ length entries → AreGroupSums [] none → AreSeenGrouped entries [] (replicate n none)
+pub grouped_none : (entries : List (List ℕ)) (n : ℕ) (none : SeenSums) → n ≡ length entries → AreGroupSums [] none → AreSeenGrouped entries [] (replicate n none)
 grouped_none entries n none e h = λ at nearest. record {
   many = length-replicate n none ∙ e;
   each = λ k d inside. subst (AreGroupSums []) (sym (get_or-replicate n k none d (omega (arith, e, inside)))) h;
@@ -31,7 +31,7 @@ passes_by p box more x grown e =
     ap (filter p) grown ∙ filter-append p box (x ∷ []) ∙ ap (λ b. filter p box ++ cond b (x ∷ []) []) e ∙ append-nil (filter p box)
 
 -- the sums of a color more
-pub grouped_more : (entries box more : List (List ℕ)) (sums : List GroupSums) (x : List ℕ) (v : ℕ) (d new : GroupSums) → more ≡ box ++ x ∷ []
+pub grouped_more : (entries box more : List (List ℕ)) (sums : List SeenSums) (x : List ℕ) (v : ℕ) (d new : SeenSums) → more ≡ box ++ x ∷ []
     → IsNearestBy seen_distance entries x v → ((group : List (List ℕ)) → AreGroupSums group (get_or sums v d) → AreGroupSums (group ++ x ∷ []) new)
     → AreSeenGrouped entries box sums → AreSeenGrouped entries more (set sums v new)
 grouped_more entries box more sums x v d new grown is add h = λ at nearest.
@@ -56,7 +56,7 @@ grouped_more entries box more sums x v d new grown is add h = λ at nearest.
     }
 
 -- the group of an entry is some of the colors
-pub group_of : (entries box : List (List ℕ)) (sums : List GroupSums) (d : GroupSums) (v : ℕ) → v < length entries → AreSeenGrouped entries box sums
+pub group_of : (entries box : List (List ℕ)) (sums : List SeenSums) (d : SeenSums) (v : ℕ) → v < length entries → AreSeenGrouped entries box sums
     → (group : List (List ℕ)) × AreGroupSums group (get_or sums v d) × (length group ≤ length box)
 group_of entries box sums d v inside h =
     let at : List ℕ → ℕ = (λ c. (nearest_at seen_distance entries (omega arith) c).0) in
@@ -67,17 +67,17 @@ group_of entries box sums d v inside h =
     )
 
 -- the first i entries have settled by their sums, and the others stand
-pub record AreSettled (old new : List (List ℕ)) (sums : List GroupSums) (d : GroupSums) (i : ℕ) : Type 0 where
+pub record AreSettled (old new : List (List ℕ)) (sums : List SeenSums) (d : SeenSums) (i : ℕ) : Type 0 where
   pub many : length new ≡ length old
   pub settled : (k : ℕ) → k < i → (group : List (List ℕ)) → AreGroupSums group (get_or sums k d) → get_or new k [] ≡ seen_settled (get_or old k []) group
   pub stand : (k : ℕ) → i ≤ k → get_or new k [] ≡ get_or old k []
   pub seen : All AreSeen new
 
-pub none_settled : (old : List (List ℕ)) (sums : List GroupSums) (d : GroupSums) → All AreSeen old → AreSettled old old sums d 0
+pub none_settled : (old : List (List ℕ)) (sums : List SeenSums) (d : SeenSums) → All AreSeen old → AreSettled old old sums d 0
 none_settled old sums d seen = record { many = refl; settled = λ k b. absurd (omega arith); stand = λ k b. refl; seen = seen }
 
 -- one more settles
-pub one_settles : (old : List (List ℕ)) (es : List Seen) (sums : List GroupSums) (d : GroupSums) (i : ℕ) (x z : Seen) → i < length es → AreSeen (seen_numbers x)
+pub one_settles : (old : List (List ℕ)) (es : List Seen) (sums : List SeenSums) (d : SeenSums) (i : ℕ) (x z : Seen) → i < length es → AreSeen (seen_numbers x)
     → ((group : List (List ℕ)) → AreGroupSums group (get_or sums i d) → seen_numbers x ≡ seen_settled (seen_numbers (get_or es i z)) group)
     → AreSettled old (map seen_numbers es) sums d i → AreSettled old (map seen_numbers (set es i x)) sums d (i + 1)
 one_settles old es sums d i x z inside seen e h =
@@ -109,7 +109,7 @@ same_numbers p q e =
     rw (eqb-true p.red q.red inner.0, eqb-true p.green q.green inner.1, eqb-true p.blue q.blue outer.1, eqb-true p.alpha q.alpha all.1) refl
 
 -- the round
-pub round_made : (old colors new : List (List ℕ)) (i : ℕ) (sums : List GroupSums) (d : GroupSums) → 0 < length old → length old ≤ i
+pub round_made : (old colors new : List (List ℕ)) (i : ℕ) (sums : List SeenSums) (d : SeenSums) → 0 < length old → length old ≤ i
     → AreSeenGrouped old colors sums → AreSettled old new sums d i → IsRoundBy seen_distance seen_settled colors old new
 round_made old colors new i sums d some all grouped h =
     let at : List ℕ → ℕ = (λ c. (nearest_at seen_distance old some c).0) in

@@ -38,7 +38,7 @@ mean_seen box some h = record {
   alpha = mean_byte (sum_in 3 box) (length box) some (few_alphas box h);
 }
 
-mean_of_box : (box : List (List ℕ)) → All AreSeen box → AreSeen (seen_mean box)
+pub mean_of_box : (box : List (List ℕ)) → All AreSeen box → AreSeen (seen_mean box)
 mean_of_box [] h = record { many = refl; red = omega arith; green = omega arith; blue = omega arith; alpha = omega arith }
 mean_of_box (c ∷ box) h = mean_seen (c ∷ box) (omega arith) h
 

@@ -1,12 +1,12 @@
 -- The sums of the seen colors of each entry, as a round takes them. No clause of a public call cites this file.
-use Rattle.std.specs.Prelude.{◌≡◌, ℕ, ◌+◌, ◌-◌, ◌*◌, ◌<◌, List, length, slice_index, slice_index_or, filter, nat_eq, All}
+use Rattle.std.specs.Prelude.{◌≡◌, ℕ, ◌+◌, ◌*◌, ◌<◌, List, length, slice_index_or, filter, nat_eq, All}
 use Rattle.pix_table.specs.Nearest.{IsNearestBy}
 use Rattle.pix_table.specs.Places.{sum_in}
 use Rattle.pix_table.specs.Seen.{AreSeen, seen_distance}
-use Rattle.pix_table.specs.declared.rgba.groups.GroupSums.{GroupSums}
+use Rattle.pix_table.specs.declared.rgba.sums.SeenSums.{SeenSums}
 
 -- how many seen colors a group has, and the sums of their numbers
-pub record AreGroupSums (group : List (List ℕ)) (sums : GroupSums) : Type 0 where
+pub record AreGroupSums (group : List (List ℕ)) (sums : SeenSums) : Type 0 where
   pub seen : All AreSeen group
   pub count : sums.count ≡ length group
   pub red : sums.red ≡ sum_in 0 group
@@ -15,12 +15,12 @@ pub record AreGroupSums (group : List (List ℕ)) (sums : GroupSums) : Type 0 wh
   pub alpha : sums.alpha ≡ sum_in 3 group
 
 -- the sums of each group of colors, where a function says in which of so many groups a color is
-pub record AreSumsOf (at : List ℕ → ℕ) (count : ℕ) (colors : List (List ℕ)) (sums : List GroupSums) : Type 0 where
+pub record AreSumsOf (at : List ℕ → ℕ) (count : ℕ) (colors : List (List ℕ)) (sums : List SeenSums) : Type 0 where
   pub many : length sums ≡ count
-  pub each : (k : ℕ) (d : GroupSums) → k < count → AreGroupSums (filter (λ color. nat_eq (at color) k) colors) (slice_index_or sums k d)
+  pub each : (k : ℕ) (d : SeenSums) → k < count → AreGroupSums (filter (λ color. nat_eq (at color) k) colors) (slice_index_or sums k d)
 
 -- the sums of the colors of each entry: those to which it is the nearest, the first of equals
-abbrev pub AreSeenGrouped : (entries colors : List (List ℕ)) (sums : List GroupSums) → Type 0
+abbrev pub AreSeenGrouped : (entries colors : List (List ℕ)) (sums : List SeenSums) → Type 0
 AreSeenGrouped entries colors sums =
     (at : List ℕ → ℕ) → ((color : List ℕ) → IsNearestBy seen_distance entries color (at color)) → AreSumsOf at (length entries) colors sums
 

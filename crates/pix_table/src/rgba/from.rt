@@ -1,6 +1,6 @@
 //! A table of colors with an alpha, made from the pixels of a picture.
 ghost use Rattle.std.specs.Prelude.{◌≡◌, ◌⊎◌, ◌<◌, ◌≤◌, ℕ, All, List, length, map, take};
-ghost use Rattle.std.specs.Prelude.{MatchOption, IfNone};
+ghost use Rattle.std.specs.Prelude.{MatchOption, IfNone, [], false, slice_index_or, true};
 ghost use Rattle.std.specs.List.{list_any};
 ghost use Rattle.pix_table.specs.Seen.{AreSeen, rgba_numbers, seen, seen_numbers, straight};
 ghost use Rattle.pix_table.specs.SeenTables.{IsRgbaTableFrom, IsSeenTable, distinct_pixels};
@@ -80,17 +80,21 @@ fn distinct<P: TablePixel>(pixels: &[P], entries: &mut [RgbaColor]) -> Option<us
 {
     let mut table = [Seen::default(); ENTRIES];
     let mut count = 0;
+    let mut place = 0;
     for i in 0..pixels.len() {
         let pixel = pixels[i];
         let clr = seen_of(pixel);
-        let known = has(&table[..count], clr);
-        if !known {
-            if count == entries.len() {
-                return None;
+        match place_of(&table[..count], clr, place) {
+            Some(at) => place = at,
+            None => {
+                if count == entries.len() {
+                    return None;
+                }
+                table[count] = clr;
+                entries[count] = rgba_of(pixel);
+                place = count;
+                count += 1;
             }
-            table[count] = clr;
-            entries[count] = rgba_of(pixel);
-            count += 1;
         }
     }
     Some(count)
@@ -109,18 +113,23 @@ fn rgba_of<P: TablePixel>(pixel: P) -> RgbaColor
     }
 }
 
-/// Returns whether a color is among the entries.
-fn has(entries: &[Seen], clr: Seen) -> bool
-    ensures { result ≡ list_any (λ c. same_seen c (seen_numbers clr))
-        (map seen_numbers entries.now) }
+/// Returns the place of a color among the entries. It looks at one place first: the pixels of a
+/// picture are often seen as the ones before them.
+fn place_of(entries: &[Seen], clr: Seen, first: usize) -> Option<usize>
+    ensures { MatchOption result
+        (list_any (λ c. same_seen c (seen_numbers clr)) (map seen_numbers entries.now) ≡ false)
+        (λ at. (at < length entries.now) × (same_seen
+        (slice_index_or (map seen_numbers entries.now) at []) (seen_numbers clr) ≡ true)) }
 {
+    if first < entries.len() && same(entries[first], clr) {
+        return Some(first);
+    }
     for i in 0..entries.len() {
-        let found = same(entries[i], clr);
-        if found {
-            return true;
+        if same(entries[i], clr) {
+            return Some(i);
         }
     }
-    false
+    None
 }
 
 /// Writes what each pixel is seen as.

@@ -9,8 +9,9 @@ ghost use Rattle.pix_table.specs.SeenTables.{same_seen, seen_settled};
 
 use crate::chosen::ENTRIES;
 use crate::rgba::color::Seen;
-use crate::rgba::groups::GroupSums;
+use crate::rgba::groups::settled;
 use crate::rgba::lanes::SeenLanes;
+use crate::rgba::sums::SeenSums;
 
 /// Moves the entries by `rounds` rounds. In each, every color goes to its nearest entry, the first
 /// of equals. Then every entry goes to the mean of its colors, where that makes their squared error
@@ -32,7 +33,7 @@ pub(crate) fn refine_seen(colors: &[Seen], rounds: u8, entries: &mut [Seen])
         (map seen_numbers colors.now) }
     ensures seen { All AreSeen (map seen_numbers entries.new) }
 {
-    let mut sums = [GroupSums::none(); ENTRIES];
+    let mut sums = [SeenSums::none(); ENTRIES];
     let count = entries.len();
     for done in 0..rounds {
         let is_moved = seen_round(colors, &mut sums[..count], entries);
@@ -44,7 +45,7 @@ pub(crate) fn refine_seen(colors: &[Seen], rounds: u8, entries: &mut [Seen])
 
 /// Moves the entries by one round, and returns whether one has moved. Where none has, none moves in
 /// the next round. Each entry has sums, in which anything may stand.
-fn seen_round(colors: &[Seen], sums: &mut [GroupSums], entries: &mut [Seen]) -> bool
+fn seen_round(colors: &[Seen], sums: &mut [SeenSums], entries: &mut [Seen]) -> bool
     requires some { 0 < length entries.old }
     requires few { length entries.old ≤ 256 }
     requires many { length sums.old ≡ length entries.old }
@@ -59,7 +60,7 @@ fn seen_round(colors: &[Seen], sums: &mut [GroupSums], entries: &mut [Seen]) -> 
     sum_groups(colors, entries, sums);
     let mut is_moved = false;
     for i in 0..entries.len() {
-        let next = sums[i].settled(entries[i]);
+        let next = settled(sums[i], entries[i]);
         is_moved |= !same(next, entries[i]);
         entries[i] = next;
     }
@@ -69,7 +70,7 @@ fn seen_round(colors: &[Seen], sums: &mut [GroupSums], entries: &mut [Seen]) -> 
 /// Sets the sums of each entry to those of its colors.
 // Out of line, so that the stack holds the lanes only while they are searched.
 #[inline(never)]
-fn sum_groups(colors: &[Seen], entries: &[Seen], sums: &mut [GroupSums])
+fn sum_groups(colors: &[Seen], entries: &[Seen], sums: &mut [SeenSums])
     requires some { 0 < length entries.now }
     requires few { length entries.now ≤ 256 }
     requires many { length sums.old ≡ length entries.now }
@@ -79,7 +80,7 @@ fn sum_groups(colors: &[Seen], entries: &[Seen], sums: &mut [GroupSums])
         sums.new }
 {
     let lanes = SeenLanes::of(entries);
-    sums.fill(GroupSums::none());
+    sums.fill(SeenSums::none());
     let mut last = entries[0];
     let mut entry = usize::from(lanes.nearest(last));
     for i in 0..colors.len() {

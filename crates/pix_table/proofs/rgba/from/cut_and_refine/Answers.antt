@@ -1,5 +1,5 @@
 -- Of `cut_and_refine`: that the order of the colors does not matter.
-use Rattle.std.proofs.Common.{◌++◌, All, map, take, drop, length, arith, ap, ◌∙◌, take_all, length-take}
+use Rattle.std.proofs.Common.{◌++◌, map, take, drop, length, arith, ap, ◌∙◌, take_all, length-take}
 use Rattle.std.proofs.lemmas.List.{take-append-le}
 use Rattle.std.proofs.lemmas.List.Sorted.{All-permutation, IsPermutation-sym}
 use Rattle.pix_table.specs.Seen.{AreSeen, seen_numbers}

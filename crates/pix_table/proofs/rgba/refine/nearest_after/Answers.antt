@@ -1,5 +1,5 @@
 -- Of `nearest_after`: the same color has the same nearest entry.
-use Rattle.std.proofs.Common.{◌≡◌, ◌∙◌, subst, sym}
+use Rattle.std.proofs.Common.{◌∙◌, subst, sym}
 use Rattle.pix_table.specs.Nearest.{IsNearestBy}
 use Rattle.pix_table.specs.Seen.{seen_distance, seen_numbers}
 use Rattle.pix_table.proofs.SeenRounds.{same_numbers}

@@ -1,5 +1,5 @@
 -- Of `seen_round`: that the sums make it.
-use Rattle.std.proofs.Common.{◌≡◌, map, length, get_or, refl, arith, sym, ◌∙◌}
+use Rattle.std.proofs.Common.{map, get_or, refl, arith, sym, ◌∙◌}
 use Rattle.std.proofs.lemmas.List.{length-map}
 use Rattle.pix_table.specs.Seen.{seen_numbers}
 use Rattle.pix_table.specs.declared.rgba.color.Seen.{Seen}

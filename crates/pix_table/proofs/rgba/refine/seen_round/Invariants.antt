@@ -1,12 +1,11 @@
 -- What holds at each turn of the loop over `i` in `seen_round`.
 use Rattle.std.proofs.Common.{◌≡◌, false, map}
 use Rattle.pix_table.specs.Seen.{seen_numbers}
-use Rattle.pix_table.specs.SeenGroups.{AreSeenGrouped}
-use Rattle.pix_table.specs.declared.rgba.groups.GroupSums.{GroupSums}
+use Rattle.pix_table.specs.declared.rgba.sums.SeenSums.{SeenSums}
 use Rattle.pix_table.proofs.SeenRounds.{AreSettled}
 use Rattle.pix_table.proofs.rgba.refine.seen_round.Given as goal
 
-abbrev pub nothing : GroupSums
+abbrev pub nothing : SeenSums
 nothing = record { count = 0; red = 0; green = 0; blue = 0; alpha = 0 }
 
 -- the first i entries have settled, and the others stand

@@ -1,5 +1,5 @@
 -- Of `Terms::product`: that few terms have few products.
-use Rattle.std.proofs.Common.{◌≤◌, ◌+◌, ◌*◌, arith}
+use Rattle.std.proofs.Common.{arith}
 use Rattle.pix_table.proofs.SeenErrors.{product_few}
 use Rattle.pix_table.proofs.rgba.groups.Terms.product.Goals as goal
 
