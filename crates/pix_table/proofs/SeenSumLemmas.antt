@@ -1,5 +1,5 @@
 -- The sums of the seen colors of a box, of those of each value of a channel, and of those below a value.
-use Rattle.std.proofs.Common.{◌≡◌, ℕ, zero, suc, ◌+◌, ◌-◌, ◌*◌, ◌/◌, ◌<◌, ◌≤◌, Bool, true, false, List, [], ◌∷◌, ◌++◌, length, map, take, replicate, get_or, sum_by, set, All, refl, arith, sym, ap, ap₂, ◌∙◌, subst, lt-ltb, IsPermutation}
+use Rattle.std.proofs.Common.{◌≡◌, ℕ, zero, suc, ◌+◌, ◌<◌, ◌≤◌, Bool, true, false, List, [], ◌∷◌, ◌++◌, length, map, take, replicate, get_or, sum_by, set, All, arith, sym, ◌∙◌, subst}
 use Rattle.std.proofs.lemmas.List.{get_or_past, get_or-replicate, length-replicate, take-map}
 use Rattle.std.proofs.lemmas.List.Elements.{All-take}
 use Rattle.pix_table.specs.BestPlaces.{AreBytes, CanCutBy, is_at, is_below}

@@ -1,6 +1,6 @@
 -- The table of seen colors has seen colors.
 use Rattle.std.specs.List.{flat_map}
-use Rattle.std.proofs.Common.{◌≡◌, ℕ, ◌+◌, ◌*◌, ◌/◌, ◌<◌, ◌≤◌, true, List, [], ◌∷◌, ◌++◌, length, map, get_or, All, refl, arith, sym, subst, inl, inr}
+use Rattle.std.proofs.Common.{ℕ, ◌+◌, ◌*◌, ◌/◌, ◌<◌, ◌≤◌, true, List, [], ◌∷◌, ◌++◌, length, get_or, All, refl, arith, sym, subst, inl, inr}
 use Rattle.std.proofs.lemmas.Bool.{cases_lt}
 use Rattle.std.proofs.lemmas.List.{take_at, drop_at}
 use Rattle.std.proofs.lemmas.List.Elements.{All-cons, All-nil, All-take, All-drop, All-map}
@@ -8,7 +8,6 @@ use Rattle.std.proofs.lemmas.List.Sorted.{All-permutation}
 use Rattle.std.proofs.lemmas.Nat.{le-div}
 use Rattle.std.proofs.Math.Nat.{div-mul-le_self, mul-le-mul_right}
 use Rattle.pix_table.specs.Places.{sum_in}
-use Rattle.pix_table.specs.Cut.{AreBoxesBy, mean_of}
 use Rattle.pix_table.specs.Seen.{AreSeen}
 use Rattle.pix_table.specs.SeenCut.{IsSeenCutTable, seen_mean}
 use Rattle.pix_table.proofs.CutColors.{boxes_moved}

@@ -3,7 +3,7 @@ ghost use Rattle.std.specs.Prelude.{◌≡◌, length};
 
 use crate::color::Color;
 
-/// The greatest number of entries.
+/// How many entries a table has at most.
 pub(crate) const ENTRIES: usize = 256;
 
 /// Some entries of a table, at most 256, with their indices.

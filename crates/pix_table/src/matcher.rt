@@ -16,7 +16,7 @@ use std::marker::Model;
 /// more time than they take.
 const FEW_COLORS: usize = 4096;
 
-/// The greatest number of entries that need no lists.
+/// Tables of at most this many entries need no lists.
 const FEW_ENTRIES: usize = 32;
 
 /// Returns the numbers of the entries, followed by that of the first.

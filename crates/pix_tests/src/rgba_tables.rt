@@ -62,7 +62,8 @@ fn opaque_pictures_have_the_usual_table(rt: HostRuntime) -> Result<(), Fail> {
         n = n.wrapping_add(83);
     }
     for rounds in [0, 1, 4] {
-        let Some(usual) = ColorTable::from_raster_refined(rt.alloc(), &picture, 7, 0, rounds)? else {
+        let Some(usual) = ColorTable::from_raster_refined(rt.alloc(), &picture, 7, 0, rounds)?
+        else {
             return Err(Fail::from(RasterFault::Memory));
         };
         let colors = table(rt.alloc(), &picture, 7, rounds)?;
@@ -129,11 +130,14 @@ fn strengths_and_ways(rt: HostRuntime) -> Result<(), Fail> {
     table.set_entry(SRgb8::new(0u8, 0, 0));
     table.set_entry(SRgb8::new(255u8, 255, 255));
     let usual = table.diffuse_indexed(rt.alloc(), &picture, 0, 0)?;
-    let whole = table.diffuse_indexed_by(
-        rt.alloc(), &picture, 0, 0, 16, DiffusionWay::Straight,
-    )?;
+    let whole = table.diffuse_indexed_by(rt.alloc(), &picture, 0, 0, 16, DiffusionWay::Straight)?;
     let nothing = table.diffuse_indexed_by(
-        rt.alloc(), &picture, 0, 0, 0, DiffusionWay::Serpentine,
+        rt.alloc(),
+        &picture,
+        0,
+        0,
+        0,
+        DiffusionWay::Serpentine,
     )?;
     let (Some(usual), Some(whole), Some(nothing)) = (usual, whole, nothing) else {
         return Err(Fail::from(RasterFault::Memory));
@@ -142,9 +146,7 @@ fn strengths_and_ways(rt: HostRuntime) -> Result<(), Fail> {
     for pixel in nothing.pixels() {
         assert_eq!(rt; *pixel, Gray8::new(0u8));
     }
-    let none = table.diffuse_indexed_by(
-        rt.alloc(), &picture, 0, 0, 17, DiffusionWay::Straight,
-    )?;
+    let none = table.diffuse_indexed_by(rt.alloc(), &picture, 0, 0, 17, DiffusionWay::Straight)?;
     assert!(rt; none.is_none());
     Ok(())
 }

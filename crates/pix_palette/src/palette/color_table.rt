@@ -87,7 +87,7 @@ impl ColorTable {
         self.len == 0
     }
 
-    /// Returns the greatest number of entries that there may be.
+    /// Returns how many entries there may be at most.
     ///
     /// # Examples
     ///

@@ -10,7 +10,7 @@ use std::alloc::Global;
 /// The number of places.
 const PLACES: usize = 16384;
 
-/// The greatest number of entries.
+/// How many entries a table has at most.
 const MOST: usize = 4294967295;
 
 /// The latest entry of each place, and for each entry the one before it. They are indices plus one,

@@ -24,7 +24,7 @@ use pix_table::{
 };
 use std::alloc::Global;
 
-/// The greatest number of entries of a table that is made, or to which pixels are matched.
+/// How many entries a table has at most that is made, or to which pixels are matched.
 pub(super) const ENTRIES: usize = 256;
 
 /// The strength that hands on whole errors.

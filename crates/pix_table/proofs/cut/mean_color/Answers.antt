@@ -1,9 +1,7 @@
 -- Of `mean_color`: the mean by the sums.
-use Rattle.std.proofs.Common.{◌≡◌, ◌*◌, ◌<◌, ◌≤◌, length, map, true, arith, refl}
+use Rattle.std.proofs.Common.{◌*◌, ◌≤◌, map, true, arith}
 use Rattle.std.proofs.lemmas.List.{length-map}
 use Rattle.pix_table.specs.Nearest.{numbers}
-use Rattle.pix_table.specs.Cut.{mean}
-use Rattle.pix_table.specs.Groups.{mean_by}
 use Rattle.pix_table.proofs.BoxSumLemmas.{are_few, whole_count, whole_mean}
 use Rattle.pix_table.proofs.cut.mean_color.Goals as goal
 

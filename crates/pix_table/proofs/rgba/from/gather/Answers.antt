@@ -1,5 +1,5 @@
 -- Of `gather`: that one color more is written.
-use Rattle.std.proofs.Common.{◌+◌, ◌∷◌, ◌++◌, [], ◌∙◌, All, ap, ap₂, arith, map, subst, sym, take}
+use Rattle.std.proofs.Common.{◌∷◌, ◌++◌, [], ◌∙◌, All, ap, ap₂, arith, map, subst, sym, take}
 use Rattle.std.proofs.lemmas.List.{map-append}
 use Rattle.std.proofs.lemmas.List.Elements.{All-push}
 use Rattle.pix_table.specs.Seen.{AreSeen, seen, seen_numbers}

@@ -1,14 +1,14 @@
 -- Of `best_in`: that the sums are few, that the invariant of its loop over `value` holds, and its clause at each return.
-use Rattle.std.proofs.Common.{◌≡◌, ◌+◌, ◌*◌, ◌≤◌, ◌∙◌, arith, sym, map, length, get_or}
+use Rattle.std.proofs.Common.{◌≡◌, ◌+◌, ◌∙◌, arith, sym, map, get_or}
 use Rattle.std.proofs.lemmas.List.{length-map}
 use Rattle.pix_table.specs.BestPlaces.{is_at, is_below}
 use Rattle.pix_table.specs.Seen.{seen_numbers}
 use Rattle.pix_table.specs.SeenCut.{seen_weight}
-use Rattle.pix_table.specs.SeenSums.{AreFew, AreSeenSums, seen_gain_at}
+use Rattle.pix_table.specs.SeenSums.{AreSeenSums, seen_gain_at}
 use Rattle.pix_table.specs.declared.rgba.sums.SeenSums.{SeenSums}
 use Rattle.pix_table.proofs.PlacesBy.{done_by}
 use Rattle.pix_table.proofs.PlaceSteps.{begun_by, past_all, bytes_past}
-use Rattle.pix_table.proofs.SeenSumLemmas.{all_bytes, are_few, are_part, below_next, below_none, can_cut, count_few, part_at, same_below, some_others, whole_count}
+use Rattle.pix_table.proofs.SeenSumLemmas.{all_bytes, are_few, are_part, below_next, below_none, can_cut, part_at, same_below, some_others, whole_count}
 use Rattle.pix_table.proofs.SumLemmas.{length_sum, sum_le, sum_next}
 use Rattle.pix_table.proofs.SeenWeights.{gain_same, passed_by, whole_weight}
 use Rattle.pix_table.proofs.rgba.place.best_in.Goals as goal

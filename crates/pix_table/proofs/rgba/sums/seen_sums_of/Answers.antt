@@ -1,8 +1,7 @@
 -- Of `seen_sums_of`: that the sums are those of no colors at first, and of one color more after each turn.
-use Rattle.std.proofs.Common.{◌≡◌, ◌+◌, ◌∷◌, ◌++◌, [], All, true, map, take, get_or, length, length-take, arith, refl, sym, subst}
-use Rattle.std.proofs.lemmas.List.{get_or_default, length-map, take-map}
-use Rattle.std.proofs.lemmas.List.Elements.{All-take}
-use Rattle.pix_table.specs.Seen.{AreSeen, seen_numbers}
+use Rattle.std.proofs.Common.{◌≡◌, ◌+◌, ◌∷◌, ◌++◌, [], true, map, take, get_or, length-take, arith, refl, sym, subst}
+use Rattle.std.proofs.lemmas.List.{get_or_default, length-map}
+use Rattle.pix_table.specs.Seen.{seen_numbers}
 use Rattle.pix_table.specs.SeenSums.{AreSeenSums}
 use Rattle.pix_table.specs.declared.rgba.color.Seen.{Seen}
 use Rattle.pix_table.proofs.BoxSpans.{map_more}

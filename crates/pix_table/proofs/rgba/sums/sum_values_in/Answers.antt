@@ -1,9 +1,8 @@
 -- Of `sum_values_in`: that the sums are those of no colors at first, and of one color more after each turn.
-use Rattle.std.proofs.Common.{◌≡◌, ◌+◌, ◌<◌, ◌∷◌, ◌++◌, [], map, take, get_or, arith, refl, ◌∙◌}
+use Rattle.std.proofs.Common.{◌≡◌, ◌+◌, ◌<◌, ◌∷◌, ◌++◌, [], map, take, get_or, arith, ◌∙◌}
 use Rattle.std.proofs.lemmas.List.{get_or_default}
 use Rattle.pix_table.specs.BestPlaces.{is_at}
 use Rattle.pix_table.specs.Seen.{seen_numbers}
-use Rattle.pix_table.specs.SeenSums.{AreSeenSums}
 use Rattle.pix_table.specs.declared.rgba.color.Seen.{Seen}
 use Rattle.pix_table.specs.declared.rgba.sums.SeenSums.{SeenSums}
 use Rattle.pix_table.proofs.BoxSpans.{map_more}

@@ -1,6 +1,5 @@
 -- Of `SeenSums::weight`: that few colors weigh little.
-use Rattle.std.proofs.Common.{◌≡◌, ◌+◌, ◌-◌, ◌*◌, ◌≤◌, arith}
-use Rattle.pix_table.specs.BestPlaces.{weight_by}
+use Rattle.std.proofs.Common.{◌+◌, ◌*◌, ◌≤◌, arith}
 use Rattle.pix_table.proofs.SeenWeights.{both_little}
 use Rattle.pix_table.proofs.rgba.sums.SeenSums.weight.Goals as goal
 
