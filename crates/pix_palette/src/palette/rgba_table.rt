@@ -58,6 +58,18 @@ impl RgbaTable {
     /// # Errors
     ///
     /// `Memory` on allocation failure.
+    ///
+    /// # Examples
+    ///
+    /// ```rust
+    /// let Some(table) = RgbaTable::from_raster(alloc, picture, 256, 4)? else {
+    ///     return Ok(None); // not for 256 entries
+    /// };
+    /// let Some(indices) = table.map_indexed(alloc, picture)? else {
+    ///     return Ok(None); // the table has no entry
+    /// };
+    /// table.look_up(alloc, &indices)
+    /// ```
     pub fn from_raster<S>(
         alloc: Global,
         raster: &Raster<S>,
@@ -84,6 +96,14 @@ impl RgbaTable {
     /// # Errors
     ///
     /// `Memory` on allocation failure.
+    ///
+    /// # Examples
+    ///
+    /// ```rust
+    /// let table = RgbaTable::with_colors(alloc, &[clear, veil])?;
+    /// let size = table.len(); // 2
+    /// let first = table.colors().first(); // Some(&clear)
+    /// ```
     pub fn with_colors(alloc: Global, colors: &[SRgba8]) -> Result<RgbaTable, RasterFault>
         ensures colors { IfOk result (λ table. colors_of_table table ≡ colors.now) }
         ensures memory { IfErr result (λ fault. fault ≡ RasterFault.Memory) }
@@ -95,6 +115,14 @@ impl RgbaTable {
     }
 
     /// Returns the colors in order.
+    ///
+    /// # Examples
+    ///
+    /// ```rust
+    /// let table = RgbaTable::with_colors(alloc, &[clear, veil])?;
+    /// let size = table.len(); // 2
+    /// let first = table.colors().first(); // Some(&clear)
+    /// ```
     pub fn colors(&self) -> &[SRgba8]
         ensures { result.now ≡ colors_of_table self.now }
     {
@@ -102,6 +130,14 @@ impl RgbaTable {
     }
 
     /// Returns the number of entries.
+    ///
+    /// # Examples
+    ///
+    /// ```rust
+    /// let table = RgbaTable::with_colors(alloc, &[clear, veil])?;
+    /// let size = table.len(); // 2
+    /// let first = table.colors().first(); // Some(&clear)
+    /// ```
     pub fn len(&self) -> usize
         ensures { result ≡ length (colors_of_table self.now) }
     {
@@ -122,6 +158,18 @@ impl RgbaTable {
     /// # Errors
     ///
     /// `Memory` on allocation failure.
+    ///
+    /// # Examples
+    ///
+    /// ```rust
+    /// let Some(table) = RgbaTable::from_raster(alloc, picture, 256, 4)? else {
+    ///     return Ok(None); // not for 256 entries
+    /// };
+    /// let Some(indices) = table.map_indexed(alloc, picture)? else {
+    ///     return Ok(None); // the table has no entry
+    /// };
+    /// table.look_up(alloc, &indices)
+    /// ```
     pub fn map_indexed<S>(
         &self,
         alloc: Global,
@@ -156,6 +204,15 @@ impl RgbaTable {
     /// # Errors
     ///
     /// `Memory` on allocation failure.
+    ///
+    /// # Examples
+    ///
+    /// ```rust
+    /// let Some(table) = RgbaTable::from_raster(alloc, picture, 256, 4)? else {
+    ///     return Ok(None); // not for 256 entries
+    /// };
+    /// table.diffuse_indexed(alloc, picture, 12, DiffusionWay::Serpentine)
+    /// ```
     pub fn diffuse_indexed<S>(
         &self,
         alloc: Global,
@@ -199,6 +256,18 @@ impl RgbaTable {
     /// # Errors
     ///
     /// `Memory` on allocation failure, which comes first.
+    ///
+    /// # Examples
+    ///
+    /// ```rust
+    /// let Some(table) = RgbaTable::from_raster(alloc, picture, 256, 4)? else {
+    ///     return Ok(None); // not for 256 entries
+    /// };
+    /// let Some(indices) = table.map_indexed(alloc, picture)? else {
+    ///     return Ok(None); // the table has no entry
+    /// };
+    /// table.look_up(alloc, &indices)
+    /// ```
     pub fn look_up(
         &self,
         alloc: Global,

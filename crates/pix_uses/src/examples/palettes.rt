@@ -162,3 +162,26 @@ pub fn with_alpha(
     };
     table.look_up(alloc, &indices)
 }
+
+/// Indexes a picture by error diffusion in a table that keeps its alphas.
+pub fn diffused_with_alpha(
+    alloc: Global,
+    picture: &Raster<SRgba8>,
+) -> Result<Option<Raster<Gray8>>, RasterFault> {
+    let Some(table) = RgbaTable::from_raster(alloc, picture, 256, 4)? else {
+        return Ok(None); // not for 256 entries
+    };
+    table.diffuse_indexed(alloc, picture, 12, DiffusionWay::Serpentine)
+}
+
+/// Makes a table of two colors, and asks for them.
+pub fn given_colors(
+    alloc: Global,
+    clear: SRgba8,
+    veil: SRgba8,
+) -> Result<(usize, Option<SRgba8>), RasterFault> {
+    let table = RgbaTable::with_colors(alloc, &[clear, veil])?;
+    let size = table.len(); // 2
+    let first = table.colors().first(); // Some(&clear)
+    Ok((size, first.copied()))
+}
