@@ -127,7 +127,7 @@ pub in_channel : (h s f w : ℕ) → h ≡ s → s + f ≡ 4080 + w → h + f �
 in_channel h s f w e all = omega arith
 
 -- no miss where a color is both wanted and found
-pub no_miss : (color : List ℕ) → IsMiss true color color (record { red = 255; green = 255; blue = 255; alpha = 255 })
+pub no_miss : (color : List ℕ) → IsMiss true color color (record { red = 255; green = 255; blue = 255; alpha = 255; spare = 0 })
 no_miss color = record { red = refl; green = refl; blue = refl; alpha = refl }
 
 -- the same miss, of the same pixel if it is there

@@ -3,7 +3,7 @@ ghost use Rattle.std.specs.Prelude.{◌≡◌, ℕ, ◌+◌, ◌-◌, ◌*◌, �
 ghost use Rattle.pix_table.specs.Diffusion.{AreDiffusedBy, IsWayThrough, in_picture, is_back};
 ghost use Rattle.pix_table.specs.Done.{AreLatest, AreNear, IsMiss, IsMissAbove};
 ghost use Rattle.pix_table.specs.declared.diffuse.DiffusionWay.{DiffusionWay};
-ghost use Rattle.pix_table.specs.declared.diffuse.DiffusionWay.TheVariants.{Serpentine};
+ghost use Rattle.pix_table.specs.declared.diffuse.DiffusionWay.TheVariants.{Serpentine, Straight};
 
 use crate::color::{Color, TableColor, TablePixel};
 use crate::matcher::visit_nearest;
@@ -104,19 +104,57 @@ impl<C: TableColor, P: TablePixel> SearchVisitor<u8> for Diffusing<'_, C, P> {
     fn visit<N: NearestSearch>(&self, search: &mut N, items: &mut [u8], work: &mut [Color]) {
         let (wanted, rest) = work.split_at_mut(self.how.width);
         let (found, _) = rest.split_at_mut(self.how.width);
-        diffuse_all(
-            search,
-            self.entries,
-            self.pixels,
-            self.how,
-            wanted,
-            found,
-            items,
-        );
+        // Whole errors from left to right have a loop of their own.
+        if is_plain(self.how) {
+            diffuse_all(
+                search,
+                self.entries,
+                self.pixels,
+                as_plain(self.how),
+                wanted,
+                found,
+                items,
+            );
+        } else {
+            diffuse_all(
+                search,
+                self.entries,
+                self.pixels,
+                self.how,
+                wanted,
+                found,
+                items,
+            );
+        }
+    }
+}
+
+/// Returns whether whole errors are handed on, from left to right in each row.
+fn is_plain(how: Diffusion) -> bool
+    ensures { result ≡ true → (how.strength ≡ 16) × (how.way ≡ Straight) }
+{
+    match how.way {
+        DiffusionWay::Straight => how.strength == 16,
+        DiffusionWay::Serpentine => false,
+    }
+}
+
+/// Returns the same, so that the strength and the way are constants where it is used.
+#[inline(always)]
+fn as_plain(how: Diffusion) -> Diffusion
+    requires strength { how.strength ≡ 16 }
+    requires way { how.way ≡ Straight }
+    ensures { result ≡ how }
+{
+    Diffusion {
+        strength: 16,
+        way: DiffusionWay::Straight,
+        ..how
     }
 }
 
 /// Does it with a row of the colors that were last wanted, and a row of those that were last found.
+#[inline(always)]
 pub(crate) fn diffuse_all<S, N, C, P>(
     search: &mut N,
     entries: &[C],

@@ -17,6 +17,8 @@ pub(crate) struct Miss {
     pub(crate) blue: u16,
     /// 255 where colors have no alpha.
     pub(crate) alpha: u16,
+    /// Nothing. Eight bytes would be handed over as one number, and taken apart again.
+    pub(crate) spare: u16,
 }
 
 /// The misses at three of the four pixels that hand on errors to a pixel. The fourth is the one
@@ -37,6 +39,7 @@ pub(crate) const NO_MISS: Miss = Miss {
     green: 255,
     blue: 255,
     alpha: 255,
+    spare: 0,
 };
 
 /// A color whose error is handed on.
@@ -147,6 +150,7 @@ impl Spread for Color {
             green: 255 + u16::from(self.green) - u16::from(found.green),
             blue: 255 + u16::from(self.blue) - u16::from(found.blue),
             alpha: 255,
+            spare: 0,
         }
     }
 

@@ -121,6 +121,7 @@ impl Spread for Seen {
             green: 255 + u16::from(self.green) - u16::from(found.green),
             blue: 255 + u16::from(self.blue) - u16::from(found.blue),
             alpha: 255 + u16::from(self.alpha) - u16::from(found.alpha),
+            spare: 0,
         }
     }
 
