@@ -268,4 +268,58 @@ mod tests {
             assert_eq!(rt; entries[i], rgba(clr.red, clr.green, clr.blue, 255));
         }
     }
+
+    /// Returns black with an alpha.
+    fn black(alpha: u8) -> RgbaColor {
+        rgba(0, 0, 0, alpha)
+    }
+
+    #[test]
+    fn cuts_by_alpha(rt: HostRuntime) {
+        let pixels = [black(0), black(255), black(1), black(254)];
+        let mut work = [Seen::default(); 4];
+        let mut two = [RgbaColor::default(); 2];
+        let mut three = [RgbaColor::default(); 3];
+        assert_eq!(rt; rgba_table_from(&pixels, 0, &mut work, &mut two), Some(2));
+        assert_eq!(rt; two, [black(1), black(255)]);
+        assert_eq!(rt; rgba_table_from(&pixels, 0, &mut work, &mut three), Some(3));
+        assert_eq!(rt; three, [black(0), black(1), black(255)]);
+    }
+
+    /// White and black at half are as far apart over black as over white.
+    #[test]
+    fn cuts_red_before_alpha(rt: HostRuntime) {
+        let white = rgba(255, 255, 255, 128);
+        let pixels = [black(128), white, black(127)];
+        let mut work = [Seen::default(); 3];
+        let mut entries = [RgbaColor::default(); 2];
+        assert_eq!(rt;
+            rgba_table_from(&pixels, 0, &mut work, &mut entries),
+            Some(2)
+        );
+        assert_eq!(rt; entries, [black(128), white]);
+    }
+
+    /// The cut has the means of 0, of 60 and 80, and of 110, 160 and 190. 110 is nearer to 70.
+    #[test]
+    fn moves_entries_to_means(rt: HostRuntime) {
+        let pixels = [
+            black(80),
+            black(110),
+            black(160),
+            black(60),
+            black(0),
+            black(190),
+        ];
+        let mut work = [Seen::default(); 6];
+        let mut cut = [RgbaColor::default(); 3];
+        let mut entries = [RgbaColor::default(); 3];
+        assert_eq!(rt; rgba_table_from(&pixels, 0, &mut work, &mut cut), Some(3));
+        assert_eq!(rt; cut, [black(0), black(70), black(153)]);
+        assert_eq!(rt;
+            rgba_table_from(&pixels, 1, &mut work, &mut entries),
+            Some(3)
+        );
+        assert_eq!(rt; entries, [black(0), black(83), black(175)]);
+    }
 }
