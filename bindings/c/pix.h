@@ -52,11 +52,10 @@
  * Stack. A call takes no memory, so what it works with is on the stack of its thread. These are the
  * KiB that a thread's stack needs for each call, the thread's own frames among them:
  *
- *     256   pix_make_table_refined, pix_make_table_refined_alpha, pix_make_table_rgba,
- *           pix_map_indexed, pix_map_indexed_alpha, and each pix_diffuse_indexed..
- *      96   pix_make_table, pix_make_table_alpha
- *      64   pix_map_indexed_rgba
- *      32   pix_index_pixels
+ *     256   pix_make_table_refined, pix_map_indexed, pix_diffuse_indexed, pix_diffuse_indexed_by,
+ *           and all four with _alpha
+ *      96   pix_make_table, pix_make_table_alpha, pix_make_table_rgba
+ *      32   pix_index_pixels, pix_map_indexed_rgba, pix_diffuse_indexed_rgba
  *      16   all others
  *
  * Main threads have much more, and so have new threads under glibc. Under musl a new thread has 128

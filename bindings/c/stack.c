@@ -228,7 +228,7 @@ static pix_status unpack(void) {
 }
 
 /* The calls, and the kibibytes of stack that pix.h says they need. */
-enum { FEW = 16, SETTING = 32, MATCHING_RGBA = 64, MAKING = 96, MATCHING = 256 };
+enum { FEW = 16, SETTING = 32, MAKING = 96, MATCHING = 256 };
 static const struct { const char *name; size_t kibibytes; pix_status (*call)(void); } calls[] = {
     {"pix_check_library", FEW, pix_check_library},
     {"pix_run", FEW, run},
@@ -249,7 +249,7 @@ static const struct { const char *name; size_t kibibytes; pix_status (*call)(voi
     {"pix_index_pixels", SETTING, set},
     {"pix_make_table_refined", MATCHING, refine},
     {"pix_make_table_refined_alpha", MATCHING, refine_alpha},
-    {"pix_make_table_rgba", MATCHING, make_rgba},
+    {"pix_make_table_rgba", MAKING, make_rgba},
     {"pix_map_indexed", MATCHING, map},
     {"pix_map_indexed_alpha", MATCHING, map_alpha},
     {"pix_diffuse_indexed", MATCHING, diffuse},
@@ -258,9 +258,9 @@ static const struct { const char *name; size_t kibibytes; pix_status (*call)(voi
     {"pix_diffuse_indexed_by, serpentine", MATCHING, diffuse_turning},
     {"pix_diffuse_indexed_by_alpha", MATCHING, diffuse_by_alpha},
     {"pix_diffuse_indexed_by_alpha, serpentine", MATCHING, diffuse_turning_alpha},
-    {"pix_diffuse_indexed_rgba", MATCHING, diffuse_rgba},
-    {"pix_diffuse_indexed_rgba, serpentine", MATCHING, diffuse_turning_rgba},
-    {"pix_map_indexed_rgba", MATCHING_RGBA, map_rgba},
+    {"pix_diffuse_indexed_rgba", SETTING, diffuse_rgba},
+    {"pix_diffuse_indexed_rgba, serpentine", SETTING, diffuse_turning_rgba},
+    {"pix_map_indexed_rgba", SETTING, map_rgba},
     {"pix_look_up_rgba", FEW, look_up_rgba},
 };
 

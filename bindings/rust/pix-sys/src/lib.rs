@@ -20,10 +20,9 @@
 //!
 //! | KiB | calls |
 //! |--:|---|
-//! | 256 | `pix_table_refined`, `pix_table_match`, and both with `_alpha`; `pix_table_rgba_from`, and each `pix_table_.._diffuse..` |
-//! | 96 | `pix_table_from`, `pix_table_from_alpha` |
-//! | 64 | `pix_table_rgba_match` |
-//! | 32 | `pix_table_index` |
+//! | 256 | `pix_table_refined`, `pix_table_match`, `pix_table_diffuse`, `pix_table_diffuse_by`, and all four with `_alpha` |
+//! | 96 | `pix_table_from`, `pix_table_from_alpha`, `pix_table_rgba_from` |
+//! | 32 | `pix_table_index`, `pix_table_rgba_match`, `pix_table_rgba_diffuse` |
 //! | 16 | all others |
 //!
 //! Threads of `std` have 2 MiB.

@@ -34,9 +34,9 @@
 //! or another language has too. Nothing else writes it while it is borrowed. Nothing else reads it while it is borrowed to
 //! be written. Both hold for each address of that memory.
 //!
-//! A call takes up to 256 KiB of stack to match pixels to a table ([`Table::map_indexed`], [`Table::diffuse_indexed`],
-//! [`TableRgba::diffuse_indexed`]), and for [`make_table_refined`] and [`make_table_rgba`]. It takes 96 KiB for [`make_table`], 64
-//! for [`TableRgba::map_indexed`], 32 for [`index_pixels`] and 16 for all else. Threads of `std` have 2 MiB.
+//! A call takes up to 256 KiB of stack to match pixels to a table ([`Table::map_indexed`], [`Table::diffuse_indexed`]), and for
+//! [`make_table_refined`]. It takes 96 KiB for [`make_table`] and [`make_table_rgba`], 32 for [`index_pixels`] and to match to a
+//! [`TableRgba`], and 16 for all else. Threads of `std` have 2 MiB.
 //!
 //! docs/PROMISES.md of the repository lists all calls in four languages, and what is proved of each.
 #![no_std]
