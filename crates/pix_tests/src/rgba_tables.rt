@@ -7,8 +7,8 @@ use std::alloc::Global;
 use std::test::Fail;
 
 /// A picture of one row.
-fn row(alloc: Global, pixels: &[SRgba8]) -> Result<Raster<SRgba8>, RasterFault> {
-    let mut picture = Raster::with_clear(alloc, pixels.len() as u32, 1)?;
+fn row(alloc: Global, width: u32, pixels: &[SRgba8]) -> Result<Raster<SRgba8>, RasterFault> {
+    let mut picture = Raster::with_clear(alloc, width, 1)?;
     for (place, pixel) in picture.pixels_mut().iter_mut().zip(pixels) {
         *place = *pixel;
     }
@@ -32,7 +32,7 @@ fn table(
 fn few_colors_come_back(rt: HostRuntime) -> Result<(), Fail> {
     let (sky, veil) = (SRgba8::new(10, 20, 30, 255), SRgba8::new(200, 100, 0, 128));
     let (clear, other) = (SRgba8::new(1, 2, 3, 0), SRgba8::new(9, 9, 9, 0));
-    let picture = row(rt.alloc(), &[sky, veil, clear, other, veil, sky])?;
+    let picture = row(rt.alloc(), 6, &[sky, veil, clear, other, veil, sky])?;
     let colors = table(rt.alloc(), &picture, 3, 4)?;
     // Two pixels of the alpha 0 are seen as the same.
     assert!(rt; colors.colors() == [sky, veil, clear].as_slice());
@@ -77,7 +77,7 @@ fn opaque_pictures_have_the_usual_table(rt: HostRuntime) -> Result<(), Fail> {
 
 #[test]
 fn limits_of_tables_with_alpha(rt: HostRuntime) -> Result<(), Fail> {
-    let picture = row(rt.alloc(), &[SRgba8::new(1, 2, 3, 4)])?;
+    let picture = row(rt.alloc(), 1, &[SRgba8::new(1, 2, 3, 4)])?;
     assert!(rt; RgbaTable::from_raster(rt.alloc(), &picture, 0, 0)?.is_none());
     assert!(rt; RgbaTable::from_raster(rt.alloc(), &picture, 257, 0)?.is_none());
     let none = RgbaTable::with_colors(rt.alloc(), &[])?;
@@ -98,7 +98,7 @@ fn limits_of_tables_with_alpha(rt: HostRuntime) -> Result<(), Fail> {
 #[test]
 fn clear_pixels_hand_on_nothing(rt: HostRuntime) -> Result<(), Fail> {
     let (clear, gray) = (SRgba8::new(9, 9, 9, 0), SRgba8::new(100, 100, 100, 255));
-    let picture = row(rt.alloc(), &[gray, clear, gray, clear])?;
+    let picture = row(rt.alloc(), 4, &[gray, clear, gray, clear])?;
     let black = SRgba8::new(0, 0, 0, 255);
     let colors = RgbaTable::with_colors(rt.alloc(), &[black, SRgba8::new(255, 255, 255, 255)])?;
     // Clear is as far from black as from white. What is lost at the first gray doesn't reach the
