@@ -1,7 +1,7 @@
 /* pix 0.2.0: the program pixpaint, for aarch64 under Linux.
  * The code was proved before it was compiled; generated/README.md says what that means. Nobody edits this file: tools/generate makes it.
  *
- * sources: 79caa17d63dfaccfcd1edf3a9704589e5760476611f9c1cf87f6ad710b85d95d, as tools/sources --sum pixpaint prints it
+ * sources: d52146372de9f6bcf90af110ca70813b8d47375609f757e6ab3544064c7f45e9, as tools/sources --sum pixpaint prints it
  * kit: rattle-kit-13f logic dac8208d650f15bf
  * verdict: logic=proved functions=1 axioms=6 target=aarch64-unknown-linux-gnu sum=dac8208d650f15bf native=nat,char,string logic-built=trusted libraries-built=trusted statements=trusted
  * made by: rattle build --target aarch64-unknown-linux-gnu of crates/pixpaint, with clang -S -fno-verbose-asm -fno-addrsig in the place of clang -c
@@ -1194,10 +1194,10 @@
 	.word	4294967288
 	.word	0
 	.word	0
-	.section	".text.pix_ops::ops::Op::visit_slice::<#3409e446d8193797>","ax",@progbits
+	.section	".text.pix_ops::ops::Op::visit_slice::<#ce14eb345aebabfd>","ax",@progbits
 	.p2align	2
-	.type	"pix_ops::ops::Op::visit_slice::<#3409e446d8193797>",@function
-"pix_ops::ops::Op::visit_slice::<#3409e446d8193797>":
+	.type	"pix_ops::ops::Op::visit_slice::<#ce14eb345aebabfd>",@function
+"pix_ops::ops::Op::visit_slice::<#ce14eb345aebabfd>":
 	stp	d15, d14, [sp, #-160]!
 	stp	d13, d12, [sp, #16]
 	stp	d11, d10, [sp, #32]
@@ -2678,7 +2678,7 @@
 	mov	x0, x28
 	mov	w3, wzr
 .LBB8_102:
-	bl	"pix_raster::lent::fill_window::<#b4d5922dbc622a9f>"
+	bl	"pix_raster::lent::fill_window::<#c41203c8e548980e>"
 	b	.LBB8_408
 .LBB8_103:
 	sub	w8, w11, #5
@@ -3039,7 +3039,7 @@
 	add	x9, x11, x9, lsl #2
 	add	x0, x10, x8
 	add	x1, x9, x8
-	bl	"pix_el::planes::masked::composite_masked::<#7b9cc11403a2fd17>"
+	bl	"pix_el::planes::masked::composite_masked::<#70169026c146ab25>"
 	mov	x15, x24
 	ldr	x24, [sp, #224]
 	ldr	x6, [sp, #400]
@@ -3605,7 +3605,7 @@
 	ldr	q1, [x23, x10]
 	str	q1, [x3, #144]
 	str	q0, [x3, #96]
-	bl	"pix_el::planes::interleaved::composited::<#20f930e30cbfcb23>"
+	bl	"pix_el::planes::interleaved::composited::<#5dfee050904719f9>"
 	ldr	x7, [sp, #352]
 	ldr	x1, [sp, #368]
 	mov	x30, x19
@@ -4258,7 +4258,7 @@
 	uzp2	v1.8h, v1.8h, v3.8h
 	uzp1	v0.16b, v1.16b, v0.16b
 	str	q0, [x3, #208]
-	bl	"pix_el::planes::interleaved::composite_four::<#27f8aea90fe6648e>"
+	bl	"pix_el::planes::interleaved::composite_four::<#33cba52c7d29a39e>"
 	ldr	x1, [sp, #416]
 	ldr	x0, [sp, #480]
 	mov	x7, x23
@@ -4857,7 +4857,7 @@
 	ldr	q1, [x23, x10]
 	str	q1, [x3, #144]
 	str	q0, [x3, #96]
-	bl	"pix_el::planes::interleaved::composited::<#025403d9227339ba>"
+	bl	"pix_el::planes::interleaved::composited::<#3da05d1113ce6302>"
 	add	x3, sp, #704
 	ldr	x8, [sp, #416]
 	ldr	x7, [sp, #368]
@@ -6309,7 +6309,7 @@
 	str	q1, [x2, #144]
 	str	q0, [x2, #96]
 	sub	x2, x29, #240
-	bl	"pix_el::planes::interleaved::composited::<#4b17dc05bd5ee45b>"
+	bl	"pix_el::planes::interleaved::composited::<#ea75f58df2daa8e1>"
 	mov	x4, x27
 	ldp	x27, x1, [sp, #184]
 	mov	x6, x23
@@ -7668,7 +7668,7 @@
 	ldr	q1, [x23, x22]
 	str	q1, [x3, #144]
 	str	q0, [x3, #96]
-	bl	"pix_el::planes::interleaved::composited::<#62ff81409c395df7>"
+	bl	"pix_el::planes::interleaved::composited::<#af0951424a2d2505>"
 	add	x3, sp, #704
 	ldr	x7, [sp, #400]
 	ldr	x0, [sp, #416]
@@ -8556,7 +8556,7 @@
 	add	x4, sp, #704
 .LBB8_407:
 	mov	x0, x28
-	bl	"pix_raster::raster::window::blit_from::<#9eecd194e4ab739a>"
+	bl	"pix_raster::raster::window::blit_from::<#d0c343f678e302d3>"
 .LBB8_408:
 	add	sp, sp, #976
 	ldp	x20, x19, [sp, #144]
@@ -10312,7 +10312,7 @@
 	ldr	x10, [sp, #336]
 	add	x0, x9, x10
 	add	x1, x8, x10
-	bl	"pix_el::planes::masked::composite_masked::<#7b9cc11403a2fd17>"
+	bl	"pix_el::planes::masked::composite_masked::<#70169026c146ab25>"
 	ldr	q8, [sp, #256]
 	ldr	q25, [sp, #288]
 	mov	x16, x21
@@ -10930,7 +10930,7 @@
 	uzp1	v0.16b, v1.16b, v0.16b
 	ldr	q1, [x23, x10]
 	stp	q0, q1, [x30, #208]
-	bl	"pix_el::planes::interleaved::composited::<#20f930e30cbfcb23>"
+	bl	"pix_el::planes::interleaved::composited::<#5dfee050904719f9>"
 	ldp	q15, q14, [sp, #240]
 	add	x30, sp, #704
 	ldr	x8, [sp, #480]
@@ -11572,7 +11572,7 @@
 	uzp2	v1.8h, v1.8h, v4.8h
 	uzp1	v0.16b, v1.16b, v0.16b
 	str	q0, [x30, #160]
-	bl	"pix_el::planes::interleaved::composite_four::<#27f8aea90fe6648e>"
+	bl	"pix_el::planes::interleaved::composite_four::<#33cba52c7d29a39e>"
 	ldp	q13, q12, [sp, #256]
 	mov	x5, x23
 	ldr	q11, [sp, #304]
@@ -13702,7 +13702,7 @@
 	str	q0, [x30, #224]
 	ldr	q0, [x8, x24]
 	str	q0, [x30, #208]
-	bl	"pix_el::planes::interleaved::composited::<#20f930e30cbfcb23>"
+	bl	"pix_el::planes::interleaved::composited::<#5dfee050904719f9>"
 	add	x30, sp, #704
 	mov	x5, x20
 	mov	x2, x25
@@ -14370,7 +14370,7 @@
 	uzp1	v0.16b, v1.16b, v0.16b
 	ldr	q1, [x23, x28]
 	stp	q0, q1, [x30, #208]
-	bl	"pix_el::planes::interleaved::composited::<#025403d9227339ba>"
+	bl	"pix_el::planes::interleaved::composited::<#3da05d1113ce6302>"
 	add	x30, sp, #704
 	mov	x3, x20
 	mov	x20, x24
@@ -15264,7 +15264,7 @@
 	add	x8, x8, x9, lsl #2
 	str	q0, [x30, #160]
 	add	x0, x8, x10
-	bl	"pix_el::planes::interleaved::composite_four::<#27f8aea90fe6648e>"
+	bl	"pix_el::planes::interleaved::composite_four::<#33cba52c7d29a39e>"
 	ldr	x0, [sp, #288]
 	mov	x1, x24
 	mov	x24, x19
@@ -17368,7 +17368,7 @@
 	uzp1	v0.16b, v1.16b, v0.16b
 	ldr	q1, [x23]
 	stp	q0, q1, [x30, #208]
-	bl	"pix_el::planes::interleaved::composited::<#20f930e30cbfcb23>"
+	bl	"pix_el::planes::interleaved::composited::<#5dfee050904719f9>"
 	add	x30, sp, #704
 	mov	x13, x27
 	cmp	x27, #1
@@ -17396,7 +17396,7 @@
 	uzp1	v0.16b, v1.16b, v0.16b
 	ldr	q1, [x23, #16]
 	stp	q0, q1, [x30, #208]
-	bl	"pix_el::planes::interleaved::composited::<#20f930e30cbfcb23>"
+	bl	"pix_el::planes::interleaved::composited::<#5dfee050904719f9>"
 	add	x30, sp, #704
 	mov	x13, x27
 	cmp	x27, #2
@@ -17424,7 +17424,7 @@
 	uzp1	v0.16b, v1.16b, v0.16b
 	ldr	q1, [x23, #32]
 	stp	q0, q1, [x30, #208]
-	bl	"pix_el::planes::interleaved::composited::<#20f930e30cbfcb23>"
+	bl	"pix_el::planes::interleaved::composited::<#5dfee050904719f9>"
 	add	x30, sp, #704
 	mov	x13, x27
 	ldr	q0, [x30, #160]
@@ -18964,7 +18964,7 @@
 	str	q0, [x30, #224]
 	ldr	q0, [x8, x24]
 	str	q0, [x30, #208]
-	bl	"pix_el::planes::interleaved::composited::<#025403d9227339ba>"
+	bl	"pix_el::planes::interleaved::composited::<#3da05d1113ce6302>"
 	add	x30, sp, #704
 	ldr	x8, [sp, #400]
 	mov	x17, x19
@@ -19508,7 +19508,7 @@
 	uzp1	v0.16b, v1.16b, v0.16b
 	ldr	q1, [x23, x24]
 	stp	q0, q1, [x30, #208]
-	bl	"pix_el::planes::interleaved::composited::<#4b17dc05bd5ee45b>"
+	bl	"pix_el::planes::interleaved::composited::<#ea75f58df2daa8e1>"
 	add	x30, sp, #704
 	mov	x15, x20
 	ldr	x20, [sp, #240]
@@ -21185,7 +21185,7 @@
 	uzp1	v0.16b, v1.16b, v0.16b
 	ldr	q1, [x23, x10]
 	stp	q0, q1, [x30, #208]
-	bl	"pix_el::planes::interleaved::composited::<#62ff81409c395df7>"
+	bl	"pix_el::planes::interleaved::composited::<#af0951424a2d2505>"
 	mov	x16, x19
 	mov	x19, x24
 	ldr	x24, [sp, #256]
@@ -24838,7 +24838,7 @@
 	str	q0, [x30, #224]
 	ldr	q0, [x8, x24]
 	str	q0, [x30, #208]
-	bl	"pix_el::planes::interleaved::composited::<#4b17dc05bd5ee45b>"
+	bl	"pix_el::planes::interleaved::composited::<#ea75f58df2daa8e1>"
 	add	x30, sp, #704
 	mov	x2, x19
 	ldr	x0, [sp, #256]
@@ -26084,7 +26084,7 @@
 	str	q0, [x30, #224]
 	ldr	q0, [x8, x24]
 	str	q0, [x30, #208]
-	bl	"pix_el::planes::interleaved::composited::<#62ff81409c395df7>"
+	bl	"pix_el::planes::interleaved::composited::<#af0951424a2d2505>"
 	add	x30, sp, #704
 	mov	x2, x20
 	ldr	x0, [sp, #256]
@@ -30397,7 +30397,7 @@
 	str	q0, [x30, #224]
 	ldr	q0, [sp, #368]
 	str	q0, [x30, #208]
-	bl	"pix_el::planes::interleaved::composited::<#20f930e30cbfcb23>"
+	bl	"pix_el::planes::interleaved::composited::<#5dfee050904719f9>"
 	ldp	q15, q14, [sp, #224]
 	add	x30, sp, #704
 	ldp	q12, q11, [sp, #304]
@@ -30803,7 +30803,7 @@
 	add	x8, x9, x8, lsl #2
 	ldr	x9, [sp, #320]
 	add	x0, x8, x9
-	bl	"pix_el::planes::interleaved::composite_four::<#27f8aea90fe6648e>"
+	bl	"pix_el::planes::interleaved::composite_four::<#33cba52c7d29a39e>"
 	ldp	q9, q8, [sp, #192]
 	and	x0, x26, #0xfffffffffffffffc
 	ldp	q31, q30, [sp, #224]
@@ -31446,7 +31446,7 @@
 	str	q0, [x30, #224]
 	ldr	q0, [sp, #352]
 	str	q0, [x30, #208]
-	bl	"pix_el::planes::interleaved::composited::<#025403d9227339ba>"
+	bl	"pix_el::planes::interleaved::composited::<#3da05d1113ce6302>"
 	ldr	q26, [sp, #288]
 	ldr	w1, [sp, #272]
 	add	x30, sp, #704
@@ -32211,7 +32211,7 @@
 	str	q0, [x30, #224]
 	ldr	q0, [sp, #352]
 	str	q0, [x30, #208]
-	bl	"pix_el::planes::interleaved::composited::<#4b17dc05bd5ee45b>"
+	bl	"pix_el::planes::interleaved::composited::<#ea75f58df2daa8e1>"
 	ldp	q24, q23, [sp, #304]
 	mov	x5, x19
 	ldr	q25, [sp, #240]
@@ -33139,7 +33139,7 @@
 	str	q0, [x30, #224]
 	ldr	q0, [sp, #304]
 	str	q0, [x30, #208]
-	bl	"pix_el::planes::interleaved::composited::<#62ff81409c395df7>"
+	bl	"pix_el::planes::interleaved::composited::<#af0951424a2d2505>"
 	ldp	q26, q25, [sp, #320]
 	mov	x11, x20
 	ldp	q15, q14, [sp, #96]
@@ -34303,8 +34303,8 @@
 	b.ne	.LBB8_2309
 	b	.LBB8_408
 .Lfunc_end8:
-	.size	"pix_ops::ops::Op::visit_slice::<#3409e446d8193797>", .Lfunc_end8-"pix_ops::ops::Op::visit_slice::<#3409e446d8193797>"
-	.section	".rodata.pix_ops::ops::Op::visit_slice::<#3409e446d8193797>","a",@progbits
+	.size	"pix_ops::ops::Op::visit_slice::<#ce14eb345aebabfd>", .Lfunc_end8-"pix_ops::ops::Op::visit_slice::<#ce14eb345aebabfd>"
+	.section	".rodata.pix_ops::ops::Op::visit_slice::<#ce14eb345aebabfd>","a",@progbits
 	.p2align	1, 0x0
 .LJTI8_0:
 	.hword	(.LBB8_1-.LBB8_1)>>2
@@ -34321,10 +34321,10 @@
 	.hword	(.LBB8_5-.LBB8_1)>>2
 	.hword	(.LBB8_36-.LBB8_1)>>2
 
-	.section	".text.pix_raster::lent::fill_window::<#b4d5922dbc622a9f>","ax",@progbits
+	.section	".text.pix_raster::lent::fill_window::<#c41203c8e548980e>","ax",@progbits
 	.p2align	2
-	.type	"pix_raster::lent::fill_window::<#b4d5922dbc622a9f>",@function
-"pix_raster::lent::fill_window::<#b4d5922dbc622a9f>":
+	.type	"pix_raster::lent::fill_window::<#c41203c8e548980e>",@function
+"pix_raster::lent::fill_window::<#c41203c8e548980e>":
 	ldr	w12, [x1, #8]
 	cbz	w12, .LBB9_7
 	ldp	w11, w14, [x2]
@@ -34449,12 +34449,12 @@
 	b.lo	.LBB9_16
 	b	.LBB9_9
 .Lfunc_end9:
-	.size	"pix_raster::lent::fill_window::<#b4d5922dbc622a9f>", .Lfunc_end9-"pix_raster::lent::fill_window::<#b4d5922dbc622a9f>"
+	.size	"pix_raster::lent::fill_window::<#c41203c8e548980e>", .Lfunc_end9-"pix_raster::lent::fill_window::<#c41203c8e548980e>"
 
-	.section	".text.pix_raster::raster::window::blit_from::<#9eecd194e4ab739a>","ax",@progbits
+	.section	".text.pix_raster::raster::window::blit_from::<#d0c343f678e302d3>","ax",@progbits
 	.p2align	2
-	.type	"pix_raster::raster::window::blit_from::<#9eecd194e4ab739a>",@function
-"pix_raster::raster::window::blit_from::<#9eecd194e4ab739a>":
+	.type	"pix_raster::raster::window::blit_from::<#d0c343f678e302d3>",@function
+"pix_raster::raster::window::blit_from::<#d0c343f678e302d3>":
 	ldr	w12, [x1, #8]
 	cbz	w12, .LBB10_33
 	ldr	w10, [x2]
@@ -34782,7 +34782,7 @@
 .LBB10_33:
 	ret
 .Lfunc_end10:
-	.size	"pix_raster::raster::window::blit_from::<#9eecd194e4ab739a>", .Lfunc_end10-"pix_raster::raster::window::blit_from::<#9eecd194e4ab739a>"
+	.size	"pix_raster::raster::window::blit_from::<#d0c343f678e302d3>", .Lfunc_end10-"pix_raster::raster::window::blit_from::<#d0c343f678e302d3>"
 
 	.section	".text.pix_raster::lent::masked::overlap_in","ax",@progbits
 	.p2align	2
@@ -34950,10 +34950,10 @@
 	.byte	12
 	.byte	12
 	.byte	12
-	.section	".text.pix_el::planes::interleaved::composite_four::<#27f8aea90fe6648e>","ax",@progbits
+	.section	".text.pix_el::planes::interleaved::composite_four::<#33cba52c7d29a39e>","ax",@progbits
 	.p2align	2
-	.type	"pix_el::planes::interleaved::composite_four::<#27f8aea90fe6648e>",@function
-"pix_el::planes::interleaved::composite_four::<#27f8aea90fe6648e>":
+	.type	"pix_el::planes::interleaved::composite_four::<#33cba52c7d29a39e>",@function
+"pix_el::planes::interleaved::composite_four::<#33cba52c7d29a39e>":
 	ldr	q0, [x1]
 	adrp	x8, .LCPI12_0
 	movi	v3.8h, #128
@@ -34977,12 +34977,12 @@
 	str	q0, [x0]
 	ret
 .Lfunc_end12:
-	.size	"pix_el::planes::interleaved::composite_four::<#27f8aea90fe6648e>", .Lfunc_end12-"pix_el::planes::interleaved::composite_four::<#27f8aea90fe6648e>"
+	.size	"pix_el::planes::interleaved::composite_four::<#33cba52c7d29a39e>", .Lfunc_end12-"pix_el::planes::interleaved::composite_four::<#33cba52c7d29a39e>"
 
-	.section	".text.pix_el::planes::interleaved::composited::<#4b17dc05bd5ee45b>","ax",@progbits
+	.section	".text.pix_el::planes::interleaved::composited::<#ea75f58df2daa8e1>","ax",@progbits
 	.p2align	2
-	.type	"pix_el::planes::interleaved::composited::<#4b17dc05bd5ee45b>",@function
-"pix_el::planes::interleaved::composited::<#4b17dc05bd5ee45b>":
+	.type	"pix_el::planes::interleaved::composited::<#ea75f58df2daa8e1>",@function
+"pix_el::planes::interleaved::composited::<#ea75f58df2daa8e1>":
 	ldr	q0, [x1]
 	ldr	q3, [x2]
 	movi	v4.16b, #1
@@ -35011,12 +35011,12 @@
 	str	q0, [x0]
 	ret
 .Lfunc_end13:
-	.size	"pix_el::planes::interleaved::composited::<#4b17dc05bd5ee45b>", .Lfunc_end13-"pix_el::planes::interleaved::composited::<#4b17dc05bd5ee45b>"
+	.size	"pix_el::planes::interleaved::composited::<#ea75f58df2daa8e1>", .Lfunc_end13-"pix_el::planes::interleaved::composited::<#ea75f58df2daa8e1>"
 
-	.section	".text.pix_el::planes::interleaved::composited::<#025403d9227339ba>","ax",@progbits
+	.section	".text.pix_el::planes::interleaved::composited::<#3da05d1113ce6302>","ax",@progbits
 	.p2align	2
-	.type	"pix_el::planes::interleaved::composited::<#025403d9227339ba>",@function
-"pix_el::planes::interleaved::composited::<#025403d9227339ba>":
+	.type	"pix_el::planes::interleaved::composited::<#3da05d1113ce6302>",@function
+"pix_el::planes::interleaved::composited::<#3da05d1113ce6302>":
 	ldr	q0, [x2]
 	ldr	q3, [x1]
 	movi	v4.16b, #1
@@ -35045,7 +35045,7 @@
 	str	q0, [x0]
 	ret
 .Lfunc_end14:
-	.size	"pix_el::planes::interleaved::composited::<#025403d9227339ba>", .Lfunc_end14-"pix_el::planes::interleaved::composited::<#025403d9227339ba>"
+	.size	"pix_el::planes::interleaved::composited::<#3da05d1113ce6302>", .Lfunc_end14-"pix_el::planes::interleaved::composited::<#3da05d1113ce6302>"
 
 	.section	.rodata.cst16,"aM",@progbits,16
 	.p2align	4, 0x0
@@ -35066,10 +35066,10 @@
 	.byte	12
 	.byte	12
 	.byte	12
-	.section	".text.pix_el::planes::interleaved::composited::<#62ff81409c395df7>","ax",@progbits
+	.section	".text.pix_el::planes::interleaved::composited::<#af0951424a2d2505>","ax",@progbits
 	.p2align	2
-	.type	"pix_el::planes::interleaved::composited::<#62ff81409c395df7>",@function
-"pix_el::planes::interleaved::composited::<#62ff81409c395df7>":
+	.type	"pix_el::planes::interleaved::composited::<#af0951424a2d2505>",@function
+"pix_el::planes::interleaved::composited::<#af0951424a2d2505>":
 	ldr	q0, [x1]
 	ldr	q4, [x2]
 	adrp	x8, .LCPI15_0
@@ -35116,7 +35116,7 @@
 	str	q0, [x0]
 	ret
 .Lfunc_end15:
-	.size	"pix_el::planes::interleaved::composited::<#62ff81409c395df7>", .Lfunc_end15-"pix_el::planes::interleaved::composited::<#62ff81409c395df7>"
+	.size	"pix_el::planes::interleaved::composited::<#af0951424a2d2505>", .Lfunc_end15-"pix_el::planes::interleaved::composited::<#af0951424a2d2505>"
 
 	.section	.rodata.cst16,"aM",@progbits,16
 	.p2align	4, 0x0
@@ -35137,10 +35137,10 @@
 	.byte	12
 	.byte	12
 	.byte	12
-	.section	".text.pix_el::planes::interleaved::composited::<#20f930e30cbfcb23>","ax",@progbits
+	.section	".text.pix_el::planes::interleaved::composited::<#5dfee050904719f9>","ax",@progbits
 	.p2align	2
-	.type	"pix_el::planes::interleaved::composited::<#20f930e30cbfcb23>",@function
-"pix_el::planes::interleaved::composited::<#20f930e30cbfcb23>":
+	.type	"pix_el::planes::interleaved::composited::<#5dfee050904719f9>",@function
+"pix_el::planes::interleaved::composited::<#5dfee050904719f9>":
 	ldr	q0, [x2]
 	ldr	q3, [x1]
 	adrp	x8, .LCPI16_0
@@ -35187,12 +35187,12 @@
 	str	q0, [x0]
 	ret
 .Lfunc_end16:
-	.size	"pix_el::planes::interleaved::composited::<#20f930e30cbfcb23>", .Lfunc_end16-"pix_el::planes::interleaved::composited::<#20f930e30cbfcb23>"
+	.size	"pix_el::planes::interleaved::composited::<#5dfee050904719f9>", .Lfunc_end16-"pix_el::planes::interleaved::composited::<#5dfee050904719f9>"
 
-	.section	".text.pix_el::planes::masked::composite_masked::<#7b9cc11403a2fd17>","ax",@progbits
+	.section	".text.pix_el::planes::masked::composite_masked::<#70169026c146ab25>","ax",@progbits
 	.p2align	2
-	.type	"pix_el::planes::masked::composite_masked::<#7b9cc11403a2fd17>",@function
-"pix_el::planes::masked::composite_masked::<#7b9cc11403a2fd17>":
+	.type	"pix_el::planes::masked::composite_masked::<#70169026c146ab25>",@function
+"pix_el::planes::masked::composite_masked::<#70169026c146ab25>":
 	dup	v2.8b, w3
 	dup	v3.8b, w2
 	ldr	q4, [x1]
@@ -35217,7 +35217,7 @@
 	str	q0, [x0]
 	ret
 .Lfunc_end17:
-	.size	"pix_el::planes::masked::composite_masked::<#7b9cc11403a2fd17>", .Lfunc_end17-"pix_el::planes::masked::composite_masked::<#7b9cc11403a2fd17>"
+	.size	"pix_el::planes::masked::composite_masked::<#70169026c146ab25>", .Lfunc_end17-"pix_el::planes::masked::composite_masked::<#70169026c146ab25>"
 
 	.section	".text.pix_script::pixel::push_cells","ax",@progbits
 	.p2align	2
@@ -37300,7 +37300,7 @@ main:
 	add	x2, x22, x8, lsl #2
 	str	w28, [sp, #4244]
 	str	x26, [sp, #4248]
-	bl	"pix_ops::ops::Op::visit_slice::<#3409e446d8193797>"
+	bl	"pix_ops::ops::Op::visit_slice::<#ce14eb345aebabfd>"
 	add	w25, w28, w25
 	cmp	w25, w23
 	b.hs	.LBB19_366

@@ -9,6 +9,9 @@ pub mod Crossings
 pub mod LaneProducts
 pub mod LaneTests
 pub mod LitFours
+pub mod Recolorings
+pub mod RecoloredRows
 pub mod Reciprocals16
 pub mod ConvertedPixels
+pub mod ConvertedAhead
 pub mod ShownFours

@@ -6,5 +6,6 @@ pub mod Rows
 pub mod Bitmap
 pub mod Table
 pub mod Lit
+pub mod Recolored
 pub mod Converted
 pub mod Shown

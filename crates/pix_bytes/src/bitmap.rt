@@ -8,13 +8,15 @@ use crate::bitmap::cross::cross_row;
 use crate::bitmap::format::Stored;
 use crate::bitmap::rows::Lines;
 
-mod cross;
-mod format;
+pub(crate) mod cross;
+mod eights;
+pub(crate) mod format;
 mod four;
 mod fours;
 mod levels;
 mod model;
 mod quotient;
+mod recoloring;
 mod rows;
 mod sample;
 mod way;

@@ -5,6 +5,8 @@ ghost use Rattle.std.specs.Option.{option_map};
 ghost use Rattle.pix_bytes.specs.Formats.{BufferFormat, channels, channels_of, formats};
 ghost use Rattle.pix_bytes.specs.Converted.{IsConverted, conversion_status};
 
+use crate::bitmap::cross::cross_ahead;
+use crate::bitmap::format::Stored;
 use crate::bitmap::{BAD_FORMAT, DONE};
 use crate::buffer::bytes::Bytes;
 use pix_chan::chan::{Alpha, Ch8, Gamma, Linear, Premultiplied, Srgb, Straight};
@@ -43,8 +45,66 @@ pub fn convert_buffer(from: u32, to: u32, src: &[u8], dst: &mut [u8], count: usi
     if !are_pixels(dst.len(), to_wide, count) {
         return BAD_LENGTH;
     }
-    convert(from, to, src, dst, count);
+    let first = convert_ahead(from, to, src, dst, count);
+    convert_rest(from, to, wide, to_wide, src, dst, first, count);
     DONE
+}
+
+/// Converts as many of the first `count` pixels as are converted several at once, and returns their
+/// number. Condition: there are `count` in both buffers.
+fn convert_ahead(from: u32, to: u32, src: &[u8], dst: &mut [u8], count: usize) -> usize
+    requires src { length src.now ≡ count * channels_of from }
+    requires dst { length dst.old ≡ count * channels_of to }
+    ensures some { result ≤ count }
+    ensures each { (format target : BufferFormat) → slice_get formats from ≡ Some format
+        → slice_get formats to ≡ Some target
+        → IsConverted format target result src.now dst.new }
+{
+    if from >= 12 {
+        return 0;
+    }
+    if to >= 12 {
+        return 0;
+    }
+    match (Stored::from_number(from), Stored::from_number(to)) {
+        (Some(format), Some(target)) => cross_ahead(format, target, src, dst, count),
+        _ => 0,
+    }
+}
+
+/// Converts the pixels from number `first` on, of `wide` channels each, to pixels of `to_wide`
+/// channels. Condition: there are `count` in both buffers, and those before are converted.
+fn convert_rest(
+    from: u32,
+    to: u32,
+    wide: usize,
+    to_wide: usize,
+    src: &[u8],
+    dst: &mut [u8],
+    first: usize,
+    count: usize,
+)
+    requires wide { wide ≡ channels_of from }
+    requires to_wide { to_wide ≡ channels_of to }
+    requires src { length src.now ≡ count * wide }
+    requires dst { length dst.old ≡ count * to_wide }
+    requires some { first ≤ count }
+    requires ahead { (format target : BufferFormat) → slice_get formats from ≡ Some format
+        → slice_get formats to ≡ Some target
+        → IsConverted format target first src.now dst.old }
+    ensures { (format target : BufferFormat) → slice_get formats from ≡ Some format
+        → slice_get formats to ≡ Some target
+        → IsConverted format target count src.now dst.new }
+{
+    let (start, end) = (first * wide, src.len());
+    let (to_start, to_end) = (first * to_wide, dst.len());
+    convert(
+        from,
+        to,
+        &src[start..end],
+        &mut dst[to_start..to_end],
+        count - first,
+    );
 }
 
 /// Returns the number of channels of a pixel of the format of this number, if there is such a

@@ -278,7 +278,7 @@ pub fn reciprocal(b: usize) -> u64
 
 /// Returns the channel quotient of two numbers of 16 bits.
 #[inline(always)]
-pub(crate) fn quotient(x: u16, y: u16) -> u16
+pub fn quotient(x: u16, y: u16) -> u16
     ensures { result ≡ channel_quotient 65535 x y }
 {
     let byte = y % 256;

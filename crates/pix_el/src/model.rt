@@ -7,10 +7,11 @@ ghost use Rattle.pix_el.specs.ModelSeal.{ModelSeal};
 ghost use Rattle.pix_el.specs.Color.{rgba_of, of_rgba};
 
 use crate::el::{Pix, PixRgba, Pixel};
+use std::fmt::Debug;
 use std::ops::Range;
 
 /// A color model: which channels a pixel has, and what they mean. This trait is sealed.
-pub trait ColorModel: Default + PartialEq {
+pub trait ColorModel: Clone + Copy + Debug + Default + PartialEq {
     /// The model as a row of the table of models.
     ghost model: { Model };
 

@@ -10,7 +10,7 @@ use Rattle.pix_el.specs.Pixel.{Layout, lies_in, channel, alpha_of}
 use Rattle.pix_el.specs.PixelComposite.{composite_at, pixel_composite}
 
 -- no number lies in a range that ends at 0
-lies_in_none : (range : Range ℕ) (ch : ℕ) → range.end ≡ 0 → lies_in range ch ≡ false
+pub lies_in_none : (range : Range ℕ) (ch : ℕ) → range.end ≡ 0 → lies_in range ch ≡ false
 lies_in_none range ch e = grind (arith, nat_tests)
 
 -- a channel under `Src`

@@ -5,7 +5,7 @@ ghost use Rattle.pix_el.specs.PixelComposite.{pixel_composite};
 
 use crate::format::{Flat, FlatPixel, Numbered};
 use pix_el::el::Pixel;
-use pix_raster::lent::{Blit, Fill};
+use pix_raster::lent::{Blit, Fill, MaskedBlit};
 use std::marker::PhantomData;
 
 /// The most columns of a region whose image is copied under `Src`. Longer rows go in blocks, which
@@ -31,6 +31,39 @@ impl<D: Numbered> Fill<D> for CopiedColor<D> {
         for pixel in row.iter_mut() {
             *pixel = self.clr;
         }
+    }
+}
+
+impl<D: Numbered, S: Numbered> Blit<D, S> for CopiedColor<D> {
+    ghost can_blit = { ⊤ };
+
+    ghost reads = { D.numbers };
+
+    ghost source_reads = { S.numbers };
+
+    ghost makes = { λ it _ _. D.numbers it.clr };
+
+    fn blit(&self, row: &mut [D], src: &[S]) {
+        let count = row.len().min(src.len());
+        self.fill(&mut row[..count]);
+    }
+}
+
+impl<D: Numbered, S: Numbered, M: Numbered> MaskedBlit<D, S, M> for CopiedColor<D> {
+    ghost can_blit = { ⊤ };
+
+    ghost reads = { D.numbers };
+
+    ghost source_reads = { S.numbers };
+
+    ghost mask_reads = { M.numbers };
+
+    ghost makes = { λ it _ _ _. D.numbers it.clr };
+
+    fn blit(&self, row: &mut [D], src: &[S], mask: &[M]) {
+        let shorter = src.len().min(mask.len());
+        let count = row.len().min(shorter);
+        self.fill(&mut row[..count]);
     }
 }
 

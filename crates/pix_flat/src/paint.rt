@@ -1,5 +1,6 @@
 //! What a command does to the caller's pixels.
 ghost use Rattle.std.specs.Prelude.{◌≡◌, ◌<◌, [], ◌∷◌, length, true};
+ghost use Rattle.pix_ops.specs.declared.ops.Op.TheVariants.{Clear};
 ghost use Rattle.pix_raster.specs.Run.{run_at};
 ghost use Rattle.pix_raster.specs.Lent.{IsWindow, ChangedIn, picture, in_window};
 ghost use Rattle.pix_flat.specs.Command.{op_at, rectangle, command_of};
@@ -195,8 +196,50 @@ fn composite_faded<
     );
 }
 
+/// Composites a command on a window of a picture by `Clear`. It makes each pixel clear, whatever
+/// the source, the mask and the opacity are. So the clear pixel is copied.
+fn paint_cleared<
+    P: Pixel<Alpha = Premultiplied, Gamma = Linear>,
+    D: FlatPixel<P>,
+    M: Flat<Pix<1, P::Chan, Matte, Premultiplied, Linear>>,
+>(pixels: &mut [D], window: Window, command: &FlatCommand<'_, D, M>)
+    requires placed { IsWindow window (length pixels.old) }
+    requires sound { fault_of command.now ≡ 0 }
+    requires kind { 2 < command.now.kind }
+    requires clears { op_at command.now.op ≡ Clear }
+    ensures { ChangedIn D.numbers window.shape pixels.old pixels.new
+        (in_window window (run_at P.layout D.numbers M.numbers (picture window)
+        (command_of command.now ∷ []))) }
+{
+    let clear = D::write(&P::default());
+    let change = CopiedColor { clr: clear };
+    let (to, from) = (region_of(command.to), region_of(command.from));
+    let shape = source_shape(command);
+    match command.kind {
+        kind::COMPOSITE_COLOR => fill_window(pixels, window, to, &change),
+        kind::COMPOSITE_MATTE => {
+            blit_window(pixels, window, to, command.mattes, shape, from, &change);
+        }
+        kind::COMPOSITE_IMAGE_MATTE => {
+            let src = Source {
+                pixels: command.pixels,
+                shape,
+                from,
+            };
+            let of_mask = region_of(command.mask);
+            let mask = Source {
+                pixels: command.mattes,
+                shape: mask_shape(command),
+                from: of_mask,
+            };
+            blit_masked(pixels, window, to, &src, &mask, &change);
+        }
+        _ => blit_window(pixels, window, to, command.pixels, shape, from, &change),
+    }
+}
+
 /// Composites a command on a window of a picture. `Src` replaces what is there. So without a matte
-/// a color is copied, and so is an image whose rows are short.
+/// a color is copied, and so is an image whose rows are short. `Clear` copies the clear pixel.
 fn paint_composite<
     P: Pixel<Alpha = Premultiplied, Gamma = Linear>,
     D: FlatPixel<P>,
@@ -224,6 +267,7 @@ fn paint_composite<
             see_channels::<P, D>(&clr);
             fill_window(pixels, window, region_of(command.to), &CopiedColor { clr });
         }
+        (_, Op::Clear, _) => paint_cleared::<P, D, M>(pixels, window, command),
         _ => {
             let composite = Composite::<P, D, M> {
                 command,

@@ -1,5 +1,5 @@
-//! Composites in a row of pixels in memory. Sixteen at a time, and then four, are read, composited
-//! and written back.
+//! Composites in a row of pixels in memory. Sixteen at a time are read, composited and written
+//! back, and then eight or four of the rest: eight where no block has fewer than sixteen.
 ghost use Rattle.std.specs.Prelude.{◌≡◌, ◌≤◌, ◌<◌, ◌+◌, List, ℕ, length, map, min, replicate, take, ⊤};
 ghost use Rattle.pix_chan.specs.Runs.{over};
 ghost use Rattle.pix_el.specs.PixelComposite.{pixel_composite, matted_composite, matte_value};
@@ -8,6 +8,7 @@ use crate::format::{Flat, FlatPixel};
 use pix_chan::chan::{Linear, Premultiplied};
 use pix_el::el::{Pix, Pixel};
 use pix_el::matte::Matte;
+use pix_el::model::ColorModel;
 use pix_ops::ops::Blend;
 use pix_raster::lent::{Blit, Fill};
 use std::marker::PhantomData;
@@ -16,26 +17,33 @@ mod masked;
 
 pub(crate) use masked::{FadedPixels, MattedPixels};
 
-/// Reads the same number of the library's pixels.
+/// Reads pixels in place of the first of at least as many of the library's pixels.
 #[inline(always)]
 fn read_pixels<P: Pixel, S: Flat<P>>(part: &[S], pixels: &mut [P])
-    requires { length part.now ≡ length pixels.old }
-    ensures { map P.numbers pixels.new ≡ map S.numbers part.now }
+    requires { length part.now ≤ length pixels.old }
+    ensures { map P.numbers pixels.new ≡
+        over (λ s _. s) (map S.numbers part.now) (map P.numbers pixels.old) }
 {
-    for i in 0..pixels.len() {
+    for i in 0..part.len() {
         pixels[i] = part[i].read();
     }
 }
 
-/// Writes the same number of the library's pixels.
+/// Writes the first of at least as many of the library's pixels.
 #[inline(always)]
 fn write_pixels<P: Pixel, D: FlatPixel<P>>(part: &mut [D], pixels: &[P])
-    requires { length pixels.now ≡ length part.old }
-    ensures { map D.numbers part.new ≡ map P.numbers pixels.now }
+    requires { length part.old ≤ length pixels.now }
+    ensures { map D.numbers part.new ≡ take (length part.old) (map P.numbers pixels.now) }
 {
     for i in 0..part.len() {
         part[i] = D::write(&pixels[i]);
     }
+}
+
+/// Returns whether pixels have so few channels that blocks of them go by sixteen.
+#[inline(always)]
+fn goes_by_sixteen<P: Pixel>() -> bool {
+    P::Model::ALPHA < 3
 }
 
 /// A change of the pixels of a row, each by a pixel of another row.
@@ -56,38 +64,49 @@ pub(crate) trait Merge<P: Pixel, Q: Pixel> {
             makes self.now (Q.numbers src.now) (P.numbers pixel.old) };
 }
 
-/// Changes `N` pixels in memory, at most sixteen, each by the pixel of the source at the same
-/// place.
+/// Changes `N` pixels in memory, each by the pixel of the source at the same place. They go in a
+/// block of `W` pixels, at most sixteen, of which the others are clear.
 #[inline(always)]
-fn merge_block<const N: usize, P: Pixel, D: FlatPixel<P>, Q: Pixel, S: Flat<Q>, B: Merge<P, Q>>(
-    part: &mut [D],
-    src: &[S],
-    change: &B,
-)
-    requires few { N ≤ 16 }
+fn merge_block<
+    const N: usize,
+    const W: usize,
+    P: Pixel,
+    D: FlatPixel<P>,
+    Q: Pixel,
+    S: Flat<Q>,
+    B: Merge<P, Q>,
+>(part: &mut [D], src: &[S], change: &B)
+    requires within { N ≤ W }
+    requires few { W ≤ 16 }
     requires size { length part.old ≡ N }
     requires src_size { length src.now ≡ N }
     ensures { map D.numbers part.new ≡ over (B.makes change.now) (map S.numbers src.now)
         (map D.numbers part.old) }
 {
-    let mut pixels = [P::default(); N];
-    let mut sources = [Q::default(); N];
+    let mut pixels = [P::default(); W];
+    let mut sources = [Q::default(); W];
     read_pixels::<P, D>(part, &mut pixels);
     read_pixels::<Q, S>(src, &mut sources);
     change.merge(&mut pixels, &sources);
     write_pixels(part, &pixels);
 }
 
-/// Changes whole blocks of `N` pixels of a row, at most sixteen, as many as it shares with the
-/// source. Each pixel is changed by the one at the same place. Returns the number of those pixels.
+/// Changes as many times `N` pixels of a row as it shares with the source, in blocks of `W` pixels,
+/// at most sixteen. Each pixel is changed by the one at the same place. Returns the number of those
+/// pixels.
 #[inline(always)]
-fn merge_blocks<const N: usize, P: Pixel, D: FlatPixel<P>, Q: Pixel, S: Flat<Q>, B: Merge<P, Q>>(
-    row: &mut [D],
-    src: &[S],
-    change: &B,
-) -> usize
+fn merge_blocks<
+    const N: usize,
+    const W: usize,
+    P: Pixel,
+    D: FlatPixel<P>,
+    Q: Pixel,
+    S: Flat<Q>,
+    B: Merge<P, Q>,
+>(row: &mut [D], src: &[S], change: &B) -> usize
     requires some { 0 < N }
-    requires few { N ≤ 16 }
+    requires narrow { N ≤ W }
+    requires few { W ≤ 16 }
     ensures within { result ≤ min (length row.old) (length src.now) }
     ensures merged { map D.numbers row.new ≡ over (B.makes change.now)
         (take result (map S.numbers src.now)) (map D.numbers row.old) }
@@ -95,9 +114,28 @@ fn merge_blocks<const N: usize, P: Pixel, D: FlatPixel<P>, Q: Pixel, S: Flat<Q>,
     let count = row.len().min(src.len());
     for k in 0..count / N {
         let at = N * k;
-        merge_block::<N, P, D, Q, S, B>(&mut row[at..at + N], &src[at..at + N], change);
+        merge_block::<N, W, P, D, Q, S, B>(&mut row[at..at + N], &src[at..at + N], change);
     }
     count / N * N
+}
+
+/// Changes eight or four pixels at a time of what is left of a row after blocks of sixteen, as
+/// [`merge_blocks`] does.
+#[inline(always)]
+fn merge_rest<P: Pixel, D: FlatPixel<P>, Q: Pixel, S: Flat<Q>, B: Merge<P, Q>>(
+    row: &mut [D],
+    src: &[S],
+    change: &B,
+) -> usize
+    ensures within { result ≤ min (length row.old) (length src.now) }
+    ensures merged { map D.numbers row.new ≡ over (B.makes change.now)
+        (take result (map S.numbers src.now)) (map D.numbers row.old) }
+{
+    if goes_by_sixteen::<P>() {
+        merge_blocks::<8, 16, P, D, Q, S, B>(row, src, change)
+    } else {
+        merge_blocks::<4, 4, P, D, Q, S, B>(row, src, change)
+    }
 }
 
 /// A change of the library's pixels `P`, each by a pixel `Q`, as one of pixels in memory.
@@ -120,8 +158,8 @@ impl<P: Pixel, D: FlatPixel<P>, Q: Pixel, S: Flat<Q>, B: Merge<P, Q>> Blit<D, S>
     fn blit(&self, row: &mut [D], src: &[S]) {
         let change = &self.change;
         let count = row.len().min(src.len());
-        let first = merge_blocks::<16, P, D, Q, S, B>(row, src, change);
-        let second = merge_blocks::<4, P, D, Q, S, B>(&mut row[first..], &src[first..], change);
+        let first = merge_blocks::<16, 16, P, D, Q, S, B>(row, src, change);
+        let second = merge_rest::<P, D, Q, S, B>(&mut row[first..], &src[first..], change);
         for i in first + second..count {
             let mut pixel = row[i].read();
             change.merge_one(&mut pixel, &src[i].read());
@@ -183,36 +221,41 @@ pub(crate) struct CompositedColor<P, O> {
     pub(crate) op: O,
 }
 
-/// Composites a color with `N` pixels in memory, at most sixteen.
+/// Composites a color with `N` pixels in memory. They go in a block of `W` pixels, at most sixteen,
+/// of which the others are clear.
 #[inline(always)]
 fn color_block<
     const N: usize,
+    const W: usize,
     P: Pixel<Alpha = Premultiplied, Gamma = Linear>,
     D: FlatPixel<P>,
     O: Blend,
 >(part: &mut [D], clr: &P, op: O)
-    requires few { N ≤ 16 }
+    requires within { N ≤ W }
+    requires few { W ≤ 16 }
     requires size { length part.old ≡ N }
     ensures { map D.numbers part.new ≡
         map (pixel_composite P.layout O.op (P.numbers clr.now)) (map D.numbers part.old) }
 {
-    let mut pixels = [P::default(); N];
+    let mut pixels = [P::default(); W];
     read_pixels::<P, D>(part, &mut pixels);
     P::composite_color(&mut pixels, clr, op);
     write_pixels(part, &pixels);
 }
 
-/// Composites a color with as many whole blocks of `N` pixels, at most sixteen, as a row has, and
-/// returns the number of those pixels.
+/// Composites a color with as many times `N` pixels as a row has, in blocks of `W` pixels, at most
+/// sixteen. Returns the number of those pixels.
 #[inline(always)]
 fn color_blocks<
     const N: usize,
+    const W: usize,
     P: Pixel<Alpha = Premultiplied, Gamma = Linear>,
     D: FlatPixel<P>,
     O: Blend,
 >(row: &mut [D], clr: &P, op: O) -> usize
     requires some { 0 < N }
-    requires few { N ≤ 16 }
+    requires narrow { N ≤ W }
+    requires few { W ≤ 16 }
     ensures within { result ≤ length row.old }
     ensures composited { map D.numbers row.new ≡ over (pixel_composite P.layout O.op)
         (take result (replicate (length row.old) (P.numbers clr.now))) (map D.numbers row.old) }
@@ -220,9 +263,28 @@ fn color_blocks<
     let count = row.len();
     for k in 0..count / N {
         let at = N * k;
-        color_block::<N, P, D, O>(&mut row[at..at + N], clr, op);
+        color_block::<N, W, P, D, O>(&mut row[at..at + N], clr, op);
     }
     count / N * N
+}
+
+/// Composites a color with eight or four pixels at a time of what is left of a row after blocks of
+/// sixteen, as [`color_blocks`] does.
+#[inline(always)]
+fn color_rest<P: Pixel<Alpha = Premultiplied, Gamma = Linear>, D: FlatPixel<P>, O: Blend>(
+    row: &mut [D],
+    clr: &P,
+    op: O,
+) -> usize
+    ensures within { result ≤ length row.old }
+    ensures composited { map D.numbers row.new ≡ over (pixel_composite P.layout O.op)
+        (take result (replicate (length row.old) (P.numbers clr.now))) (map D.numbers row.old) }
+{
+    if goes_by_sixteen::<P>() {
+        color_blocks::<8, 16, P, D, O>(row, clr, op)
+    } else {
+        color_blocks::<4, 4, P, D, O>(row, clr, op)
+    }
 }
 
 impl<P: Pixel<Alpha = Premultiplied, Gamma = Linear>, D: FlatPixel<P>, O: Blend> Fill<D>
@@ -235,8 +297,8 @@ impl<P: Pixel<Alpha = Premultiplied, Gamma = Linear>, D: FlatPixel<P>, O: Blend>
 
     fn fill(&self, row: &mut [D]) {
         let count = row.len();
-        let first = color_blocks::<16, P, D, O>(row, &self.clr, self.op);
-        let second = color_blocks::<4, P, D, O>(&mut row[first..], &self.clr, self.op);
+        let first = color_blocks::<16, 16, P, D, O>(row, &self.clr, self.op);
+        let second = color_rest::<P, D, O>(&mut row[first..], &self.clr, self.op);
         for i in first + second..count {
             let mut pixel = row[i].read();
             pixel.composite_channels(&self.clr, self.op);

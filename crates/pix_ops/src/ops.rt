@@ -116,7 +116,8 @@ pub trait Blend: Copy {
     }
 
     /// Both are those in the operator's row of the table.
-    ghost tabled: { ((row op).source ≡ Self.Source.coefficient) × ((row op).dest ≡ Self.Dest.coefficient) };
+    ghost tabled: { ((row op).source ≡ Self.Source.coefficient)
+        × ((row op).dest ≡ Self.Dest.coefficient) };
 
     /// Seals the trait.
     ghost sealed: { Seal Self };

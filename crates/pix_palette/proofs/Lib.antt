@@ -4,6 +4,7 @@ pub mod IndexingSets
 pub mod IndexingLaws
 pub mod Thresholds
 pub mod Mapped
+pub mod Made
 pub mod Finders
 pub mod BlocksMore
 pub mod Entries

@@ -25,6 +25,7 @@ pub mod Splits
 pub mod Distinct
 pub mod Rows
 pub mod Ways
+pub mod WholeErrors
 pub mod Diffused
 pub mod Corners
 pub mod LaneSquares

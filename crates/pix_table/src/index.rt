@@ -9,7 +9,7 @@ use crate::color::Color;
 use crate::set::set_kept;
 use crate::table_blocks::Beside;
 
-/// The greatest number of slots.
+/// The maximum number of slots.
 const SLOTS: usize = 256;
 
 /// Sets the color of each pixel among the first `len` of `slots`, one after the other, and the

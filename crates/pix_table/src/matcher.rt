@@ -12,7 +12,7 @@ use crate::nearest_search::{NearestSearch, SearchVisitor};
 use crate::word::word_of;
 use std::marker::Model;
 
-/// The greatest number of colors that are searched among all entries. For more colors, lists save
+/// The maximum number of colors that are searched among all entries. For more colors, lists save
 /// more time than they take.
 const FEW_COLORS: usize = 4096;
 

@@ -4,6 +4,7 @@ ghost use Rattle.pix_table.specs.Nearest.{numbers};
 ghost use Rattle.pix_table.specs.Places.{CannotBeCut, HasBest};
 ghost use Rattle.pix_table.specs.BestPlaces.{AreBytes, AreSums, CanCut};
 ghost use Rattle.pix_table.specs.BestPlaces.{ArePart, IsBestUpTo, gain_at, weight_by};
+ghost use Rattle.pix_table.specs.BestPlaces.{CanCutBy, IsBestUpToBy};
 
 use crate::box_sums::{BLOCK, ByValue, Sums, add_blocks, add_words, total, total_of_words};
 use crate::color::Color;
@@ -140,11 +141,12 @@ fn better_at<P: ByValue>(
 }
 
 /// Returns the better of the best place so far and the next one, the first of equals.
-fn better(best: Option<Place>, place: Place) -> Option<Place>
-    ensures { (box : List (List ℕ)) → IsBestUpTo box place.channel place.value best
-        → CanCut box place.channel place.value
-        → gain_at place.channel place.value box ≡ place.gain
-        → IsBestUpTo box place.channel (place.value + 1) result }
+pub(crate) fn better(best: Option<Place>, place: Place) -> Option<Place>
+    ensures { (channels : ℕ) → (gains_at : ℕ → ℕ → List (List ℕ) → ℕ) → (box : List (List ℕ))
+        → IsBestUpToBy channels gains_at box place.channel place.value best
+        → CanCutBy channels box place.channel place.value
+        → gains_at place.channel place.value box ≡ place.gain
+        → IsBestUpToBy channels gains_at box place.channel (place.value + 1) result }
 {
     match best {
         Some(old) => {

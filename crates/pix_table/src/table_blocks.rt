@@ -17,7 +17,7 @@ use crate::threshold::standing;
 /// The least number of entries with which blocks save more time than they take.
 const MANY: usize = 64;
 
-/// The greatest number of blocks.
+/// The maximum number of blocks.
 const BLOCKS: usize = 16;
 
 /// Blocks of the first entries of a table, up to 256 of them, and the spans of those blocks.

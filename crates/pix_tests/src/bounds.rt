@@ -1,6 +1,7 @@
 //! Runs written down by hand with their exact fractions and their rounding budgets.
 use crate::exact::{Budget, Exact, Point};
 use crate::pictures::{matte, rgba};
+use crate::rgbas;
 use pix::chan::Ch8;
 use pix::el::Pixel;
 use pix::matte::Matte8;
@@ -31,13 +32,13 @@ fn over(clr: Rgba8p) -> Command<'static, Rgba8p, Matte8> {
 fn a_faint_color_under_transparent_ones(rt: HostRuntime) -> Result<(), Fail> {
     let all = Region::from(());
     let faint = rgba([5; 4]);
-    let mut raster = Raster::with_color(rt.alloc(), 1, 1, faint)?;
+    let mut raster = rgbas::filled(rt.alloc(), 1, 1, faint)?;
     let mut point = Point::of([5; 4]);
     for _ in 0..3 {
-        raster.composite_color(all, rgba([0; 4]), SrcOver);
+        rgbas::composite_color(&mut raster, all, rgba([0; 4]), SrcOver);
         point = point.composited(Op::SrcOver, [0; 4], None);
     }
-    assert_eq!(rt; raster.pixels(), [faint].as_slice());
+    rgbas::assert_pixels(&rt, &raster, &[faint]);
     assert_eq!(rt;
         point.channels,
         all_same(5 * 255 * 255 * 255, 255 * 255 * 255)
@@ -51,9 +52,9 @@ fn a_faint_color_under_transparent_ones(rt: HostRuntime) -> Result<(), Fail> {
     assert_eq!(rt; point.budget, budget);
     point.assert_within(&rt, faint, true);
 
-    raster.composite_color(all, rgba([255; 4]), SrcIn);
+    rgbas::composite_color(&mut raster, all, rgba([255; 4]), SrcIn);
     point = point.composited(Op::SrcIn, [255; 4], None);
-    assert_eq!(rt; raster.pixels(), [faint].as_slice());
+    rgbas::assert_pixels(&rt, &raster, &[faint]);
     assert_eq!(rt;
         point.channels,
         all_same(5 * 255 * 255 * 255 * 255, 255 * 255 * 255 * 255)
@@ -75,9 +76,9 @@ fn a_faint_color_under_transparent_ones(rt: HostRuntime) -> Result<(), Fail> {
 /// the distance is then 99.02 percent of the budget of 4.
 #[test]
 fn errors_that_nearly_reach_their_budget(rt: HostRuntime) -> Result<(), Fail> {
-    let mut raster = Raster::with_color(rt.alloc(), 1, 1, rgba([128; 4]))?;
+    let mut raster = rgbas::filled(rt.alloc(), 1, 1, rgba([128; 4]))?;
     raster.run(&[rgba([1; 4]); 4].map(over));
-    assert_eq!(rt; raster.pixels(), [rgba([128; 4])].as_slice());
+    rgbas::assert_pixels(&rt, &raster, &[rgba([128; 4])]);
 
     let mut point = Point::of([128; 4]);
     for _ in 0..4 {
@@ -105,7 +106,7 @@ fn a_matted_color_against_fractions(rt: HostRuntime) {
     let mut pixel = rgba(before);
     pixel.composite_channels_alpha(&rgba(color), SrcOver, &Ch8::new(0x80));
     let point = Point::of(before).composited(Op::SrcOver, color, Some(0x80));
-    assert_eq!(rt; pixel, rgba([96, 64, 0, 160]));
+    rgbas::assert_pixel(&rt, pixel, rgba([96, 64, 0, 160]));
     for (channel, number) in [6226048, 4177920, 0, 10403968]
         .into_iter()
         .zip(point.channels)
@@ -133,13 +134,13 @@ fn a_matted_color_against_fractions(rt: HostRuntime) {
 fn premultiplied_sources_over_a_destination_that_is_not(rt: HostRuntime) -> Result<(), Fail> {
     let all = Region::from(());
     let before = [182, 0, 40, 79];
-    let mut raster = Raster::with_color(rt.alloc(), 1, 1, rgba(before))?;
-    raster.composite_color(all, rgba([142, 10, 188, 188]), DestAtop);
-    raster.composite_color(all, rgba([6, 0, 17, 17]), Xor);
-    raster.composite_color(all, rgba([69, 75, 1, 75]), Xor);
-    raster.composite_color(all, rgba([180, 0, 195, 195]), DestAtop);
+    let mut raster = rgbas::filled(rt.alloc(), 1, 1, rgba(before))?;
+    rgbas::composite_color(&mut raster, all, rgba([142, 10, 188, 188]), DestAtop);
+    rgbas::composite_color(&mut raster, all, rgba([6, 0, 17, 17]), Xor);
+    rgbas::composite_color(&mut raster, all, rgba([69, 75, 1, 75]), Xor);
+    rgbas::composite_color(&mut raster, all, rgba([180, 0, 195, 195]), DestAtop);
     let after = rgba([211, 21, 164, 195]);
-    assert_eq!(rt; raster.pixels(), [after].as_slice());
+    rgbas::assert_pixels(&rt, &raster, &[after]);
 
     let point = Point::of(before)
         .composited(Op::DestAtop, [142, 10, 188, 188], None)
@@ -173,7 +174,7 @@ fn a_copied_color_against_fractions(rt: HostRuntime) -> Result<(), Fail> {
     let (first, last) = ([20, 40, 80, 160], [1, 2, 3, 4]);
     let all = Region::from(());
     let mattes = Raster::with_color(rt.alloc(), 1, 1, matte(100))?;
-    let mut raster = Raster::with_clear(rt.alloc(), 1, 1)?;
+    let mut raster = rgbas::cleared(rt.alloc(), 1, 1)?;
     raster.composite_matte(all, &mattes, all, rgba(first), Src);
     let mut point = Point::of([0; 4]).composited(Op::Src, first, Some(100));
     let budget = Budget {
@@ -185,7 +186,7 @@ fn a_copied_color_against_fractions(rt: HostRuntime) -> Result<(), Fail> {
 
     raster.copy_color(all, rgba(last));
     point = point.copied(last);
-    assert_eq!(rt; raster.pixels(), [rgba(last)].as_slice());
+    rgbas::assert_pixels(&rt, &raster, &[rgba(last)]);
     assert_eq!(rt; point.channels, last.map(|channel| Exact::of(channel, 4)));
     let budget = Budget {
         channel: 0,

@@ -1,4 +1,5 @@
 //! Each caller of `pix_uses` on a small picture.
+use crate::rgbas;
 use pix::chan::{Ch8, Ch16, Channel, Premultiplied};
 use pix::gray::Gray8;
 use pix::lent::Shape;
@@ -63,7 +64,7 @@ fn a_sun_at_each_point(rt: HostRuntime) -> Result<(), Fail> {
         for (x, pixel) in row.iter().enumerate() {
             let inside = (20..26).contains(&x) && (2..8).contains(&y);
             let want = if inside { opaque(150, 75, 101) } else { sky };
-            assert_eq!(rt; *pixel, want, "({x}, {y})");
+            assert!(rt; *pixel == want, "({x}, {y})");
         }
     }
     Ok(())
@@ -74,17 +75,17 @@ fn a_sun_at_each_point(rt: HostRuntime) -> Result<(), Fail> {
 #[test]
 fn a_glaze_over_a_ground(rt: HostRuntime) -> Result<(), Fail> {
     let pixel = glazed(rt.alloc(), opaque(200, 100, 50), glass())?;
-    assert_eq!(rt; pixel, opaque(150, 75, 101));
+    rgbas::assert_pixel(&rt, pixel, opaque(150, 75, 101));
     Ok(())
 }
 
 #[test]
 fn a_tint_of_the_top(rt: HostRuntime) -> Result<(), Fail> {
     let sand = opaque(200, 100, 50);
-    let mut sky = Raster::with_color(rt.alloc(), 2, 2, sand)?;
+    let mut sky = rgbas::filled(rt.alloc(), 2, 2, sand)?;
     tint_top(&mut sky, 1, glass());
     let tinted = opaque(150, 75, 101);
-    assert_eq!(rt; sky.pixels(), [tinted, tinted, sand, sand].as_slice());
+    rgbas::assert_pixels(&rt, &sky, &[tinted, tinted, sand, sand]);
     Ok(())
 }
 
@@ -109,12 +110,12 @@ fn a_glyph_at_a_corner(rt: HostRuntime) -> Result<(), Fail> {
     *glyph.pixel_mut(1, 0) = Matte8::new(0x80);
     *glyph.pixel_mut(0, 1) = Matte8::new(0x40);
     let ink = Rgba8p::new(0x40, 0x80, 0x60, 0x80);
-    let mut page = Raster::with_clear(rt.alloc(), 2, 2)?;
+    let mut page = rgbas::cleared(rt.alloc(), 2, 2)?;
     draw_glyph(&mut page, &glyph, 0, 0, ink);
     let half = Rgba8p::new(0x20, 0x40, 0x30, 0x40);
     let quarter = Rgba8p::new(0x10, 0x20, 0x18, 0x20);
     let clear = Rgba8p::default();
-    assert_eq!(rt; page.pixels(), [ink, half, quarter, clear].as_slice());
+    rgbas::assert_pixels(&rt, &page, &[ink, half, quarter, clear]);
     draw_glyph(&mut page, &glyph, 1, 1, ink);
     Ok(())
 }
@@ -122,7 +123,7 @@ fn a_glyph_at_a_corner(rt: HostRuntime) -> Result<(), Fail> {
 #[test]
 fn a_list_of_commands(rt: HostRuntime) -> Result<(), Fail> {
     let ink = opaque(10, 20, 30);
-    let mut page = Raster::with_color(rt.alloc(), 2, 1, opaque(200, 100, 50))?;
+    let mut page = rgbas::filled(rt.alloc(), 2, 1, opaque(200, 100, 50))?;
     let commands: [Command<'_, Rgba8p, Matte8>; 3] = [
         Command::Clear,
         Command::Color {
@@ -136,7 +137,7 @@ fn a_list_of_commands(rt: HostRuntime) -> Result<(), Fail> {
         },
     ];
     draw(&mut page, &commands);
-    assert_eq!(rt; page.pixels(), [glass(), ink].as_slice());
+    rgbas::assert_pixels(&rt, &page, &[glass(), ink]);
     Ok(())
 }
 
@@ -144,7 +145,7 @@ fn a_list_of_commands(rt: HostRuntime) -> Result<(), Fail> {
 #[test]
 fn a_tile_of_a_page(rt: HostRuntime) -> Result<(), Fail> {
     let (ink, sand) = (opaque(10, 20, 30), opaque(200, 100, 50));
-    let mut page = Raster::with_color(rt.alloc(), 3, 2, sand)?;
+    let mut page = rgbas::filled(rt.alloc(), 3, 2, sand)?;
     let mut tile = Raster::with_color(rt.alloc(), 2, 1, sand)?;
     let commands: [Command<'_, Rgba8p, Matte8>; 2] = [
         Command::CopyColor {
@@ -159,11 +160,8 @@ fn a_tile_of_a_page(rt: HostRuntime) -> Result<(), Fail> {
     ];
     draw_with_tile(&mut page, &mut tile, 1, 1, &commands);
     let none = Rgba8p::new(0, 0, 0, 0);
-    assert_eq!(rt; tile.pixels(), [none, ink].as_slice());
-    assert_eq!(rt;
-        page.pixels(),
-        [none, none, sand, none, none, ink].as_slice()
-    );
+    rgbas::assert_pixels(&rt, &tile, &[none, ink]);
+    rgbas::assert_pixels(&rt, &page, &[none, none, sand, none, none, ink]);
     Ok(())
 }
 
@@ -172,15 +170,15 @@ fn a_tile_of_a_page(rt: HostRuntime) -> Result<(), Fail> {
 #[test]
 fn two_glazes(rt: HostRuntime) -> Result<(), Fail> {
     let sand = opaque(200, 100, 50);
-    let mut page = Raster::with_color(rt.alloc(), 2, 1, sand)?;
+    let mut page = rgbas::filled(rt.alloc(), 2, 1, sand)?;
     glaze_twice(&mut page, Region::new(0, 0, 1, 1), glass(), glass());
-    assert_eq!(rt; page.pixels(), [opaque(112, 56, 140), sand].as_slice());
+    rgbas::assert_pixels(&rt, &page, &[opaque(112, 56, 140), sand]);
     Ok(())
 }
 
 #[test]
 fn the_opacity_of_points(rt: HostRuntime) -> Result<(), Fail> {
-    let page = Raster::with_color(rt.alloc(), 2, 1, glass())?;
+    let page = rgbas::filled(rt.alloc(), 2, 1, glass())?;
     assert_eq!(rt; opacity(&page, 1, 0), 64);
     for (x, y) in [(-1, 0), (0, -1), (2, 0), (0, 1)] {
         assert_eq!(rt; opacity(&page, x, y), 0, "({x}, {y})");
@@ -190,9 +188,9 @@ fn the_opacity_of_points(rt: HostRuntime) -> Result<(), Fail> {
 
 #[test]
 fn a_filled_picture(rt: HostRuntime) -> Result<(), Fail> {
-    let mut page = Raster::with_clear(rt.alloc(), 3, 2)?;
+    let mut page = rgbas::cleared(rt.alloc(), 3, 2)?;
     fill(&mut page, glass());
-    assert_eq!(rt; page.pixels(), [glass(); 6].as_slice());
+    rgbas::assert_pixels(&rt, &page, &[glass(); 6]);
     Ok(())
 }
 
@@ -216,14 +214,11 @@ fn a_region_cut_out(rt: HostRuntime) -> Result<(), Fail> {
 fn a_row_written_over(rt: HostRuntime) -> Result<(), Fail> {
     let sand = opaque(200, 100, 50);
     let ink = opaque(10, 20, 30);
-    let mut page = Raster::with_color(rt.alloc(), 3, 2, sand)?;
+    let mut page = rgbas::filled(rt.alloc(), 3, 2, sand)?;
     assert!(rt; underline(&mut page, Region::new(1, 0, 5, 5), 1, ink));
     assert!(rt; !underline(&mut page, Region::new(1, 0, 5, 1), 1, ink));
     assert!(rt; !underline(&mut page, Region::from(()), -1, ink));
-    assert_eq!(rt;
-        page.pixels(),
-        [sand, sand, sand, sand, ink, ink].as_slice()
-    );
+    rgbas::assert_pixels(&rt, &page, &[sand, sand, sand, sand, ink, ink]);
     Ok(())
 }
 

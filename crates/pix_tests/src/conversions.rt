@@ -1,5 +1,7 @@
 //! Rasters converted from format to format.
-use crate::pictures::picture;
+use crate::indices::assert_colors;
+use crate::pictures::{picture, rgba};
+use crate::rgbas;
 use pix::cmy::Cmy16;
 use pix::gray::{Gray16, SGray8};
 use pix::hsv::Hsv16;
@@ -23,11 +25,17 @@ fn srgb([red, green, blue]: [u8; 3]) -> SRgb8 {
 fn a_converted_raster_is_composited(rt: HostRuntime) -> Result<(), Fail> {
     let gray = Raster::with_color(rt.alloc(), 3, 3, Gray16::new::<u16>(0x8000))?;
     let src = Raster::<Rgba8p>::with_raster(rt.alloc(), &gray)?;
-    let mut raster = Raster::<Rgba8p>::with_clear(rt.alloc(), 3, 3)?;
-    raster.composite_raster(Region::from(()), &src, Region::from((0, 1)), Src);
-    let (full, none) = (Rgba8p::new::<u8>(0x80, 0x80, 0x80, 0xFF), Rgba8p::default());
+    let mut raster = rgbas::cleared(rt.alloc(), 3, 3)?;
+    rgbas::composite_raster(
+        &mut raster,
+        Region::from(()),
+        &src,
+        Region::from((0, 1)),
+        Src,
+    );
+    let (full, none) = (rgba([0x80, 0x80, 0x80, 0xFF]), rgba([0; 4]));
     let want = [full, full, full, full, full, full, none, none, none];
-    assert_eq!(rt; raster.pixels(), want.as_slice());
+    rgbas::assert_pixels(&rt, &raster, &want);
     Ok(())
 }
 
@@ -36,9 +44,9 @@ fn colors_copied_to_srgb_rasters(rt: HostRuntime) -> Result<(), Fail> {
     let mut raster = Raster::<SRgb8>::with_clear(rt.alloc(), 3, 3)?;
     let color = srgb([0xCC, 0xAA, 0xBB]);
     raster.copy_color(Region::new(2, -1, 3, 4), color);
-    let none = SRgb8::default();
+    let none = srgb([0; 3]);
     let want = [none, none, color, none, none, color, none, none, color];
-    assert_eq!(rt; raster.pixels(), want.as_slice());
+    assert_colors(&rt, raster.pixels(), &want);
 
     let mut raster = Raster::<SGray8>::with_clear(rt.alloc(), 3, 3)?;
     for (left, top, size, value) in [(0, 0, 1, 0x23), (10, 10, 1, 0x45), (1, 1, 10, 0xBB)] {

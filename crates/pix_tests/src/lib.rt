@@ -29,6 +29,8 @@ mod hues;
 #[cfg(test)]
 mod indexed;
 #[cfg(test)]
+mod indices;
+#[cfg(test)]
 mod kinds;
 #[cfg(test)]
 mod lanes;

@@ -4,6 +4,7 @@ use pix::ops::Blend;
 use pix::rgb::Rgba8p;
 use pix::{Raster, RasterFault, Region};
 use std::alloc::Global;
+use std::process::Abort;
 
 /// A raster of clear pixels.
 pub(crate) fn cleared(
@@ -43,4 +44,24 @@ pub(crate) fn composite_raster<O: Blend>(
     op: O,
 ) {
     raster.composite_raster(to, src, from, op);
+}
+
+/// Composites a color with a region.
+pub(crate) fn composite_color<O: Blend>(
+    raster: &mut Raster<Rgba8p>,
+    reg: Region,
+    clr: Rgba8p,
+    op: O,
+) {
+    raster.composite_color(reg, clr, op);
+}
+
+/// Asserts that a pixel is this one.
+pub(crate) fn assert_pixel(rt: &impl Abort, pixel: Rgba8p, want: Rgba8p) {
+    assert_eq!(rt; pixel, want);
+}
+
+/// Asserts that these are all pixels of a raster.
+pub(crate) fn assert_pixels(rt: &impl Abort, raster: &Raster<Rgba8p>, want: &[Rgba8p]) {
+    assert_eq!(rt; raster.pixels(), want);
 }

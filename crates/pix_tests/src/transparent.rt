@@ -1,14 +1,22 @@
 //! Transparent sources, which change nothing under `SrcOver`: their alpha is 0, and so is each
 //! channel other than a hue.
+ghost use Rattle.std.specs.Prelude.{◌≡◌, ◌+◌};
+
 use crate::pictures::{matte, picture, rgba};
-use pix::chan::{Ch8, Ch16};
-use pix::el::Pixel;
+use pix::chan::{Ch8, Ch16, Linear, Premultiplied};
+use pix::el::{Pix, Pixel};
 use pix::hsv::{Hsva8p, Hsva16p};
-use pix::matte::Matte8;
+use pix::matte::{Matte, Matte8};
 use pix::ops::{Op, SrcOver};
 use pix::rgb::Rgba8p;
-use pix::{Command, Raster, Region};
+use pix::{Command, Raster, RasterFault, Region};
+use std::alloc::Global;
+use std::fmt::Debug;
+use std::process::Abort;
 use std::test::Fail;
+
+/// The mattes of the channels of `P`.
+type Mattes<P> = Pix<1, <P as Pixel>::Chan, Matte, Premultiplied, Linear>;
 
 /// A pixel of hue, saturation, value and alpha.
 fn hsva([hue, saturation, value, alpha]: [u8; 4]) -> Hsva8p {
@@ -28,32 +36,38 @@ const PIXELS: [[u8; 4]; 6] = [
 /// The matte values of three columns by two rows.
 const MATTES: [u8; 6] = [0, 1, 127, 128, 254, 255];
 
+/// Asserts that a transparent color, a raster of it, and the color through mattes, each under
+/// `SrcOver`, change no pixel of a picture of three columns by two rows.
+fn assert_stays<P>(
+    rt: &impl Abort,
+    alloc: Global,
+    before: &[P],
+    mattes: &Raster<Mattes<P>>,
+    transparent: P,
+) -> Result<(), RasterFault>
+where
+    P: Pixel<Alpha = Premultiplied, Gamma = Linear> + Debug,
+    requires has_alpha { P.layout.count ≡ P.layout.alpha + 1 }
+{
+    let all = Region::from(());
+    let source = Raster::with_color(alloc, 3, 2, transparent)?;
+    let mut raster = picture(alloc, 3, 2, before)?;
+    raster.composite_color(all, transparent, SrcOver);
+    assert!(rt; raster.pixels() == before, "the color {transparent:?}");
+    raster.composite_raster(all, &source, all, SrcOver);
+    assert!(rt; raster.pixels() == before, "a raster of {transparent:?}");
+    raster.composite_matte(all, mattes, all, transparent, SrcOver);
+    assert!(rt; raster.pixels() == before, "{transparent:?} through mattes");
+    Ok(())
+}
+
 #[test]
 fn calls_with_transparent_sources(rt: HostRuntime) -> Result<(), Fail> {
-    let all = Region::from(());
     let mattes = picture(rt.alloc(), 3, 2, &MATTES.map(matte))?;
-
-    let before = PIXELS.map(rgba);
-    let clear = Raster::with_clear(rt.alloc(), 3, 2)?;
-    let mut raster = picture(rt.alloc(), 3, 2, &before)?;
-    raster.composite_color(all, rgba([0; 4]), SrcOver);
-    assert_eq!(rt; raster.pixels(), before.as_slice(), "a color");
-    raster.composite_raster(all, &clear, all, SrcOver);
-    assert_eq!(rt; raster.pixels(), before.as_slice(), "a raster");
-    raster.composite_matte(all, &mattes, all, rgba([0; 4]), SrcOver);
-    assert_eq!(rt; raster.pixels(), before.as_slice(), "a matte");
-
+    assert_stays::<Rgba8p>(&rt, rt.alloc(), &PIXELS.map(rgba), &mattes, rgba([0; 4]))?;
     let before = PIXELS.map(hsva);
     for hue in [0, 1, 127, 128, 129, 200, 255] {
-        let transparent = hsva([hue, 0, 0, 0]);
-        let hues = Raster::with_color(rt.alloc(), 3, 2, transparent)?;
-        let mut raster = picture(rt.alloc(), 3, 2, &before)?;
-        raster.composite_color(all, transparent, SrcOver);
-        assert_eq!(rt; raster.pixels(), before.as_slice(), "a color of hue {hue}");
-        raster.composite_raster(all, &hues, all, SrcOver);
-        assert_eq!(rt; raster.pixels(), before.as_slice(), "a raster of hue {hue}");
-        raster.composite_matte(all, &mattes, all, transparent, SrcOver);
-        assert_eq!(rt; raster.pixels(), before.as_slice(), "a matte of hue {hue}");
+        assert_stays::<Hsva8p>(&rt, rt.alloc(), &before, &mattes, hsva([hue, 0, 0, 0]))?;
     }
     Ok(())
 }

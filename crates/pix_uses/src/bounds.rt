@@ -1,4 +1,4 @@
-//! Callers over any pixel and over any mode. One names a bound that the trait of modes lacks.
+//! Callers over any pixel and over any mode.
 ghost use Rattle.std.specs.Prelude.{◌≡◌};
 
 use pix::chan::Alpha;
@@ -11,7 +11,7 @@ pub fn shown<P: Pixel>(alloc: Global, pixel: P) -> Result<String, AllocError> {
 }
 
 /// Returns an alpha mode, and whether it is the default one.
-pub fn beside_default<A: Alpha + Copy>(mode: A) -> (A, bool)
+pub fn beside_default<A: Alpha>(mode: A) -> (A, bool)
     ensures same { result.0 ≡ mode }
     ensures equal { (d : A) × A.is_default d × (result.1 ≡ A.eq mode d) }
 {

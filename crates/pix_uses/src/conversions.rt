@@ -71,7 +71,7 @@ pub fn to_cmy_and_back<const N: usize, C: Channel, A: Alpha, G: Gamma<C>>(
 /// between too.
 ///
 /// Condition: the format of gray has one or two channels.
-pub fn gray_to_rgb_and_back<const N: usize, C: Channel, A: Alpha + Copy, G: Gamma<C> + Copy>(
+pub fn gray_to_rgb_and_back<const N: usize, C: Channel, A: Alpha, G: Gamma<C>>(
     p: Pix<N, C, Gray, A, G>,
 ) -> (Pix<4, C, Rgb, A, G>, Pix<N, C, Gray, A, G>)
     requires gray { 1 ≤ N }

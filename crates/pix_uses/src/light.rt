@@ -50,7 +50,7 @@ pub fn premultiplied_light_and_back<const N: usize, const K: usize, M: ColorMode
 ///
 /// Condition: the format of light has all channels of the model, and the photograph's format has no
 /// more.
-pub fn drawn_in_light<const N: usize, const K: usize, M: ColorModel + Copy>(
+pub fn drawn_in_light<const N: usize, const K: usize, M: ColorModel>(
     alloc: Global,
     photo: &Raster<Pix<N, Ch8, M, Straight, Srgb>>,
     commands: &[Command<'_, Pix<K, Ch16, M, Premultiplied, Linear>, Matte16>],
@@ -76,7 +76,7 @@ pub fn drawn_in_light<const N: usize, const K: usize, M: ColorModel + Copy>(
 }
 
 /// Looks at each pixel, and does no more. It tells the theorem how many channels a pixel has.
-fn count_channels<const N: usize, M: ColorModel + Copy>(pixels: &[Pix<N, Ch8, M, Straight, Srgb>])
+fn count_channels<const N: usize, M: ColorModel>(pixels: &[Pix<N, Ch8, M, Straight, Srgb>])
     ensures { All (λ w. length w ≡ N) (map (λ p. map (λ c. c.value) p.channels) pixels.now) }
 {
     for i in 0..pixels.len() {

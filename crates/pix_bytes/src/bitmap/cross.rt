@@ -10,6 +10,7 @@ use crate::bitmap::format::Depth::{Linear8, Linear16, Srgb8};
 use crate::bitmap::format::Stored;
 use crate::bitmap::four::{read_four, write_four};
 use crate::bitmap::model::ModelName::{Bgr, Rgb};
+use crate::bitmap::recoloring::{IntoLinear, OutOfLinear};
 use crate::bitmap::sample::Sample;
 use crate::bitmap::way::{Converted, IntoLight, OutOfLight, Way};
 use pix_chan::chan::{Ch8, Ch16, Linear, Srgb};
@@ -229,6 +230,29 @@ pub(crate) fn cross_row(from: Stored, to: Stored, src: &[u8], dst: &mut [u8], co
     }
 }
 
+/// Does what [`cross_row`] does for as many of the first `count` pixels of 8 bits as a way converts
+/// several at once, and returns their number.
+///
+/// Condition: there are `count` in both.
+pub(crate) fn cross_ahead(
+    from: Stored,
+    to: Stored,
+    src: &[u8],
+    dst: &mut [u8],
+    count: usize,
+) -> usize
+    requires src { length src.now ≡ count * pixel_size (stored_of from) }
+    requires dst { length dst.old ≡ count * pixel_size (stored_of to) }
+    ensures some { result ≤ count }
+    ensures each { IsCrossed (stored_of from) (stored_of to) result src.now dst.new }
+{
+    match (from.depth, to.depth) {
+        (Srgb8, Linear8) => IntoLinear.go_ahead(from, to, src, dst, count),
+        (Linear8, Srgb8) => OutOfLinear.go_ahead(from, to, src, dst, count),
+        _ => 0,
+    }
+}
+
 /// Does what [`cross_row`] does from sRGB of 8 bits.
 ///
 /// Condition: `from` has such channels, and there are `count` pixels in both.
@@ -245,10 +269,7 @@ fn cross_srgb8(from: Stored, to: Stored, src: &[u8], dst: &mut [u8], count: usiz
             let way = Converted::<Srgb, Srgb>::new();
             cross_pixels::<Ch8, Ch8, _>(&way, from, to, src, dst, count);
         }
-        Linear8 => {
-            let way = Converted::<Srgb, Linear>::new();
-            cross_painted::<Ch8, Ch8, _>(&way, from, to, src, dst, count);
-        }
+        Linear8 => cross_painted::<Ch8, Ch8, _>(&IntoLinear, from, to, src, dst, count),
         Linear16 => cross_painted::<Ch8, Ch16, _>(&IntoLight, from, to, src, dst, count),
     }
 }
@@ -265,10 +286,7 @@ fn cross_linear8(from: Stored, to: Stored, src: &[u8], dst: &mut [u8], count: us
     ensures { IsCrossed (stored_of from) (stored_of to) count src.now dst.new }
 {
     match to.depth {
-        Srgb8 => {
-            let way = Converted::<Linear, Srgb>::new();
-            cross_painted::<Ch8, Ch8, _>(&way, from, to, src, dst, count);
-        }
+        Srgb8 => cross_painted::<Ch8, Ch8, _>(&OutOfLinear, from, to, src, dst, count),
         Linear8 => {
             let way = Converted::<Linear, Linear>::new();
             cross_painted::<Ch8, Ch8, _>(&way, from, to, src, dst, count);

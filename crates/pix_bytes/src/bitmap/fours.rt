@@ -73,7 +73,7 @@ fn pixels(bytes: &[u8]) -> [u8; 16]
 
 /// Returns the places of the first and the last color in a pixel.
 #[inline(always)]
-fn ends(is_reversed: bool) -> (usize, usize)
+pub(super) fn ends(is_reversed: bool) -> (usize, usize)
     ensures first { result.0 ≡ first_place is_reversed }
     ensures last { result.1 ≡ last_place is_reversed }
     ensures first_fits { result.0 < 4 }

@@ -14,9 +14,10 @@ ghost use Rattle.pix_bytes.specs.Shown.{reciprocal_of, parts, shown_places, show
 ghost use Rattle.pix_bytes.specs.Stored.{sample_at, samples};
 
 use crate::bitmap::fours::high_products;
-use crate::bitmap::quotient::{quotient, reciprocal};
+use crate::bitmap::quotient::reciprocal;
 use crate::bitmap::sample::Sample;
 use pix_chan::chan::Ch16;
+use pix_chan::quotients::quotient;
 use std::simd::prelude::*;
 
 /// Returns the channels of four pixels. Condition: they have thirty-two bytes.
@@ -132,7 +133,7 @@ fn divided_at(bytes: &[u8], number: usize) -> u16
         (light_alpha bytes.now (number / 4)) }
 {
     let alpha = Ch16::read(bytes, number / 4 * 4 + 3);
-    u16::from(quotient(Ch16::read(bytes, number), alpha))
+    quotient(u16::from(Ch16::read(bytes, number)), u16::from(alpha))
 }
 
 /// Does what [`divided`] does, for any alphas.

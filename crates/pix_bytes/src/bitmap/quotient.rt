@@ -1,9 +1,6 @@
-//! Quotients of channels of 16 bits by alphas.
-ghost use Rattle.std.specs.Prelude.{◌≡◌, ◌+◌, ◌*◌, ◌/◌, ◌<◌, ◌^◌, slice_index_or};
-ghost use Rattle.pix_chan.specs.Product.{channel_quotient};
+//! Reciprocals of alphas of 16 bits that come from eight bits.
+ghost use Rattle.std.specs.Prelude.{◌≡◌, ◌<◌, ◌^◌, slice_index_or};
 ghost use Rattle.pix_bytes.specs.declared.bitmap.quotient.TheConstants.{RECIPROCALS};
-
-use pix_chan::chan::{Alpha, Ch16, Channel, Premultiplied};
 
 /// 2^48 / 257 `b` rounded down, plus one, for each number `b` of eight bits. For 0 it is 0.
 ///
@@ -275,22 +272,4 @@ pub(super) fn reciprocal(b: usize) -> u64
     ensures fits { result < 2 ^ 41 }
 {
     RECIPROCALS[b]
-}
-
-/// Returns the quotient of two channels. For an alpha that comes from eight bits it uses a
-/// multiplication.
-#[inline(always)]
-pub(crate) fn quotient(c: Ch16, alpha: Ch16) -> Ch16
-    ensures { result.value ≡ channel_quotient 65535 c.value alpha.value }
-{
-    let divisor = u16::from(alpha);
-    if divisor == 0 {
-        return Ch16::MIN;
-    }
-    let byte = divisor % 256;
-    if divisor / 256 != byte {
-        return Premultiplied::decode(c, alpha);
-    }
-    let ratio = (u64::from(u16::from(c)) * reciprocal(usize::from(byte))) >> 32;
-    Ch16::new(ratio.min(65535) as u16)
 }

@@ -17,8 +17,8 @@ use crate::bitmap::fours::decode_fours;
 use crate::bitmap::levels::encode_fours;
 use crate::bitmap::model::ModelName::{Bgr, Rgb};
 use crate::bitmap::model::{Colored, into_rgb, out_of_rgb};
-use crate::bitmap::quotient::quotient;
 use pix_chan::chan::{Alpha, Ch8, Ch16, Channel, Gamma, Linear, Premultiplied};
+use pix_chan::quotients::quotient;
 use std::marker::PhantomData;
 
 /// The parts of two formats that decide how a pixel is converted from one to the other within a
@@ -362,7 +362,7 @@ fn straightened(from: bool, to: bool, c: Ch16, alpha: Ch16) -> Ch16
         alpha.value c.value }
 {
     if from && !to && u16::from(alpha) != 65535 {
-        quotient(c, alpha)
+        Ch16::new(quotient(u16::from(c), u16::from(alpha)))
     } else {
         mode_changed(from, to, c, alpha)
     }

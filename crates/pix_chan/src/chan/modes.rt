@@ -6,6 +6,7 @@ ghost use Rattle.pix_chan.specs.Modes as modes;
 ghost use Rattle.pix_chan.specs.Seal.{Seal, seal};
 
 use crate::chan::{Ch8, Channel};
+use std::fmt::Debug;
 
 /// An alpha mode: whether color channels are stored multiplied by the alpha. This trait is sealed.
 ///
@@ -18,7 +19,7 @@ use crate::chan::{Ch8, Channel};
 /// let stored = Premultiplied::encode(same, light); // 64
 /// let straight = Premultiplied::decode(stored, light); // 128
 /// ```
-pub trait Alpha: Default + PartialEq {
+pub trait Alpha: Clone + Copy + Debug + Default + PartialEq {
     /// The mode as a row of the table of alpha modes.
     ghost mode: { AlphaMode };
 
@@ -54,7 +55,7 @@ pub trait Alpha: Default + PartialEq {
 /// let stored = Premultiplied::encode(same, light); // 64
 /// let straight = Premultiplied::decode(stored, light); // 128
 /// ```
-pub trait Gamma<C: Channel>: Default + PartialEq {
+pub trait Gamma<C: Channel>: Clone + Copy + Debug + Default + PartialEq {
     /// The mode as a row of the table of gamma modes.
     ghost mode: { GammaMode };
 

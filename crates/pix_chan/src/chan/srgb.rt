@@ -55,7 +55,8 @@ impl Ch8 {
     pub fn decode_srgb(self) -> Ch8
         ensures value { result.value ≡ srgb_decoded self.value }
         ensures nearest { IsNearestDecoded 255 self.value result.value }
-        ensures once { (v w : ℕ) → IsNearestDecoded 255 self.value v → IsNearestDecoded 255 self.value w → v ≡ w }
+        ensures once { (v w : ℕ) → IsNearestDecoded 255 self.value v
+            → IsNearestDecoded 255 self.value w → v ≡ w }
         ensures curve { IsCurve srgb_decoded }
     {
         Ch8::new(DECODE[usize::from(u8::from(self))])
@@ -73,7 +74,8 @@ impl Ch8 {
     pub fn encode_srgb(self) -> Ch8
         ensures value { result.value ≡ srgb_encoded self.value }
         ensures nearest { IsNearestEncoded 255 self.value result.value }
-        ensures once { (v w : ℕ) → IsNearestEncoded 255 self.value v → IsNearestEncoded 255 self.value w → v ≡ w }
+        ensures once { (v w : ℕ) → IsNearestEncoded 255 self.value v
+            → IsNearestEncoded 255 self.value w → v ≡ w }
         ensures curve { IsCurve srgb_encoded }
     {
         Ch8::new(ENCODE[usize::from(u8::from(self))])

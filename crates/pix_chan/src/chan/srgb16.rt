@@ -363,7 +363,8 @@ impl Ch8 {
     pub fn decode_srgb16(self) -> Ch16
         ensures value { result.value ≡ srgb_decoded16 self.value }
         ensures nearest { IsNearestDecoded 65535 self.value result.value }
-        ensures once { (v w : ℕ) → IsNearestDecoded 65535 self.value v → IsNearestDecoded 65535 self.value w → v ≡ w }
+        ensures once { (v w : ℕ) → IsNearestDecoded 65535 self.value v
+            → IsNearestDecoded 65535 self.value w → v ≡ w }
         ensures curve { IsCurve16 srgb_decoded16 srgb_encoded8 }
     {
         Ch16::new(DECODE16[usize::from(u8::from(self))])
@@ -385,7 +386,8 @@ impl Ch16 {
     pub fn encode_srgb8(self) -> Ch8
         ensures value { result.value ≡ srgb_encoded8 self.value }
         ensures nearest { IsNearestEncoded 65535 self.value result.value }
-        ensures once { (v w : ℕ) → IsNearestEncoded 65535 self.value v → IsNearestEncoded 65535 self.value w → v ≡ w }
+        ensures once { (v w : ℕ) → IsNearestEncoded 65535 self.value v
+            → IsNearestEncoded 65535 self.value w → v ≡ w }
         ensures curve { IsCurve16 srgb_decoded16 srgb_encoded8 }
     {
         let channel = u16::from(self);

@@ -20,7 +20,6 @@ use pix_el::rgb::{SRgb8, SRgba8};
 use pix_raster::{Raster, RasterFault};
 use pix_table::{
     Color, Diffusion, DiffusionWay, TableColor, diffuse_pixels, match_pixels, refined_table_from,
-    table_from,
 };
 use std::alloc::Global;
 
@@ -69,7 +68,7 @@ impl ColorTable {
         ensures memory { IfErr result (λ fault. fault ≡ RasterFault.Memory) }
     {
         let shades = shades(alloc, raster)?;
-        table_of(alloc, shades.pixels(), limit, alpha)
+        table_of(alloc, shades.pixels(), limit, alpha, 0)
     }
 
     /// Does what [`ColorTable::from_raster`] does. Where there are more distinct colors than
@@ -107,7 +106,7 @@ impl ColorTable {
         ensures memory { IfErr result (λ fault. fault ≡ RasterFault.Memory) }
     {
         let shades = shades(alloc, raster)?;
-        refined_table_of(alloc, shades.pixels(), limit, alpha, rounds)
+        table_of(alloc, shades.pixels(), limit, alpha, rounds)
     }
 
     /// Makes a raster of indices. The value of each pixel is the index of the entry that is nearest
@@ -140,8 +139,8 @@ impl ColorTable {
         S::Gamma: Gamma<Ch8>,
         ensures mapped { IfOk result (λ answer. MatchOption answer
             ((length (entries_of self.now) ≡ 0) ⊎ (256 < length (entries_of self.now)))
-            (λ image. IsIndexImage ⟦<Gray8 as Pixel>⟧.numbers raster.now.width raster.now.height image
-            × AreMatched (map numbers (entries_of self.now)) alpha kept
+            (λ image. IsIndexImage ⟦<Gray8 as Pixel>⟧.numbers raster.now.width raster.now.height
+            image × AreMatched (map numbers (entries_of self.now)) alpha kept
             (shades_of S.format ⟦<S::Gamma as Gamma<Ch8>>⟧.mode S.numbers raster.now.pixels)
             (values ⟦<Gray8 as Pixel>⟧.numbers image.pixels))) }
         ensures memory { IfErr result (λ fault. fault ≡ RasterFault.Memory) }
@@ -188,8 +187,8 @@ impl ColorTable {
         S::Gamma: Gamma<Ch8>,
         ensures diffused { IfOk result (λ answer. MatchOption answer
             ((length (entries_of self.now) ≡ 0) ⊎ (256 < length (entries_of self.now)))
-            (λ image. IsIndexImage ⟦<Gray8 as Pixel>⟧.numbers raster.now.width raster.now.height image
-            × AreDiffused (map numbers (entries_of self.now)) alpha kept raster.now.width
+            (λ image. IsIndexImage ⟦<Gray8 as Pixel>⟧.numbers raster.now.width raster.now.height
+            image × AreDiffused (map numbers (entries_of self.now)) alpha kept raster.now.width
             (shades_of S.format ⟦<S::Gamma as Gamma<Ch8>>⟧.mode S.numbers raster.now.pixels)
             (values ⟦<Gray8 as Pixel>⟧.numbers image.pixels))) }
         ensures memory { IfErr result (λ fault. fault ≡ RasterFault.Memory) }
@@ -205,9 +204,9 @@ impl ColorTable {
         )
     }
 
-    /// Does what [`ColorTable::diffuse_indexed`] does, with `strength` sixteenths of each error, and
-    /// in a way. In the serpentine way every second row goes from right to left, and the shares are
-    /// mirrored in it. Returns `None` also where the strength is above 16.
+    /// Does what [`ColorTable::diffuse_indexed`] does, with `strength` sixteenths of each error,
+    /// and in a way. In the serpentine way every second row goes from right to left, and the shares
+    /// are mirrored in it. Returns `None` also where the strength is above 16.
     ///
     /// # Errors
     ///
@@ -237,8 +236,8 @@ impl ColorTable {
         ensures diffused { IfOk result (λ answer. MatchOption answer
             ((length (entries_of self.now) ≡ 0) ⊎ (256 < length (entries_of self.now))
             ⊎ (16 < strength))
-            (λ image. IsIndexImage ⟦<Gray8 as Pixel>⟧.numbers raster.now.width raster.now.height image
-            × AreDiffusedBy way strength (map numbers (entries_of self.now)) alpha kept
+            (λ image. IsIndexImage ⟦<Gray8 as Pixel>⟧.numbers raster.now.width raster.now.height
+            image × AreDiffusedBy way strength (map numbers (entries_of self.now)) alpha kept
             raster.now.width
             (shades_of S.format ⟦<S::Gamma as Gamma<Ch8>>⟧.mode S.numbers raster.now.pixels)
             (values ⟦<Gray8 as Pixel>⟧.numbers image.pixels))) }
@@ -296,7 +295,8 @@ where
     S: Pixel,
     Ch8: From<S::Chan>,
     S::Gamma: Gamma<Ch8>,
-    ensures size { IfOk result (λ r. (r.width ≡ raster.now.width) × (r.height ≡ raster.now.height)) }
+    ensures size { IfOk result (λ r. (r.width ≡ raster.now.width)
+        × (r.height ≡ raster.now.height)) }
     ensures shades { IfOk result (λ r. map srgba_numbers r.pixels
         ≡ shades_of S.format ⟦<S::Gamma as Gamma<Ch8>>⟧.mode S.numbers raster.now.pixels) }
     ensures memory { IfErr result (λ fault. fault ≡ RasterFault.Memory) }
@@ -305,33 +305,8 @@ where
     Ok(copy)
 }
 
-/// Makes a table of pixels, as [`ColorTable::from_raster`] does.
+/// Makes a table of pixels, as [`ColorTable::from_raster_refined`] does.
 fn table_of(
-    alloc: Global,
-    pixels: &[SRgba8],
-    limit: usize,
-    alpha: u8,
-) -> Result<Option<ColorTable>, RasterFault>
-    ensures made { IfOk result (λ answer. MatchOption answer
-        ((limit ≡ 0) ⊎ (256 < limit))
-        (IsMadeOf limit (shown alpha (map srgba_numbers pixels.now)))) }
-    ensures memory { IfErr result (λ fault. fault ≡ RasterFault.Memory) }
-{
-    if limit == 0 || limit > ENTRIES {
-        return Ok(None);
-    }
-    let mut work = vec![in alloc; Color::default(); pixels.len()]?;
-    let mut room = [Color::default(); ENTRIES];
-    let entries = &mut room[..limit];
-    let Some(len) = table_from(pixels, alpha, &mut work, entries) else {
-        return Ok(None);
-    };
-    let table = table_with(alloc, limit, &entries[..len])?;
-    Ok(Some(table))
-}
-
-/// Makes a refined table of pixels, as [`ColorTable::from_raster_refined`] does.
-fn refined_table_of(
     alloc: Global,
     pixels: &[SRgba8],
     limit: usize,

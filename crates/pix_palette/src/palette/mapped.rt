@@ -122,8 +122,9 @@ where
 
     ghost visits = { λ mapping entries old new. ((k : ℕ) → k < length mapping.pixels.now
         → IsNearest entries
-        (slice_index_or (colors_of S.format ⟦<S::Gamma as Gamma<Ch8>>⟧.mode S.numbers mapping.pixels.now)
-        k []) (slice_index (values P.numbers new) k)) × AreGray P.numbers new };
+        (slice_index_or (colors_of S.format ⟦<S::Gamma as Gamma<Ch8>>⟧.mode S.numbers
+        mapping.pixels.now) k []) (slice_index (values P.numbers new) k))
+        × AreGray P.numbers new };
 
     // Out of line. Where it is inlined, a matcher is put together on the stack beside its place.
     #[inline(never)]

@@ -46,14 +46,15 @@ pub struct RgbaTable {
 }
 
 impl RgbaTable {
-    /// Makes a table of the colors of a raster, of at most `limit` entries. Returns `None` where the
-    /// limit is 0 or above 256.
+    /// Makes a table of the colors of a raster, of at most `limit` entries. Returns `None` where
+    /// the limit is 0 or above 256.
     ///
     /// Where the raster has no more distinct colors than that, as they are seen, the entries are
     /// those colors in order of first place. Else they are the means of boxes of colors, by the cut
     /// by squared error, and then `rounds` rounds refine them. In a round each color goes to its
-    /// nearest entry, the first of equals. Each entry goes to the mean of its colors, rounded, where
-    /// that makes their squared error no greater. No round makes the squared error of all greater.
+    /// nearest entry, the first of equals. Each entry goes to the mean of its colors, rounded,
+    /// where that makes their squared error no greater. No round makes the squared error of all
+    /// greater.
     ///
     /// # Errors
     ///
@@ -181,8 +182,8 @@ impl RgbaTable {
         S::Gamma: Gamma<Ch8>,
         ensures mapped { IfOk result (λ answer. MatchOption answer
             ((length (colors_of_table self.now) ≡ 0) ⊎ (256 < length (colors_of_table self.now)))
-            (λ image. IsIndexImage ⟦<Gray8 as Pixel>⟧.numbers raster.now.width raster.now.height image
-            × AreSeenMatched (map srgba_numbers (colors_of_table self.now))
+            (λ image. IsIndexImage ⟦<Gray8 as Pixel>⟧.numbers raster.now.width raster.now.height
+            image × AreSeenMatched (map srgba_numbers (colors_of_table self.now))
             (shades_of S.format ⟦<S::Gamma as Gamma<Ch8>>⟧.mode S.numbers raster.now.pixels)
             (values ⟦<Gray8 as Pixel>⟧.numbers image.pixels))) }
         ensures memory { IfErr result (λ fault. fault ≡ RasterFault.Memory) }
@@ -195,11 +196,11 @@ impl RgbaTable {
         Ok(Some(image))
     }
 
-    /// Makes a raster of indices by error diffusion, with `strength` sixteenths of each error, and in
-    /// a way. The value of each pixel is the index of the entry that is seen nearest to it plus its
-    /// share of the errors of the pixels before it. Errors are those of colors times their alphas,
-    /// and of the alphas. A pixel of the alpha 0 has no share and hands on no error. Returns `None`
-    /// where there is no entry, or more than 256, or where the strength is above 16.
+    /// Makes a raster of indices by error diffusion, with `strength` sixteenths of each error, and
+    /// in a way. The value of each pixel is the index of the entry that is seen nearest to it plus
+    /// its share of the errors of the pixels before it. Errors are those of colors times their
+    /// alphas, and of the alphas. A pixel of the alpha 0 has no share and hands on no error.
+    /// Returns `None` where there is no entry, or more than 256, or where the strength is above 16.
     ///
     /// # Errors
     ///
@@ -227,8 +228,8 @@ impl RgbaTable {
         ensures diffused { IfOk result (λ answer. MatchOption answer
             ((length (colors_of_table self.now) ≡ 0) ⊎ (256 < length (colors_of_table self.now))
             ⊎ (16 < strength))
-            (λ image. IsIndexImage ⟦<Gray8 as Pixel>⟧.numbers raster.now.width raster.now.height image
-            × AreSeenDiffused way strength raster.now.width
+            (λ image. IsIndexImage ⟦<Gray8 as Pixel>⟧.numbers raster.now.width raster.now.height
+            image × AreSeenDiffused way strength raster.now.width
             (map srgba_numbers (colors_of_table self.now))
             (shades_of S.format ⟦<S::Gamma as Gamma<Ch8>>⟧.mode S.numbers raster.now.pixels)
             (values ⟦<Gray8 as Pixel>⟧.numbers image.pixels))) }

@@ -9,6 +9,7 @@ ghost use Rattle.pix_table.specs.Seen.{
   seen_numbers,
   straight,
 };
+ghost use Rattle.pix_table.specs.SeenTables.{same_seen};
 
 use crate::color::{Color, TablePixel};
 use pix_chan::chan::Ch8;
@@ -55,6 +56,14 @@ pub struct Seen {
     pub blue: u8,
     /// The alpha.
     pub alpha: u8,
+}
+
+/// Returns whether two colors are the same.
+#[inline(always)]
+pub(crate) fn same(p: Seen, q: Seen) -> bool
+    ensures { result ≡ same_seen (seen_numbers p) (seen_numbers q) }
+{
+    p.red == q.red && p.green == q.green && p.blue == q.blue && p.alpha == q.alpha
 }
 
 /// Returns how a pixel is seen.

@@ -8,9 +8,9 @@ ghost use Rattle.pix_table.specs.SeenTables.{four_of, same_seen};
 
 use crate::chosen::ENTRIES;
 use crate::color::TablePixel;
-use crate::rgba::color::{RgbaColor, Seen, seen_of, straight};
+use crate::rgba::color::{RgbaColor, Seen, same, seen_of, straight};
 use crate::rgba::cut::cut_seen_table;
-use crate::rgba::refine::{refine_seen, same};
+use crate::rgba::refine::refine_seen;
 
 /// Writes a table of the colors of `pixels`, each with its alpha, into the first of the entries,
 /// and returns their number. It returns `None`, and changes nothing, where there is no entry or

@@ -1,10 +1,10 @@
 //! The entries that are seen nearest to pixels.
-ghost use Rattle.std.specs.Prelude.{◌≡◌, ◌<◌, ◌≤◌, All, length, map, take, true};
+ghost use Rattle.std.specs.Prelude.{◌≡◌, ◌<◌, ◌≤◌, All, length, map, take};
 ghost use Rattle.pix_table.specs.Seen.{AreSeen, AreSeenMatched, seen, seen_numbers};
 
 use crate::chosen::ENTRIES;
 use crate::color::TablePixel;
-use crate::rgba::color::{Seen, seen_of};
+use crate::rgba::color::{Seen, same, seen_of};
 use crate::rgba::lanes::SeenLanes;
 
 /// Returns how the entries of a table are seen, followed by others.
@@ -20,14 +20,6 @@ pub(crate) fn seen_entries<E: TablePixel>(entries: &[E]) -> [Seen; ENTRIES]
         colors[i] = seen_of(entries[i]);
     }
     colors
-}
-
-/// Returns whether two colors are seen alike.
-#[inline(always)]
-pub(crate) fn same_seen(p: Seen, q: Seen) -> bool
-    ensures { result ≡ true → seen_numbers p ≡ seen_numbers q }
-{
-    p == q
 }
 
 /// Sets the index of each pixel to that of the entry that is seen nearest to it, the first of
@@ -50,7 +42,7 @@ pub fn match_rgba_pixels<E: TablePixel, P: TablePixel>(
     let mut index = lanes.nearest(last);
     for k in 0..pixels.len() {
         let color = seen_of(pixels[k]);
-        if !same_seen(color, last) {
+        if !same(color, last) {
             index = lanes.nearest(color);
             last = color;
         }

@@ -1,12 +1,12 @@
 //! The place at which a cut of a box of seen colors lowers the squared error most.
-ghost use Rattle.std.specs.Prelude.{◌≡◌, ℕ, ◌+◌, ◌<◌, ◌≤◌, All, List, length, map, MatchOption, true};
+ghost use Rattle.std.specs.Prelude.{◌+◌, ◌<◌, ◌≤◌, All, length, map, MatchOption, true};
 ghost use Rattle.pix_table.specs.Places.{CannotBeCutBy, HasBestBy};
-ghost use Rattle.pix_table.specs.BestPlaces.{CanCutBy, IsBestUpToBy};
+ghost use Rattle.pix_table.specs.BestPlaces.{IsBestUpToBy};
 ghost use Rattle.pix_table.specs.Seen.{AreSeen, seen_numbers};
 ghost use Rattle.pix_table.specs.SeenCut.{seen_weight};
 ghost use Rattle.pix_table.specs.SeenSums.{AreSeenByValue, AreSeenSums, seen_gain_at};
 
-use crate::place::Place;
+use crate::place::{Place, better};
 use crate::rgba::color::Seen;
 use crate::rgba::sums::{SeenSums, seen_sums_of, sum_values};
 
@@ -68,24 +68,4 @@ fn best_in(
         best = better(best, place);
     }
     best
-}
-
-/// Returns the better of the best place so far and the next one, the first of equals.
-fn better(best: Option<Place>, place: Place) -> Option<Place>
-    ensures { (box : List (List ℕ))
-        → IsBestUpToBy 4 seen_gain_at box place.channel place.value best
-        → CanCutBy 4 box place.channel place.value
-        → seen_gain_at place.channel place.value box ≡ place.gain
-        → IsBestUpToBy 4 seen_gain_at box place.channel (place.value + 1) result }
-{
-    match best {
-        Some(old) => {
-            if place.gain > old.gain {
-                Some(place)
-            } else {
-                best
-            }
-        }
-        None => Some(place),
-    }
 }

@@ -5,10 +5,10 @@ ghost use Rattle.pix_table.specs.Refine.{AreRoundsBy, IsRoundBy, squared_error_b
 ghost use Rattle.pix_table.specs.Seen.{AreSeen, seen_distance, seen_numbers};
 ghost use Rattle.pix_table.specs.SeenGroups.{AreSeenGrouped};
 ghost use Rattle.pix_table.specs.SeenLanes.{AreSeenLanes};
-ghost use Rattle.pix_table.specs.SeenTables.{same_seen, seen_settled};
+ghost use Rattle.pix_table.specs.SeenTables.{seen_settled};
 
 use crate::chosen::ENTRIES;
-use crate::rgba::color::Seen;
+use crate::rgba::color::{Seen, same};
 use crate::rgba::groups::settled;
 use crate::rgba::lanes::SeenLanes;
 use crate::rgba::sums::SeenSums;
@@ -105,11 +105,4 @@ fn nearest_after(lanes: &SeenLanes, clr: Seen, last: Seen, entry: usize) -> usiz
     } else {
         usize::from(lanes.nearest(clr))
     }
-}
-
-/// Returns whether two colors are the same.
-pub(crate) fn same(p: Seen, q: Seen) -> bool
-    ensures { result ≡ same_seen (seen_numbers p) (seen_numbers q) }
-{
-    p.red == q.red && p.green == q.green && p.blue == q.blue && p.alpha == q.alpha
 }

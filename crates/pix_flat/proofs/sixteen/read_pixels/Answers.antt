@@ -1,7 +1,7 @@
 use Rattle.std.proofs.Common.{◌≡◌, length, arith}
 use Rattle.std.proofs.lemmas.List.{length-map}
 use Rattle.pix_el.proofs.Written.{written_none}
-use Rattle.pix_flat.proofs.Rows.{written_to_more, written_to_end}
+use Rattle.pix_flat.proofs.Rows.{written_to_more, written_to_first}
 use Rattle.pix_flat.proofs.sixteen.read_pixels.Goals as goal
 
 pub loop-i-init : goal.loop-i-init
@@ -16,4 +16,4 @@ loop-i-preserved g c =
 
 pub returns : goal.returns
 returns g c =
-    written_to_end g.S.Numbered.numbers g.P.Pixel.numbers c.args.part.now c.args.pixels.now c.loop-i.pixels c.loop-i.i c.loop-i.invariant (omega arith) (omega arith)
+    written_to_first g.S.Numbered.numbers g.P.Pixel.numbers c.args.part.now c.args.pixels.now c.loop-i.pixels c.loop-i.i c.loop-i.invariant (omega arith) (omega arith)

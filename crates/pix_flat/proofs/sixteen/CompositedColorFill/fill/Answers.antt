@@ -8,7 +8,7 @@ use Rattle.pix_flat.proofs.sixteen.CompositedColorFill.fill.Goals as goal
 pub loop-i-init : goal.loop-i-init
 loop-i-init g c =
     let first = c.color_blocks-first in
-    let second = c.color_blocks-second in
+    let second = c.color_rest-second in
     next_color g.D.Numbered.numbers (pixel_composite g.P.Pixel.layout g.O.Blend.op) first.result second.result c.args.row.now first.new.row second.new.row (g.P.Pixel.numbers c.args.self.now.clr)
     first.ensures.composited first.ensures.within second.ensures.composited
 

@@ -9,7 +9,7 @@ pub loop-i-init : goal.loop-i-init
 loop-i-init g c =
     let n = g.D.Numbered.numbers in
     let first = c.merge_blocks-first in
-    let second = c.merge_blocks-second in
+    let second = c.merge_rest-second in
     next_run n g.S.Numbered.numbers (g.B.Merge.makes c.args.self.now.change) first.result second.result c.args.row.now first.new.row second.new.row c.args.src.now
     first.ensures.merged (omega (arith, first.ensures.within)) second.ensures.merged
 
@@ -34,7 +34,7 @@ returns g c =
     let makes = g.B.Merge.makes c.args.self.now.change in
     let f = λ (d s : List ℕ). makes s d in
     let first = c.merge_blocks-first in
-    let second = c.merge_blocks-second in
+    let second = c.merge_rest-second in
     let at = first.result in
     let row = first.new.row in
     let src = c.args.src.now in

@@ -100,7 +100,7 @@ loop-value-preserved c =
     c.weight-whole.ensures.weight ∙ whole_weight box c.args.all c.requires.seen c.requires.all in
     let gains : seen_gain_at c.args.k (c.loop-value.value + 1) (map seen_numbers c.args.colors.now) ≡ c.gain.result =
     sym (gain_same c.args.k v box c.and-low.result c.args.all c.weight-whole.result low c.requires.all whole) ∙ sym c.gain.ensures in
-    record { low = low; best = c.better-best.ensures box c.loop-value.invariant.best can gains }
+    record { low = low; best = c.better-best.ensures 4 seen_gain_at box c.loop-value.invariant.best can gains }
 
 pub returns : goal.returns
 returns c =

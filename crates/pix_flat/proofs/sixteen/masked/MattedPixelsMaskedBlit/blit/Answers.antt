@@ -13,7 +13,7 @@ loop-i-init g c =
     let n = g.D.Numbered.numbers in
     let layout : Layout = g.P.Pixel.layout in
     let first = c.matted_blocks-first in
-    let second = c.matted_blocks-second in
+    let second = c.matted_rest-second in
     next_beside n g.M.Numbered.numbers n (λ (t : List ℕ × List ℕ). matted_composite layout g.O.Blend.op (matte_value layout t.0) t.1)
     first.result second.result c.args.row.now first.new.row second.new.row c.args.mask.now c.args.src.now
     first.ensures.composited (omega (arith, first.ensures.within)) second.ensures.composited
@@ -54,7 +54,7 @@ returns g c =
     let mask = c.args.mask.now in
     let src = c.args.src.now in
     let first = c.matted_blocks-first in
-    let second = c.matted_blocks-second in
+    let second = c.matted_rest-second in
     let at = first.result in
     let row = first.new.row in
     let within : at + second.result ≤ c.min-count.result = omega (
