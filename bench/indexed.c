@@ -114,7 +114,7 @@ static void by_colors(const picture *it, const way *how, size_t colors, pix_srgb
     start = now();
     for (size_t i = 0; i < it->count && step > 1; i += step)
         sample[count++] = pixels[i];
-    status = pix_make_table_refined(step > 1 ? sample : pixels, step > 1 ? count : it->count, how->rounds, work, own, colors, &made);
+    status = pix_quantize_refined(step > 1 ? sample : pixels, step > 1 ? count : it->count, how->rounds, work, own, colors, &made);
     middle = now();
     if (status == PIX_OK && how->diffused)
         status = pix_diffuse_indexed_by(pix_table_of(own, made), pixels, it->count, it->width, diffusion, work, indices);
@@ -138,7 +138,7 @@ static void by_alphas(const picture *it, const way *how, size_t colors, pix_srgb
     const pix_diffusion diffusion = {how->strength, how->serpentine};
     size_t made = 0;
     double start = now(), middle;
-    uint32_t status = pix_make_table_rgba(it->pixels, it->count, how->rounds, work, entries, colors, &made);
+    uint32_t status = pix_quantize_rgba(it->pixels, it->count, how->rounds, work, entries, colors, &made);
     const pix_table_rgba table = {entries, made};
     middle = now();
     if (status == PIX_OK && how->diffused)

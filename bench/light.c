@@ -89,7 +89,7 @@ static void encode_plainly(void) {
 
 static int paint(void) {
     pix_command_rgba16 list[SPRITES];
-    const pix_source_rgba16 source = pix_source_of_rgba16(sprite, SIDE, SIDE);
+    const pix_view_rgba16 source = pix_view_of_rgba16(sprite, SIDE, SIDE);
     const pix_region whole = pix_region_of(0, 0, SIDE, SIDE);
     for (int i = 0; i < SPRITES; i++)
         list[i] = pix_composite_image_rgba16(pix_region_of(550 * i + 100, 380 * i + 20, SIDE, SIDE), source, whole, PIX_OP_SRC_OVER);
@@ -111,7 +111,7 @@ static int comes_back(void) {
 }
 
 static int times(const char *name, int is_opaque, int rounds) {
-    const pix_bitmap_source picture = pix_bitmap_source_of(photo, WIDE, HIGH, PIX_FORMAT_SRGBA8);
+    const pix_bitmap_view picture = pix_bitmap_view_of(photo, WIDE, HIGH, PIX_FORMAT_SRGBA8);
     const pix_bitmap shown = pix_bitmap_of(back, WIDE, HIGH, PIX_FORMAT_SRGBA8);
     const pix_bitmap image = pix_bitmap_of_image_rgba16(pix_image_of_rgba16(light, WIDE, HIGH));
     double least[WAYS], all = 1e9;
@@ -129,7 +129,7 @@ static int times(const char *name, int is_opaque, int rounds) {
         const double start = seconds();
         is_well &= paint();
         at[ENCODED] = seconds();
-        is_well &= pix_convert_bitmap(pix_bitmap_source_of_bitmap(image), shown) == PIX_OK;
+        is_well &= pix_convert_bitmap(pix_bitmap_view_of_bitmap(image), shown) == PIX_OK;
         at[PLAIN_ENCODED] = seconds();
         encode_plainly();
         at[WAYS] = seconds();

@@ -40,7 +40,7 @@ static pix_rgba8 color(uint32_t least, uint32_t most) {
 /* Twenty colors, or a copy and then images, colors and colors through a mask in turn. */
 static void fill_list(int is_mixed) {
     const pix_region whole = pix_region_of(0, 0, WIDE, HIGH);
-    const pix_source source = pix_source_of(image, WIDE, HIGH);
+    const pix_view source = pix_view_of(image, WIDE, HIGH);
     for (int i = 0; i < COMMANDS; i++) {
         const pix_rgba8 it = colors[i] = color(20, 220);
         const pixman_color_t same = {(uint16_t)(257 * it.b), (uint16_t)(257 * it.g), (uint16_t)(257 * it.r),
@@ -64,7 +64,7 @@ static void run_peer(void) {
 
 /* Runs the list on the rows from `top` on. */
 static void run_rows(uint32_t top, uint32_t rows) {
-    if (pix_run_in(pix_image_of(pixels + (size_t)top * WIDE, WIDE, rows), 0, top, list, COMMANDS, NULL) != PIX_OK)
+    if (pix_run_window(pix_image_of(pixels + (size_t)top * WIDE, WIDE, rows), 0, top, list, COMMANDS, NULL) != PIX_OK)
         abort();
 }
 

@@ -337,7 +337,7 @@ def effects_at(script, x, y):
 
 def worked_out(script, x, y):
     """Returns the pixel, the exact one and the budgets after a script without copies, the count of the commands, and whether all are of listed kinds."""
-    pixel, exact, budget, count, is_listed = (0,) * 4, [Fraction(0)] * 4, (0, 0), 0, True
+    pixel, exact, budget, count, has_constant_source = (0,) * 4, [Fraction(0)] * 4, (0, 0), 0, True
     for name, color in effects_at(script, x, y):
         count += 1
         if name is None:
@@ -345,8 +345,8 @@ def worked_out(script, x, y):
             continue
         operator = OPERATORS[name]
         pixel, exact, budget = model.composite(operator, color, pixel), model.exactly(operator, color, exact), model.budget(operator, budget)
-        is_listed &= not model.products(operator)[0]
-    return pixel, exact, budget, count, is_listed
+        has_constant_source &= not model.products(operator)[0]
+    return pixel, exact, budget, count, has_constant_source
 
 
 def places(number):
@@ -363,14 +363,14 @@ def try_budget(browser):
     for x, y in [(0, 0), (2, 2), (20, 20), (28, 28), (30, 20), (40, 30), (33, 33), (44, 10), (10, 44), (63, 47)]:
         enter(browser, "pixel-x", str(x))
         enter(browser, "pixel-y", str(y))
-        pixel, exact, budget, count, is_listed = worked_out(script, x, y)
+        pixel, exact, budget, count, has_constant_source = worked_out(script, x, y)
         rows = browser.run("[...document.querySelectorAll('#distance-rows tr')].map((row) => [...row.cells].map((cell) => cell.textContent))")
         for index, row in enumerate(rows):
             apart, most = abs(pixel[index] - exact[index]), Fraction(budget[index == 3], 2)
             wants(f"channel {index} of ({x}, {y})", row[1:5], [str(pixel[index]), places(exact[index]), places(apart), f"{float(most):g}"])
             wants("whether it is within the budget", apart <= most, True)
         bound = of(browser, "bound", "textContent")
-        wants("the bound", f"n = {count} unit" in bound if is_listed else f"n² + n = {count * count + count} unit" in bound, True)
+        wants("the bound", f"n = {count} unit" in bound if has_constant_source else f"n² + n = {count * count + count} unit" in bound, True)
         steps = browser.run("document.querySelectorAll('#step-rows tr').length")
         wants("the steps", steps, count)
 

@@ -74,7 +74,7 @@ def indexed_frame(picture, table, diffusion):
     colors, how = table.colors, {"format": pix.SRGBA8}
     if table.clear is not None:
         colors = colors[: 3 * table.clear]
-        how.update(alpha=CLEAR_BELOW, kept=table.clear)
+        how.update(alpha=CLEAR_BELOW, transparent_index=table.clear)
     if diffusion is None:
         return Frame(picture.size, pix.map_indexed(colors, picture.pixels, **how), table)
     how.update(diffusion.how)

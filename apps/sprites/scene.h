@@ -55,7 +55,7 @@ template <typename Kind> class Scene {
                                                  PIX_OP_SRC_OVER));
         in_bands([&](int top, int bottom) {
             const auto band = Kind::image_of(&frame[std::size_t(top) * width], width, bottom - top);
-            return Kind::run_in(band, 0, top, list.data(), list.size(), nullptr);
+            return Kind::run_window(band, 0, top, list.data(), list.size(), nullptr);
         });
     }
 

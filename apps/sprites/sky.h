@@ -42,7 +42,7 @@ inline std::vector<pix_srgb8> colors() {
 // little noise is in the ramp, since else all points of a row would change at once.
 inline std::vector<pix_srgb8> paint(int width, int height) {
     const std::size_t columns = width, rows = height;
-    std::vector<pix_srgb8> pixels(columns * rows), grays(TONES), work(pix_diffusion_work(columns));
+    std::vector<pix_srgb8> pixels(columns * rows), grays(TONES), work(pix_diffuse_indexed_work(columns));
     std::vector<std::uint8_t> indices(pixels.size());
     std::minstd_rand random(8);
     for (std::size_t i = 0; i < pixels.size(); i++) {

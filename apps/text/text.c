@@ -178,7 +178,7 @@ static void open_font(font *letters, const options *chosen) {
 
 /* Converts a picture: both are of one size. */
 static void convert(pix_bitmap from, pix_bitmap to) {
-    insist(pix_convert_bitmap(pix_bitmap_source_of_bitmap(from), to));
+    insist(pix_convert_bitmap(pix_bitmap_view_of_bitmap(from), to));
 }
 
 /* Composites all lines over an image, by one list: their colors are in the straight format `as`. */
@@ -219,7 +219,7 @@ static file_picture draw_halves(const file_picture *photo, const line *lines, in
     const uint32_t half = photo->width / 2, rest = photo->width - half;
     const pix_bitmap middle = pix_part_of_bitmap(from, pix_region_of((int32_t)rest / 2, 0, half, photo->height));
     uint16_t *values = insist_memory(malloc(sizeof *values * ((size_t)atlas.width * atlas.height + 1)));
-    insist(pix_convert_bitmap(pix_bitmap_source_of(atlas.values, atlas.width, atlas.height, PIX_FORMAT_GRAY8),
+    insist(pix_convert_bitmap(pix_bitmap_view_of(atlas.values, atlas.width, atlas.height, PIX_FORMAT_GRAY8),
                               pix_bitmap_of(values, atlas.width, atlas.height, PIX_FORMAT_GRAY16)));
     const pix_matte16 wide = pix_matte16_of(values, atlas.width, atlas.height);
     draw_half(middle, pix_part_of_bitmap(to, pix_region_of(0, 0, half, photo->height)), PIX_FORMAT_RGBA8, lines,

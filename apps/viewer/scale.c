@@ -18,7 +18,7 @@ void canvas_free(canvas *it) {
 
 pix_image_rgba16 canvas_image(const canvas *it) { return pix_image_of_rgba16(it->pixels, it->width, it->height); }
 
-pix_source_rgba16 canvas_source(const canvas *it) { return pix_source_of_rgba16(it->pixels, it->width, it->height); }
+pix_view_rgba16 canvas_source(const canvas *it) { return pix_view_of_rgba16(it->pixels, it->width, it->height); }
 
 void insist(pix_status status) {
     if (status != PIX_OK) {
@@ -42,7 +42,7 @@ static pix_region line_at(lines way, uint32_t at, uint32_t length) {
 
 /* Copies a line of the source to each line of the image: number first + i / times * step to number i. The last line
  * stands for those past the end, too. */
-static void copy_lines(pix_image_rgba16 image, pix_source_rgba16 source, lines way, uint32_t first, uint32_t times,
+static void copy_lines(pix_image_rgba16 image, pix_view_rgba16 source, lines way, uint32_t first, uint32_t times,
                        uint32_t step) {
     uint32_t count = way == COLUMNS ? image.width : image.height, all = way == COLUMNS ? source.width : source.height;
     uint32_t length = way == COLUMNS ? image.height : image.width;
@@ -56,7 +56,7 @@ static void copy_lines(pix_image_rgba16 image, pix_source_rgba16 source, lines w
     free(list);
 }
 
-canvas scale_up(pix_source_rgba16 source, uint32_t times) {
+canvas scale_up(pix_view_rgba16 source, uint32_t times) {
     canvas wide = canvas_of(source.width * times, source.height);
     canvas both = canvas_of(source.width * times, source.height * times);
     copy_lines(canvas_image(&wide), source, COLUMNS, 0, times, 1);
@@ -67,7 +67,7 @@ canvas scale_up(pix_source_rgba16 source, uint32_t times) {
 
 /* Adds up lines of the source, each at its share of the whole: lines by * i to by * i + by - 1 make line i. The shares
  * are as even as they can be, and their sum is all of it. */
-static void mean_of_lines(pix_image_rgba16 mean, pix_source_rgba16 source, lines way, uint32_t by) {
+static void mean_of_lines(pix_image_rgba16 mean, pix_view_rgba16 source, lines way, uint32_t by) {
     pix_region all = pix_region_of(0, 0, mean.width, mean.height);
     canvas part = canvas_of(mean.width, mean.height);
     for (uint32_t i = 0; i < by; i++) {
@@ -79,7 +79,7 @@ static void mean_of_lines(pix_image_rgba16 mean, pix_source_rgba16 source, lines
     canvas_free(&part);
 }
 
-canvas scale_down(pix_source_rgba16 source, uint32_t by) {
+canvas scale_down(pix_view_rgba16 source, uint32_t by) {
     uint32_t width = (source.width + by - 1) / by, height = (source.height + by - 1) / by;
     canvas flat = canvas_of(source.width, height), both = canvas_of(width, height);
     mean_of_lines(canvas_image(&flat), source, ROWS, by);
@@ -90,7 +90,7 @@ canvas scale_down(pix_source_rgba16 source, uint32_t by) {
 
 /* Adds up lines of the source in each line of a clear image, each at the share that it has of it: line i reaches over
  * the i-th of the equal parts of the source. */
-static void share_lines(pix_image_rgba16 image, pix_source_rgba16 source, lines way) {
+static void share_lines(pix_image_rgba16 image, pix_view_rgba16 source, lines way) {
     const uint64_t count = way == COLUMNS ? image.width : image.height;
     const uint64_t all = way == COLUMNS ? source.width : source.height;
     const uint32_t length = way == COLUMNS ? image.height : image.width;
@@ -112,7 +112,7 @@ static void share_lines(pix_image_rgba16 image, pix_source_rgba16 source, lines 
     free(list);
 }
 
-canvas scale_to(pix_source_rgba16 source, uint32_t width, uint32_t height) {
+canvas scale_to(pix_view_rgba16 source, uint32_t width, uint32_t height) {
     canvas flat = canvas_of(source.width, height), both = canvas_of(width, height);
     share_lines(canvas_image(&flat), source, ROWS);
     share_lines(canvas_image(&both), canvas_source(&flat), COLUMNS);

@@ -14,21 +14,21 @@ typedef struct {
 canvas canvas_of(uint32_t width, uint32_t height);
 void canvas_free(canvas *it);
 pix_image_rgba16 canvas_image(const canvas *it);
-pix_source_rgba16 canvas_source(const canvas *it);
+pix_view_rgba16 canvas_source(const canvas *it);
 
 /* Ends the program with a sentence where a call was refused, which no call of this program should be. */
 void insist(pix_status status);
 void *insist_memory(void *memory);
 
 /* Makes a picture of squares of `times` by `times` pixels, one for each pixel of the source. */
-canvas scale_up(pix_source_rgba16 source, uint32_t times);
+canvas scale_up(pix_view_rgba16 source, uint32_t times);
 
 /* Makes a picture whose pixels are the means of squares of `by` by `by` pixels. Where a side is no multiple of `by`,
  * its last pixels stand for those that are missing, too. */
-canvas scale_down(pix_source_rgba16 source, uint32_t by);
+canvas scale_down(pix_view_rgba16 source, uint32_t by);
 
 /* Makes a picture of this size: each of its pixels is the mean of the part of the source that it covers, of parts of
  * pixels too. */
-canvas scale_to(pix_source_rgba16 source, uint32_t width, uint32_t height);
+canvas scale_to(pix_view_rgba16 source, uint32_t width, uint32_t height);
 
 #endif

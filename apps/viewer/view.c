@@ -48,18 +48,18 @@ static void set_zoom(view *it, int zoom) {
 }
 
 /* Forgets what was painted and made of a picture. */
-static void set_picture(view *it, pix_source_rgba16 picture) {
+static void set_picture(view *it, pix_view_rgba16 picture) {
     canvas_free(&it->shrunk);
     memset(&it->painted, 0, sizeof it->painted);
     it->picture = picture;
 }
 
-void view_show(view *it, pix_source_rgba16 picture) {
+void view_show(view *it, pix_view_rgba16 picture) {
     set_picture(it, picture);
     view_fit(it, it->fits ? it->fits : 1);
 }
 
-void view_show_turned(view *it, pix_source_rgba16 picture) {
+void view_show_turned(view *it, pix_view_rgba16 picture) {
     place *to = &it->wanted;
     set_picture(it, picture);
     set_zoom(it, to->zoom);
@@ -69,7 +69,7 @@ void view_show_turned(view *it, pix_source_rgba16 picture) {
         view_fit(it, it->fits);
 }
 
-void view_open(view *it, pix_source_rgba16 picture, uint32_t width, uint32_t height) {
+void view_open(view *it, pix_view_rgba16 picture, uint32_t width, uint32_t height) {
     memset(it, 0, sizeof *it);
     it->wanted.width = width;
     it->wanted.height = height;
@@ -156,9 +156,9 @@ static int is_shrunk(const view *it) {
 }
 
 /* The picture as it is seen in a part of the window, with where it lies there; `made` is to be freed after its use. */
-static pix_source_rgba16 shown(view *it, pix_region part, pix_region *to, canvas *made) {
+static pix_view_rgba16 shown(view *it, pix_region part, pix_region *to, canvas *made) {
     const place *at = &it->wanted;
-    pix_source_rgba16 source = it->picture;
+    pix_view_rgba16 source = it->picture;
     if (at->zoom == 1) {
         *to = pix_region_of(at->x, at->y, source.width, source.height);
         return source;
@@ -205,7 +205,7 @@ static size_t add_cells(pix_command_rgba16 *list, const place *at, pix_region fr
 /* Writes pixels as the bytes of a part of the screen. */
 static void encode(const canvas *tile, SDL_Surface *screen, pix_region part) {
     pix_bitmap image = pix_bitmap_of_image_rgba16(canvas_image(tile));
-    insist(pix_convert_bitmap(pix_bitmap_source_of_bitmap(image), pix_part_of_bitmap(view_bitmap(screen), part)));
+    insist(pix_convert_bitmap(pix_bitmap_view_of_bitmap(image), pix_part_of_bitmap(view_bitmap(screen), part)));
 }
 
 /* Paints a part of the window: as a tile, by the commands of the whole window. */
@@ -213,7 +213,7 @@ static void paint_part(view *it, pix_region part) {
     const place *at = &it->wanted;
     canvas tile = canvas_of(part.width, part.height), made = {NULL, 0, 0};
     pix_region frame;
-    pix_source_rgba16 source = shown(it, part, &frame, &made);
+    pix_view_rgba16 source = shown(it, part, &frame, &made);
     pix_region picture = pix_region_of(at->x, at->y, at->wide, at->high);
     size_t most = (size_t)(part.width / CELL + 2) * (part.height / CELL + 2) + 3, count = 0;
     pix_command_rgba16 *list = insist_memory(malloc(most * sizeof *list));
@@ -222,7 +222,7 @@ static void paint_part(view *it, pix_region part) {
     count += add_cells(list + count, at, picture, part);
     list[count++] =
         pix_composite_image_rgba16(frame, source, pix_region_of(0, 0, source.width, source.height), PIX_OP_SRC_OVER);
-    insist(pix_run_in_rgba16(canvas_image(&tile), (uint32_t)part.x, (uint32_t)part.y, list, count, NULL));
+    insist(pix_run_window_rgba16(canvas_image(&tile), (uint32_t)part.x, (uint32_t)part.y, list, count, NULL));
     encode(&tile, it->screen, part);
     free(list);
     canvas_free(&made);
@@ -245,7 +245,7 @@ static SDL_Rect move_screen(view *it, SDL_Surface *screen) {
         SDL_Rect all = {0, 0, screen->w, screen->h};
         SDL_IntersectRect(&old, &all, &covered);
         insist(pix_do(rows_of(screen), pix_copy_image(pix_region_of(old.x, old.y, (uint32_t)old.w, (uint32_t)old.h),
-                                                      pix_source_of_image(rows_of(it->screen)),
+                                                      pix_view_of_image(rows_of(it->screen)),
                                                       pix_region_of(0, 0, (uint32_t)old.w, (uint32_t)old.h))));
     }
     return covered;

@@ -15,7 +15,7 @@ typedef struct {
 } place;
 
 typedef struct {
-    pix_source_rgba16 picture; /* premultiplied, at its own size */
+    pix_view_rgba16 picture; /* premultiplied, at its own size */
     canvas shrunk; /* the picture at a zoom below 1, made once for each size; null pixels where there is none */
     int shrunk_at;
     int fits; /* the `most` of view_fit where the zoom follows the size of the window, and else 0 */
@@ -32,15 +32,15 @@ typedef struct {
 enum { LEAST_ZOOM = -64, MOST_ZOOM = 64, EXACTLY = -1 };
 
 /* The picture, which must outlive the view, in a window of this size, as large as fits and at most at its own size. */
-void view_open(view *it, pix_source_rgba16 picture, uint32_t width, uint32_t height);
+void view_open(view *it, pix_view_rgba16 picture, uint32_t width, uint32_t height);
 void view_close(view *it);
 
 /* Another picture in the place of the one before: in the window as that was where it fitted, and else at most at its
  * own size. */
-void view_show(view *it, pix_source_rgba16 picture);
+void view_show(view *it, pix_view_rgba16 picture);
 
 /* The same picture, turned: at the same zoom, with its middle in the middle of the window. */
-void view_show_turned(view *it, pix_source_rgba16 picture);
+void view_show_turned(view *it, pix_view_rgba16 picture);
 
 /* What a user does. Nothing is painted: view_paint does that. */
 void view_resize(view *it, uint32_t width, uint32_t height);

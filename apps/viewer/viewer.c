@@ -26,7 +26,7 @@ static int decode(const char *name, canvas *picture) {
     }
     *picture = canvas_of(file.width, file.height);
     insist(pix_convert_bitmap(
-        pix_bitmap_source_of(file.bytes, file.width, file.height, PIX_FORMAT_SRGBA8),
+        pix_bitmap_view_of(file.bytes, file.width, file.height, PIX_FORMAT_SRGBA8),
         pix_bitmap_of_image_rgba16(canvas_image(picture))));
     free(file.bytes);
     return 1;
@@ -86,7 +86,7 @@ static void save(const char *name, SDL_Surface *screen) {
     char sentence[FILE_SENTENCE];
     file.bytes = insist_memory(malloc((size_t)4 * file.width * file.height));
     insist(
-        pix_convert_bitmap(pix_bitmap_source_of_bitmap(view_bitmap(screen)),
+        pix_convert_bitmap(pix_bitmap_view_of_bitmap(view_bitmap(screen)),
                            pix_bitmap_of(file.bytes, file.width, file.height, PIX_FORMAT_SRGBA8)));
     if (!file_write_png(name, &file, sentence))
         fail(1, "", sentence);

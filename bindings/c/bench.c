@@ -55,7 +55,7 @@ int main(void) {
         values[i] = (uint8_t)below(256);
     }
     const pix_image image = pix_image_of(pixels, SIDE, SIDE);
-    const pix_source source = pix_source_of(other, SIDE, SIDE);
+    const pix_view source = pix_view_of(other, SIDE, SIDE);
     const pix_region whole = pix_region_of(0, 0, SIDE, SIDE), nothing = pix_region_of(0, 0, 0, 0);
     const pix_rgba8 color = pix_rgba8_of(96, 32, 64, 128);
     row("SrcOver of an image", image, pix_composite_image(whole, source, whole, PIX_OP_SRC_OVER), 1, POINTS);

@@ -66,7 +66,7 @@ static void compare_each_pair(void) {
             fill(dst, sizeof dst);
             memcpy(wanted, dst, sizeof dst);
             plain_rows_of(format, target, src, 0, wanted, 0, PIXELS, 1);
-            insist(pix_convert_bitmap(pix_bitmap_source_of(src, PIXELS, 1, format), image) == PIX_OK, "a row is refused");
+            insist(pix_convert_bitmap(pix_bitmap_view_of(src, PIXELS, 1, format), image) == PIX_OK, "a row is refused");
             if (memcmp(dst, wanted, sizeof dst)) {
                 fprintf(stderr, "formats %u and %u: ", from, to);
                 insist(0, "another row than the model's");
@@ -83,7 +83,7 @@ static void compare_with_the_model(void) {
     fill(dst, ROOM);
     memcpy(wanted, dst, ROOM);
     uint8_t *src_top = top(src + shift, src_stride, height);
-    pix_bitmap_source source = {src_top, width, height, src_stride, from};
+    pix_bitmap_view source = {src_top, width, height, src_stride, from};
     pix_bitmap target = {top(dst + shift, dst_stride, height), width, height, dst_stride, to};
     plain_rows_of(from, to, src_top, src_stride, top(wanted + shift, dst_stride, height), dst_stride, width, height);
     insist(pix_convert_bitmap(source, target) == PIX_OK, "a bitmap is refused");
@@ -107,7 +107,7 @@ static void compare_with_the_model(void) {
 
 static void refusals(void) {
     static uint8_t src[64 + 64], dst[64];
-    pix_bitmap_source source = pix_bitmap_source_of(src, 4, 4, PIX_FORMAT_SRGBA8);
+    pix_bitmap_view source = pix_bitmap_view_of(src, 4, 4, PIX_FORMAT_SRGBA8);
     pix_bitmap target = pix_bitmap_of(dst, 4, 4, PIX_FORMAT_RGBA8P), other;
     insist(pix_convert_bitmap(source, target) == PIX_OK, "a bitmap of four by four is refused");
     other = target, other.format = (pix_format)PIX_FORMAT_COUNT;
@@ -129,11 +129,11 @@ static void refusals(void) {
     other = target, other.pixels = src + 48 + 60, other.stride = -16;
     insist(pix_convert_bitmap(source, other) == PIX_OVERLAP, "the two share four bytes, upwards");
     /* the library tests the true lengths */
-    insist(pix_convert_rows(0, 3, src, 63, dst, 64, 16, 16, 4, 4) == PIX_BAD_SOURCE, "a byte is missing in the source");
-    insist(pix_convert_rows(0, 3, src, 64, dst, 63, 16, 16, 4, 4) == PIX_BAD_SIZE, "a byte is missing");
-    insist(pix_convert_rows(0, 3, src, 64, dst, 64, 16, INT64_MIN, 4, 1) == PIX_OK, "one row, however far apart");
-    insist(pix_convert_rows(0, 3, src, 64, dst, 64, 16, INT64_MIN, 4, 4) == PIX_BAD_SIZE, "rows too far apart");
-    insist(pix_convert_rows(0, 3, src, 64, dst, 64, 0, 0, 0, 2147483648u) == PIX_BAD_SIZE, "too many rows");
+    insist(pix_raw_convert_bitmap(0, 3, src, 63, dst, 64, 16, 16, 4, 4) == PIX_BAD_SOURCE, "a byte is missing in the source");
+    insist(pix_raw_convert_bitmap(0, 3, src, 64, dst, 63, 16, 16, 4, 4) == PIX_BAD_SIZE, "a byte is missing");
+    insist(pix_raw_convert_bitmap(0, 3, src, 64, dst, 64, 16, INT64_MIN, 4, 1) == PIX_OK, "one row, however far apart");
+    insist(pix_raw_convert_bitmap(0, 3, src, 64, dst, 64, 16, INT64_MIN, 4, 4) == PIX_BAD_SIZE, "rows too far apart");
+    insist(pix_raw_convert_bitmap(0, 3, src, 64, dst, 64, 0, 0, 0, 2147483648u) == PIX_BAD_SIZE, "too many rows");
     other = target, other.width = 2147483648u, other.stride = PTRDIFF_MIN;
     insist(pix_convert_in_place(other, PIX_FORMAT_RGBA8) == PIX_BAD_SIZE, "too wide in place");
     other = target, other.height = 2147483648u;
@@ -168,12 +168,12 @@ static void comes_back(pix_format format, int channels) {
     shoot(photo, channels);
     pix_image_rgba16 image = pix_image_of_rgba16(light, WIDTH, HEIGHT);
     pix_bitmap out = pix_bitmap_of(back, WIDTH, HEIGHT, format);
-    insist(pix_convert_bitmap(pix_bitmap_source_of(photo, WIDTH, HEIGHT, format), pix_bitmap_of_image_rgba16(image)) == PIX_OK,
+    insist(pix_convert_bitmap(pix_bitmap_view_of(photo, WIDTH, HEIGHT, format), pix_bitmap_of_image_rgba16(image)) == PIX_OK,
            "a photograph is refused");
     pix_region painted = pix_region_of(100, 50, 64, 64);
     insist(pix_do_rgba16(image, pix_composite_color_rgba16(painted, pix_rgba16_of(9000, 0, 0, 30000), PIX_OP_SRC_OVER)) == PIX_OK,
            "a color is refused");
-    insist(pix_convert_bitmap(pix_bitmap_source_of_bitmap(pix_bitmap_of_image_rgba16(image)), out) == PIX_OK, "light is refused");
+    insist(pix_convert_bitmap(pix_bitmap_view_of_bitmap(pix_bitmap_of_image_rgba16(image)), out) == PIX_OK, "light is refused");
     size_t changed = 0;
     for (int y = 0; y < HEIGHT; y++)
         for (int x = 0; x < WIDTH; x++)
@@ -194,8 +194,8 @@ static void alphas(void) {
     pix_bitmap wide = pix_bitmap_of_image_rgba16(pix_image_of_rgba16(light, 256, 256));
     for (size_t i = 0; i < sizeof bytes; i++)
         bytes[i] = (uint8_t)(i % 4 == 3 ? i / 1024 : i % 4 * 70 + i / 4 % 256);
-    insist(pix_convert_bitmap(pix_bitmap_source_of(bytes, 256, 256, PIX_FORMAT_SRGBA8), wide) == PIX_OK
-               && pix_convert_bitmap(pix_bitmap_source_of_bitmap(wide), pix_bitmap_of(back, 256, 256, PIX_FORMAT_SRGBA8)) == PIX_OK,
+    insist(pix_convert_bitmap(pix_bitmap_view_of(bytes, 256, 256, PIX_FORMAT_SRGBA8), wide) == PIX_OK
+               && pix_convert_bitmap(pix_bitmap_view_of_bitmap(wide), pix_bitmap_of(back, 256, 256, PIX_FORMAT_SRGBA8)) == PIX_OK,
            "pixels of each alpha are refused");
     for (int alpha = 0; alpha < 256; alpha++) {
         const uint8_t *row = bytes + alpha * 1024, *same = back + alpha * 1024;
@@ -246,7 +246,7 @@ static void patterns(void) {
     for (int i = 0; i < 2000; i++) {
         const pix_region to = pix_region_of((int32_t)below(40) - 20, (int32_t)below(40) - 20, below(30), below(30));
         const pix_region from = pix_region_of((int32_t)below(4), (int32_t)below(3), below(3), below(3));
-        const pix_source source = pix_source_of(tile, 6, 5);
+        const pix_view source = pix_view_of(tile, 6, 5);
         const uint64_t count = pix_repeat_image(NULL, 0, to, source, from, PIX_OP_SRC_OVER);
         insist(count <= 900 && count == (from.width && from.height
                                              ? (uint64_t)((to.width + from.width - 1) / from.width)
@@ -269,7 +269,7 @@ static void patterns(void) {
             }
     }
     const pix_region far = pix_region_of(INT32_MAX - 1, INT32_MIN, INT32_MAX, 7), one = pix_region_of(0, 0, 1, 3);
-    insist(pix_repeat_image(list, 1, far, pix_source_of(tile, 6, 5), one, PIX_OP_PLUS) == 6, "a pattern at the greatest place");
+    insist(pix_repeat_image(list, 1, far, pix_view_of(tile, 6, 5), one, PIX_OP_PLUS) == 6, "a pattern at the greatest place");
     insist(list[0].to.x == INT32_MAX - 1 && list[0].to.y == INT32_MIN && list[0].to.width == 1, "its first copy");
 }
 

@@ -33,7 +33,7 @@ static void write_ppm(const char *name, const void *bytes, unsigned width, unsig
 /* Encodes an image of 64 by 36 pixels for a screen, and writes it as a PPM file. */
 static void save(pix_image image, const char *name) {
     static uint8_t bytes[3 * 64 * 36];
-    check(pix_convert_bitmap(pix_bitmap_source_of_bitmap(pix_bitmap_of_image(image)),
+    check(pix_convert_bitmap(pix_bitmap_view_of_bitmap(pix_bitmap_of_image(image)),
                              pix_bitmap_of(bytes, image.width, image.height, PIX_FORMAT_SRGB8)));
     write_ppm(name, bytes, image.width, image.height);
 }
@@ -54,7 +54,7 @@ static void draw_ball(pix_rgba8 *pixels) {
 }
 
 /* Composites a sprite over a picture, with its corner at (x, y). Any part of it may lie outside. */
-static void paste(pix_image picture, pix_source sprite, int32_t x, int32_t y) {
+static void paste(pix_image picture, pix_view sprite, int32_t x, int32_t y) {
     pix_region to = pix_region_of(x, y, sprite.width, sprite.height);
     pix_region all = pix_region_of(0, 0, sprite.width, sprite.height);
     check(pix_do(picture, pix_composite_image(to, sprite, all, PIX_OP_SRC_OVER)));
@@ -68,7 +68,7 @@ static void draw_glyph(pix_image picture, pix_matte glyph, int32_t x, int32_t y,
 }
 
 /* Composites a sprite at one opacity, from 0 (nothing) to 255 (all of it). */
-static void fade(pix_image picture, pix_source sprite, int32_t x, int32_t y, uint8_t opacity) {
+static void fade(pix_image picture, pix_view sprite, int32_t x, int32_t y, uint8_t opacity) {
     pix_region to = pix_region_of(x, y, sprite.width, sprite.height);
     pix_region all = pix_region_of(0, 0, sprite.width, sprite.height);
     check(pix_do(picture, pix_composite_image_alpha(to, sprite, all, opacity, PIX_OP_SRC_OVER)));
@@ -82,20 +82,20 @@ static void glaze(uint8_t *photo, pix_rgba16 *light, uint32_t width, uint32_t he
     pix_region band = pix_region_of(0, (int32_t)height / 3, width, height / 3);
     uint8_t half_white[4] = {255, 255, 255, 128};
     pix_rgba16 color = pix_color_of_rgba16(PIX_FORMAT_SRGBA8, half_white);
-    check(pix_convert_bitmap(pix_bitmap_source_of_bitmap(bytes), in_light));
+    check(pix_convert_bitmap(pix_bitmap_view_of_bitmap(bytes), in_light));
     check(pix_do_rgba16(image, pix_composite_color_rgba16(band, color, PIX_OP_SRC_OVER)));
-    check(pix_convert_bitmap(pix_bitmap_source_of_bitmap(in_light), bytes));
+    check(pix_convert_bitmap(pix_bitmap_view_of_bitmap(in_light), bytes));
 }
 
 /* Makes a table of at most 16 colors of a picture, and the index of each pixel in it. Returns how
  * many colors the table has. */
 static size_t index_picture(const pix_srgb8 *pixels, size_t count, size_t width, pix_srgb8 *table,
                             uint8_t *indices) {
-    size_t made, room = pix_table_work(count) + pix_diffusion_work(width);
+    size_t made, room = pix_quantize_work(count) + pix_diffuse_indexed_work(width);
     pix_srgb8 *work = malloc(room * sizeof *work);
     if (!work)
         exit(1);
-    check(pix_make_table(pixels, count, work, table, 16, &made));
+    check(pix_quantize(pixels, count, work, table, 16, &made));
     check(pix_diffuse_indexed(pix_table_of(table, made), pixels, count, width, work, indices));
     free(work);
     return made;
@@ -109,8 +109,8 @@ static void draw_by_tiles(pix_image picture, const pix_command *commands, size_t
         for (uint32_t left = 0; left < 64; left += 32) {
             pix_region place = pix_region_of((int32_t)left, (int32_t)top, 32, 18);
             pix_region all = pix_region_of(0, 0, 32, 18);
-            check(pix_run_in(tile, left, top, commands, count, NULL));
-            check(pix_do(picture, pix_copy_image(place, pix_source_of_image(tile), all)));
+            check(pix_run_window(tile, left, top, commands, count, NULL));
+            check(pix_do(picture, pix_copy_image(place, pix_view_of_image(tile), all)));
         }
 }
 
@@ -137,7 +137,7 @@ static int read_lake(const char *name, pix_srgb8 *photo) {
 int main(int count, char **words) {
     static pix_rgba8 pixels[64 * 36], ball[16 * 16];
     pix_image picture = pix_image_of(pixels, 64, 36);
-    pix_source sprite = pix_source_of(ball, 16, 16);
+    pix_view sprite = pix_view_of(ball, 16, 16);
     draw_ball(ball);
 
     paint_sky(picture);

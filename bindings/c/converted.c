@@ -83,7 +83,7 @@ static void try_row(const conversion *it) {
     memset(wanted, OLD, ROOM);
     if (it->status == PIX_OK)
         memcpy(wanted, it->wanted, it->dst_len);
-    const uint32_t status = pix_convert_bytes(it->from, it->to, it->src, it->src_len, got, it->dst_len, it->count);
+    const uint32_t status = pix_raw_convert(it->from, it->to, it->src, it->src_len, got, it->dst_len, it->count);
     rows++;
     if (status == (uint32_t)it->status && memcmp(got, wanted, ROOM) == 0)
         return;

@@ -33,7 +33,7 @@ static void make_sun(pix_image_rgba16 sun) {
             bytes[4 * i + 3] = (uint8_t)(alpha < 255 ? alpha : 255);
         }
     }
-    insist(pix_convert_bitmap(pix_bitmap_source_of(bytes, SUN, SUN, PIX_FORMAT_SRGBA8),
+    insist(pix_convert_bitmap(pix_bitmap_view_of(bytes, SUN, SUN, PIX_FORMAT_SRGBA8),
                               pix_bitmap_of_image_rgba16(sun)),
            "sun");
 }
@@ -62,7 +62,7 @@ static void paint_swatches(pix_image_rgba16 image) {
 }
 
 /* Paints the picture by one list. */
-static void paint(pix_image_rgba16 image, pix_source_rgba16 sun, pix_matte16 letters, pix_source_rgba16 swatches) {
+static void paint(pix_image_rgba16 image, pix_view_rgba16 sun, pix_matte16 letters, pix_view_rgba16 swatches) {
     const pix_region whole_sun = pix_region_of(0, 0, SUN, SUN);
     pix_command_rgba16 list[32];
     size_t count = 0, done = 0;
@@ -89,7 +89,7 @@ static void paint(pix_image_rgba16 image, pix_source_rgba16 sun, pix_matte16 let
 /* Writes the picture, encoded by the sRGB curve; it is opaque everywhere. */
 static void save(pix_image_rgba16 image, const char *name) {
     static uint8_t bytes[3 * WIDTH * HEIGHT];
-    insist(pix_convert_bitmap(pix_bitmap_source_of_bitmap(pix_bitmap_of_image_rgba16(image)),
+    insist(pix_convert_bitmap(pix_bitmap_view_of_bitmap(pix_bitmap_of_image_rgba16(image)),
                               pix_bitmap_of(bytes, WIDTH, HEIGHT, PIX_FORMAT_SRGB8)),
            "encoding");
     FILE *file = fopen(name, "wb");
@@ -109,8 +109,8 @@ int main(int argc, char **argv) {
     make_sun(sun_image);
     make_letters(letters);
     paint_swatches(swatch_image);
-    paint(image, pix_source_of_image_rgba16(sun_image), pix_matte16_of(letters, LETTERS * LETTER, LETTER),
-          pix_source_of_image_rgba16(swatch_image));
+    paint(image, pix_view_of_image_rgba16(sun_image), pix_matte16_of(letters, LETTERS * LETTER, LETTER),
+          pix_view_of_image_rgba16(swatch_image));
     save(image, argc > 1 ? argv[1] : "demo.ppm");
     return 0;
 }

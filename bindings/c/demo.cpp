@@ -32,7 +32,7 @@ struct Picture {
     Picture(std::uint32_t w, std::uint32_t h) : width(w), height(h), pixels(std::size_t{w} * h) {}
 
     pix_image_rgba16 image() { return pix_image_of_rgba16(pixels.data(), width, height); }
-    pix_source_rgba16 source() const { return pix_source_of_rgba16(pixels.data(), width, height); }
+    pix_view_rgba16 source() const { return pix_view_of_rgba16(pixels.data(), width, height); }
     pix_region whole() const { return {0, 0, width, height}; }
 
     void run(const std::vector<pix_command_rgba16> &list) {
@@ -58,7 +58,7 @@ Picture make_sun() {
             for (int channel : channels)
                 bytes.push_back(static_cast<std::uint8_t>(channel));
         }
-    insist(pix_convert_bitmap(pix_bitmap_source_of(bytes.data(), sun_side, sun_side, PIX_FORMAT_SRGBA8),
+    insist(pix_convert_bitmap(pix_bitmap_view_of(bytes.data(), sun_side, sun_side, PIX_FORMAT_SRGBA8),
                               pix_bitmap_of_image_rgba16(sun.image())));
     return sun;
 }
@@ -116,7 +116,7 @@ Picture paint() {
 // Writes the picture, encoded by the sRGB curve; it is opaque everywhere.
 void save(Picture picture, const std::string &name) {
     std::string bytes(3 * picture.pixels.size(), '\0');
-    insist(pix_convert_bitmap(pix_bitmap_source_of_bitmap(pix_bitmap_of_image_rgba16(picture.image())),
+    insist(pix_convert_bitmap(pix_bitmap_view_of_bitmap(pix_bitmap_of_image_rgba16(picture.image())),
                               pix_bitmap_of(&bytes[0], picture.width, picture.height, PIX_FORMAT_SRGB8)));
     std::ofstream file(name, std::ios::binary);
     file << "P6\n" << picture.width << ' ' << picture.height << "\n255\n" << bytes;

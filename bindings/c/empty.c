@@ -23,7 +23,7 @@ static void check(int is_well, const char *what, int size) {
 /* One command of each kind. */
 #define LIST_(S, MATTE)                                                                                                \
     static void list##S(pix_command##S *list, pix_region to, pix_region from, uint32_t width, uint32_t height) {       \
-        const pix_source##S source = pix_source_of##S(NULL, width, height);                                            \
+        const pix_view##S source = pix_view_of##S(NULL, width, height);                                            \
         const MATTE mask = MATTE##_of(NULL, width, height);                                                            \
         const pix_command##S clear = pix_clear##S();                                                                   \
         for (int i = 0; i < KINDS; i++)                                                                                \
@@ -44,7 +44,7 @@ LIST_(_graya8, pix_matte)
         memset(&pixel, 0, sizeof pixel);                                                                               \
         list##S(commands, to, from, width, height);                                                                    \
         check(pix_run##S(empty, commands, KINDS, &done) == PIX_OK && done == KINDS, "pix_run" #S, size);               \
-        check(pix_run_in##S(empty, LONG - width, LONG - height, commands, KINDS, &done) == PIX_OK, "pix_run_in" #S,    \
+        check(pix_run_window##S(empty, LONG - width, LONG - height, commands, KINDS, &done) == PIX_OK, "pix_run_window" #S,    \
               size);                                                                                                   \
         check(pix_do##S(empty, commands[PIX_KIND_COMPOSITE_IMAGE]) == PIX_OK, "pix_do" #S, size);                      \
         check(pix_run##S(pix_image_of##S(&pixel, 1, 1), commands, KINDS, &done) == PIX_OK, "pix_run" #S " by none",    \
@@ -64,7 +64,7 @@ static void convert(int size) {
     for (size_t i = 0; i < sizeof formats / sizeof *formats; i++)
         for (size_t j = 0; j < sizeof formats / sizeof *formats; j++) {
             const pix_bitmap image = pix_bitmap_of(NULL, width, height, formats[i]);
-            const pix_bitmap_source source = pix_bitmap_source_of(NULL, width, height, formats[j]);
+            const pix_bitmap_view source = pix_bitmap_view_of(NULL, width, height, formats[j]);
             const int is_larger = pix_format_size(formats[j]) > pix_format_size(formats[i]);
             check(pix_convert_bitmap(source, image) == PIX_OK, "pix_convert_bitmap", size);
             check(pix_convert_in_place(image, formats[j]) == (is_larger ? PIX_BAD_FORMAT : PIX_OK), "pix_convert_in_place",
@@ -77,7 +77,7 @@ static void convert(int size) {
 static void repeat(int size) {
     const pix_region whole = pix_region_of(0, 0, UINT32_MAX, UINT32_MAX), point = pix_region_of(0, 0, 1, 1);
     const pix_region none = pix_region_of(0, 0, sizes[size][0] ? UINT32_MAX : 0, sizes[size][1] ? UINT32_MAX : 0);
-    const pix_source source = pix_source_of(NULL, 0, 0);
+    const pix_view source = pix_view_of(NULL, 0, 0);
     check(pix_repeat_image(NULL, 0, none, source, point, PIX_OP_SRC) == 0, "pix_repeat_image to", size);
     check(pix_repeat_image(NULL, 0, whole, source, none, PIX_OP_SRC) == 0, "pix_repeat_image from", size);
 }
@@ -97,7 +97,7 @@ static void index_none(int size) {
     check(pix_diffuse_indexed_rgba(shades, NULL, 0, 1 << 16, how, shade_work, NULL) == PIX_OK, "pix_diffuse_indexed_rgba", size);
     check(pix_map_indexed_rgba(shades, NULL, 0, NULL) == PIX_OK, "pix_map_indexed_rgba", size);
     check(pix_look_up_rgba(shades, NULL, 0, NULL) == PIX_OK, "pix_look_up_rgba", size);
-    check(pix_make_table_rgba(NULL, 0, 255, NULL, entries, 256, &made) == PIX_OK && !made, "pix_make_table_rgba", size);
+    check(pix_quantize_rgba(NULL, 0, 255, NULL, entries, 256, &made) == PIX_OK && !made, "pix_quantize_rgba", size);
 }
 
 int main(void) {

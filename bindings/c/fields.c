@@ -148,12 +148,12 @@ static outcome model(const plain_kind *kind, const int64_t *n) {
         list[0].alpha = (VALUE)n[OPACITY];                                                                             \
         it.done = 77;                                                                                                  \
         if (is_window)                                                                                                 \
-            it.status = pix_run_window##S((PIXEL *)(void *)it.after.image + n[IMAGE], (size_t)n[IMAGE_COUNT],          \
+            it.status = pix_raw_run_window##S((PIXEL *)(void *)it.after.image + n[IMAGE], (size_t)n[IMAGE_COUNT],          \
                                           (uint32_t)n[LEFT], (uint32_t)n[TOP], (uint32_t)n[IMAGE_WIDTH],               \
                                           (uint32_t)n[IMAGE_HEIGHT], (uint32_t)n[IMAGE_STRIDE], list + n[COMMANDS],    \
                                           (size_t)n[COMMAND_COUNT], &it.done);                                         \
         else                                                                                                           \
-            it.status = pix_run_commands##S((PIXEL *)(void *)it.after.image + n[IMAGE], (size_t)n[IMAGE_COUNT],        \
+            it.status = pix_raw_run##S((PIXEL *)(void *)it.after.image + n[IMAGE], (size_t)n[IMAGE_COUNT],        \
                                             (uint32_t)n[IMAGE_WIDTH], (uint32_t)n[IMAGE_HEIGHT],                       \
                                             (uint32_t)n[IMAGE_STRIDE], list + n[COMMANDS],                             \
                                             (size_t)n[COMMAND_COUNT], &it.done);                                       \
@@ -200,16 +200,16 @@ static void try_fields(const char *name, const plain_kind *kind, outcome (*run)(
     if (!is_same(&base, &same))
         fail(name, "all fields", "not as the model has them");
     for (int field = 0; field < FIELDS; field++) {
-        int64_t kept = n[field];
+        int64_t transparent_index = n[field];
         if (!is_read(kind, command, field))
             continue;
-        n[field] = field == MATTE_COUNT ? kept - 1 : other[field];
+        n[field] = field == MATTE_COUNT ? transparent_index - 1 : other[field];
         const outcome wanted = model(kind, n), got = run(n);
         if (is_same(&wanted, &base))
             fail(name, names[field], "changes nothing, so that this test shows nothing");
         if (!is_same(&wanted, &got))
             fail(name, names[field], "not as the model has it");
-        n[field] = kept;
+        n[field] = transparent_index;
     }
 }
 
@@ -217,7 +217,7 @@ static void try_fields(const char *name, const plain_kind *kind, outcome (*run)(
 static uint32_t convert(uint32_t from, uint32_t to, size_t start, size_t src_len, size_t dst_len, size_t count) {
     static const uint8_t src[12] = {10, 20, 30, 40, 50, 60, 70, 80, 90, 100, 110, 120};
     uint8_t got[12] = {0}, wanted[12] = {0};
-    uint32_t status = pix_convert_bytes(from, to, src + start, src_len, got, dst_len, count);
+    uint32_t status = pix_raw_convert(from, to, src + start, src_len, got, dst_len, count);
     for (size_t i = 0; status == PIX_OK && i < count; i++) {
         const plain_format *source = &plain_formats[from], *target = &plain_formats[to];
         plain_convert(source, target, src + start + i * plain_size(source), wanted + i * plain_size(target));

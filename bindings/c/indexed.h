@@ -255,7 +255,7 @@ static inline uint8_t plain_corrected(int number, int sixteenths, int strength) 
 
 /* Indices by error diffusion: each pixel hands its error on to those that come after it. */
 static inline void plain_diffuse(const pix_srgb8 *entries, size_t len, const pix_srgba8 *pixels, size_t count, size_t width,
-                                 uint8_t alpha, uint8_t kept, pix_diffusion how, uint8_t *indices) {
+                                 uint8_t alpha, uint8_t transparent_index, pix_diffusion how, uint8_t *indices) {
     int(*errors)[4] = (int(*)[4])calloc(count + 1, sizeof *errors);
     size_t step;
     if (!errors)
@@ -266,7 +266,7 @@ static inline void plain_diffuse(const pix_srgb8 *entries, size_t len, const pix
         pix_srgb8 wanted;
         int error[4] = {0, 0, 0, 0};
         if (pixels[k].a < alpha) {
-            indices[k] = kept;
+            indices[k] = transparent_index;
             continue;
         }
         wanted.r = plain_corrected(pixels[k].r, errors[k][0], how.strength);

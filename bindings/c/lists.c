@@ -71,7 +71,7 @@ static void expect_operator(pix_op op, const char *name) {
 
 static void expect_kind(pix_kind kind, const char *name) {
     const pix_region one = pix_region_of(0, 0, 1, 1);
-    const pix_command made = command_of(kind, one, pix_source_of(NULL, 0, 0), one, pix_matte_of(NULL, 0, 0), one,
+    const pix_command made = command_of(kind, one, pix_view_of(NULL, 0, 0), one, pix_matte_of(NULL, 0, 0), one,
                                         pix_rgba8_of(0, 0, 0, 0), 9, PIX_OP_SRC);
     expect(place_of_kind(kind) == (int)kind, "kind", name, "not at its number");
     expect(made.kind == (uint32_t)kind, "kind", name, "made as another one");

@@ -56,7 +56,7 @@ static plain_region plain(pix_region it) {
             return PIX_BAD_SOURCE;                                                                                     \
         return PIX_OK;                                                                                                 \
     }                                                                                                                  \
-    uint32_t pix_run_window##S(PIXEL *pixels, size_t pixel_count, uint32_t left, uint32_t top, uint32_t width,         \
+    uint32_t pix_raw_run_window##S(PIXEL *pixels, size_t pixel_count, uint32_t left, uint32_t top, uint32_t width,         \
                                uint32_t height, uint32_t stride, const pix_command##S *commands,                       \
                                size_t command_count, size_t *done) {                                                   \
         const plain_kind kind = KIND;                                                                                  \
@@ -81,9 +81,9 @@ static plain_region plain(pix_region it) {
         }                                                                                                              \
         return PIX_OK;                                                                                                 \
     }                                                                                                                  \
-    uint32_t pix_run_commands##S(PIXEL *pixels, size_t pixel_count, uint32_t width, uint32_t height, uint32_t stride,  \
+    uint32_t pix_raw_run##S(PIXEL *pixels, size_t pixel_count, uint32_t width, uint32_t height, uint32_t stride,  \
                                  const pix_command##S *commands, size_t command_count, size_t *done) {                 \
-        return pix_run_window##S(pixels, pixel_count, 0, 0, width, height, stride, commands, command_count, done);     \
+        return pix_raw_run_window##S(pixels, pixel_count, 0, 0, width, height, stride, commands, command_count, done);     \
     }
 
 #define FOUR_ {it->color.r, it->color.g, it->color.b, it->color.a}
@@ -95,7 +95,7 @@ OTHER_(, pix_rgba8, RGBA8_, FOUR_)
 OTHER_(_rgba16, pix_rgba16, RGBA16_, FOUR_)
 OTHER_(_graya8, pix_graya8, GRAYA8_, TWO_)
 
-uint32_t pix_convert_bytes(uint32_t from, uint32_t to, const uint8_t *src, size_t src_len, uint8_t *dst, size_t dst_len,
+uint32_t pix_raw_convert(uint32_t from, uint32_t to, const uint8_t *src, size_t src_len, uint8_t *dst, size_t dst_len,
                            size_t count) {
     if (from >= PLAIN_FORMATS || to >= PLAIN_FORMATS)
         return PIX_BAD_FORMAT;
@@ -109,7 +109,7 @@ uint32_t pix_convert_bytes(uint32_t from, uint32_t to, const uint8_t *src, size_
 }
 
 /* Bitmaps. */
-uint32_t pix_pixel_size(uint32_t format) {
+uint32_t pix_raw_format_size(uint32_t format) {
     const plain_stored it = plain_stored_of(format);
     return it.model ? (uint32_t)plain_stored_size(&it) : 0;
 }
@@ -124,7 +124,7 @@ static const uint8_t *row_at(const uint8_t *bytes, int64_t stride, uint64_t heig
     return stride < 0 ? bytes + (height - 1 - y) * (0 - (uint64_t)stride) : bytes + y * (uint64_t)stride;
 }
 
-uint32_t pix_convert_rows(uint32_t from, uint32_t to, const uint8_t *src, size_t src_len, uint8_t *dst, size_t dst_len,
+uint32_t pix_raw_convert_bitmap(uint32_t from, uint32_t to, const uint8_t *src, size_t src_len, uint8_t *dst, size_t dst_len,
                           int64_t src_stride, int64_t dst_stride, uint32_t width, uint32_t height) {
     plain_stored source = plain_stored_of(from), target = plain_stored_of(to);
     size_t size = plain_stored_size(&source), to_size = plain_stored_size(&target);
@@ -142,14 +142,14 @@ uint32_t pix_convert_rows(uint32_t from, uint32_t to, const uint8_t *src, size_t
 }
 
 /* Tables of colors. */
-uint32_t pix_table_nearest(const pix_srgb8 *entries, size_t len, const pix_srgb8 *color, uint8_t *index) {
+uint32_t pix_raw_nearest(const pix_srgb8 *entries, size_t len, const pix_srgb8 *color, uint8_t *index) {
     if (!len || len > 256)
         return PIX_BAD_TABLE;
     *index = plain_nearest(entries, len, *color);
     return PIX_OK;
 }
 
-uint32_t pix_table_match(const pix_srgb8 *entries, size_t len, const pix_srgb8 *pixels, size_t pixel_count,
+uint32_t pix_raw_map_indexed(const pix_srgb8 *entries, size_t len, const pix_srgb8 *pixels, size_t pixel_count,
                          uint8_t *indices, size_t index_count) {
     if (!len || len > 256)
         return PIX_BAD_TABLE;
@@ -160,20 +160,20 @@ uint32_t pix_table_match(const pix_srgb8 *entries, size_t len, const pix_srgb8 *
     return PIX_OK;
 }
 
-uint32_t pix_table_match_alpha(const pix_srgb8 *entries, size_t len, const pix_srgba8 *pixels, size_t pixel_count,
-                               uint8_t alpha, uint8_t kept, uint8_t *indices, size_t index_count) {
+uint32_t pix_raw_map_indexed_alpha(const pix_srgb8 *entries, size_t len, const pix_srgba8 *pixels, size_t pixel_count,
+                               uint8_t alpha, uint8_t transparent_index, uint8_t *indices, size_t index_count) {
     if (!len || len > 256)
         return PIX_BAD_TABLE;
     if (index_count != pixel_count)
         return PIX_BAD_LENGTH;
     for (size_t i = 0; i < pixel_count; i++) {
         pix_srgb8 color = {pixels[i].r, pixels[i].g, pixels[i].b};
-        indices[i] = pixels[i].a < alpha ? kept : plain_nearest(entries, len, color);
+        indices[i] = pixels[i].a < alpha ? transparent_index : plain_nearest(entries, len, color);
     }
     return PIX_OK;
 }
 
-uint32_t pix_table_index(pix_srgb8 *entries, size_t len, size_t *used, const pix_srgb8 *threshold, const pix_srgb8 *pixels,
+uint32_t pix_raw_index_pixels(pix_srgb8 *entries, size_t len, size_t *used, const pix_srgb8 *threshold, const pix_srgb8 *pixels,
                          size_t pixel_count, uint8_t *indices, size_t index_count) {
     pix_srgb8 copy[256];
     uint8_t *found;
@@ -197,7 +197,7 @@ uint32_t pix_table_index(pix_srgb8 *entries, size_t len, size_t *used, const pix
     return all ? PIX_OK : PIX_FULL_TABLE;
 }
 
-uint32_t pix_table_look_up(const pix_srgb8 *entries, size_t len, const uint8_t *indices, size_t index_count,
+uint32_t pix_raw_look_up(const pix_srgb8 *entries, size_t len, const uint8_t *indices, size_t index_count,
                            pix_srgb8 *pixels, size_t pixel_count) {
     if (index_count != pixel_count)
         return PIX_BAD_LENGTH;
@@ -209,7 +209,7 @@ uint32_t pix_table_look_up(const pix_srgb8 *entries, size_t len, const uint8_t *
     return PIX_OK;
 }
 
-uint32_t pix_table_count(const uint8_t *indices, size_t index_count, size_t *counts, size_t len) {
+uint32_t pix_raw_count_indices(const uint8_t *indices, size_t index_count, size_t *counts, size_t len) {
     for (size_t i = 0; i < index_count; i++)
         if (indices[i] >= len)
             return PIX_BAD_INDEX;
@@ -219,7 +219,7 @@ uint32_t pix_table_count(const uint8_t *indices, size_t index_count, size_t *cou
     return PIX_OK;
 }
 
-uint32_t pix_table_pack(uint32_t bits, const uint8_t *indices, size_t index_count, uint8_t *bytes, size_t byte_count) {
+uint32_t pix_raw_pack_row(uint32_t bits, const uint8_t *indices, size_t index_count, uint8_t *bytes, size_t byte_count) {
     if (!bits || bits > 8 || 8 % bits)
         return PIX_BAD_DEPTH;
     if (byte_count != pix_row_size(bits, index_count))
@@ -233,7 +233,7 @@ uint32_t pix_table_pack(uint32_t bits, const uint8_t *indices, size_t index_coun
     return PIX_OK;
 }
 
-uint32_t pix_table_unpack(uint32_t bits, const uint8_t *bytes, size_t byte_count, uint8_t *indices, size_t index_count) {
+uint32_t pix_raw_unpack_row(uint32_t bits, const uint8_t *bytes, size_t byte_count, uint8_t *indices, size_t index_count) {
     if (!bits || bits > 8 || 8 % bits)
         return PIX_BAD_DEPTH;
     if (byte_count != pix_row_size(bits, index_count))
@@ -243,7 +243,7 @@ uint32_t pix_table_unpack(uint32_t bits, const uint8_t *bytes, size_t byte_count
     return PIX_OK;
 }
 
-uint32_t pix_table_refined(const pix_srgb8 *pixels, size_t pixel_count, uint8_t rounds, pix_srgb8 *work, size_t work_len,
+uint32_t pix_raw_quantize_refined(const pix_srgb8 *pixels, size_t pixel_count, uint8_t rounds, pix_srgb8 *work, size_t work_len,
                            pix_srgb8 *entries, size_t len, size_t *made) {
     if (!len || len > 256)
         return PIX_BAD_TABLE;
@@ -254,7 +254,7 @@ uint32_t pix_table_refined(const pix_srgb8 *pixels, size_t pixel_count, uint8_t 
     return PIX_OK;
 }
 
-uint32_t pix_table_refined_alpha(const pix_srgba8 *pixels, size_t pixel_count, uint8_t alpha, uint8_t rounds, pix_srgb8 *work,
+uint32_t pix_raw_quantize_refined_alpha(const pix_srgba8 *pixels, size_t pixel_count, uint8_t alpha, uint8_t rounds, pix_srgb8 *work,
                                  size_t work_len, pix_srgb8 *entries, size_t len, size_t *made) {
     size_t count = 0;
     if (!len || len > 256)
@@ -270,14 +270,14 @@ uint32_t pix_table_refined_alpha(const pix_srgba8 *pixels, size_t pixel_count, u
     return PIX_OK;
 }
 
-uint32_t pix_table_from(const pix_srgb8 *pixels, size_t pixel_count, pix_srgb8 *work, size_t work_len, pix_srgb8 *entries,
+uint32_t pix_raw_quantize(const pix_srgb8 *pixels, size_t pixel_count, pix_srgb8 *work, size_t work_len, pix_srgb8 *entries,
                         size_t len, size_t *made) {
-    return pix_table_refined(pixels, pixel_count, 0, work, work_len, entries, len, made);
+    return pix_raw_quantize_refined(pixels, pixel_count, 0, work, work_len, entries, len, made);
 }
 
-uint32_t pix_table_from_alpha(const pix_srgba8 *pixels, size_t pixel_count, uint8_t alpha, pix_srgb8 *work, size_t work_len,
+uint32_t pix_raw_quantize_alpha(const pix_srgba8 *pixels, size_t pixel_count, uint8_t alpha, pix_srgb8 *work, size_t work_len,
                               pix_srgb8 *entries, size_t len, size_t *made) {
-    return pix_table_refined_alpha(pixels, pixel_count, alpha, 0, work, work_len, entries, len, made);
+    return pix_raw_quantize_refined_alpha(pixels, pixel_count, alpha, 0, work, work_len, entries, len, made);
 }
 
 /* What a diffusion of so many pixels is refused with. */
@@ -294,10 +294,10 @@ static uint32_t diffusion_fault(size_t len, size_t count, size_t width, uint8_t 
 
 /* To entries without an alpha: the color of a pixel that counts is taken as it is. */
 static void diffuse_colors(const pix_srgb8 *entries, size_t len, const pix_srgba8 *pixels, size_t count, size_t width,
-                           uint8_t alpha, uint8_t kept, uint8_t strength, uint8_t serpentine, uint8_t *indices) {
+                           uint8_t alpha, uint8_t transparent_index, uint8_t strength, uint8_t serpentine, uint8_t *indices) {
     seen table[256], *colors = zeros(count, sizeof *colors);
     uint8_t *is_apart = zeros(count, 1);
-    diffusion it = {table, colors, is_apart, len, count, width, kept, strength, serpentine, NULL, NULL};
+    diffusion it = {table, colors, is_apart, len, count, width, transparent_index, strength, serpentine, NULL, NULL};
     for (size_t i = 0; i < len; i++)
         table[i] = opaque_seen(entries[i]);
     for (size_t i = 0; i < count; i++) {
@@ -309,17 +309,17 @@ static void diffuse_colors(const pix_srgb8 *entries, size_t len, const pix_srgba
     free(is_apart);
 }
 
-uint32_t pix_table_diffuse_by_alpha(const pix_srgb8 *entries, size_t len, const pix_srgba8 *pixels, size_t pixel_count,
-                                    size_t width, uint8_t alpha, uint8_t kept, uint8_t strength, uint8_t serpentine,
+uint32_t pix_raw_diffuse_indexed_by_alpha(const pix_srgb8 *entries, size_t len, const pix_srgba8 *pixels, size_t pixel_count,
+                                    size_t width, uint8_t alpha, uint8_t transparent_index, uint8_t strength, uint8_t serpentine,
                                     pix_srgb8 *work, size_t work_len, uint8_t *indices, size_t index_count) {
     const uint32_t fault = diffusion_fault(len, pixel_count, width, strength, serpentine, work_len, index_count);
     (void)work;
     if (!fault)
-        diffuse_colors(entries, len, pixels, pixel_count, width, alpha, kept, strength, serpentine, indices);
+        diffuse_colors(entries, len, pixels, pixel_count, width, alpha, transparent_index, strength, serpentine, indices);
     return fault;
 }
 
-uint32_t pix_table_diffuse_by(const pix_srgb8 *entries, size_t len, const pix_srgb8 *pixels, size_t pixel_count, size_t width,
+uint32_t pix_raw_diffuse_indexed_by(const pix_srgb8 *entries, size_t len, const pix_srgb8 *pixels, size_t pixel_count, size_t width,
                               uint8_t strength, uint8_t serpentine, pix_srgb8 *work, size_t work_len, uint8_t *indices,
                               size_t index_count) {
     const uint32_t fault = diffusion_fault(len, pixel_count, width, strength, serpentine, work_len, index_count);
@@ -337,20 +337,20 @@ uint32_t pix_table_diffuse_by(const pix_srgb8 *entries, size_t len, const pix_sr
     return PIX_OK;
 }
 
-uint32_t pix_table_diffuse(const pix_srgb8 *entries, size_t len, const pix_srgb8 *pixels, size_t pixel_count, size_t width,
+uint32_t pix_raw_diffuse_indexed(const pix_srgb8 *entries, size_t len, const pix_srgb8 *pixels, size_t pixel_count, size_t width,
                            pix_srgb8 *work, size_t work_len, uint8_t *indices, size_t index_count) {
-    return pix_table_diffuse_by(entries, len, pixels, pixel_count, width, 16, 0, work, work_len, indices, index_count);
+    return pix_raw_diffuse_indexed_by(entries, len, pixels, pixel_count, width, 16, 0, work, work_len, indices, index_count);
 }
 
-uint32_t pix_table_diffuse_alpha(const pix_srgb8 *entries, size_t len, const pix_srgba8 *pixels, size_t pixel_count,
-                                 size_t width, uint8_t alpha, uint8_t kept, pix_srgb8 *work, size_t work_len, uint8_t *indices,
+uint32_t pix_raw_diffuse_indexed_alpha(const pix_srgb8 *entries, size_t len, const pix_srgba8 *pixels, size_t pixel_count,
+                                 size_t width, uint8_t alpha, uint8_t transparent_index, pix_srgb8 *work, size_t work_len, uint8_t *indices,
                                  size_t index_count) {
-    return pix_table_diffuse_by_alpha(entries, len, pixels, pixel_count, width, alpha, kept, 16, 0, work, work_len, indices,
+    return pix_raw_diffuse_indexed_by_alpha(entries, len, pixels, pixel_count, width, alpha, transparent_index, 16, 0, work, work_len, indices,
                                       index_count);
 }
 
 /* Tables of colors with an alpha. */
-uint32_t pix_table_rgba_diffuse(const pix_srgba8 *entries, size_t len, const pix_srgba8 *pixels, size_t pixel_count,
+uint32_t pix_raw_diffuse_indexed_rgba(const pix_srgba8 *entries, size_t len, const pix_srgba8 *pixels, size_t pixel_count,
                                 size_t width, uint8_t strength, uint8_t serpentine, pix_srgba8 *work, size_t work_len,
                                 uint8_t *indices, size_t index_count) {
     const uint32_t fault = diffusion_fault(len, pixel_count, width, strength, serpentine, work_len, index_count);
@@ -372,7 +372,7 @@ uint32_t pix_table_rgba_diffuse(const pix_srgba8 *entries, size_t len, const pix
     return PIX_OK;
 }
 
-uint32_t pix_table_rgba_match(const pix_srgba8 *entries, size_t len, const pix_srgba8 *pixels, size_t pixel_count,
+uint32_t pix_raw_map_indexed_rgba(const pix_srgba8 *entries, size_t len, const pix_srgba8 *pixels, size_t pixel_count,
                               uint8_t *indices, size_t index_count) {
     seen *table;
     if (!len || len > 256)
@@ -386,7 +386,7 @@ uint32_t pix_table_rgba_match(const pix_srgba8 *entries, size_t len, const pix_s
     return PIX_OK;
 }
 
-uint32_t pix_table_rgba_look_up(const pix_srgba8 *entries, size_t len, const uint8_t *indices, size_t index_count,
+uint32_t pix_raw_look_up_rgba(const pix_srgba8 *entries, size_t len, const uint8_t *indices, size_t index_count,
                                 pix_srgba8 *pixels, size_t pixel_count) {
     if (index_count != pixel_count)
         return PIX_BAD_LENGTH;
@@ -398,7 +398,7 @@ uint32_t pix_table_rgba_look_up(const pix_srgba8 *entries, size_t len, const uin
     return PIX_OK;
 }
 
-uint32_t pix_table_rgba_from(const pix_srgba8 *pixels, size_t pixel_count, uint8_t rounds, pix_srgba8 *work, size_t work_len,
+uint32_t pix_raw_quantize_rgba(const pix_srgba8 *pixels, size_t pixel_count, uint8_t rounds, pix_srgba8 *work, size_t work_len,
                              pix_srgba8 *entries, size_t len, size_t *made) {
     seen table[256], *colors;
     size_t places[256];

@@ -54,12 +54,12 @@ static seen *all_seen(const pix_srgba8 *pixels, size_t count) {
     return all;
 }
 
-/* Pixels to be diffused, in rows: those that are set apart get the index `kept`, or that of the nearest entry. */
+/* Pixels to be diffused, in rows: those that are set apart get the index `transparent_index`, or that of the nearest entry. */
 typedef struct {
     const seen *entries, *pixels;
     const uint8_t *is_apart;
     size_t len, count, width;
-    int kept, strength, serpentine;
+    int transparent_index, strength, serpentine;
     seen *wanted, *found;
 } diffusion;
 
@@ -87,7 +87,7 @@ static int shared(const diffusion *it, size_t k, int channel) {
 static void diffuse_at(const diffusion *it, size_t k, uint8_t *indices) {
     seen *wanted = &it->wanted[k];
     if (it->is_apart[k]) {
-        indices[k] = it->kept < 0 ? seen_nearest(it->entries, it->len, it->pixels[k]) : (uint8_t)it->kept;
+        indices[k] = it->transparent_index < 0 ? seen_nearest(it->entries, it->len, it->pixels[k]) : (uint8_t)it->transparent_index;
         return;
     }
     wanted->n[3] = shared(it, k, 3);

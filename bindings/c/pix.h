@@ -52,9 +52,9 @@
  * Stack. A call takes no memory, so what it works with is on the stack of its thread. These are the
  * KiB that a thread's stack needs for each call, the thread's own frames among them:
  *
- *     256   pix_make_table_refined, pix_map_indexed, pix_diffuse_indexed, pix_diffuse_indexed_by,
+ *     256   pix_quantize_refined, pix_map_indexed, pix_diffuse_indexed, pix_diffuse_indexed_by,
  *           and all four with _alpha
- *      96   pix_make_table, pix_make_table_alpha, pix_make_table_rgba
+ *      96   pix_quantize, pix_quantize_alpha, pix_quantize_rgba
  *      32   pix_index_pixels, pix_map_indexed_rgba, pix_diffuse_indexed_rgba
  *      16   all others
  *
@@ -172,16 +172,16 @@ typedef struct { pix_rgba16 *pixels; uint32_t width, height, stride; } pix_image
 typedef struct { pix_graya8 *pixels; uint32_t width, height, stride; } pix_image_graya8;
 
 /* An image that is only read. */
-typedef struct { const pix_rgba8 *pixels; uint32_t width, height, stride; } pix_source;
-typedef struct { const pix_rgba16 *pixels; uint32_t width, height, stride; } pix_source_rgba16;
-typedef struct { const pix_graya8 *pixels; uint32_t width, height, stride; } pix_source_graya8;
+typedef struct { const pix_rgba8 *pixels; uint32_t width, height, stride; } pix_view;
+typedef struct { const pix_rgba16 *pixels; uint32_t width, height, stride; } pix_view_rgba16;
+typedef struct { const pix_graya8 *pixels; uint32_t width, height, stride; } pix_view_graya8;
 
 /* An image in any format, as files, windows and other libraries have it. `stride` is the distance
  * from a row to the next, in bytes. 0 means rows without gaps. A negative stride is for rows from
  * bottom to top: `pixels` still points to the top row, which is the last one in memory. What lies
  * between the rows is not changed. */
 typedef struct { void *pixels; uint32_t width, height; ptrdiff_t stride; pix_format format; } pix_bitmap;
-typedef struct { const void *pixels; uint32_t width, height; ptrdiff_t stride; pix_format format; } pix_bitmap_source;
+typedef struct { const void *pixels; uint32_t width, height; ptrdiff_t stride; pix_format format; } pix_bitmap_view;
 
 /* A mask: the fraction of a color or of a source that is composited at each point. It goes from 0
  * (none) to 255 (all), or to 65535 in pix_matte16. pix_matte goes with images of 8 bits a channel,
@@ -260,7 +260,7 @@ static inline pix_region pix_region_of(int32_t x, int32_t y, uint32_t width, uin
 
 /* Views of rows without padding. Set `stride` afterwards where there is some. */
 static inline pix_image pix_image_of(pix_rgba8 *pixels, uint32_t width, uint32_t height);
-static inline pix_source pix_source_of(const pix_rgba8 *pixels, uint32_t width, uint32_t height);
+static inline pix_view pix_view_of(const pix_rgba8 *pixels, uint32_t width, uint32_t height);
 
 static inline pix_matte pix_matte_of(const uint8_t *values, uint32_t width, uint32_t height) {
     pix_matte matte = {values, width, height, width};
@@ -273,7 +273,7 @@ static inline pix_matte16 pix_matte16_of(const uint16_t *values, uint32_t width,
 }
 
 /* An image as a source for another one. */
-static inline pix_source pix_source_of_image(pix_image image);
+static inline pix_view pix_view_of_image(pix_image image);
 
 /* ---- Commands ----
  *
@@ -317,13 +317,13 @@ static inline pix_command pix_clear(void);
 static inline pix_command pix_copy_color(pix_region to, pix_rgba8 color);
 
 /* Replaces the pixels of `to` with those of `from` in a source. */
-static inline pix_command pix_copy_image(pix_region to, pix_source source, pix_region from);
+static inline pix_command pix_copy_image(pix_region to, pix_view source, pix_region from);
 
 /* Composites a color with the pixels of `to`. */
 static inline pix_command pix_composite_color(pix_region to, pix_rgba8 color, pix_op op);
 
 /* Composites the pixels of `from` in a source with those of `to`: a sprite. */
-static inline pix_command pix_composite_image(pix_region to, pix_source source, pix_region from, pix_op op);
+static inline pix_command pix_composite_image(pix_region to, pix_view source, pix_region from, pix_op op);
 
 /* Composites a color, multiplied by the values of `from` in a matte, with the pixels of `to`: a
  * glyph. */
@@ -333,12 +333,12 @@ static inline pix_command pix_composite_matte(pix_region to, pix_matte matte, pi
 /* Composites the pixels of `from` in a source, multiplied by the values of `mask_from` in a mask,
  * with those of `to`: soft edges. All three corners are paired. A point is changed where all three
  * regions have it, and image, source and mask too. */
-static inline pix_command pix_composite_image_matte(pix_region to, pix_source source, pix_region from, pix_matte mask,
+static inline pix_command pix_composite_image_matte(pix_region to, pix_view source, pix_region from, pix_matte mask,
                                                     pix_region mask_from, pix_op op);
 
 /* Composites the pixels of `from` in a source, multiplied by `alpha`, with those of `to`: a fade.
  * An alpha of 255 (65535 for 16 bits) is pix_composite_image. */
-static inline pix_command pix_composite_image_alpha(pix_region to, pix_source source, pix_region from, uint8_t alpha,
+static inline pix_command pix_composite_image_alpha(pix_region to, pix_view source, pix_region from, uint8_t alpha,
                                                     pix_op op);
 
 /* ---- Calls ---- */
@@ -374,7 +374,7 @@ static inline pix_status pix_run(pix_image image, const pix_command *commands, s
  *
  * Returns what pix_run does, and PIX_BAD_SIZE too where left + width or top + height is above
  * 2147483647. */
-static inline pix_status pix_run_in(pix_image window, uint32_t left, uint32_t top, const pix_command *commands,
+static inline pix_status pix_run_window(pix_image window, uint32_t left, uint32_t top, const pix_command *commands,
                                     size_t count, size_t *done);
 
 /* Runs one command. */
@@ -408,7 +408,7 @@ static inline pix_status pix_convert(pix_format from, pix_format to, const void 
  *
  * Returns PIX_OK, PIX_BAD_FORMAT, PIX_BAD_SIZE (dst), PIX_BAD_SOURCE (src, also where its size is
  * another), PIX_NULL or PIX_OVERLAP. */
-static inline pix_status pix_convert_bitmap(pix_bitmap_source src, pix_bitmap dst);
+static inline pix_status pix_convert_bitmap(pix_bitmap_view src, pix_bitmap dst);
 
 /* Does the same in the image's own memory. Its pixels are read in the image's format, and written
  * as those of `to` at the starts of the same rows. A pixel of `to` has no more bytes than one of
@@ -420,10 +420,10 @@ static inline pix_status pix_convert_in_place(pix_bitmap image, pix_format to);
 
 /* Views of rows without gaps. Set `stride` afterwards where there are some. */
 static inline pix_bitmap pix_bitmap_of(void *pixels, uint32_t width, uint32_t height, pix_format format);
-static inline pix_bitmap_source pix_bitmap_source_of(const void *pixels, uint32_t width, uint32_t height, pix_format format);
+static inline pix_bitmap_view pix_bitmap_view_of(const void *pixels, uint32_t width, uint32_t height, pix_format format);
 
 /* The same image, to be read; and an image that commands paint, as a bitmap. */
-static inline pix_bitmap_source pix_bitmap_source_of_bitmap(pix_bitmap image);
+static inline pix_bitmap_view pix_bitmap_view_of_bitmap(pix_bitmap image);
 static inline pix_bitmap pix_bitmap_of_image(pix_image image);
 static inline pix_bitmap pix_bitmap_of_image_rgba16(pix_image_rgba16 image);
 static inline pix_bitmap pix_bitmap_of_image_graya8(pix_image_graya8 image);
@@ -436,7 +436,7 @@ static inline pix_graya8 pix_color_of_graya8(pix_format format, const void *pixe
 
 /* The part of an image that lies in a region, clipped to the image. It has no points where the
  * region lies outside. Its first pixel is the point (0, 0) of the part; to paint in coordinates of
- * the whole image use pix_run_in. */
+ * the whole image use pix_run_window. */
 static inline pix_image pix_part_of(pix_image image, pix_region region);
 static inline pix_image_rgba16 pix_part_of_rgba16(pix_image_rgba16 image, pix_region region);
 static inline pix_image_graya8 pix_part_of_graya8(pix_image_graya8 image, pix_region region);
@@ -446,7 +446,7 @@ static inline pix_bitmap pix_part_of_bitmap(pix_bitmap image, pix_region region)
  * copies lie side by side from its upper left corner on, row by row, and are cut at its other
  * sides. It writes the first `room` commands, and returns how many there are. `commands` may be
  * null where `room` is 0. A copy that begins past 2147483647 is in no image, and is left out. */
-static inline uint64_t pix_repeat_image(pix_command *commands, uint64_t room, pix_region to, pix_source source,
+static inline uint64_t pix_repeat_image(pix_command *commands, uint64_t room, pix_region to, pix_view source,
                                         pix_region from, pix_op op);
 
 /* ---- Tables of colors, for images of indices ----
@@ -474,41 +474,41 @@ static inline pix_status pix_nearest(pix_table table, pix_srgb8 color, uint8_t *
  * PIX_BAD_LENGTH (more pixels than an eighth of PTRDIFF_MAX), PIX_NULL or PIX_OVERLAP. */
 static inline pix_status pix_map_indexed(pix_table table, const pix_srgb8 *pixels, size_t count, uint8_t *indices);
 
-/* Does the same for pixels with an alpha. One whose alpha is below `alpha` gets the index `kept`,
+/* Does the same for pixels with an alpha. One whose alpha is below `alpha` gets the index `transparent_index`,
  * which may be that of a transparent entry. The alpha of the others is not looked at. Where all
- * pixels are below `alpha`, a table of no entry serves too: pix_make_table_alpha makes one of them.
+ * pixels are below `alpha`, a table of no entry serves too: pix_quantize_alpha makes one of them.
  */
 static inline pix_status pix_map_indexed_alpha(pix_table table, const pix_srgba8 *pixels, size_t count, uint8_t alpha,
-                                               uint8_t kept, uint8_t *indices);
+                                               uint8_t transparent_index, uint8_t *indices);
 
-/* Return how many colors of work memory pix_make_table takes for `count` pixels, and
+/* Return how many colors of work memory pix_quantize takes for `count` pixels, and
  * pix_diffuse_indexed for rows of `width` pixels. The second is SIZE_MAX where that is more than
  * memory holds. */
-static inline size_t pix_table_work(size_t count);
-static inline size_t pix_diffusion_work(size_t width);
+static inline size_t pix_quantize_work(size_t count);
+static inline size_t pix_diffuse_indexed_work(size_t width);
 
 /* Writes a table of the colors of `count` pixels, of at most `len` entries, and writes into `made`
  * how many it has. Where there are no more distinct colors than `len`, they are the table, in order
  * of first place. Otherwise they are the means of boxes of colors, which are cut again and again
  * where the squared error falls most. The entries past `made` may hold anything. `work` has
- * pix_table_work(count) colors; for a large picture pass a sample of its pixels. Returns PIX_OK,
+ * pix_quantize_work(count) colors; for a large picture pass a sample of its pixels. Returns PIX_OK,
  * PIX_BAD_TABLE (`len` is 0 or above 256), PIX_BAD_LENGTH, PIX_NULL or PIX_OVERLAP. */
-static inline pix_status pix_make_table(const pix_srgb8 *pixels, size_t count, pix_srgb8 *work, pix_srgb8 *entries, size_t len,
+static inline pix_status pix_quantize(const pix_srgb8 *pixels, size_t count, pix_srgb8 *work, pix_srgb8 *entries, size_t len,
                                         size_t *made);
 
 /* Does the same for pixels with an alpha. Those whose alpha is below `alpha` do not count. Where
  * none counts, `made` is 0. */
-static inline pix_status pix_make_table_alpha(const pix_srgba8 *pixels, size_t count, uint8_t alpha, pix_srgb8 *work,
+static inline pix_status pix_quantize_alpha(const pix_srgba8 *pixels, size_t count, uint8_t alpha, pix_srgb8 *work,
                                               pix_srgb8 *entries, size_t len, size_t *made);
 
-/* Do what pix_make_table and pix_make_table_alpha do. Where there are more distinct colors than
+/* Do what pix_quantize and pix_quantize_alpha do. Where there are more distinct colors than
  * `len`, so many rounds then refine the table. In a round each color goes to its nearest entry, the
  * first of equals. Each entry goes to the mean of its colors, rounded, and stays where it has none.
  * No round makes the sum of the squared errors greater. A round takes about as long as
  * pix_map_indexed, and four are enough for most pictures. */
-static inline pix_status pix_make_table_refined(const pix_srgb8 *pixels, size_t count, uint8_t rounds, pix_srgb8 *work,
+static inline pix_status pix_quantize_refined(const pix_srgb8 *pixels, size_t count, uint8_t rounds, pix_srgb8 *work,
                                                 pix_srgb8 *entries, size_t len, size_t *made);
-static inline pix_status pix_make_table_refined_alpha(const pix_srgba8 *pixels, size_t count, uint8_t alpha, uint8_t rounds,
+static inline pix_status pix_quantize_refined_alpha(const pix_srgba8 *pixels, size_t count, uint8_t alpha, uint8_t rounds,
                                                       pix_srgb8 *work, pix_srgb8 *entries, size_t len, size_t *made);
 
 /* Writes the index of each of `count` pixels, in rows of `width`, with error diffusion (Floyd and
@@ -520,15 +520,15 @@ static inline pix_status pix_make_table_refined_alpha(const pix_srgba8 *pixels, 
  *   - 7 sixteenths of it go to the pixel on the right, 3 to the one below on the left, 5 to the one
  *     below, and 1 to the one below on the right. What would go past the sides of a row is lost.
  *
- * `work` has pix_diffusion_work(width) colors. Returns what pix_map_indexed does, and
+ * `work` has pix_diffuse_indexed_work(width) colors. Returns what pix_map_indexed does, and
  * PIX_BAD_LENGTH too where `width` is 0 or more than memory holds. */
 static inline pix_status pix_diffuse_indexed(pix_table table, const pix_srgb8 *pixels, size_t count, size_t width, pix_srgb8 *work,
                                              uint8_t *indices);
 
-/* Does the same for pixels with an alpha. One whose alpha is below `alpha` gets the index `kept`,
+/* Does the same for pixels with an alpha. One whose alpha is below `alpha` gets the index `transparent_index`,
  * and passes on no error. Where all are below, a table of no entry serves too. */
 static inline pix_status pix_diffuse_indexed_alpha(pix_table table, const pix_srgba8 *pixels, size_t count, size_t width,
-                                                   uint8_t alpha, uint8_t kept, pix_srgb8 *work, uint8_t *indices);
+                                                   uint8_t alpha, uint8_t transparent_index, pix_srgb8 *work, uint8_t *indices);
 
 /* How errors are diffused.
  *
@@ -548,7 +548,7 @@ typedef struct { uint8_t strength; bool serpentine; } pix_diffusion;
 static inline pix_status pix_diffuse_indexed_by(pix_table table, const pix_srgb8 *pixels, size_t count, size_t width,
                                                 pix_diffusion how, pix_srgb8 *work, uint8_t *indices);
 static inline pix_status pix_diffuse_indexed_by_alpha(pix_table table, const pix_srgba8 *pixels, size_t count, size_t width,
-                                                      uint8_t alpha, uint8_t kept, pix_diffusion how, pix_srgb8 *work,
+                                                      uint8_t alpha, uint8_t transparent_index, pix_diffusion how, pix_srgb8 *work,
                                                       uint8_t *indices);
 
 /* Sets the color of each of `count` pixels in a table, one after the other, and writes its index.
@@ -606,13 +606,13 @@ typedef struct { const pix_srgba8 *entries; size_t len; } pix_table_rgba;
 
 static inline pix_table_rgba pix_table_rgba_of(const pix_srgba8 *entries, size_t len);
 
-/* Does what pix_make_table_refined does, with a table of colors with an alpha. Of pixels that are
+/* Does what pix_quantize_refined does, with a table of colors with an alpha. Of pixels that are
  * seen alike the first one counts. Where there is room for all of these, they are the table, just
  * as they are. Otherwise boxes are cut by the alpha too, after red, green and blue over black. In a
  * round an entry also stays where the mean of its colors would make their squared error greater.
  * What is found is divided by its alpha in the end, and is still seen as just that. `work` has
- * pix_table_work(count) pixels. */
-static inline pix_status pix_make_table_rgba(const pix_srgba8 *pixels, size_t count, uint8_t rounds, pix_srgba8 *work,
+ * pix_quantize_work(count) pixels. */
+static inline pix_status pix_quantize_rgba(const pix_srgba8 *pixels, size_t count, uint8_t rounds, pix_srgba8 *work,
                                              pix_srgba8 *entries, size_t len, size_t *made);
 
 /* Writes for each of `count` pixels the index of the entry that is seen nearest to it, the first of
@@ -622,7 +622,7 @@ static inline pix_status pix_map_indexed_rgba(pix_table_rgba table, const pix_sr
 /* Does what pix_diffuse_indexed_by does, with a table of colors with an alpha. Errors are those of
  * the colors over black and of the alpha. What is wanted of a color is at most what is wanted of
  * the alpha. A clear pixel (alpha 0) gets the entry that is seen nearest to it, takes no share, and
- * passes on no error. `work` has pix_diffusion_work(width) pixels. */
+ * passes on no error. `work` has pix_diffuse_indexed_work(width) pixels. */
 static inline pix_status pix_diffuse_indexed_rgba(pix_table_rgba table, const pix_srgba8 *pixels, size_t count, size_t width,
                                                   pix_diffusion how, pix_srgba8 *work, uint8_t *indices);
 
@@ -655,11 +655,11 @@ typedef struct {
     uint8_t alpha;
 } pix_command_graya8;
 
-/* For 16 bits there are pix_image_of_rgba16, pix_source_of_rgba16, pix_source_of_image_rgba16,
+/* For 16 bits there are pix_image_of_rgba16, pix_view_of_rgba16, pix_view_of_image_rgba16,
  * pix_clear_rgba16, pix_copy_color_rgba16, pix_copy_image_rgba16, pix_composite_color_rgba16,
  * pix_composite_image_rgba16, pix_composite_matte_rgba16 and pix_composite_image_matte_rgba16
  * (through a pix_matte16), pix_composite_image_alpha_rgba16 (at a uint16_t), pix_run_rgba16,
- * pix_run_in_rgba16, pix_do_rgba16 and pix_repeat_image_rgba16. The same are there with _graya8
+ * pix_run_window_rgba16, pix_do_rgba16 and pix_repeat_image_rgba16. The same are there with _graya8
  * (through a pix_matte, at a uint8_t). They are defined below, together with those above. */
 
 /* ---- Lists ----
@@ -716,71 +716,71 @@ typedef struct {
  * elements. `stride` is at least the width, and 0 does not stand for it. `serpentine` is 0 where
  * all rows go from left to right. */
 
-uint32_t pix_run_commands(pix_rgba8 *pixels, size_t pixel_count, uint32_t width, uint32_t height, uint32_t stride,
+uint32_t pix_raw_run(pix_rgba8 *pixels, size_t pixel_count, uint32_t width, uint32_t height, uint32_t stride,
                           const pix_command *commands, size_t command_count, size_t *done);
-uint32_t pix_run_commands_rgba16(pix_rgba16 *pixels, size_t pixel_count, uint32_t width, uint32_t height,
+uint32_t pix_raw_run_rgba16(pix_rgba16 *pixels, size_t pixel_count, uint32_t width, uint32_t height,
                                  uint32_t stride, const pix_command_rgba16 *commands, size_t command_count,
                                  size_t *done);
-uint32_t pix_run_commands_graya8(pix_graya8 *pixels, size_t pixel_count, uint32_t width, uint32_t height,
+uint32_t pix_raw_run_graya8(pix_graya8 *pixels, size_t pixel_count, uint32_t width, uint32_t height,
                                  uint32_t stride, const pix_command_graya8 *commands, size_t command_count,
                                  size_t *done);
-uint32_t pix_run_window(pix_rgba8 *pixels, size_t pixel_count, uint32_t left, uint32_t top, uint32_t width,
+uint32_t pix_raw_run_window(pix_rgba8 *pixels, size_t pixel_count, uint32_t left, uint32_t top, uint32_t width,
                         uint32_t height, uint32_t stride, const pix_command *commands, size_t command_count,
                         size_t *done);
-uint32_t pix_run_window_rgba16(pix_rgba16 *pixels, size_t pixel_count, uint32_t left, uint32_t top,
+uint32_t pix_raw_run_window_rgba16(pix_rgba16 *pixels, size_t pixel_count, uint32_t left, uint32_t top,
                                uint32_t width, uint32_t height, uint32_t stride,
                                const pix_command_rgba16 *commands, size_t command_count, size_t *done);
-uint32_t pix_run_window_graya8(pix_graya8 *pixels, size_t pixel_count, uint32_t left, uint32_t top,
+uint32_t pix_raw_run_window_graya8(pix_graya8 *pixels, size_t pixel_count, uint32_t left, uint32_t top,
                                uint32_t width, uint32_t height, uint32_t stride,
                                const pix_command_graya8 *commands, size_t command_count, size_t *done);
-uint32_t pix_convert_bytes(uint32_t from, uint32_t to, const uint8_t *src, size_t src_len, uint8_t *dst, size_t dst_len,
+uint32_t pix_raw_convert(uint32_t from, uint32_t to, const uint8_t *src, size_t src_len, uint8_t *dst, size_t dst_len,
                            size_t count);
 
 /* Bitmaps: `src` and `dst` begin with the row that is lowest in memory, and have the bytes up to
  * the end of the row that is highest. Strides are counted in bytes, and 0 does not stand for the
  * width. A negative stride says that the first row in memory is the bottom one. */
-uint32_t pix_convert_rows(uint32_t from, uint32_t to, const uint8_t *src, size_t src_len, uint8_t *dst, size_t dst_len,
+uint32_t pix_raw_convert_bitmap(uint32_t from, uint32_t to, const uint8_t *src, size_t src_len, uint8_t *dst, size_t dst_len,
                           int64_t src_stride, int64_t dst_stride, uint32_t width, uint32_t height);
-uint32_t pix_pixel_size(uint32_t format);
-uint32_t pix_table_nearest(const pix_srgb8 *entries, size_t len, const pix_srgb8 *color, uint8_t *index);
-uint32_t pix_table_match(const pix_srgb8 *entries, size_t len, const pix_srgb8 *pixels, size_t pixel_count,
+uint32_t pix_raw_format_size(uint32_t format);
+uint32_t pix_raw_nearest(const pix_srgb8 *entries, size_t len, const pix_srgb8 *color, uint8_t *index);
+uint32_t pix_raw_map_indexed(const pix_srgb8 *entries, size_t len, const pix_srgb8 *pixels, size_t pixel_count,
                          uint8_t *indices, size_t index_count);
-uint32_t pix_table_match_alpha(const pix_srgb8 *entries, size_t len, const pix_srgba8 *pixels, size_t pixel_count,
-                               uint8_t alpha, uint8_t kept, uint8_t *indices, size_t index_count);
-uint32_t pix_table_from(const pix_srgb8 *pixels, size_t pixel_count, pix_srgb8 *work, size_t work_len, pix_srgb8 *entries,
+uint32_t pix_raw_map_indexed_alpha(const pix_srgb8 *entries, size_t len, const pix_srgba8 *pixels, size_t pixel_count,
+                               uint8_t alpha, uint8_t transparent_index, uint8_t *indices, size_t index_count);
+uint32_t pix_raw_quantize(const pix_srgb8 *pixels, size_t pixel_count, pix_srgb8 *work, size_t work_len, pix_srgb8 *entries,
                         size_t len, size_t *made);
-uint32_t pix_table_from_alpha(const pix_srgba8 *pixels, size_t pixel_count, uint8_t alpha, pix_srgb8 *work, size_t work_len,
+uint32_t pix_raw_quantize_alpha(const pix_srgba8 *pixels, size_t pixel_count, uint8_t alpha, pix_srgb8 *work, size_t work_len,
                               pix_srgb8 *entries, size_t len, size_t *made);
-uint32_t pix_table_refined(const pix_srgb8 *pixels, size_t pixel_count, uint8_t rounds, pix_srgb8 *work, size_t work_len,
+uint32_t pix_raw_quantize_refined(const pix_srgb8 *pixels, size_t pixel_count, uint8_t rounds, pix_srgb8 *work, size_t work_len,
                            pix_srgb8 *entries, size_t len, size_t *made);
-uint32_t pix_table_refined_alpha(const pix_srgba8 *pixels, size_t pixel_count, uint8_t alpha, uint8_t rounds, pix_srgb8 *work,
+uint32_t pix_raw_quantize_refined_alpha(const pix_srgba8 *pixels, size_t pixel_count, uint8_t alpha, uint8_t rounds, pix_srgb8 *work,
                                  size_t work_len, pix_srgb8 *entries, size_t len, size_t *made);
-uint32_t pix_table_diffuse(const pix_srgb8 *entries, size_t len, const pix_srgb8 *pixels, size_t pixel_count, size_t width,
+uint32_t pix_raw_diffuse_indexed(const pix_srgb8 *entries, size_t len, const pix_srgb8 *pixels, size_t pixel_count, size_t width,
                            pix_srgb8 *work, size_t work_len, uint8_t *indices, size_t index_count);
-uint32_t pix_table_diffuse_alpha(const pix_srgb8 *entries, size_t len, const pix_srgba8 *pixels, size_t pixel_count,
-                                 size_t width, uint8_t alpha, uint8_t kept, pix_srgb8 *work, size_t work_len, uint8_t *indices,
+uint32_t pix_raw_diffuse_indexed_alpha(const pix_srgb8 *entries, size_t len, const pix_srgba8 *pixels, size_t pixel_count,
+                                 size_t width, uint8_t alpha, uint8_t transparent_index, pix_srgb8 *work, size_t work_len, uint8_t *indices,
                                  size_t index_count);
-uint32_t pix_table_diffuse_by(const pix_srgb8 *entries, size_t len, const pix_srgb8 *pixels, size_t pixel_count, size_t width,
+uint32_t pix_raw_diffuse_indexed_by(const pix_srgb8 *entries, size_t len, const pix_srgb8 *pixels, size_t pixel_count, size_t width,
                               uint8_t strength, uint8_t serpentine, pix_srgb8 *work, size_t work_len, uint8_t *indices,
                               size_t index_count);
-uint32_t pix_table_diffuse_by_alpha(const pix_srgb8 *entries, size_t len, const pix_srgba8 *pixels, size_t pixel_count,
-                                    size_t width, uint8_t alpha, uint8_t kept, uint8_t strength, uint8_t serpentine,
+uint32_t pix_raw_diffuse_indexed_by_alpha(const pix_srgb8 *entries, size_t len, const pix_srgba8 *pixels, size_t pixel_count,
+                                    size_t width, uint8_t alpha, uint8_t transparent_index, uint8_t strength, uint8_t serpentine,
                                     pix_srgb8 *work, size_t work_len, uint8_t *indices, size_t index_count);
-uint32_t pix_table_index(pix_srgb8 *entries, size_t len, size_t *used, const pix_srgb8 *threshold, const pix_srgb8 *pixels,
+uint32_t pix_raw_index_pixels(pix_srgb8 *entries, size_t len, size_t *used, const pix_srgb8 *threshold, const pix_srgb8 *pixels,
                          size_t pixel_count, uint8_t *indices, size_t index_count);
-uint32_t pix_table_look_up(const pix_srgb8 *entries, size_t len, const uint8_t *indices, size_t index_count,
+uint32_t pix_raw_look_up(const pix_srgb8 *entries, size_t len, const uint8_t *indices, size_t index_count,
                            pix_srgb8 *pixels, size_t pixel_count);
-uint32_t pix_table_count(const uint8_t *indices, size_t index_count, size_t *counts, size_t len);
-uint32_t pix_table_pack(uint32_t bits, const uint8_t *indices, size_t index_count, uint8_t *bytes, size_t byte_count);
-uint32_t pix_table_unpack(uint32_t bits, const uint8_t *bytes, size_t byte_count, uint8_t *indices, size_t index_count);
-uint32_t pix_table_rgba_from(const pix_srgba8 *pixels, size_t pixel_count, uint8_t rounds, pix_srgba8 *work, size_t work_len,
+uint32_t pix_raw_count_indices(const uint8_t *indices, size_t index_count, size_t *counts, size_t len);
+uint32_t pix_raw_pack_row(uint32_t bits, const uint8_t *indices, size_t index_count, uint8_t *bytes, size_t byte_count);
+uint32_t pix_raw_unpack_row(uint32_t bits, const uint8_t *bytes, size_t byte_count, uint8_t *indices, size_t index_count);
+uint32_t pix_raw_quantize_rgba(const pix_srgba8 *pixels, size_t pixel_count, uint8_t rounds, pix_srgba8 *work, size_t work_len,
                              pix_srgba8 *entries, size_t len, size_t *made);
-uint32_t pix_table_rgba_match(const pix_srgba8 *entries, size_t len, const pix_srgba8 *pixels, size_t pixel_count,
+uint32_t pix_raw_map_indexed_rgba(const pix_srgba8 *entries, size_t len, const pix_srgba8 *pixels, size_t pixel_count,
                               uint8_t *indices, size_t index_count);
-uint32_t pix_table_rgba_diffuse(const pix_srgba8 *entries, size_t len, const pix_srgba8 *pixels, size_t pixel_count,
+uint32_t pix_raw_diffuse_indexed_rgba(const pix_srgba8 *entries, size_t len, const pix_srgba8 *pixels, size_t pixel_count,
                                 size_t width, uint8_t strength, uint8_t serpentine, pix_srgba8 *work, size_t work_len,
                                 uint8_t *indices, size_t index_count);
-uint32_t pix_table_rgba_look_up(const pix_srgba8 *entries, size_t len, const uint8_t *indices, size_t index_count,
+uint32_t pix_raw_look_up_rgba(const pix_srgba8 *entries, size_t len, const uint8_t *indices, size_t index_count,
                                 pix_srgba8 *pixels, size_t pixel_count);
 
 /* Fact number `index` of the library. The first is its version; the sizes and offsets of PIX_FACTS_
@@ -928,12 +928,12 @@ static inline const char *pix_status_text(pix_status status) {
         pix_image##S image = {pixels, width, height, width};                                                           \
         return image;                                                                                                  \
     }                                                                                                                  \
-    static inline pix_source##S pix_source_of##S(const PIXEL *pixels, uint32_t width, uint32_t height) {               \
-        pix_source##S source = {pixels, width, height, width};                                                         \
+    static inline pix_view##S pix_view_of##S(const PIXEL *pixels, uint32_t width, uint32_t height) {               \
+        pix_view##S source = {pixels, width, height, width};                                                         \
         return source;                                                                                                 \
     }                                                                                                                  \
-    static inline pix_source##S pix_source_of_image##S(pix_image##S image) {                                           \
-        pix_source##S source = {image.pixels, image.width, image.height, image.stride};                                \
+    static inline pix_view##S pix_view_of_image##S(pix_image##S image) {                                           \
+        pix_view##S source = {image.pixels, image.width, image.height, image.stride};                                \
         return source;                                                                                                 \
     }                                                                                                                  \
     /* A command without a source. */                                                                                  \
@@ -956,7 +956,7 @@ static inline const char *pix_status_text(pix_status status) {
         command.color = color;                                                                                         \
         return command;                                                                                                \
     }                                                                                                                  \
-    static inline pix_command##S pix_copy_image##S(pix_region to, pix_source##S source, pix_region from) {             \
+    static inline pix_command##S pix_copy_image##S(pix_region to, pix_view##S source, pix_region from) {             \
         pix_command##S command = pix_command_of_##S(PIX_KIND_COPY_IMAGE, PIX_OP_SRC, to, from);                        \
         PIX_NOTE_(source, pixels, pixels, pixel_count);                                                                \
         return command;                                                                                                \
@@ -966,7 +966,7 @@ static inline const char *pix_status_text(pix_status status) {
         command.color = color;                                                                                         \
         return command;                                                                                                \
     }                                                                                                                  \
-    static inline pix_command##S pix_composite_image##S(pix_region to, pix_source##S source, pix_region from,          \
+    static inline pix_command##S pix_composite_image##S(pix_region to, pix_view##S source, pix_region from,          \
                                                         pix_op op) {                                                   \
         pix_command##S command = pix_command_of_##S(PIX_KIND_COMPOSITE_IMAGE, op, to, from);                           \
         PIX_NOTE_(source, pixels, pixels, pixel_count);                                                                \
@@ -979,14 +979,14 @@ static inline const char *pix_status_text(pix_status status) {
         PIX_NOTE_(matte, mattes, values, matte_count);                                                                 \
         return command;                                                                                                \
     }                                                                                                                  \
-    static inline pix_command##S pix_composite_image_matte##S(pix_region to, pix_source##S source, pix_region from,    \
+    static inline pix_command##S pix_composite_image_matte##S(pix_region to, pix_view##S source, pix_region from,    \
                                                               MATTE matte, pix_region matte_from, pix_op op) {         \
         pix_command##S command = pix_command_of_##S(PIX_KIND_COMPOSITE_IMAGE_MATTE, op, to, from);                     \
         PIX_NOTE_(source, pixels, pixels, pixel_count);                                                                \
         PIX_NOTE_MASK_(matte, matte_from);                                                                             \
         return command;                                                                                                \
     }                                                                                                                  \
-    static inline pix_command##S pix_composite_image_alpha##S(pix_region to, pix_source##S source, pix_region from,    \
+    static inline pix_command##S pix_composite_image_alpha##S(pix_region to, pix_view##S source, pix_region from,    \
                                                               VALUE opacity, pix_op op) {                              \
         pix_command##S command = pix_command_of_##S(PIX_KIND_COMPOSITE_IMAGE_ALPHA, op, to, from);                     \
         PIX_NOTE_(source, pixels, pixels, pixel_count);                                                                \
@@ -1020,10 +1020,10 @@ static inline const char *pix_status_text(pix_status status) {
             at += status == PIX_OK;                                                                                    \
         }                                                                                                              \
         if (status == PIX_OK && corner)                                                                                \
-            status = (pix_status)pix_run_window##S((PIXEL *)pixels, extent, corner[0], corner[1], image.width,         \
+            status = (pix_status)pix_raw_run_window##S((PIXEL *)pixels, extent, corner[0], corner[1], image.width,         \
                                                    image.height, stride, (const pix_command##S *)list, count, &at);    \
         else if (status == PIX_OK)                                                                                     \
-            status = (pix_status)pix_run_commands##S((PIXEL *)pixels, extent, image.width, image.height, stride,       \
+            status = (pix_status)pix_raw_run##S((PIXEL *)pixels, extent, image.width, image.height, stride,       \
                                                      (const pix_command##S *)list, count, &at);                        \
         if (done && !is_inside)                                                                                        \
             *done = at;                                                                                                \
@@ -1033,7 +1033,7 @@ static inline const char *pix_status_text(pix_status status) {
                                         size_t *done) {                                                                \
         return pix_call_##S(image, NULL, commands, count, done);                                                       \
     }                                                                                                                  \
-    static inline pix_status pix_run_in##S(pix_image##S window, uint32_t left, uint32_t top,                           \
+    static inline pix_status pix_run_window##S(pix_image##S window, uint32_t left, uint32_t top,                           \
                                            const pix_command##S *commands, size_t count, size_t *done) {               \
         uint32_t corner[2];                                                                                            \
         corner[0] = left;                                                                                              \
@@ -1052,7 +1052,7 @@ PIX_CALLS_(_rgba16, pix_rgba16, uint16_t)
 PIX_CALLS_(_graya8, pix_graya8, uint8_t)
 
 static inline size_t pix_format_size(pix_format format) {
-    return pix_pixel_size((uint32_t)format);
+    return pix_raw_format_size((uint32_t)format);
 }
 
 static inline pix_status pix_convert(pix_format from, pix_format to, const void *src, void *dst, size_t count) {
@@ -1070,7 +1070,7 @@ static inline pix_status pix_convert(pix_format from, pix_format to, const void 
     status = pix_apart_(dst, count * dst_size, src, count * src_size);
     if (status != PIX_OK)
         return status;
-    return (pix_status)pix_convert_bytes((uint32_t)from, (uint32_t)to, (const uint8_t *)src, count * src_size,
+    return (pix_status)pix_raw_convert((uint32_t)from, (uint32_t)to, (const uint8_t *)src, count * src_size,
                                          (uint8_t *)dst, count * dst_size, count);
 }
 
@@ -1079,14 +1079,14 @@ static inline pix_bitmap pix_bitmap_of(void *pixels, uint32_t width, uint32_t he
     return image;
 }
 
-static inline pix_bitmap_source pix_bitmap_source_of(const void *pixels, uint32_t width, uint32_t height,
+static inline pix_bitmap_view pix_bitmap_view_of(const void *pixels, uint32_t width, uint32_t height,
                                                      pix_format format) {
-    pix_bitmap_source image = {pixels, width, height, 0, format};
+    pix_bitmap_view image = {pixels, width, height, 0, format};
     return image;
 }
 
-static inline pix_bitmap_source pix_bitmap_source_of_bitmap(pix_bitmap image) {
-    pix_bitmap_source source = {image.pixels, image.width, image.height, image.stride, image.format};
+static inline pix_bitmap_view pix_bitmap_view_of_bitmap(pix_bitmap image) {
+    pix_bitmap_view source = {image.pixels, image.width, image.height, image.stride, image.format};
     return source;
 }
 
@@ -1094,7 +1094,7 @@ static inline pix_bitmap_source pix_bitmap_source_of_bitmap(pix_bitmap image) {
  * highest. `length` is 0 where no memory could hold them, and then the library refuses the size. */
 typedef struct { const uint8_t *lowest; size_t length; int64_t stride; } pix_bytes_;
 
-static inline pix_bytes_ pix_bytes_of_(pix_bitmap_source image) {
+static inline pix_bytes_ pix_bytes_of_(pix_bitmap_view image) {
     pix_bytes_ bytes = {(const uint8_t *)image.pixels, 0, (int64_t)image.stride};
     uint64_t wide = (uint64_t)image.width * pix_format_size(image.format), apart, before;
     if (!image.stride)
@@ -1111,8 +1111,8 @@ static inline pix_bytes_ pix_bytes_of_(pix_bitmap_source image) {
     return bytes;
 }
 
-static inline pix_status pix_convert_bitmap(pix_bitmap_source src, pix_bitmap dst) {
-    pix_bytes_ read = pix_bytes_of_(src), written = pix_bytes_of_(pix_bitmap_source_of_bitmap(dst));
+static inline pix_status pix_convert_bitmap(pix_bitmap_view src, pix_bitmap dst) {
+    pix_bytes_ read = pix_bytes_of_(src), written = pix_bytes_of_(pix_bitmap_view_of_bitmap(dst));
     uint64_t nothing = 0;
     pix_status status;
     if (!read.lowest && !read.length)
@@ -1126,14 +1126,14 @@ static inline pix_status pix_convert_bitmap(pix_bitmap_source src, pix_bitmap ds
     status = pix_apart_(written.lowest, written.length, read.lowest, read.length);
     if (status != PIX_OK)
         return status;
-    return (pix_status)pix_convert_rows((uint32_t)src.format, (uint32_t)dst.format, read.lowest, read.length,
+    return (pix_status)pix_raw_convert_bitmap((uint32_t)src.format, (uint32_t)dst.format, read.lowest, read.length,
                                         (uint8_t *)(uintptr_t)written.lowest, written.length, read.stride, written.stride,
                                         dst.width, dst.height);
 }
 
 static inline pix_status pix_convert_in_place(pix_bitmap image, pix_format to) {
     const uint32_t most = 64;
-    pix_bytes_ bytes = pix_bytes_of_(pix_bitmap_source_of_bitmap(image));
+    pix_bytes_ bytes = pix_bytes_of_(pix_bitmap_view_of_bitmap(image));
     uint64_t size = pix_format_size(image.format), to_size = pix_format_size(to), wide = image.width * size;
     uint64_t apart = bytes.stride < 0 ? 0 - (uint64_t)bytes.stride : (uint64_t)bytes.stride;
     uint8_t block[64 * 8];
@@ -1153,7 +1153,7 @@ static inline pix_status pix_convert_in_place(pix_bitmap image, pix_format to) {
             uint32_t count = image.width - x < most ? image.width - x : most;
             size_t read = (size_t)(count * size), written = (size_t)(count * to_size);
             memcpy(block, row + x * size, read);
-            pix_convert_rows((uint32_t)image.format, (uint32_t)to, block, read, row + x * to_size, written, (int64_t)read,
+            pix_raw_convert_bitmap((uint32_t)image.format, (uint32_t)to, block, read, row + x * to_size, written, (int64_t)read,
                              (int64_t)written, count, 1);
         }
     }
@@ -1200,11 +1200,11 @@ static inline pix_region pix_copy_of_(pix_region to, uint32_t width, uint32_t he
     static inline PIXEL pix_color_of##S(pix_format format, const void *pixel) {                                        \
         PIXEL color;                                                                                                   \
         memset(&color, 0, sizeof color);                                                                               \
-        pix_convert_bitmap(pix_bitmap_source_of(pixel, 1, 1, format), pix_bitmap_of(&color, 1, 1, FORMAT));            \
+        pix_convert_bitmap(pix_bitmap_view_of(pixel, 1, 1, format), pix_bitmap_of(&color, 1, 1, FORMAT));            \
         return color;                                                                                                  \
     }                                                                                                                  \
     static inline uint64_t pix_repeat_image##S(pix_command##S *commands, uint64_t room, pix_region to,                 \
-                                               pix_source##S source, pix_region from, pix_op op) {                     \
+                                               pix_view##S source, pix_region from, pix_op op) {                     \
         const uint64_t columns = pix_copies_(to.x, to.width, from.width);                                              \
         const uint64_t count = columns * pix_copies_(to.y, to.height, from.height);                                    \
         uint64_t i;                                                                                                    \
@@ -1249,7 +1249,7 @@ static inline pix_status pix_nearest(pix_table table, pix_srgb8 color, uint8_t *
     status = pix_apart_(index, 1, table.entries, table.len * sizeof *table.entries);
     if (status != PIX_OK)
         return status;
-    return (pix_status)pix_table_nearest(table.entries, table.len, &color, index);
+    return (pix_status)pix_raw_nearest(table.entries, table.len, &color, index);
 }
 
 static inline pix_status pix_map_indexed(pix_table table, const pix_srgb8 *pixels, size_t count, uint8_t *indices) {
@@ -1269,21 +1269,21 @@ static inline pix_status pix_map_indexed(pix_table table, const pix_srgb8 *pixel
         status = pix_apart_(indices, count, pixels, count * sizeof *pixels);
     if (status != PIX_OK)
         return status;
-    return (pix_status)pix_table_match(table.entries, table.len, pixels, count, indices, count);
+    return (pix_status)pix_raw_map_indexed(table.entries, table.len, pixels, count, indices, count);
 }
 
 /* Writes the index of each pixel where there is no entry: all of them are below `alpha`. */
-static inline pix_status pix_keep_all_(const pix_srgba8 *pixels, size_t count, uint8_t alpha, uint8_t kept, uint8_t *indices) {
+static inline pix_status pix_keep_all_(const pix_srgba8 *pixels, size_t count, uint8_t alpha, uint8_t transparent_index, uint8_t *indices) {
     size_t i;
     for (i = 0; i < count; i++)
         if (pixels[i].a >= alpha)
             return PIX_BAD_TABLE;
-    memset(indices, kept, count);
+    memset(indices, transparent_index, count);
     return PIX_OK;
 }
 
 static inline pix_status pix_map_indexed_alpha(pix_table table, const pix_srgba8 *pixels, size_t count, uint8_t alpha,
-                                               uint8_t kept, uint8_t *indices) {
+                                               uint8_t transparent_index, uint8_t *indices) {
     const pix_srgba8 none = {0, 0, 0, 0};
     const pix_srgb8 no_entry = {0, 0, 0};
     uint8_t nothing = 0;
@@ -1304,21 +1304,21 @@ static inline pix_status pix_map_indexed_alpha(pix_table table, const pix_srgba8
     if (status != PIX_OK)
         return status;
     if (!table.len)
-        return pix_keep_all_(pixels, count, alpha, kept, indices);
-    return (pix_status)pix_table_match_alpha(table.entries, table.len, pixels, count, alpha, kept, indices, count);
+        return pix_keep_all_(pixels, count, alpha, transparent_index, indices);
+    return (pix_status)pix_raw_map_indexed_alpha(table.entries, table.len, pixels, count, alpha, transparent_index, indices, count);
 }
 
-static inline size_t pix_table_work(size_t count) {
+static inline size_t pix_quantize_work(size_t count) {
     return count;
 }
 
-static inline size_t pix_diffusion_work(size_t width) {
+static inline size_t pix_diffuse_indexed_work(size_t width) {
     return width > (size_t)PTRDIFF_MAX / 16 ? SIZE_MAX : 4 * width;
 }
 
 /* Tests what a table is made of and in. Each of the pixels is so many bytes, and so is each color of
  * the work memory and of the entries. */
-static inline pix_status pix_makes_table_(const void *pixels, size_t size, size_t count, const void *work, const void *entries,
+static inline pix_status pix_quantizes_(const void *pixels, size_t size, size_t count, const void *work, const void *entries,
                                           size_t color_size, size_t len, const size_t *made) {
     const size_t bytes = count * size, work_bytes = count * color_size, table_bytes = len * color_size;
     pix_status status = made ? PIX_OK : PIX_NULL;
@@ -1341,7 +1341,7 @@ static inline pix_status pix_makes_table_(const void *pixels, size_t size, size_
     return status;
 }
 
-static inline pix_status pix_make_table(const pix_srgb8 *pixels, size_t count, pix_srgb8 *work, pix_srgb8 *entries, size_t len,
+static inline pix_status pix_quantize(const pix_srgb8 *pixels, size_t count, pix_srgb8 *work, pix_srgb8 *entries, size_t len,
                                         size_t *made) {
     const pix_srgb8 none = {0, 0, 0};
     pix_srgb8 nothing = {0, 0, 0};
@@ -1350,13 +1350,13 @@ static inline pix_status pix_make_table(const pix_srgb8 *pixels, size_t count, p
         pixels = &none;
         work = &nothing;
     }
-    status = pix_makes_table_(pixels, sizeof *pixels, count, work, entries, sizeof *entries, len, made);
+    status = pix_quantizes_(pixels, sizeof *pixels, count, work, entries, sizeof *entries, len, made);
     if (status != PIX_OK)
         return status;
-    return (pix_status)pix_table_from(pixels, count, work, count, entries, len, made);
+    return (pix_status)pix_raw_quantize(pixels, count, work, count, entries, len, made);
 }
 
-static inline pix_status pix_make_table_alpha(const pix_srgba8 *pixels, size_t count, uint8_t alpha, pix_srgb8 *work,
+static inline pix_status pix_quantize_alpha(const pix_srgba8 *pixels, size_t count, uint8_t alpha, pix_srgb8 *work,
                                               pix_srgb8 *entries, size_t len, size_t *made) {
     const pix_srgba8 none = {0, 0, 0, 0};
     pix_srgb8 nothing = {0, 0, 0};
@@ -1365,13 +1365,13 @@ static inline pix_status pix_make_table_alpha(const pix_srgba8 *pixels, size_t c
         pixels = &none;
         work = &nothing;
     }
-    status = pix_makes_table_(pixels, sizeof *pixels, count, work, entries, sizeof *entries, len, made);
+    status = pix_quantizes_(pixels, sizeof *pixels, count, work, entries, sizeof *entries, len, made);
     if (status != PIX_OK)
         return status;
-    return (pix_status)pix_table_from_alpha(pixels, count, alpha, work, count, entries, len, made);
+    return (pix_status)pix_raw_quantize_alpha(pixels, count, alpha, work, count, entries, len, made);
 }
 
-static inline pix_status pix_make_table_refined(const pix_srgb8 *pixels, size_t count, uint8_t rounds, pix_srgb8 *work,
+static inline pix_status pix_quantize_refined(const pix_srgb8 *pixels, size_t count, uint8_t rounds, pix_srgb8 *work,
                                                 pix_srgb8 *entries, size_t len, size_t *made) {
     const pix_srgb8 none = {0, 0, 0};
     pix_srgb8 nothing = {0, 0, 0};
@@ -1380,13 +1380,13 @@ static inline pix_status pix_make_table_refined(const pix_srgb8 *pixels, size_t 
         pixels = &none;
         work = &nothing;
     }
-    status = pix_makes_table_(pixels, sizeof *pixels, count, work, entries, sizeof *entries, len, made);
+    status = pix_quantizes_(pixels, sizeof *pixels, count, work, entries, sizeof *entries, len, made);
     if (status != PIX_OK)
         return status;
-    return (pix_status)pix_table_refined(pixels, count, rounds, work, count, entries, len, made);
+    return (pix_status)pix_raw_quantize_refined(pixels, count, rounds, work, count, entries, len, made);
 }
 
-static inline pix_status pix_make_table_refined_alpha(const pix_srgba8 *pixels, size_t count, uint8_t alpha, uint8_t rounds,
+static inline pix_status pix_quantize_refined_alpha(const pix_srgba8 *pixels, size_t count, uint8_t alpha, uint8_t rounds,
                                                       pix_srgb8 *work, pix_srgb8 *entries, size_t len, size_t *made) {
     const pix_srgba8 none = {0, 0, 0, 0};
     pix_srgb8 nothing = {0, 0, 0};
@@ -1395,15 +1395,15 @@ static inline pix_status pix_make_table_refined_alpha(const pix_srgba8 *pixels, 
         pixels = &none;
         work = &nothing;
     }
-    status = pix_makes_table_(pixels, sizeof *pixels, count, work, entries, sizeof *entries, len, made);
+    status = pix_quantizes_(pixels, sizeof *pixels, count, work, entries, sizeof *entries, len, made);
     if (status != PIX_OK)
         return status;
-    return (pix_status)pix_table_refined_alpha(pixels, count, alpha, rounds, work, count, entries, len, made);
+    return (pix_status)pix_raw_quantize_refined_alpha(pixels, count, alpha, rounds, work, count, entries, len, made);
 }
 
 /* Tests the way that errors are diffused, and the lengths. */
 static inline pix_status pix_diffuses_by_(pix_diffusion how, size_t count, size_t width) {
-    const size_t work_len = pix_diffusion_work(width);
+    const size_t work_len = pix_diffuse_indexed_work(width);
     if (how.strength > 16)
         return PIX_BAD_STRENGTH;
     if (pix_too_many_(count) || !work_len || work_len == SIZE_MAX || (how.serpentine && count % width))
@@ -1430,7 +1430,7 @@ static inline pix_status pix_diffuse_indexed(pix_table table, const pix_srgb8 *p
                                              uint8_t *indices) {
     const pix_diffusion how = {16, false};
     const pix_srgb8 none = {0, 0, 0};
-    const size_t work_len = pix_diffusion_work(width);
+    const size_t work_len = pix_diffuse_indexed_work(width);
     uint8_t nothing = 0;
     pix_status status = pix_diffuses_by_(how, count, width);
     if (!table.len || table.len > 256)
@@ -1445,15 +1445,15 @@ static inline pix_status pix_diffuse_indexed(pix_table table, const pix_srgb8 *p
                            work_len * sizeof *work, indices, count);
     if (status != PIX_OK)
         return status;
-    return (pix_status)pix_table_diffuse(table.entries, table.len, pixels, count, width, work, work_len, indices, count);
+    return (pix_status)pix_raw_diffuse_indexed(table.entries, table.len, pixels, count, width, work, work_len, indices, count);
 }
 
 static inline pix_status pix_diffuse_indexed_alpha(pix_table table, const pix_srgba8 *pixels, size_t count, size_t width,
-                                                   uint8_t alpha, uint8_t kept, pix_srgb8 *work, uint8_t *indices) {
+                                                   uint8_t alpha, uint8_t transparent_index, pix_srgb8 *work, uint8_t *indices) {
     const pix_diffusion how = {16, false};
     const pix_srgba8 none = {0, 0, 0, 0};
     const pix_srgb8 no_entry = {0, 0, 0};
-    const size_t work_len = pix_diffusion_work(width);
+    const size_t work_len = pix_diffuse_indexed_work(width);
     uint8_t nothing = 0;
     pix_status status = pix_diffuses_by_(how, count, width);
     if (table.len > 256)
@@ -1471,15 +1471,15 @@ static inline pix_status pix_diffuse_indexed_alpha(pix_table table, const pix_sr
     if (status != PIX_OK)
         return status;
     if (!table.len)
-        return pix_keep_all_(pixels, count, alpha, kept, indices);
-    return (pix_status)pix_table_diffuse_alpha(table.entries, table.len, pixels, count, width, alpha, kept, work, work_len,
+        return pix_keep_all_(pixels, count, alpha, transparent_index, indices);
+    return (pix_status)pix_raw_diffuse_indexed_alpha(table.entries, table.len, pixels, count, width, alpha, transparent_index, work, work_len,
                                                indices, count);
 }
 
 static inline pix_status pix_diffuse_indexed_by(pix_table table, const pix_srgb8 *pixels, size_t count, size_t width,
                                                 pix_diffusion how, pix_srgb8 *work, uint8_t *indices) {
     const pix_srgb8 none = {0, 0, 0};
-    const size_t work_len = pix_diffusion_work(width);
+    const size_t work_len = pix_diffuse_indexed_work(width);
     uint8_t nothing = 0;
     pix_status status = pix_diffuses_by_(how, count, width);
     if (!table.len || table.len > 256)
@@ -1494,16 +1494,16 @@ static inline pix_status pix_diffuse_indexed_by(pix_table table, const pix_srgb8
                            work_len * sizeof *work, indices, count);
     if (status != PIX_OK)
         return status;
-    return (pix_status)pix_table_diffuse_by(table.entries, table.len, pixels, count, width, how.strength, how.serpentine, work,
+    return (pix_status)pix_raw_diffuse_indexed_by(table.entries, table.len, pixels, count, width, how.strength, how.serpentine, work,
                                             work_len, indices, count);
 }
 
 static inline pix_status pix_diffuse_indexed_by_alpha(pix_table table, const pix_srgba8 *pixels, size_t count, size_t width,
-                                                      uint8_t alpha, uint8_t kept, pix_diffusion how, pix_srgb8 *work,
+                                                      uint8_t alpha, uint8_t transparent_index, pix_diffusion how, pix_srgb8 *work,
                                                       uint8_t *indices) {
     const pix_srgba8 none = {0, 0, 0, 0};
     const pix_srgb8 no_entry = {0, 0, 0};
-    const size_t work_len = pix_diffusion_work(width);
+    const size_t work_len = pix_diffuse_indexed_work(width);
     uint8_t nothing = 0;
     pix_status status = pix_diffuses_by_(how, count, width);
     if (table.len > 256)
@@ -1521,8 +1521,8 @@ static inline pix_status pix_diffuse_indexed_by_alpha(pix_table table, const pix
     if (status != PIX_OK)
         return status;
     if (!table.len)
-        return pix_keep_all_(pixels, count, alpha, kept, indices);
-    return (pix_status)pix_table_diffuse_by_alpha(table.entries, table.len, pixels, count, width, alpha, kept, how.strength,
+        return pix_keep_all_(pixels, count, alpha, transparent_index, indices);
+    return (pix_status)pix_raw_diffuse_indexed_by_alpha(table.entries, table.len, pixels, count, width, alpha, transparent_index, how.strength,
                                                   how.serpentine, work, work_len, indices, count);
 }
 
@@ -1552,7 +1552,7 @@ static inline pix_status pix_index_pixels(pix_srgb8 *entries, size_t len, size_t
         status = pix_apart_(used, sizeof *used, indices, count);
     if (status != PIX_OK)
         return status;
-    return (pix_status)pix_table_index(entries, len, used, &threshold, pixels, count, indices, count);
+    return (pix_status)pix_raw_index_pixels(entries, len, used, &threshold, pixels, count, indices, count);
 }
 
 static inline pix_status pix_look_up(pix_table table, const uint8_t *indices, size_t count, pix_srgb8 *pixels) {
@@ -1573,7 +1573,7 @@ static inline pix_status pix_look_up(pix_table table, const uint8_t *indices, si
         status = pix_apart_(pixels, count * sizeof *pixels, indices, count);
     if (status != PIX_OK)
         return status;
-    return (pix_status)pix_table_look_up(table.entries, table.len, indices, count, pixels, count);
+    return (pix_status)pix_raw_look_up(table.entries, table.len, indices, count, pixels, count);
 }
 
 static inline pix_status pix_count_indices(const uint8_t *indices, size_t count, size_t *counts, size_t len) {
@@ -1589,7 +1589,7 @@ static inline pix_status pix_count_indices(const uint8_t *indices, size_t count,
     status = pix_apart_(counts, len * sizeof *counts, indices, count);
     if (status != PIX_OK)
         return status;
-    return (pix_status)pix_table_count(indices, count, counts, len);
+    return (pix_status)pix_raw_count_indices(indices, count, counts, len);
 }
 
 static inline size_t pix_row_size(uint32_t bits, size_t count) {
@@ -1614,7 +1614,7 @@ static inline pix_status pix_pack_row(uint32_t bits, const uint8_t *indices, siz
     status = pix_apart_(bytes, size, indices, count);
     if (status != PIX_OK)
         return status;
-    return (pix_status)pix_table_pack(bits, indices, count, bytes, size);
+    return (pix_status)pix_raw_pack_row(bits, indices, count, bytes, size);
 }
 
 static inline pix_status pix_unpack_row(uint32_t bits, const uint8_t *bytes, size_t count, uint8_t *indices) {
@@ -1631,7 +1631,7 @@ static inline pix_status pix_unpack_row(uint32_t bits, const uint8_t *bytes, siz
     status = pix_apart_(indices, count, bytes, size);
     if (status != PIX_OK)
         return status;
-    return (pix_status)pix_table_unpack(bits, bytes, size, indices, count);
+    return (pix_status)pix_raw_unpack_row(bits, bytes, size, indices, count);
 }
 
 static inline pix_table_rgba pix_table_rgba_of(const pix_srgba8 *entries, size_t len) {
@@ -1641,7 +1641,7 @@ static inline pix_table_rgba pix_table_rgba_of(const pix_srgba8 *entries, size_t
     return table;
 }
 
-static inline pix_status pix_make_table_rgba(const pix_srgba8 *pixels, size_t count, uint8_t rounds, pix_srgba8 *work,
+static inline pix_status pix_quantize_rgba(const pix_srgba8 *pixels, size_t count, uint8_t rounds, pix_srgba8 *work,
                                              pix_srgba8 *entries, size_t len, size_t *made) {
     const pix_srgba8 none = {0, 0, 0, 0};
     pix_srgba8 nothing = {0, 0, 0, 0};
@@ -1650,10 +1650,10 @@ static inline pix_status pix_make_table_rgba(const pix_srgba8 *pixels, size_t co
         pixels = &none;
         work = &nothing;
     }
-    status = pix_makes_table_(pixels, sizeof *pixels, count, work, entries, sizeof *entries, len, made);
+    status = pix_quantizes_(pixels, sizeof *pixels, count, work, entries, sizeof *entries, len, made);
     if (status != PIX_OK)
         return status;
-    return (pix_status)pix_table_rgba_from(pixels, count, rounds, work, count, entries, len, made);
+    return (pix_status)pix_raw_quantize_rgba(pixels, count, rounds, work, count, entries, len, made);
 }
 
 static inline pix_status pix_map_indexed_rgba(pix_table_rgba table, const pix_srgba8 *pixels, size_t count, uint8_t *indices) {
@@ -1673,13 +1673,13 @@ static inline pix_status pix_map_indexed_rgba(pix_table_rgba table, const pix_sr
         status = pix_apart_(indices, count, pixels, count * sizeof *pixels);
     if (status != PIX_OK)
         return status;
-    return (pix_status)pix_table_rgba_match(table.entries, table.len, pixels, count, indices, count);
+    return (pix_status)pix_raw_map_indexed_rgba(table.entries, table.len, pixels, count, indices, count);
 }
 
 static inline pix_status pix_diffuse_indexed_rgba(pix_table_rgba table, const pix_srgba8 *pixels, size_t count, size_t width,
                                                   pix_diffusion how, pix_srgba8 *work, uint8_t *indices) {
     const pix_srgba8 none = {0, 0, 0, 0};
-    const size_t work_len = pix_diffusion_work(width);
+    const size_t work_len = pix_diffuse_indexed_work(width);
     uint8_t nothing = 0;
     pix_status status = pix_diffuses_by_(how, count, width);
     if (!table.len || table.len > 256)
@@ -1694,7 +1694,7 @@ static inline pix_status pix_diffuse_indexed_rgba(pix_table_rgba table, const pi
                            work_len * sizeof *work, indices, count);
     if (status != PIX_OK)
         return status;
-    return (pix_status)pix_table_rgba_diffuse(table.entries, table.len, pixels, count, width, how.strength, how.serpentine,
+    return (pix_status)pix_raw_diffuse_indexed_rgba(table.entries, table.len, pixels, count, width, how.strength, how.serpentine,
                                               work, work_len, indices, count);
 }
 
@@ -1716,7 +1716,7 @@ static inline pix_status pix_look_up_rgba(pix_table_rgba table, const uint8_t *i
         status = pix_apart_(pixels, count * sizeof *pixels, indices, count);
     if (status != PIX_OK)
         return status;
-    return (pix_status)pix_table_rgba_look_up(table.entries, table.len, indices, count, pixels, count);
+    return (pix_status)pix_raw_look_up_rgba(table.entries, table.len, indices, count, pixels, count);
 }
 
 #undef PIX_ASSERT_

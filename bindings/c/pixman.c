@@ -140,7 +140,7 @@ static pix_command next(void) {
     const pix_rgba8 color = pixel();
     const uint32_t which = below(SOURCES), through = below(SOURCES), op = below(PIX_OP_COUNT);
     const pix_kind kind = (pix_kind)(below(12) ? 1 + below(PIX_KIND_COUNT - 1) : PIX_KIND_CLEAR);
-    pix_source source = pix_source_of(sources[which], WIDE, HIGH);
+    pix_view source = pix_view_of(sources[which], WIDE, HIGH);
     pix_matte matte = pix_matte_of(mattes[which], WIDE, HIGH), cover = pix_matte_of(mattes[through], WIDE, HIGH);
     uint32_t opacity = byte();
     pixman_image_t *plain = solid(color), *src = words(copies[which]);

@@ -71,7 +71,7 @@ static void images(void) {
 static void commands(void) {
     const pix_region whole = pix_region_of(0, 0, SIDE, SIDE);
     const pix_rgba8 color = pix_rgba8_of(9, 9, 9, 9);
-    const pix_source source = pix_source_of(other, SIDE, SIDE);
+    const pix_view source = pix_view_of(other, SIDE, SIDE);
     const pix_matte matte = pix_matte_of(values, SIDE, SIDE);
     pix_command command = pix_clear();
     command.kind = 8;
@@ -97,7 +97,7 @@ static void commands(void) {
 static int is_refused_source(const pix_rgba8 *memory, uint32_t width, uint32_t height, uint32_t stride,
                              pix_status status) {
     const pix_region whole = pix_region_of(0, 0, SIDE, SIDE);
-    pix_source source = pix_source_of(memory, width, height);
+    pix_view source = pix_view_of(memory, width, height);
     pix_matte matte = pix_matte_of((const uint8_t *)memory, width, height);
     source.stride = matte.stride = stride;
     return is_refused(pix_copy_image(whole, source, whole), status)
@@ -115,7 +115,7 @@ static void sources(void) {
     CHECK(is_refused_source(NULL, 1, 1, 0, PIX_NULL));
     CHECK(is_refused_source(pixels, 1, 1, 0, PIX_OVERLAP));
     CHECK(is_refused_source(pixels + POINTS - 1, SIDE, SIDE, 0, PIX_OVERLAP));
-    CHECK(pix_do(pix_image_of(pixels, SIDE, SIDE), pix_copy_image(whole, pix_source_of(NULL, 0, 9), whole)) == PIX_OK);
+    CHECK(pix_do(pix_image_of(pixels, SIDE, SIDE), pix_copy_image(whole, pix_view_of(NULL, 0, 9), whole)) == PIX_OK);
     CHECK(pix_run(pix_image_of(pixels, SIDE, SIDE), NULL, 0, &done) == PIX_OK && done == 0);
     CHECK(pix_run(pix_image_of(pixels, SIDE, SIDE), NULL, 2, &done) == PIX_NULL && done == 0);
     CHECK(is_reset());
@@ -124,7 +124,7 @@ static void sources(void) {
     CHECK(pix_run(pix_image_of((pix_rgba8 *)(void *)&list[1], 1, 1), list, 2, &done) == PIX_OVERLAP && done == 0);
     /* The two halves of one image share nothing. */
     CHECK(pix_do(pix_image_of(pixels, SIDE, SIDE / 2),
-                 pix_copy_image(whole, pix_source_of(pixels + POINTS / 2, SIDE, SIDE / 2), whole)) == PIX_OK);
+                 pix_copy_image(whole, pix_view_of(pixels + POINTS / 2, SIDE, SIDE / 2), whole)) == PIX_OK);
     CHECK(pixels[0].r == POINTS / 2 && pixels[POINTS / 2 - 1].r == POINTS - 1 && pixels[POINTS - 1].r == POINTS - 1);
     reset();
 }
@@ -140,9 +140,9 @@ static int is_refused_window(uint32_t left, uint32_t top, uint32_t width, uint32
     int equal = 1;
     memset(words, 5, sizeof words);
     memset(pairs, 5, sizeof pairs);
-    equal &= pix_run_in(pix_image_of(pixels, width, height), left, top, &command, 1, &done) == status;
-    equal &= pix_run_in_rgba16(pix_image_of_rgba16(words, width, height), left, top, &wide, 1, &done16) == status;
-    equal &= pix_run_in_graya8(pix_image_of_graya8(pairs, width, height), left, top, &gray, 1, &done_gray) == status;
+    equal &= pix_run_window(pix_image_of(pixels, width, height), left, top, &command, 1, &done) == status;
+    equal &= pix_run_window_rgba16(pix_image_of_rgba16(words, width, height), left, top, &wide, 1, &done16) == status;
+    equal &= pix_run_window_graya8(pix_image_of_graya8(pairs, width, height), left, top, &gray, 1, &done_gray) == status;
     for (int i = 0; i < POINTS; i++)
         equal &= words[i].r == 0x505 && words[i].a == 0x505 && pairs[i].value == 5 && pairs[i].a == 5;
     return equal && done == 0 && done16 == 0 && done_gray == 0 && is_reset();
@@ -161,15 +161,15 @@ static void windows(void) {
     CHECK(is_refused_window(1, 0, 2147483647, 0, PIX_BAD_SIZE));
     CHECK(is_refused_window(0, 1, 0, 2147483647, PIX_BAD_SIZE));
     CHECK(is_refused_window(0, 0, LONG, 0, PIX_BAD_SIZE));
-    CHECK(pix_run_in(pix_image_of(NULL, 0, 0), 2147483647, 2147483647, NULL, 0, &done) == PIX_OK && done == 0);
-    CHECK(pix_run_in(pix_image_of(NULL, 1, 1), 0, 0, NULL, 0, &done) == PIX_NULL && done == 0);
+    CHECK(pix_run_window(pix_image_of(NULL, 0, 0), 2147483647, 2147483647, NULL, 0, &done) == PIX_OK && done == 0);
+    CHECK(pix_run_window(pix_image_of(NULL, 1, 1), 0, 0, NULL, 0, &done) == PIX_NULL && done == 0);
     list[0] = pix_copy_color(first, color);
     list[1] = pix_composite_color(first, color, (pix_op)PIX_OP_COUNT);
-    CHECK(pix_run_in(pix_image_of(pixels, SIDE, SIDE), 2147483643, 0, list, 2, &done) == PIX_BAD_OP && done == 1);
-    list[1] = pix_copy_image(first, pix_source_of(pixels, 1, 1), first);
-    CHECK(pix_run_in(pix_image_of(pixels, SIDE, SIDE), 2147483643, 0, list, 2, &done) == PIX_OVERLAP && done == 1);
+    CHECK(pix_run_window(pix_image_of(pixels, SIDE, SIDE), 2147483643, 0, list, 2, &done) == PIX_BAD_OP && done == 1);
+    list[1] = pix_copy_image(first, pix_view_of(pixels, 1, 1), first);
+    CHECK(pix_run_window(pix_image_of(pixels, SIDE, SIDE), 2147483643, 0, list, 2, &done) == PIX_OVERLAP && done == 1);
     CHECK(is_reset());
-    CHECK(pix_run_in(pix_image_of(pixels, SIDE, SIDE), 2147483643, 0, list, 1, &done) == PIX_OK && done == 1);
+    CHECK(pix_run_window(pix_image_of(pixels, SIDE, SIDE), 2147483643, 0, list, 1, &done) == PIX_OK && done == 1);
     CHECK(pixels[0].a == 9 && pixels[1].a == 200);
     reset();
 }
@@ -177,17 +177,17 @@ static void windows(void) {
 /* What the header computes by itself, and the library tests all the same: the lengths. */
 static void lengths(void) {
     const pix_region whole = pix_region_of(0, 0, SIDE, SIDE);
-    pix_command command = pix_copy_image(whole, pix_source_of(other, SIDE, SIDE), whole);
+    pix_command command = pix_copy_image(whole, pix_view_of(other, SIDE, SIDE), whole);
     uint8_t from[8] = {0}, to[8] = {0};
     size_t done = 77;
-    CHECK(pix_run_commands(pixels, POINTS - 1, SIDE, SIDE, SIDE, &command, 1, &done) == PIX_BAD_SIZE && done == 0);
+    CHECK(pix_raw_run(pixels, POINTS - 1, SIDE, SIDE, SIDE, &command, 1, &done) == PIX_BAD_SIZE && done == 0);
     command.pixel_count = POINTS - 1;
-    CHECK(pix_run_commands(pixels, POINTS, SIDE, SIDE, SIDE, &command, 1, &done) == PIX_BAD_SOURCE && done == 0);
+    CHECK(pix_raw_run(pixels, POINTS, SIDE, SIDE, SIDE, &command, 1, &done) == PIX_BAD_SOURCE && done == 0);
     CHECK(is_reset());
-    CHECK(pix_convert_bytes(PIX_FORMAT_RGBA8, PIX_FORMAT_BGRA8, from, 7, to, 8, 2) == PIX_BAD_LENGTH);
-    CHECK(pix_convert_bytes(PIX_FORMAT_RGBA8, PIX_FORMAT_BGRA8, from, 8, to, 7, 2) == PIX_BAD_LENGTH);
-    CHECK(pix_convert_bytes(15, PIX_FORMAT_BGRA8, from, 8, to, 8, 2) == PIX_BAD_FORMAT);
-    CHECK(pix_convert_bytes(PIX_FORMAT_RGBA8, 15, from, 8, to, 7, 2) == PIX_BAD_FORMAT);
+    CHECK(pix_raw_convert(PIX_FORMAT_RGBA8, PIX_FORMAT_BGRA8, from, 7, to, 8, 2) == PIX_BAD_LENGTH);
+    CHECK(pix_raw_convert(PIX_FORMAT_RGBA8, PIX_FORMAT_BGRA8, from, 8, to, 7, 2) == PIX_BAD_LENGTH);
+    CHECK(pix_raw_convert(15, PIX_FORMAT_BGRA8, from, 8, to, 8, 2) == PIX_BAD_FORMAT);
+    CHECK(pix_raw_convert(PIX_FORMAT_RGBA8, 15, from, 8, to, 7, 2) == PIX_BAD_FORMAT);
     CHECK(pix_convert((pix_format)15, PIX_FORMAT_BGRA8, from, to, 2) == PIX_BAD_FORMAT);
     CHECK(pix_convert(PIX_FORMAT_RGBA8, (pix_format)15, from, to, 2) == PIX_BAD_FORMAT);
     CHECK(pix_convert(PIX_FORMAT_RGBA8, PIX_FORMAT_BGRA8, from, to, SIZE_MAX) == PIX_BAD_LENGTH);
@@ -206,7 +206,7 @@ static void strides(void) {
     pix_rgba8 padded[LENGTH], rows[LENGTH];
     uint8_t mask[LENGTH];
     pix_image image = pix_image_of(padded, WIDE, HIGH);
-    pix_source source = pix_source_of(rows, WIDE, HIGH);
+    pix_view source = pix_view_of(rows, WIDE, HIGH);
     pix_matte matte = pix_matte_of(mask, WIDE, HIGH);
     const pix_region whole = pix_region_of(0, 0, WIDE, HIGH), large = pix_region_of(0, 0, 9, 9);
     const pix_rgba8 color = pix_rgba8_of(7, 7, 7, 255);
@@ -317,13 +317,13 @@ static void wide_pixels(void) {
     CHECK(image[0].r == 65535 && image[0].g == 0 && image[0].a == 65535);
     CHECK(image[1].r == 1000 && image[1].b == 3000 && image[3].g == 2000);
     CHECK(image[2].r == 32768 + 500 && image[2].g == 1000 && image[2].b == 1500 && image[2].a == 65535);
-    list[2] = pix_composite_image_rgba16(whole, pix_source_of_rgba16(source, 2, 2), whole, (pix_op)PIX_OP_COUNT);
+    list[2] = pix_composite_image_rgba16(whole, pix_view_of_rgba16(source, 2, 2), whole, (pix_op)PIX_OP_COUNT);
     CHECK(pix_run_rgba16(pix_image_of_rgba16(image, 2, 2), list, 3, &done) == PIX_BAD_OP && done == 2);
     CHECK(image[1].r == 1000);
     list[2].pixels = image;
     CHECK(pix_run_rgba16(pix_image_of_rgba16(image, 2, 2), list, 3, &done) == PIX_OVERLAP && done == 2);
     CHECK(pix_do_rgba16(pix_image_of_rgba16(image, 2, 2),
-                        pix_copy_image_rgba16(whole, pix_source_of_rgba16(source, 2, 2), whole)) == PIX_OK);
+                        pix_copy_image_rgba16(whole, pix_view_of_rgba16(source, 2, 2), whole)) == PIX_OK);
     CHECK(image[0].r == 9 && image[1].a == 0 && image[3].b == 3);
 }
 
@@ -335,7 +335,7 @@ static void gray_pixels(void) {
     pix_command_graya8 list[3];
     size_t done = 77;
     list[0] = pix_copy_color_graya8(whole, pix_graya8_of(50, 255));
-    list[1] = pix_composite_image_graya8(whole, pix_source_of_graya8(source, 2, 2), whole, PIX_OP_SRC_OVER);
+    list[1] = pix_composite_image_graya8(whole, pix_view_of_graya8(source, 2, 2), whole, PIX_OP_SRC_OVER);
     list[2] = pix_composite_matte_graya8(whole, pix_matte_of(mask, 2, 2), whole, pix_graya8_of(255, 255),
                                          PIX_OP_SRC_OVER);
     CHECK(pix_run_graya8(pix_image_of_graya8(image, 2, 2), list, 2, &done) == PIX_OK && done == 2);

@@ -101,7 +101,7 @@ static void made(void) {
     const int is_cut = plain_seen_table(pixels, seen, count, plain, room, &len);
     check(is_cut != plain_seen_distinct(pixels, count, distinct, room, &got), "the plain loops agree");
     for (;;) {
-        check(pix_make_table_rgba(pixels, count, (uint8_t)round, work, entries, room, &got) == PIX_OK, "a table is made");
+        check(pix_quantize_rgba(pixels, count, (uint8_t)round, work, entries, room, &got) == PIX_OK, "a table is made");
         check(got == len && are_equal(entries, plain, is_cut ? NULL : distinct, len), "a table is another one");
         check(plain_seen_error(plain, len, seen, count) <= error, "a round made the squared error greater");
         error = plain_seen_error(plain, len, seen, count);
@@ -130,8 +130,8 @@ static void opaque(void) {
         colors[i].g = pixels[i].g;
         colors[i].b = pixels[i].b;
     }
-    check(pix_make_table_refined(colors, count, rounds, room_of, entries, room, &len) == PIX_OK, "an opaque table");
-    check(pix_make_table_rgba(pixels, count, rounds, work, with, room, &got) == PIX_OK, "the same with alphas");
+    check(pix_quantize_refined(colors, count, rounds, room_of, entries, room, &len) == PIX_OK, "an opaque table");
+    check(pix_quantize_rgba(pixels, count, rounds, work, with, room, &got) == PIX_OK, "the same with alphas");
     for (i = 0; i < len && len == got; i++)
         same &= with[i].r == entries[i].r && with[i].g == entries[i].g && with[i].b == entries[i].b && with[i].a == 255;
     check(same && len == got, "the table of opaque pixels is another one with alphas");
@@ -156,7 +156,7 @@ static void each_color(void) {
         unsigned found = 0;
         for (v = 0; v < 256; v++)
             all[v].r = all[v].g = all[v].b = (uint8_t)v, all[v].a = (uint8_t)a;
-        check(pix_make_table_rgba(all, 256, 3, room, entries, 256, &len) == PIX_OK, "a table of all levels");
+        check(pix_quantize_rgba(all, 256, 3, room, entries, 256, &len) == PIX_OK, "a table of all levels");
         check(len == a + 1, "a table has not all colors of an alpha");
         for (v = 0; v < 256 && found < len; v++)
             if (plain_see(all[v]).black.g == found)
@@ -164,7 +164,7 @@ static void each_color(void) {
         check(same && found == len, "an entry is not the first pixel that is seen so");
         if (!a)
             continue;
-        check(pix_make_table_rgba(all, 256, 0, room, entries, a, &len) == PIX_OK && len == a, "a table of one entry less");
+        check(pix_quantize_rgba(all, 256, 0, room, entries, a, &len) == PIX_OK && len == a, "a table of one entry less");
         for (v = 0; v < len; v++) {
             const pix_srgba8 want = plain_straight(plain_see(entries[v]));
             same &= !memcmp(&entries[v], &want, sizeof want) && (!v || plain_see(want).black.r > plain_see(entries[v - 1]).black.r);
@@ -182,11 +182,11 @@ static void by_hand(void) {
     pix_srgba8 room[4], entries[4];
     uint8_t indices[4];
     size_t len = 0;
-    check(pix_make_table_rgba(some, 4, 0, room, entries, 4, &len) == PIX_OK && len == 3, "clear pixels have one entry");
+    check(pix_quantize_rgba(some, 4, 0, room, entries, 4, &len) == PIX_OK && len == 3, "clear pixels have one entry");
     check(!memcmp(entries, some, 3 * sizeof *some), "entries by hand are the first pixels that are seen so");
-    check(pix_make_table_rgba(three, 3, 0, room, entries, 2, &len) == PIX_OK && len == 2, "two entries for three");
+    check(pix_quantize_rgba(three, 3, 0, room, entries, 2, &len) == PIX_OK && len == 2, "two entries for three");
     check(entries[0].r == 0 && entries[0].a == 255 && entries[1].g == 236 && entries[1].a == 192, "entries by hand");
-    check(pix_make_table_rgba(some + 1, 2, 0, room, entries, 1, &len) == PIX_OK && len == 1, "one entry for two");
+    check(pix_quantize_rgba(some + 1, 2, 0, room, entries, 1, &len) == PIX_OK && len == 1, "one entry for two");
     check(entries[0].r == 255 && entries[0].a == 128, "the mean of white and clear");
     check(pix_map_indexed_rgba(pix_table_rgba_of(table, 3), some, 4, indices) == PIX_OK, "matched by hand");
     check(indices[0] == 2 && indices[1] == 0 && indices[2] == 2 && indices[3] == 2, "indices by hand");
@@ -203,19 +203,19 @@ static void refused(void) {
     const pix_table_rgba large = pix_table_rgba_of(entries, 257);
     uint8_t index[3] = {1, 1, 2};
     size_t count = 77;
-    check(pix_make_table_rgba(some, 3, 1, room, entries, 0, &count) == PIX_BAD_TABLE, "a table of no entry");
-    check(pix_make_table_rgba(some, 3, 1, room, entries, 257, &count) == PIX_BAD_TABLE, "a table of 257 entries");
-    check(pix_make_table_rgba(some, SIZE_MAX / 2, 1, room, entries, 2, &count) == PIX_BAD_LENGTH, "too many pixels");
-    check(pix_make_table_rgba(NULL, 3, 1, room, entries, 2, &count) == PIX_NULL, "no pixels");
-    check(pix_make_table_rgba(some, 3, 1, NULL, entries, 2, &count) == PIX_NULL, "no work memory");
-    check(pix_make_table_rgba(some, 3, 1, room, NULL, 2, &count) == PIX_NULL, "no entries");
-    check(pix_make_table_rgba(some, 3, 1, room, entries, 2, NULL) == PIX_NULL, "no count");
-    check(pix_make_table_rgba(some, 3, 1, some, entries, 2, &count) == PIX_OVERLAP, "work memory in the pixels");
-    check(pix_make_table_rgba(some, 3, 1, room, some + 2, 2, &count) == PIX_OVERLAP, "entries in the pixels");
-    check(pix_make_table_rgba(some, 3, 1, room, room + 2, 2, &count) == PIX_OVERLAP, "entries in the work memory");
-    check(pix_make_table_rgba(room + 3, 3, 1, some, room, 4, &count) == PIX_OVERLAP, "the last entry in the pixels");
-    check(pix_table_rgba_from(some, 3, 1, room, 2, entries, 2, &count) == PIX_BAD_LENGTH, "too little work memory");
-    check(pix_table_rgba_from(some, 3, 1, room, 2, entries, 0, &count) == PIX_BAD_TABLE, "a table before the work memory");
+    check(pix_quantize_rgba(some, 3, 1, room, entries, 0, &count) == PIX_BAD_TABLE, "a table of no entry");
+    check(pix_quantize_rgba(some, 3, 1, room, entries, 257, &count) == PIX_BAD_TABLE, "a table of 257 entries");
+    check(pix_quantize_rgba(some, SIZE_MAX / 2, 1, room, entries, 2, &count) == PIX_BAD_LENGTH, "too many pixels");
+    check(pix_quantize_rgba(NULL, 3, 1, room, entries, 2, &count) == PIX_NULL, "no pixels");
+    check(pix_quantize_rgba(some, 3, 1, NULL, entries, 2, &count) == PIX_NULL, "no work memory");
+    check(pix_quantize_rgba(some, 3, 1, room, NULL, 2, &count) == PIX_NULL, "no entries");
+    check(pix_quantize_rgba(some, 3, 1, room, entries, 2, NULL) == PIX_NULL, "no count");
+    check(pix_quantize_rgba(some, 3, 1, some, entries, 2, &count) == PIX_OVERLAP, "work memory in the pixels");
+    check(pix_quantize_rgba(some, 3, 1, room, some + 2, 2, &count) == PIX_OVERLAP, "entries in the pixels");
+    check(pix_quantize_rgba(some, 3, 1, room, room + 2, 2, &count) == PIX_OVERLAP, "entries in the work memory");
+    check(pix_quantize_rgba(room + 3, 3, 1, some, room, 4, &count) == PIX_OVERLAP, "the last entry in the pixels");
+    check(pix_raw_quantize_rgba(some, 3, 1, room, 2, entries, 2, &count) == PIX_BAD_LENGTH, "too little work memory");
+    check(pix_raw_quantize_rgba(some, 3, 1, room, 2, entries, 0, &count) == PIX_BAD_TABLE, "a table before the work memory");
     check(count == 77, "what is refused makes no table");
     check(pix_map_indexed_rgba(none, some, 3, index) == PIX_BAD_TABLE, "no entry");
     check(pix_map_indexed_rgba(large, some, 3, index) == PIX_BAD_TABLE, "257 entries");
@@ -224,14 +224,14 @@ static void refused(void) {
     check(pix_map_indexed_rgba(table, some, 3, NULL) == PIX_NULL, "no indices");
     check(pix_map_indexed_rgba(table, some, 3, &some[2].a) == PIX_OVERLAP, "indices in the pixels");
     check(pix_map_indexed_rgba(table, some, 3, &entries[1].a) == PIX_OVERLAP, "indices in the table");
-    check(pix_table_rgba_match(entries, 2, some, 3, index, 2) == PIX_BAD_LENGTH, "fewer indices than pixels");
+    check(pix_raw_map_indexed_rgba(entries, 2, some, 3, index, 2) == PIX_BAD_LENGTH, "fewer indices than pixels");
     check(pix_look_up_rgba(table, index, 3, some) == PIX_BAD_INDEX, "an index past the end");
     check(pix_look_up_rgba(table, index, SIZE_MAX / 2, some) == PIX_BAD_LENGTH, "too many indices");
     check(pix_look_up_rgba(table, NULL, 2, some) == PIX_NULL, "no indices to look up");
     check(pix_look_up_rgba(table, index, 2, NULL) == PIX_NULL, "no pixels to look up");
     check(pix_look_up_rgba(table, index, 2, entries + 1) == PIX_OVERLAP, "pixels in the table");
     check(pix_look_up_rgba(table, &room[0].g, 2, room) == PIX_OVERLAP, "pixels in the indices");
-    check(pix_table_rgba_look_up(entries, 2, index, 2, some, 3) == PIX_BAD_LENGTH, "more pixels than indices");
+    check(pix_raw_look_up_rgba(entries, 2, index, 2, some, 3) == PIX_BAD_LENGTH, "more pixels than indices");
     check(pix_diffuse_indexed_rgba(none, some, 3, 3, strong, room, index) == PIX_BAD_TABLE, "no entry to diffuse to");
     check(pix_diffuse_indexed_rgba(large, some, 3, 3, how, room, index) == PIX_BAD_TABLE, "257 entries to diffuse to");
     check(pix_diffuse_indexed_rgba(table, some, 3, 0, strong, room, index) == PIX_BAD_STRENGTH, "a strength of 17");
@@ -242,12 +242,12 @@ static void refused(void) {
     check(pix_diffuse_indexed_rgba(table, some, 3, 1, how, some, index) == PIX_OVERLAP, "diffused in the pixels");
     check(pix_diffuse_indexed_rgba(table, some, 3, 1, how, entries + 1, index) == PIX_OVERLAP, "diffused in the table");
     check(pix_diffuse_indexed_rgba(table, some, 3, 1, how, room, &room[3].r) == PIX_OVERLAP, "indices in the work memory");
-    check(pix_table_rgba_diffuse(entries, 2, some, 3, 2, 17, 0, room, 7, index, 2) == PIX_BAD_STRENGTH, "in the archive");
-    check(pix_table_rgba_diffuse(entries, 2, some, 3, 2, 16, 0, room, 7, index, 3) == PIX_BAD_LENGTH, "too little of it");
-    check(pix_table_rgba_diffuse(entries, 2, some, 3, 2, 16, 0, room, 8, index, 2) == PIX_BAD_LENGTH, "too few indices");
-    check(pix_table_rgba_diffuse(entries, 2, some, 3, 2, 16, 1, room, 8, index, 3) == PIX_BAD_LENGTH, "a row in the archive");
+    check(pix_raw_diffuse_indexed_rgba(entries, 2, some, 3, 2, 17, 0, room, 7, index, 2) == PIX_BAD_STRENGTH, "in the archive");
+    check(pix_raw_diffuse_indexed_rgba(entries, 2, some, 3, 2, 16, 0, room, 7, index, 3) == PIX_BAD_LENGTH, "too little of it");
+    check(pix_raw_diffuse_indexed_rgba(entries, 2, some, 3, 2, 16, 0, room, 8, index, 2) == PIX_BAD_LENGTH, "too few indices");
+    check(pix_raw_diffuse_indexed_rgba(entries, 2, some, 3, 2, 16, 1, room, 8, index, 3) == PIX_BAD_LENGTH, "a row in the archive");
     check(index[0] == 1 && index[2] == 2 && entries[1].a == 8 && some[2].a == 2 && room[0].r == 5, "what is refused stays");
-    check(pix_make_table_rgba(NULL, 0, 9, NULL, entries, 2, &count) == PIX_OK && count == 0, "a table of no pixels");
+    check(pix_quantize_rgba(NULL, 0, 9, NULL, entries, 2, &count) == PIX_OK && count == 0, "a table of no pixels");
     check(pix_map_indexed_rgba(table, NULL, 0, NULL) == PIX_OK, "no pixels are matched");
     check(pix_diffuse_indexed_rgba(table, NULL, 0, 2, turning, room, NULL) == PIX_OK, "no pixels are diffused");
     check(pix_look_up_rgba(pix_table_rgba_of(NULL, 0), NULL, 0, NULL) == PIX_OK, "no index is looked up");

@@ -47,7 +47,7 @@ static void fill(void) {
     static pix_status run##S(void) {                                                                                   \
         const pix_region whole = pix_region_of(0, 0, SIDE, SIDE);                                                      \
         const pix_image##S image = pix_image_of##S(pixels##S, SIDE, SIDE);                                             \
-        const pix_source##S from = pix_source_of##S(source##S, SIDE, SIDE);                                            \
+        const pix_view##S from = pix_view_of##S(source##S, SIDE, SIDE);                                            \
         const MATTE mask = MATTE##_of(VALUES, SIDE, SIDE);                                                             \
         pix_status status = PIX_OK;                                                                                    \
         for (int i = 0; i < OPERATORS && status == PIX_OK; i++) {                                                      \
@@ -57,7 +57,7 @@ static void fill(void) {
                 list[k] = command_of##S((pix_kind)k, whole, from, whole, mask, whole, source##S[i], 99, op);           \
             status = pix_run##S(image, list, KINDS, NULL);                                                             \
             if (status == PIX_OK)                                                                                      \
-                status = pix_run_in##S(image, 7, 9, list, KINDS, NULL);                                                \
+                status = pix_run_window##S(image, 7, 9, list, KINDS, NULL);                                                \
             for (int k = 0; k < KINDS && status == PIX_OK; k++)                                                        \
                 status = pix_do##S(image, list[k]);                                                                    \
         }                                                                                                              \
@@ -69,7 +69,7 @@ RUN_(_graya8, pix_matte, mattes)
 
 static pix_status repeat(void) {
     static pix_command list[16];
-    const pix_source tile = pix_source_of(source, SIDE, SIDE);
+    const pix_view tile = pix_view_of(source, SIDE, SIDE);
     const uint64_t count =
         pix_repeat_image(list, 16, pix_region_of(0, 0, SIDE, SIDE), tile, pix_region_of(0, 0, 24, 24), PIX_OP_SRC_OVER);
     return pix_run(pix_image_of(pixels, SIDE, SIDE), list, (size_t)count, NULL);
@@ -88,7 +88,7 @@ static pix_status convert_bitmap(void) {
     pix_status status = PIX_OK;
     for (int from = 0; from < FORMATS; from++)
         for (int to = 0; to < FORMATS && status == PIX_OK; to++)
-            status = pix_convert_bitmap(pix_bitmap_source_of(bytes, SIDE, 2, (pix_format)from),
+            status = pix_convert_bitmap(pix_bitmap_view_of(bytes, SIDE, 2, (pix_format)from),
                                         pix_bitmap_of(more_bytes, SIDE, 2, (pix_format)to));
     return status;
 }
@@ -157,37 +157,37 @@ static pix_status look_up_rgba(void) {
 static pix_status make(void) {
     static pix_srgb8 made[ENTRIES];
     size_t len = 0;
-    const pix_status status = pix_make_table(grays, ENTRIES, work, made, ENTRIES, &len);
-    return status == PIX_OK ? pix_make_table(colors, COUNT, work, made, ENTRIES, &len) : status;
+    const pix_status status = pix_quantize(grays, ENTRIES, work, made, ENTRIES, &len);
+    return status == PIX_OK ? pix_quantize(colors, COUNT, work, made, ENTRIES, &len) : status;
 }
 
 static pix_status make_alpha(void) {
     static pix_srgb8 made[ENTRIES];
     size_t len = 0;
-    return pix_make_table_alpha(shades, COUNT, 128, work, made, ENTRIES, &len);
+    return pix_quantize_alpha(shades, COUNT, 128, work, made, ENTRIES, &len);
 }
 
 static pix_status refine(void) {
     static pix_srgb8 made[ENTRIES];
     size_t len = 0;
-    pix_status status = pix_make_table_refined(grays, ENTRIES, 2, work, made, ENTRIES, &len);
+    pix_status status = pix_quantize_refined(grays, ENTRIES, 2, work, made, ENTRIES, &len);
     for (size_t room = 1; room <= ENTRIES && status == PIX_OK; room *= 16)
-        status = pix_make_table_refined(colors, COUNT, 2, work, made, room, &len);
+        status = pix_quantize_refined(colors, COUNT, 2, work, made, room, &len);
     return status;
 }
 
 static pix_status refine_alpha(void) {
     static pix_srgb8 made[ENTRIES];
     size_t len = 0;
-    return pix_make_table_refined_alpha(shades, COUNT, 128, 2, work, made, ENTRIES, &len);
+    return pix_quantize_refined_alpha(shades, COUNT, 128, 2, work, made, ENTRIES, &len);
 }
 
 static pix_status make_rgba(void) {
     static pix_srgba8 made[ENTRIES];
     size_t len = 0;
-    pix_status status = pix_make_table_rgba(shades, ENTRIES, 2, shade_work, made, ENTRIES, &len);
+    pix_status status = pix_quantize_rgba(shades, ENTRIES, 2, shade_work, made, ENTRIES, &len);
     for (size_t room = 1; room <= ENTRIES && status == PIX_OK; room *= 16)
-        status = pix_make_table_rgba(shades, COUNT, 2, shade_work, made, room, &len);
+        status = pix_quantize_rgba(shades, COUNT, 2, shade_work, made, room, &len);
     return status;
 }
 
@@ -240,16 +240,16 @@ static const struct { const char *name; size_t kibibytes; pix_status (*call)(voi
     {"pix_convert_in_place", FEW, convert_in_place},
     {"pix_color_of", FEW, colors_of},
     {"pix_nearest", FEW, find},
-    {"pix_make_table", MAKING, make},
-    {"pix_make_table_alpha", MAKING, make_alpha},
+    {"pix_quantize", MAKING, make},
+    {"pix_quantize_alpha", MAKING, make_alpha},
     {"pix_look_up", FEW, look_up},
     {"pix_count_indices", FEW, count_all},
     {"pix_pack_row", FEW, pack},
     {"pix_unpack_row", FEW, unpack},
     {"pix_index_pixels", SETTING, set},
-    {"pix_make_table_refined", MATCHING, refine},
-    {"pix_make_table_refined_alpha", MATCHING, refine_alpha},
-    {"pix_make_table_rgba", MAKING, make_rgba},
+    {"pix_quantize_refined", MATCHING, refine},
+    {"pix_quantize_refined_alpha", MATCHING, refine_alpha},
+    {"pix_quantize_rgba", MAKING, make_rgba},
     {"pix_map_indexed", MATCHING, map},
     {"pix_map_indexed_alpha", MATCHING, map_alpha},
     {"pix_diffuse_indexed", MATCHING, diffuse},

@@ -35,7 +35,7 @@ static void nearest(size_t len, unsigned levels) {
     pix_srgb8 entries[256];
     size_t i;
     uint8_t one = 0;
-    int same = 1, alone = 1, kept = 1, colors = 1;
+    int same = 1, alone = 1, transparent_index = 1, colors = 1;
     pix_table table = pix_table_of(entries, len);
     for (i = 0; i < len; i++)
         entries[i] = random_color(levels);
@@ -59,8 +59,8 @@ static void nearest(size_t len, unsigned levels) {
     check(colors, "an index has another color");
     check(pix_map_indexed_alpha(table, with_alpha, PIXELS, 128, 77, unpacked) == PIX_OK, "pixels with an alpha are mapped");
     for (i = 0; i < PIXELS; i++)
-        kept &= unpacked[i] == (with_alpha[i].a < 128 ? 77 : indices[i]);
-    check(kept, "a pixel with an alpha has another index");
+        transparent_index &= unpacked[i] == (with_alpha[i].a < 128 ? 77 : indices[i]);
+    check(transparent_index, "a pixel with an alpha has another index");
 }
 
 enum { ROOM = 256 };
@@ -82,10 +82,10 @@ static void made(size_t count, size_t room, unsigned levels) {
             shown[left++] = pixels[i];
     }
     want = plain_table(pixels, count, plain, room);
-    check(pix_make_table(pixels, count, work, entries, room, &got) == PIX_OK, "a table is made");
+    check(pix_quantize(pixels, count, work, entries, room, &got) == PIX_OK, "a table is made");
     check(got == want && !memcmp(entries, plain, want * sizeof *plain), "a table that is made is another one");
     want = plain_table(shown, left, plain, room);
-    check(pix_make_table_alpha(with_alpha, count, 128, work, entries, room, &got) == PIX_OK, "a table of pixels with an alpha is made");
+    check(pix_quantize_alpha(with_alpha, count, 128, work, entries, room, &got) == PIX_OK, "a table of pixels with an alpha is made");
     check(got == want && !memcmp(entries, plain, want * sizeof *plain), "a table of pixels with an alpha is another one");
 }
 
@@ -93,14 +93,14 @@ static void made(size_t count, size_t room, unsigned levels) {
 static int is_refined(size_t count, size_t room, uint8_t rounds, const pix_srgb8 *plain, size_t want) {
     pix_srgb8 entries[ROOM];
     size_t got = 999;
-    check(pix_make_table_refined(pixels, count, rounds, work, entries, room, &got) == PIX_OK, "a table is refined");
+    check(pix_quantize_refined(pixels, count, rounds, work, entries, room, &got) == PIX_OK, "a table is refined");
     return got == want && !memcmp(entries, plain, want * sizeof *plain);
 }
 
 static int is_refined_alpha(size_t count, size_t room, uint8_t rounds, const pix_srgb8 *plain, size_t want) {
     pix_srgb8 entries[ROOM];
     size_t got = 999;
-    check(pix_make_table_refined_alpha(with_alpha, count, 128, rounds, work, entries, room, &got) == PIX_OK, "with an alpha");
+    check(pix_quantize_refined_alpha(with_alpha, count, 128, rounds, work, entries, room, &got) == PIX_OK, "with an alpha");
     return got == want && !memcmp(entries, plain, want * sizeof *plain);
 }
 
@@ -120,8 +120,8 @@ static void refined(size_t count, size_t room, unsigned levels) {
         if (with_alpha[i].a >= 128)
             shown[left++] = pixels[i];
     }
-    check(pix_make_table(pixels, count, work, plain, room, &len) == PIX_OK, "a table is made");
-    check(pix_make_table(shown, left, work, plain_alpha, room, &len_alpha) == PIX_OK, "a table of what is shown is made");
+    check(pix_quantize(pixels, count, work, plain, room, &len) == PIX_OK, "a table is made");
+    check(pix_quantize(shown, left, work, plain_alpha, room, &len_alpha) == PIX_OK, "a table of what is shown is made");
     for (rounds = 0; rounds <= 5; rounds++) {
         check(is_refined(count, room, rounds, plain, len), "a refined table is another one");
         check(is_refined_alpha(count, room, rounds, plain_alpha, len_alpha), "a refined table with an alpha is another one");
@@ -137,19 +137,19 @@ static void refined_refused(void) {
     pix_srgb8 entries[8] = {{1, 2, 3}, {4, 5, 6}}, some[8] = {{7, 8, 9}, {1, 1, 1}}, room[8] = {{5, 5, 5}};
     pix_srgba8 with[2] = {{1, 2, 3, 4}, {5, 6, 7, 8}};
     size_t count = 77;
-    check(pix_make_table_refined(some, 2, 1, room, entries, 0, &count) == PIX_BAD_TABLE, "a refined table of no entry");
-    check(pix_make_table_refined(some, 2, 1, room, entries, 257, &count) == PIX_BAD_TABLE, "a refined table of 257 entries");
-    check(pix_make_table_refined(some, SIZE_MAX / 2, 1, room, entries, 2, &count) == PIX_BAD_LENGTH, "too many pixels to refine");
-    check(pix_make_table_refined(some, 2, 1, NULL, entries, 2, &count) == PIX_NULL, "no work memory to refine in");
-    check(pix_make_table_refined(some, 2, 1, room, entries, 2, NULL) == PIX_NULL, "no count of a refined table");
-    check(pix_make_table_refined(some, 2, 1, some, entries, 2, &count) == PIX_OVERLAP, "refined in the pixels");
-    check(pix_make_table_refined(some, 2, 1, room, room, 2, &count) == PIX_OVERLAP, "refined entries in the work memory");
-    check(pix_make_table_refined_alpha(with, 2, 0, 1, room, entries, 0, &count) == PIX_BAD_TABLE, "with an alpha, no entry");
-    check(pix_make_table_refined_alpha(with, 2, 0, 1, room, room, 2, &count) == PIX_OVERLAP, "with an alpha, in the work memory");
-    check(pix_table_refined(some, 2, 1, room, 1, entries, 2, &count) == PIX_BAD_LENGTH, "too little work memory to refine");
-    check(pix_table_refined_alpha(with, 2, 0, 1, room, 1, entries, 2, &count) == PIX_BAD_LENGTH, "the same with an alpha");
+    check(pix_quantize_refined(some, 2, 1, room, entries, 0, &count) == PIX_BAD_TABLE, "a refined table of no entry");
+    check(pix_quantize_refined(some, 2, 1, room, entries, 257, &count) == PIX_BAD_TABLE, "a refined table of 257 entries");
+    check(pix_quantize_refined(some, SIZE_MAX / 2, 1, room, entries, 2, &count) == PIX_BAD_LENGTH, "too many pixels to refine");
+    check(pix_quantize_refined(some, 2, 1, NULL, entries, 2, &count) == PIX_NULL, "no work memory to refine in");
+    check(pix_quantize_refined(some, 2, 1, room, entries, 2, NULL) == PIX_NULL, "no count of a refined table");
+    check(pix_quantize_refined(some, 2, 1, some, entries, 2, &count) == PIX_OVERLAP, "refined in the pixels");
+    check(pix_quantize_refined(some, 2, 1, room, room, 2, &count) == PIX_OVERLAP, "refined entries in the work memory");
+    check(pix_quantize_refined_alpha(with, 2, 0, 1, room, entries, 0, &count) == PIX_BAD_TABLE, "with an alpha, no entry");
+    check(pix_quantize_refined_alpha(with, 2, 0, 1, room, room, 2, &count) == PIX_OVERLAP, "with an alpha, in the work memory");
+    check(pix_raw_quantize_refined(some, 2, 1, room, 1, entries, 2, &count) == PIX_BAD_LENGTH, "too little work memory to refine");
+    check(pix_raw_quantize_refined_alpha(with, 2, 0, 1, room, 1, entries, 2, &count) == PIX_BAD_LENGTH, "the same with an alpha");
     check(count == 77 && entries[1].r == 4, "what is refused refines no table");
-    check(pix_make_table_refined(NULL, 0, 255, NULL, entries, 2, &count) == PIX_OK && count == 0, "a refined table of no pixels");
+    check(pix_quantize_refined(NULL, 0, 255, NULL, entries, 2, &count) == PIX_OK && count == 0, "a refined table of no pixels");
 }
 
 /* Errors are diffused as by the plain loops, and in the way of old where the strength is 16 and no row goes to the left. Rows from
@@ -172,7 +172,7 @@ static void diffused(size_t len, size_t width, size_t count, pix_diffusion how) 
         pixels[i].g = with_alpha[i].g;
         pixels[i].b = with_alpha[i].b;
     }
-    check(pix_diffusion_work(width) <= PIXELS, "work memory of the test");
+    check(pix_diffuse_indexed_work(width) <= PIXELS, "work memory of the test");
     plain_diffuse(entries, len, with_alpha, count, width, 0, 0, old, unpacked);
     check(pix_diffuse_indexed(table, pixels, count, width, work, indices) == PIX_OK, "errors are diffused");
     check(!memcmp(indices, unpacked, count), "an index by error diffusion is another one");
@@ -240,31 +240,31 @@ static void made_refused(void) {
     uint8_t index[2] = {9, 9};
     size_t count = 77;
     pix_table table = pix_table_of(entries, 2);
-    check(pix_make_table(some, 2, room, entries, 0, &count) == PIX_BAD_TABLE, "a table of no entry");
-    check(pix_make_table(some, 2, room, entries, 257, &count) == PIX_BAD_TABLE, "a table of 257 entries");
-    check(pix_make_table(some, SIZE_MAX / 2, room, entries, 2, &count) == PIX_BAD_LENGTH, "a table of too many pixels");
-    check(pix_make_table(some, 2, NULL, entries, 2, &count) == PIX_NULL, "no work memory");
-    check(pix_make_table(some, 2, room, NULL, 2, &count) == PIX_NULL, "no entries");
-    check(pix_make_table(some, 2, room, entries, 2, NULL) == PIX_NULL, "no count");
-    check(pix_make_table(some, 2, some, entries, 2, &count) == PIX_OVERLAP, "work memory in the pixels");
-    check(pix_make_table(some, 2, room, room, 2, &count) == PIX_OVERLAP, "entries in the work memory");
-    check(pix_make_table(some, 2, room, some, 2, &count) == PIX_OVERLAP, "entries in the pixels");
-    check(pix_table_from(some, 2, room, 1, entries, 2, &count) == PIX_BAD_LENGTH, "too little work memory");
+    check(pix_quantize(some, 2, room, entries, 0, &count) == PIX_BAD_TABLE, "a table of no entry");
+    check(pix_quantize(some, 2, room, entries, 257, &count) == PIX_BAD_TABLE, "a table of 257 entries");
+    check(pix_quantize(some, SIZE_MAX / 2, room, entries, 2, &count) == PIX_BAD_LENGTH, "a table of too many pixels");
+    check(pix_quantize(some, 2, NULL, entries, 2, &count) == PIX_NULL, "no work memory");
+    check(pix_quantize(some, 2, room, NULL, 2, &count) == PIX_NULL, "no entries");
+    check(pix_quantize(some, 2, room, entries, 2, NULL) == PIX_NULL, "no count");
+    check(pix_quantize(some, 2, some, entries, 2, &count) == PIX_OVERLAP, "work memory in the pixels");
+    check(pix_quantize(some, 2, room, room, 2, &count) == PIX_OVERLAP, "entries in the work memory");
+    check(pix_quantize(some, 2, room, some, 2, &count) == PIX_OVERLAP, "entries in the pixels");
+    check(pix_raw_quantize(some, 2, room, 1, entries, 2, &count) == PIX_BAD_LENGTH, "too little work memory");
     check(count == 77, "what is refused makes no table");
-    check(pix_make_table(NULL, 0, NULL, entries, 2, &count) == PIX_OK && count == 0, "a table of no pixels");
+    check(pix_quantize(NULL, 0, NULL, entries, 2, &count) == PIX_OK && count == 0, "a table of no pixels");
     check(pix_diffuse_indexed(pix_table_of(entries, 0), some, 2, 2, room, index) == PIX_BAD_TABLE, "no entry to diffuse to");
     check(pix_diffuse_indexed(table, some, 2, 0, room, index) == PIX_BAD_LENGTH, "rows of no pixel");
     check(pix_diffuse_indexed(table, some, 2, SIZE_MAX / 4 + 2, room, index) == PIX_BAD_LENGTH, "rows of too many pixels");
-    check(pix_diffusion_work(SIZE_MAX / 4 + 2) == SIZE_MAX, "work memory of rows of too many pixels");
-    check(pix_diffusion_work(5) == 20 && pix_table_work(5) == 5, "work memory");
+    check(pix_diffuse_indexed_work(SIZE_MAX / 4 + 2) == SIZE_MAX, "work memory of rows of too many pixels");
+    check(pix_diffuse_indexed_work(5) == 20 && pix_quantize_work(5) == 5, "work memory");
     check(pix_diffuse_indexed(table, some, 2, 2, NULL, index) == PIX_NULL, "no work memory to diffuse in");
     check(pix_diffuse_indexed(table, some, 2, 2, room, NULL) == PIX_NULL, "no indices to diffuse to");
     check(pix_diffuse_indexed(table, some, 2, 1, some, index) == PIX_OVERLAP, "work memory in the pixels to diffuse");
     check(pix_diffuse_indexed(table, some, 2, 1, entries, index) == PIX_OVERLAP, "work memory in the table");
     check(pix_diffuse_indexed(table, some, 2, 1, room, &room[1].g) == PIX_OVERLAP, "indices in the work memory");
-    check(pix_table_diffuse(entries, 2, some, 2, 2, room, 7, index, 2) == PIX_BAD_LENGTH, "too little work memory for rows");
-    check(pix_table_diffuse(entries, 2, some, 2, 0, room, 0, index, 2) == PIX_BAD_LENGTH, "no row");
-    check(pix_table_diffuse(entries, 2, some, 2, 2, room, 8, index, 1) == PIX_BAD_LENGTH, "fewer indices than pixels to diffuse");
+    check(pix_raw_diffuse_indexed(entries, 2, some, 2, 2, room, 7, index, 2) == PIX_BAD_LENGTH, "too little work memory for rows");
+    check(pix_raw_diffuse_indexed(entries, 2, some, 2, 0, room, 0, index, 2) == PIX_BAD_LENGTH, "no row");
+    check(pix_raw_diffuse_indexed(entries, 2, some, 2, 2, room, 8, index, 1) == PIX_BAD_LENGTH, "fewer indices than pixels to diffuse");
     check(index[0] == 9 && index[1] == 9 && entries[0].r == 1 && some[1].g == 1 && room[0].r == 5, "what is refused stays");
 }
 
@@ -308,13 +308,13 @@ static void diffused_refused(void) {
     check(pix_diffuse_indexed_by_alpha(table, with, 3, 1, 1, 7, turning, NULL, index) == PIX_NULL, "with an alpha, no work memory");
     check(pix_diffuse_indexed_by_alpha(table, with, 3, 1, 1, 7, turning, room, &with[2].a) == PIX_OVERLAP, "in pixels with an alpha");
     check(pix_diffuse_indexed_by_alpha(pix_table_of(NULL, 0), with, 3, 3, 9, 7, turning, room, index) == PIX_BAD_TABLE, "counts");
-    check(pix_table_diffuse_by(entries, 2, some, 3, 2, 17, 0, room, 8, index, 1) == PIX_BAD_STRENGTH, "a strength in the archive");
-    check(pix_table_diffuse_by(entries, 0, some, 3, 2, 17, 0, room, 8, index, 3) == PIX_BAD_TABLE, "no table in the archive");
-    check(pix_table_diffuse_by(entries, 2, some, 3, 2, 16, 1, room, 8, index, 3) == PIX_BAD_LENGTH, "a row in the archive");
-    check(pix_table_diffuse_by(entries, 2, some, 2, 2, 16, 1, room, 7, index, 2) == PIX_BAD_LENGTH, "too little work memory");
-    check(pix_table_diffuse_by(entries, 2, some, 2, 2, 16, 1, room, 8, index, 3) == PIX_BAD_LENGTH, "more indices than pixels");
-    check(pix_table_diffuse_by_alpha(entries, 2, with, 3, 2, 1, 7, 17, 0, room, 8, index, 3) == PIX_BAD_STRENGTH, "with an alpha");
-    check(pix_table_diffuse_by_alpha(entries, 2, with, 3, 2, 1, 7, 16, 1, room, 8, index, 3) == PIX_BAD_LENGTH, "a row with alphas");
+    check(pix_raw_diffuse_indexed_by(entries, 2, some, 3, 2, 17, 0, room, 8, index, 1) == PIX_BAD_STRENGTH, "a strength in the archive");
+    check(pix_raw_diffuse_indexed_by(entries, 0, some, 3, 2, 17, 0, room, 8, index, 3) == PIX_BAD_TABLE, "no table in the archive");
+    check(pix_raw_diffuse_indexed_by(entries, 2, some, 3, 2, 16, 1, room, 8, index, 3) == PIX_BAD_LENGTH, "a row in the archive");
+    check(pix_raw_diffuse_indexed_by(entries, 2, some, 2, 2, 16, 1, room, 7, index, 2) == PIX_BAD_LENGTH, "too little work memory");
+    check(pix_raw_diffuse_indexed_by(entries, 2, some, 2, 2, 16, 1, room, 8, index, 3) == PIX_BAD_LENGTH, "more indices than pixels");
+    check(pix_raw_diffuse_indexed_by_alpha(entries, 2, with, 3, 2, 1, 7, 17, 0, room, 8, index, 3) == PIX_BAD_STRENGTH, "with an alpha");
+    check(pix_raw_diffuse_indexed_by_alpha(entries, 2, with, 3, 2, 1, 7, 16, 1, room, 8, index, 3) == PIX_BAD_LENGTH, "a row with alphas");
     check(index[0] == 9 && index[2] == 9 && entries[0].r == 1 && some[1].g == 1 && room[0].r == 5, "what is refused diffuses none");
     check(pix_diffuse_indexed_by_alpha(pix_table_of(NULL, 0), with, 3, 3, 10, 7, turning, room, index) == PIX_OK, "all are clear");
     check(index[0] == 7 && index[1] == 7 && index[2] == 7, "indices of clear pixels in a way");
@@ -328,7 +328,7 @@ static void cleared(void) {
     uint8_t index[4] = {9, 9, 9, 9};
     size_t made = 77;
     pix_table none;
-    check(pix_make_table_alpha(clear, 3, 128, room, entries, 4, &made) == PIX_OK && made == 0, "a table of a clear picture");
+    check(pix_quantize_alpha(clear, 3, 128, room, entries, 4, &made) == PIX_OK && made == 0, "a table of a clear picture");
     none = pix_table_of(entries, made);
     check(pix_map_indexed_alpha(none, clear, 3, 128, 5, index) == PIX_OK, "a clear picture is mapped");
     check(index[0] == 5 && index[1] == 5 && index[2] == 5 && index[3] == 9, "indices of a clear picture");
@@ -399,7 +399,7 @@ static void indexed_refused(void) {
     check(pix_index_pixels(entries, 2, &used, none, &entries[1], 1, &index) == PIX_OVERLAP, "pixels in the table that is set");
     check(pix_index_pixels(entries, 2, &used, none, &pixel, 1, &entries[1].g) == PIX_OVERLAP, "indices in the table that is set");
     check(pix_index_pixels(entries, 2, &used, none, &pixel, 1, (uint8_t *)&used) == PIX_OVERLAP, "an index in the number");
-    check(pix_table_index(entries, 2, &used, &none, &pixel, 1, &index, 0) == PIX_BAD_LENGTH, "fewer indices than colors");
+    check(pix_raw_index_pixels(entries, 2, &used, &none, &pixel, 1, &index, 0) == PIX_BAD_LENGTH, "fewer indices than colors");
     check(used == 1 && index == 9 && entries[1].r == 0, "what is refused adds no color");
     check(pix_index_pixels(entries, 2, &used, none, NULL, 0, NULL) == PIX_OK && used == 1, "no pixels are set");
     used = 3;
@@ -436,10 +436,10 @@ static void refused(void) {
     cleared();
     indexed_refused();
     /* The calls themselves test lengths. */
-    check(pix_table_match(entries, 1, &pixel, 1, &index, 0) == PIX_BAD_LENGTH, "fewer indices than pixels");
-    check(pix_table_look_up(entries, 1, &past, 1, &pixel, 0) == PIX_BAD_LENGTH, "fewer pixels than indices");
-    check(pix_table_pack(2, &past, 1, &index, 0) == PIX_BAD_LENGTH, "fewer bytes than the row takes");
-    check(pix_table_unpack(2, &past, 0, &index, 1) == PIX_BAD_LENGTH, "fewer bytes than were packed");
+    check(pix_raw_map_indexed(entries, 1, &pixel, 1, &index, 0) == PIX_BAD_LENGTH, "fewer indices than pixels");
+    check(pix_raw_look_up(entries, 1, &past, 1, &pixel, 0) == PIX_BAD_LENGTH, "fewer pixels than indices");
+    check(pix_raw_pack_row(2, &past, 1, &index, 0) == PIX_BAD_LENGTH, "fewer bytes than the row takes");
+    check(pix_raw_unpack_row(2, &past, 0, &index, 1) == PIX_BAD_LENGTH, "fewer bytes than were packed");
     check(index == 9, "what is refused changes no index");
 }
 

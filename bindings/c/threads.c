@@ -16,7 +16,7 @@ static void *paint(void *pixels) {
     const pix_region whole = pix_region_of(0, 0, SIDE, SIDE);
     for (int i = 0; i < ROUNDS; i++) {
         pix_command list[2];
-        list[0] = pix_composite_image(pix_region_of(i % 9, -i % 5, SIDE, SIDE), pix_source_of(source, SIDE, SIDE),
+        list[0] = pix_composite_image(pix_region_of(i % 9, -i % 5, SIDE, SIDE), pix_view_of(source, SIDE, SIDE),
                                       whole, PIX_OP_SRC_OVER);
         list[1] = pix_composite_matte(whole, pix_matte_of(values, SIDE, SIDE), whole,
                                       pix_rgba8_of(0, (uint8_t)i, 0, 255), PIX_OP_XOR);
@@ -30,7 +30,7 @@ static void *paint(void *pixels) {
 static void fill_list(pix_command *list) {
     const pix_region whole = pix_region_of(0, 0, SIDE, SIDE);
     list[0] = pix_clear();
-    list[1] = pix_composite_image(pix_region_of(-3, 5, SIDE, SIDE), pix_source_of(source, SIDE, SIDE), whole,
+    list[1] = pix_composite_image(pix_region_of(-3, 5, SIDE, SIDE), pix_view_of(source, SIDE, SIDE), whole,
                                   PIX_OP_SRC_OVER);
     list[2] = pix_composite_matte(whole, pix_matte_of(values, SIDE, SIDE), pix_region_of(2, -7, SIDE, SIDE),
                                   pix_rgba8_of(0, 90, 0, 200), PIX_OP_SRC_ATOP);
@@ -44,7 +44,7 @@ static void *paint_band(void *row) {
     pix_command list[4];
     fill_list(list);
     for (int i = 0; i < ROUNDS; i++)
-        if (pix_run_in(band, 0, (uint32_t)top, list, 4, NULL) != PIX_OK)
+        if (pix_run_window(band, 0, (uint32_t)top, list, 4, NULL) != PIX_OK)
             return row;
     return NULL;
 }

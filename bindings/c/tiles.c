@@ -54,7 +54,7 @@ static uint32_t side(void) {
 static pix_command command(uint32_t width, uint32_t height) {
     pix_region to = pix_region_of(coordinate(), coordinate(), side(), side());
     pix_region from = pix_region_of(coordinate(), coordinate(), side(), side());
-    pix_source image = pix_source_of(source, width, height);
+    pix_view image = pix_view_of(source, width, height);
     pix_matte matte = pix_matte_of(values, width, height);
     pix_region mask_from = pix_region_of(coordinate(), coordinate(), side(), side());
     pix_kind kind = (pix_kind)(below(12) ? 1 + below(PIX_KIND_COUNT - 1) : PIX_KIND_CLEAR);
@@ -82,11 +82,11 @@ static pix_status paint(uint32_t x, uint32_t y, uint32_t columns, uint32_t rows,
     if (in_place) {
         pix_image strided = pix_image_of(start, columns, rows);
         strided.stride = width;
-        return pix_run_in(strided, x, y, list, count, NULL);
+        return pix_run_window(strided, x, y, list, count, NULL);
     }
     for (uint32_t row = 0; row < rows; row++)
         memcpy(tile + row * columns, start + row * width, columns * sizeof *tile);
-    pix_status status = pix_run_in(pix_image_of(tile, columns, rows), x, y, list, count, NULL);
+    pix_status status = pix_run_window(pix_image_of(tile, columns, rows), x, y, list, count, NULL);
     for (uint32_t row = 0; row < rows; row++)
         memcpy(start + row * width, tile + row * columns, columns * sizeof *tile);
     return status;
@@ -143,14 +143,14 @@ static int is_far(pix_command it, uint8_t a, uint8_t b, uint8_t c, uint8_t d) {
     const pix_image window = pix_image_of(pixels, 2, 2);
     for (uint8_t i = 0; i < 4; i++)
         pixels[i] = pix_rgba8_of(0, 0, 0, (uint8_t)(i + 1));
-    if (pix_run_in(window, INT32_MAX - 2, INT32_MAX - 2, &it, 1, NULL) != PIX_OK)
+    if (pix_run_window(window, INT32_MAX - 2, INT32_MAX - 2, &it, 1, NULL) != PIX_OK)
         return 0;
     return pixels[0].a == a && pixels[1].a == b && pixels[2].a == c && pixels[3].a == d;
 }
 
 static int try_ends(void) {
     const pix_region all = pix_region_of(INT32_MIN, INT32_MIN, INT32_MAX, INT32_MAX);
-    const pix_source two = pix_source_of(source, 2, 2);
+    const pix_view two = pix_view_of(source, 2, 2);
     const int32_t last = INT32_MAX - 1;
     for (uint8_t i = 0; i < 4; i++)
         source[i] = pix_rgba8_of(0, 0, 0, (uint8_t)(10 * (i + 1)));

@@ -54,7 +54,7 @@ static void compare_number(const char *what, size_t got, size_t wanted) {
     static void run##S(PIXEL *pixels, size_t length, uint32_t width, uint32_t height, uint32_t stride,                 \
                        const pix_command##S *list, size_t count, pix_status status, size_t done) {                     \
         size_t at = 7;                                                                                                 \
-        uint32_t got = pix_run_commands##S(pixels, length, width, height, stride, list, count, &at);                   \
+        uint32_t got = pix_raw_run##S(pixels, length, width, height, stride, list, count, &at);                   \
         compare_number("the status", got, status);                                                                     \
         compare_number("done", at, done);                                                                              \
     }
@@ -288,11 +288,11 @@ static void sixteen_bits(void) {
 static void masks_and_opacities(void) {
     static const uint8_t values[] = {9, 9, 9, 128, 0, 255};
     static const pix_rgba8 pixel = {200, 100, 0, 200}, faded = {100, 50, 61, 255}, below = {0, 0, 100, 255};
-    static const pix_rgba8 kept = {200, 100, 22, 255}; /* 100 * 55 / 255 = 21.6 */
+    static const pix_rgba8 transparent_index = {200, 100, 22, 255}; /* 100 * 55 / 255 = 21.6 */
     const pix_region all = pix_region_of(0, 0, 9, 9), one = pix_region_of(0, 0, 1, 1);
-    const pix_source source = pix_source_of(&pixel, 1, 1);
+    const pix_view source = pix_view_of(&pixel, 1, 1);
     pix_rgba8 image[3] = {below, below, below}, row[3];
-    const pix_rgba8 wanted[3] = {faded, below, kept};
+    const pix_rgba8 wanted[3] = {faded, below, transparent_index};
     pix_matte mask = pix_matte_of(values, 3, 2);
     pix_command it = pix_composite_image_alpha(one, source, all, 128, PIX_OP_SRC_OVER);
     begin("masks_and_opacities: at an opacity");
@@ -305,13 +305,13 @@ static void masks_and_opacities(void) {
     compare_pixels(image, &pixel, 1);
     row[0] = row[1] = row[2] = pixel;
     image[0] = below;
-    it = pix_composite_image_matte(all, pix_source_of(row, 3, 1), all, mask, pix_region_of(0, 1, 3, 9), PIX_OP_SRC_OVER);
+    it = pix_composite_image_matte(all, pix_view_of(row, 3, 1), all, mask, pix_region_of(0, 1, 3, 9), PIX_OP_SRC_OVER);
     begin("masks_and_opacities: through a mask");
     run(image, 3, 3, 1, 3, &it, 1, PIX_OK, 1);
     compare_pixels(image, wanted, 3);
     begin("masks_and_opacities: a mask of another stride");
     mask.width = 2, mask.stride = 3, image[0] = image[1] = image[2] = below;
-    it = pix_composite_image_matte(all, pix_source_of(row, 2, 1), all, mask, pix_region_of(0, 1, 3, 9), PIX_OP_SRC_OVER);
+    it = pix_composite_image_matte(all, pix_view_of(row, 2, 1), all, mask, pix_region_of(0, 1, 3, 9), PIX_OP_SRC_OVER);
     run(image, 3, 3, 1, 3, &it, 1, PIX_OK, 1);
     compare_pixels(image, wanted, 2);
     compare_pixels(image + 2, &below, 1);
@@ -327,7 +327,7 @@ static void masks_and_opacities(void) {
 static void gray_and_alpha(void) {
     static const pix_graya8 pixel = {50, 51}, wanted = {130, 214};
     const pix_region one = pix_region_of(0, 0, 1, 1);
-    const pix_source_graya8 source = pix_source_of_graya8(&pixel, 1, 1);
+    const pix_view_graya8 source = pix_view_of_graya8(&pixel, 1, 1);
     pix_command_graya8 it = pix_composite_image_graya8(one, source, one, PIX_OP_SRC_OVER);
     pix_graya8 image = {100, 204};
     begin("gray_and_alpha: a pixel");

@@ -25,7 +25,7 @@ int main(void) {
     list[3] = light(mask, 102, 58, pix_rgba8_of(20, 60, 230, 255));
     pix_status status = pix_run(image, list, 4, NULL);
     if (status == PIX_OK) /* from light to the bytes of a screen */
-        status = pix_convert_bitmap(pix_bitmap_source_of_bitmap(pix_bitmap_of_image(image)),
+        status = pix_convert_bitmap(pix_bitmap_view_of_bitmap(pix_bitmap_of_image(image)),
                                     pix_bitmap_of(bytes, WIDTH, HEIGHT, PIX_FORMAT_SRGB8));
     FILE *file = fopen("first.ppm", "wb");
     if (!file) return 1;

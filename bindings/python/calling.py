@@ -65,7 +65,7 @@ def glaze(photo):
 def index_picture(picture):
     """Returns a table of at most 16 colors of a picture, and the index of each pixel in it."""
     pixels = picture.to_array(pix.SRGB8)
-    table = pix.table_from(pixels, 16)
+    table = pix.quantize(pixels, 16)
     return table, pix.diffuse_indexed(table, pixels, picture.width)
 
 

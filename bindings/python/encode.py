@@ -58,7 +58,7 @@ def with_alphas(picture: Image.Image, colors: int, rounds: int, diffusion: Optio
         table, [indices] = with_clear([picture], colors, rounds, diffusion)
         return table, indices
     pixels = picture.tobytes()
-    made = pix.table_rgba_from(pixels, colors, rounds)
+    made = pix.quantize_rgba(pixels, colors, rounds)
     entries = sorted((bytes(made[i : i + 4]) for i in range(0, len(made), 4)), key=lambda entry: entry[3] == 255)
     table = b"".join(entries)
     if diffusion is None:
@@ -70,8 +70,8 @@ def with_clear(frames: List[Image.Image], colors: int, rounds: int, diffusion: O
     """One table for all frames, four bytes a color, and the indices of each. Where a frame has clear pixels, the last is clear."""
     pixels = [frame.tobytes() for frame in frames]
     kept = any(alpha < CLEAR for frame in pixels for alpha in set(frame[3::4]))
-    table = bytes(pix.table_from(b"".join(pixels), colors - kept, pix.SRGBA8, CLEAR, rounds))
-    how = {"format": pix.SRGBA8, "alpha": CLEAR, "kept": len(table) // 3 if kept else 0}
+    table = bytes(pix.quantize(b"".join(pixels), colors - kept, pix.SRGBA8, CLEAR, rounds))
+    how = {"format": pix.SRGBA8, "alpha": CLEAR, "transparent_index": len(table) // 3 if kept else 0}
     if diffusion is None:
         indices = [bytes(pix.map_indexed(table, frame, **how)) for frame in pixels]
     else:

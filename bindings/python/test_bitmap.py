@@ -37,8 +37,8 @@ def photograph(samples):
 class Formats(unittest.TestCase):
     def test_sizes_are_those_of_the_library(self):
         for format in Format:
-            self.assertEqual(libraries[0].pix_pixel_size(format), format.size, format)
-        self.assertEqual(libraries[0].pix_pixel_size(len(Format)), 0)
+            self.assertEqual(libraries[0].pix_raw_format_size(format), format.size, format)
+        self.assertEqual(libraries[0].pix_raw_format_size(len(Format)), 0)
 
 
 class Bitmaps(unittest.TestCase):

@@ -51,7 +51,7 @@ class OneWayIn(unittest.TestCase):
             for key, member in {name: item, **members}.items():
                 if "Buffer" in str(getattr(member, "__annotations__", "")):
                     names.add(key.replace(".__init__", ""))
-        self.assertLessEqual({"Image", "Image.from_array", "Matte", "table_from", "look_up"}, names)
+        self.assertLessEqual({"Image", "Image.from_array", "Matte", "quantize", "look_up"}, names)
         self.assertLessEqual(names, {name for name, _ in TAKEN})
 
     def test_objects_that_say_they_are_others(self):

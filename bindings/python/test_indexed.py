@@ -153,12 +153,12 @@ def plain_diffused(width, pixels, strength, serpentine, chosen):
     return bytes(indices)
 
 
-def by_colors(table, alpha, kept):
-    """How a pixel is chosen among colors; one below an alpha is kept, and has no errors."""
+def by_colors(table, alpha, transparent_index):
+    """How a pixel is chosen among colors; one below an alpha is transparent_index, and has no errors."""
 
     def chosen(pixel, wanted):
         if pixel[3] < alpha:
-            return kept, None
+            return transparent_index, None
         color = tuple(wanted(i, pixel[i]) for i in range(3))
         at = plain_nearest(table, color)
         return at, (*(x - y for x, y in zip(color, table[at])), 0)
@@ -203,27 +203,27 @@ class Tables(unittest.TestCase):
             back = pix.look_up(joined(table), wanted)
             self.assertEqual(back, joined(table[i] for i in wanted))
             with_alpha = joined((*pixel, 126 + i % 4) for i, pixel in enumerate(pixels))
-            kept = bytes(77 if i % 4 < 2 else index for i, index in enumerate(wanted))
-            found = pix.map_indexed(joined(table), with_alpha, format=pix.Format.SRGBA8, alpha=128, kept=77)
-            self.assertEqual(found, kept)
+            transparent_index = bytes(77 if i % 4 < 2 else index for i, index in enumerate(wanted))
+            found = pix.map_indexed(joined(table), with_alpha, format=pix.Format.SRGBA8, alpha=128, transparent_index=77)
+            self.assertEqual(found, transparent_index)
 
     def test_made(self):
         chance = random.Random(3)
         few = joined(chance.choice([(1, 2, 3), (9, 9, 9), (0, 255, 0)]) for _ in range(50))
         firsts = joined(dict.fromkeys(few[i : i + 3] for i in range(0, len(few), 3)))
-        self.assertEqual(pix.table_from(few), firsts)
-        self.assertEqual(pix.table_from(few, 3), firsts)
-        self.assertEqual(len(pix.table_from(few, 2)), 6)
+        self.assertEqual(pix.quantize(few), firsts)
+        self.assertEqual(pix.quantize(few, 3), firsts)
+        self.assertEqual(len(pix.quantize(few, 2)), 6)
         halves = joined([(0, 0, 0)] * 3 + [(1, 1, 1)] + [(200, 0, 0), (201, 0, 0)] * 2)
-        self.assertEqual(pix.table_from(halves, 2), joined([(0, 0, 0), (201, 0, 0)]))
+        self.assertEqual(pix.quantize(halves, 2), joined([(0, 0, 0), (201, 0, 0)]))
         clear = joined([(1, 2, 3, 128), (4, 5, 6, 127), (1, 2, 3, 255)])
-        self.assertEqual(pix.table_from(clear, format=pix.Format.SRGBA8, alpha=128), b"\1\2\3")
-        self.assertEqual(pix.table_from(b""), b"")
+        self.assertEqual(pix.quantize(clear, format=pix.Format.SRGBA8, alpha=128), b"\1\2\3")
+        self.assertEqual(pix.quantize(b""), b"")
         many = bytes(chance.randrange(256) for _ in range(6000))
         for length in (1, 2, 7, 256):
-            table = pix.table_from(many, length)
+            table = pix.quantize(many, length)
             self.assertEqual(len(table), 3 * length)
-        self.assertEqual(pix.table_from(many, 1), bytes((2 * sum(many[c::3]) + 2000) // 4000 for c in range(3)))
+        self.assertEqual(pix.quantize(many, 1), bytes((2 * sum(many[c::3]) + 2000) // 4000 for c in range(3)))
 
     def test_cuts(self):
         chance = random.Random(4)
@@ -231,7 +231,7 @@ class Tables(unittest.TestCase):
             levels, room = chance.choice([2, 3, 9, 256]), chance.randrange(1, 12)
             step, count = 255 // (levels - 1), chance.randrange(1, 40)
             colors = [tuple(step * chance.randrange(levels) for _ in range(3)) for _ in range(count)]
-            self.assertEqual(pix.table_from(joined(colors), room), joined(plain_table(colors, room)))
+            self.assertEqual(pix.quantize(joined(colors), room), joined(plain_table(colors, room)))
 
     def test_refined(self):
         chance = random.Random(5)
@@ -242,14 +242,14 @@ class Tables(unittest.TestCase):
             clear = joined((*color, 128) for color in colors) + joined((*color, 127) for color in colors[:3])
             plain, error = plain_table(colors, room), None
             for rounds in range(5):
-                self.assertEqual(pix.table_from(joined(colors), room, rounds=rounds), joined(plain))
-                self.assertEqual(pix.table_from(clear, room, pix.SRGBA8, 128, rounds), joined(plain))
+                self.assertEqual(pix.quantize(joined(colors), room, rounds=rounds), joined(plain))
+                self.assertEqual(pix.quantize(clear, room, pix.SRGBA8, 128, rounds), joined(plain))
                 before, error = error, squared_error(plain, colors)
                 self.assertTrue(before is None or error <= before)
                 plain = plain_round(colors, plain)
         for rounds in (-1, 256):
             with self.assertRaises(ValueError):
-                pix.table_from(b"abc", rounds=rounds)
+                pix.quantize(b"abc", rounds=rounds)
 
     def test_diffused(self):
         grays = joined([(0, 0, 0), (255, 255, 255)])
@@ -260,7 +260,7 @@ class Tables(unittest.TestCase):
         # By hand: 100 is black and hands on 700 sixteenths, so that 100 and 44 are 144, which is white, and so on.
         self.assertEqual(pix.diffuse_indexed(grays, bytes([100]) * 12, 4), b"\0\1\0\0")
         clear = joined([(100, 100, 100, 0), (100, 100, 100, 255)])
-        found = pix.diffuse_indexed(grays, clear, 2, format=pix.Format.SRGBA8, alpha=1, kept=9)
+        found = pix.diffuse_indexed(grays, clear, 2, format=pix.Format.SRGBA8, alpha=1, transparent_index=9)
         self.assertEqual(found, b"\x09\0")
         self.assertEqual(pix.diffuse_indexed(grays, b"", 5), b"")
 
@@ -300,12 +300,12 @@ class Tables(unittest.TestCase):
         for _ in range(40):
             room, rounds = chance.randrange(1, 10), chance.randrange(4)
             pixels = any_pixels(chance, chance.randrange(1, 40))
-            made = pix.table_rgba_from(joined(pixels), room, rounds)
+            made = pix.quantize_rgba(joined(pixels), room, rounds)
             self.assertEqual(made, joined(seen_table(pixels, room, rounds)))
-        self.assertEqual(pix.table_rgba_from(b""), b"")
+        self.assertEqual(pix.quantize_rgba(b""), b"")
         # Few colors are kept as they are, the first of those that are seen alike.
         few = joined([(9, 8, 7, 0), (1, 2, 3, 255), (0, 0, 0, 0), (200, 3, 90, 1), (210, 4, 80, 1), (7, 7, 7, 77)])
-        self.assertEqual(pix.table_rgba_from(few), joined([(9, 8, 7, 0), (1, 2, 3, 255), (200, 3, 90, 1), (7, 7, 7, 77)]))
+        self.assertEqual(pix.quantize_rgba(few), joined([(9, 8, 7, 0), (1, 2, 3, 255), (200, 3, 90, 1), (7, 7, 7, 77)]))
         for color in any_pixels(chance, 100):
             self.assertEqual(seen(straight(seen(color))), seen(color))
 
@@ -324,7 +324,7 @@ class Tables(unittest.TestCase):
         colors = [tuple(chance.randrange(256) for _ in range(3)) for _ in range(600)]
         plain, opaque = joined(colors), joined((*color, 255) for color in colors)
         for length, rounds in ((2, 0), (7, 1), (100, 4), (256, 2)):
-            table, other = pix.table_from(plain, length, rounds=rounds), pix.table_rgba_from(opaque, length, rounds)
+            table, other = pix.quantize(plain, length, rounds=rounds), pix.quantize_rgba(opaque, length, rounds)
             self.assertEqual(pix.look_up(table, bytes(range(length))), joined(other[i : i + 3] for i in range(0, len(other), 4)))
             self.assertEqual(set(other[3::4]), {255})
             self.assertEqual(pix.map_indexed_rgba(other, opaque), pix.map_indexed(table, plain))
@@ -335,11 +335,11 @@ class Tables(unittest.TestCase):
     def test_tables_of_clear_pictures(self):
         clear = joined((9, 9, 9, i) for i in range(20))
         for make in (lambda *words: pix.map_indexed(*words), lambda table, pixels, *more: pix.diffuse_indexed(table, pixels, 4, *more)):
-            table, kept = pix.table_from(clear, format=pix.Format.SRGBA8, alpha=20), bytearray(20)
-            self.assertEqual(make(table, clear, kept, pix.Format.SRGBA8, 20, 7), b"\7" * 20)
+            table, transparent_index = pix.quantize(clear, format=pix.Format.SRGBA8, alpha=20), bytearray(20)
+            self.assertEqual(make(table, clear, transparent_index, pix.Format.SRGBA8, 20, 7), b"\7" * 20)
             for alpha in (0, 19):
-                self.refused(pix.Status.BAD_TABLE, make, table, clear, kept, pix.Format.SRGBA8, alpha, 3)
-            self.assertEqual(kept, b"\7" * 20)
+                self.refused(pix.Status.BAD_TABLE, make, table, clear, transparent_index, pix.Format.SRGBA8, alpha, 3)
+            self.assertEqual(transparent_index, b"\7" * 20)
             self.assertEqual(make(b"", b"", None, pix.Format.SRGBA8), b"")
 
     def test_indexed(self):
@@ -391,48 +391,48 @@ class Tables(unittest.TestCase):
         self.assertEqual(refused.exception.status, status)
 
     def test_refusals(self):
-        status, kept = pix.Status, bytearray(b"\x09\x09")
+        status, transparent_index = pix.Status, bytearray(b"\x09\x09")
         self.refused(status.BAD_TABLE, pix.map_indexed, b"", b"abc")
         self.refused(status.BAD_TABLE, pix.map_indexed, bytes(3 * 257), b"abc")
         self.refused(status.BAD_LENGTH, pix.map_indexed, b"ab", b"abc")
         self.refused(status.BAD_LENGTH, pix.map_indexed, b"abc", b"abcd")
-        self.refused(status.BAD_LENGTH, pix.map_indexed, b"abc", b"abc", kept)
+        self.refused(status.BAD_LENGTH, pix.map_indexed, b"abc", b"abc", transparent_index)
         self.refused(status.BAD_FORMAT, pix.map_indexed, b"abc", b"abcd", format=pix.Format.RGBA8P)
-        self.refused(status.BAD_TABLE, pix.table_from, b"abc", 0)
-        self.refused(status.BAD_TABLE, pix.table_from, b"abc", 257)
-        self.refused(status.BAD_LENGTH, pix.table_from, b"abcd")
-        self.refused(status.BAD_FORMAT, pix.table_from, b"abcd", format=pix.Format.RGBA8P)
+        self.refused(status.BAD_TABLE, pix.quantize, b"abc", 0)
+        self.refused(status.BAD_TABLE, pix.quantize, b"abc", 257)
+        self.refused(status.BAD_LENGTH, pix.quantize, b"abcd")
+        self.refused(status.BAD_FORMAT, pix.quantize, b"abcd", format=pix.Format.RGBA8P)
         self.refused(status.BAD_TABLE, pix.diffuse_indexed, b"", b"abc", 1)
         self.refused(status.BAD_LENGTH, pix.diffuse_indexed, b"abc", b"abc", 0)
         self.refused(status.BAD_LENGTH, pix.diffuse_indexed, b"abc", b"abcabc", 3)
-        self.refused(status.BAD_LENGTH, pix.diffuse_indexed, b"abc", b"abc", 1, kept)
+        self.refused(status.BAD_LENGTH, pix.diffuse_indexed, b"abc", b"abc", 1, transparent_index)
         self.refused(status.BAD_INDEX, pix.look_up, b"abc", b"\0\1")
         self.refused(status.BAD_LENGTH, pix.look_up, b"abc", b"\0", bytearray(6))
         self.refused(status.BAD_DEPTH, pix.pack_row, 3, b"\0")
         self.refused(status.BAD_DEPTH, pix.unpack_row, 0, b"\0")
         self.refused(status.BAD_INDEX, pix.pack_row, 1, b"\0\2", bytearray(1))
-        self.refused(status.BAD_LENGTH, pix.pack_row, 1, b"\0", kept)
-        self.refused(status.BAD_LENGTH, pix.unpack_row, 1, b"\0\0", kept)
+        self.refused(status.BAD_LENGTH, pix.pack_row, 1, b"\0", transparent_index)
+        self.refused(status.BAD_LENGTH, pix.unpack_row, 1, b"\0\0", transparent_index)
         self.refused(status.BAD_TABLE, pix.map_indexed_rgba, b"", b"")
         self.refused(status.BAD_TABLE, pix.diffuse_indexed_rgba, bytes(4 * 257), b"abcd", 1)
-        self.refused(status.BAD_TABLE, pix.table_rgba_from, b"abcd", 0)
-        self.refused(status.BAD_TABLE, pix.table_rgba_from, b"abcd", 257)
+        self.refused(status.BAD_TABLE, pix.quantize_rgba, b"abcd", 0)
+        self.refused(status.BAD_TABLE, pix.quantize_rgba, b"abcd", 257)
         self.refused(status.BAD_LENGTH, pix.map_indexed_rgba, b"abc", b"abcd")
         self.refused(status.BAD_LENGTH, pix.map_indexed_rgba, b"abcd", b"abc")
-        self.refused(status.BAD_LENGTH, pix.map_indexed_rgba, b"abcd", b"abcd", kept)
-        self.refused(status.BAD_LENGTH, pix.table_rgba_from, b"abc")
+        self.refused(status.BAD_LENGTH, pix.map_indexed_rgba, b"abcd", b"abcd", transparent_index)
+        self.refused(status.BAD_LENGTH, pix.quantize_rgba, b"abc")
         self.refused(status.BAD_LENGTH, pix.diffuse_indexed_rgba, b"abcd", bytes(12), 2)
-        self.refused(status.BAD_LENGTH, pix.diffuse_indexed_rgba, b"abcd", b"abcd", 1, kept)
+        self.refused(status.BAD_LENGTH, pix.diffuse_indexed_rgba, b"abcd", b"abcd", 1, transparent_index)
         self.refused(status.BAD_INDEX, pix.look_up_rgba, b"abcd", b"\0\1")
         self.refused(status.BAD_LENGTH, pix.look_up_rgba, b"abcd", b"\0", bytearray(3))
         # After the table, and before the lengths.
         for strength in (-1, 17, 256 + 16):
             self.refused(status.BAD_STRENGTH, pix.diffuse_indexed, b"abc", b"abcd", 0, strength=strength)
-            self.refused(status.BAD_STRENGTH, pix.diffuse_indexed_rgba, b"abcd", b"abc", 0, kept, strength)
+            self.refused(status.BAD_STRENGTH, pix.diffuse_indexed_rgba, b"abcd", b"abc", 0, transparent_index, strength)
             self.refused(status.BAD_TABLE, pix.diffuse_indexed, b"", b"abc", 1, strength=strength)
-        self.assertEqual(kept, b"\x09\x09")
+        self.assertEqual(transparent_index, b"\x09\x09")
         for wrong in (-1, 256):
-            self.assertRaises(ValueError, pix.table_rgba_from, b"abcd", 256, wrong)
+            self.assertRaises(ValueError, pix.quantize_rgba, b"abcd", 256, wrong)
             self.assertRaises(ValueError, pix.map_indexed, b"abc", b"abcd", format=pix.Format.SRGBA8, alpha=wrong)
         self.assertRaises(TypeError, pix.map_indexed, b"abc", b"abc", b"\0")
         shared = bytearray(6)

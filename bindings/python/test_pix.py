@@ -142,8 +142,8 @@ class Refusals(unittest.TestCase):
         self.assertRaises(TypeError, pix.Image(bytearray(16), 2, 1, type=pix.RGBA16).run, pix.composite_matte(WHOLE, matte, COLOR))
 
     def test_kinds_of_pixels(self):
-        self.assertRaises((TypeError, ValueError), pix.PixelType, "RGB8", 1, ctypes.c_uint8, "pix_run_window")
-        self.assertRaises(ValueError, pix.PixelType, (1, ctypes.c_uint8, "pix_run_window"))
+        self.assertRaises((TypeError, ValueError), pix.PixelType, "RGB8", 1, ctypes.c_uint8, "pix_raw_run_window")
+        self.assertRaises(ValueError, pix.PixelType, (1, ctypes.c_uint8, "pix_raw_run_window"))
         for name in ("max", "channels", "name"):
             self.assertRaises(AttributeError, setattr, pix.RGBA16, name, 1)
         self.assertEqual([(kind.name, kind.channels, kind.max) for kind in pix.PixelType],

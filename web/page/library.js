@@ -98,14 +98,14 @@ export class Library {
 
     // Runs commands on an image. Throws what the library answers where it refuses them; then nothing is changed.
     run(image, commands) {
-        this.call(image, commands, (list, done) => this.calls.pix_run_commands(
+        this.call(image, commands, (list, done) => this.calls.pix_raw_run(
             BigInt(image.at), BigInt(image.width * image.height), image.width, image.height, image.width,
             BigInt(list), BigInt(commands.length), BigInt(done)));
     }
 
     // Runs commands on an image that is the part of a picture from the point (left, top) on.
     runWindow(image, left, top, commands) {
-        this.call(image, commands, (list, done) => this.calls.pix_run_window(
+        this.call(image, commands, (list, done) => this.calls.pix_raw_run_window(
             BigInt(image.at), BigInt(image.width * image.height), left, top, image.width, image.height, image.width,
             BigInt(list), BigInt(commands.length), BigInt(done)));
     }
@@ -159,7 +159,7 @@ export class Library {
         const target = this.image(image.width, image.height);
         const count = image.width * image.height;
         const size = BigInt(count * this.layout.pix_rgba8.size);
-        const status = this.calls.pix_convert_bytes(
+        const status = this.calls.pix_raw_convert(
             FORMATS[from], FORMATS[to], BigInt(image.at), size, BigInt(target.at), size, BigInt(count));
         if (status !== 0) throw new Error(STATUSES[status]);
         return target;

@@ -8,9 +8,9 @@
 /* A call that the host sees. */
 #define SHOWN_(name) extern __typeof__(name) name __attribute__((export_name(#name)))
 SHOWN_(pix_layout);
-SHOWN_(pix_run_commands);
-SHOWN_(pix_run_window);
-SHOWN_(pix_convert_bytes);
+SHOWN_(pix_raw_run);
+SHOWN_(pix_raw_run_window);
+SHOWN_(pix_raw_convert);
 
 #include "other.c"
 

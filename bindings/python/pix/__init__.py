@@ -60,7 +60,7 @@ from pix._convert import convert
 from pix._image import Image
 from pix._indexed import (
     count_indices, diffuse_indexed, diffuse_indexed_rgba, index_pixels, look_up, look_up_rgba, map_indexed, map_indexed_rgba,
-    pack_row, row_size, table_from, table_rgba_from, unpack_row,
+    pack_row, row_size, quantize, quantize_rgba, unpack_row,
 )  # fmt: skip
 from pix._list import CommandList
 from pix._makers import (
@@ -76,8 +76,8 @@ __all__ = [
     "Op", "Format", "Status", "PixError", "PixelType", "RGBA8", "RGBA16", "GRAYA8", "Region", "Image", "Matte",
     "Command", "CommandList", "Color", "Srgb", "srgb", "clear", "copy_color", "copy_image", "composite_color", "composite_image", "composite_matte",
     "composite_image_matte", "composite_image_alpha", "repeat_image", "convert", "convert_bitmap", "color_of",
-    "table_from", "map_indexed", "diffuse_indexed", "index_pixels", "look_up", "count_indices", "row_size", "pack_row",
-    "unpack_row", "table_rgba_from", "map_indexed_rgba", "diffuse_indexed_rgba", "look_up_rgba",
+    "quantize", "map_indexed", "diffuse_indexed", "index_pixels", "look_up", "count_indices", "row_size", "pack_row",
+    "unpack_row", "quantize_rgba", "map_indexed_rgba", "diffuse_indexed_rgba", "look_up_rgba",
     "SRGBA8", "SRGBA8P", "SBGRA8", "SBGRA8P", "SRGB8", "SBGR8", "SGRAY8", "SGRAYA8", "SRGBX8", "SBGRX8",
 ]  # fmt: skip
 
@@ -91,9 +91,9 @@ for _public in (Op, Format, Status, PixError, PixelType, Image, Matte, Command, 
     _public.__module__ = __name__
 for _public in (Color, Srgb, srgb, color_of):
     _public.__module__ = __name__
-for _public in (table_from, map_indexed, diffuse_indexed, index_pixels, look_up, count_indices, row_size, pack_row, unpack_row):
+for _public in (quantize, map_indexed, diffuse_indexed, index_pixels, look_up, count_indices, row_size, pack_row, unpack_row):
     _public.__module__ = __name__
-for _public in (table_rgba_from, map_indexed_rgba, diffuse_indexed_rgba, look_up_rgba):
+for _public in (quantize_rgba, map_indexed_rgba, diffuse_indexed_rgba, look_up_rgba):
     _public.__module__ = __name__
 for _public in (clear, copy_color, copy_image, composite_color, composite_image, composite_matte):
     _public.__module__ = __name__

@@ -11,7 +11,7 @@ from pix._memory import Memory, is_held
 from pix._values import Format, PixError, Status, u32
 from pix._views import Rows
 
-_convert_rows = Call("pix_convert_rows")
+_convert_rows = Call("pix_raw_convert_bitmap")
 
 
 class Bitmap:

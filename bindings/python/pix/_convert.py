@@ -8,7 +8,7 @@ from pix._calls import Call
 from pix._memory import Buffer, Memory
 from pix._values import Format, PixError, Status
 
-_convert = Call("pix_convert_bytes")
+_convert = Call("pix_raw_convert")
 
 Target = TypeVar("Target", bound=Buffer)
 

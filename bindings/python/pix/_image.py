@@ -10,7 +10,7 @@ from pix._command import Command
 from pix._files import opened, saved, shown
 from pix._fresh import zeros
 from pix._library import LONG
-from pix._list import CommandList, Listed
+from pix._list import CommandList, PreparedList
 from pix._memory import MOST, Buffer, is_a
 from pix._pillow import facts_of, image_of, picture_of
 from pix._pixels import RGBA8, RGBA16, PixelType, kind_of
@@ -227,23 +227,23 @@ class Image(View):
         memory, _, count, width, height, stride, type = self._rows
         left, top = origin_of(origin)
         if len(commands) == 1 and is_a(commands[0], CommandList):
-            listed = commands[0]._listed
-            if listed.type is not type:
-                raise TypeError(f"a list for {listed.type} doesn't go with {type}")
+            prepared = commands[0]._prepared
+            if prepared.type is not type:
+                raise TypeError(f"a list for {prepared.type} doesn't go with {type}")
         else:
-            listed = Listed(commands, type)
+            prepared = PreparedList(commands, type)
         if memory.is_readonly and memory.length:
             raise TypeError("the buffer is read-only")
-        listed.refuse_shared(memory)
-        done, size = ctypes.c_size_t(), len(listed.commands)
+        prepared.refuse_shared(memory)
+        done, size = ctypes.c_size_t(), len(prepared.commands)
         if not width or not height:  # no row is gone through: only its size and the commands are tested
             bitmap = self._bitmap()
             if not bitmap.is_held or max(left + width, top + height) > MOST:
                 raise PixError(Status.BAD_SIZE)
             count = left = top = width = height = stride = 0
-        arguments = memory.address, count, left, top, width, height, stride, listed.address, size, done
+        arguments = memory.address, count, left, top, width, height, stride, prepared.address, size, done
         is_long = width * height * size > LONG
-        status = turns.take(is_long, type._calls[is_long], arguments, [memory], listed.sources)
+        status = turns.take(is_long, type._calls[is_long], arguments, [memory], prepared.sources)
         if status == Status.BAD_SIZE:
             raise PixError(Status.BAD_SIZE)
         if status:

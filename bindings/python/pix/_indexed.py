@@ -10,14 +10,14 @@ from pix._memory import Buffer, Memory
 from pix._numbers import index
 from pix._values import Format, PixError, Status
 
-_match, _match_alpha = Call("pix_table_match"), Call("pix_table_match_alpha")
-_from, _from_alpha = Call("pix_table_from"), Call("pix_table_from_alpha")
-_refined, _refined_alpha = Call("pix_table_refined"), Call("pix_table_refined_alpha")
-_diffuse, _diffuse_alpha = Call("pix_table_diffuse_by"), Call("pix_table_diffuse_by_alpha")
-_rgba_from, _rgba_match = Call("pix_table_rgba_from"), Call("pix_table_rgba_match")
-_rgba_diffuse, _rgba_look_up = Call("pix_table_rgba_diffuse"), Call("pix_table_rgba_look_up")
-_index, _look_up, _count_all = Call("pix_table_index"), Call("pix_table_look_up"), Call("pix_table_count")
-_pack, _unpack = Call("pix_table_pack"), Call("pix_table_unpack")
+_match, _match_alpha = Call("pix_raw_map_indexed"), Call("pix_raw_map_indexed_alpha")
+_from, _from_alpha = Call("pix_raw_quantize"), Call("pix_raw_quantize_alpha")
+_refined, _refined_alpha = Call("pix_raw_quantize_refined"), Call("pix_raw_quantize_refined_alpha")
+_diffuse, _diffuse_alpha = Call("pix_raw_diffuse_indexed_by"), Call("pix_raw_diffuse_indexed_by_alpha")
+_rgba_from, _rgba_match = Call("pix_raw_quantize_rgba"), Call("pix_raw_map_indexed_rgba")
+_rgba_diffuse, _rgba_look_up = Call("pix_raw_diffuse_indexed_rgba"), Call("pix_raw_look_up_rgba")
+_index, _look_up, _count_all = Call("pix_raw_index_pixels"), Call("pix_raw_look_up"), Call("pix_raw_count_indices")
+_pack, _unpack = Call("pix_raw_pack_row"), Call("pix_raw_unpack_row")
 _COUNTS = ctypes.c_size_t * ENTRIES
 
 # The formats of pixels that a table of colors is beside: sRGB, and not multiplied by an alpha.
@@ -85,18 +85,18 @@ def _table_rgba(buffer: Any) -> Memory:
 def _kept_by(match: Any) -> Any:
     """What a function that matches does where there is no entry: it takes pixels that are all below the alpha."""
 
-    def keep(table: int, _: int, pixels: int, count: int, alpha: int, kept: int, indices: int, size: int) -> int:
+    def keep(table: int, _: int, pixels: int, count: int, alpha: int, transparent_index: int, indices: int, size: int) -> int:
         seen = (ctypes.c_ubyte * count)()
         match(table, 1, pixels, count, alpha, 1, ctypes.addressof(seen), count)
         if 0 in bytes(seen):
             return Status.BAD_TABLE
-        ctypes.memset(indices, kept, size)
+        ctypes.memset(indices, transparent_index, size)
         return 0
 
     return keep
 
 
-_keep = Call("pix_table_match_alpha")
+_keep = Call("pix_raw_map_indexed_alpha")
 _keep.both = tuple(map(_kept_by, _keep.both))
 
 
@@ -127,30 +127,30 @@ def map_indexed(
     indices: Any = None,
     format: Format = Format.SRGB8,
     alpha: SupportsIndex = 0,
-    kept: SupportsIndex = 0,
+    transparent_index: SupportsIndex = 0,
 ) -> Any:
     """Writes for each pixel the index of the nearest entry of `table`, and returns `indices`, without which it makes a bytearray.
 
     The table has from 1 to 256 colors of three bytes: red, green and blue in sRGB. The pixels are of the format SRGB8, or of
     SRGBA8. The nearest entry, the first of equals, is the one with the least sum of the squares of the differences in red, green
-    and blue. A pixel whose alpha is below `alpha` has the index `kept`; of the others the alpha is not looked at. Where all pixels
-    are below it, the table may be empty, as table_from() makes it of them. Where the table has alphas too, take map_indexed_rgba().
+    and blue. A pixel whose alpha is below `alpha` has the index `transparent_index`; of the others the alpha is not looked at. Where all pixels
+    are below it, the table may be empty, as quantize() makes it of them. Where the table has alphas too, take map_indexed_rgba().
 
     Raises PixError where the table or the lengths don't fit, and leaves `indices` as they were.
     """
     size = _pixel_size(format)
-    alpha, kept = _byte(alpha, "alpha"), _byte(kept, "index")
+    alpha, transparent_index = _byte(alpha, "alpha"), _byte(transparent_index, "index")
     entries, source = _table(table, size), _read(pixels)
     count = _count(source, size)
     indices, target = _indices(indices, count, entries, source)
     if size == 3:
         _match(count, entries, source, target)
     else:
-        (_match_alpha if entries.length else _keep)(count, entries, source, alpha, kept, target)
+        (_match_alpha if entries.length else _keep)(count, entries, source, alpha, transparent_index, target)
     return indices
 
 
-def table_from(
+def quantize(
     pixels: Buffer,
     length: SupportsIndex = 256,
     format: Format = Format.SRGB8,
@@ -194,7 +194,7 @@ def diffuse_indexed(
     indices: Any = None,
     format: Format = Format.SRGB8,
     alpha: SupportsIndex = 0,
-    kept: SupportsIndex = 0,
+    transparent_index: SupportsIndex = 0,
     strength: SupportsIndex = 16,
     serpentine: bool = False,
 ) -> Any:
@@ -210,30 +210,30 @@ def diffuse_indexed(
     Raises PixError where the table, the strength, the width or the lengths don't fit, and leaves `indices` as they were.
     """
     size, share, across = _pixel_size(format), index(strength), index(width)
-    alpha, kept, back = _byte(alpha, "alpha"), _byte(kept, "index"), int(bool(serpentine))
+    alpha, transparent_index, back = _byte(alpha, "alpha"), _byte(transparent_index, "index"), int(bool(serpentine))
     entries, source = _table(table, size), _read(pixels)
     across, count = _across(share, across, source, size), _count(source, size)
     indices, target = _indices(indices, count, entries, source)
     if not entries.length:
-        _keep(count, entries, source, alpha, kept, target)
+        _keep(count, entries, source, alpha, transparent_index, target)
         return indices
     room = Memory(bytearray(3 * 4 * across))
     how = share, back, room.address, 4 * across
     if size == 3:
         _diffuse(count, entries, source, across, *how, target)
     else:
-        _diffuse_alpha(count, entries, source, across, alpha, kept, *how, target)
+        _diffuse_alpha(count, entries, source, across, alpha, transparent_index, *how, target)
     return indices
 
 
-def table_rgba_from(pixels: Buffer, length: SupportsIndex = 256, rounds: SupportsIndex = 0) -> bytearray:
+def quantize_rgba(pixels: Buffer, length: SupportsIndex = 256, rounds: SupportsIndex = 0) -> bytearray:
     """Makes a table of at most `length` colors with an alpha of the pixels, four bytes each, for pictures whose alphas are kept.
 
     The pixels, and the entries, are of the format SRGBA8: red, green, blue and alpha, which the colors are not multiplied by. Pixels
     and entries count as they are seen over black and over white. So all clear pixels are one color, and of nearly clear ones the
     color hardly counts. Where no more than `length` distinct colors are seen, the table has just the pixels that are seen as none
-    before them, in order and as they are. Else it is made by cuts, and refined by so many `rounds`, as table_from() makes one of
-    colors. Of opaque pixels it has the colors that table_from() makes of them. It takes work memory of four bytes a pixel.
+    before them, in order and as they are. Else it is made by cuts, and refined by so many `rounds`, as quantize() makes one of
+    colors. Of opaque pixels it has the colors that quantize() makes of them. It takes work memory of four bytes a pixel.
 
     Raises PixError where `length` is not from 1 to 256, or the pixels don't fit.
     """
@@ -252,7 +252,7 @@ def map_indexed_rgba(table: Buffer, pixels: Buffer, indices: Any = None) -> Any:
     """Writes for each pixel the index of the entry that is seen nearest to it, and returns `indices`, without which it makes a
     bytearray.
 
-    The table has from 1 to 256 colors with an alpha, as table_rgba_from() makes them, and the pixels are of the format SRGBA8. The
+    The table has from 1 to 256 colors with an alpha, as quantize_rgba() makes them, and the pixels are of the format SRGBA8. The
     nearest entry, the first of equals, is the one with the least sum of the squares of the differences in red, green and blue over
     black and over white.
 

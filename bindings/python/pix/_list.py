@@ -12,7 +12,7 @@ from pix._pixels import RGBA8, PixelType, kind_of
 from pix._values import PixError, Status
 
 
-class Listed:
+class PreparedList:
     """Commands as the library reads them, for images of one type: none of it changes, and it pins what they read."""
 
     __slots__ = ("commands", "type", "address", "sources", "numbers", "low", "high", "_records")
@@ -56,32 +56,32 @@ class CommandList(Sequence):
     Raises what Image.run() raises for a command that is refused.
     """
 
-    __slots__ = ("_listed",)
+    __slots__ = ("_prepared",)
 
     def __init__(self, *commands: Command, type: PixelType = RGBA8) -> None:
-        listed, done = Listed(commands, kind_of(type)), ctypes.c_size_t()
+        prepared, done = PreparedList(commands, kind_of(type)), ctypes.c_size_t()
         # On an image of no pixels all commands are tested, and none paints.
-        status = type._calls[0](NOWHERE, 0, 0, 0, 0, 0, 0, listed.address, len(commands), done)
+        status = type._calls[0](NOWHERE, 0, 0, 0, 0, 0, 0, prepared.address, len(commands), done)
         if status:
             raise PixError(Status(status), done.value)
-        self._listed = listed
+        self._prepared = prepared
 
     @property
     def type(self) -> PixelType:
         """The kind of pixels of the images that it is for."""
-        return self._listed.type
+        return self._prepared.type
 
     def __len__(self) -> int:
-        return len(self._listed.commands)
+        return len(self._prepared.commands)
 
     def __getitem__(self, index: Any) -> Any:
-        return self._listed.commands[index]
+        return self._prepared.commands[index]
 
     def __iter__(self) -> Iterator[Command]:
-        return iter(self._listed.commands)
+        return iter(self._prepared.commands)
 
     def __repr__(self) -> str:
         return f"<pix.CommandList of {len(self)}, {self.type}>"
 
     def __reduce__(self) -> tuple:
-        return partial(CommandList, type=self.type), self._listed.commands
+        return partial(CommandList, type=self.type), self._prepared.commands

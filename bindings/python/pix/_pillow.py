@@ -15,8 +15,8 @@ from pix._indexed import (
     diffuse_indexed_rgba,
     map_indexed,
     map_indexed_rgba,
-    table_from,
-    table_rgba_from,
+    quantize,
+    quantize_rgba,
 )
 from pix._values import Format, Status
 
@@ -256,7 +256,7 @@ def indexed(image: Any, table: Any, diffuse: bool) -> Any:
     alphas = bytes(memoryview(pixels)[3::4])
     has_clear = any(alphas.count(alpha) for alpha in range(CLEAR))
     if table is None:
-        entries = bytes(table_from(pixels, 255 if has_clear else 256, Format.SRGBA8, CLEAR))
+        entries = bytes(quantize(pixels, 255 if has_clear else 256, Format.SRGBA8, CLEAR))
     else:
         entries = table_of(table)
     kept = len(entries) // 3
@@ -265,7 +265,7 @@ def indexed(image: Any, table: Any, diffuse: bool) -> Any:
             "a table of 256 colors has no room for clear pixels, which this image has: pass 255 at"
             " most"
         )
-    how = {"format": Format.SRGBA8, "alpha": CLEAR, "kept": kept if has_clear else 0}
+    how = {"format": Format.SRGBA8, "alpha": CLEAR, "transparent_index": kept if has_clear else 0}
     if not image.width or not image.height:
         return pillow.new("P", size)
     known = entries or bytes(3)
@@ -291,7 +291,7 @@ def indexed_rgba(image: Any, table: Any, diffuse: bool) -> Any:
     if not image.width or not image.height:
         return pillow.new("P", size)
     if table is None:
-        made = table_rgba_from(pixels)
+        made = quantize_rgba(pixels)
         each = [bytes(made[i : i + 4]) for i in range(0, len(made), 4)]
         entries = b"".join(sorted(each, key=lambda entry: entry[3] == 255))
     else:

@@ -31,9 +31,9 @@ def command_record(name: str, color: Any, channel: Any) -> Any:
 class PixelType(Enum):
     """A kind of pixels: red, green, blue and alpha of 8 or 16 bits, or gray and alpha of 8 bits."""
 
-    RGBA8 = (4, ctypes.c_uint8, "pix_run_window")
-    RGBA16 = (4, ctypes.c_uint16, "pix_run_window_rgba16")
-    GRAYA8 = (2, ctypes.c_uint8, "pix_run_window_graya8")
+    RGBA8 = (4, ctypes.c_uint8, "pix_raw_run_window")
+    RGBA16 = (4, ctypes.c_uint16, "pix_raw_run_window_rgba16")
+    GRAYA8 = (2, ctypes.c_uint8, "pix_raw_run_window_graya8")
 
     def __init__(self, channels: int, channel: Any, call: str) -> None:
         self._channel = channel

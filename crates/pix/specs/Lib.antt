@@ -39,11 +39,11 @@ pub use Rattle.pix_raster.specs.Image
 pub use Rattle.pix_raster.specs.Sizes
 pub use Rattle.pix_raster.specs.Buffers
 pub use Rattle.pix_raster.specs.Reach
-pub use Rattle.pix_raster.specs.Lent
+pub use Rattle.pix_raster.specs.View
 pub use Rattle.pix_raster.specs.Rows
-pub use Rattle.pix_raster.specs.Views
+pub use Rattle.pix_raster.specs.Written
 pub use Rattle.pix_raster.specs.Run
-pub use Rattle.pix_raster.specs.Kept
+pub use Rattle.pix_raster.specs.PremultipliedRuns
 pub use Rattle.pix_raster.specs.Bounds
 pub use Rattle.pix_raster.specs.Stays
 pub use Rattle.pix_raster.specs.Claims
@@ -54,7 +54,7 @@ pub use Rattle.pix_table.specs.Indexing as SetInTurn
 pub use Rattle.pix_table.specs.Nearest as NearestEntry
 pub use Rattle.pix_table.specs.Places as CutPlaces
 pub use Rattle.pix_table.specs.Cut
-pub use Rattle.pix_table.specs.From
+pub use Rattle.pix_table.specs.Quantization
 pub use Rattle.pix_table.specs.Refine
 pub use Rattle.pix_table.specs.Seen
 pub use Rattle.pix_table.specs.SeenTables

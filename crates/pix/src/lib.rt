@@ -18,5 +18,5 @@
 pub use pix_color::{bgr, cmy, gray, hsl, hsv, hue, hwb, xyz, ycc};
 pub use pix_el::model::ColorModel;
 pub use pix_el::{chan, el, light, matte, ops, rgb};
-pub use pix_palette::{ColorTable, DiffusionWay, Palette, RgbaTable};
-pub use pix_raster::{Command, Raster, RasterFault, Region, Rows, RowsMut, lent};
+pub use pix_palette::{ColorTable, Palette, RgbaTable, ScanOrder};
+pub use pix_raster::{Command, Raster, RasterFault, Region, Rows, RowsMut, view};

@@ -101,7 +101,7 @@ pub(crate) fn indexed(alloc: Global, times: u32, src: &[u8], out: &mut [u8]) -> 
 /// of them.
 pub(crate) fn mapped(alloc: Global, times: u32, src: &[u8], out: &mut [u8]) -> Option<()> {
     let source: Raster<SRgb8> = raster_of(alloc, src)?;
-    let table = ColorTable::from_raster(alloc, &source, 256, 0).ok()??;
+    let table = ColorTable::quantize(alloc, &source, 256, 0).ok()??;
     let mut made: Raster<Gray8> = Raster::with_clear(alloc, 0, 0).ok()?;
     for _ in 0..times {
         made = table.map_indexed(alloc, &source).ok()??;

@@ -4,14 +4,14 @@ use Rattle.std.specs.Prelude.{◌⊎◌, if◌then◌else◌}
 use Rattle.std.proofs.lemmas.Bool.{cases_lt}
 use Rattle.std.proofs.Math.Nat.{mul-le-mul_right}
 use borrow.Rule.Slice.PartMut.{put_mid}
-use Rattle.pix_bytes.specs.Stored.{StoredFormat, pixel_size}
-use Rattle.pix_bytes.specs.Bitmap.{IsCrossed, IsBeside, distance, is_upward, row_start, row_at, is_held, limit}
+use Rattle.pix_bytes.specs.BitmapFormats.{StoredFormat, pixel_size}
+use Rattle.pix_bytes.specs.Bitmap.{IsConvertedBitmap, IsBeside, distance, is_upward, row_start, row_at, is_held, limit}
 use Rattle.pix_bytes.proofs.Parts.{range_below, range_above, range_written, place_beside}
 use Rattle.pix_bytes.proofs.Table.{left, right}
 
 -- the rows above y are written
 pub record IsWritten (from to : StoredFormat) (width height : ℕ) (src_stride dst_stride : ℤ) (src old new : List ℕ) (y : ℕ) : Type 0 where
-  pub rows : (r : ℕ) → r < y → IsCrossed from to width (row_at src_stride height (width * pixel_size from) src r) (row_at dst_stride height (width * pixel_size to) new r)
+  pub rows : (r : ℕ) → r < y → IsConvertedBitmap from to width (row_at src_stride height (width * pixel_size from) src r) (row_at dst_stride height (width * pixel_size to) new r)
   pub stays : (place : ℕ) → IsBeside dst_stride height (width * pixel_size to) place → get_or new place 0 ≡ get_or old place 0
 
 -- a row lies below another or above it, by the number of the row in memory
@@ -59,7 +59,7 @@ written_none from to width height src_stride dst_stride src old = record {
 pub written_more : (from to : StoredFormat) (width height : ℕ) (src_stride dst_stride : ℤ) (src old dst part : List ℕ) (y start k : ℕ)
     → IsWritten from to width height src_stride dst_stride src old dst y → y < height → width * pixel_size to ≤ distance dst_stride
     → start ≡ row_start dst_stride height y → k ≡ width * pixel_size to → start ≤ length dst → length part ≡ k
-    → IsCrossed from to width (row_at src_stride height (width * pixel_size from) src y) part
+    → IsConvertedBitmap from to width (row_at src_stride height (width * pixel_size from) src y) part
     → IsWritten from to width height src_stride dst_stride src old (put_mid start k dst part) (y + 1)
 written_more from to width height src_stride dst_stride src old dst part y start k so_far there fits at span within long new =
     let wide : ℕ = width * pixel_size to in

@@ -11,12 +11,12 @@ use borrow.Rule.Slice.PartMut.{put_mid}
 use Rattle.pix_chan.specs.Modes.{Straight, Srgb}
 use Rattle.pix_el.specs.Pixel.{channel}
 use Rattle.pix_el.specs.Conversion.{converted, within_model, across_models}
-use Rattle.pix_bytes.specs.Bitmap.{IsCrossed, crossed, is_wide, is_srgb}
+use Rattle.pix_bytes.specs.Bitmap.{IsConvertedBitmap, crossed, is_wide, is_srgb}
 use Rattle.pix_bytes.specs.Converted.{IsConverted}
 use Rattle.pix_bytes.specs.Formats.{BufferFormat, channels, channels_of, formats, rgb}
 use Rattle.pix_bytes.specs.Rows.{stored_of}
-use Rattle.pix_bytes.specs.declared.bitmap.format.Stored.{Stored}
-use Rattle.pix_bytes.specs.Stored.{StoredFormat, stored_formats, sample_at, sample_size, samples, padded, pixel_size}
+use Rattle.pix_bytes.specs.declared.bitmap.format.FormatParts.{FormatParts}
+use Rattle.pix_bytes.specs.BitmapFormats.{StoredFormat, stored_formats, sample_at, sample_size, samples, padded, pixel_size}
 use Rattle.pix_bytes.proofs.Parts.{range_below, range_written, range_in}
 
 -- a format with nothing after the channels
@@ -143,7 +143,7 @@ made_all max n xs e =
 -- pixels of 8 bits that are crossed are converted
 pub converted_as : (from to : BufferFormat) (count whole : ℕ) (src dst : List ℕ) → from.format.layout.max ≡ 255 → to.format.layout.max ≡ 255
     → ((p : List ℕ) → length (converted from.format from.gamma to.format to.gamma p) ≡ channels to)
-    → count ≤ whole → length src ≡ whole * channels from → length dst ≡ whole * channels to → IsCrossed (bare from) (bare to) count src dst → IsConverted from to count src dst
+    → count ≤ whole → length src ≡ whole * channels from → length dst ≡ whole * channels to → IsConvertedBitmap (bare from) (bare to) count src dst → IsConverted from to count src dst
 converted_as from to count whole src dst max to_max size fits src_is dst_is each = record {
   each = λ index lt.
       let n = channels from in
@@ -236,20 +236,20 @@ size_of (suc (suc (suc (suc (suc (suc (suc (suc (suc (suc (suc zero))))))))))) l
 size_of (suc (suc (suc (suc (suc (suc (suc (suc (suc (suc (suc (suc k)))))))))))) lt = absurd (omega (arith, lt))
 
 -- the format of a number, as it was found among those of bitmaps
-pub stored_as : (n : ℕ) (stored : Stored) → n < 12 → option_map stored_of (Some stored) ≡ slice_get stored_formats n → stored_of stored ≡ bare (numbered n)
+pub stored_as : (n : ℕ) (stored : FormatParts) → n < 12 → option_map stored_of (Some stored) ≡ slice_get stored_formats n → stored_of stored ≡ bare (numbered n)
 stored_as n stored lt e = ap (λ (o : Option StoredFormat). unwrap_or o (stored_of stored)) (e ∙ stored_is n lt)
 
 -- the bytes of so many pixels
-pub bytes_as : (n count : ℕ) (stored : Stored) (bytes : List ℕ) → n < 12 → stored_of stored ≡ bare (numbered n) → length bytes ≡ count * channels_of n → length bytes ≡ count * pixel_size (stored_of stored)
+pub bytes_as : (n count : ℕ) (stored : FormatParts) (bytes : List ℕ) → n < 12 → stored_of stored ≡ bare (numbered n) → length bytes ≡ count * channels_of n → length bytes ≡ count * pixel_size (stored_of stored)
 bytes_as n count stored bytes lt is l = l ∙ ap (λ (k : ℕ). count * k) (size_of n lt) ∙ ap (λ (s : StoredFormat). count * pixel_size s) (sym is)
 
-pub ahead_as : (from to : ℕ) (format target : BufferFormat) (one other : Stored) (count whole : ℕ) (src dst : List ℕ) → from < 12 → to < 12
+pub ahead_as : (from to : ℕ) (format target : BufferFormat) (one other : FormatParts) (count whole : ℕ) (src dst : List ℕ) → from < 12 → to < 12
     → slice_get formats from ≡ Some format → slice_get formats to ≡ Some target → stored_of one ≡ bare (numbered from) → stored_of other ≡ bare (numbered to)
     → count ≤ whole → length src ≡ whole * channels_of from → length dst ≡ whole * channels_of to
-    → IsCrossed (stored_of one) (stored_of other) count src dst → IsConverted format target count src dst
+    → IsConvertedBitmap (stored_of one) (stored_of other) count src dst → IsConverted format target count src dst
 ahead_as from to format target one other count whole src dst lt to_lt found to_found is to_is some src_is dst_is each =
-    let crossed : IsCrossed (bare (numbered from)) (bare (numbered to)) count src dst =
-    subst (λ (s : StoredFormat). IsCrossed s (bare (numbered to)) count src dst) is (subst (λ (s : StoredFormat). IsCrossed (stored_of one) s count src dst) to_is each) in
+    let crossed : IsConvertedBitmap (bare (numbered from)) (bare (numbered to)) count src dst =
+    subst (λ (s : StoredFormat). IsConvertedBitmap s (bare (numbered to)) count src dst) is (subst (λ (s : StoredFormat). IsConvertedBitmap (stored_of one) s count src dst) to_is each) in
     let base : IsConverted (numbered from) (numbered to) count src dst =
     converted_as (numbered from) (numbered to) count whole src dst (max_is from lt) (max_is to to_lt) (λ p. length_is to to_lt (numbered from) p) some
     (src_is ∙ ap (λ (n : ℕ). whole * n) (channels_is from lt)) (dst_is ∙ ap (λ (n : ℕ). whole * n) (channels_is to to_lt)) crossed in

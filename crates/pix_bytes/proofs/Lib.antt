@@ -5,7 +5,7 @@ pub mod ModelsByName
 pub mod Parts
 pub mod Table
 pub mod Bitmaps
-pub mod Crossings
+pub mod RowConversions
 pub mod LaneProducts
 pub mod LaneTests
 pub mod LitFours

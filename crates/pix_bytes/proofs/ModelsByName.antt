@@ -2,7 +2,7 @@
 use Rattle.std.proofs.Common.{◌≡◌, ℕ, ◌≤◌, ◌+◌, List, length, refl, arith}
 use Rattle.pix_el.specs.Model.{Model, Rgb, Gray, Matte, Hsv, Hsl, Hwb, Bgr, Cmy, YCbCr, Xyz, row}
 use Rattle.pix_el.specs.Color.{of_rgba}
-use Rattle.pix_bytes.specs.Stored.{out_of_rgb}
+use Rattle.pix_bytes.specs.BitmapFormats.{out_of_rgb}
 
 -- a color has a channel for each color of the model, and the alpha
 pub channels_of_rgba : (model : Model) (max : ℕ) (rgba : List ℕ) → length (of_rgba (out_of_rgb model) max rgba) ≡ (row model).alpha + 1

@@ -5,7 +5,7 @@ use Rattle.std.proofs.lemmas.List.{drop-take, take-take, drop-drop, get_or-take,
 use Rattle.std.proofs.lemmas.Slice.{between_is, take-put_mid_below, between-put_mid, drop-put_mid}
 use Rattle.std.proofs.Math.Nat.{mul-le-mul_right}
 use borrow.Rule.Slice.PartMut.{put_mid}
-use Rattle.pix_bytes.specs.Stored.{samples, padded}
+use Rattle.pix_bytes.specs.BitmapFormats.{samples, padded}
 use Rattle.pix_bytes.specs.Rows.{IsEach}
 
 -- a range by what is dropped first

@@ -10,8 +10,8 @@ use Rattle.pix_el.specs.Conversion.{at_depth, converted}
 use Rattle.pix_bytes.specs.Models.{model_of}
 use Rattle.pix_bytes.specs.Recolored.{recolored, model_in_order, IsRecolored}
 use Rattle.pix_bytes.specs.Rows.{IsEach, alpha_mode_of, format_at}
-use Rattle.pix_bytes.specs.Stored.{format_with, samples, padded}
-use Rattle.pix_bytes.specs.declared.bitmap.format.Stored.{Stored}
+use Rattle.pix_bytes.specs.BitmapFormats.{format_with, samples, padded}
+use Rattle.pix_bytes.specs.declared.bitmap.format.FormatParts.{FormatParts}
 use Rattle.pix_bytes.proofs.Parts.{range_at}
 
 -- the channels of pixels of four bytes and of three are bytes
@@ -93,10 +93,10 @@ module _ (p : List ℕ) (small : (ch : ℕ) → channel 255 p ch < 256) where
   encodes false true false count e = absurd (grind (arith, e))
   encodes true false false count e = absurd (grind (arith, e))
 
-pub is_decoded : (from to : Stored) → IsRecolored from to srgb_decoded (converted (format_at 255 from) Srgb (format_at 255 to) Linear)
+pub is_decoded : (from to : FormatParts) → IsRecolored from to srgb_decoded (converted (format_at 255 from) Srgb (format_at 255 to) Linear)
 is_decoded from to = λ one other r count from_is to_is order count_is four straight p small.
     rw (from_is, to_is, count_is, four, straight) (decodes p small one other r to.is_premultiplied count order)
 
-pub is_encoded : (from to : Stored) → to.is_premultiplied ≡ false → IsRecolored from to srgb_encoded (converted (format_at 255 from) Linear (format_at 255 to) Srgb)
+pub is_encoded : (from to : FormatParts) → to.is_premultiplied ≡ false → IsRecolored from to srgb_encoded (converted (format_at 255 from) Linear (format_at 255 to) Srgb)
 is_encoded from to bare = λ one other r count from_is to_is order count_is four straight p small.
     rw (from_is, to_is, count_is, four, straight, bare) (encodes p small one other r count order)

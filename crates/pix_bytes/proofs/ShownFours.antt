@@ -22,7 +22,7 @@ use Rattle.pix_el.specs.Conversion.{at_depth}
 use Rattle.pix_el.specs.Model.{Rgb, Bgr}
 use Rattle.pix_el.specs.Pixel.{channel}
 use Rattle.pix_bytes.specs.Bitmap.{out_of_light}
-use Rattle.pix_bytes.specs.Stored.{sample_at, samples, padded, format_with}
+use Rattle.pix_bytes.specs.BitmapFormats.{sample_at, samples, padded, format_with}
 use Rattle.pix_bytes.specs.declared.bitmap.quotient.TheConstants.{RECIPROCALS}
 use Rattle.pix_bytes.specs.Rows.{IsEach}
 use Rattle.pix_bytes.proofs.Parts.{range_at}

@@ -3,13 +3,13 @@ use Rattle.std.proofs.Common.{◌≡◌, ℕ, zero, suc, ◌<◌, List, [], ◌�
 use Rattle.std.specs.Prelude.{slice_get, Some, ◌&&◌}
 use Rattle.std.proofs.lemmas.Option.{slice_get_within, get_or_from_slice_get}
 use Rattle.pix_bytes.specs.declared.bitmap.format.Line.{Line}
-use Rattle.pix_bytes.specs.declared.bitmap.format.Stored.{Stored}
+use Rattle.pix_bytes.specs.declared.bitmap.format.FormatParts.{FormatParts}
 use Rattle.pix_bytes.specs.declared.bitmap.format.TheConstants.{FORMATS}
-use Rattle.pix_bytes.specs.Stored.{stored_formats}
+use Rattle.pix_bytes.specs.BitmapFormats.{stored_formats}
 use Rattle.pix_bytes.specs.Rows.{stored_of, is_sound}
 
 -- a line of the table, by its fields
-abbrev pub line : Line → Stored
+abbrev pub line : Line → FormatParts
 line r = record { model = r.0; count = r.1; is_premultiplied = r.2; depth = r.3; spare = r.4 }
 
 pub lines_are : map (λ (r : Line). stored_of (line r)) FORMATS ≡ stored_formats

@@ -6,7 +6,7 @@ use Rattle.pix_chan.specs.Modes.{AlphaMode, gamma_kind, Linear}
 use Rattle.pix_el.specs.Conversion.{Format, converted}
 use Rattle.pix_el.specs.Light.{in_light, as_srgb}
 use Rattle.pix_bytes.specs.Formats.{BufferFormat}
-use Rattle.pix_bytes.specs.Stored.{StoredFormat, pixel_size, bytes_at, channels_read, all_samples, samples_of, stored_formats}
+use Rattle.pix_bytes.specs.BitmapFormats.{StoredFormat, pixel_size, bytes_at, channels_read, all_samples, samples_of, stored_formats}
 
 -- whether channels have sixteen bits, and whether colors are encoded by the sRGB curve
 abbrev pub is_wide : BufferFormat → Bool
@@ -42,7 +42,7 @@ crossed from to pixel =
     else converted from.format from.gamma to.format to.gamma pixel)
 
 -- each of so many pixels of a row is that of the source of the same index, in the other format
-pub record IsCrossed (from to : StoredFormat) (count : ℕ) (src dst : List ℕ) : Type 0 where
+pub record IsConvertedBitmap (from to : StoredFormat) (count : ℕ) (src dst : List ℕ) : Type 0 where
   pub each : (index : ℕ) → index < count → all_samples to (bytes_at to dst index)
       ≡ samples_of to (crossed from.buffer to.buffer (channels_read from (bytes_at from src index)))
 
@@ -72,7 +72,7 @@ IsBeside stride height wide place = (x y : ℕ) → x < wide → y < height → 
 -- A bitmap that was written from another.
 pub record IsBitmapOf (from to : StoredFormat) (width height : ℕ) (src_stride dst_stride : ℤ) (src old new : List ℕ) : Type 0 where
   -- each pixel is that of the source at its point, in the other format
-  pub rows : (y : ℕ) → y < height → IsCrossed from to width
+  pub rows : (y : ℕ) → y < height → IsConvertedBitmap from to width
       (row_at src_stride height (width * pixel_size from) src y) (row_at dst_stride height (width * pixel_size to) new y)
   -- bytes between the rows and after them stay as they are
   pub stays : (place : ℕ) → IsBeside dst_stride height (width * pixel_size to) place

@@ -3,5 +3,5 @@ use Rattle.std.specs.Prelude.{ℕ, List, [], ◌∷◌}
 use Rattle.pix_bytes.specs.declared.bitmap.four.Four.{Four}
 
 -- the numbers of the four channels
-abbrev pub listed : {C : Type 0} → (C → ℕ) → Four C → List ℕ
-listed number pixel = number pixel.one ∷ number pixel.two ∷ number pixel.three ∷ number pixel.four ∷ []
+abbrev pub as_list : {C : Type 0} → (C → ℕ) → Four C → List ℕ
+as_list number pixel = number pixel.one ∷ number pixel.two ∷ number pixel.three ∷ number pixel.four ∷ []

@@ -1,7 +1,7 @@
 pub mod Formats
 pub mod Four
 pub mod Models
-pub mod Stored
+pub mod BitmapFormats
 pub mod Rows
 pub mod Bitmap
 pub mod Table

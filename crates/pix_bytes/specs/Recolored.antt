@@ -4,7 +4,7 @@ use Rattle.std.specs.Prelude.{◌≡◌, ◌<◌, ℕ, zero, suc, ◌+◌, List,
 use Rattle.pix_chan.specs.Product.{channel_product}
 use Rattle.pix_el.specs.Pixel.{channel}
 use Rattle.pix_bytes.specs.Lit.{first_place, last_place}
-use Rattle.pix_bytes.specs.declared.bitmap.format.Stored.{Stored}
+use Rattle.pix_bytes.specs.declared.bitmap.format.FormatParts.{FormatParts}
 use Rattle.pix_bytes.specs.declared.bitmap.model.ModelName.{ModelName}
 use Rattle.pix_bytes.specs.declared.bitmap.model.ModelName.TheVariants.{Rgb, Bgr}
 
@@ -62,7 +62,7 @@ abbrev pub model_in_order : (is_reversed : Bool) → ModelName
 model_in_order is_reversed = if is_reversed then Bgr else Rgb
 
 -- f is what a curve makes of the colors of straight pixels of three or four bytes
-abbrev pub IsRecolored : Stored → Stored → (ℕ → ℕ) → (List ℕ → List ℕ) → Type 0
+abbrev pub IsRecolored : FormatParts → FormatParts → (ℕ → ℕ) → (List ℕ → List ℕ) → Type 0
 IsRecolored from to curve f = (from_reversed to_reversed is_reversed : Bool) (count : ℕ)
     → from.model ≡ model_in_order from_reversed → to.model ≡ model_in_order to_reversed
     → (if is_reversed then (if from_reversed then false else true) else from_reversed) ≡ to_reversed

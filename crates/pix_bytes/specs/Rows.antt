@@ -5,10 +5,10 @@ use Rattle.pix_el.specs.Pixel.{channel}
 use Rattle.pix_el.specs.Model.{row}
 use Rattle.pix_el.specs.Conversion.{Format}
 use Rattle.pix_bytes.specs.Models.{model_of}
-use Rattle.pix_bytes.specs.Stored.{StoredFormat, format_with, stored_with, samples, padded}
+use Rattle.pix_bytes.specs.BitmapFormats.{StoredFormat, format_with, stored_with, samples, padded}
 use Rattle.pix_bytes.specs.declared.bitmap.format.Depth.{Depth}
 use Rattle.pix_bytes.specs.declared.bitmap.format.Depth.TheVariants.{Srgb8, Linear8, Linear16}
-use Rattle.pix_bytes.specs.declared.bitmap.format.Stored.{Stored}
+use Rattle.pix_bytes.specs.declared.bitmap.format.FormatParts.{FormatParts}
 
 -- the alpha mode
 abbrev pub alpha_mode_of : Bool → AlphaMode
@@ -26,11 +26,11 @@ gamma_of Linear8 = Linear
 gamma_of Linear16 = Linear
 
 -- the format of its parts, with channels up to a maximum
-abbrev pub format_at : ℕ → Stored → Format
+abbrev pub format_at : ℕ → FormatParts → Format
 format_at max stored = format_with max (model_of stored.model) stored.count (alpha_mode_of stored.is_premultiplied)
 
 -- the format of its parts
-abbrev pub stored_of : Stored → StoredFormat
+abbrev pub stored_of : FormatParts → StoredFormat
 stored_of stored =
     stored_with (max_of stored.depth) (model_of stored.model) stored.count (alpha_mode_of stored.is_premultiplied) (gamma_of stored.depth) stored.spare
 
@@ -47,7 +47,7 @@ pub record IsStep (format to : Format) (max to_max count first end : ℕ) (mode 
   pub mode_is : to.alpha_mode ≡ to_mode
 
 -- a pixel has at most four samples, and no more channels than its model
-abbrev pub is_sound : Stored → Bool
+abbrev pub is_sound : FormatParts → Bool
 is_sound stored = nat_le (stored.count + stored.spare) 4 && nat_le stored.count ((row (model_of stored.model)).alpha + 1)
 
 -- two pixels have the same channels; one that is missing is the maximum

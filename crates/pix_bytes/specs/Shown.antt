@@ -6,7 +6,7 @@ use Rattle.pix_chan.specs.Product.{channel_quotient}
 use Rattle.pix_chan.specs.Srgb16.{srgb_encoded8}
 use Rattle.pix_el.specs.Pixel.{channel}
 use Rattle.pix_bytes.specs.Lit.{first_place, last_place}
-use Rattle.pix_bytes.specs.Stored.{sample_at, samples}
+use Rattle.pix_bytes.specs.BitmapFormats.{sample_at, samples}
 use Rattle.pix_bytes.specs.declared.bitmap.quotient.TheConstants.{RECIPROCALS}
 
 -- a pixel as sRGB: each color is divided by the alpha and encoded, and the alpha keeps its upper

@@ -2,24 +2,24 @@
 ghost use Rattle.std.specs.Prelude.{◌≡◌, ◌≢◌, ◌*◌, length, Some, slice_get, true};
 ghost use Rattle.pix_bytes.specs.Bitmap.{IsBitmapOf, bitmap_status, is_held};
 ghost use Rattle.pix_bytes.specs.Rows.{stored_of, is_sound};
-ghost use Rattle.pix_bytes.specs.Stored.{StoredFormat, pixel_size, pixel_size_of, stored_formats};
+ghost use Rattle.pix_bytes.specs.BitmapFormats.{StoredFormat, pixel_size, pixel_size_of, stored_formats};
 
-use crate::bitmap::cross::cross_row;
-use crate::bitmap::format::Stored;
+use crate::bitmap::format::FormatParts;
+use crate::bitmap::row_conversion::convert_row;
 use crate::bitmap::rows::Lines;
 
-pub(crate) mod cross;
 mod eights;
 pub(crate) mod format;
 mod four;
 mod fours;
 mod levels;
 mod model;
+mod pixel_conversion;
 mod quotient;
 mod recoloring;
+pub(crate) mod row_conversion;
 mod rows;
 mod sample;
-mod way;
 
 /// All pixels are written.
 pub const DONE: u32 = 0;
@@ -38,7 +38,7 @@ pub const BAD_FORMAT: u32 = 6;
 pub fn pixel_size(number: u32) -> u32
     ensures { result ≡ pixel_size_of number }
 {
-    match Stored::from_number(number) {
+    match FormatParts::from_number(number) {
         Some(stored) => stored.size() as u32,
         None => 0,
     }
@@ -68,7 +68,8 @@ pub fn convert_bitmap(
         → slice_get stored_formats to ≡ Some target → result ≡ 0
         → IsBitmapOf format target width height src_stride dst_stride src.now dst.old dst.new }
 {
-    let (Some(from), Some(to)) = (Stored::from_number(from), Stored::from_number(to)) else {
+    let (Some(from), Some(to)) = (FormatParts::from_number(from), FormatParts::from_number(to))
+    else {
         return BAD_FORMAT;
     };
     let src_lines = Lines { stride: src_stride };
@@ -85,14 +86,14 @@ pub fn convert_bitmap(
         return DONE;
     }
     let (width, height) = (width as usize, height as usize);
-    cross_rows(from, to, src, dst, src_lines, dst_lines, width, height);
+    convert_rows(from, to, src, dst, src_lines, dst_lines, width, height);
     DONE
 }
 
 /// Writes each row. Condition: both bitmaps are held in their bytes.
-fn cross_rows(
-    from: Stored,
-    to: Stored,
+fn convert_rows(
+    from: FormatParts,
+    to: FormatParts,
     src: &[u8],
     dst: &mut [u8],
     src_lines: Lines,
@@ -114,6 +115,6 @@ fn cross_rows(
         let start = src_lines.row_start(height, y);
         let row = &src[start..start + wide];
         let start = dst_lines.row_start(height, y);
-        cross_row(from, to, row, &mut dst[start..start + to_wide], width);
+        convert_row(from, to, row, &mut dst[start..start + to_wide], width);
     }
 }

@@ -5,8 +5,8 @@ ghost use Rattle.std.specs.Option.{option_map};
 ghost use Rattle.pix_bytes.specs.Formats.{BufferFormat, channels, channels_of, formats};
 ghost use Rattle.pix_bytes.specs.Converted.{IsConverted, conversion_status};
 
-use crate::bitmap::cross::cross_ahead;
-use crate::bitmap::format::Stored;
+use crate::bitmap::format::FormatParts;
+use crate::bitmap::row_conversion::convert_row_ahead;
 use crate::bitmap::{BAD_FORMAT, DONE};
 use crate::buffer::bytes::Bytes;
 use pix_chan::chan::{Alpha, Ch8, Gamma, Linear, Premultiplied, Srgb, Straight};
@@ -66,8 +66,8 @@ fn convert_ahead(from: u32, to: u32, src: &[u8], dst: &mut [u8], count: usize) -
     if to >= 12 {
         return 0;
     }
-    match (Stored::from_number(from), Stored::from_number(to)) {
-        (Some(format), Some(target)) => cross_ahead(format, target, src, dst, count),
+    match (FormatParts::from_number(from), FormatParts::from_number(to)) {
+        (Some(format), Some(target)) => convert_row_ahead(format, target, src, dst, count),
         _ => 0,
     }
 }

@@ -2,8 +2,8 @@
 use Rattle.std.specs.Prelude.{◌≡◌, ℕ, ◌*◌, ◌%◌, ◌<◌, List, [], ◌∷◌, Bool, true, ◌&&◌, nat_eq, nat_lt, nat_le, length, slice_index, Option, Some, None, if◌then◌else◌}
 use Rattle.pix_table.specs.LookUp.{all_below}
 use Rattle.pix_table.specs.Packing.{pack_fault, unpack_fault}
-use Rattle.pix_table.specs.declared.diffuse.DiffusionWay.{DiffusionWay}
-use Rattle.pix_table.specs.declared.diffuse.DiffusionWay.TheVariants.{Straight, Serpentine}
+use Rattle.pix_table.specs.declared.diffuse.ScanOrder.{ScanOrder}
+use Rattle.pix_table.specs.declared.diffuse.ScanOrder.TheVariants.{LeftToRight, Serpentine}
 use Rattle.pix_table.specs.declared.row.IndexDepth.{IndexDepth}
 use Rattle.pix_table.specs.declared.row.IndexDepth.TheVariants.{One, Two, Four, Eight}
 use Rattle.pix_table.specs.declared.row.RowFault.{RowFault}
@@ -34,24 +34,24 @@ diffuse_status len pixels width work indices =
     if is_table len then (if nat_lt 0 width && nat_eq work (4 * width) && nat_eq indices pixels then 0 else 7) else 11
 
 -- the way of a flag: serpentine where it is not 0
-abbrev pub way_of : ℕ → DiffusionWay
-way_of serpentine = if nat_eq serpentine 0 then Straight else Serpentine
+abbrev pub scan_of : ℕ → ScanOrder
+scan_of serpentine = if nat_eq serpentine 0 then LeftToRight else Serpentine
 
 -- whether rows can be taken in a way: where they turn, all of them are whole
-abbrev pub are_whole : DiffusionWay → (pixels width : ℕ) → Bool
-are_whole Straight pixels width = true
+abbrev pub are_whole : ScanOrder → (pixels width : ℕ) → Bool
+are_whole LeftToRight pixels width = true
 are_whole Serpentine pixels width = nat_eq (pixels % width) 0
 
 -- whether pixels are rows that can be taken in a way, with as many indices, and with four rows of
 -- work memory
-abbrev pub are_rows : (pixels width : ℕ) → DiffusionWay → (work indices : ℕ) → Bool
-are_rows pixels width way work indices = are_whole way pixels width && nat_lt 0 width && nat_eq work (4 * width) && nat_eq indices pixels
+abbrev pub are_rows : (pixels width : ℕ) → ScanOrder → (work indices : ℕ) → Bool
+are_rows pixels width scan work indices = are_whole scan pixels width && nat_lt 0 width && nat_eq work (4 * width) && nat_eq indices pixels
 
 -- the status of error diffusion in a way, with a strength: 11 without a table, 15 where the strength
 -- is above 16, 7 where a length is wrong, and else 0
-abbrev pub diffuse_by_status : (len pixels width strength : ℕ) → DiffusionWay → (work indices : ℕ) → ℕ
-diffuse_by_status len pixels width strength way work indices =
-    if is_table len then (if nat_le strength 16 then (if are_rows pixels width way work indices then 0 else 7) else 15) else 11
+abbrev pub diffuse_by_status : (len pixels width strength : ℕ) → ScanOrder → (work indices : ℕ) → ℕ
+diffuse_by_status len pixels width strength scan work indices =
+    if is_table len then (if nat_le strength 16 then (if are_rows pixels width scan work indices then 0 else 7) else 15) else 11
 
 -- the status of an indexing before its colors are set: 11 without room for a table; 7 where more
 -- entries are used than there is room for, or there are not as many indices as pixels; and else 0

@@ -1,7 +1,7 @@
 //! Bitmaps: images of bytes in any format, whose rows lie a stride apart.
 ghost use Rattle.std.specs.Prelude.{◌≡◌, ◌≢◌, length, Some, slice_get};
 ghost use Rattle.pix_bytes.specs.Bitmap.{IsBitmapOf, bitmap_status};
-ghost use Rattle.pix_bytes.specs.Stored.{StoredFormat, pixel_size_of, stored_formats};
+ghost use Rattle.pix_bytes.specs.BitmapFormats.{StoredFormat, pixel_size_of, stored_formats};
 
 use pix_bytes::bitmap;
 
@@ -17,7 +17,7 @@ use pix_bytes::bitmap;
 /// they would share bytes. Otherwise it is 5, where `src` doesn't hold the rows, or they would
 /// share bytes.
 #[unsafe(no_mangle)]
-pub extern "C" fn pix_convert_rows(
+pub extern "C" fn pix_raw_convert_bitmap(
     from: u32,
     to: u32,
     src: &[u8],
@@ -40,7 +40,7 @@ pub extern "C" fn pix_convert_rows(
 /// Returns how many bytes a pixel of the format of a number has, and 0 where there is no such
 /// format.
 #[unsafe(no_mangle)]
-pub extern "C" fn pix_pixel_size(format: u32) -> u32
+pub extern "C" fn pix_raw_format_size(format: u32) -> u32
     ensures { result ≡ pixel_size_of format }
 {
     bitmap::pixel_size(format)

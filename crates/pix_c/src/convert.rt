@@ -15,7 +15,7 @@ use pix_bytes::buffer;
 /// Returns 0 when they are converted. Else nothing is written, and the status is 6 where `from` or
 /// `to` is no format's number, and otherwise 7 where a buffer is not `count` pixels long.
 #[unsafe(no_mangle)]
-pub extern "C" fn pix_convert_bytes(
+pub extern "C" fn pix_raw_convert(
     from: u32,
     to: u32,
     src: &[u8],

@@ -3,11 +3,11 @@ ghost use Rattle.std.specs.Prelude.{◌≡◌, ◌≢◌, length, map};
 ghost use Rattle.pix_table.specs.Nearest.{numbers};
 ghost use Rattle.pix_table.specs.Seen.{rgba_numbers};
 ghost use Rattle.pix_table.specs.Diffusion.{AreDiffused, AreDiffusedBy};
-ghost use Rattle.pix_c.specs.Table.{are_rows, diffuse_status, diffuse_by_status, way_of};
+ghost use Rattle.pix_c.specs.Table.{are_rows, diffuse_status, diffuse_by_status, scan_of};
 
 use crate::status::{BAD_LENGTH, DONE};
 use crate::table::BAD_TABLE;
-use pix_table::{Color, Diffusion, DiffusionWay, RgbaColor, TablePixel, diffuse_pixels};
+use pix_table::{Color, Diffusion, RgbaColor, ScanOrder, TablePixel, diffuse_indexed};
 
 /// A strength of error diffusion is above 16.
 pub const BAD_STRENGTH: u32 = 15;
@@ -24,7 +24,7 @@ pub(crate) const WHOLE: u8 = 16;
 /// no entry or more than 256. Otherwise it is 7, which has three causes: a row has no pixel, `work`
 /// has not just four rows of colors, or there are not as many indices as pixels.
 #[unsafe(no_mangle)]
-pub extern "C" fn pix_table_diffuse(
+pub extern "C" fn pix_raw_diffuse_indexed(
     entries: &[Color],
     pixels: &[Color],
     width: usize,
@@ -40,51 +40,51 @@ pub extern "C" fn pix_table_diffuse(
     let how = Diffusion {
         width,
         alpha: 0,
-        kept: 0,
+        transparent_index: 0,
         strength: WHOLE,
-        way: DiffusionWay::Straight,
+        scan: ScanOrder::LeftToRight,
     };
     diffuse(entries, pixels, how, work, indices)
 }
 
-/// Does what [`pix_table_diffuse`] does, on pixels with an alpha. A pixel whose alpha is below
-/// `alpha` gets the index `kept`, and hands on no error.
+/// Does what [`pix_raw_diffuse_indexed`] does, on pixels with an alpha. A pixel whose alpha is below
+/// `alpha` gets the index `transparent_index`, and hands on no error.
 #[unsafe(no_mangle)]
-pub extern "C" fn pix_table_diffuse_alpha(
+pub extern "C" fn pix_raw_diffuse_indexed_alpha(
     entries: &[Color],
     pixels: &[RgbaColor],
     width: usize,
     alpha: u8,
-    kept: u8,
+    transparent_index: u8,
     work: &mut [Color],
     indices: &mut [u8],
 ) -> u32
     ensures status { result ≡ diffuse_status (length entries.now) (length pixels.now) width
         (length work.old) (length indices.old) }
     ensures refused { result ≢ 0 → (work.new ≡ work.old) × (indices.new ≡ indices.old) }
-    ensures done { result ≡ 0 → AreDiffused (map numbers entries.now) alpha kept width
+    ensures done { result ≡ 0 → AreDiffused (map numbers entries.now) alpha transparent_index width
         (map rgba_numbers pixels.now) indices.new }
 {
     let how = Diffusion {
         width,
         alpha,
-        kept,
+        transparent_index,
         strength: WHOLE,
-        way: DiffusionWay::Straight,
+        scan: ScanOrder::LeftToRight,
     };
     diffuse(entries, pixels, how, work, indices)
 }
 
-/// Does what [`pix_table_diffuse`] does with `strength` sixteenths of each error. Where
+/// Does what [`pix_raw_diffuse_indexed`] does with `strength` sixteenths of each error. Where
 /// `serpentine` is not 0, every second row goes from right to left, and the shares are mirrored
 /// in it.
 ///
 /// Returns 0 when all indices are written. Else nothing is written. The status is then 11 where
 /// there is no entry or more than 256, and otherwise 15, where the strength is above 16. Otherwise
-/// it is 7, where a length is wrong as for [`pix_table_diffuse`], or where rows turn and the pixels
+/// it is 7, where a length is wrong as for [`pix_raw_diffuse_indexed`], or where rows turn and the pixels
 /// are not whole rows.
 #[unsafe(no_mangle)]
-pub extern "C" fn pix_table_diffuse_by(
+pub extern "C" fn pix_raw_diffuse_indexed_by(
     entries: &[Color],
     pixels: &[Color],
     width: usize,
@@ -94,59 +94,59 @@ pub extern "C" fn pix_table_diffuse_by(
     indices: &mut [u8],
 ) -> u32
     ensures status { result ≡ diffuse_by_status (length entries.now) (length pixels.now) width
-        strength (way_of serpentine) (length work.old) (length indices.old) }
+        strength (scan_of serpentine) (length work.old) (length indices.old) }
     ensures refused { result ≢ 0 → (work.new ≡ work.old) × (indices.new ≡ indices.old) }
-    ensures done { result ≡ 0 → AreDiffusedBy (way_of serpentine) strength
+    ensures done { result ≡ 0 → AreDiffusedBy (scan_of serpentine) strength
         (map numbers entries.now) 0 0 width (map numbers pixels.now) indices.new }
 {
     let how = Diffusion {
         width,
         alpha: 0,
-        kept: 0,
+        transparent_index: 0,
         strength,
-        way: way_of(serpentine),
+        scan: scan_of(serpentine),
     };
     diffuse(entries, pixels, how, work, indices)
 }
 
-/// Does what [`pix_table_diffuse_by`] does, on pixels with an alpha. A pixel whose alpha is below
-/// `alpha` gets the index `kept`, and hands on no error.
+/// Does what [`pix_raw_diffuse_indexed_by`] does, on pixels with an alpha. A pixel whose alpha is below
+/// `alpha` gets the index `transparent_index`, and hands on no error.
 #[unsafe(no_mangle)]
-pub extern "C" fn pix_table_diffuse_by_alpha(
+pub extern "C" fn pix_raw_diffuse_indexed_by_alpha(
     entries: &[Color],
     pixels: &[RgbaColor],
     width: usize,
     alpha: u8,
-    kept: u8,
+    transparent_index: u8,
     strength: u8,
     serpentine: u8,
     work: &mut [Color],
     indices: &mut [u8],
 ) -> u32
     ensures status { result ≡ diffuse_by_status (length entries.now) (length pixels.now) width
-        strength (way_of serpentine) (length work.old) (length indices.old) }
+        strength (scan_of serpentine) (length work.old) (length indices.old) }
     ensures refused { result ≢ 0 → (work.new ≡ work.old) × (indices.new ≡ indices.old) }
-    ensures done { result ≡ 0 → AreDiffusedBy (way_of serpentine) strength
-        (map numbers entries.now) alpha kept width (map rgba_numbers pixels.now) indices.new }
+    ensures done { result ≡ 0 → AreDiffusedBy (scan_of serpentine) strength
+        (map numbers entries.now) alpha transparent_index width (map rgba_numbers pixels.now) indices.new }
 {
     let how = Diffusion {
         width,
         alpha,
-        kept,
+        transparent_index,
         strength,
-        way: way_of(serpentine),
+        scan: scan_of(serpentine),
     };
     diffuse(entries, pixels, how, work, indices)
 }
 
 /// Returns the way of a flag: serpentine where it is not 0.
-pub(crate) fn way_of(serpentine: u8) -> DiffusionWay
-    ensures { result ≡ way_of serpentine }
+pub(crate) fn scan_of(serpentine: u8) -> ScanOrder
+    ensures { result ≡ scan_of serpentine }
 {
     if serpentine == 0 {
-        DiffusionWay::Straight
+        ScanOrder::LeftToRight
     } else {
-        DiffusionWay::Serpentine
+        ScanOrder::Serpentine
     }
 }
 
@@ -159,10 +159,10 @@ fn diffuse<P: TablePixel>(
     indices: &mut [u8],
 ) -> u32
     ensures status { result ≡ diffuse_by_status (length entries.now) (length pixels.now) how.width
-        how.strength how.way (length work.old) (length indices.old) }
+        how.strength how.scan (length work.old) (length indices.old) }
     ensures refused { result ≢ 0 → (work.new ≡ work.old) × (indices.new ≡ indices.old) }
-    ensures done { result ≡ 0 → AreDiffusedBy how.way how.strength (map numbers entries.now)
-        how.alpha how.kept how.width (map P.values pixels.now) indices.new }
+    ensures done { result ≡ 0 → AreDiffusedBy how.scan how.strength (map numbers entries.now)
+        how.alpha how.transparent_index how.width (map P.values pixels.now) indices.new }
 {
     if entries.is_empty() || entries.len() > 256 {
         return BAD_TABLE;
@@ -170,10 +170,10 @@ fn diffuse<P: TablePixel>(
     if how.strength > WHOLE {
         return BAD_STRENGTH;
     }
-    if !are_rows(pixels.len(), how.width, how.way, work.len(), indices.len()) {
+    if !are_rows(pixels.len(), how.width, how.scan, work.len(), indices.len()) {
         return BAD_LENGTH;
     }
-    diffuse_pixels(entries, pixels, how, work, indices);
+    diffuse_indexed(entries, pixels, how, work, indices);
     DONE
 }
 
@@ -182,17 +182,17 @@ fn diffuse<P: TablePixel>(
 pub(crate) fn are_rows(
     pixels: usize,
     width: usize,
-    way: DiffusionWay,
+    scan: ScanOrder,
     work: usize,
     indices: usize,
 ) -> bool
-    ensures { result ≡ are_rows pixels width way work indices }
+    ensures { result ≡ are_rows pixels width scan work indices }
 {
     if width == 0 || work % 4 != 0 || work / 4 != width || indices != pixels {
         return false;
     }
-    match way {
-        DiffusionWay::Straight => true,
-        DiffusionWay::Serpentine => pixels % width == 0,
+    match scan {
+        ScanOrder::LeftToRight => true,
+        ScanOrder::Serpentine => pixels % width == 0,
     }
 }

@@ -22,25 +22,26 @@ mod status;
 mod table;
 mod window;
 
-pub use crate::bitmap::{pix_convert_rows, pix_pixel_size};
-pub use crate::convert::pix_convert_bytes;
+pub use crate::bitmap::{pix_raw_convert_bitmap, pix_raw_format_size};
+pub use crate::convert::pix_raw_convert;
 pub use crate::diffuse::{
-    BAD_STRENGTH, pix_table_diffuse, pix_table_diffuse_alpha, pix_table_diffuse_by,
-    pix_table_diffuse_by_alpha,
+    BAD_STRENGTH, pix_raw_diffuse_indexed, pix_raw_diffuse_indexed_alpha,
+    pix_raw_diffuse_indexed_by, pix_raw_diffuse_indexed_by_alpha,
 };
 pub use crate::layout::pix_layout;
 pub use crate::rgba::{
-    pix_table_rgba_diffuse, pix_table_rgba_from, pix_table_rgba_look_up, pix_table_rgba_match,
+    pix_raw_diffuse_indexed_rgba, pix_raw_look_up_rgba, pix_raw_map_indexed_rgba,
+    pix_raw_quantize_rgba,
 };
 pub use crate::status::{
     BAD_FORMAT, BAD_KIND, BAD_LENGTH, BAD_OP, BAD_REGION, BAD_SIZE, BAD_SOURCE, DONE,
 };
 pub use crate::table::{
-    BAD_DEPTH, BAD_INDEX, BAD_TABLE, FULL_TABLE, pix_table_count, pix_table_index,
-    pix_table_look_up, pix_table_match, pix_table_match_alpha, pix_table_nearest, pix_table_pack,
-    pix_table_unpack,
+    BAD_DEPTH, BAD_INDEX, BAD_TABLE, FULL_TABLE, pix_raw_count_indices, pix_raw_index_pixels,
+    pix_raw_look_up, pix_raw_map_indexed, pix_raw_map_indexed_alpha, pix_raw_nearest,
+    pix_raw_pack_row, pix_raw_unpack_row,
 };
-pub use crate::window::{pix_run_window, pix_run_window_graya8, pix_run_window_rgba16};
+pub use crate::window::{pix_raw_run_window, pix_raw_run_window_graya8, pix_raw_run_window_rgba16};
 use pix_color::gray::Graya8p;
 use pix_el::rgb::{Rgba8p, Rgba16p};
 pub use pix_flat::command::{PixCommand, PixCommandGraya8, PixCommandRgba16, PixRegion};
@@ -55,7 +56,7 @@ use pix_flat::run;
 /// before that one. It is 0 where the image is refused, and the number of all commands when they
 /// are done.
 #[unsafe(no_mangle)]
-pub extern "C" fn pix_run_commands(
+pub extern "C" fn pix_raw_run(
     pixels: &mut [PixRgba8],
     width: u32,
     height: u32,
@@ -74,9 +75,9 @@ pub extern "C" fn pix_run_commands(
     run::run::<Rgba8p, PixRgba8, u8, PixCommand<'_>>(pixels, width, height, stride, commands, done)
 }
 
-/// Does what [`pix_run_commands`] does, on 16-bit pixels of red, green, blue and alpha.
+/// Does what [`pix_raw_run`] does, on 16-bit pixels of red, green, blue and alpha.
 #[unsafe(no_mangle)]
-pub extern "C" fn pix_run_commands_rgba16(
+pub extern "C" fn pix_raw_run_rgba16(
     pixels: &mut [PixRgba16],
     width: u32,
     height: u32,
@@ -97,9 +98,9 @@ pub extern "C" fn pix_run_commands_rgba16(
     )
 }
 
-/// Does what [`pix_run_commands`] does, on 8-bit pixels of gray and alpha.
+/// Does what [`pix_raw_run`] does, on 8-bit pixels of gray and alpha.
 #[unsafe(no_mangle)]
-pub extern "C" fn pix_run_commands_graya8(
+pub extern "C" fn pix_raw_run_graya8(
     pixels: &mut [PixGraya8],
     width: u32,
     height: u32,

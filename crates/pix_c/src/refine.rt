@@ -1,21 +1,21 @@
 //! Tables of colors that are refined.
 ghost use Rattle.std.specs.Prelude.{◌≡◌, ◌≢◌, ◌≤◌, length, map, take};
 ghost use Rattle.pix_table.specs.Nearest.{numbers};
-ghost use Rattle.pix_table.specs.From.{shown};
-ghost use Rattle.pix_table.specs.Refine.{IsRefinedTableFrom};
+ghost use Rattle.pix_table.specs.Quantization.{shown};
+ghost use Rattle.pix_table.specs.Refine.{IsQuantizedRefined};
 ghost use Rattle.pix_table.specs.Seen.{rgba_numbers};
 ghost use Rattle.pix_c.specs.Table.{make_status};
 
 use crate::status::{BAD_LENGTH, DONE};
 use crate::table::BAD_TABLE;
-use pix_table::{Color, RgbaColor, TablePixel, refined_table_from};
+use pix_table::{Color, RgbaColor, TablePixel, quantize_refined};
 
-/// Does what [`pix_table_from`](crate::table::pix_table_from) does. Where there are more distinct
+/// Does what [`pix_raw_quantize`](crate::table::pix_raw_quantize) does. Where there are more distinct
 /// colors than entries, `rounds` rounds then refine the table. In a round each color goes to its
 /// nearest entry, the first of equals. Each entry goes to the mean of its colors, rounded, and
 /// stays where it has none. No round makes the sum of the squared errors greater.
 #[unsafe(no_mangle)]
-pub extern "C" fn pix_table_refined(
+pub extern "C" fn pix_raw_quantize_refined(
     pixels: &[Color],
     rounds: u8,
     work: &mut [Color],
@@ -27,16 +27,16 @@ pub extern "C" fn pix_table_refined(
     ensures refused { result ≢ 0 → (work.new ≡ work.old) × (entries.new ≡ entries.old)
         × (made.new ≡ made.old) }
     ensures done { result ≡ 0 → (made.new ≤ length entries.new)
-        × IsRefinedTableFrom rounds (length entries.old) (shown 0 (map numbers pixels.now))
+        × IsQuantizedRefined rounds (length entries.old) (shown 0 (map numbers pixels.now))
         (map numbers (take made.new entries.new)) }
 {
     refine_table(pixels, 0, rounds, work, entries, made)
 }
 
-/// Does what [`pix_table_refined`] does, on pixels with an alpha. Those whose alpha is below
+/// Does what [`pix_raw_quantize_refined`] does, on pixels with an alpha. Those whose alpha is below
 /// `alpha` do not count.
 #[unsafe(no_mangle)]
-pub extern "C" fn pix_table_refined_alpha(
+pub extern "C" fn pix_raw_quantize_refined_alpha(
     pixels: &[RgbaColor],
     alpha: u8,
     rounds: u8,
@@ -49,7 +49,7 @@ pub extern "C" fn pix_table_refined_alpha(
     ensures refused { result ≢ 0 → (work.new ≡ work.old) × (entries.new ≡ entries.old)
         × (made.new ≡ made.old) }
     ensures done { result ≡ 0 → (made.new ≤ length entries.new)
-        × IsRefinedTableFrom rounds (length entries.old) (shown alpha (map rgba_numbers pixels.now))
+        × IsQuantizedRefined rounds (length entries.old) (shown alpha (map rgba_numbers pixels.now))
         (map numbers (take made.new entries.new)) }
 {
     refine_table(pixels, alpha, rounds, work, entries, made)
@@ -69,13 +69,13 @@ fn refine_table<P: TablePixel>(
     ensures refused { result ≢ 0 → (work.new ≡ work.old) × (entries.new ≡ entries.old)
         × (made.new ≡ made.old) }
     ensures done { result ≡ 0 → (made.new ≤ length entries.new)
-        × IsRefinedTableFrom rounds (length entries.old) (shown alpha (map P.values pixels.now))
+        × IsQuantizedRefined rounds (length entries.old) (shown alpha (map P.values pixels.now))
         (map numbers (take made.new entries.new)) }
 {
     if entries.is_empty() || entries.len() > 256 {
         return BAD_TABLE;
     }
-    match refined_table_from(pixels, alpha, rounds, work, entries) {
+    match quantize_refined(pixels, alpha, rounds, work, entries) {
         Some(count) => {
             *made = count;
             DONE

@@ -2,17 +2,16 @@
 ghost use Rattle.std.specs.Prelude.{◌≡◌, ◌≢◌, ◌≤◌, length, map, take};
 ghost use Rattle.pix_table.specs.LookUp.{AreLookedUp};
 ghost use Rattle.pix_table.specs.Seen.{AreSeenMatched, rgba_numbers};
-ghost use Rattle.pix_table.specs.SeenTables.{IsRgbaTableFrom};
+ghost use Rattle.pix_table.specs.SeenTables.{IsQuantizedRgba};
 ghost use Rattle.pix_table.specs.SeenDiffusion.{AreSeenDiffused};
 ghost use Rattle.pix_c.specs.Table.{diffuse_by_status, look_up_status, make_status, match_status};
-ghost use Rattle.pix_c.specs.Table.{way_of};
+ghost use Rattle.pix_c.specs.Table.{scan_of};
 
-use crate::diffuse::{BAD_STRENGTH, WHOLE, are_rows, way_of};
+use crate::diffuse::{BAD_STRENGTH, WHOLE, are_rows, scan_of};
 use crate::status::{BAD_LENGTH, DONE};
 use crate::table::{BAD_INDEX, BAD_TABLE};
 use pix_table::{
-    RgbaColor, RgbaDiffusion, Seen, diffuse_rgba_pixels, look_up, match_rgba_pixels,
-    rgba_table_from,
+    RgbaColor, RgbaDiffusion, Seen, diffuse_indexed_rgba, look_up, map_indexed_rgba, quantize_rgba,
 };
 
 /// Writes a table of the colors of the pixels, with their alphas, into the first of the entries,
@@ -28,7 +27,7 @@ use pix_table::{
 /// Returns 0 when it is made. Else nothing is written. The status is then 11 where there is no
 /// entry or more than 256, and otherwise 7, where `work` has fewer colors than there are pixels.
 #[unsafe(no_mangle)]
-pub extern "C" fn pix_table_rgba_from(
+pub extern "C" fn pix_raw_quantize_rgba(
     pixels: &[RgbaColor],
     rounds: u8,
     work: &mut [Seen],
@@ -40,13 +39,13 @@ pub extern "C" fn pix_table_rgba_from(
     ensures refused { result ≢ 0 → (work.new ≡ work.old) × (entries.new ≡ entries.old)
         × (made.new ≡ made.old) }
     ensures done { result ≡ 0 → (made.new ≤ length entries.new)
-        × IsRgbaTableFrom rounds (length entries.old) (map rgba_numbers pixels.now)
+        × IsQuantizedRgba rounds (length entries.old) (map rgba_numbers pixels.now)
         (map rgba_numbers (take made.new entries.new)) }
 {
     if entries.is_empty() || entries.len() > 256 {
         return BAD_TABLE;
     }
-    match rgba_table_from(pixels, rounds, work, entries) {
+    match quantize_rgba(pixels, rounds, work, entries) {
         Some(count) => {
             *made = count;
             DONE
@@ -60,7 +59,7 @@ pub extern "C" fn pix_table_rgba_from(
 /// Returns 0 when they are written. Else nothing is written. The status is then 11 where there is
 /// no entry or more than 256, and otherwise 7, where there are not as many indices as pixels.
 #[unsafe(no_mangle)]
-pub extern "C" fn pix_table_rgba_match(
+pub extern "C" fn pix_raw_map_indexed_rgba(
     entries: &[RgbaColor],
     pixels: &[RgbaColor],
     indices: &mut [u8],
@@ -77,7 +76,7 @@ pub extern "C" fn pix_table_rgba_match(
     if indices.len() != pixels.len() {
         return BAD_LENGTH;
     }
-    match_rgba_pixels(entries, pixels, indices);
+    map_indexed_rgba(entries, pixels, indices);
     DONE
 }
 
@@ -86,7 +85,7 @@ pub extern "C" fn pix_table_rgba_match(
 /// Returns 0 when they are written. Else nothing is written. The status is then 7 where there are
 /// not as many pixels as indices, and otherwise 12, where an index is past the entries.
 #[unsafe(no_mangle)]
-pub extern "C" fn pix_table_rgba_look_up(
+pub extern "C" fn pix_raw_look_up_rgba(
     entries: &[RgbaColor],
     indices: &[u8],
     pixels: &mut [RgbaColor],
@@ -107,13 +106,13 @@ pub extern "C" fn pix_table_rgba_look_up(
 }
 
 /// Writes for each pixel, in rows of `width`, its index by error diffusion, as
-/// [`pix_table_diffuse_by`](crate::diffuse::pix_table_diffuse_by) does: that of the entry which is
+/// [`pix_raw_diffuse_indexed_by`](crate::diffuse::pix_raw_diffuse_indexed_by) does: that of the entry which is
 /// seen nearest to the pixel plus its share of the errors before it. Errors are those of colors
 /// times their alphas, and of the alphas. A pixel of the alpha 0 has no share and hands on no error.
 ///
-/// The statuses are those of `pix_table_diffuse_by`.
+/// The statuses are those of `pix_raw_diffuse_indexed_by`.
 #[unsafe(no_mangle)]
-pub extern "C" fn pix_table_rgba_diffuse(
+pub extern "C" fn pix_raw_diffuse_indexed_rgba(
     entries: &[RgbaColor],
     pixels: &[RgbaColor],
     width: usize,
@@ -123,9 +122,9 @@ pub extern "C" fn pix_table_rgba_diffuse(
     indices: &mut [u8],
 ) -> u32
     ensures status { result ≡ diffuse_by_status (length entries.now) (length pixels.now) width
-        strength (way_of serpentine) (length work.old) (length indices.old) }
+        strength (scan_of serpentine) (length work.old) (length indices.old) }
     ensures refused { result ≢ 0 → (work.new ≡ work.old) × (indices.new ≡ indices.old) }
-    ensures done { result ≡ 0 → AreSeenDiffused (way_of serpentine) strength width
+    ensures done { result ≡ 0 → AreSeenDiffused (scan_of serpentine) strength width
         (map rgba_numbers entries.now) (map rgba_numbers pixels.now) indices.new }
 {
     if entries.is_empty() || entries.len() > 256 {
@@ -134,15 +133,15 @@ pub extern "C" fn pix_table_rgba_diffuse(
     if strength > WHOLE {
         return BAD_STRENGTH;
     }
-    let way = way_of(serpentine);
-    if !are_rows(pixels.len(), width, way, work.len(), indices.len()) {
+    let scan = scan_of(serpentine);
+    if !are_rows(pixels.len(), width, scan, work.len(), indices.len()) {
         return BAD_LENGTH;
     }
     let how = RgbaDiffusion {
         width,
         strength,
-        way,
+        scan,
     };
-    diffuse_rgba_pixels(entries, pixels, how, work, indices);
+    diffuse_indexed_rgba(entries, pixels, how, work, indices);
     DONE
 }

@@ -3,7 +3,7 @@ ghost use Rattle.std.specs.Prelude.{◌≡◌, ◌≢◌, ℕ, ◌<◌, ◌≤�
 ghost use Rattle.pix_table.specs.Nearest.{numbers, IsNearest, AreMatched};
 ghost use Rattle.pix_table.specs.LookUp.{AreLookedUp, AreCounted};
 ghost use Rattle.pix_table.specs.Seen.{rgba_numbers};
-ghost use Rattle.pix_table.specs.From.{shown, IsTableFrom};
+ghost use Rattle.pix_table.specs.Quantization.{shown, IsQuantized};
 ghost use Rattle.pix_table.specs.Packing.{ArePacked, AreUnpacked};
 ghost use Rattle.pix_table.specs.Setting.{Always, IsSet};
 ghost use Rattle.pix_table.specs.Indexing.{AreSet, IsStopped};
@@ -15,8 +15,8 @@ ghost use Rattle.pix_c.specs.Table.{count_status, pack_status, unpack_status, de
 
 use crate::status::{BAD_LENGTH, DONE};
 use pix_table::{
-    Color, IndexDepth, RgbaColor, RowFault, TablePixel, count, index_pixels, look_up, match_pixels,
-    nearest, pack_row, table_from, unpack_row,
+    Color, IndexDepth, RgbaColor, RowFault, TablePixel, count_indices, index_pixels, look_up,
+    map_indexed, nearest, pack_row, quantize, unpack_row,
 };
 
 /// A table has no entry, or more than 256.
@@ -36,7 +36,7 @@ pub const FULL_TABLE: u32 = 14;
 ///
 /// Returns 0, or 11 where there is no entry or more than 256. With 11 nothing is written.
 #[unsafe(no_mangle)]
-pub extern "C" fn pix_table_nearest(entries: &[Color], clr: &Color, index: &mut u8) -> u32
+pub extern "C" fn pix_raw_nearest(entries: &[Color], clr: &Color, index: &mut u8) -> u32
     ensures status { result ≡ nearest_status (length entries.now) }
     ensures refused { result ≢ 0 → index.new ≡ index.old }
     ensures done { result ≡ 0
@@ -54,13 +54,17 @@ pub extern "C" fn pix_table_nearest(entries: &[Color], clr: &Color, index: &mut 
     }
 }
 
-/// Writes for each pixel the index of the entry that is nearest to it, as [`pix_table_nearest`]
+/// Writes for each pixel the index of the entry that is nearest to it, as [`pix_raw_nearest`]
 /// does.
 ///
 /// Returns 0 when they are written. Else nothing is written. The status is then 11 where there is
 /// no entry or more than 256, and otherwise 7, where there are not as many indices as pixels.
 #[unsafe(no_mangle)]
-pub extern "C" fn pix_table_match(entries: &[Color], pixels: &[Color], indices: &mut [u8]) -> u32
+pub extern "C" fn pix_raw_map_indexed(
+    entries: &[Color],
+    pixels: &[Color],
+    indices: &mut [u8],
+) -> u32
     ensures status { result ≡
         match_status (length entries.now) (length pixels.now) (length indices.old) }
     ensures refused { result ≢ 0 → indices.new ≡ indices.old }
@@ -70,23 +74,23 @@ pub extern "C" fn pix_table_match(entries: &[Color], pixels: &[Color], indices: 
     match_all(entries, pixels, 0, 0, indices)
 }
 
-/// Does what [`pix_table_match`] does, on pixels with an alpha. A pixel whose alpha is below
-/// `alpha` gets the index `kept`. The alpha of any other pixel doesn't count.
+/// Does what [`pix_raw_map_indexed`] does, on pixels with an alpha. A pixel whose alpha is below
+/// `alpha` gets the index `transparent_index`. The alpha of any other pixel doesn't count.
 #[unsafe(no_mangle)]
-pub extern "C" fn pix_table_match_alpha(
+pub extern "C" fn pix_raw_map_indexed_alpha(
     entries: &[Color],
     pixels: &[RgbaColor],
     alpha: u8,
-    kept: u8,
+    transparent_index: u8,
     indices: &mut [u8],
 ) -> u32
     ensures status { result ≡
         match_status (length entries.now) (length pixels.now) (length indices.old) }
     ensures refused { result ≢ 0 → indices.new ≡ indices.old }
-    ensures done { result ≡ 0 → AreMatched (map numbers entries.now) alpha kept
+    ensures done { result ≡ 0 → AreMatched (map numbers entries.now) alpha transparent_index
         (map rgba_numbers pixels.now) indices.new }
 {
-    match_all(entries, pixels, alpha, kept, indices)
+    match_all(entries, pixels, alpha, transparent_index, indices)
 }
 
 /// Matches pixels of any kind.
@@ -94,13 +98,13 @@ fn match_all<P: TablePixel>(
     entries: &[Color],
     pixels: &[P],
     alpha: u8,
-    kept: u8,
+    transparent_index: u8,
     indices: &mut [u8],
 ) -> u32
     ensures status { result ≡
         match_status (length entries.now) (length pixels.now) (length indices.old) }
     ensures refused { result ≢ 0 → indices.new ≡ indices.old }
-    ensures done { result ≡ 0 → AreMatched (map numbers entries.now) alpha kept
+    ensures done { result ≡ 0 → AreMatched (map numbers entries.now) alpha transparent_index
         (map P.values pixels.now) indices.new }
 {
     if entries.is_empty() || entries.len() > 256 {
@@ -109,7 +113,7 @@ fn match_all<P: TablePixel>(
     if indices.len() != pixels.len() {
         return BAD_LENGTH;
     }
-    match_pixels(entries, pixels, alpha, kept, indices);
+    map_indexed(entries, pixels, alpha, transparent_index, indices);
     DONE
 }
 
@@ -121,7 +125,7 @@ fn match_all<P: TablePixel>(
 /// Returns 0 when it is made. Else nothing is written. The status is then 11 where there is no
 /// entry or more than 256, and otherwise 7, where `work` has fewer colors than there are pixels.
 #[unsafe(no_mangle)]
-pub extern "C" fn pix_table_from(
+pub extern "C" fn pix_raw_quantize(
     pixels: &[Color],
     work: &mut [Color],
     entries: &mut [Color],
@@ -132,16 +136,16 @@ pub extern "C" fn pix_table_from(
     ensures refused { result ≢ 0 → (work.new ≡ work.old) × (entries.new ≡ entries.old)
         × (made.new ≡ made.old) }
     ensures done { result ≡ 0 → (made.new ≤ length entries.new)
-        × IsTableFrom (length entries.old) (shown 0 (map numbers pixels.now))
+        × IsQuantized (length entries.old) (shown 0 (map numbers pixels.now))
         (map numbers (take made.new entries.new)) }
 {
     make_table(pixels, 0, work, entries, made)
 }
 
-/// Does what [`pix_table_from`] does, on pixels with an alpha. Those whose alpha is below `alpha`
+/// Does what [`pix_raw_quantize`] does, on pixels with an alpha. Those whose alpha is below `alpha`
 /// do not count.
 #[unsafe(no_mangle)]
-pub extern "C" fn pix_table_from_alpha(
+pub extern "C" fn pix_raw_quantize_alpha(
     pixels: &[RgbaColor],
     alpha: u8,
     work: &mut [Color],
@@ -153,7 +157,7 @@ pub extern "C" fn pix_table_from_alpha(
     ensures refused { result ≢ 0 → (work.new ≡ work.old) × (entries.new ≡ entries.old)
         × (made.new ≡ made.old) }
     ensures done { result ≡ 0 → (made.new ≤ length entries.new)
-        × IsTableFrom (length entries.old) (shown alpha (map rgba_numbers pixels.now))
+        × IsQuantized (length entries.old) (shown alpha (map rgba_numbers pixels.now))
         (map numbers (take made.new entries.new)) }
 {
     make_table(pixels, alpha, work, entries, made)
@@ -172,13 +176,13 @@ fn make_table<P: TablePixel>(
     ensures refused { result ≢ 0 → (work.new ≡ work.old) × (entries.new ≡ entries.old)
         × (made.new ≡ made.old) }
     ensures done { result ≡ 0 → (made.new ≤ length entries.new)
-        × IsTableFrom (length entries.old) (shown alpha (map P.values pixels.now))
+        × IsQuantized (length entries.old) (shown alpha (map P.values pixels.now))
         (map numbers (take made.new entries.new)) }
 {
     if entries.is_empty() || entries.len() > 256 {
         return BAD_TABLE;
     }
-    match table_from(pixels, alpha, work, entries) {
+    match quantize(pixels, alpha, work, entries) {
         Some(count) => {
             *made = count;
             DONE
@@ -199,7 +203,7 @@ fn make_table<P: TablePixel>(
 /// are, or where there are not as many indices as pixels. Otherwise it is 14, where there is no
 /// room for a color.
 #[unsafe(no_mangle)]
-pub extern "C" fn pix_table_index(
+pub extern "C" fn pix_raw_index_pixels(
     entries: &mut [Color],
     used: &mut usize,
     threshold: &Color,
@@ -239,7 +243,7 @@ pub extern "C" fn pix_table_index(
 /// Returns 0 when they are written. Else nothing is written. The status is then 7 where there are
 /// not as many pixels as indices, and otherwise 12, where an index is past the entries.
 #[unsafe(no_mangle)]
-pub extern "C" fn pix_table_look_up(entries: &[Color], indices: &[u8], pixels: &mut [Color]) -> u32
+pub extern "C" fn pix_raw_look_up(entries: &[Color], indices: &[u8], pixels: &mut [Color]) -> u32
     ensures status { result ≡
         look_up_status (length entries.now) indices.now (length pixels.old) }
     ensures refused { result ≢ 0 → pixels.new ≡ pixels.old }
@@ -259,12 +263,12 @@ pub extern "C" fn pix_table_look_up(entries: &[Color], indices: &[u8], pixels: &
 ///
 /// Returns 0 when they are written, or 12 where an index has no count. With 12 nothing is written.
 #[unsafe(no_mangle)]
-pub extern "C" fn pix_table_count(indices: &[u8], counts: &mut [usize]) -> u32
+pub extern "C" fn pix_raw_count_indices(indices: &[u8], counts: &mut [usize]) -> u32
     ensures status { result ≡ count_status (length counts.old) indices.now }
     ensures refused { result ≢ 0 → counts.new ≡ counts.old }
     ensures done { result ≡ 0 → AreCounted (length counts.old) indices.now counts.new }
 {
-    if count(indices, counts) {
+    if count_indices(indices, counts) {
         DONE
     } else {
         BAD_INDEX
@@ -278,7 +282,7 @@ pub extern "C" fn pix_table_count(indices: &[u8], counts: &mut [usize]) -> u32
 /// neither 1, 2, 4 nor 8. Otherwise it is 7 where there are not just as many bytes as the row
 /// takes. Otherwise it is 12, where an index takes more bits.
 #[unsafe(no_mangle)]
-pub extern "C" fn pix_table_pack(bits: u32, indices: &[u8], bytes: &mut [u8]) -> u32
+pub extern "C" fn pix_raw_pack_row(bits: u32, indices: &[u8], bytes: &mut [u8]) -> u32
     ensures status { result ≡ pack_status (depth_of bits) indices.now (length bytes.old) }
     ensures refused { result ≢ 0 → bytes.new ≡ bytes.old }
     ensures done { (depth : IndexDepth) → depth_of bits ≡ Some depth → result ≡ 0
@@ -298,7 +302,7 @@ pub extern "C" fn pix_table_pack(bits: u32, indices: &[u8], bytes: &mut [u8]) ->
 /// Returns 0 when it is unpacked. Else nothing is written. The status is then 13 where `bits` is
 /// neither 1, 2, 4 nor 8, and otherwise 7, where there are not just as many bytes as the row takes.
 #[unsafe(no_mangle)]
-pub extern "C" fn pix_table_unpack(bits: u32, bytes: &[u8], indices: &mut [u8]) -> u32
+pub extern "C" fn pix_raw_unpack_row(bits: u32, bytes: &[u8], indices: &mut [u8]) -> u32
     ensures status { result ≡
         unpack_status (depth_of bits) (length bytes.now) (length indices.old) }
     ensures refused { result ≢ 0 → indices.new ≡ indices.old }

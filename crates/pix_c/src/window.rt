@@ -18,13 +18,13 @@ use pix_flat::run;
 /// point (`left`, `top`) of the picture.
 ///
 /// The regions of the commands are regions of the picture. Each pixel becomes what it would become
-/// if the whole picture were passed to [`pix_run_commands`](crate::pix_run_commands). So windows of
+/// if the whole picture were passed to [`pix_raw_run`](crate::pix_raw_run). So windows of
 /// a picture may be painted one by one, in any order.
 ///
-/// Returns what [`pix_run_commands`](crate::pix_run_commands) returns, and
+/// Returns what [`pix_raw_run`](crate::pix_raw_run) returns, and
 /// [`BAD_SIZE`](crate::BAD_SIZE) too where `left + width` or `top + height` is above 2147483647.
 #[unsafe(no_mangle)]
-pub extern "C" fn pix_run_window(
+pub extern "C" fn pix_raw_run_window(
     pixels: &mut [PixRgba8],
     left: u32,
     top: u32,
@@ -47,9 +47,9 @@ pub extern "C" fn pix_run_window(
     )
 }
 
-/// Does what [`pix_run_window`] does, on 16-bit pixels of red, green, blue and alpha.
+/// Does what [`pix_raw_run_window`] does, on 16-bit pixels of red, green, blue and alpha.
 #[unsafe(no_mangle)]
-pub extern "C" fn pix_run_window_rgba16(
+pub extern "C" fn pix_raw_run_window_rgba16(
     pixels: &mut [PixRgba16],
     left: u32,
     top: u32,
@@ -72,9 +72,9 @@ pub extern "C" fn pix_run_window_rgba16(
     )
 }
 
-/// Does what [`pix_run_window`] does, on 8-bit pixels of gray and alpha.
+/// Does what [`pix_raw_run_window`] does, on 8-bit pixels of gray and alpha.
 #[unsafe(no_mangle)]
-pub extern "C" fn pix_run_window_graya8(
+pub extern "C" fn pix_raw_run_window_graya8(
     pixels: &mut [PixGraya8],
     left: u32,
     top: u32,

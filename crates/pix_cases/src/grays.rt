@@ -142,17 +142,17 @@ trait Bytes {
 
 impl Bytes for Raster<Gray8> {
     fn bytes(&self, alloc: Global) -> Result<(Vec<u8>, Vec<u8>), Flaw> {
-        let lent = self.to_u8_vec(alloc).map_err(|_| Flaw::Memory)?;
+        let copied = self.to_u8_vec(alloc).map_err(|_| Flaw::Memory)?;
         let copy = self.try_clone(alloc).map_err(|_| Flaw::Memory)?;
-        Ok((lent, copy.into_u8_vec(alloc).map_err(|_| Flaw::Memory)?))
+        Ok((copied, copy.into_u8_vec(alloc).map_err(|_| Flaw::Memory)?))
     }
 }
 
 impl Bytes for Raster<Matte8> {
     fn bytes(&self, alloc: Global) -> Result<(Vec<u8>, Vec<u8>), Flaw> {
-        let lent = self.to_u8_vec(alloc).map_err(|_| Flaw::Memory)?;
+        let copied = self.to_u8_vec(alloc).map_err(|_| Flaw::Memory)?;
         let copy = self.try_clone(alloc).map_err(|_| Flaw::Memory)?;
-        Ok((lent, copy.into_u8_vec(alloc).map_err(|_| Flaw::Memory)?))
+        Ok((copied, copy.into_u8_vec(alloc).map_err(|_| Flaw::Memory)?))
     }
 }
 
@@ -162,11 +162,11 @@ where
     P: Pixel,
     Raster<P>: Bytes,
 {
-    let (lent, bytes) = raster.bytes(alloc)?;
-    let (lent, bytes) = (hexadecimal(&lent, alloc)?, hexadecimal(&bytes, alloc)?);
+    let (copied, bytes) = raster.bytes(alloc)?;
+    let (copied, bytes) = (hexadecimal(&copied, alloc)?, hexadecimal(&bytes, alloc)?);
     let copy = raster.try_clone(alloc).map_err(|_| Flaw::Memory)?;
     let pixels = text(&copy.into_pixels(), alloc)?;
-    Ok(format!(in alloc; "{pixels} {lent} {bytes}")?)
+    Ok(format!(in alloc; "{pixels} {copied} {bytes}")?)
 }
 
 /// How many rows a region has, and the pixels of each; after the last row there is none, however

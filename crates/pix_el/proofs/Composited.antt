@@ -15,7 +15,7 @@ use Rattle.pix_ops.specs.Composite.{channel_composite}
 use Rattle.pix_ops.specs.Hue.{hue_composite, hue_steps, hue_weight, hue_after}
 use Rattle.pix_chan.specs.Channel.{IsNumbered}
 use Rattle.pix_ops.proofs.Near.{channel_near, matted_near}
-use Rattle.pix_ops.proofs.Kept.{composite_grows, sums_fit}
+use Rattle.pix_ops.proofs.WithinAlpha.{composite_grows, sums_fit}
 use Rattle.pix_ops.proofs.Transparent.{over_channel, over_hue}
 use Rattle.pix_el.proofs.Models.{IsModel}
 use Rattle.pix_el.specs.Pixel.{Layout, lies_in, is_hue, channel, alpha_of}

@@ -13,6 +13,6 @@ pub mod MattePlanes
 pub mod FourPixels
 pub mod EightPixels
 pub mod Blocks
-pub mod Kept
+pub mod Unchanged
 pub mod Masked
 pub mod MaskedPlanes

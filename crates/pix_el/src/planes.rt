@@ -31,12 +31,12 @@ mod block;
 mod coverage;
 mod eight;
 mod four;
+mod fours;
 pub(crate) mod interleaved;
-mod kept;
 pub(crate) mod masked;
 mod one;
-mod sixteen;
 mod two;
+mod unchanged;
 
 /// Composites the hues at the same index of all four slices, one after the other. The shortest
 /// length decides.

@@ -5,7 +5,7 @@ use Rattle.pix_el.specs.Pixel.{Layout}
 use Rattle.pix_raster.specs.Region.{Rectangle, whole, covers}
 use Rattle.pix_raster.specs.Image.{point, region_of}
 use Rattle.pix_raster.specs.Reach.{from_pair, is_paired, natural}
-use Rattle.pix_raster.specs.Lent.{read_at, where_covered, where_paired, where_masked, IsShaped}
+use Rattle.pix_raster.specs.View.{read_at, where_covered, where_paired, where_masked, IsShaped}
 use Rattle.pix_raster.specs.Run.{Effect, apply}
 use Rattle.pix_raster.proofs.Masked.{paired_below}
 use Rattle.pix_raster.proofs.Steps.{masked_effect as raster_masked}

@@ -5,7 +5,7 @@ use Rattle.std.proofs.Math.Nat.{mul-le-mul_right}
 use Rattle.std.proofs.lemmas.Bool.Decides.{nat_tests}
 use Rattle.std.proofs.lemmas.List.{map-append, take-map, drop-map, length-map, length-take-le, length-drop, get_or_append_left, get_or-append_right, get_or-take, get_or-drop}
 use Rattle.pix_raster.specs.Image.{point}
-use Rattle.pix_raster.specs.Lent.{read_at, IsShaped}
+use Rattle.pix_raster.specs.View.{read_at, IsShaped}
 use Rattle.pix_flat.specs.Command.{joined_rows, image_of}
 use Rattle.pix_flat.specs.Status.{is_sized, is_placed, is_window}
 

@@ -6,16 +6,16 @@ use Rattle.pix_ops.specs.OperatorNames.{operators}
 use Rattle.pix_el.specs.Pixel.{Layout}
 use Rattle.pix_el.specs.PixelComposite.{pixel_composite, matted_composite, matte_value}
 use Rattle.pix_raster.specs.Region.{Rectangle, whole}
-use Rattle.pix_raster.specs.Lent.{read_at, where_covered, where_paired, where_masked, IsShaped, ChangedIn, picture, in_window}
+use Rattle.pix_raster.specs.View.{read_at, where_covered, where_paired, where_masked, IsShaped, ChangedIn, picture, in_window}
 use Rattle.pix_raster.specs.Run.{Cleared, Copied, Composited, Matted, run_at}
 use Rattle.pix_raster.specs.declared.command.Command.{Command}
 use Rattle.pix_raster.specs.declared.command.Command.TheVariants as commands
-use Rattle.pix_raster.specs.declared.lent.Shape.{Shape}
-use Rattle.pix_raster.specs.declared.lent.Window.{Window}
+use Rattle.pix_raster.specs.declared.view.Shape.{Shape}
+use Rattle.pix_raster.specs.declared.view.Window.{Window}
 use Rattle.pix_raster.proofs.Shaped.{changed_alike}
 use Rattle.pix_raster.proofs.Steps.{whole_effect}
 use Rattle.pix_flat.specs.declared.command.FlatCommand.{FlatCommand}
-use Rattle.pix_flat.specs.Command.{image_of, op_at, rectangle, lent, command_of}
+use Rattle.pix_flat.specs.Command.{image_of, op_at, rectangle, borrowed, command_of}
 use Rattle.pix_flat.specs.Status.{fits, has_pixels, has_mask, has_source, fault_of}
 use Rattle.pix_flat.proofs.Images.{sized_is_shaped}
 use Rattle.pix_flat.proofs.Effects.{covered_effect, paired_effect, masked_effect}
@@ -121,7 +121,7 @@ module _ {D M : Type 0} (layout : Layout) (n : D → List ℕ) (m : M → List �
       → to ≡ rectangle c.to → from ≡ rectangle c.from → of_source ≡ source → ((s p : List ℕ) → f s p ≡ s)
       → ChangedIn n window.shape old new (in_window window (blitted n c.pixels.now f to from of_source)) → Painted (command_of c)
   painted_copy_image kind none to from of_source f et ef es is changed =
-      let e : commands.CopyRaster (rectangle c.to) (lent (image_of c.width c.height c.stride c.pixels.now)) (rectangle c.from) ≡ command_of c = rw kind refl in
+      let e : commands.CopyRaster (rectangle c.to) (borrowed (image_of c.width c.height c.stride c.pixels.now)) (rectangle c.from) ≡ command_of c = rw kind refl in
       subst Painted e
       (changed_alike n window.shape old new (in_window window (blitted n c.pixels.now f to from of_source)) _
       (λ x y pixel lx ly. rw (et, ef, es)
@@ -132,7 +132,7 @@ module _ {D M : Type 0} (layout : Layout) (n : D → List ℕ) (m : M → List �
       → to ≡ rectangle c.to → from ≡ rectangle c.from → of_source ≡ source → ((s p : List ℕ) → f s p ≡ pixel_composite layout (op_at c.op) s p)
       → ChangedIn n window.shape old new (in_window window (blitted n c.pixels.now f to from of_source)) → Painted (command_of c)
   painted_image kind none to from of_source f et ef es is changed =
-      let e : commands.Raster (rectangle c.to) (lent (image_of c.width c.height c.stride c.pixels.now)) (rectangle c.from) (op_at c.op) ≡ command_of c = rw kind refl in
+      let e : commands.Raster (rectangle c.to) (borrowed (image_of c.width c.height c.stride c.pixels.now)) (rectangle c.from) (op_at c.op) ≡ command_of c = rw kind refl in
       subst Painted e
       (changed_alike n window.shape old new (in_window window (blitted n c.pixels.now f to from of_source)) _
       (λ x y pixel lx ly. rw (et, ef, es)
@@ -144,7 +144,7 @@ module _ {D M : Type 0} (layout : Layout) (n : D → List ℕ) (m : M → List �
       → ((s p : List ℕ) → f s p ≡ matted_composite layout (op_at c.op) (matte_value layout s) (n c.color) p)
       → ChangedIn n window.shape old new (in_window window (blitted m c.mattes.now f to from of_source)) → Painted (command_of c)
   painted_matte kind none to from of_source f et ef es is changed =
-      let e : commands.Matte (rectangle c.to) (lent (image_of c.width c.height c.stride c.mattes.now)) (rectangle c.from) c.color (op_at c.op) ≡ command_of c = rw kind refl in
+      let e : commands.Matte (rectangle c.to) (borrowed (image_of c.width c.height c.stride c.mattes.now)) (rectangle c.from) c.color (op_at c.op) ≡ command_of c = rw kind refl in
       subst Painted e
       (changed_alike n window.shape old new (in_window window (blitted m c.mattes.now f to from of_source)) _
       (λ x y pixel lx ly. rw (et, ef, es)
@@ -156,7 +156,7 @@ module _ {D M : Type 0} (layout : Layout) (n : D → List ℕ) (m : M → List �
       → ((s p : List ℕ) → f s p ≡ matted_composite layout (op_at c.op) (matte_value layout (m c.alpha)) s p)
       → ChangedIn n window.shape old new (in_window window (blitted n c.pixels.now f to from of_source)) → Painted (command_of c)
   painted_faded kind none to from of_source f et ef es is changed =
-      let e : commands.RasterAlpha (rectangle c.to) (lent (image_of c.width c.height c.stride c.pixels.now)) (rectangle c.from) c.alpha (op_at c.op) ≡ command_of c = rw kind refl in
+      let e : commands.RasterAlpha (rectangle c.to) (borrowed (image_of c.width c.height c.stride c.pixels.now)) (rectangle c.from) c.alpha (op_at c.op) ≡ command_of c = rw kind refl in
       subst Painted e
       (changed_alike n window.shape old new (in_window window (blitted n c.pixels.now f to from of_source)) _
       (λ x y pixel lx ly. rw (et, ef, es)
@@ -178,8 +178,8 @@ module _ {D M : Type 0} (layout : Layout) (n : D → List ℕ) (m : M → List �
       → ChangedIn n window.shape old new (in_window window (masked f to from mask_from of_source of_mask)) → Painted (command_of c)
   painted_masked kind none to from mask_from of_source of_mask f et ef em es ek is changed =
       let shaped = masked_shaped c none kind in
-      let e : commands.RasterMatte (rectangle c.to) (lent (image_of c.width c.height c.stride c.pixels.now)) (rectangle c.from)
-      (lent (image_of c.mask_width c.mask_height c.mask_stride c.mattes.now)) (rectangle c.mask) (op_at c.op) ≡ command_of c = rw kind refl in
+      let e : commands.RasterMatte (rectangle c.to) (borrowed (image_of c.width c.height c.stride c.pixels.now)) (rectangle c.from)
+      (borrowed (image_of c.mask_width c.mask_height c.mask_stride c.mattes.now)) (rectangle c.mask) (op_at c.op) ≡ command_of c = rw kind refl in
       subst Painted e
       (changed_alike n window.shape old new (in_window window (masked f to from mask_from of_source of_mask)) _
       (λ x y pixel lx ly. rw (et, ef, em, es, ek)

@@ -5,8 +5,8 @@ use Rattle.pix_raster.specs.Region.{limit, whole}
 use Rattle.pix_raster.specs.Run.{run_at}
 use Rattle.pix_raster.specs.Window.{command_from}
 use Rattle.pix_raster.specs.Claims.{IsImageRun}
-use Rattle.pix_raster.specs.Lent.{IsShaped, ChangedIn, largest}
-use Rattle.pix_raster.specs.declared.lent.Shape.{Shape}
+use Rattle.pix_raster.specs.View.{IsShaped, ChangedIn, largest}
+use Rattle.pix_raster.specs.declared.view.Shape.{Shape}
 use Rattle.pix_raster.proofs.RunBounds.{IsFormat}
 use Rattle.pix_raster.proofs.Claimed.{claims}
 use Rattle.pix_raster.proofs.Seen.{commands_there}

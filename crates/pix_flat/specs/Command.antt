@@ -36,15 +36,15 @@ abbrev pub rectangle : PixRegion → Rectangle
 rectangle r = record { left = r.x; top = r.y; width = r.width; height = r.height }
 
 -- an image as a source of a command of the library
-abbrev pub lent : {D : Type 0} → Image D → Bor (Image D)
-lent image = record { ref_ptr = (0, 0); now = image }
+abbrev pub borrowed : {D : Type 0} → Image D → Bor (Image D)
+borrowed image = record { ref_ptr = (0, 0); now = image }
 
 -- a command by the number of its kind, as one of the library
 abbrev pub command_of : {D M : Type 0} → FlatCommand D M → Command D M
 command_of c =
-    let pixels = lent (image_of c.width c.height c.stride c.pixels.now) in
-    let mattes = lent (image_of c.width c.height c.stride c.mattes.now) in
-    let mask = lent (image_of c.mask_width c.mask_height c.mask_stride c.mattes.now) in
+    let pixels = borrowed (image_of c.width c.height c.stride c.pixels.now) in
+    let mattes = borrowed (image_of c.width c.height c.stride c.mattes.now) in
+    let mask = borrowed (image_of c.mask_width c.mask_height c.mask_stride c.mattes.now) in
     if nat_eq c.kind 0 then commands.Clear
     else (if nat_eq c.kind 1 then commands.CopyColor (rectangle c.to) c.color
     else (if nat_eq c.kind 2 then commands.CopyRaster (rectangle c.to) pixels (rectangle c.from)

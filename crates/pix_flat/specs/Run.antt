@@ -6,7 +6,7 @@ use Rattle.pix_raster.specs.Image.{Changed}
 use Rattle.pix_raster.specs.Run.{run_at}
 use Rattle.pix_raster.specs.Claims.{IsImageRun}
 use Rattle.pix_raster.specs.Window.{command_from}
-use Rattle.pix_raster.specs.Lent.{IsNoPoint}
+use Rattle.pix_raster.specs.View.{IsNoPoint}
 use Rattle.pix_flat.specs.declared.command.FlatCommand.{FlatCommand}
 use Rattle.pix_flat.specs.Command.{image_of, command_of}
 

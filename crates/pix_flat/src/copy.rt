@@ -5,7 +5,7 @@ ghost use Rattle.pix_el.specs.PixelComposite.{pixel_composite};
 
 use crate::format::{Flat, FlatPixel, Numbered};
 use pix_el::el::Pixel;
-use pix_raster::lent::{Blit, Fill, MaskedBlit};
+use pix_raster::view::{Blit, Fill, MaskedBlit};
 use std::marker::PhantomData;
 
 /// The most columns of a region whose image is copied under `Src`. Longer rows go in blocks, which

@@ -2,7 +2,7 @@
 ghost use Rattle.std.specs.Prelude.{◌≡◌, ◌<◌, [], ◌∷◌, length, true};
 ghost use Rattle.pix_ops.specs.declared.ops.Op.TheVariants.{Clear};
 ghost use Rattle.pix_raster.specs.Run.{run_at};
-ghost use Rattle.pix_raster.specs.Lent.{IsWindow, ChangedIn, picture, in_window};
+ghost use Rattle.pix_raster.specs.View.{IsWindow, ChangedIn, picture, in_window};
 ghost use Rattle.pix_flat.specs.Command.{op_at, rectangle, command_of};
 ghost use Rattle.pix_flat.specs.Status.{fits, fault_of};
 
@@ -20,7 +20,7 @@ use pix_el::el::{Pix, Pixel};
 use pix_el::matte::Matte;
 use pix_ops::ops::{Blend, Op, SliceVisitor};
 use pix_raster::Region;
-use pix_raster::lent::{Shape, Source, Window, blit_masked, blit_window, fill_window};
+use pix_raster::view::{Shape, Source, Window, blit_masked, blit_window, fill_window};
 use std::marker::PhantomData;
 
 /// Returns the region of the library. Condition: its sides are within the limit.

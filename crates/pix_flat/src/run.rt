@@ -1,7 +1,7 @@
 //! The run of a list of commands on the caller's pixels, for any format.
 ghost use Rattle.std.specs.Prelude.{◌≡◌, ◌≢◌, length, map};
 ghost use Rattle.pix_raster.specs.Run.{run_at};
-ghost use Rattle.pix_raster.specs.Lent.{largest};
+ghost use Rattle.pix_raster.specs.View.{largest};
 ghost use Rattle.pix_flat.specs.Command.{command_of};
 ghost use Rattle.pix_flat.specs.Status.{status_of, done_of, window_status_of, window_done_of, first_fault};
 ghost use Rattle.pix_flat.specs.Run.{IsRun, IsWindowRun};
@@ -14,7 +14,7 @@ use crate::status::{BAD_SIZE, DONE, first_fault};
 use pix_chan::chan::{Linear, Premultiplied};
 use pix_el::el::{Pix, Pixel};
 use pix_el::matte::Matte;
-use pix_raster::lent::{Painting, Shape, Window, paint_by_bands, points_in};
+use pix_raster::view::{Painting, Shape, Window, paint_by_bands, points_in};
 use std::marker::PhantomData;
 
 /// Runs `commands` in order on the image of that width, height and stride in `pixels`.

@@ -10,7 +10,7 @@ use pix_el::el::{Pix, Pixel};
 use pix_el::matte::Matte;
 use pix_el::model::ColorModel;
 use pix_ops::ops::Blend;
-use pix_raster::lent::{Blit, Fill};
+use pix_raster::view::{Blit, Fill};
 use std::marker::PhantomData;
 
 mod masked;

@@ -30,7 +30,7 @@ pub(crate) fn run(
 
 /// Makes a table of a picture, and its indices in two ways.
 fn encode(alloc: Global, picture: &Raster<SRgb8>, digest: &mut Digest) -> Option<()> {
-    let table = ColorTable::from_raster(alloc, picture, 256, 0).ok()??;
+    let table = ColorTable::quantize(alloc, picture, 256, 0).ok()??;
     let nearest = table.map_indexed(alloc, picture).ok()??;
     digest.add_raster(alloc, &nearest)?;
     let diffused = table.diffuse_indexed(alloc, picture, 0, 0).ok()??;

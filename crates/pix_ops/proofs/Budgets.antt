@@ -6,7 +6,7 @@ use Rattle.std.proofs.lemmas.List.Sums.{sum_by-le}
 use Rattle.std.proofs.lemmas.Bool.{eqb-true}
 use Rattle.pix_ops.specs.declared.ops.Op.{Op}
 use Rattle.pix_ops.specs.Operators.{Coefficient, Zero, One, Alpha, OneMinusAlpha, row, reads, enters, product_count}
-use Rattle.pix_ops.specs.ExactRun.{ChannelEffect, Replaced, Composited, Matted, Budget, both, composite_budget, budget_step, effect_count, doubled_counts, IsUnmatted, IsListed, AreAtMost, HasSmallBudget}
+use Rattle.pix_ops.specs.ExactRun.{ChannelEffect, Replaced, Composited, Matted, Budget, both, composite_budget, budget_step, effect_count, doubled_counts, IsUnmatted, HasConstantSource, AreAtMost, HasSmallBudget}
 
 -- 1 where the alpha's budget stays: where the destination's coefficient is not zero, or the
 -- source's reads the alpha
@@ -70,7 +70,7 @@ run_after (effect ∷ effects) k budget u h =
     let end = run_after effects (suc k) (budget_step budget effect) (All-tail IsUnmatted effect effects u) now in
     omega (arith, end)
 
-step_listed : (effect : ChannelEffect) (k : ℕ) (budget : Budget) → IsUnmatted effect → IsListed effect → AreAtMost k budget → AreAtMost (suc k) (budget_step budget effect)
+step_listed : (effect : ChannelEffect) (k : ℕ) (budget : Budget) → IsUnmatted effect → HasConstantSource effect → AreAtMost k budget → AreAtMost (suc k) (budget_step budget effect)
 step_listed (Replaced s sa) k budget u l h = omega arith
 step_listed (Composited op s sa) k budget u l h =
     let a = (row op).source in
@@ -78,11 +78,11 @@ step_listed (Composited op s sa) k budget u l h =
     omega (arith, spends op (product_count op) budget, none, count_most op, ap (λ (x : ℕ). x * budget.alpha) none, shares a (row op).dest budget)
 step_listed (Matted op matte s sa) k budget u l h = absurd u
 
-run_listed : (effects : List ChannelEffect) (k : ℕ) (budget : Budget) → All IsUnmatted effects → All IsListed effects → AreAtMost k budget → AreAtMost (k + length effects) (fold budget_step budget effects)
+run_listed : (effects : List ChannelEffect) (k : ℕ) (budget : Budget) → All IsUnmatted effects → All HasConstantSource effects → AreAtMost k budget → AreAtMost (k + length effects) (fold budget_step budget effects)
 run_listed [] k budget u l h = omega arith
 run_listed (effect ∷ effects) k budget u l h =
-    let now = step_listed effect k budget (All-head IsUnmatted effect effects u) (All-head IsListed effect effects l) h in
-    let end = run_listed effects (suc k) (budget_step budget effect) (All-tail IsUnmatted effect effects u) (All-tail IsListed effect effects l) now in
+    let now = step_listed effect k budget (All-head IsUnmatted effect effects u) (All-head HasConstantSource effect effects l) h in
+    let end = run_listed effects (suc k) (budget_step budget effect) (All-tail IsUnmatted effect effects u) (All-tail HasConstantSource effect effects l) now in
     omega (arith, end)
 
 -- at most two products enter by an effect with no matte
@@ -104,6 +104,6 @@ budget_small effects =
     let n = length effects in
     record {
       unmatted = λ u. let end = run_after effects 0 (both 0) u (omega arith) in omega (arith, end, below_square n);
-      listed = λ u l. let end = run_listed effects 0 (both 0) u l (omega arith) in omega (arith, end);
+      constant_source = λ u l. let end = run_listed effects 0 (both 0) u l (omega arith) in omega (arith, end);
       doubled = doubled_small effects;
     }

@@ -3,7 +3,7 @@ pub mod Within
 pub mod Table
 pub mod Terms
 pub mod Near
-pub mod Kept
+pub mod WithinAlpha
 pub mod Transparent
 pub mod Hue
 pub mod ExactSteps

@@ -3,7 +3,7 @@
 use Rattle.std.specs.Prelude.{ℕ, max, ◌+◌, ◌*◌, ◌<◌, ◌≤◌, IsTrue, List, length, fold, All, sum_by, ⊤}
 use Rattle.pix_ops.specs.declared.ops.Op.{Op}
 use Rattle.pix_chan.specs.Product.{channel_product, fineness}
-use Rattle.pix_ops.specs.Operators.{Coefficient, Zero, One, Alpha, OneMinusAlpha, row, is_listed, reads, enters, product_count, matted_count}
+use Rattle.pix_ops.specs.Operators.{Coefficient, Zero, One, Alpha, OneMinusAlpha, row, has_constant_source, reads, enters, product_count, matted_count}
 use Rattle.pix_ops.specs.Composite.{channel_composite}
 use Rattle.pix_ops.specs.ExactComposite.{exact_composite, Within}
 
@@ -138,10 +138,10 @@ IsUnmatted (Composited op s sa) = ⊤
 IsUnmatted (Matted op matte s sa) = ⊥
 
 -- the listed kinds: a clear, a copy, and a composite with a listed operator
-abbrev pub IsListed : ChannelEffect → Type 0
-IsListed (Replaced s sa) = ⊤
-IsListed (Composited op s sa) = IsTrue (is_listed op)
-IsListed (Matted op matte s sa) = IsTrue (is_listed op)
+abbrev pub HasConstantSource : ChannelEffect → Type 0
+HasConstantSource (Replaced s sa) = ⊤
+HasConstantSource (Composited op s sa) = IsTrue (has_constant_source op)
+HasConstantSource (Matted op matte s sa) = IsTrue (has_constant_source op)
 
 -- both budgets are at most n
 pub record AreAtMost (n : ℕ) (budget : Budget) : Type 0 where
@@ -152,5 +152,5 @@ pub record AreAtMost (n : ℕ) (budget : Budget) : Type 0 where
 -- listed kinds, and the premultiplied bound is at most 4 * n.
 pub record HasSmallBudget (effects : List ChannelEffect) : Type 0 where
   pub unmatted : All IsUnmatted effects → AreAtMost (length effects * length effects + length effects) (rounding_budget effects)
-  pub listed : All IsUnmatted effects → All IsListed effects → AreAtMost (length effects) (rounding_budget effects)
+  pub constant_source : All IsUnmatted effects → All HasConstantSource effects → AreAtMost (length effects) (rounding_budget effects)
   pub doubled : All IsUnmatted effects → doubled_counts effects ≤ 4 * length effects

@@ -46,17 +46,17 @@ unfoldable pub operator_of : List ℕ → Option Op
 operator_of name = find (λ op. bytes_eq name (op_name op)) operators
 
 -- each operator is in the list at its number
-pub is_listed_at : (op : Op) → slice_get operators (op_number op) ≡ Some op
-is_listed_at Src = refl
-is_listed_at Dest = refl
-is_listed_at SrcOver = refl
-is_listed_at DestOver = refl
-is_listed_at SrcOut = refl
-is_listed_at DestOut = refl
-is_listed_at SrcIn = refl
-is_listed_at DestIn = refl
-is_listed_at SrcAtop = refl
-is_listed_at DestAtop = refl
-is_listed_at Xor = refl
-is_listed_at Clear = refl
-is_listed_at Plus = refl
+pub stands_at_number : (op : Op) → slice_get operators (op_number op) ≡ Some op
+stands_at_number Src = refl
+stands_at_number Dest = refl
+stands_at_number SrcOver = refl
+stands_at_number DestOver = refl
+stands_at_number SrcOut = refl
+stands_at_number DestOut = refl
+stands_at_number SrcIn = refl
+stands_at_number DestIn = refl
+stands_at_number SrcAtop = refl
+stands_at_number DestAtop = refl
+stands_at_number Xor = refl
+stands_at_number Clear = refl
+stands_at_number Plus = refl

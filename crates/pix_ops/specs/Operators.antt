@@ -61,8 +61,8 @@ abbrev pub matted_count : Op → ℕ
 matted_count op = count_by 1 (row op).source (row op).dest
 
 -- the listed operators: the source's coefficient does not read the destination's alpha
-abbrev pub is_listed : Op → Bool
-is_listed op = reads (row op).source == 0
+abbrev pub has_constant_source : Op → Bool
+has_constant_source op = reads (row op).source == 0
 
 -- whether a coefficient leaves room for the other side: its own side is left out, or multiplied by
 -- one minus the other's alpha

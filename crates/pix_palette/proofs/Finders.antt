@@ -5,7 +5,7 @@ use Rattle.std.proofs.lemmas.Bool.{cases_lt, cases_eq, true≢false}
 use Rattle.std.proofs.lemmas.List.{get_or-replicate, length-replicate, get_or-set_same, get_or-set_other, get_or_append_left}
 use Rattle.std.proofs.Math.Seq.{get_or-append_seam}
 use Rattle.std.proofs.lemmas.Bool.Decides.{nat_tests}
-use Rattle.pix_table.specs.From.{same_color}
+use Rattle.pix_table.specs.Quantization.{same_color}
 use Rattle.pix_table.specs.PaletteMatch.{color_difference, difference_to, IsFirstOf}
 use Rattle.pix_table.proofs.Settings.{Grows, entry_stays, longer}
 use Rattle.pix_table.specs.ColorBlocks.{AreBlocks, IsBlock, channels_at}

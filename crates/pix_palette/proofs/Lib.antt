@@ -6,6 +6,6 @@ pub mod Thresholds
 pub mod Mapped
 pub mod Made
 pub mod Finders
-pub mod BlocksMore
+pub mod PaletteBlocksMore
 pub mod Entries
 pub mod Cells

@@ -2,8 +2,8 @@
 use Rattle.std.specs.Prelude.{◌≡◌, ℕ, ◌<◌, List, [], ◌∷◌, length, map, take, slice_index_or, slice_index, Option, Some, None, IfSome}
 use Rattle.pix_table.specs.Nearest.{IsNearest}
 use Rattle.pix_table.specs.LookUp.{AreLookedUp}
-use Rattle.pix_table.specs.From.{IsTableFrom}
-use Rattle.pix_table.specs.Refine.{IsRefinedTableFrom}
+use Rattle.pix_table.specs.Quantization.{IsQuantized}
+use Rattle.pix_table.specs.Refine.{IsQuantizedRefined}
 use Rattle.pix_table.specs.Setting.{Always, IsSet}
 use Rattle.pix_table.specs.Indexing.{AreIndexed}
 use Rattle.pix_table.specs.PaletteMatch.{color_difference}
@@ -65,10 +65,10 @@ pub record IsIndexImage {P : Type 0} (read : P → List ℕ) (width height : ℕ
 pub record IsMadeOf (limit : ℕ) (pixels : List (List ℕ)) (table : ColorTable) : Type 0 where
   pub room : limit_of table ≡ limit
   pub exact : numbers table.threshold ≡ 0 ∷ 0 ∷ 0 ∷ []
-  pub colors : IsTableFrom limit pixels (map numbers (entries_of table))
+  pub colors : IsQuantized limit pixels (map numbers (entries_of table))
 
 -- the same, refined by so many rounds
 pub record IsRefinedMadeOf (rounds limit : ℕ) (pixels : List (List ℕ)) (table : ColorTable) : Type 0 where
   pub room : limit_of table ≡ limit
   pub exact : numbers table.threshold ≡ 0 ∷ 0 ∷ 0 ∷ []
-  pub colors : IsRefinedTableFrom rounds limit pixels (map numbers (entries_of table))
+  pub colors : IsQuantizedRefined rounds limit pixels (map numbers (entries_of table))

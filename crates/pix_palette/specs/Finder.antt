@@ -3,10 +3,10 @@
 use Rattle.std.specs.Prelude.{◌≡◌, ◌≢◌, ◌⊎◌, ℕ, ◌+◌, ◌*◌, ◌/◌, ◌%◌, ◌-◌, ◌<◌, ◌≤◌, min, false, List, [], ◌∷◌, length, slice_index, slice_index_or}
 use Rattle.pix_table.specs.ColorBlocks.{AreBlocks}
 use Rattle.pix_table.specs.PaletteMatch.{difference_to, is_within}
-use Rattle.pix_table.specs.Spans.{AreSpans}
-use Rattle.pix_palette.specs.declared.palette.blocks.Blocks.{Blocks}
+use Rattle.pix_table.specs.BlockBounds.{AreBlockBounds}
+use Rattle.pix_palette.specs.declared.palette.palette_blocks.PaletteBlocks.{PaletteBlocks}
 use Rattle.pix_palette.specs.declared.palette.finder.Finder.{Finder}
-use Rattle.pix_palette.specs.declared.palette.near.Near.{Near}
+use Rattle.pix_palette.specs.declared.palette.threshold_search.ThresholdSearch.{ThresholdSearch}
 
 -- the place of a color: its channels as one number, times an odd constant near 2^32 over the golden
 -- ratio; the place is the middle bits of the product
@@ -56,16 +56,16 @@ abbrev pub IsNowhere : List (List ℕ) → List ℕ → Type 0
 IsNowhere colors color = (k : ℕ) → k < length colors → difference_to colors color k ≢ 0 ∷ 0 ∷ 0 ∷ []
 
 -- blocks of the first entries, with their spans
-pub record HasBlocks (colors : List (List ℕ)) (has : Blocks) : Type 0 where
+pub record HasBlocks (colors : List (List ℕ)) (has : PaletteBlocks) : Type 0 where
   pub blocks : AreBlocks colors has.blocks.items
-  pub spans : AreSpans has.blocks.items has.spans.items
+  pub spans : AreBlockBounds has.blocks.items has.spans.items
 
 -- lists by cells, of the first entries, and blocks of the first entries
-pub record HasNear (colors : List (List ℕ)) (near : Near) : Type 0 where
+pub record HasThresholdSearch (colors : List (List ℕ)) (near : ThresholdSearch) : Type 0 where
   pub cells : AreLists cell colors near.cells.latest.items near.cells.earlier.items
   pub blocks : HasBlocks colors near.blocks
 
 -- a finder knows the places of the first entries, and what is near them
 pub record Follows (colors : List (List ℕ)) (finder : Finder) : Type 0 where
   pub places : AreLists place colors finder.lists.latest.items finder.lists.earlier.items
-  pub near : HasNear colors finder.near
+  pub near : HasThresholdSearch colors finder.near

@@ -4,4 +4,4 @@
 mod palette;
 
 pub use palette::{ColorTable, Palette, RgbaTable};
-pub use pix_table::DiffusionWay;
+pub use pix_table::ScanOrder;

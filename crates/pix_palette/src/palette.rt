@@ -7,7 +7,6 @@ ghost use Rattle.pix_palette.specs.Palette.{Answers, numbers};
 ghost use Rattle.pix_palette.specs.Histogram.{IsHistogram};
 ghost use Rattle.pix_raster.specs.declared.fault.RasterFault.{RasterFault};
 
-mod blocks;
 mod cells;
 mod color_table;
 mod entries;
@@ -15,14 +14,15 @@ mod finder;
 mod index;
 mod indexing;
 mod known;
-mod lent;
 mod lists;
-mod made;
 mod mapped;
-mod near;
+mod palette_blocks;
+mod quantization;
 mod rgba_table;
 mod slots;
+mod slots_indexing;
 mod table;
+mod threshold_search;
 
 use self::index::{PaletteIndex, count_indices};
 use self::table::{Threshold, ThresholdFn};

@@ -4,8 +4,8 @@ use Rattle.std.proofs.lemmas.List.{length-map, length-take-le, take-map, drop-ma
 use Rattle.std.proofs.lemmas.Bool.{cases_lt}
 use Rattle.std.proofs.Math.Nat.{mul-le-mul_right}
 use borrow.Rule.Slice.PartMut.{put_mid}
-use Rattle.pix_raster.specs.Lent.{read_at, IsWindow, ChangedIn, in_window}
-use Rattle.pix_raster.specs.declared.lent.Window.{Window}
+use Rattle.pix_raster.specs.View.{read_at, IsWindow, ChangedIn, in_window}
+use Rattle.pix_raster.specs.declared.view.Window.{Window}
 
 -- `part` in the place of all elements from a on
 module _ {D : Type 0} (n : D → List ℕ) (a k : ℕ) (xs part : List D) (to_end : a + k ≡ length xs) where

@@ -10,7 +10,7 @@ pub mod Shaped
 pub mod Overlaps
 pub mod Masked
 pub mod Pictures
-pub mod Views
+pub mod WrittenLemmas
 pub mod RunBounds
 pub mod Transparent
 pub mod Opacity

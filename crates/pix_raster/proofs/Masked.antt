@@ -11,11 +11,11 @@ use Rattle.pix_el.specs.Pixel.{lies_in}
 use Rattle.pix_el.proofs.Written.{length-over, get_or-over}
 use Rattle.pix_raster.specs.Region.{Rectangle, whole, covers, has_column}
 use Rattle.pix_raster.specs.Reach.{is_paired, has_offset, leads_into, natural}
-use Rattle.pix_raster.specs.Lent.{read_at, ChangedIn, where_masked, picture, in_window}
+use Rattle.pix_raster.specs.View.{read_at, ChangedIn, where_masked, picture, in_window}
 use Rattle.pix_raster.specs.Clip.{in_box, where_in, IsWithin, IsOverlap}
 use Rattle.pix_raster.specs.declared.clip.Overlap.{Overlap}
-use Rattle.pix_raster.specs.declared.lent.Shape.{Shape}
-use Rattle.pix_raster.specs.declared.lent.Window.{Window}
+use Rattle.pix_raster.specs.declared.view.Shape.{Shape}
+use Rattle.pix_raster.specs.declared.view.Window.{Window}
 use Rattle.pix_raster.proofs.Rectangles.{below_is}
 use Rattle.pix_raster.proofs.Shaped.{changed_in_box}
 use Rattle.pix_raster.proofs.Zones.{Part, get_or-part, length-mapped_part}

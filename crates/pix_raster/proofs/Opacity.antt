@@ -17,7 +17,7 @@ use Rattle.pix_el.proofs.Composited.{Fits, channel-matted, bounded-matted, chann
 use Rattle.pix_raster.specs.Region.{Rectangle}
 use Rattle.pix_raster.specs.Image.{Image, Changed, point, region_of}
 use Rattle.pix_raster.specs.Reach.{is_paired, natural, from_pair}
-use Rattle.pix_raster.specs.Lent.{where_masked}
+use Rattle.pix_raster.specs.View.{where_masked}
 use Rattle.pix_raster.specs.Run.{Effect, apply}
 use Rattle.pix_raster.specs.Stays.{is_one_at_none, keeps_under}
 use Rattle.pix_raster.proofs.Masked.{paired_below}

@@ -11,10 +11,10 @@ use lib.IntN.{negsuc}
 use Rattle.pix_el.specs.Pixel.{lies_in}
 use Rattle.pix_raster.specs.Region.{Rectangle, has_column, has_row, whole}
 use Rattle.pix_raster.specs.Reach.{is_below, is_paired, natural}
-use Rattle.pix_raster.specs.Lent.{read_at, ChangedIn, where_paired}
+use Rattle.pix_raster.specs.View.{read_at, ChangedIn, where_paired}
 use Rattle.pix_raster.specs.Clip.{in_box, where_in, is_offset}
 use Rattle.pix_raster.specs.declared.clip.Overlap.{Overlap}
-use Rattle.pix_raster.specs.declared.lent.Shape.{Shape}
+use Rattle.pix_raster.specs.declared.view.Shape.{Shape}
 use Rattle.pix_raster.proofs.Shaped.{changed_in_box}
 use Rattle.pix_raster.proofs.Rectangles.{Decides-int_lt, Decides-not_int_lt, both}
 

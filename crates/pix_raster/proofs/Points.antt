@@ -13,10 +13,10 @@ use Rattle.pix_raster.specs.Image.{Image}
 use Rattle.pix_raster.specs.Region.{Rectangle, right, bottom, has_row, between}
 use Rattle.pix_raster.specs.Reach.{natural}
 use Rattle.pix_raster.specs.Rows.{clipped}
-use Rattle.pix_raster.specs.Views.{with_run, IsRow}
+use Rattle.pix_raster.specs.Written.{with_run, IsRow}
 use Rattle.pix_raster.specs.Clip.{row_start, row_end}
 use Rattle.pix_raster.proofs.Rectangles.{gap_leads}
-use Rattle.pix_raster.proofs.Views.{row_has_pixels, row_is}
+use Rattle.pix_raster.proofs.WrittenLemmas.{row_has_pixels, row_is}
 
 -- one run, of a list of pixels that has room for it
 module _ {P : Type 0} (image : Image P) (a : ℕ) (ws : List P) (fits : a + length ws ≤ length image.pixels) where

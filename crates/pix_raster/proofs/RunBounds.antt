@@ -17,7 +17,7 @@ use Rattle.pix_raster.specs.Region.{Rectangle}
 use Rattle.pix_raster.specs.Image.{Image, Changed, point, region_of}
 use Rattle.pix_raster.specs.Run.{Effect, Cleared, Copied, Composited, Matted, effect_at, effects_at, apply, run_at}
 use Rattle.pix_raster.specs.Bounds.{on_channel, channel_effects, with_alpha, OfEachChannel}
-use Rattle.pix_raster.specs.Kept.{BringsPremultiplied, CutsNoSum, IsKept, KeepsPremultiplied}
+use Rattle.pix_raster.specs.PremultipliedRuns.{BringsPremultiplied, CutsNoSum, StaysPremultiplied, KeepsPremultiplied}
 use Rattle.pix_raster.specs.declared.command.Command.{Command}
 use Rattle.pix_raster.specs.declared.command.Command.TheVariants as commands
 
@@ -193,7 +193,7 @@ step_kept layout pixel (Matted op matte source) laws a fd fs pd ps =
 -- what a list of effects keeps
 run_kept : (layout : Layout) (pixel : List ℕ) (effects : List Effect) → IsProduct fineness layout.max (channel_product layout.max) → IsBounded layout layout.alpha
     → Fits layout.max pixel → All (IsFit layout) effects → IsPremultiplied layout pixel → All (BringsPremultiplied layout) effects
-    → IsKept layout pixel effects (fold (apply layout) pixel effects)
+    → StaysPremultiplied layout pixel effects (fold (apply layout) pixel effects)
 run_kept layout pixel [] laws a fd fs pd ps = record { premultiplied = pd; uncut = tt }
 run_kept layout pixel (effect ∷ effects) laws a fd fs pd ps =
     let one = step_kept layout pixel effect laws a fd (All-head (IsFit layout) effect effects fs) pd (All-head (BringsPremultiplied layout) effect effects ps) in
@@ -205,5 +205,5 @@ pub keeps_premultiplied : {P M : Type 0} (layout : Layout) (n : P → List ℕ) 
     → Changed n old new (run_at layout n m (region_of old) cs) → KeepsPremultiplied layout n m cs old new
 keeps_premultiplied layout n m cs old new format changed = λ x y hx hy pd ps.
     let effects = effects_at n m (region_of old) cs x y in
-    subst (λ (made : List ℕ). IsKept layout (point n old x y) effects made) (sym (changed.points x y hx hy))
+    subst (λ (made : List ℕ). StaysPremultiplied layout (point n old x y) effects made) (sym (changed.points x y hx hy))
     (run_kept layout (point n old x y) effects format.laws format.alpha (point_fits layout.max n old x y format.fit) (effects_fit layout n m (region_of old) cs x y format) pd ps)

@@ -3,9 +3,9 @@ use Rattle.std.proofs.Common.{◌≡◌, ℕ, ◌<◌, ◌≤◌, ◌+◌, ◌*�
 use Rattle.std.proofs.lemmas.Bool.{cases_lt}
 use Rattle.std.proofs.lemmas.Bool.Decides.{nat_tests}
 use Rattle.std.specs.declared.ops.Range.{Range}
-use Rattle.pix_raster.specs.Lent.{read_at, ChangedIn}
+use Rattle.pix_raster.specs.View.{read_at, ChangedIn}
 use Rattle.pix_raster.specs.Clip.{in_box, where_in}
-use Rattle.pix_raster.specs.declared.lent.Shape.{Shape}
+use Rattle.pix_raster.specs.declared.view.Shape.{Shape}
 
 -- a point to the right of an image or below it lies in no part of the image
 outside : (columns rows : Range ℕ) (width height x y : ℕ) → columns.end ≤ width → rows.end ≤ height → (width ≤ x) ⊎ (height ≤ y) → in_box columns rows x y ≡ false

@@ -4,7 +4,7 @@ use Rattle.pix_el.specs.Pixel.{Layout}
 use Rattle.pix_raster.specs.Region.{Rectangle, covers, whole}
 use Rattle.pix_raster.specs.Image.{Image, Changed, point, region_of}
 use Rattle.pix_raster.specs.Reach.{from_pair}
-use Rattle.pix_raster.specs.Lent.{where_covered, where_paired, where_masked}
+use Rattle.pix_raster.specs.View.{where_covered, where_paired, where_masked}
 use Rattle.std.specs.List.{zip}
 use Rattle.std.proofs.lemmas.List.{drop_more, append-nil, append_assoc}
 use Rattle.std.proofs.lemmas.List.Sums.{fold-append}

@@ -4,7 +4,7 @@ use Rattle.pix_el.specs.Pixel.{Layout}
 use Rattle.pix_raster.specs.Region.{limit, whole}
 use Rattle.pix_raster.specs.Image.{Image, Changed, region_of}
 use Rattle.pix_raster.specs.Run.{run_at}
-use Rattle.pix_raster.specs.Lent.{ChangedIn, largest}
+use Rattle.pix_raster.specs.View.{ChangedIn, largest}
 use Rattle.pix_raster.specs.Window.{IsPartOf, command_from}
 use Rattle.pix_raster.specs.declared.command.Command.{Command}
 use Rattle.pix_raster.proofs.Pictures.{run_in_picture}

@@ -5,7 +5,7 @@ use Rattle.pix_el.specs.Pixel.{Layout}
 use Rattle.pix_raster.specs.Image.{Image, Changed, region_of}
 use Rattle.pix_raster.specs.Run.{run_at, HasSwappedNeighbours}
 use Rattle.pix_raster.specs.Bounds.{OfEachChannel}
-use Rattle.pix_raster.specs.Kept.{KeepsPremultiplied}
+use Rattle.pix_raster.specs.PremultipliedRuns.{KeepsPremultiplied}
 use Rattle.pix_raster.specs.Stays.{StaysUnderTransparent}
 use Rattle.pix_raster.specs.declared.command.Command.{Command}
 

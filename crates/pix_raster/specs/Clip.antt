@@ -6,11 +6,11 @@ use Rattle.std.specs.declared.ops.Range.{Range}
 use Rattle.pix_el.specs.Pixel.{lies_in}
 use Rattle.pix_raster.specs.Region.{Rectangle, has_row, whole}
 use Rattle.pix_raster.specs.Reach.{is_below, is_paired, natural}
-use Rattle.pix_raster.specs.Lent.{picture}
+use Rattle.pix_raster.specs.View.{picture}
 use Rattle.pix_raster.specs.declared.clip.AxisOverlap.{AxisOverlap}
 use Rattle.pix_raster.specs.declared.clip.Overlap.{Overlap}
-use Rattle.pix_raster.specs.declared.lent.Shape.{Shape}
-use Rattle.pix_raster.specs.declared.lent.Window.{Window}
+use Rattle.pix_raster.specs.declared.view.Shape.{Shape}
+use Rattle.pix_raster.specs.declared.view.Window.{Window}
 
 -- whether the point lies in both half-open ranges
 abbrev pub in_box : (columns rows : Range ℕ) → ℕ → ℕ → Bool

@@ -6,11 +6,11 @@ pub mod Image
 pub mod Sizes
 pub mod Buffers
 pub mod Reach
-pub mod Lent
+pub mod View
 pub mod Rows
-pub mod Views
+pub mod Written
 pub mod Run
-pub mod Kept
+pub mod PremultipliedRuns
 pub mod Stays
 pub mod Bounds
 pub mod Claims

@@ -5,10 +5,10 @@ mod clip;
 mod command;
 mod fault;
 mod filled;
-pub mod lent;
 mod raster;
 mod region;
 mod rows;
+pub mod view;
 
 pub use command::Command;
 pub use fault::RasterFault;

@@ -6,7 +6,7 @@ ghost use Rattle.pix_raster.specs.Image.{IsPoint, IsInside, region_of};
 ghost use Rattle.pix_raster.specs.declared.fault.RasterFault.{RasterFault};
 ghost use Rattle.std.specs.Borrow.{Lends, LendsIf, sem, Array};
 ghost use Rattle.pix_raster.specs.Rows.{clipped, rows_of};
-ghost use Rattle.pix_raster.specs.Views.{IsRow, place_of, with_pixel, with_pixels, with_run};
+ghost use Rattle.pix_raster.specs.Written.{IsRow, place_of, with_pixel, with_pixels, with_run};
 ghost use Rattle.pix_raster.specs.Clip.{row_start, row_end};
 ghost use Rattle.pix_raster.specs.contracts.raster.Raster.{the_row};
 

@@ -9,7 +9,7 @@ use Rattle.std.proofs.lemmas.List.Sums.{fold-append}
 use Rattle.std.proofs.lemmas.List.{take_more, take_all, take-append-le, append-nil, get_or-replicate}
 use Rattle.pix_raster.specs.Region.{Rectangle, covers, has_column, has_row}
 use Rattle.pix_raster.specs.Image.{Image, point, region_of, Changed}
-use Rattle.pix_raster.specs.Views.{with_pixels}
+use Rattle.pix_raster.specs.Written.{with_pixels}
 use Rattle.pix_raster.specs.Reach.{natural, has_offset, leads_into, is_paired, from_pair}
 use Rattle.pix_raster.specs.Run.{Copied, Composited, effect_at, effects_at, run_at}
 use Rattle.pix_raster.specs.declared.command.Command.{Command}

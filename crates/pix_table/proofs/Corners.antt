@@ -4,7 +4,7 @@ use Rattle.std.proofs.Common.{◌≡◌, ℕ, ◌+◌, ◌-◌, ◌*◌, ◌<◌
 use Rattle.std.proofs.Math.Nat.{add-mul, mul-add, mul_comm}
 use Rattle.std.proofs.lemmas.Bool.{cases_lt, lt-ltb, le-ltb}
 use Rattle.pix_table.specs.Nearest.{squared_difference, distance}
-use Rattle.pix_table.specs.Boxes.{IsWithin, IsInside, end}
+use Rattle.pix_table.specs.InverseMap.{IsWithin, IsInside, end}
 
 product_apart : (a k : ℕ) → k * k + 2 * (a * (a + k)) ≡ a * a + (a + k) * (a + k)
 product_apart a k = omega (arith, mul-add a a k, add-mul a k (a + k), mul-add k a k, mul_comm k a)

@@ -6,18 +6,18 @@ use Rattle.std.proofs.Math.Nat.{zero-mod, mod-le}
 use Rattle.std.proofs.lemmas.List.{length-map, map-set, get_or_append_left, get_or_push, get_or-reverse, get_or-set_same, get_or-set_other}
 use Rattle.pix_table.specs.Nearest.{IsNearestBy, alpha_of}
 use Rattle.pix_table.specs.Diffusion.{IsDiffused, none, clear, shown, in_picture, number_above, wanted_at, part, handed, share_before, share_next}
-use Rattle.pix_table.specs.Done.{AreLatest, AreDone, AreNear, IsMissAbove, IsMiss}
-use Rattle.pix_table.specs.declared.diffuse.DiffusionWay.{DiffusionWay}
-use Rattle.pix_table.specs.declared.diffuse.DiffusionWay.TheVariants.{Straight, Serpentine}
-use Rattle.pix_table.specs.declared.spread.Miss.{Miss}
-use Rattle.pix_table.specs.declared.spread.Near.{Near}
-use Rattle.pix_table.proofs.Ways.{above_before, same_begin, goes_on, at_end, places_apart}
+use Rattle.pix_table.specs.Done.{AreLatest, AreDone, AreNeighborErrors, IsColorErrorAbove, IsColorError}
+use Rattle.pix_table.specs.declared.diffuse.ScanOrder.{ScanOrder}
+use Rattle.pix_table.specs.declared.diffuse.ScanOrder.TheVariants.{LeftToRight, Serpentine}
+use Rattle.pix_table.specs.declared.diffused_color.ColorError.{ColorError}
+use Rattle.pix_table.specs.declared.diffused_color.NeighborErrors.{NeighborErrors}
+use Rattle.pix_table.proofs.ScanOrders.{above_before, same_begin, goes_on, at_end, places_apart}
 use Rattle.pix_table.proofs.Rows.{next_in_turn}
 
 -- with one color more
-pub latest_more : (way : DiffusionWay) (all : List (List ℕ)) (w : List ℕ) (width first count : ℕ) (xs : List (List ℕ)) → count < width → length all ≡ first + count → length xs ≡ width
-    → AreLatest way all width first count xs → AreLatest way (all ++ w ∷ []) width first (count + 1) (set xs count w)
-latest_more way all w width first count xs some many long h = record {
+pub latest_more : (scan : ScanOrder) (all : List (List ℕ)) (w : List ℕ) (width first count : ℕ) (xs : List (List ℕ)) → count < width → length all ≡ first + count → length xs ≡ width
+    → AreLatest scan all width first count xs → AreLatest scan (all ++ w ∷ []) width first (count + 1) (set xs count w)
+latest_more scan all w width first count xs some many long h = record {
   row = λ p before inside. elim (cases_lt p count) [
     | inl b ↦
         let other : p ≢ count = λ e. absurd (omega arith) in
@@ -30,21 +30,21 @@ latest_more way all w width first count xs some many long h = record {
   above = λ p after inside past.
       let other : p ≢ count = λ e. absurd (omega arith) in
       get_or-set_other xs count p w [] other ∙ h.above p (omega arith) inside past
-      ∙ sym (get_or_append_left all (w ∷ []) [] (number_above way width first p) (omega (arith, many, above_before way width first p inside past)));
+      ∙ sym (get_or_append_left all (w ∷ []) [] (number_above scan width first p) (omega (arith, many, above_before scan width first p inside past)));
 }
 
 -- the same within a row, at the next pixel
-pub on_in_row : (way : DiffusionWay) (all : List (List ℕ)) (width k next : ℕ) (xs : List (List ℕ)) → 0 < width → next ≡ (k + 1) % width → 0 < next
-    → AreLatest way all width (k - k % width) (k % width + 1) xs → AreLatest way all width (k + 1 - next) next xs
-on_in_row way all width k next xs some is on h =
+pub on_in_row : (scan : ScanOrder) (all : List (List ℕ)) (width k next : ℕ) (xs : List (List ℕ)) → 0 < width → next ≡ (k + 1) % width → 0 < next
+    → AreLatest scan all width (k - k % width) (k % width + 1) xs → AreLatest scan all width (k + 1 - next) next xs
+on_in_row scan all width k next xs some is on h =
     let inside : k % width + 1 < width = goes_on k width some (omega (arith, is)) in
     let place : k % width + 1 ≡ next = next_in_turn k width (k % width) refl inside ∙ sym is in
     let begin : k - k % width ≡ k + 1 - next = sym (same_begin k width inside) ∙ ap (λ n. k + 1 - n) (sym is) in
-    subst (λ f. AreLatest way all width f next xs) begin (subst (λ p. AreLatest way all width (k - k % width) p xs) place h)
+    subst (λ f. AreLatest scan all width f next xs) begin (subst (λ p. AreLatest scan all width (k - k % width) p xs) place h)
 
 -- a whole row is above the next one: from left to right, and in the other order
 pub straight_on : (all : List (List ℕ)) (width k next : ℕ) (xs : List (List ℕ)) → 0 < width → next ≡ (k + 1) % width → next ≡ 0
-    → AreLatest Straight all width (k - k % width) (k % width + 1) xs → AreLatest Straight all width (k + 1 - next) next xs
+    → AreLatest LeftToRight all width (k - k % width) (k % width + 1) xs → AreLatest LeftToRight all width (k + 1 - next) next xs
 straight_on all width k next xs some is end h =
     let whole : k % width + 1 ≡ width = at_end k width some (sym is ∙ end) in
     record {
@@ -70,15 +70,15 @@ turned_round f all width k next xs ys some is end long turned h =
     }
 
 -- what is said of the last colors with one more, where it is said of the colors that have these numbers
-pub turned_as : {X : Type 0} (f : X → List ℕ) (way : DiffusionWay) (width k next column : ℕ) (xs ys zs : List X) (x : X) (w : List ℕ) → ys ≡ set xs column x → column ≡ k % width → f x ≡ w → next ≡ (k + 1) % width
-    → ((all : List (List ℕ)) → AreLatest way all width (k - k % width) (k % width + 1) (map f ys) → AreLatest way all width (k + 1 - next) next (map f zs))
-    → (all : List (List ℕ)) → AreLatest way all width (k - k % width) (k % width + 1) (set (map f xs) (k % width) w)
-    → AreLatest way all width (k + 1 - (k + 1) % width) ((k + 1) % width) (map f zs)
-turned_as f way width k next column xs ys zs x w is place number after turned =
+pub turned_as : {X : Type 0} (f : X → List ℕ) (scan : ScanOrder) (width k next column : ℕ) (xs ys zs : List X) (x : X) (w : List ℕ) → ys ≡ set xs column x → column ≡ k % width → f x ≡ w → next ≡ (k + 1) % width
+    → ((all : List (List ℕ)) → AreLatest scan all width (k - k % width) (k % width + 1) (map f ys) → AreLatest scan all width (k + 1 - next) next (map f zs))
+    → (all : List (List ℕ)) → AreLatest scan all width (k - k % width) (k % width + 1) (set (map f xs) (k % width) w)
+    → AreLatest scan all width (k + 1 - (k + 1) % width) ((k + 1) % width) (map f zs)
+turned_as f scan width k next column xs ys zs x w is place number after turned =
     let e : map f ys ≡ set (map f xs) (k % width) w =
     ap (map f) is ∙ map-set f xs column x ∙ ap (λ n. set (map f xs) n (f x)) place ∙ ap (λ v. set (map f xs) (k % width) v) number in
-    λ all h. subst (λ n. AreLatest way all width (k + 1 - n) n (map f zs)) after
-    (turned all (subst (λ l. AreLatest way all width (k - k % width) (k % width + 1) l) (sym e) h))
+    λ all h. subst (λ n. AreLatest scan all width (k + 1 - n) n (map f zs)) after
+    (turned all (subst (λ l. AreLatest scan all width (k - k % width) (k % width + 1) l) (sym e) h))
 
 -- so many sixteenths are so many times one
 scaled : (there : Bool) (n : ℕ) (color : List ℕ) (c : ℕ) → part there n color c ≡ n * part there 1 color c
@@ -86,72 +86,72 @@ scaled true n color c = ap (λ x. n * x) (omega arith)
 scaled false n color c = omega arith
 
 -- the sums of four misses, each of which is 255 too great, and of the parts of four colors
-sum_of : (way : DiffusionWay) (left left_above above right_above a b c d w x y z : ℕ) → left + a ≡ 255 + w → left_above + b ≡ 255 + x → above + c ≡ 255 + y → right_above + d ≡ 255 + z
-    → 7 * left + share_before way * left_above + 5 * above + share_next way * right_above + (7 * a + share_before way * b + 5 * c + share_next way * d)
-    ≡ 4080 + (7 * w + share_before way * x + 5 * y + share_next way * z)
-sum_of Straight left left_above above right_above a b c d w x y z e f g h = omega arith
+sum_of : (scan : ScanOrder) (left left_above above right_above a b c d w x y z : ℕ) → left + a ≡ 255 + w → left_above + b ≡ 255 + x → above + c ≡ 255 + y → right_above + d ≡ 255 + z
+    → 7 * left + share_before scan * left_above + 5 * above + share_next scan * right_above + (7 * a + share_before scan * b + 5 * c + share_next scan * d)
+    ≡ 4080 + (7 * w + share_before scan * x + 5 * y + share_next scan * z)
+sum_of LeftToRight left left_above above right_above a b c d w x y z e f g h = omega arith
 sum_of Serpentine left left_above above right_above a b c d w x y z e f g h = omega arith
 
 -- a pixel's share is that of four parts
-in_parts : (way : DiffusionWay) (colors : List (List ℕ)) (width first place c : ℕ)
-    → handed way width colors first place c
+in_parts : (scan : ScanOrder) (colors : List (List ℕ)) (width first place c : ℕ)
+    → handed scan width colors first place c
     ≡ 7 * part (nat_lt 0 place) 1 (get_or colors (first + place - 1) []) c
-    + share_before way * part (nat_lt 0 place && nat_le width first) 1 (get_or colors (number_above way width first (place - 1)) []) c
-    + 5 * part (nat_le width first) 1 (get_or colors (number_above way width first place) []) c
-    + share_next way * part (nat_lt (place + 1) width && nat_le width first) 1 (get_or colors (number_above way width first (place + 1)) []) c
-in_parts way colors width first place c =
+    + share_before scan * part (nat_lt 0 place && nat_le width first) 1 (get_or colors (number_above scan width first (place - 1)) []) c
+    + 5 * part (nat_le width first) 1 (get_or colors (number_above scan width first place) []) c
+    + share_next scan * part (nat_lt (place + 1) width && nat_le width first) 1 (get_or colors (number_above scan width first (place + 1)) []) c
+in_parts scan colors width first place c =
     ap₂ (λ x y. x + y)
     (ap₂ (λ x y. x + y)
     (ap₂ (λ x y. x + y) (scaled (nat_lt 0 place) 7 (get_or colors (first + place - 1) []) c)
-    (scaled (nat_lt 0 place && nat_le width first) (share_before way) (get_or colors (number_above way width first (place - 1)) []) c))
-    (scaled (nat_le width first) 5 (get_or colors (number_above way width first place) []) c))
-    (scaled (nat_lt (place + 1) width && nat_le width first) (share_next way) (get_or colors (number_above way width first (place + 1)) []) c)
+    (scaled (nat_lt 0 place && nat_le width first) (share_before scan) (get_or colors (number_above scan width first (place - 1)) []) c))
+    (scaled (nat_le width first) 5 (get_or colors (number_above scan width first place) []) c))
+    (scaled (nat_lt (place + 1) width && nat_le width first) (share_next scan) (get_or colors (number_above scan width first (place + 1)) []) c)
 
 -- what a pixel gets in a channel of the four misses around it, each of which is 255 too great
-pub together : (way : DiffusionWay) (ws gs : List (List ℕ)) (width first place c left left_above above right_above : ℕ)
+pub together : (scan : ScanOrder) (ws gs : List (List ℕ)) (width first place c left left_above above right_above : ℕ)
     → left + part (nat_lt 0 place) 1 (get_or gs (first + place - 1) []) c ≡ 255 + part (nat_lt 0 place) 1 (get_or ws (first + place - 1) []) c
-    → left_above + part (nat_lt 0 place && nat_le width first) 1 (get_or gs (number_above way width first (place - 1)) []) c
-    ≡ 255 + part (nat_lt 0 place && nat_le width first) 1 (get_or ws (number_above way width first (place - 1)) []) c
-    → above + part (nat_le width first) 1 (get_or gs (number_above way width first place) []) c
-    ≡ 255 + part (nat_le width first) 1 (get_or ws (number_above way width first place) []) c
-    → right_above + part (nat_lt (place + 1) width && nat_le width first) 1 (get_or gs (number_above way width first (place + 1)) []) c
-    ≡ 255 + part (nat_lt (place + 1) width && nat_le width first) 1 (get_or ws (number_above way width first (place + 1)) []) c
-    → 7 * left + share_before way * left_above + 5 * above + share_next way * right_above + handed way width gs first place c ≡ 4080 + handed way width ws first place c
-together way ws gs width first place c left left_above above right_above a b d e =
-    ap (λ x. 7 * left + share_before way * left_above + 5 * above + share_next way * right_above + x) (in_parts way gs width first place c)
-    ∙ sum_of way left left_above above right_above _ _ _ _ _ _ _ _ a b d e
-    ∙ ap (λ x. 4080 + x) (sym (in_parts way ws width first place c))
+    → left_above + part (nat_lt 0 place && nat_le width first) 1 (get_or gs (number_above scan width first (place - 1)) []) c
+    ≡ 255 + part (nat_lt 0 place && nat_le width first) 1 (get_or ws (number_above scan width first (place - 1)) []) c
+    → above + part (nat_le width first) 1 (get_or gs (number_above scan width first place) []) c
+    ≡ 255 + part (nat_le width first) 1 (get_or ws (number_above scan width first place) []) c
+    → right_above + part (nat_lt (place + 1) width && nat_le width first) 1 (get_or gs (number_above scan width first (place + 1)) []) c
+    ≡ 255 + part (nat_lt (place + 1) width && nat_le width first) 1 (get_or ws (number_above scan width first (place + 1)) []) c
+    → 7 * left + share_before scan * left_above + 5 * above + share_next scan * right_above + handed scan width gs first place c ≡ 4080 + handed scan width ws first place c
+together scan ws gs width first place c left left_above above right_above a b d e =
+    ap (λ x. 7 * left + share_before scan * left_above + 5 * above + share_next scan * right_above + x) (in_parts scan gs width first place c)
+    ∙ sum_of scan left left_above above right_above _ _ _ _ _ _ _ _ a b d e
+    ∙ ap (λ x. 4080 + x) (sym (in_parts scan ws width first place c))
 
 -- the same sum by another name
 pub in_channel : (h s f w : ℕ) → h ≡ s → s + f ≡ 4080 + w → h + f ≡ 4080 + w
 in_channel h s f w e all = omega arith
 
 -- no miss where a color is both wanted and found
-pub no_miss : (color : List ℕ) → IsMiss true color color (record { red = 255; green = 255; blue = 255; alpha = 255; spare = 0 })
+pub no_miss : (color : List ℕ) → IsColorError true color color (record { red = 255; green = 255; blue = 255; alpha = 255; spare = 0 })
 no_miss color = record { red = refl; green = refl; blue = refl; alpha = refl }
 
 -- the same miss, of the same pixel if it is there
-pub moved : (s t : Bool) (w f x g : List ℕ) (miss : Miss) → t ≡ s → (t ≡ true → x ≡ w) → (t ≡ true → g ≡ f) → IsMiss s w f miss → IsMiss t x g miss
-moved true true w f x g miss e a b h = subst (λ y. IsMiss true y g miss) (sym (a refl)) (subst (λ y. IsMiss true w y miss) (sym (b refl)) h)
+pub moved : (s t : Bool) (w f x g : List ℕ) (miss : ColorError) → t ≡ s → (t ≡ true → x ≡ w) → (t ≡ true → g ≡ f) → IsColorError s w f miss → IsColorError t x g miss
+moved true true w f x g miss e a b h = subst (λ y. IsColorError true y g miss) (sym (a refl)) (subst (λ y. IsColorError true w y miss) (sym (b refl)) h)
 moved false false w f x g miss e a b h = record { red = h.red; green = h.green; blue = h.blue; alpha = h.alpha }
 moved true false w f x g miss e a b h = cc
 moved false true w f x g miss e a b h = cc
 
 -- a miss above a row is kept when one color comes after it
-kept_above : (way : DiffusionWay) (ws gs : List (List ℕ)) (w g : List ℕ) (width first p place : ℕ) (s t : Bool) (miss : Miss) → p < width → length ws ≡ first + place → length gs ≡ first + place
-    → t ≡ s → (t ≡ true → width ≤ first) → IsMiss s (get_or ws (number_above way width first p) []) (get_or gs (number_above way width first p) []) miss
-    → IsMiss t (get_or (ws ++ w ∷ []) (number_above way width first p) []) (get_or (gs ++ g ∷ []) (number_above way width first p) []) miss
-kept_above way ws gs w g width first p place s t miss inside many_wanted many_found e there h =
+kept_above : (scan : ScanOrder) (ws gs : List (List ℕ)) (w g : List ℕ) (width first p place : ℕ) (s t : Bool) (miss : ColorError) → p < width → length ws ≡ first + place → length gs ≡ first + place
+    → t ≡ s → (t ≡ true → width ≤ first) → IsColorError s (get_or ws (number_above scan width first p) []) (get_or gs (number_above scan width first p) []) miss
+    → IsColorError t (get_or (ws ++ w ∷ []) (number_above scan width first p) []) (get_or (gs ++ g ∷ []) (number_above scan width first p) []) miss
+kept_above scan ws gs w g width first p place s t miss inside many_wanted many_found e there h =
     moved s t _ _ _ _ miss e
-    (λ y. get_or_append_left ws (w ∷ []) [] (number_above way width first p) (omega (arith, above_before way width first p inside (there y))))
-    (λ y. get_or_append_left gs (g ∷ []) [] (number_above way width first p) (omega (arith, above_before way width first p inside (there y)))) h
+    (λ y. get_or_append_left ws (w ∷ []) [] (number_above scan width first p) (omega (arith, above_before scan width first p inside (there y))))
+    (λ y. get_or_append_left gs (g ∷ []) [] (number_above scan width first p) (omega (arith, above_before scan width first p inside (there y)))) h
 
 -- what is near the next pixel of a row
-near_more : (way : DiffusionWay) (ws gs : List (List ℕ)) (w g : List ℕ) (width first place : ℕ) (near : Near) (left right_above : Miss)
+near_more : (scan : ScanOrder) (ws gs : List (List ℕ)) (w g : List ℕ) (width first place : ℕ) (near : NeighborErrors) (left right_above : ColorError)
     → length ws ≡ first + place → length gs ≡ first + place → place + 1 < width
-    → AreNear way ws gs width first place near → IsMissAbove way ws gs width first place right_above → IsMiss true w g left
-    → AreNear way (ws ++ w ∷ []) (gs ++ g ∷ []) width first (place + 1) (record { left = left; left_above = near.above; above = right_above })
-near_more way ws gs w g width first place near left right_above many_wanted many_found inside h above here =
+    → AreNeighborErrors scan ws gs width first place near → IsColorErrorAbove scan ws gs width first place right_above → IsColorError true w g left
+    → AreNeighborErrors scan (ws ++ w ∷ []) (gs ++ g ∷ []) width first (place + 1) (record { left = left; left_above = near.above; above = right_above })
+near_more scan ws gs w g width first place near left right_above many_wanted many_found inside h above here =
     let begun : nat_lt 0 (place + 1) ≡ true = lt-ltb 0 (place + 1) (omega arith) in
     let inner : nat_lt (place + 1) width ≡ true = lt-ltb (place + 1) width inside in
     let last : first + (place + 1) - 1 ≡ first + place = omega arith in
@@ -161,16 +161,16 @@ near_more way ws gs w g width first place near left right_above many_wanted many
     record {
       left = moved true _ w g _ _ left begun (λ t. ap (λ n. get_or (ws ++ w ∷ []) n []) last ∙ get_or_push ws w [] (first + place) many_wanted)
           (λ t. ap (λ n. get_or (gs ++ g ∷ []) n []) last ∙ get_or_push gs g [] (first + place) many_found) here;
-      left_above = subst (λ q. IsMiss (nat_lt 0 (place + 1) && nat_le width first) (get_or (ws ++ w ∷ []) (number_above way width first q) [])
-          (get_or (gs ++ g ∷ []) (number_above way width first q) []) near.above) (sym before)
-          (kept_above way ws gs w g width first place place _ _ near.above (omega arith) many_wanted many_found row
+      left_above = subst (λ q. IsColorError (nat_lt 0 (place + 1) && nat_le width first) (get_or (ws ++ w ∷ []) (number_above scan width first q) [])
+          (get_or (gs ++ g ∷ []) (number_above scan width first q) []) near.above) (sym before)
+          (kept_above scan ws gs w g width first place place _ _ near.above (omega arith) many_wanted many_found row
           (λ t. leb-true width first (sym row ∙ t)) h.above);
-      above = kept_above way ws gs w g width first (place + 1) place _ _ right_above inside many_wanted many_found up (λ t. leb-true width first t) above;
+      above = kept_above scan ws gs w g width first (place + 1) place _ _ right_above inside many_wanted many_found up (λ t. leb-true width first t) above;
     }
 
-pub none_done : (color : (ℕ → ℕ) → List ℕ) (apart : List ℕ → List ℕ → ℕ) (way : DiffusionWay) (strength : ℕ) (entries : List (List ℕ)) (alpha kept width : ℕ) (pixels wanted found : List (List ℕ)) (near : Near) (indices : List ℕ) → 0 < width
-    → AreDone color apart way strength entries alpha kept width pixels 0 wanted found near indices
-none_done color apart way strength entries alpha kept width pixels wanted found near indices some = record {
+pub none_done : (color : (ℕ → ℕ) → List ℕ) (apart : List ℕ → List ℕ → ℕ) (scan : ScanOrder) (strength : ℕ) (entries : List (List ℕ)) (alpha transparent_index width : ℕ) (pixels wanted found : List (List ℕ)) (near : NeighborErrors) (indices : List ℕ) → 0 < width
+    → AreDone color apart scan strength entries alpha transparent_index width pixels 0 wanted found near indices
+none_done color apart scan strength entries alpha transparent_index width pixels wanted found near indices some = record {
   all_wanted = [];
   all_found = [];
   along = [];
@@ -184,23 +184,23 @@ none_done color apart way strength entries alpha kept width pixels wanted found 
   each = λ j before. absurd (omega arith);
 }
 
-module _ (color : (ℕ → ℕ) → List ℕ) (apart : List ℕ → List ℕ → ℕ) (way : DiffusionWay) (strength : ℕ) (entries : List (List ℕ)) (alpha kept width : ℕ) (pixels : List (List ℕ)) (k : ℕ)
-    (wanted found : List (List ℕ)) (near around : Near) (indices : List ℕ) (right_above left : Miss)
-    (some : 0 < width) (inside : in_picture way width k < length indices) (long_wanted : length wanted ≡ width) (long_found : length found ≡ width)
-    (h : AreDone color apart way strength entries alpha kept width pixels k wanted found near indices)
-    (is_around : AreNear way h.all_wanted h.all_found width (k - k % width) (k % width) around)
-    (is_above : IsMissAbove way h.all_wanted h.all_found width (k - k % width) (k % width) right_above) where
+module _ (color : (ℕ → ℕ) → List ℕ) (apart : List ℕ → List ℕ → ℕ) (scan : ScanOrder) (strength : ℕ) (entries : List (List ℕ)) (alpha transparent_index width : ℕ) (pixels : List (List ℕ)) (k : ℕ)
+    (wanted found : List (List ℕ)) (near around : NeighborErrors) (indices : List ℕ) (right_above left : ColorError)
+    (some : 0 < width) (inside : in_picture scan width k < length indices) (long_wanted : length wanted ≡ width) (long_found : length found ≡ width)
+    (h : AreDone color apart scan strength entries alpha transparent_index width pixels k wanted found near indices)
+    (is_around : AreNeighborErrors scan h.all_wanted h.all_found width (k - k % width) (k % width) around)
+    (is_above : IsColorErrorAbove scan h.all_wanted h.all_found width (k - k % width) (k % width) right_above) where
   -- with a color that is wanted, one that is found, and an index more; the rows are put in the order of
   -- the next pixel
   more : (w g : List ℕ) (i : ℕ) (next_wanted next_found : List (List ℕ))
-      → IsDiffused color apart way strength entries alpha kept width pixels (h.all_wanted ++ w ∷ []) (h.all_found ++ g ∷ []) (h.along ++ i ∷ [])
-      → IsMiss true w g left
-      → ((ws : List (List ℕ)) → AreLatest way ws width (k - k % width) (k % width + 1) (set wanted (k % width) w)
-      → AreLatest way ws width (k + 1 - (k + 1) % width) ((k + 1) % width) next_wanted)
-      → ((gs : List (List ℕ)) → AreLatest way gs width (k - k % width) (k % width + 1) (set found (k % width) g)
-      → AreLatest way gs width (k + 1 - (k + 1) % width) ((k + 1) % width) next_found)
-      → AreDone color apart way strength entries alpha kept width pixels (k + 1) next_wanted next_found
-      (record { left = left; left_above = around.above; above = right_above }) (set indices (in_picture way width k) i)
+      → IsDiffused color apart scan strength entries alpha transparent_index width pixels (h.all_wanted ++ w ∷ []) (h.all_found ++ g ∷ []) (h.along ++ i ∷ [])
+      → IsColorError true w g left
+      → ((ws : List (List ℕ)) → AreLatest scan ws width (k - k % width) (k % width + 1) (set wanted (k % width) w)
+      → AreLatest scan ws width (k + 1 - (k + 1) % width) ((k + 1) % width) next_wanted)
+      → ((gs : List (List ℕ)) → AreLatest scan gs width (k - k % width) (k % width + 1) (set found (k % width) g)
+      → AreLatest scan gs width (k + 1 - (k + 1) % width) ((k + 1) % width) next_found)
+      → AreDone color apart scan strength entries alpha transparent_index width pixels (k + 1) next_wanted next_found
+      (record { left = left; left_above = around.above; above = right_above }) (set indices (in_picture scan width k) i)
   more w g i next_wanted next_found diffused missed turned_wanted turned_found =
       let here : k ≡ k - k % width + k % width = omega (arith, mod-le k width) in
       let column : k % width < width = mod-lt k {m = width} some in
@@ -213,63 +213,63 @@ module _ (color : (ℕ → ℕ) → List ℕ) (apart : List ℕ → List ℕ →
         many_wanted = omega (arith, length-append h.all_wanted (w ∷ []), h.many_wanted);
         many_found = omega (arith, length-append h.all_found (g ∷ []), h.many_found);
         last_wanted = turned_wanted (h.all_wanted ++ w ∷ [])
-            (latest_more way h.all_wanted w width (k - k % width) (k % width) wanted column (h.many_wanted ∙ here) long_wanted h.last_wanted);
+            (latest_more scan h.all_wanted w width (k - k % width) (k % width) wanted column (h.many_wanted ∙ here) long_wanted h.last_wanted);
         last_found = turned_found (h.all_found ++ g ∷ [])
-            (latest_more way h.all_found g width (k - k % width) (k % width) found column (h.many_found ∙ here) long_found h.last_found);
+            (latest_more scan h.all_found g width (k - k % width) (k % width) found column (h.many_found ∙ here) long_found h.last_found);
         near_within = λ within.
             let on : k % width + 1 < width = goes_on k width some within in
             let begin : k + 1 - (k + 1) % width ≡ k - k % width = same_begin k width on in
             let place : (k + 1) % width ≡ k % width + 1 = sym (next_in_turn k width (k % width) refl on) in
-            subst (λ f. AreNear way (h.all_wanted ++ w ∷ []) (h.all_found ++ g ∷ []) width f ((k + 1) % width)
+            subst (λ f. AreNeighborErrors scan (h.all_wanted ++ w ∷ []) (h.all_found ++ g ∷ []) width f ((k + 1) % width)
             (record { left = left; left_above = around.above; above = right_above })) (sym begin)
-            (subst (λ p. AreNear way (h.all_wanted ++ w ∷ []) (h.all_found ++ g ∷ []) width (k - k % width) p
+            (subst (λ p. AreNeighborErrors scan (h.all_wanted ++ w ∷ []) (h.all_found ++ g ∷ []) width (k - k % width) p
             (record { left = left; left_above = around.above; above = right_above })) (sym place)
-            (near_more way h.all_wanted h.all_found w g width (k - k % width) (k % width) around left right_above (h.many_wanted ∙ here) (h.many_found ∙ here) on
+            (near_more scan h.all_wanted h.all_found w g width (k - k % width) (k % width) around left right_above (h.many_wanted ∙ here) (h.many_found ∙ here) on
             is_around is_above missed));
         each = λ j before. elim (cases_lt j k) [
-          | inl b ↦ get_or-set_other indices (in_picture way width k) (in_picture way width j) i 0 (places_apart way width j k some b)
+          | inl b ↦ get_or-set_other indices (in_picture scan width k) (in_picture scan width j) i 0 (places_apart scan width j k some b)
               ∙ h.each j b ∙ sym (get_or_append_left h.along (i ∷ []) 0 j (omega (arith, h.many)))
           | inr b ↦
               let e : k ≡ j = omega arith in
-              subst (λ n. get_or (set indices (in_picture way width k) i) (in_picture way width n) 0 ≡ get_or (h.along ++ i ∷ []) n 0) e
-              (get_or-set_same indices (in_picture way width k) i 0 inside ∙ sym (get_or_push h.along i 0 k h.many))
+              subst (λ n. get_or (set indices (in_picture scan width k) i) (in_picture scan width n) 0 ≡ get_or (h.along ++ i ∷ []) n 0) e
+              (get_or-set_same indices (in_picture scan width k) i 0 inside ∙ sym (get_or_push h.along i 0 k h.many))
         ];
       }
 
-  pub clear_done : (next_wanted next_found : List (List ℕ)) → IsMiss true (color (λ c. 0)) (color (λ c. 0)) left
-      → alpha_of (get_or pixels (in_picture way width k) []) < alpha
-      → ((ws : List (List ℕ)) → AreLatest way ws width (k - k % width) (k % width + 1) (set wanted (k % width) (color (λ c. 0)))
-      → AreLatest way ws width (k + 1 - (k + 1) % width) ((k + 1) % width) next_wanted)
-      → ((gs : List (List ℕ)) → AreLatest way gs width (k - k % width) (k % width + 1) (set found (k % width) (color (λ c. 0)))
-      → AreLatest way gs width (k + 1 - (k + 1) % width) ((k + 1) % width) next_found)
-      → AreDone color apart way strength entries alpha kept width pixels (k + 1) next_wanted next_found
-      (record { left = left; left_above = around.above; above = right_above }) (set indices (in_picture way width k) kept)
+  pub clear_done : (next_wanted next_found : List (List ℕ)) → IsColorError true (color (λ c. 0)) (color (λ c. 0)) left
+      → alpha_of (get_or pixels (in_picture scan width k) []) < alpha
+      → ((ws : List (List ℕ)) → AreLatest scan ws width (k - k % width) (k % width + 1) (set wanted (k % width) (color (λ c. 0)))
+      → AreLatest scan ws width (k + 1 - (k + 1) % width) ((k + 1) % width) next_wanted)
+      → ((gs : List (List ℕ)) → AreLatest scan gs width (k - k % width) (k % width + 1) (set found (k % width) (color (λ c. 0)))
+      → AreLatest scan gs width (k + 1 - (k + 1) % width) ((k + 1) % width) next_found)
+      → AreDone color apart scan strength entries alpha transparent_index width pixels (k + 1) next_wanted next_found
+      (record { left = left; left_above = around.above; above = right_above }) (set indices (in_picture scan width k) transparent_index)
   clear_done next_wanted next_found missed below turned_wanted turned_found =
-      more (color (λ c. 0)) (color (λ c. 0)) kept next_wanted next_found
-      (clear h.all_wanted h.all_found h.along h.diffused (subst (λ n. alpha_of (get_or pixels (in_picture way width n) []) < alpha) (sym h.many) below))
+      more (color (λ c. 0)) (color (λ c. 0)) transparent_index next_wanted next_found
+      (clear h.all_wanted h.all_found h.along h.diffused (subst (λ n. alpha_of (get_or pixels (in_picture scan width n) []) < alpha) (sym h.many) below))
       missed turned_wanted turned_found
 
   pub shown_done : (w g : List ℕ) (i : ℕ) (next_wanted next_found : List (List ℕ))
-      → w ≡ wanted_at color way strength width h.all_wanted h.all_found (k - k % width) (k % width) (get_or pixels (in_picture way width k) [])
-      → alpha ≤ alpha_of (get_or pixels (in_picture way width k) []) → IsNearestBy apart entries w i → g ≡ get_or entries i [] → IsMiss true w g left
-      → ((ws : List (List ℕ)) → AreLatest way ws width (k - k % width) (k % width + 1) (set wanted (k % width) w)
-      → AreLatest way ws width (k + 1 - (k + 1) % width) ((k + 1) % width) next_wanted)
-      → ((gs : List (List ℕ)) → AreLatest way gs width (k - k % width) (k % width + 1) (set found (k % width) g)
-      → AreLatest way gs width (k + 1 - (k + 1) % width) ((k + 1) % width) next_found)
-      → AreDone color apart way strength entries alpha kept width pixels (k + 1) next_wanted next_found
-      (record { left = left; left_above = around.above; above = right_above }) (set indices (in_picture way width k) i)
+      → w ≡ wanted_at color scan strength width h.all_wanted h.all_found (k - k % width) (k % width) (get_or pixels (in_picture scan width k) [])
+      → alpha ≤ alpha_of (get_or pixels (in_picture scan width k) []) → IsNearestBy apart entries w i → g ≡ get_or entries i [] → IsColorError true w g left
+      → ((ws : List (List ℕ)) → AreLatest scan ws width (k - k % width) (k % width + 1) (set wanted (k % width) w)
+      → AreLatest scan ws width (k + 1 - (k + 1) % width) ((k + 1) % width) next_wanted)
+      → ((gs : List (List ℕ)) → AreLatest scan gs width (k - k % width) (k % width + 1) (set found (k % width) g)
+      → AreLatest scan gs width (k + 1 - (k + 1) % width) ((k + 1) % width) next_found)
+      → AreDone color apart scan strength entries alpha transparent_index width pixels (k + 1) next_wanted next_found
+      (record { left = left; left_above = around.above; above = right_above }) (set indices (in_picture scan width k) i)
   shown_done w g i next_wanted next_found is above nearest entry missed turned_wanted turned_found =
       more w g i next_wanted next_found
-      (subst (λ f. IsDiffused color apart way strength entries alpha kept width pixels (h.all_wanted ++ w ∷ []) (h.all_found ++ f ∷ []) (h.along ++ i ∷ [])) (sym entry)
+      (subst (λ f. IsDiffused color apart scan strength entries alpha transparent_index width pixels (h.all_wanted ++ w ∷ []) (h.all_found ++ f ∷ []) (h.along ++ i ∷ [])) (sym entry)
       (shown h.all_wanted h.all_found h.along w i h.diffused
-      (subst (λ n. alpha ≤ alpha_of (get_or pixels (in_picture way width n) [])) (sym h.many) above)
-      (subst (λ n. w ≡ wanted_at color way strength width h.all_wanted h.all_found (n - n % width) (n % width) (get_or pixels (in_picture way width n) [])) (sym h.many) is)
+      (subst (λ n. alpha ≤ alpha_of (get_or pixels (in_picture scan width n) [])) (sym h.many) above)
+      (subst (λ n. w ≡ wanted_at color scan strength width h.all_wanted h.all_found (n - n % width) (n % width) (get_or pixels (in_picture scan width n) [])) (sym h.many) is)
       nearest))
       missed turned_wanted turned_found
 
 -- the same lists are done alike
-pub alike : (color : (ℕ → ℕ) → List ℕ) (apart : List ℕ → List ℕ → ℕ) (way : DiffusionWay) (strength : ℕ) (entries : List (List ℕ)) (alpha kept width : ℕ) (pixels : List (List ℕ)) (k : ℕ)
-    (ws gs : List (List ℕ)) (near : Near) (is js : List ℕ) → js ≡ is
-    → AreDone color apart way strength entries alpha kept width pixels k ws gs near is → AreDone color apart way strength entries alpha kept width pixels k ws gs near js
-alike color apart way strength entries alpha kept width pixels k ws gs near is js e h =
-    subst (λ j. AreDone color apart way strength entries alpha kept width pixels k ws gs near j) (sym e) h
+pub alike : (color : (ℕ → ℕ) → List ℕ) (apart : List ℕ → List ℕ → ℕ) (scan : ScanOrder) (strength : ℕ) (entries : List (List ℕ)) (alpha transparent_index width : ℕ) (pixels : List (List ℕ)) (k : ℕ)
+    (ws gs : List (List ℕ)) (near : NeighborErrors) (is js : List ℕ) → js ≡ is
+    → AreDone color apart scan strength entries alpha transparent_index width pixels k ws gs near is → AreDone color apart scan strength entries alpha transparent_index width pixels k ws gs near js
+alike color apart scan strength entries alpha transparent_index width pixels k ws gs near is js e h =
+    subst (λ j. AreDone color apart scan strength entries alpha transparent_index width pixels k ws gs near j) (sym e) h

@@ -3,7 +3,7 @@ use Rattle.std.specs.List.{list_any}
 use Rattle.std.proofs.Common.{◌≡◌, ℕ, ◌≤◌, Bool, true, false, List, [], ◌∷◌, ◌++◌, length, map, take, drop, fold, arith, sym, ap, ◌∙◌, if◌then◌else◌, length-append, take-append-drop}
 use Rattle.std.proofs.lemmas.List.{map-append}
 use Rattle.std.proofs.lemmas.List.Sums.{fold-append}
-use Rattle.pix_table.specs.From.{distinct_by, with_color_by}
+use Rattle.pix_table.specs.Quantization.{distinct_by, with_color_by}
 use Rattle.pix_table.proofs.BoxSpans.{fold_one_more}
 
 -- by any test of what is the same

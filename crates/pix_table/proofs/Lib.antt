@@ -24,7 +24,7 @@ pub mod SeenTable
 pub mod Splits
 pub mod Distinct
 pub mod Rows
-pub mod Ways
+pub mod ScanOrders
 pub mod WholeErrors
 pub mod Diffused
 pub mod Corners
@@ -33,15 +33,15 @@ pub mod LaneNumbers
 pub mod LaneSearch
 pub mod LaneEntries
 pub mod SmallBlocks
-pub mod Listed
+pub mod ShortLists
 pub mod Words
 pub mod PaletteMatches
 pub mod Settings
-pub mod KeptColors
+pub mod CachedColors
 pub mod IndexingSets
 pub mod OneAnswer
 pub mod ColorBlockLemmas
-pub mod SpanLemmas
+pub mod BlockBoundLemmas
 pub mod BitLemmas
 pub mod Quotients
 pub mod LeastMeans

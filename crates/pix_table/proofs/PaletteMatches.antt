@@ -1,6 +1,6 @@
 -- The candidates of a color, one entry after the other.
 use Rattle.std.specs.Prelude.{slice_index_or, ◌&&◌, not}
-use Rattle.pix_table.specs.From.{same_color}
+use Rattle.pix_table.specs.Quantization.{same_color}
 use Rattle.std.proofs.Common.{◌≡◌, ◌≢◌, ℕ, zero, suc, ◌+◌, ◌<◌, ◌≤◌, true, false, List, [], ◌∷◌, ◌++◌, length, refl, arith, sym, ap, ◌∙◌, subst, ◌⊎◌, inl, inr}
 use Rattle.std.proofs.lemmas.Bool.{cases_lt, cases_order, true≢false, false_from_ne_true}
 use Rattle.std.proofs.lemmas.Bool.Decides.{nat_tests}

@@ -1,7 +1,7 @@
 -- The places of a byte.
 use Rattle.std.proofs.Common.{◌≡◌, ℕ, zero, suc, ◌+◌, ◌*◌, ◌/◌, ◌%◌, ◌<◌, ◌≤◌, arith}
 use Rattle.pix_table.specs.declared.row.IndexDepth.{IndexDepth}
-use Rattle.pix_table.specs.Packing.{place, places, row_bytes}
+use Rattle.pix_table.specs.Packing.{place, places, row_size}
 use Rattle.pix_table.specs.declared.row.IndexDepth.TheVariants.{One, Two, Four, Eight}
 
 pub eight_places : (x : ℕ → ℕ) (byte : ℕ)
@@ -36,14 +36,14 @@ one_place x byte e small zero below = omega arith
 one_place x byte e small (suc t) below = absurd (omega arith)
 
 -- the first place of a byte of the row is within the row
-pub first_within : (depth : IndexDepth) (count j : ℕ) → j < row_bytes depth count → j * places depth ≤ count
+pub first_within : (depth : IndexDepth) (count j : ℕ) → j < row_size depth count → j * places depth ≤ count
 first_within One count j below = omega arith
 first_within Two count j below = omega arith
 first_within Four count j below = omega arith
 first_within Eight count j below = omega arith
 
 -- the byte of an index is one of the row
-pub byte_within : (depth : IndexDepth) (count i : ℕ) → i < count → i / places depth < row_bytes depth count
+pub byte_within : (depth : IndexDepth) (count i : ℕ) → i < count → i / places depth < row_size depth count
 byte_within One count i below = omega arith
 byte_within Two count i below = omega arith
 byte_within Four count i below = omega arith

@@ -9,7 +9,7 @@ use Rattle.std.proofs.lemmas.List.Elements.{All-cons, All-nil, All-push}
 use Rattle.std.proofs.lemmas.List.Sums.{length-filter, sum_by-cons}
 use Rattle.std.proofs.lemmas.List.Sorted.{IsPermutation-refl, IsPermutation-sym, IsPermutation-trans, IsPermutation-cons, IsPermutation-middle, IsPermutation-append_left}
 use Rattle.pix_table.specs.Nearest.{distance, IsNearest, IsNearestBy, numbers}
-use Rattle.pix_table.specs.From.{same_color}
+use Rattle.pix_table.specs.Quantization.{same_color}
 use Rattle.pix_table.specs.Places.{sum_in}
 use Rattle.pix_table.specs.BestPlaces.{AreBytes, AreParted, AreSums, sum_of}
 use Rattle.pix_table.specs.Refine.{AreGroupsBy, IsRound, refined}

@@ -6,7 +6,7 @@ use Rattle.std.proofs.lemmas.Grind.{get_or-set_at}
 use Rattle.std.proofs.lemmas.List.Elements.{All-set, filter-append}
 use Rattle.std.proofs.lemmas.List.Filters.{length-filter_both}
 use Rattle.pix_table.specs.Nearest.{IsNearestBy}
-use Rattle.pix_table.specs.From.{same_color}
+use Rattle.pix_table.specs.Quantization.{same_color}
 use Rattle.pix_table.specs.Refine.{IsRoundBy}
 use Rattle.pix_table.specs.Seen.{AreSeen, seen_distance, seen_numbers}
 use Rattle.pix_table.specs.SeenGroups.{AreGroupSums, AreSeenGrouped, AreSumsOf}

@@ -4,9 +4,9 @@ use Rattle.std.proofs.Common.{◌≡◌, ℕ, ◌+◌, ◌*◌, ◌<◌, ◌≤�
 use Rattle.std.proofs.lemmas.Bool.{cases_lt}
 use Rattle.std.proofs.lemmas.List.{get_or_default, get_or-take, length-take-le, get_or_append_left, map-append}
 use Rattle.pix_table.specs.ColorBlocks.{AreBlocks, IsBlock}
-use Rattle.pix_table.specs.Spans.{AreSpans, Covers}
+use Rattle.pix_table.specs.BlockBounds.{AreBlockBounds, Covers}
 use Rattle.pix_table.specs.TableBlocks.{HasBlocks}
-use Rattle.pix_table.specs.declared.block_spans.BlockSpans.{BlockSpans}
+use Rattle.pix_table.specs.declared.block_bounds.BlockBounds.{BlockBounds}
 use Rattle.pix_table.specs.declared.color_block.ColorBlock.{ColorBlock}
 use Rattle.pix_table.specs.declared.table_blocks.TableBlocks.{TableBlocks}
 use Rattle.pix_table.proofs.Settings.{Grows}
@@ -20,7 +20,7 @@ are_blocks entries has h = λ k d below.
     let inside : k < has.len = omega arith in
     subst (IsBlock entries (16 * k)) (sym (get_or-take has.len has.blocks k d inside)) (h.blocks k d inside)
 
-pub are_spans : (entries : List (List ℕ)) (has : TableBlocks) → HasBlocks entries has → AreSpans (take has.len has.blocks) has.spans
+pub are_spans : (entries : List (List ℕ)) (has : TableBlocks) → HasBlocks entries has → AreBlockBounds (take has.len has.blocks) has.spans
 are_spans entries has h =
     let few : has.len ≤ 16 = h.few in
     let long : length (take has.len has.blocks) ≡ has.len = length-take-le has.len has.blocks (omega (arith, h.long)) in
@@ -36,7 +36,7 @@ are_spans entries has h =
     }
 
 -- one block more; `old` and `new` are the spans before and afterwards
-pub block_added : (entries : List (List ℕ)) (has : TableBlocks) (block : ColorBlock) (old new : BlockSpans) → HasBlocks entries has → has.len < 16
+pub block_added : (entries : List (List ℕ)) (has : TableBlocks) (block : ColorBlock) (old new : BlockBounds) → HasBlocks entries has → has.len < 16
     → IsBlock entries (16 * has.len) block → old ≡ get_or has.spans 0 old → Covers new has.len block
     → ((i : ℕ) (other : ColorBlock) → (i ≡ has.len → ⊥) → Covers old i other → Covers new i other)
     → HasBlocks entries (record { spans = set has.spans 0 new; blocks = set has.blocks has.len block; len = has.len + 1 })

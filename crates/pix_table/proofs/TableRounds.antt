@@ -2,13 +2,13 @@
 use Rattle.std.specs.Prelude.{MatchOption}
 use Rattle.std.proofs.Common.{◌≡◌, ℕ, zero, suc, ◌≤◌, List, Option, Some, None, IsPermutation, refl, inl, inr, arith, sym, subst}
 use Rattle.pix_table.specs.Cut.{IsCutTable}
-use Rattle.pix_table.specs.From.{IsTableFrom}
+use Rattle.pix_table.specs.Quantization.{IsQuantized}
 use Rattle.pix_table.specs.Nearest.{distance}
-use Rattle.pix_table.specs.Refine.{AreRounds, AreRoundsBy, IsRefinedTableFrom, IsRoundBy, refined, squared_error}
+use Rattle.pix_table.specs.Refine.{AreRounds, AreRoundsBy, IsQuantizedRefined, IsRoundBy, refined, squared_error}
 use Rattle.pix_table.proofs.RefinedTables.{rounds_moved, error_moved}
 
 -- no rounds leave the table of the cut
-pub unrefined : (room : ℕ) (colors table : List (List ℕ)) → IsRefinedTableFrom 0 room colors table → IsTableFrom room colors table
+pub unrefined : (room : ℕ) (colors table : List (List ℕ)) → IsQuantizedRefined 0 room colors table → IsQuantized room colors table
 unrefined room colors table (inl fit) = inl fit
 unrefined room colors table (inr h) = inr (h.0, subst (IsCutTable room colors) (sym h.3) h.2)
 

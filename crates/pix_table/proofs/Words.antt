@@ -3,9 +3,9 @@ use Rattle.std.proofs.Common.{◌≡◌, ℕ, ◌+◌, ◌*◌, ◌%◌, ◌<◌
 use Rattle.std.specs.Prelude.{min}
 use Rattle.std.proofs.lemmas.List.{length-map, get_or-map}
 use Rattle.pix_table.specs.Nearest.{distance, distance_to, numbers}
-use Rattle.pix_table.specs.Boxes.{AreWords, IsWord, AreEnough, word_color, word_key}
+use Rattle.pix_table.specs.InverseMap.{AreWords, IsWord, AreEnough, word_color, word_key}
 use Rattle.pix_table.specs.declared.color.Color.{Color}
-use Rattle.pix_table.proofs.Listed.{IsLeastKey, key_at_first, key_next}
+use Rattle.pix_table.proofs.ShortLists.{IsLeastKey, key_at_first, key_next}
 
 -- the number of an entry
 pub word_stands : (entries : List Color) (d : Color) (i word : ℕ) → i < length entries → word_color word ≡ numbers (get_or entries i d) → word % 256 ≡ i
@@ -32,42 +32,42 @@ min_of_first : (a b c d : ℕ) → min (min (min a b) c) d ≡ min (min a b) (mi
 min_of_first a b c d = omega arith
 
 module _ (entries : List (List ℕ)) (color words lists : List ℕ) (start count : ℕ) (h : AreWords entries words) (bytes : (i : ℕ) → get_or lists i 0 < 256) where
-  abbrev pub listed : ℕ → ℕ
-  listed p = get_or words (get_or lists (start + p) 0) 0 % 256
+  abbrev pub short_list : ℕ → ℕ
+  short_list p = get_or words (get_or lists (start + p) 0) 0 % 256
 
   abbrev keyed : ℕ → ℕ
-  keyed p = distance_to entries color (listed p) * 256 + listed p
+  keyed p = distance_to entries color (short_list p) * 256 + short_list p
 
   pub keyed_at : (at p : ℕ) → at ≡ start + p → word_key color (get_or words (get_or lists at 0) 0) ≡ keyed p
   keyed_at at p e = ap (λ i. word_key color (get_or words (get_or lists i 0) 0)) e ∙ word_distance entries color words (get_or lists (start + p) 0) h (bytes (start + p))
 
   pub first_four : (x y z w new : ℕ) → 4 ≤ count → x ≡ keyed 0 → y ≡ keyed 1 → z ≡ keyed 2 → w ≡ keyed 3 → new ≡ min (min x y) (min z w)
-      → IsLeastKey entries color listed count 4 new
+      → IsLeastKey entries color short_list count 4 new
   first_four x y z w new room ex ey ez ew e =
-      let a : IsLeastKey entries color listed count 1 (keyed 0) = key_at_first entries color listed count (listed 0) (keyed 0) (omega arith) refl refl in
-      let b : IsLeastKey entries color listed count 2 (min (keyed 0) (keyed 1)) = key_next entries color listed count 1 (keyed 0) (listed 1) _ a (omega arith) refl refl in
-      let c : IsLeastKey entries color listed count 3 (min (min (keyed 0) (keyed 1)) (keyed 2)) = key_next entries color listed count 2 _ (listed 2) _ b (omega arith) refl refl in
-      let d : IsLeastKey entries color listed count 4 (min (min (min (keyed 0) (keyed 1)) (keyed 2)) (keyed 3)) =
-      key_next entries color listed count 3 _ (listed 3) _ c (omega arith) refl refl in
-      subst (IsLeastKey entries color listed count 4) (min_of_first (keyed 0) (keyed 1) (keyed 2) (keyed 3) ∙ sym (rw (e, ex, ey, ez, ew) refl)) d
+      let a : IsLeastKey entries color short_list count 1 (keyed 0) = key_at_first entries color short_list count (short_list 0) (keyed 0) (omega arith) refl refl in
+      let b : IsLeastKey entries color short_list count 2 (min (keyed 0) (keyed 1)) = key_next entries color short_list count 1 (keyed 0) (short_list 1) _ a (omega arith) refl refl in
+      let c : IsLeastKey entries color short_list count 3 (min (min (keyed 0) (keyed 1)) (keyed 2)) = key_next entries color short_list count 2 _ (short_list 2) _ b (omega arith) refl refl in
+      let d : IsLeastKey entries color short_list count 4 (min (min (min (keyed 0) (keyed 1)) (keyed 2)) (keyed 3)) =
+      key_next entries color short_list count 3 _ (short_list 3) _ c (omega arith) refl refl in
+      subst (IsLeastKey entries color short_list count 4) (min_of_first (keyed 0) (keyed 1) (keyed 2) (keyed 3) ∙ sym (rw (e, ex, ey, ez, ew) refl)) d
 
-  pub next_four : (i key x y z w new : ℕ) → IsLeastKey entries color listed count i key → i + 4 ≤ count → x ≡ keyed (i + 0) → y ≡ keyed (i + 1) → z ≡ keyed (i + 2)
-      → w ≡ keyed (i + 3) → new ≡ min key (min (min x y) (min z w)) → IsLeastKey entries color listed count (i + 4) new
+  pub next_four : (i key x y z w new : ℕ) → IsLeastKey entries color short_list count i key → i + 4 ≤ count → x ≡ keyed (i + 0) → y ≡ keyed (i + 1) → z ≡ keyed (i + 2)
+      → w ≡ keyed (i + 3) → new ≡ min key (min (min x y) (min z w)) → IsLeastKey entries color short_list count (i + 4) new
   next_four i key x y z w new old room ex ey ez ew e =
-      let a : IsLeastKey entries color listed count (i + 0 + 1) (min key (keyed (i + 0))) =
-      key_next entries color listed count (i + 0) key (listed (i + 0)) _ (let z : i ≡ i + 0 = omega arith in subst (λ j. IsLeastKey entries color listed count j key) z old) (omega arith) refl refl in
-      let b : IsLeastKey entries color listed count (i + 1 + 1) (min (min key (keyed (i + 0))) (keyed (i + 1))) =
-      key_next entries color listed count (i + 1) _ (listed (i + 1)) _ (let z : i + 0 + 1 ≡ i + 1 = omega arith in subst (λ j. IsLeastKey entries color listed count j (min key (keyed (i + 0)))) z a) (omega arith) refl refl in
-      let c : IsLeastKey entries color listed count (i + 2 + 1) (min (min (min key (keyed (i + 0))) (keyed (i + 1))) (keyed (i + 2))) =
-      key_next entries color listed count (i + 2) _ (listed (i + 2)) _ (let z : i + 1 + 1 ≡ i + 2 = omega arith in subst (λ j. IsLeastKey entries color listed count j (min (min key (keyed (i + 0))) (keyed (i + 1)))) z b) (omega arith) refl refl in
-      let d : IsLeastKey entries color listed count (i + 3 + 1) (min (min (min (min key (keyed (i + 0))) (keyed (i + 1))) (keyed (i + 2))) (keyed (i + 3))) =
-      key_next entries color listed count (i + 3) _ (listed (i + 3)) _ (let z : i + 2 + 1 ≡ i + 3 = omega arith in subst (λ j. IsLeastKey entries color listed count j (min (min (min key (keyed (i + 0))) (keyed (i + 1))) (keyed (i + 2)))) z c) (omega arith) refl refl in
+      let a : IsLeastKey entries color short_list count (i + 0 + 1) (min key (keyed (i + 0))) =
+      key_next entries color short_list count (i + 0) key (short_list (i + 0)) _ (let z : i ≡ i + 0 = omega arith in subst (λ j. IsLeastKey entries color short_list count j key) z old) (omega arith) refl refl in
+      let b : IsLeastKey entries color short_list count (i + 1 + 1) (min (min key (keyed (i + 0))) (keyed (i + 1))) =
+      key_next entries color short_list count (i + 1) _ (short_list (i + 1)) _ (let z : i + 0 + 1 ≡ i + 1 = omega arith in subst (λ j. IsLeastKey entries color short_list count j (min key (keyed (i + 0)))) z a) (omega arith) refl refl in
+      let c : IsLeastKey entries color short_list count (i + 2 + 1) (min (min (min key (keyed (i + 0))) (keyed (i + 1))) (keyed (i + 2))) =
+      key_next entries color short_list count (i + 2) _ (short_list (i + 2)) _ (let z : i + 1 + 1 ≡ i + 2 = omega arith in subst (λ j. IsLeastKey entries color short_list count j (min (min key (keyed (i + 0))) (keyed (i + 1)))) z b) (omega arith) refl refl in
+      let d : IsLeastKey entries color short_list count (i + 3 + 1) (min (min (min (min key (keyed (i + 0))) (keyed (i + 1))) (keyed (i + 2))) (keyed (i + 3))) =
+      key_next entries color short_list count (i + 3) _ (short_list (i + 3)) _ (let z : i + 2 + 1 ≡ i + 3 = omega arith in subst (λ j. IsLeastKey entries color short_list count j (min (min (min key (keyed (i + 0))) (keyed (i + 1))) (keyed (i + 2)))) z c) (omega arith) refl refl in
       let at : i + 3 + 1 ≡ i + 4 = omega arith in
-      subst (λ j. IsLeastKey entries color listed count j new) at
-      (subst (IsLeastKey entries color listed count (i + 3 + 1)) (min_of_four key (keyed (i + 0)) (keyed (i + 1)) (keyed (i + 2)) (keyed (i + 3)) ∙ sym (rw (e, ex, ey, ez, ew) refl)) d)
+      subst (λ j. IsLeastKey entries color short_list count j new) at
+      (subst (IsLeastKey entries color short_list count (i + 3 + 1)) (min_of_four key (keyed (i + 0)) (keyed (i + 1)) (keyed (i + 2)) (keyed (i + 3)) ∙ sym (rw (e, ex, ey, ez, ew) refl)) d)
 
   -- a list of indices, and some more entries behind it
-  pub enough_words : (few : ℕ) → few ≤ count → AreEnough entries color (λ p. get_or lists (start + p) 0) few → AreEnough entries color listed count
+  pub enough_words : (few : ℕ) → few ≤ count → AreEnough entries color (λ p. get_or lists (start + p) 0) few → AreEnough entries color short_list count
   enough_words few less enough = record {
     some = omega (arith, enough.some);
     inside = λ p b. (h.each (get_or lists (start + p) 0) (bytes (start + p))).stands;

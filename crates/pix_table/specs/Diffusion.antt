@@ -1,22 +1,22 @@
 -- Error diffusion by Floyd and Steinberg, in whole numbers.
 use Rattle.std.specs.Prelude.{◌≡◌, ℕ, ◌+◌, ◌-◌, ◌*◌, ◌/◌, ◌%◌, ◌<◌, ◌≤◌, min, List, [], ◌∷◌, ◌++◌, Bool, false, ◌&&◌, nat_lt, nat_le, length, slice_index, slice_index_or, if◌then◌else◌}
 use Rattle.pix_table.specs.Nearest.{IsNearestBy, distance, alpha_of}
-use Rattle.pix_table.specs.declared.diffuse.DiffusionWay.{DiffusionWay}
-use Rattle.pix_table.specs.declared.diffuse.DiffusionWay.TheVariants.{Straight, Serpentine}
+use Rattle.pix_table.specs.declared.diffuse.ScanOrder.{ScanOrder}
+use Rattle.pix_table.specs.declared.diffuse.ScanOrder.TheVariants.{LeftToRight, Serpentine}
 
 -- a way goes through the rows from above. Its pixel k is in a row from right to left: in the
 -- serpentine way in every second row
-abbrev pub is_back : DiffusionWay → (width k : ℕ) → Bool
-is_back Straight width k = false
+abbrev pub is_back : ScanOrder → (width k : ℕ) → Bool
+is_back LeftToRight width k = false
 is_back Serpentine width k = nat_lt 0 (k / width % 2)
 
 -- where pixel k of a way is in the picture
-abbrev pub in_picture : DiffusionWay → (width k : ℕ) → ℕ
-in_picture way width k = if is_back way width k then k - k % width + (width - (k % width + 1)) else k
+abbrev pub in_picture : ScanOrder → (width k : ℕ) → ℕ
+in_picture scan width k = if is_back scan width k then k - k % width + (width - (k % width + 1)) else k
 
 -- the number in a way of the pixel above a place of the row that begins with number `first`
-abbrev pub number_above : DiffusionWay → (width first place : ℕ) → ℕ
-number_above Straight width first place = first + place - width
+abbrev pub number_above : ScanOrder → (width first place : ℕ) → ℕ
+number_above LeftToRight width first place = first + place - width
 number_above Serpentine width first place = first - (place + 1)
 
 -- sixteenths of a color's number in a channel, where there is such a color
@@ -26,22 +26,22 @@ part there sixteenths color channel = if there then sixteenths * slice_index col
 -- a pixel hands 3 sixteenths on to the pixel below that is behind it in the direction of its row, and 1
 -- to the one ahead. In the serpentine way the row above has the other direction: what a pixel gets from
 -- the one above the pixel before it, and from the one above the next
-abbrev pub share_before : DiffusionWay → ℕ
-share_before Straight = 1
+abbrev pub share_before : ScanOrder → ℕ
+share_before LeftToRight = 1
 share_before Serpentine = 3
 
-abbrev pub share_next : DiffusionWay → ℕ
-share_next Straight = 3
+abbrev pub share_next : ScanOrder → ℕ
+share_next LeftToRight = 3
 share_next Serpentine = 1
 
 -- the share in the colors before it of the pixel at a place of the row that begins with number `first`:
 -- 7 sixteenths of the one before it in the row, 5 of the one above, and 1 and 3 of the two beside that
-abbrev pub handed : DiffusionWay → (width : ℕ) → List (List ℕ) → (first place : ℕ) → ℕ → ℕ
-handed way width colors first place channel =
+abbrev pub handed : ScanOrder → (width : ℕ) → List (List ℕ) → (first place : ℕ) → ℕ → ℕ
+handed scan width colors first place channel =
     part (nat_lt 0 place) 7 (slice_index_or colors (first + place - 1) []) channel
-    + part (nat_lt 0 place && nat_le width first) (share_before way) (slice_index_or colors (number_above way width first (place - 1)) []) channel
-    + part (nat_le width first) 5 (slice_index_or colors (number_above way width first place) []) channel
-    + part (nat_lt (place + 1) width && nat_le width first) (share_next way) (slice_index_or colors (number_above way width first (place + 1)) []) channel
+    + part (nat_lt 0 place && nat_le width first) (share_before scan) (slice_index_or colors (number_above scan width first (place - 1)) []) channel
+    + part (nat_le width first) 5 (slice_index_or colors (number_above scan width first place) []) channel
+    + part (nat_lt (place + 1) width && nat_le width first) (share_next scan) (slice_index_or colors (number_above scan width first (place + 1)) []) channel
 
 -- a number plus so many sixteenths of its share of the colors that were wanted less the colors that
 -- were found, rounded to the nearest, ties up, and kept within 0 to 255
@@ -53,41 +53,41 @@ abbrev pub rgb_of : (ℕ → ℕ) → List ℕ
 rgb_of number = number 0 ∷ number 1 ∷ number 2 ∷ []
 
 -- the color that is wanted at a place: the pixel's own, plus its share of the errors before it
-abbrev pub wanted_at : ((ℕ → ℕ) → List ℕ) → DiffusionWay → (strength width : ℕ) → (wanted found : List (List ℕ)) → (first place : ℕ) → List ℕ → List ℕ
-wanted_at color way strength width wanted found first place pixel =
-    color (λ channel. corrected strength (slice_index pixel channel) (handed way width wanted first place channel) (handed way width found first place channel))
+abbrev pub wanted_at : ((ℕ → ℕ) → List ℕ) → ScanOrder → (strength width : ℕ) → (wanted found : List (List ℕ)) → (first place : ℕ) → List ℕ → List ℕ
+wanted_at color scan strength width wanted found first place pixel =
+    color (λ channel. corrected strength (slice_index pixel channel) (handed scan width wanted first place channel) (handed scan width found first place channel))
 
 -- the first pixels of a way through rows, one after the other: what is wanted at each, what is found
 -- for it, and its index. A pixel whose alpha is below one has the kept index, and hands on no error:
 -- both colors are 0. Any other has the index of the entry that is nearest to what is wanted, and finds
 -- that entry.
-pub data IsDiffused (color : (ℕ → ℕ) → List ℕ) (apart : List ℕ → List ℕ → ℕ) (way : DiffusionWay) (strength : ℕ) (entries : List (List ℕ)) (alpha kept width : ℕ) (pixels : List (List ℕ)) : List (List ℕ) → List (List ℕ) → List ℕ → Type 0 where
-  none : IsDiffused color apart way strength entries alpha kept width pixels [] [] []
-  clear : (wanted found : List (List ℕ)) (indices : List ℕ) → IsDiffused color apart way strength entries alpha kept width pixels wanted found indices
-      → alpha_of (slice_index_or pixels (in_picture way width (length indices)) []) < alpha
-      → IsDiffused color apart way strength entries alpha kept width pixels
-      (wanted ++ color (λ channel. 0) ∷ []) (found ++ color (λ channel. 0) ∷ []) (indices ++ kept ∷ [])
-  shown : (wanted found : List (List ℕ)) (indices : List ℕ) (w : List ℕ) (i : ℕ) → IsDiffused color apart way strength entries alpha kept width pixels wanted found indices
-      → alpha ≤ alpha_of (slice_index_or pixels (in_picture way width (length indices)) [])
-      → w ≡ wanted_at color way strength width wanted found (length indices - length indices % width) (length indices % width)
-      (slice_index_or pixels (in_picture way width (length indices)) [])
+pub data IsDiffused (color : (ℕ → ℕ) → List ℕ) (apart : List ℕ → List ℕ → ℕ) (scan : ScanOrder) (strength : ℕ) (entries : List (List ℕ)) (alpha transparent_index width : ℕ) (pixels : List (List ℕ)) : List (List ℕ) → List (List ℕ) → List ℕ → Type 0 where
+  none : IsDiffused color apart scan strength entries alpha transparent_index width pixels [] [] []
+  clear : (wanted found : List (List ℕ)) (indices : List ℕ) → IsDiffused color apart scan strength entries alpha transparent_index width pixels wanted found indices
+      → alpha_of (slice_index_or pixels (in_picture scan width (length indices)) []) < alpha
+      → IsDiffused color apart scan strength entries alpha transparent_index width pixels
+      (wanted ++ color (λ channel. 0) ∷ []) (found ++ color (λ channel. 0) ∷ []) (indices ++ transparent_index ∷ [])
+  shown : (wanted found : List (List ℕ)) (indices : List ℕ) (w : List ℕ) (i : ℕ) → IsDiffused color apart scan strength entries alpha transparent_index width pixels wanted found indices
+      → alpha ≤ alpha_of (slice_index_or pixels (in_picture scan width (length indices)) [])
+      → w ≡ wanted_at color scan strength width wanted found (length indices - length indices % width) (length indices % width)
+      (slice_index_or pixels (in_picture scan width (length indices)) [])
       → IsNearestBy apart entries w i
-      → IsDiffused color apart way strength entries alpha kept width pixels (wanted ++ w ∷ []) (found ++ slice_index_or entries i [] ∷ []) (indices ++ i ∷ [])
+      → IsDiffused color apart scan strength entries alpha transparent_index width pixels (wanted ++ w ∷ []) (found ++ slice_index_or entries i [] ∷ []) (indices ++ i ∷ [])
 
 -- the indices of all pixels of rows of a width: those of a way through them
-pub record IsWayThrough (color : (ℕ → ℕ) → List ℕ) (apart : List ℕ → List ℕ → ℕ) (way : DiffusionWay) (strength : ℕ) (entries : List (List ℕ)) (alpha kept width : ℕ) (pixels : List (List ℕ)) (indices : List ℕ) : Type 0 where
+pub record IsWayThrough (color : (ℕ → ℕ) → List ℕ) (apart : List ℕ → List ℕ → ℕ) (scan : ScanOrder) (strength : ℕ) (entries : List (List ℕ)) (alpha transparent_index width : ℕ) (pixels : List (List ℕ)) (indices : List ℕ) : Type 0 where
   pub wanted : List (List ℕ)
   pub found : List (List ℕ)
   pub along : List ℕ
-  pub diffused : IsDiffused color apart way strength entries alpha kept width pixels wanted found along
+  pub diffused : IsDiffused color apart scan strength entries alpha transparent_index width pixels wanted found along
   pub whole : length along ≡ length pixels
   pub many : length indices ≡ length pixels
-  pub each : (k : ℕ) → k < length pixels → slice_index indices (in_picture way width k) ≡ slice_index along k
+  pub each : (k : ℕ) → k < length pixels → slice_index indices (in_picture scan width k) ≡ slice_index along k
 
 -- the indices of all pixels by error diffusion, in a way and with so many sixteenths of the errors
-abbrev pub AreDiffusedBy : DiffusionWay → (strength : ℕ) (entries : List (List ℕ)) (alpha kept width : ℕ) (pixels : List (List ℕ)) (indices : List ℕ) → Type 0
-AreDiffusedBy way strength entries alpha kept width pixels indices = IsWayThrough rgb_of distance way strength entries alpha kept width pixels indices
+abbrev pub AreDiffusedBy : ScanOrder → (strength : ℕ) (entries : List (List ℕ)) (alpha transparent_index width : ℕ) (pixels : List (List ℕ)) (indices : List ℕ) → Type 0
+AreDiffusedBy scan strength entries alpha transparent_index width pixels indices = IsWayThrough rgb_of distance scan strength entries alpha transparent_index width pixels indices
 
 -- the same from left to right in each row, with the whole errors
-abbrev pub AreDiffused : (entries : List (List ℕ)) (alpha kept width : ℕ) (pixels : List (List ℕ)) (indices : List ℕ) → Type 0
-AreDiffused entries alpha kept width pixels indices = AreDiffusedBy Straight 16 entries alpha kept width pixels indices
+abbrev pub AreDiffused : (entries : List (List ℕ)) (alpha transparent_index width : ℕ) (pixels : List (List ℕ)) (indices : List ℕ) → Type 0
+AreDiffused entries alpha transparent_index width pixels indices = AreDiffusedBy LeftToRight 16 entries alpha transparent_index width pixels indices

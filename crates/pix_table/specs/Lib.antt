@@ -1,7 +1,7 @@
 pub mod Nearest
 pub mod Seen
 pub mod SeenLanes
-pub mod Boxes
+pub mod InverseMap
 pub mod LookUp
 pub mod Packing
 pub mod Places
@@ -10,8 +10,8 @@ pub mod BestPlaces
 pub mod Pieces
 pub mod SeenCut
 pub mod SeenSums
-pub mod Spans
-pub mod From
+pub mod BlockBounds
+pub mod Quantization
 pub mod Refine
 pub mod Groups
 pub mod Diffusion
@@ -19,7 +19,7 @@ pub mod Done
 pub mod PaletteMatch
 pub mod Setting
 pub mod Indexing
-pub mod Kept
+pub mod ColorCache
 pub mod TableBlocks
 pub mod Lanes
 pub mod EntryLanes

@@ -47,11 +47,11 @@ abbrev pub alpha_of : List ℕ → ℕ
 alpha_of pixel = slice_index_or pixel 3 255
 
 -- the index of a pixel: the kept one for pixels below an alpha, and else that of its nearest entry
-abbrev pub IsMatched : List (List ℕ) → (alpha kept : ℕ) → List ℕ → ℕ → Type 0
-IsMatched entries alpha kept pixel i =
-    ((alpha_of pixel < alpha) × (i ≡ kept)) ⊎ ((alpha ≤ alpha_of pixel) × IsNearest entries pixel i)
+abbrev pub IsMatched : List (List ℕ) → (alpha transparent_index : ℕ) → List ℕ → ℕ → Type 0
+IsMatched entries alpha transparent_index pixel i =
+    ((alpha_of pixel < alpha) × (i ≡ transparent_index)) ⊎ ((alpha ≤ alpha_of pixel) × IsNearest entries pixel i)
 
 -- each pixel has its index at the same place
-pub record AreMatched (entries : List (List ℕ)) (alpha kept : ℕ) (pixels : List (List ℕ)) (indices : List ℕ) : Type 0 where
+pub record AreMatched (entries : List (List ℕ)) (alpha transparent_index : ℕ) (pixels : List (List ℕ)) (indices : List ℕ) : Type 0 where
   pub many : length indices ≡ length pixels
-  pub each : (k : ℕ) → k < length pixels → IsMatched entries alpha kept (slice_index_or pixels k []) (slice_index indices k)
+  pub each : (k : ℕ) → k < length pixels → IsMatched entries alpha transparent_index (slice_index_or pixels k []) (slice_index indices k)

@@ -22,13 +22,13 @@ abbrev pub place : IndexDepth → ℕ → ℕ → ℕ
 place depth byte t = byte / 2 ^ (8 - bits depth * (t + 1)) % 2 ^ bits depth
 
 -- how many bytes a row of a number of indices takes
-abbrev pub row_bytes : IndexDepth → ℕ → ℕ
-row_bytes depth count = (count + (places depth - 1)) / places depth
+abbrev pub row_size : IndexDepth → ℕ → ℕ
+row_size depth count = (count + (places depth - 1)) / places depth
 
 -- the places of the bytes hold the indices in order; those that are left over in the last byte hold
 -- 0
 pub record ArePacked (depth : IndexDepth) (indices bytes : List ℕ) : Type 0 where
-  pub many : length bytes ≡ row_bytes depth (length indices)
+  pub many : length bytes ≡ row_size depth (length indices)
   pub each : (j t : ℕ) → j < length bytes → t < places depth → place depth (slice_index bytes j) t ≡ slice_index indices (j * places depth + t)
 
 -- each index is what its place holds
@@ -39,8 +39,8 @@ pub record AreUnpacked (depth : IndexDepth) (bytes indices : List ℕ) : Type 0 
 -- index takes more bits; or none, where it is packed
 abbrev pub pack_fault : IndexDepth → List ℕ → ℕ → Option RowFault
 pack_fault depth indices len =
-    if nat_eq len (row_bytes depth (length indices)) then (if all_below (2 ^ bits depth) indices then None else Some Index) else Some Length
+    if nat_eq len (row_size depth (length indices)) then (if all_below (2 ^ bits depth) indices then None else Some Index) else Some Length
 
 -- why a number of bytes is not unpacked: the row takes another number; or none
 abbrev pub unpack_fault : IndexDepth → ℕ → ℕ → Option RowFault
-unpack_fault depth len count = if nat_eq len (row_bytes depth count) then None else Some Length
+unpack_fault depth len count = if nat_eq len (row_size depth count) then None else Some Length

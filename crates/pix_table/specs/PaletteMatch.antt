@@ -1,7 +1,7 @@
 -- The match of a color among the entries of a table. A color is the list of its numbers: red, green
 -- and blue.
 use Rattle.std.specs.Prelude.{◌≡◌, ◌≢◌, ℕ, ◌+◌, ◌-◌, ◌<◌, Bool, true, false, not, ◌&&◌, nat_le, List, [], ◌∷◌, length, slice_index, slice_index_or}
-use Rattle.pix_table.specs.From.{same_color}
+use Rattle.pix_table.specs.Quantization.{same_color}
 
 -- how far apart two numbers are
 abbrev pub apart : ℕ → ℕ → ℕ

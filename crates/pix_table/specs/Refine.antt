@@ -4,7 +4,7 @@ use Rattle.std.specs.Prelude.{◌⊎◌, ◌≡◌, ℕ, zero, suc, ◌<◌, ◌
 use Rattle.std.specs.List.{flat_map}
 use Rattle.pix_table.specs.Nearest.{distance, IsNearestBy}
 use Rattle.pix_table.specs.Cut.{mean, IsCutTable}
-use Rattle.pix_table.specs.From.{distinct}
+use Rattle.pix_table.specs.Quantization.{distinct}
 
 -- the colors of each entry, in any order: those to which it is the nearest, the first of equals
 pub record AreGroupsBy (apart : List ℕ → List ℕ → ℕ) (entries colors : List (List ℕ)) (groups : List (List (List ℕ))) : Type 0 where
@@ -58,8 +58,8 @@ squared_error entries colors = squared_error_by distance entries colors
 -- the table of a list of colors after so many rounds, of at most so many entries: its distinct colors,
 -- where there is room for them, and else that of the cuts, refined, whose squared error is no greater
 -- than it was
-abbrev pub IsRefinedTableFrom : (rounds room : ℕ) → (colors table : List (List ℕ)) → Type 0
-IsRefinedTableFrom rounds room colors table =
+abbrev pub IsQuantizedRefined : (rounds room : ℕ) → (colors table : List (List ℕ)) → Type 0
+IsQuantizedRefined rounds room colors table =
     ((length (distinct colors) ≤ room) × (table ≡ distinct colors))
     ⊎ ((room < length (distinct colors)) × (first : List (List ℕ)) × IsCutTable room colors first
     × AreRounds rounds colors first table × (squared_error table colors ≤ squared_error first colors))

@@ -3,7 +3,7 @@ use Rattle.std.specs.Prelude.{ℕ, min, List, [], ◌∷◌, map}
 use Rattle.pix_table.specs.Nearest.{IsNearestBy}
 use Rattle.pix_table.specs.Seen.{seen, seen_distance}
 use Rattle.pix_table.specs.Diffusion.{IsWayThrough}
-use Rattle.pix_table.specs.declared.diffuse.DiffusionWay.{DiffusionWay}
+use Rattle.pix_table.specs.declared.diffuse.ScanOrder.{ScanOrder}
 
 -- the color of a number for each channel, of which none is above the alpha
 abbrev pub seen_of_channels : (ℕ → ℕ) → List ℕ
@@ -11,7 +11,7 @@ seen_of_channels number = min (number 3) (number 0) ∷ min (number 3) (number 1
 
 -- the indices of all pixels by error diffusion, as they and the entries are seen. A pixel with the alpha 0
 -- has the entry that is nearest to it, and hands on no error
-pub record AreSeenDiffused (way : DiffusionWay) (strength width : ℕ) (entries pixels : List (List ℕ)) (indices : List ℕ) : Type 0 where
+pub record AreSeenDiffused (scan : ScanOrder) (strength width : ℕ) (entries pixels : List (List ℕ)) (indices : List ℕ) : Type 0 where
   pub clear : ℕ
   pub nearest : IsNearestBy seen_distance (map seen entries) (0 ∷ 0 ∷ 0 ∷ 0 ∷ []) clear
-  pub diffused : IsWayThrough seen_of_channels seen_distance way strength (map seen entries) 1 clear width (map seen pixels) indices
+  pub diffused : IsWayThrough seen_of_channels seen_distance scan strength (map seen entries) 1 clear width (map seen pixels) indices

@@ -1,7 +1,7 @@
 -- A table of colors with an alpha, made of the pixels of a picture.
 use Rattle.std.specs.Prelude.{◌⊎◌, ◌≡◌, ℕ, ◌<◌, ◌≤◌, Bool, List, [], ◌∷◌, ◌&&◌, length, map, slice_index, sum_by, nat_eq, nat_le, if◌then◌else◌}
 use Rattle.pix_table.specs.Nearest.{alpha_of}
-use Rattle.pix_table.specs.From.{distinct_by, same_color}
+use Rattle.pix_table.specs.Quantization.{distinct_by, same_color}
 use Rattle.pix_table.specs.Refine.{AreRoundsBy, squared_error_by}
 use Rattle.pix_table.specs.Seen.{seen, seen_distance, straight}
 use Rattle.pix_table.specs.SeenCut.{IsSeenCutTable, seen_mean}
@@ -39,8 +39,8 @@ IsSeenTable rounds room colors table =
 
 -- the table of some pixels: the distinct ones, where there is room for them, and else the pixels that
 -- are seen as the table of what they are seen as
-abbrev pub IsRgbaTableFrom : (rounds room : ℕ) → (pixels table : List (List ℕ)) → Type 0
-IsRgbaTableFrom rounds room pixels table =
+abbrev pub IsQuantizedRgba : (rounds room : ℕ) → (pixels table : List (List ℕ)) → Type 0
+IsQuantizedRgba rounds room pixels table =
     ((length (distinct_pixels pixels) ≤ room) × (table ≡ distinct_pixels pixels))
     ⊎ ((room < length (distinct_pixels pixels)) × (colors : List (List ℕ)) × IsSeenTable rounds room (map seen pixels) colors
     × (table ≡ map straight colors))

@@ -1,13 +1,13 @@
 -- Blocks of the entries of a small table. No clause of a public call cites this file.
 use Rattle.std.specs.Prelude.{◌≡◌, ℕ, ◌*◌, ◌<◌, ◌≤◌, List, length, slice_index_or}
 use Rattle.pix_table.specs.ColorBlocks.{IsBlock}
-use Rattle.pix_table.specs.Spans.{Covers}
-use Rattle.pix_table.specs.Kept.{AreRight}
+use Rattle.pix_table.specs.BlockBounds.{Covers}
+use Rattle.pix_table.specs.ColorCache.{AreRight}
 use Rattle.pix_table.specs.Setting.{Always}
-use Rattle.pix_table.specs.declared.block_spans.BlockSpans.{BlockSpans}
+use Rattle.pix_table.specs.declared.block_bounds.BlockBounds.{BlockBounds}
 use Rattle.pix_table.specs.declared.color_block.ColorBlock.{ColorBlock}
 use Rattle.pix_table.specs.declared.table_blocks.TableBlocks.{TableBlocks}
-use Rattle.pix_table.specs.declared.table_blocks.Beside.{Beside}
+use Rattle.pix_table.specs.declared.table_blocks.TableCache.{TableCache}
 
 -- blocks of the first entries, with their spans
 pub record HasBlocks (entries : List (List ℕ)) (has : TableBlocks) : Type 0 where
@@ -15,9 +15,9 @@ pub record HasBlocks (entries : List (List ℕ)) (has : TableBlocks) : Type 0 wh
   pub long : length has.blocks ≡ 16
   pub one : length has.spans ≡ 1
   pub blocks : (k : ℕ) (d : ColorBlock) → k < has.len → IsBlock entries (16 * k) (slice_index_or has.blocks k d)
-  pub spans : (k : ℕ) (d : ColorBlock) (s : BlockSpans) → k < has.len → Covers (slice_index_or has.spans 0 s) k (slice_index_or has.blocks k d)
+  pub spans : (k : ℕ) (d : ColorBlock) (s : BlockBounds) → k < has.len → Covers (slice_index_or has.spans 0 s) k (slice_index_or has.blocks k d)
 
 -- what is kept beside a table is right for it
-pub record IsBeside (threshold : List ℕ) (entries : List (List ℕ)) (beside : Beside) : Type 0 where
-  pub right : AreRight (Always threshold) entries beside.cache.kept
+pub record IsTableCache (threshold : List ℕ) (entries : List (List ℕ)) (beside : TableCache) : Type 0 where
+  pub right : AreRight (Always threshold) entries beside.cache.cached
   pub blocks : HasBlocks entries beside.blocks

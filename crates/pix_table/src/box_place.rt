@@ -5,7 +5,7 @@
 //! size.
 ghost use Rattle.std.specs.Prelude.{◌≡◌, ◌<◌, ◌≤◌, ◌+◌, ℕ, List, true};
 ghost use Rattle.pix_table.specs.Nearest.{distance, numbers};
-ghost use Rattle.pix_table.specs.Boxes.{IsInside, IsLow, end, low_at, reach_at};
+ghost use Rattle.pix_table.specs.InverseMap.{IsInside, IsLow, end, low_at, reach_at};
 
 use crate::color::Color;
 use crate::search::distance;

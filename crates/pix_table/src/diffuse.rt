@@ -1,43 +1,45 @@
 //! Error diffusion by Floyd and Steinberg, in whole numbers.
 ghost use Rattle.std.specs.Prelude.{◌≡◌, ℕ, ◌+◌, ◌-◌, ◌*◌, ◌%◌, ◌^◌, ◌<◌, ◌≤◌, List, [], length, map, true, slice_index_or, MatchOption};
 ghost use Rattle.pix_table.specs.Diffusion.{AreDiffusedBy, IsWayThrough, in_picture, is_back};
-ghost use Rattle.pix_table.specs.Done.{AreLatest, AreNear, IsMiss, IsMissAbove};
-ghost use Rattle.pix_table.specs.declared.diffuse.DiffusionWay.{DiffusionWay};
-ghost use Rattle.pix_table.specs.declared.diffuse.DiffusionWay.TheVariants.{Serpentine, Straight};
+ghost use Rattle.pix_table.specs.Done.{AreLatest, AreNeighborErrors, IsColorError, IsColorErrorAbove};
+ghost use Rattle.pix_table.specs.declared.diffuse.ScanOrder.{ScanOrder};
+ghost use Rattle.pix_table.specs.declared.diffuse.ScanOrder.TheVariants.{Serpentine, LeftToRight};
 
 use crate::color::{Color, TableColor, TablePixel};
+use crate::diffused_color::{
+    ColorError, DiffusedColor, FindsNearest, NO_ERROR, NeighborErrors, ShownAs,
+};
 use crate::matcher::visit_nearest;
 use crate::nearest_search::{NearestSearch, SearchVisitor};
-use crate::spread::{FindsNearest, Miss, NO_MISS, Near, ShownAs, Spread};
 
 /// How the pixels of a picture are indexed by error diffusion.
 #[derive(Clone, Copy, Debug, PartialEq, Eq)]
 pub struct Diffusion {
     /// How many pixels a row has: at least one.
     pub width: usize,
-    /// Pixels whose alpha is below this get the index `kept`, and hand on no error.
+    /// Pixels whose alpha is below this get the index `transparent_index`, and hand on no error.
     pub alpha: u8,
     /// The index of those pixels.
-    pub kept: u8,
+    pub transparent_index: u8,
     /// How many sixteenths of the errors are handed on: at most 16.
     pub strength: u8,
     /// In which order the pixels of a row are taken.
-    pub way: DiffusionWay,
+    pub scan: ScanOrder,
 }
 
 /// A way through the rows of a picture, which are taken from above.
 #[derive(Clone, Copy, Debug, PartialEq, Eq)]
-pub enum DiffusionWay {
+pub enum ScanOrder {
     /// Each row from left to right.
-    Straight,
+    LeftToRight,
     /// The first row from left to right, the second from right to left, and so on in turn. In a row
     /// from right to left the shares are mirrored too.
     Serpentine,
 }
 
-/// Returns how many colors of work memory [`diffuse_pixels`] takes for rows of this many pixels,
+/// Returns how many colors of work memory [`diffuse_indexed`] takes for rows of this many pixels,
 /// which are those of four rows. Returns `None` where that is more than a `usize` can count.
-pub fn diffusion_work(width: usize) -> Option<usize>
+pub fn diffuse_indexed_work(width: usize) -> Option<usize>
     ensures { MatchOption result (2 ^ 64 ≤ 4 * width) (λ count. count ≡ 4 * width) }
 {
     width.checked_mul(4)
@@ -54,7 +56,7 @@ pub fn diffusion_work(width: usize) -> Option<usize>
 /// Condition: there is at least one entry and at most 256, a row has a pixel, at most 16 sixteenths
 /// are handed on, there are as many indices as pixels, and `work` has four rows of colors. In the
 /// serpentine way the rows are whole.
-pub fn diffuse_pixels<C: TableColor, P: TablePixel>(
+pub fn diffuse_indexed<C: TableColor, P: TablePixel>(
     entries: &[C],
     pixels: &[P],
     how: Diffusion,
@@ -65,10 +67,10 @@ pub fn diffuse_pixels<C: TableColor, P: TablePixel>(
     requires few_entries { length entries.now ≤ 256 }
     requires row { 0 < how.width }
     requires strength { how.strength ≤ 16 }
-    requires whole { how.way ≡ Serpentine → length pixels.now % how.width ≡ 0 }
+    requires whole { how.scan ≡ Serpentine → length pixels.now % how.width ≡ 0 }
     requires work { length work.old ≡ 4 * how.width }
     requires many { length indices.old ≡ length pixels.now }
-    ensures { AreDiffusedBy how.way how.strength (map C.channels entries.now) how.alpha how.kept
+    ensures { AreDiffusedBy how.scan how.strength (map C.channels entries.now) how.alpha how.transparent_index
         how.width (map P.values pixels.now) indices.new }
 {
     let diffusing = Diffusing {
@@ -90,14 +92,14 @@ struct Diffusing<'a, C, P> {
 impl<C: TableColor, P: TablePixel> SearchVisitor<u8> for Diffusing<'_, C, P> {
     ghost can_visit = { λ diffusing entries count work. (0 < diffusing.how.width)
         × (diffusing.how.strength ≤ 16)
-        × (diffusing.how.way ≡ Serpentine
+        × (diffusing.how.scan ≡ Serpentine
         → length diffusing.pixels.now % diffusing.how.width ≡ 0)
         × (entries ≡ map C.channels diffusing.entries.now)
         × (work ≡ 4 * diffusing.how.width) × (count ≡ length diffusing.pixels.now) };
 
     ghost visits = { λ diffusing entries old new. entries ≡ map C.channels diffusing.entries.now
-        → AreDiffusedBy diffusing.how.way diffusing.how.strength entries diffusing.how.alpha
-        diffusing.how.kept diffusing.how.width (map P.values diffusing.pixels.now) new };
+        → AreDiffusedBy diffusing.how.scan diffusing.how.strength entries diffusing.how.alpha
+        diffusing.how.transparent_index diffusing.how.width (map P.values diffusing.pixels.now) new };
 
     // Out of line. Where it is inlined, a matcher is put together on the stack beside its place.
     #[inline(never)]
@@ -131,11 +133,11 @@ impl<C: TableColor, P: TablePixel> SearchVisitor<u8> for Diffusing<'_, C, P> {
 
 /// Returns whether whole errors are handed on, from left to right in each row.
 fn is_plain(how: Diffusion) -> bool
-    ensures { result ≡ true → (how.strength ≡ 16) × (how.way ≡ Straight) }
+    ensures { result ≡ true → (how.strength ≡ 16) × (how.scan ≡ LeftToRight) }
 {
-    match how.way {
-        DiffusionWay::Straight => how.strength == 16,
-        DiffusionWay::Serpentine => false,
+    match how.scan {
+        ScanOrder::LeftToRight => how.strength == 16,
+        ScanOrder::Serpentine => false,
     }
 }
 
@@ -143,12 +145,12 @@ fn is_plain(how: Diffusion) -> bool
 #[inline(always)]
 fn as_plain(how: Diffusion) -> Diffusion
     requires strength { how.strength ≡ 16 }
-    requires way { how.way ≡ Straight }
+    requires scan { how.scan ≡ LeftToRight }
     ensures { result ≡ how }
 {
     Diffusion {
         strength: 16,
-        way: DiffusionWay::Straight,
+        scan: ScanOrder::LeftToRight,
         ..how
     }
 }
@@ -165,26 +167,26 @@ pub(crate) fn diffuse_all<S, N, C, P>(
     indices: &mut [u8],
 )
 where
-    S: Spread,
+    S: DiffusedColor,
     N: FindsNearest<S>,
     C: ShownAs<S>,
     P: TablePixel,
     requires row { 0 < how.width }
     requires strength { how.strength ≤ 16 }
-    requires whole { how.way ≡ Serpentine → length pixels.now % how.width ≡ 0 }
+    requires whole { how.scan ≡ Serpentine → length pixels.now % how.width ≡ 0 }
     requires wanted { length wanted.old ≡ how.width }
     requires found { length found.old ≡ how.width }
     requires many { length indices.old ≡ length pixels.now }
     requires entries { N.among search.old (map C.shown entries.now) }
-    ensures { IsWayThrough S.of_channels S.apart how.way how.strength (map C.shown entries.now)
-        how.alpha how.kept how.width (map (λ pixel. S.given (P.values pixel)) pixels.now)
+    ensures { IsWayThrough S.of_channels S.apart how.scan how.strength (map C.shown entries.now)
+        how.alpha how.transparent_index how.width (map (λ pixel. S.given (P.values pixel)) pixels.now)
         indices.new }
 {
     let black = S::none();
-    let mut near = Near {
-        left: NO_MISS,
-        left_above: NO_MISS,
-        above: NO_MISS,
+    let mut near = NeighborErrors {
+        left: NO_ERROR,
+        left_above: NO_ERROR,
+        above: NO_ERROR,
     };
     let mut column = 0;
     let mut back = false;
@@ -193,9 +195,9 @@ where
         let around = begun(near, wanted, found, how, k, column);
         let right_above = right_above(wanted, found, how, k, column);
         let clear = pixels[at].alpha() < how.alpha;
-        let mut left = NO_MISS;
+        let mut left = NO_ERROR;
         if clear {
-            indices[at] = how.kept;
+            indices[at] = how.transparent_index;
             wanted[column] = black;
             found[column] = black;
         } else {
@@ -207,7 +209,7 @@ where
             found[column] = entry;
             left = color.missed(entry);
         }
-        near = Near {
+        near = NeighborErrors {
             left,
             left_above: around.above,
             above: right_above,
@@ -222,9 +224,9 @@ where
 fn place_of(how: Diffusion, back: bool, k: usize, column: usize) -> usize
     requires row { 0 < how.width }
     requires column { column ≡ k % how.width }
-    requires back { back ≡ is_back how.way how.width k }
-    requires few { in_picture how.way how.width k < 2 ^ 64 }
-    ensures { result ≡ in_picture how.way how.width k }
+    requires back { back ≡ is_back how.scan how.width k }
+    requires few { in_picture how.scan how.width k < 2 ^ 64 }
+    ensures { result ≡ in_picture how.scan how.width k }
 {
     if back {
         k - column + (how.width - (column + 1))
@@ -236,51 +238,51 @@ fn place_of(how: Diffusion, back: bool, k: usize, column: usize) -> usize
 /// Returns the misses around pixel `k`. At the start of a row they are those of the row above, and
 /// else those in `near`.
 #[inline(always)]
-fn begun<S: Spread>(
-    near: Near,
+fn begun<S: DiffusedColor>(
+    near: NeighborErrors,
     wanted: &[S],
     found: &[S],
     how: Diffusion,
     k: usize,
     column: usize,
-) -> Near
+) -> NeighborErrors
     requires row { 0 < how.width }
     requires column { column ≡ k % how.width }
     requires wanted { length wanted.now ≡ how.width }
     requires found { length found.now ≡ how.width }
     ensures { (ws gs : List (List ℕ))
-        → AreLatest how.way ws how.width (k - column) column (map S.spread wanted.now)
-        → AreLatest how.way gs how.width (k - column) column (map S.spread found.now)
-        → (0 < column → AreNear how.way ws gs how.width (k - column) column near)
-        → AreNear how.way ws gs how.width (k - column) column result }
+        → AreLatest how.scan ws how.width (k - column) column (map S.spread wanted.now)
+        → AreLatest how.scan gs how.width (k - column) column (map S.spread found.now)
+        → (0 < column → AreNeighborErrors how.scan ws gs how.width (k - column) column near)
+        → AreNeighborErrors how.scan ws gs how.width (k - column) column result }
 {
     if column > 0 {
         return near;
     }
-    Near {
-        left: NO_MISS,
-        left_above: NO_MISS,
+    NeighborErrors {
+        left: NO_ERROR,
+        left_above: NO_ERROR,
         above: missed_at(wanted, found, how.width <= k, column),
     }
 }
 
 /// Returns the miss of the pixel above the next one.
 #[inline(always)]
-fn right_above<S: Spread>(
+fn right_above<S: DiffusedColor>(
     wanted: &[S],
     found: &[S],
     how: Diffusion,
     k: usize,
     column: usize,
-) -> Miss
+) -> ColorError
     requires row { 0 < how.width }
     requires column { column ≡ k % how.width }
     requires wanted { length wanted.now ≡ how.width }
     requires found { length found.now ≡ how.width }
     ensures { (ws gs : List (List ℕ))
-        → AreLatest how.way ws how.width (k - column) column (map S.spread wanted.now)
-        → AreLatest how.way gs how.width (k - column) column (map S.spread found.now)
-        → IsMissAbove how.way ws gs how.width (k - column) column result }
+        → AreLatest how.scan ws how.width (k - column) column (map S.spread wanted.now)
+        → AreLatest how.scan gs how.width (k - column) column (map S.spread found.now)
+        → IsColorErrorAbove how.scan ws gs how.width (k - column) column result }
 {
     let above = how.width <= k;
     let there = column + 1 < how.width && above;
@@ -289,16 +291,16 @@ fn right_above<S: Spread>(
 
 /// Returns the miss of the pixel whose colors are kept at a place, if there is one.
 #[inline(always)]
-fn missed_at<S: Spread>(wanted: &[S], found: &[S], there: bool, at: usize) -> Miss
+fn missed_at<S: DiffusedColor>(wanted: &[S], found: &[S], there: bool, at: usize) -> ColorError
     requires wanted { at < length wanted.now }
     requires found { at < length found.now }
-    ensures { IsMiss there (slice_index_or (map S.spread wanted.now) at [])
+    ensures { IsColorError there (slice_index_or (map S.spread wanted.now) at [])
         (slice_index_or (map S.spread found.now) at []) result }
 {
     if there {
         wanted[at].missed(found[at])
     } else {
-        NO_MISS
+        NO_ERROR
     }
 }
 
@@ -315,7 +317,7 @@ fn next_place(place: usize, len: usize) -> usize
 /// Returns whether the next pixel is in a row from right to left. Where a row begins that goes the
 /// other way than the one before it, the colors of that one are put in the new order.
 #[inline(always)]
-fn turned<S: Spread>(
+fn turned<S: DiffusedColor>(
     how: Diffusion,
     back: bool,
     k: usize,
@@ -325,25 +327,25 @@ fn turned<S: Spread>(
 ) -> bool
     requires row { 0 < how.width }
     requires next { next ≡ (k + 1) % how.width }
-    requires back { back ≡ is_back how.way how.width k }
+    requires back { back ≡ is_back how.scan how.width k }
     requires wanted { length wanted.old ≡ how.width }
     requires found { length found.old ≡ how.width }
-    ensures back { result ≡ is_back how.way how.width (k + 1) }
+    ensures back { result ≡ is_back how.scan how.width (k + 1) }
     ensures long_wanted { length wanted.new ≡ how.width }
     ensures long_found { length found.new ≡ how.width }
-    ensures wanted { (ws : List (List ℕ)) → AreLatest how.way ws how.width (k - k % how.width)
-        (k % how.width + 1) (map S.spread wanted.old) → AreLatest how.way ws how.width
+    ensures wanted { (ws : List (List ℕ)) → AreLatest how.scan ws how.width (k - k % how.width)
+        (k % how.width + 1) (map S.spread wanted.old) → AreLatest how.scan ws how.width
         (k + 1 - next) next (map S.spread wanted.new) }
-    ensures found { (gs : List (List ℕ)) → AreLatest how.way gs how.width (k - k % how.width)
-        (k % how.width + 1) (map S.spread found.old) → AreLatest how.way gs how.width
+    ensures found { (gs : List (List ℕ)) → AreLatest how.scan gs how.width (k - k % how.width)
+        (k % how.width + 1) (map S.spread found.old) → AreLatest how.scan gs how.width
         (k + 1 - next) next (map S.spread found.new) }
 {
     if next > 0 {
         return back;
     }
-    match how.way {
-        DiffusionWay::Straight => false,
-        DiffusionWay::Serpentine => {
+    match how.scan {
+        ScanOrder::LeftToRight => false,
+        ScanOrder::Serpentine => {
             wanted.reverse();
             found.reverse();
             !back
@@ -365,7 +367,7 @@ mod tests {
     }
 
     /// Returns the indices of three rows of grays, to black and white.
-    fn indices(strength: u8, way: DiffusionWay) -> [u8; 9]
+    fn indices(strength: u8, scan: ScanOrder) -> [u8; 9]
         requires { strength ≤ 16 }
     {
         let pixels = [
@@ -382,31 +384,31 @@ mod tests {
         let how = Diffusion {
             width: 3,
             alpha: 0,
-            kept: 0,
+            transparent_index: 0,
             strength,
-            way,
+            scan,
         };
         let mut indices = [9; 9];
         let mut work = [Color::default(); 12];
-        diffuse_pixels(&[gray(0), gray(255)], &pixels, how, &mut work, &mut indices);
+        diffuse_indexed(&[gray(0), gray(255)], &pixels, how, &mut work, &mut indices);
         indices
     }
 
     #[test]
     fn hands_errors_on(rt: HostRuntime) {
-        let whole = indices(16, DiffusionWay::Straight);
+        let whole = indices(16, ScanOrder::LeftToRight);
         assert_eq!(rt; whole, [1, 0, 0, 0, 0, 1, 1, 0, 0]);
-        let half = indices(8, DiffusionWay::Straight);
+        let half = indices(8, ScanOrder::LeftToRight);
         assert_eq!(rt; half, [1, 0, 0, 0, 0, 0, 0, 1, 0]);
-        let none = indices(0, DiffusionWay::Straight);
+        let none = indices(0, ScanOrder::LeftToRight);
         assert_eq!(rt; none, [1, 0, 0, 0, 0, 0, 0, 0, 1]);
     }
 
     #[test]
     fn turns_at_each_row(rt: HostRuntime) {
-        let whole = indices(16, DiffusionWay::Serpentine);
+        let whole = indices(16, ScanOrder::Serpentine);
         assert_eq!(rt; whole, [1, 0, 0, 0, 1, 0, 0, 0, 1]);
-        let half = indices(8, DiffusionWay::Serpentine);
+        let half = indices(8, ScanOrder::Serpentine);
         assert_eq!(rt; half, [1, 0, 0, 0, 0, 0, 0, 1, 1]);
     }
 }

@@ -4,7 +4,7 @@ ghost use Rattle.std.specs.Prelude.{◌≤◌, ◌<◌};
 use crate::chosen::{Chosen, ENTRIES};
 use crate::color::{Color, TableColor};
 use crate::color_block::{ColorBlock, SIZE};
-use crate::kept::first_place;
+use crate::color_cache::first_place;
 use crate::lanes::nearest_lane;
 
 /// The number of blocks of sixteen entries.

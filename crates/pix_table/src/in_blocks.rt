@@ -4,10 +4,10 @@ ghost use Rattle.pix_table.specs.ColorBlocks.{AreBlocks, IsBest, IsFar};
 ghost use Rattle.pix_table.specs.Nearest.{numbers};
 ghost use Rattle.pix_table.specs.PaletteMatch.{IsMatch, difference_to};
 ghost use Rattle.pix_table.specs.Setting.{Always, StandsFor};
-ghost use Rattle.pix_table.specs.Spans.{AreFarBefore, AreSpans};
+ghost use Rattle.pix_table.specs.BlockBounds.{AreFarBefore, AreBlockBounds};
 ghost use Rattle.pix_table.specs.declared.color_block.ColorBlock.{ColorBlock};
 
-use crate::block_spans::{BlockSpans, reach};
+use crate::block_bounds::{BlockBounds, reach};
 use crate::color::{Color, TableColor};
 use crate::color_block::{ColorBlock, SIZE};
 use crate::threshold::{closest_between, closest_of_one, is_within};
@@ -52,13 +52,13 @@ fn first_near(blocks: &[ColorBlock], bits: u64, clr: Color, least: Color) -> Opt
 /// Returns the first block from `start` on that has a color no farther from a color than a
 /// difference in any channel, or how many blocks there are.
 fn next_near(
-    spans: &[BlockSpans],
+    spans: &[BlockBounds],
     blocks: &[ColorBlock],
     start: usize,
     clr: Color,
     least: Color,
 ) -> usize
-    requires spans { AreSpans blocks.now spans.now }
+    requires spans { AreBlockBounds blocks.now spans.now }
     requires start { start ≤ length blocks.now }
     requires few { 16 * length blocks.now < 18446744073709551616 }
     ensures order { start ≤ result }
@@ -92,7 +92,7 @@ pub fn cells_near(difference: Color) -> usize {
 /// of entries, and stops early where less than `few` cells are as near. Condition: there is an
 /// entry.
 pub fn closest_first<C: TableColor>(
-    spans: &[BlockSpans],
+    spans: &[BlockBounds],
     blocks: &[ColorBlock],
     colors: &[C],
     clr: Color,
@@ -100,7 +100,7 @@ pub fn closest_first<C: TableColor>(
 ) -> Closest
     requires some { 0 < length colors.now }
     requires blocks { AreBlocks (map C.channels colors.now) blocks.now }
-    requires spans { AreSpans blocks.now spans.now }
+    requires spans { AreBlockBounds blocks.now spans.now }
     ensures best { IsBest (map C.channels colors.now) (numbers clr) result.count result.at
         (numbers result.least) }
     ensures within { result.count ≤ length colors.now }
@@ -126,14 +126,14 @@ pub fn closest_first<C: TableColor>(
 /// Returns the match of a color, with its difference, found with blocks of the first entries.
 /// Condition: there is an entry.
 fn closest_in<C: TableColor>(
-    spans: &[BlockSpans],
+    spans: &[BlockBounds],
     blocks: &[ColorBlock],
     colors: &[C],
     clr: Color,
 ) -> (usize, Color)
     requires some { 0 < length colors.now }
     requires blocks { AreBlocks (map C.channels colors.now) blocks.now }
-    requires spans { AreSpans blocks.now spans.now }
+    requires spans { AreBlockBounds blocks.now spans.now }
     ensures found { IsMatch (map C.channels colors.now) (numbers clr) result.0 }
     ensures difference { numbers result.1 ≡
         difference_to (map C.channels colors.now) (numbers clr) result.0 }
@@ -152,14 +152,14 @@ fn closest_in<C: TableColor>(
 /// Returns the entry that stands for a color, as [`standing`](crate::standing) does. It uses blocks
 /// of the first entries and their spans.
 pub fn standing_in<C: TableColor>(
-    spans: &[BlockSpans],
+    spans: &[BlockBounds],
     blocks: &[ColorBlock],
     colors: &[C],
     clr: Color,
     threshold: Color,
 ) -> Option<usize>
     requires blocks { AreBlocks (map C.channels colors.now) blocks.now }
-    requires spans { AreSpans blocks.now spans.now }
+    requires spans { AreBlockBounds blocks.now spans.now }
     ensures { StandsFor (Always (numbers threshold)) (map C.channels colors.now) (numbers clr)
         result }
 {

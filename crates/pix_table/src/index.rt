@@ -6,8 +6,8 @@ ghost use Rattle.pix_table.specs.Indexing.{AreSet, IsStopped};
 ghost use Rattle.pix_table.specs.declared.color.Color.{Color};
 
 use crate::color::Color;
-use crate::set::set_kept;
-use crate::table_blocks::Beside;
+use crate::set::set_cached;
+use crate::table_blocks::TableCache;
 
 /// The maximum number of slots.
 const SLOTS: usize = 256;
@@ -75,10 +75,10 @@ fn set_pixels(
     ensures many { length indices.new ≡ length indices.old }
     ensures within { result.1 ≤ length slots.new }
 {
-    let mut beside = Beside::new();
+    let mut beside = TableCache::new();
     let mut used = len;
     for i in 0..pixels.len() {
-        let (answer, now) = set_kept(slots, used, &mut beside, pixels[i], threshold);
+        let (answer, now) = set_cached(slots, used, &mut beside, pixels[i], threshold);
         used = now;
         match answer {
             Some(index) if index <= 255 => {

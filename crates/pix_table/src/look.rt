@@ -35,7 +35,7 @@ pub fn look_up<C: Copy>(entries: &[C], indices: &[u8], colors: &mut [C]) -> bool
 
 /// Sets the count of each number to how often it stands among the indices. Returns whether each
 /// index has a count, and changes nothing where one has none.
-pub fn count(indices: &[u8], counts: &mut [usize]) -> bool
+pub fn count_indices(indices: &[u8], counts: &mut [usize]) -> bool
     ensures inside { result ≡ all_below (length counts.old) indices.now }
     ensures counted { result ≡ true → AreCounted (length counts.old) indices.now counts.new }
     ensures unchanged { result ≡ false → counts.new ≡ counts.old }

@@ -1,13 +1,13 @@
 //! The nearest entries of many colors, one after the other.
 ghost use Rattle.std.specs.Prelude.{◌≡◌, ◌<◌, ◌≤◌, ℕ, List, length, map, take};
 ghost use Rattle.pix_table.specs.Nearest.{IsMatched, AreMatched, numbers};
-ghost use Rattle.pix_table.specs.Boxes.{AreWords};
+ghost use Rattle.pix_table.specs.InverseMap.{AreWords};
 ghost use Rattle.pix_table.specs.EntryLanes.{AreLanes};
 
-use crate::boxes::{BOXES, Boxes, CREDIT, LISTS, NONE, RATE, nearest_of};
 use crate::chosen::ENTRIES;
 use crate::color::{Color, TableColor, TablePixel};
 use crate::entry_lanes::EntryLanes;
+use crate::inverse_map::{BOXES, CREDIT, InverseMap, LISTS, NONE, RATE, nearest_of};
 use crate::nearest_search::{NearestSearch, SearchVisitor};
 use crate::word::word_of;
 use std::marker::Model;
@@ -43,13 +43,13 @@ struct Matcher {
     words: [u32; ENTRIES],
     len: usize,
     lanes: EntryLanes,
-    boxes: Boxes,
+    boxes: InverseMap,
 }
 
 impl Model for Matcher {
     ghost use Rattle.std.specs.Prelude.{List, ℕ, length, map, take, ◌≡◌, ◌<◌, ◌≤◌};
     ghost use Rattle.pix_table.specs.Nearest.{numbers};
-    ghost use Rattle.pix_table.specs.Boxes.{AreBoxes, AreWords};
+    ghost use Rattle.pix_table.specs.InverseMap.{IsInverseMap, AreWords};
     ghost use Rattle.pix_table.specs.EntryLanes.{AreLanes};
 
     ghost Value = { List (List ℕ) };
@@ -59,7 +59,7 @@ impl Model for Matcher {
     ghost invariant = { λ m. (0 < m.len) × (m.len ≤ 256) × (length m.entries ≡ 256)
         × AreWords (map numbers (take m.len m.entries)) m.words
         × AreLanes (map numbers (take m.len m.entries)) m.lanes
-        × AreBoxes (map numbers (take m.len m.entries)) m.boxes };
+        × IsInverseMap (map numbers (take m.len m.entries)) m.boxes };
 }
 
 impl NearestSearch for Matcher {
@@ -141,7 +141,7 @@ fn visit_many<C: TableColor, T, V: SearchVisitor<T>>(
 {
     let mut distinct = lanes.distinct(colors);
     if distinct.len > FEW_ENTRIES {
-        visit_listed(colors, distinct, visitor, items, work);
+        visit_with_lists(colors, distinct, visitor, items, work);
     } else {
         visitor.visit(&mut distinct, items, work);
     }
@@ -150,7 +150,7 @@ fn visit_many<C: TableColor, T, V: SearchVisitor<T>>(
 /// Does it with lists.
 // Out of line, so that no other call has its 215 kilobytes on the stack.
 #[inline(never)]
-fn visit_listed<C: TableColor, T, V: SearchVisitor<T>>(
+fn visit_with_lists<C: TableColor, T, V: SearchVisitor<T>>(
     colors: &[C],
     lanes: EntryLanes,
     visitor: &V,
@@ -172,7 +172,7 @@ fn visit_listed<C: TableColor, T, V: SearchVisitor<T>>(
         words,
         len,
         lanes,
-        boxes: Boxes {
+        boxes: InverseMap {
             known: [NONE; BOXES],
             lists: [0; LISTS],
             used: 0,
@@ -184,26 +184,31 @@ fn visit_listed<C: TableColor, T, V: SearchVisitor<T>>(
     visitor.visit(&mut matcher, items, work);
 }
 
-/// Pixels that are matched to entries. A pixel whose alpha is below `alpha` gets the index `kept`,
+/// Pixels that are matched to entries. A pixel whose alpha is below `alpha` gets the index `transparent_index`,
 /// and any other gets that of its nearest entry.
 #[derive(Drop)]
 struct Matching<'a, P> {
     pixels: &'a [P],
     alpha: u8,
-    kept: u8,
+    transparent_index: u8,
 }
 
-/// Returns the index of a pixel: `kept` where its alpha is below `alpha`, and else that of the
+/// Returns the index of a pixel: `transparent_index` where its alpha is below `alpha`, and else that of the
 /// nearest entry.
 #[inline(always)]
-fn matched<N: NearestSearch, P: TablePixel>(search: &mut N, pixel: P, alpha: u8, kept: u8) -> u8
+fn matched<N: NearestSearch, P: TablePixel>(
+    search: &mut N,
+    pixel: P,
+    alpha: u8,
+    transparent_index: u8,
+) -> u8
     ensures matched { (entries : List (List ℕ)) → N.finds search.old entries
-        → IsMatched entries alpha kept (P.values pixel) result }
+        → IsMatched entries alpha transparent_index (P.values pixel) result }
     ensures same { (entries : List (List ℕ)) → N.finds search.old entries
         → N.finds search.new entries }
 {
     if pixel.alpha() < alpha {
-        return kept;
+        return transparent_index;
     }
     search.nearest_entry(pixel.rgb())
 }
@@ -212,39 +217,39 @@ impl<P: TablePixel> SearchVisitor<u8> for Matching<'_, P> {
     ghost can_visit = { λ matching entries count work. count ≡ length matching.pixels.now };
 
     ghost visits = { λ matching entries old new.
-        AreMatched entries matching.alpha matching.kept (map P.values matching.pixels.now) new };
+        AreMatched entries matching.alpha matching.transparent_index (map P.values matching.pixels.now) new };
 
     // Out of line: where it is inlined, a matcher is put together on the stack beside its place.
     #[inline(never)]
     fn visit<N: NearestSearch>(&self, search: &mut N, items: &mut [u8], _work: &mut [Color]) {
         for i in 0..items.len() {
-            items[i] = matched(search, self.pixels[i], self.alpha, self.kept);
+            items[i] = matched(search, self.pixels[i], self.alpha, self.transparent_index);
         }
     }
 }
 
-/// Sets the index of each pixel: to `kept` where the pixel's alpha is below `alpha`, and else to
+/// Sets the index of each pixel: to `transparent_index` where the pixel's alpha is below `alpha`, and else to
 /// that of the nearest entry, the first of equals.
 ///
 /// Condition: the table has at least one and at most 256 entries, and there are as many indices as
 /// pixels.
-pub fn match_pixels<C: TableColor, P: TablePixel>(
+pub fn map_indexed<C: TableColor, P: TablePixel>(
     colors: &[C],
     pixels: &[P],
     alpha: u8,
-    kept: u8,
+    transparent_index: u8,
     indices: &mut [u8],
 )
     requires some { 0 < length colors.now }
     requires few { length colors.now ≤ 256 }
     requires many { length indices.old ≡ length pixels.now }
-    ensures { AreMatched (map C.channels colors.now) alpha kept (map P.values pixels.now)
+    ensures { AreMatched (map C.channels colors.now) alpha transparent_index (map P.values pixels.now)
         indices.new }
 {
     let matching = Matching {
         pixels,
         alpha,
-        kept,
+        transparent_index,
     };
     visit_nearest(colors, &matching, pixels.len(), indices, &mut []);
 }

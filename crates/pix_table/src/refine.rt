@@ -7,9 +7,9 @@ ghost use Rattle.pix_table.specs.Groups.{AreGrouped};
 use crate::box_sums::Sums;
 use crate::chosen::ENTRIES;
 use crate::color::Color;
-use crate::from::same;
 use crate::matcher::visit_nearest;
 use crate::nearest_search::{NearestSearch, SearchVisitor};
+use crate::quantization::same;
 
 /// Moves the entries by `rounds` rounds. In each, every color goes to its nearest entry, the first
 /// of equals, and every entry to the mean of its colors. An entry without colors stays.

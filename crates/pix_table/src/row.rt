@@ -1,7 +1,7 @@
 //! Indices of 1, 2, 4 or 8 bits in the bytes of a row, most significant first.
 ghost use Rattle.std.specs.Prelude.{◌≡◌, ℕ, ◌+◌, ◌^◌, ◌<◌, ◌≤◌, ◌%◌, List, length, slice_index, Some, None, MatchResult, IfOk, IfErr, true};
 ghost use Rattle.pix_table.specs.LookUp.{all_below};
-ghost use Rattle.pix_table.specs.Packing.{bits, places, place, row_bytes, pack_fault, unpack_fault};
+ghost use Rattle.pix_table.specs.Packing.{bits, places, place, row_size, pack_fault, unpack_fault};
 ghost use Rattle.pix_table.specs.Packing.{ArePacked, AreUnpacked};
 ghost use Rattle.pix_table.specs.declared.row.IndexDepth.TheVariants.{One, Two, Four};
 
@@ -58,8 +58,8 @@ impl IndexDepth {
     }
 
     /// Returns how many bytes a row of this many indices takes.
-    pub fn row_bytes(self, count: usize) -> usize
-        ensures { result ≡ row_bytes self count }
+    pub fn row_size(self, count: usize) -> usize
+        ensures { result ≡ row_size self count }
     {
         count.div_ceil(self.places())
     }
@@ -93,7 +93,7 @@ pub fn pack_row(depth: IndexDepth, indices: &[u8], bytes: &mut [u8]) -> Result<(
     ensures packed { IfOk result (λ _. ArePacked depth indices.now bytes.new) }
     ensures unchanged { IfErr result (λ _. bytes.new ≡ bytes.old) }
 {
-    if bytes.len() != depth.row_bytes(indices.len()) {
+    if bytes.len() != depth.row_size(indices.len()) {
         return Err(RowFault::Length);
     }
     if !are_below(depth.numbers(), indices) {
@@ -122,7 +122,7 @@ pub fn unpack_row(depth: IndexDepth, bytes: &[u8], indices: &mut [u8]) -> Result
         → length row ≡ length indices.new → indices.new ≡ row) }
     ensures unchanged { IfErr result (λ _. indices.new ≡ indices.old) }
 {
-    if bytes.len() != depth.row_bytes(indices.len()) {
+    if bytes.len() != depth.row_size(indices.len()) {
         return Err(RowFault::Length);
     }
     let places = depth.places();

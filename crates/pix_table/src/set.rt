@@ -3,10 +3,10 @@
 ghost use Rattle.std.specs.Prelude.{◌≡◌, ◌≤◌, length, map, take};
 ghost use Rattle.pix_table.specs.Nearest.{numbers};
 ghost use Rattle.pix_table.specs.Setting.{Always, IsSet, StandsFor};
-ghost use Rattle.pix_table.specs.TableBlocks.{IsBeside};
+ghost use Rattle.pix_table.specs.TableBlocks.{IsTableCache};
 
 use crate::color::{Color, TableColor};
-use crate::table_blocks::Beside;
+use crate::table_blocks::TableCache;
 use crate::threshold::standing;
 
 /// Sets a color among the first `len` of `slots`. Returns the answer, and the number of entries
@@ -63,19 +63,19 @@ fn set_by<C: TableColor>(
 
 /// Sets a color as [`set_entry`] does, with what is cached beside the table. A cached color takes
 /// no search. Any other color is searched in blocks of the entries.
-pub fn set_kept<C: TableColor>(
+pub fn set_cached<C: TableColor>(
     slots: &mut [C],
     len: usize,
-    beside: &mut Beside,
+    beside: &mut TableCache,
     clr: C,
     threshold: Color,
 ) -> (Option<usize>, usize)
     requires within { len ≤ length slots.old }
-    requires right { IsBeside (numbers threshold) (map C.channels (take len slots.old))
+    requires right { IsTableCache (numbers threshold) (map C.channels (take len slots.old))
         beside.old }
     ensures set { IsSet C.channels (Always (numbers threshold)) (length slots.old)
         (take len slots.old) clr result.0 (take result.1 slots.new) }
-    ensures right { IsBeside (numbers threshold)
+    ensures right { IsTableCache (numbers threshold)
         (map C.channels (take result.1 slots.new)) beside.new }
     ensures room { length slots.new ≡ length slots.old }
     ensures before { take len slots.new ≡ take len slots.old }

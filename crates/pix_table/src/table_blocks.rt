@@ -3,15 +3,15 @@ ghost use Rattle.std.specs.Prelude.{◌≡◌, ◌≤◌, ◌<◌, ◌+◌, ◌*
 ghost use Rattle.pix_table.specs.Nearest.{numbers};
 ghost use Rattle.pix_table.specs.ColorBlocks.{IsBlock};
 ghost use Rattle.pix_table.specs.Setting.{Always, StandsFor};
-ghost use Rattle.pix_table.specs.Kept.{AreRight};
-ghost use Rattle.pix_table.specs.TableBlocks.{HasBlocks, IsBeside};
+ghost use Rattle.pix_table.specs.ColorCache.{AreRight};
+ghost use Rattle.pix_table.specs.TableBlocks.{HasBlocks, IsTableCache};
 
-use crate::block_spans::BlockSpans;
+use crate::block_bounds::BlockBounds;
 use crate::chosen::ENTRIES;
 use crate::color::{Color, TableColor};
 use crate::color_block::{ColorBlock, SIZE};
+use crate::color_cache::Cache;
 use crate::in_blocks::standing_in;
-use crate::kept::Cache;
 use crate::threshold::standing;
 
 /// The least number of entries with which blocks save more time than they take.
@@ -23,7 +23,7 @@ const BLOCKS: usize = 16;
 /// Blocks of the first entries of a table, up to 256 of them, and the spans of those blocks.
 #[derive(Drop)]
 pub struct TableBlocks {
-    pub(crate) spans: [BlockSpans; 1],
+    pub(crate) spans: [BlockBounds; 1],
     pub(crate) blocks: [ColorBlock; BLOCKS],
     pub(crate) len: usize,
 }
@@ -31,7 +31,7 @@ pub struct TableBlocks {
 /// What is cached beside a table while colors are set in it: colors with the entries that stand for
 /// them, and blocks of the entries.
 #[derive(Drop)]
-pub struct Beside {
+pub struct TableCache {
     pub(crate) cache: Cache,
     pub(crate) blocks: TableBlocks,
 }
@@ -42,7 +42,7 @@ impl TableBlocks {
         ensures { (entries : List (List ℕ)) → HasBlocks entries result }
     {
         TableBlocks {
-            spans: [BlockSpans::new()],
+            spans: [BlockBounds::new()],
             blocks: [ColorBlock::black(); BLOCKS],
             len: 0,
         }
@@ -99,13 +99,13 @@ impl TableBlocks {
     }
 }
 
-impl Beside {
+impl TableCache {
     /// Makes an empty cache beside a table.
-    pub fn new() -> Beside
+    pub fn new() -> TableCache
         ensures { (threshold : List ℕ) (entries : List (List ℕ))
-            → IsBeside threshold entries result }
+            → IsTableCache threshold entries result }
     {
-        Beside {
+        TableCache {
             cache: Cache::new(),
             blocks: TableBlocks::new(),
         }

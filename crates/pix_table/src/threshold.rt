@@ -7,7 +7,7 @@ ghost use Rattle.pix_table.specs.PaletteMatch.{IsMatch, color_difference, differ
 ghost use Rattle.pix_table.specs.Setting.{Always, StandsFor};
 
 use crate::color::{Color, TableColor};
-use crate::from::same;
+use crate::quantization::same;
 use pix_chan::chan::Ch8;
 use pix_el::el::Pix;
 use pix_el::rgb::{Rgb, SRgb8};

@@ -1,10 +1,10 @@
 //! Entries as numbers. Each number has the color and the index of an entry.
 ghost use Rattle.std.specs.Prelude.{◌≡◌, ◌<◌, ◌≤◌, ◌+◌, ◌%◌, ℕ, List, min, length, slice_index};
 ghost use Rattle.pix_table.specs.Nearest.{IsNearest, numbers};
-ghost use Rattle.pix_table.specs.Boxes.{AreEnough, AreWords, word_color, word_key};
+ghost use Rattle.pix_table.specs.InverseMap.{AreEnough, AreWords, word_color, word_key};
 
-use crate::boxes::Known;
 use crate::color::Color;
+use crate::inverse_map::ShortList;
 use crate::search::distance;
 
 /// Returns a color and an index as one number.
@@ -60,7 +60,7 @@ fn least_of_four(words: &[u32], lists: &[u8], at: usize, clr: Color) -> u32
 /// Returns the nearest of the listed entries. They are looked at in fours, so up to three entries
 /// after the list are looked at too.
 #[inline(always)]
-pub fn nearest_listed(words: &[u32], lists: &[u8], known: Known, clr: Color) -> u8
+pub fn nearest_in_list(words: &[u32], lists: &[u8], known: ShortList, clr: Color) -> u8
     requires words { length words.now ≡ 256 }
     requires some { 0 < known.count }
     requires room { known.start + known.count + 3 ≤ length lists.now }

@@ -2,10 +2,10 @@
 use crate::rgbas;
 use pix::chan::{Ch8, Ch16, Channel, Premultiplied};
 use pix::gray::Gray8;
-use pix::lent::Shape;
 use pix::matte::{Matte8, Matte16};
 use pix::ops::Op;
 use pix::rgb::{Rgb8, Rgba8p, Rgba16p, SRgb8, SRgba8};
+use pix::view::Shape;
 use pix::{Command, Raster, RasterFault, Region};
 use pix_uses::bounds::{beside_default, shown};
 use pix_uses::bytes::tint_bytes;

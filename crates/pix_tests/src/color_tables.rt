@@ -48,7 +48,7 @@ fn nearest_entries_and_back(rt: HostRuntime) -> Result<(), Fail> {
 
 /// A table of at most three colors of a picture, refined by so many rounds.
 fn refined(alloc: Global, picture: &Raster<SRgba8>, rounds: u8) -> Result<ColorTable, Fail> {
-    match ColorTable::from_raster_refined(alloc, picture, 3, 0, rounds)? {
+    match ColorTable::quantize_refined(alloc, picture, 3, 0, rounds)? {
         None => Err(Fail::from(RasterFault::Memory)),
         Some(table) => Ok(table),
     }
@@ -67,14 +67,14 @@ fn refined_tables(rt: HostRuntime) -> Result<(), Fail> {
     assert_colors(&rt, once.colors(), &[0, 83, 175].map(gray));
     let often = refined(rt.alloc(), &picture, 255)?;
     assert_colors(&rt, often.colors(), once.colors());
-    assert!(rt; ColorTable::from_raster_refined(rt.alloc(), &picture, 0, 0, 1)?.is_none());
-    assert!(rt; ColorTable::from_raster_refined(rt.alloc(), &picture, 257, 0, 1)?.is_none());
+    assert!(rt; ColorTable::quantize_refined(rt.alloc(), &picture, 0, 0, 1)?.is_none());
+    assert!(rt; ColorTable::quantize_refined(rt.alloc(), &picture, 257, 0, 1)?.is_none());
     Ok(())
 }
 
 /// A table of at most so many of the colors that aren't below the alpha 128.
 fn counted(alloc: Global, picture: &Raster<SRgba8>, limit: usize) -> Result<ColorTable, Fail> {
-    match ColorTable::from_raster(alloc, picture, limit, 128)? {
+    match ColorTable::quantize(alloc, picture, limit, 128)? {
         None => Err(Fail::from(RasterFault::Memory)),
         Some(table) => Ok(table),
     }
@@ -85,8 +85,8 @@ fn tables_of_a_picture(rt: HostRuntime) -> Result<(), Fail> {
     let values = [(10, 128), (20, 128), (30, 128), (40, 127)];
     let values = values.map(|(value, alpha): (u8, u8)| srgba([value, value, value, alpha]));
     let shades = picture(rt.alloc(), 4, 1, &values)?;
-    assert!(rt; ColorTable::from_raster(rt.alloc(), &shades, 0, 128)?.is_none());
-    assert!(rt; ColorTable::from_raster(rt.alloc(), &shades, 257, 128)?.is_none());
+    assert!(rt; ColorTable::quantize(rt.alloc(), &shades, 0, 128)?.is_none());
+    assert!(rt; ColorTable::quantize(rt.alloc(), &shades, 257, 128)?.is_none());
 
     // Three colors count: they are the table, and no color leaves an error.
     let exact = counted(rt.alloc(), &shades, 3)?;
@@ -109,7 +109,7 @@ fn tables_of_a_picture(rt: HostRuntime) -> Result<(), Fail> {
     let none = picture(rt.alloc(), 0, 3, &[])?;
     let indices = means.diffuse_indexed(rt.alloc(), &none, 0, 0)?;
     assert_image(&rt, indices, &[]);
-    let Some(empty) = ColorTable::from_raster(rt.alloc(), &none, 2, 0)? else {
+    let Some(empty) = ColorTable::quantize(rt.alloc(), &none, 2, 0)? else {
         return Err(Fail::from(RasterFault::Memory));
     };
     assert!(rt; empty.is_empty());

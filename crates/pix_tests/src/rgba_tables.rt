@@ -2,7 +2,7 @@
 use crate::indices::{assert_image, assert_indices, assert_pixels, picture, single, srgba};
 use pix::el::Pixel;
 use pix::rgb::{SRgb8, SRgba8};
-use pix::{ColorTable, DiffusionWay, Raster, RasterFault, RgbaTable};
+use pix::{ColorTable, Raster, RasterFault, RgbaTable, ScanOrder};
 use std::alloc::Global;
 use std::test::Fail;
 
@@ -13,7 +13,7 @@ fn table(
     limit: usize,
     rounds: u8,
 ) -> Result<RgbaTable, Fail> {
-    match RgbaTable::from_raster(alloc, picture, limit, rounds)? {
+    match RgbaTable::quantize(alloc, picture, limit, rounds)? {
         None => Err(Fail::from(RasterFault::Memory)),
         Some(table) => Ok(table),
     }
@@ -57,8 +57,7 @@ fn opaque_pictures_have_the_usual_table(rt: HostRuntime) -> Result<(), Fail> {
     }
     let picture = picture(rt.alloc(), 64, 1, &pixels)?;
     for rounds in [0, 1, 4] {
-        let Some(usual) = ColorTable::from_raster_refined(rt.alloc(), &picture, 7, 0, rounds)?
-        else {
+        let Some(usual) = ColorTable::quantize_refined(rt.alloc(), &picture, 7, 0, rounds)? else {
             return Err(Fail::from(RasterFault::Memory));
         };
         let colors = table(rt.alloc(), &picture, 7, rounds)?;
@@ -73,8 +72,8 @@ fn opaque_pictures_have_the_usual_table(rt: HostRuntime) -> Result<(), Fail> {
 #[test]
 fn limits_of_tables_with_alpha(rt: HostRuntime) -> Result<(), Fail> {
     let picture = picture(rt.alloc(), 1, 1, &[srgba([1, 2, 3, 4])])?;
-    assert!(rt; RgbaTable::from_raster(rt.alloc(), &picture, 0, 0)?.is_none());
-    assert!(rt; RgbaTable::from_raster(rt.alloc(), &picture, 257, 0)?.is_none());
+    assert!(rt; RgbaTable::quantize(rt.alloc(), &picture, 0, 0)?.is_none());
+    assert!(rt; RgbaTable::quantize(rt.alloc(), &picture, 257, 0)?.is_none());
     let none = RgbaTable::with_colors(rt.alloc(), &[])?;
     assert!(rt; none.is_empty());
     assert!(rt; none.map_indexed(rt.alloc(), &picture)?.is_none());
@@ -92,14 +91,14 @@ fn clear_pixels_hand_on_nothing(rt: HostRuntime) -> Result<(), Fail> {
     let colors = RgbaTable::with_colors(rt.alloc(), &[srgba([0, 0, 0, 255]), srgba([255; 4])])?;
     // Clear is as far from black as from white. What is lost at the first gray doesn't reach the
     // second one.
-    for way in [DiffusionWay::Straight, DiffusionWay::Serpentine] {
-        let indices = colors.diffuse_indexed(rt.alloc(), &shades, 16, way)?;
+    for scan in [ScanOrder::LeftToRight, ScanOrder::Serpentine] {
+        let indices = colors.diffuse_indexed(rt.alloc(), &shades, 16, scan)?;
         assert_image(&rt, indices, &[0; 4]);
     }
-    let none = colors.diffuse_indexed(rt.alloc(), &shades, 17, DiffusionWay::Straight)?;
+    let none = colors.diffuse_indexed(rt.alloc(), &shades, 17, ScanOrder::LeftToRight)?;
     assert!(rt; none.is_none());
     let empty = picture(rt.alloc(), 0, 3, &[])?;
-    let made = colors.diffuse_indexed(rt.alloc(), &empty, 16, DiffusionWay::Serpentine)?;
+    let made = colors.diffuse_indexed(rt.alloc(), &empty, 16, ScanOrder::Serpentine)?;
     assert!(rt; made.is_some_and(|image| image.pixels().is_empty() && image.height() == 3));
     Ok(())
 }
@@ -111,21 +110,14 @@ fn strengths_and_ways(rt: HostRuntime) -> Result<(), Fail> {
     table.set_entry(SRgb8::new(0u8, 0, 0));
     table.set_entry(SRgb8::new(255u8, 255, 255));
     let usual = table.diffuse_indexed(rt.alloc(), &picture, 0, 0)?;
-    let whole = table.diffuse_indexed_by(rt.alloc(), &picture, 0, 0, 16, DiffusionWay::Straight)?;
-    let nothing = table.diffuse_indexed_by(
-        rt.alloc(),
-        &picture,
-        0,
-        0,
-        0,
-        DiffusionWay::Serpentine,
-    )?;
+    let whole = table.diffuse_indexed_by(rt.alloc(), &picture, 0, 0, 16, ScanOrder::LeftToRight)?;
+    let nothing = table.diffuse_indexed_by(rt.alloc(), &picture, 0, 0, 0, ScanOrder::Serpentine)?;
     let (Some(usual), Some(whole)) = (usual, whole) else {
         return Err(Fail::from(RasterFault::Memory));
     };
     assert!(rt; usual.pixels() == whole.pixels());
     assert_image(&rt, nothing, &[0; 8]);
-    let none = table.diffuse_indexed_by(rt.alloc(), &picture, 0, 0, 17, DiffusionWay::Straight)?;
+    let none = table.diffuse_indexed_by(rt.alloc(), &picture, 0, 0, 17, ScanOrder::LeftToRight)?;
     assert!(rt; none.is_none());
     Ok(())
 }

@@ -2,7 +2,7 @@
 ghost use Rattle.std.specs.Prelude.{◌≡◌, ◌<◌, ℕ, [], ◌∷◌, length, map, slice_index_or, IfOk, IfErr, IfSome};
 ghost use Rattle.pix.specs.ColorTable.{entries_of, IsMadeOf};
 ghost use Rattle.pix.specs.Diffusion.{AreDiffused};
-ghost use Rattle.pix.specs.From.{shown};
+ghost use Rattle.pix.specs.Quantization.{shown};
 ghost use Rattle.pix.specs.Indexing.{colors_of, shades_of, values};
 ghost use Rattle.pix.specs.Palette.{numbers};
 ghost use Rattle.pix.specs.PaletteMatch.{color_difference};
@@ -87,7 +87,7 @@ pub fn table_and_indices(
         (values ⟦<Gray8 as Pixel>⟧.numbers made.1.pixels))) }
     ensures memory { IfErr result (λ fault. fault ≡ RasterFault.Memory) }
 {
-    let Some(table) = ColorTable::from_raster(alloc, picture, 255, 128)? else {
+    let Some(table) = ColorTable::quantize(alloc, picture, 255, 128)? else {
         return Ok(None);
     };
     match table.diffuse_indexed(alloc, picture, 128, 255)? {

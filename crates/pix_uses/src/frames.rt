@@ -1,9 +1,9 @@
 //! Frames: pixels of a layout of the program's own, in memory that the program owns.
 ghost use Rattle.std.specs.Prelude.{◌≡◌, ◌∷◌, [], List, ℕ, length, ⊤};
-ghost use Rattle.pix.specs.Lent.{IsShaped, ChangedIn, where_covered};
+ghost use Rattle.pix.specs.View.{IsShaped, ChangedIn, where_covered};
 
 use pix::Region;
-use pix::lent::{Fill, Shape, fill_region};
+use pix::view::{Fill, Shape, fill_region};
 
 /// Sets words to one word.
 #[derive(Clone, Copy)]

@@ -1,7 +1,7 @@
 //! Lists of commands.
 ghost use Rattle.std.specs.Prelude.{◌≡◌, ◌+◌, ◌<◌, ◌≤◌, ℕ, pos, true, [], ◌∷◌, length, All};
 ghost use Rattle.pix_ops.specs.declared.ops.Op.{Op};
-ghost use Rattle.pix_ops.specs.ExactRun.{exact_run, AreWithin, IsUnmatted, IsListed};
+ghost use Rattle.pix_ops.specs.ExactRun.{exact_run, AreWithin, IsUnmatted, HasConstantSource};
 ghost use Rattle.pix.specs.Image.{point};
 ghost use Rattle.pix.specs.Region.{covers, limit};
 ghost use Rattle.pix.specs.Run.{Composited};
@@ -17,7 +17,7 @@ use pix::{Command, Raster, Region};
 /// Draws a list of commands.
 pub fn draw(picture: &mut Raster<Rgba8p>, commands: &[Command<'_, Rgba8p, Matte8>])
     ensures { OfEachChannel rgba8 numbers mattes commands.now picture.old picture.new
-        (λ start effects made. All IsUnmatted effects → All IsListed effects
+        (λ start effects made. All IsUnmatted effects → All HasConstantSource effects
         → AreWithin (length effects) (length effects) made (exact_run 255 start effects)) }
 {
     picture.run(commands);

@@ -20,9 +20,9 @@
 //!
 //! | KiB | calls |
 //! |--:|---|
-//! | 256 | `pix_table_refined`, `pix_table_match`, `pix_table_diffuse`, `pix_table_diffuse_by`, and all four with `_alpha` |
-//! | 96 | `pix_table_from`, `pix_table_from_alpha`, `pix_table_rgba_from` |
-//! | 32 | `pix_table_index`, `pix_table_rgba_match`, `pix_table_rgba_diffuse` |
+//! | 256 | `pix_raw_quantize_refined`, `pix_raw_map_indexed`, `pix_raw_diffuse_indexed`, `pix_raw_diffuse_indexed_by`, and all four with `_alpha` |
+//! | 96 | `pix_raw_quantize`, `pix_raw_quantize_alpha`, `pix_raw_quantize_rgba` |
+//! | 32 | `pix_raw_index_pixels`, `pix_raw_map_indexed_rgba`, `pix_raw_diffuse_indexed_rgba` |
 //! | 16 | all others |
 //!
 //! Threads of `std` have 2 MiB.
@@ -219,7 +219,7 @@ unsafe extern "C" {
     /// # Safety
     ///
     /// The [duties](crate#duties) are met.
-    pub fn pix_run_commands(
+    pub fn pix_raw_run(
         pixels: *mut Rgba8,
         pixel_count: usize,
         width: u32,
@@ -235,7 +235,7 @@ unsafe extern "C" {
     /// # Safety
     ///
     /// The [duties](crate#duties) are met.
-    pub fn pix_run_commands_rgba16(
+    pub fn pix_raw_run_rgba16(
         pixels: *mut Rgba16,
         pixel_count: usize,
         width: u32,
@@ -251,7 +251,7 @@ unsafe extern "C" {
     /// # Safety
     ///
     /// The [duties](crate#duties) are met.
-    pub fn pix_run_commands_graya8(
+    pub fn pix_raw_run_graya8(
         pixels: *mut Graya8,
         pixel_count: usize,
         width: u32,
@@ -267,7 +267,7 @@ unsafe extern "C" {
     /// # Safety
     ///
     /// The [duties](crate#duties) are met.
-    pub fn pix_run_window(
+    pub fn pix_raw_run_window(
         pixels: *mut Rgba8,
         pixel_count: usize,
         left: u32,
@@ -285,7 +285,7 @@ unsafe extern "C" {
     /// # Safety
     ///
     /// The [duties](crate#duties) are met.
-    pub fn pix_run_window_rgba16(
+    pub fn pix_raw_run_window_rgba16(
         pixels: *mut Rgba16,
         pixel_count: usize,
         left: u32,
@@ -303,7 +303,7 @@ unsafe extern "C" {
     /// # Safety
     ///
     /// The [duties](crate#duties) are met.
-    pub fn pix_run_window_graya8(
+    pub fn pix_raw_run_window_graya8(
         pixels: *mut Graya8,
         pixel_count: usize,
         left: u32,
@@ -321,7 +321,7 @@ unsafe extern "C" {
     /// # Safety
     ///
     /// The [duties](crate#duties) are met.
-    pub fn pix_convert_bytes(
+    pub fn pix_raw_convert(
         from: u32,
         to: u32,
         src: *const u8,
@@ -337,7 +337,7 @@ unsafe extern "C" {
     /// # Safety
     ///
     /// The [duties](crate#duties) are met.
-    pub fn pix_convert_rows(
+    pub fn pix_raw_convert_bitmap(
         from: u32,
         to: u32,
         src: *const u8,
@@ -351,7 +351,7 @@ unsafe extern "C" {
     ) -> u32;
 
     /// How many bytes a pixel of a format has, and 0 where there is no such format.
-    pub safe fn pix_pixel_size(format: u32) -> u32;
+    pub safe fn pix_raw_format_size(format: u32) -> u32;
 
     /// Fact number `index` of the library: its version, and then the sizes and offsets of [`FACTS`]. `u32::MAX` where
     /// there are no more.

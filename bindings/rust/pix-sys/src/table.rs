@@ -8,7 +8,7 @@ unsafe extern "C" {
     /// # Safety
     ///
     /// The [duties](crate#duties) are met.
-    pub fn pix_table_nearest(
+    pub fn pix_raw_nearest(
         entries: *const Srgb8,
         len: usize,
         color: *const Srgb8,
@@ -20,7 +20,7 @@ unsafe extern "C" {
     /// # Safety
     ///
     /// The [duties](crate#duties) are met.
-    pub fn pix_table_match(
+    pub fn pix_raw_map_indexed(
         entries: *const Srgb8,
         len: usize,
         pixels: *const Srgb8,
@@ -29,18 +29,18 @@ unsafe extern "C" {
         index_count: usize,
     ) -> u32;
 
-    /// The same of pixels with an alpha: one below `alpha` has the index `kept`.
+    /// The same of pixels with an alpha: one below `alpha` has the index `transparent_index`.
     ///
     /// # Safety
     ///
     /// The [duties](crate#duties) are met.
-    pub fn pix_table_match_alpha(
+    pub fn pix_raw_map_indexed_alpha(
         entries: *const Srgb8,
         len: usize,
         pixels: *const Srgba8,
         pixel_count: usize,
         alpha: u8,
-        kept: u8,
+        transparent_index: u8,
         indices: *mut u8,
         index_count: usize,
     ) -> u32;
@@ -50,7 +50,7 @@ unsafe extern "C" {
     /// # Safety
     ///
     /// The [duties](crate#duties) are met.
-    pub fn pix_table_from(
+    pub fn pix_raw_quantize(
         pixels: *const Srgb8,
         pixel_count: usize,
         work: *mut Srgb8,
@@ -65,7 +65,7 @@ unsafe extern "C" {
     /// # Safety
     ///
     /// The [duties](crate#duties) are met.
-    pub fn pix_table_from_alpha(
+    pub fn pix_raw_quantize_alpha(
         pixels: *const Srgba8,
         pixel_count: usize,
         alpha: u8,
@@ -76,12 +76,12 @@ unsafe extern "C" {
         made: *mut usize,
     ) -> u32;
 
-    /// Writes what `pix_table_from` does, refined by so many rounds.
+    /// Writes what `pix_raw_quantize` does, refined by so many rounds.
     ///
     /// # Safety
     ///
     /// The [duties](crate#duties) are met.
-    pub fn pix_table_refined(
+    pub fn pix_raw_quantize_refined(
         pixels: *const Srgb8,
         pixel_count: usize,
         rounds: u8,
@@ -97,7 +97,7 @@ unsafe extern "C" {
     /// # Safety
     ///
     /// The [duties](crate#duties) are met.
-    pub fn pix_table_refined_alpha(
+    pub fn pix_raw_quantize_refined_alpha(
         pixels: *const Srgba8,
         pixel_count: usize,
         alpha: u8,
@@ -114,7 +114,7 @@ unsafe extern "C" {
     /// # Safety
     ///
     /// The [duties](crate#duties) are met.
-    pub fn pix_table_diffuse(
+    pub fn pix_raw_diffuse_indexed(
         entries: *const Srgb8,
         len: usize,
         pixels: *const Srgb8,
@@ -126,19 +126,19 @@ unsafe extern "C" {
         index_count: usize,
     ) -> u32;
 
-    /// The same of pixels with an alpha: one below `alpha` has the index `kept`, and hands on no error.
+    /// The same of pixels with an alpha: one below `alpha` has the index `transparent_index`, and hands on no error.
     ///
     /// # Safety
     ///
     /// The [duties](crate#duties) are met.
-    pub fn pix_table_diffuse_alpha(
+    pub fn pix_raw_diffuse_indexed_alpha(
         entries: *const Srgb8,
         len: usize,
         pixels: *const Srgba8,
         pixel_count: usize,
         width: usize,
         alpha: u8,
-        kept: u8,
+        transparent_index: u8,
         work: *mut Srgb8,
         work_len: usize,
         indices: *mut u8,
@@ -150,7 +150,7 @@ unsafe extern "C" {
     /// # Safety
     ///
     /// The [duties](crate#duties) are met.
-    pub fn pix_table_diffuse_by(
+    pub fn pix_raw_diffuse_indexed_by(
         entries: *const Srgb8,
         len: usize,
         pixels: *const Srgb8,
@@ -169,14 +169,14 @@ unsafe extern "C" {
     /// # Safety
     ///
     /// The [duties](crate#duties) are met.
-    pub fn pix_table_diffuse_by_alpha(
+    pub fn pix_raw_diffuse_indexed_by_alpha(
         entries: *const Srgb8,
         len: usize,
         pixels: *const Srgba8,
         pixel_count: usize,
         width: usize,
         alpha: u8,
-        kept: u8,
+        transparent_index: u8,
         strength: u8,
         serpentine: u8,
         work: *mut Srgb8,
@@ -190,7 +190,7 @@ unsafe extern "C" {
     /// # Safety
     ///
     /// The [duties](crate#duties) are met.
-    pub fn pix_table_index(
+    pub fn pix_raw_index_pixels(
         entries: *mut Srgb8,
         len: usize,
         used: *mut usize,
@@ -206,7 +206,7 @@ unsafe extern "C" {
     /// # Safety
     ///
     /// The [duties](crate#duties) are met.
-    pub fn pix_table_look_up(
+    pub fn pix_raw_look_up(
         entries: *const Srgb8,
         len: usize,
         indices: *const u8,
@@ -220,7 +220,7 @@ unsafe extern "C" {
     /// # Safety
     ///
     /// The [duties](crate#duties) are met.
-    pub fn pix_table_count(
+    pub fn pix_raw_count_indices(
         indices: *const u8,
         index_count: usize,
         counts: *mut usize,
@@ -232,7 +232,7 @@ unsafe extern "C" {
     /// # Safety
     ///
     /// The [duties](crate#duties) are met.
-    pub fn pix_table_pack(
+    pub fn pix_raw_pack_row(
         bits: u32,
         indices: *const u8,
         index_count: usize,
@@ -245,7 +245,7 @@ unsafe extern "C" {
     /// # Safety
     ///
     /// The [duties](crate#duties) are met.
-    pub fn pix_table_unpack(
+    pub fn pix_raw_unpack_row(
         bits: u32,
         bytes: *const u8,
         byte_count: usize,
@@ -258,7 +258,7 @@ unsafe extern "C" {
     /// # Safety
     ///
     /// The [duties](crate#duties) are met.
-    pub fn pix_table_rgba_from(
+    pub fn pix_raw_quantize_rgba(
         pixels: *const Srgba8,
         pixel_count: usize,
         rounds: u8,
@@ -274,7 +274,7 @@ unsafe extern "C" {
     /// # Safety
     ///
     /// The [duties](crate#duties) are met.
-    pub fn pix_table_rgba_match(
+    pub fn pix_raw_map_indexed_rgba(
         entries: *const Srgba8,
         len: usize,
         pixels: *const Srgba8,
@@ -283,12 +283,12 @@ unsafe extern "C" {
         index_count: usize,
     ) -> u32;
 
-    /// Writes the index of each pixel of rows of `width` by error diffusion, as `pix_table_diffuse_by` does.
+    /// Writes the index of each pixel of rows of `width` by error diffusion, as `pix_raw_diffuse_indexed_by` does.
     ///
     /// # Safety
     ///
     /// The [duties](crate#duties) are met.
-    pub fn pix_table_rgba_diffuse(
+    pub fn pix_raw_diffuse_indexed_rgba(
         entries: *const Srgba8,
         len: usize,
         pixels: *const Srgba8,
@@ -307,7 +307,7 @@ unsafe extern "C" {
     /// # Safety
     ///
     /// The [duties](crate#duties) are met.
-    pub fn pix_table_rgba_look_up(
+    pub fn pix_raw_look_up_rgba(
         entries: *const Srgba8,
         len: usize,
         indices: *const u8,

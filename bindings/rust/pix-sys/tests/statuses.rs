@@ -1,6 +1,6 @@
 //! Each status of these declarations, as the archive answers it, and the kinds by what they do.
 
-use pix_sys::{Command, Region, Rgba8, kind, pix_convert_bytes, pix_run_commands, status};
+use pix_sys::{Command, Region, Rgba8, kind, pix_raw_convert, pix_raw_run, status};
 
 const WHOLE: Region = Region::new(0, 0, 2, 1);
 
@@ -34,7 +34,7 @@ fn run(width: u32, command: Command<Rgba8, u8>) -> (u32, [u8; 2]) {
     let mut done = 0;
     // SAFETY: pointers and counts are those of an array, a command and the slices of `command`.
     let answer = unsafe {
-        pix_run_commands(
+        pix_raw_run(
             pixels.as_mut_ptr(),
             2,
             width,
@@ -51,7 +51,7 @@ fn run(width: u32, command: Command<Rgba8, u8>) -> (u32, [u8; 2]) {
 fn convert(from: u32, length: usize) -> u32 {
     let (src, mut dst) = ([0; 8], [0; 8]);
     // SAFETY: pointers and lengths are those of two arrays.
-    unsafe { pix_convert_bytes(from, 4, src.as_ptr(), length, dst.as_mut_ptr(), 8, 2) }
+    unsafe { pix_raw_convert(from, 4, src.as_ptr(), length, dst.as_mut_ptr(), 8, 2) }
 }
 
 #[test]

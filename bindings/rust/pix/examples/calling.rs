@@ -4,7 +4,7 @@
 #![forbid(unsafe_code)]
 
 use pix::{Bitmap, BitmapMut, Command, Error, Format, Image, ImageMut, Op, Pixel, Region};
-use pix::{Rgba8, Rgba16, Srgb8, Table};
+use pix::{Rgba8, Rgba16, Srgb8, ColorTable};
 use std::io::Write;
 
 /// The letter P as a mask: each digit is a ninth of full coverage.
@@ -85,11 +85,11 @@ fn glaze(photo: &mut [u8], width: u32, height: u32) -> Result<(), Error> {
     let mut light = vec![Rgba16::default(); (width * height) as usize];
     let mut image = ImageMut::new(&mut light, width, height);
     let bytes = Bitmap::new(photo, width, height, Format::SRgb8);
-    image.as_bitmap_mut().convert_from(bytes)?;
+    image.as_bitmap_mut().convert_bitmap(bytes)?;
     let band = Region::new(0, height as i32 / 3, width, height / 3);
     let half_white = Rgba16::of(Format::SRgba8, &[255, 255, 255, 128])?;
     image.run(&[Command::composite_color(band, half_white, Op::SrcOver)])?;
-    BitmapMut::new(photo, width, height, Format::SRgb8).convert_from(image.as_bitmap())
+    BitmapMut::new(photo, width, height, Format::SRgb8).convert_bitmap(image.as_bitmap())
 }
 
 /// Makes a table of at most 16 colors of a picture, and sets the index of each pixel in it.
@@ -98,9 +98,9 @@ fn index_picture<'a>(
     width: usize,
     room: &'a mut [Srgb8; 16],
     indices: &mut [u8],
-) -> Result<Table<'a>, Error> {
+) -> Result<ColorTable<'a>, Error> {
     let mut work = vec![Srgb8::default(); pixels.len()];
-    let table = Table::new(pix::make_table(pixels, &mut work, room)?)?;
+    let table = ColorTable::new(pix::quantize(pixels, &mut work, room)?)?;
     let mut work = vec![Srgb8::default(); 4 * width];
     table.diffuse_indexed(pixels, width, &mut work, indices)?;
     Ok(table)
@@ -113,7 +113,7 @@ fn draw_by_tiles(
 ) -> Result<(), Error> {
     let mut pixels = [Rgba8::default(); 32 * 18];
     for (left, top) in [(0, 0), (32, 0), (0, 18), (32, 18)] {
-        ImageMut::new(&mut pixels, 32, 18).run_in(left, top, commands)?;
+        ImageMut::new(&mut pixels, 32, 18).run_window(left, top, commands)?;
         let (place, all) = (
             Region::new(left as i32, top as i32, 32, 18),
             Region::new(0, 0, 32, 18),
@@ -133,7 +133,7 @@ fn write_ppm(name: &str, bytes: &[u8], width: u32, height: u32) -> std::io::Resu
 /// Encodes a picture of 64 by 36 pixels for a screen, and writes it as a PPM file.
 fn save(picture: &ImageMut<'_, Rgba8>, name: &str) -> Result<(), Box<dyn std::error::Error>> {
     let mut bytes = [0; 3 * 64 * 36];
-    BitmapMut::new(&mut bytes, 64, 36, Format::SRgb8).convert_from(picture.as_bitmap())?;
+    BitmapMut::new(&mut bytes, 64, 36, Format::SRgb8).convert_bitmap(picture.as_bitmap())?;
     Ok(write_ppm(name, &bytes, 64, 36)?)
 }
 

@@ -45,7 +45,7 @@ fn sun() -> Result<Vec<Rgba16>, Error> {
     let mut pixels = blank(SUN, SUN);
     ImageMut::new(&mut pixels, SUN, SUN)
         .as_bitmap_mut()
-        .convert_from(Bitmap::new(&sprite, SUN, SUN, Format::SRgba8))?;
+        .convert_bitmap(Bitmap::new(&sprite, SUN, SUN, Format::SRgba8))?;
     Ok(pixels)
 }
 
@@ -150,7 +150,7 @@ fn main() -> Result<(), Box<dyn std::error::Error>> {
     let pixels = picture()?;
     let mut encoded = vec![0; 3 * pixels.len()]; // it is opaque everywhere
     BitmapMut::new(&mut encoded, WIDTH, HEIGHT, Format::SRgb8)
-        .convert_from(Image::new(&pixels, WIDTH, HEIGHT).as_bitmap())?;
+        .convert_bitmap(Image::new(&pixels, WIDTH, HEIGHT).as_bitmap())?;
     let mut file = format!("P6\n{WIDTH} {HEIGHT}\n255\n").into_bytes();
     file.extend(encoded);
     std::fs::write(std::env::args().nth(1).unwrap_or("demo.ppm".into()), file)?;

@@ -93,11 +93,11 @@ impl<'a> BitmapMut<'a> {
     /// let photo = [188, 90, 7, 255, 3, 2, 1, 60]; // two pixels, as a file holds them
     /// let mut pixels = [Rgba16::default(); 2];
     /// let mut light = ImageMut::new(&mut pixels, 2, 1);
-    /// light.as_bitmap_mut().convert_from(Bitmap::new(&photo, 2, 1, Format::SRgba8))?;
+    /// light.as_bitmap_mut().convert_bitmap(Bitmap::new(&photo, 2, 1, Format::SRgba8))?;
     /// let red = Rgba16::new(20000, 0, 0, 20000);
     /// light.run(&[Command::composite_color(Region::new(0, 0, 1, 1), red, Op::SrcOver)])?;
     /// let mut shown = [0; 8];
-    /// BitmapMut::new(&mut shown, 2, 1, Format::SRgba8).convert_from(light.as_bitmap())?;
+    /// BitmapMut::new(&mut shown, 2, 1, Format::SRgba8).convert_bitmap(light.as_bitmap())?;
     /// assert_eq!(shown[4..], photo[4..]);
     /// # Ok::<(), pix::Error>(())
     /// ```
@@ -106,14 +106,14 @@ impl<'a> BitmapMut<'a> {
     ///
     /// `OtherSize` where the pictures have different sizes, `Size` where this one has a bad size or stride or too few bytes, and
     /// `Picture` where `src` has. The pixels are unchanged.
-    pub fn convert_from(&mut self, src: Bitmap<'_>) -> Result<(), Error> {
+    pub fn convert_bitmap(&mut self, src: Bitmap<'_>) -> Result<(), Error> {
         pix_sys::check_library()?;
         if (src.width, src.height) != (self.width, self.height) {
             return Err(Error::OtherSize);
         }
         // SAFETY: pointers and lengths are those of two slices, and the exclusive one shares no byte with the other.
         let answer = unsafe {
-            pix_sys::pix_convert_rows(
+            pix_sys::pix_raw_convert_bitmap(
                 src.format as u32,
                 self.format as u32,
                 src.bytes.as_ptr(),
@@ -179,7 +179,7 @@ impl<'a> BitmapMut<'a> {
                 let start = row * apart + first * to_size;
                 let target = &mut self.bytes[start..start + count * to_size];
                 let source = Bitmap::new(source, count as u32, 1, self.format);
-                BitmapMut::new(target, count as u32, 1, to).convert_from(source)?;
+                BitmapMut::new(target, count as u32, 1, to).convert_bitmap(source)?;
             }
         }
         Ok(())

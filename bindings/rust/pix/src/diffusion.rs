@@ -1,10 +1,10 @@
 //! Error diffusion with a strength, and in rows of both directions.
 
 use crate::error::Error;
-use crate::table::{Srgb8, Srgba8, Table, done};
+use crate::table::{Srgb8, Srgba8, ColorTable, done};
 use pix_sys::check_library;
 
-/// How errors are diffused. The default is what [`Table::diffuse_indexed`] does: all of each error, and no row from right to left.
+/// How errors are diffused. The default is what [`ColorTable::diffuse_indexed`] does: all of each error, and no row from right to left.
 ///
 /// ```
 /// use pix::Diffusion;
@@ -31,17 +31,17 @@ impl Default for Diffusion {
     }
 }
 
-impl Table<'_> {
-    /// Does what [`diffuse_indexed`](Table::diffuse_indexed) does, in the way that `how` says. What a pixel gets of the errors before
+impl ColorTable<'_> {
+    /// Does what [`diffuse_indexed`](ColorTable::diffuse_indexed) does, in the way that `how` says. What a pixel gets of the errors before
     /// it is multiplied by the strength, and rounded once.
     ///
     /// ```
-    /// use pix::{Diffusion, Srgb8, Table, diffusion_work};
+    /// use pix::{Diffusion, Srgb8, ColorTable, diffuse_indexed_work};
     ///
     /// let gray = |v| Srgb8::new(v, v, v);
     /// let entries = [gray(0), gray(255)];
-    /// let (table, mut indices) = (Table::new(&entries)?, [9; 4]);
-    /// let mut work = vec![gray(0); diffusion_work(2).unwrap()];
+    /// let (table, mut indices) = (ColorTable::new(&entries)?, [9; 4]);
+    /// let mut work = vec![gray(0); diffuse_indexed_work(2).unwrap()];
     /// let how = Diffusion { serpentine: true, ..Diffusion::default() };
     /// table.diffuse_indexed_by(&[gray(100); 4], 2, how, &mut work, &mut indices)?;
     /// assert_eq!(indices, [0, 1, 1, 0]);
@@ -50,7 +50,7 @@ impl Table<'_> {
     ///
     /// # Errors
     ///
-    /// `Strength` where that is above 16. `Length` as [`diffuse_indexed`](Table::diffuse_indexed), and where serpentine rows are not
+    /// `Strength` where that is above 16. `Length` as [`diffuse_indexed`](ColorTable::diffuse_indexed), and where serpentine rows are not
     /// whole. The indices are unchanged.
     pub fn diffuse_indexed_by(
         &self,
@@ -63,7 +63,7 @@ impl Table<'_> {
         check_library()?;
         // SAFETY: pointers and lengths are those of four slices, and the exclusive ones share no byte with another.
         done(unsafe {
-            pix_sys::pix_table_diffuse_by(
+            pix_sys::pix_raw_diffuse_indexed_by(
                 self.entries().as_ptr(),
                 self.entries().len(),
                 pixels.as_ptr(),
@@ -79,18 +79,18 @@ impl Table<'_> {
         })
     }
 
-    /// Does what [`diffuse_indexed_alpha`](Table::diffuse_indexed_alpha) does, in the way that `how` says.
+    /// Does what [`diffuse_indexed_alpha`](ColorTable::diffuse_indexed_alpha) does, in the way that `how` says.
     ///
     /// # Errors
     ///
-    /// As [`diffuse_indexed_by`](Table::diffuse_indexed_by).
+    /// As [`diffuse_indexed_by`](ColorTable::diffuse_indexed_by).
     #[allow(clippy::too_many_arguments)]
     pub fn diffuse_indexed_by_alpha(
         &self,
         pixels: &[Srgba8],
         width: usize,
         alpha: u8,
-        kept: u8,
+        transparent_index: u8,
         how: Diffusion,
         work: &mut [Srgb8],
         indices: &mut [u8],
@@ -98,14 +98,14 @@ impl Table<'_> {
         check_library()?;
         // SAFETY: pointers and lengths are those of four slices, and the exclusive ones share no byte with another.
         done(unsafe {
-            pix_sys::pix_table_diffuse_by_alpha(
+            pix_sys::pix_raw_diffuse_indexed_by_alpha(
                 self.entries().as_ptr(),
                 self.entries().len(),
                 pixels.as_ptr(),
                 pixels.len(),
                 width,
                 alpha,
-                kept,
+                transparent_index,
                 how.strength,
                 u8::from(how.serpentine),
                 work.as_mut_ptr(),

@@ -128,7 +128,7 @@ pub fn convert(from: Format, src: &[u8], to: Format, dst: &mut [u8]) -> Result<(
     }
     // SAFETY: pointers and lengths are those of two slices, and the exclusive one shares no byte with the other.
     let answer = unsafe {
-        pix_sys::pix_convert_bytes(
+        pix_sys::pix_raw_convert(
             from as u32,
             to as u32,
             src.as_ptr(),

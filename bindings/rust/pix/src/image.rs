@@ -117,7 +117,7 @@ impl<'a, P: Pixel> ImageMut<'a, P> {
 
     /// Runs the commands in order, or none of them where one is refused.
     pub fn run(&mut self, commands: &[Command<'_, P>]) -> Result<(), Error> {
-        self.run_in(0, 0, commands)
+        self.run_window(0, 0, commands)
     }
 
     /// Runs the commands on this image as a window of a picture, whose first pixel is the point (`left`, `top`) of the
@@ -126,7 +126,7 @@ impl<'a, P: Pixel> ImageMut<'a, P> {
     /// Each pixel becomes what [`run`](ImageMut::run) would make of it on the whole picture. So pictures painted tile by
     /// tile are the picture painted whole, in any order, and [`bands`](ImageMut::bands) of one image by several threads.
     /// It is refused too where `left` plus the width or `top` plus the height is above 2147483647.
-    pub fn run_in(
+    pub fn run_window(
         &mut self,
         left: u32,
         top: u32,
@@ -174,7 +174,7 @@ impl<'a, P: Pixel> ImageMut<'a, P> {
     /// thread::scope(|threads| {
     ///     let painting: Vec<_> = image
     ///         .bands(16)
-    ///         .map(|(top, mut band)| threads.spawn(move || band.run_in(0, top, &commands)))
+    ///         .map(|(top, mut band)| threads.spawn(move || band.run_window(0, top, &commands)))
     ///         .collect();
     ///     painting.into_iter().try_for_each(|each| each.join().expect("a thread that paints"))
     /// })?;

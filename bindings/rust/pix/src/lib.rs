@@ -24,7 +24,7 @@
 //! no pixel was changed. The archive runs on processors of x86-64 with SSE4.1 and of aarch64, under Linux: another one,
 //! and an archive of another version or layout, is refused at the first call.
 //!
-//! A picture may be painted tile by tile, by [`ImageMut::run_in`], and one image by several threads, in
+//! A picture may be painted tile by tile, by [`ImageMut::run_window`], and one image by several threads, in
 //! [`bands`](ImageMut::bands) of rows: the outcome is the picture painted whole.
 //!
 //! # What is left to a caller
@@ -34,9 +34,9 @@
 //! or another language has too. Nothing else writes it while it is borrowed. Nothing else reads it while it is borrowed to
 //! be written. Both hold for each address of that memory.
 //!
-//! A call takes up to 256 KiB of stack to match pixels to a table ([`Table::map_indexed`], [`Table::diffuse_indexed`]), and for
-//! [`make_table_refined`]. It takes 96 KiB for [`make_table`] and [`make_table_rgba`], 32 for [`index_pixels`] and to match to a
-//! [`TableRgba`], and 16 for all else. Threads of `std` have 2 MiB.
+//! A call takes up to 256 KiB of stack to match pixels to a table ([`ColorTable::map_indexed`], [`ColorTable::diffuse_indexed`]), and for
+//! [`quantize_refined`]. It takes 96 KiB for [`quantize`] and [`quantize_rgba`], 32 for [`index_pixels`] and to match to a
+//! [`RgbaTable`], and 16 for all else. Threads of `std` have 2 MiB.
 //!
 //! docs/PROMISES.md of the repository lists all calls in four languages, and what is proved of each.
 #![no_std]
@@ -59,7 +59,7 @@ pub use crate::format::{Format, convert};
 pub use crate::image::{Bands, Image, ImageMut};
 pub use crate::pixel::{Graya8, Pixel, Region, Rgba8, Rgba16, bytes, bytes_mut};
 pub use crate::table::{
-    IndexDepth, Srgb8, Srgba8, Table, count_indices, diffusion_work, index_pixels, make_table,
-    make_table_alpha, make_table_refined, make_table_refined_alpha, pack_row, unpack_row,
+    IndexDepth, Srgb8, Srgba8, ColorTable, count_indices, diffuse_indexed_work, index_pixels, quantize,
+    quantize_alpha, quantize_refined, quantize_refined_alpha, pack_row, unpack_row,
 };
-pub use crate::table_rgba::{TableRgba, make_table_rgba};
+pub use crate::table_rgba::{RgbaTable, quantize_rgba};

@@ -27,7 +27,7 @@ pub trait Pixel: Copy + Default + private::Calls<Self::Matte> {
     fn of(format: Format, pixel: &[u8]) -> Result<Self, Error> {
         let mut color = [Self::default()];
         let source = Bitmap::new(pixel, 1, 1, format);
-        BitmapMut::new(bytes_mut(&mut color), 1, 1, Self::FORMAT).convert_from(source)?;
+        BitmapMut::new(bytes_mut(&mut color), 1, 1, Self::FORMAT).convert_bitmap(source)?;
         Ok(color[0])
     }
 }
@@ -48,7 +48,7 @@ impl Pixel for Rgba8 {
 }
 
 impl private::Calls<u8> for Rgba8 {
-    const RUN: pix_sys::RunWindow<Rgba8, u8> = pix_sys::pix_run_window;
+    const RUN: pix_sys::RunWindow<Rgba8, u8> = pix_sys::pix_raw_run_window;
 }
 
 impl Pixel for Rgba16 {
@@ -58,7 +58,7 @@ impl Pixel for Rgba16 {
 }
 
 impl private::Calls<u16> for Rgba16 {
-    const RUN: pix_sys::RunWindow<Rgba16, u16> = pix_sys::pix_run_window_rgba16;
+    const RUN: pix_sys::RunWindow<Rgba16, u16> = pix_sys::pix_raw_run_window_rgba16;
 }
 
 impl Pixel for Graya8 {
@@ -68,7 +68,7 @@ impl Pixel for Graya8 {
 }
 
 impl private::Calls<u8> for Graya8 {
-    const RUN: pix_sys::RunWindow<Graya8, u8> = pix_sys::pix_run_window_graya8;
+    const RUN: pix_sys::RunWindow<Graya8, u8> = pix_sys::pix_raw_run_window_graya8;
 }
 
 /// The bytes of pixels, in the order of their channels; those of a channel of 16 bits in the machine's order.

@@ -7,17 +7,17 @@ use pix_sys::{check_library, status};
 /// A table of 1 to 256 colors, which it borrows.
 ///
 /// ```
-/// use pix::{Srgb8, Table};
+/// use pix::{Srgb8, ColorTable};
 ///
 /// let entries = [Srgb8::new(0, 0, 0), Srgb8::new(255, 255, 255)];
-/// let table = Table::new(&entries)?;
+/// let table = ColorTable::new(&entries)?;
 /// let mut indices = [0; 2];
 /// table.map_indexed(&[Srgb8::new(200, 190, 180), Srgb8::new(30, 20, 10)], &mut indices)?;
 /// assert_eq!(indices, [1, 0]);
 /// # Ok::<(), pix::Error>(())
 /// ```
 #[derive(Clone, Copy, Debug)]
-pub struct Table<'a> {
+pub struct ColorTable<'a> {
     entries: &'a [Srgb8],
 }
 
@@ -47,17 +47,17 @@ pub(crate) fn done(answer: u32) -> Result<(), Error> {
     }
 }
 
-impl<'a> Table<'a> {
+impl<'a> ColorTable<'a> {
     /// A table of these entries, in order.
     ///
     /// # Errors
     ///
-    /// `Table` where there is none, or more than 256.
-    pub fn new(entries: &'a [Srgb8]) -> Result<Table<'a>, Error> {
+    /// `ColorTable` where there is none, or more than 256.
+    pub fn new(entries: &'a [Srgb8]) -> Result<ColorTable<'a>, Error> {
         if entries.is_empty() || entries.len() > 256 {
-            return Err(Error::Table);
+            return Err(Error::ColorTable);
         }
-        Ok(Table { entries })
+        Ok(ColorTable { entries })
     }
 
     /// The entries, in order.
@@ -72,7 +72,7 @@ impl<'a> Table<'a> {
         let mut index = 0;
         // SAFETY: the pointers are those of a slice and of two values of this function.
         let answer = unsafe {
-            pix_sys::pix_table_nearest(
+            pix_sys::pix_raw_nearest(
                 self.entries.as_ptr(),
                 self.entries.len(),
                 &color,
@@ -91,7 +91,7 @@ impl<'a> Table<'a> {
         check_library()?;
         // SAFETY: pointers and lengths are those of three slices, and the exclusive one shares no byte with the others.
         done(unsafe {
-            pix_sys::pix_table_match(
+            pix_sys::pix_raw_map_indexed(
                 self.entries.as_ptr(),
                 self.entries.len(),
                 pixels.as_ptr(),
@@ -102,25 +102,25 @@ impl<'a> Table<'a> {
         })
     }
 
-    /// Does what [`map_indexed`](Table::map_indexed) does, on pixels with an alpha. One whose alpha is below `alpha` has the
-    /// index `kept`, which may be that of a transparent entry; of the others the alpha is not looked at.
+    /// Does what [`map_indexed`](ColorTable::map_indexed) does, on pixels with an alpha. One whose alpha is below `alpha` has the
+    /// index `transparent_index`, which may be that of a transparent entry; of the others the alpha is not looked at.
     pub fn map_indexed_alpha(
         &self,
         pixels: &[Srgba8],
         alpha: u8,
-        kept: u8,
+        transparent_index: u8,
         indices: &mut [u8],
     ) -> Result<(), Error> {
         check_library()?;
         // SAFETY: pointers and lengths are those of three slices, and the exclusive one shares no byte with the others.
         done(unsafe {
-            pix_sys::pix_table_match_alpha(
+            pix_sys::pix_raw_map_indexed_alpha(
                 self.entries.as_ptr(),
                 self.entries.len(),
                 pixels.as_ptr(),
                 pixels.len(),
                 alpha,
-                kept,
+                transparent_index,
                 indices.as_mut_ptr(),
                 indices.len(),
             )
@@ -131,7 +131,7 @@ impl<'a> Table<'a> {
     /// what it gets of the errors before it. An error is what was wanted less the entry that was found. 7 sixteenths of it go
     /// to the pixel on the right, 3 to the one below on the left, 5 to the one below, and 1 to the one below on the right.
     /// What would go past the sides of a row is lost. What is wanted is, in each channel, the pixel's number and the sum of the
-    /// sixteenths that it gets, rounded to the nearest, a half up, and kept from 0 to 255. `work` has [`diffusion_work`] colors.
+    /// sixteenths that it gets, rounded to the nearest, a half up, and kept from 0 to 255. `work` has [`diffuse_indexed_work`] colors.
     ///
     /// # Errors
     ///
@@ -147,7 +147,7 @@ impl<'a> Table<'a> {
         check_library()?;
         // SAFETY: pointers and lengths are those of four slices, and the exclusive ones share no byte with another.
         done(unsafe {
-            pix_sys::pix_table_diffuse(
+            pix_sys::pix_raw_diffuse_indexed(
                 self.entries.as_ptr(),
                 self.entries.len(),
                 pixels.as_ptr(),
@@ -161,28 +161,28 @@ impl<'a> Table<'a> {
         })
     }
 
-    /// Does what [`diffuse_indexed`](Table::diffuse_indexed) does, on pixels with an alpha. One whose alpha is below `alpha` has
-    /// the index `kept`, and hands on no error.
+    /// Does what [`diffuse_indexed`](ColorTable::diffuse_indexed) does, on pixels with an alpha. One whose alpha is below `alpha` has
+    /// the index `transparent_index`, and hands on no error.
     pub fn diffuse_indexed_alpha(
         &self,
         pixels: &[Srgba8],
         width: usize,
         alpha: u8,
-        kept: u8,
+        transparent_index: u8,
         work: &mut [Srgb8],
         indices: &mut [u8],
     ) -> Result<(), Error> {
         check_library()?;
         // SAFETY: pointers and lengths are those of four slices, and the exclusive ones share no byte with another.
         done(unsafe {
-            pix_sys::pix_table_diffuse_alpha(
+            pix_sys::pix_raw_diffuse_indexed_alpha(
                 self.entries.as_ptr(),
                 self.entries.len(),
                 pixels.as_ptr(),
                 pixels.len(),
                 width,
                 alpha,
-                kept,
+                transparent_index,
                 work.as_mut_ptr(),
                 work.len(),
                 indices.as_mut_ptr(),
@@ -201,7 +201,7 @@ impl<'a> Table<'a> {
         check_library()?;
         // SAFETY: pointers and lengths are those of three slices, and the exclusive one shares no byte with the others.
         done(unsafe {
-            pix_sys::pix_table_look_up(
+            pix_sys::pix_raw_look_up(
                 self.entries.as_ptr(),
                 self.entries.len(),
                 indices.as_ptr(),
@@ -215,7 +215,7 @@ impl<'a> Table<'a> {
 
 /// How many colors of work memory error diffusion takes for rows of so many pixels; or `None` where they are more than a `usize`
 /// counts.
-pub const fn diffusion_work(width: usize) -> Option<usize> {
+pub const fn diffuse_indexed_work(width: usize) -> Option<usize> {
     width.checked_mul(4)
 }
 
@@ -225,19 +225,19 @@ pub const fn diffusion_work(width: usize) -> Option<usize> {
 /// `work` has as many colors as there are pixels; for a large picture pass a sample of its pixels.
 ///
 /// ```
-/// use pix::{Srgb8, make_table};
+/// use pix::{Srgb8, quantize};
 ///
 /// let (red, blue) = (Srgb8::new(255, 0, 0), Srgb8::new(0, 0, 255));
 /// let mut work = [Srgb8::default(); 3];
 /// let mut entries = [Srgb8::default(); 256];
-/// assert_eq!(make_table(&[red, blue, red], &mut work, &mut entries)?, [red, blue]);
+/// assert_eq!(quantize(&[red, blue, red], &mut work, &mut entries)?, [red, blue]);
 /// # Ok::<(), pix::Error>(())
 /// ```
 ///
 /// # Errors
 ///
-/// `Table` where there is no entry or more than 256, and `Length` where `work` has fewer colors. Both are unchanged.
-pub fn make_table<'a>(
+/// `ColorTable` where there is no entry or more than 256, and `Length` where `work` has fewer colors. Both are unchanged.
+pub fn quantize<'a>(
     pixels: &[Srgb8],
     work: &mut [Srgb8],
     entries: &'a mut [Srgb8],
@@ -246,7 +246,7 @@ pub fn make_table<'a>(
     let mut made = 0;
     // SAFETY: pointers and lengths are those of three slices and a value, and the exclusive ones share no byte with another.
     done(unsafe {
-        pix_sys::pix_table_from(
+        pix_sys::pix_raw_quantize(
             pixels.as_ptr(),
             pixels.len(),
             work.as_mut_ptr(),
@@ -259,17 +259,17 @@ pub fn make_table<'a>(
     Ok(&entries[..made])
 }
 
-/// Does what [`make_table`] does, on pixels with an alpha. Those whose alpha is below `alpha` do not count. Where none counts there
-/// is no entry, and so no [`Table`]: the index of each pixel is the one that is kept.
+/// Does what [`quantize`] does, on pixels with an alpha. Those whose alpha is below `alpha` do not count. Where none counts there
+/// is no entry, and so no [`ColorTable`]: the index of each pixel is the one that is kept.
 ///
 /// ```
-/// use pix::{Srgb8, Srgba8, Table, make_table_alpha};
+/// use pix::{Srgb8, Srgba8, ColorTable, quantize_alpha};
 ///
 /// let clear = [Srgba8::new(1, 2, 3, 0), Srgba8::new(4, 5, 6, 99)];
 /// let (mut work, mut entries, mut indices) = ([Srgb8::default(); 2], [Srgb8::default(); 255], [0; 2]);
-/// match make_table_alpha(&clear, 128, &mut work, &mut entries)? {
+/// match quantize_alpha(&clear, 128, &mut work, &mut entries)? {
 ///     [] => indices.fill(255),
-///     made => Table::new(made)?.map_indexed_alpha(&clear, 128, 255, &mut indices)?,
+///     made => ColorTable::new(made)?.map_indexed_alpha(&clear, 128, 255, &mut indices)?,
 /// }
 /// assert_eq!(indices, [255, 255]);
 /// # Ok::<(), pix::Error>(())
@@ -277,8 +277,8 @@ pub fn make_table<'a>(
 ///
 /// # Errors
 ///
-/// As [`make_table`].
-pub fn make_table_alpha<'a>(
+/// As [`quantize`].
+pub fn quantize_alpha<'a>(
     pixels: &[Srgba8],
     alpha: u8,
     work: &mut [Srgb8],
@@ -288,7 +288,7 @@ pub fn make_table_alpha<'a>(
     let mut made = 0;
     // SAFETY: pointers and lengths are those of three slices and a value, and the exclusive ones share no byte with another.
     done(unsafe {
-        pix_sys::pix_table_from_alpha(
+        pix_sys::pix_raw_quantize_alpha(
             pixels.as_ptr(),
             pixels.len(),
             alpha,
@@ -302,25 +302,25 @@ pub fn make_table_alpha<'a>(
     Ok(&entries[..made])
 }
 
-/// Does what [`make_table`] does. Where there are more distinct colors than entries, so many rounds then refine the table. In a
+/// Does what [`quantize`] does. Where there are more distinct colors than entries, so many rounds then refine the table. In a
 /// round each color goes to its nearest entry, the first of equals. Each entry goes to the mean of its colors, rounded, and stays
 /// where it has none. No round makes the sum of the squared errors greater.
 ///
 /// ```
-/// use pix::{Srgb8, make_table, make_table_refined};
+/// use pix::{Srgb8, quantize, quantize_refined};
 ///
 /// let gray = |v| Srgb8::new(v, v, v);
 /// let pixels = [80, 110, 160, 60, 0, 190].map(gray);
 /// let (mut work, mut entries) = ([Srgb8::default(); 6], [Srgb8::default(); 3]);
-/// assert_eq!(make_table(&pixels, &mut work, &mut entries)?, [0, 70, 153].map(gray));
-/// assert_eq!(make_table_refined(&pixels, 4, &mut work, &mut entries)?, [0, 83, 175].map(gray));
+/// assert_eq!(quantize(&pixels, &mut work, &mut entries)?, [0, 70, 153].map(gray));
+/// assert_eq!(quantize_refined(&pixels, 4, &mut work, &mut entries)?, [0, 83, 175].map(gray));
 /// # Ok::<(), pix::Error>(())
 /// ```
 ///
 /// # Errors
 ///
-/// As [`make_table`].
-pub fn make_table_refined<'a>(
+/// As [`quantize`].
+pub fn quantize_refined<'a>(
     pixels: &[Srgb8],
     rounds: u8,
     work: &mut [Srgb8],
@@ -330,7 +330,7 @@ pub fn make_table_refined<'a>(
     let mut made = 0;
     // SAFETY: pointers and lengths are those of three slices and a value, and the exclusive ones share no byte with another.
     done(unsafe {
-        pix_sys::pix_table_refined(
+        pix_sys::pix_raw_quantize_refined(
             pixels.as_ptr(),
             pixels.len(),
             rounds,
@@ -344,13 +344,13 @@ pub fn make_table_refined<'a>(
     Ok(&entries[..made])
 }
 
-/// Does what [`make_table_refined`] does, on pixels with an alpha. Those whose alpha is below `alpha` do not count, as in
-/// [`make_table_alpha`].
+/// Does what [`quantize_refined`] does, on pixels with an alpha. Those whose alpha is below `alpha` do not count, as in
+/// [`quantize_alpha`].
 ///
 /// # Errors
 ///
-/// As [`make_table`].
-pub fn make_table_refined_alpha<'a>(
+/// As [`quantize`].
+pub fn quantize_refined_alpha<'a>(
     pixels: &[Srgba8],
     alpha: u8,
     rounds: u8,
@@ -361,7 +361,7 @@ pub fn make_table_refined_alpha<'a>(
     let mut made = 0;
     // SAFETY: pointers and lengths are those of three slices and a value, and the exclusive ones share no byte with another.
     done(unsafe {
-        pix_sys::pix_table_refined_alpha(
+        pix_sys::pix_raw_quantize_refined_alpha(
             pixels.as_ptr(),
             pixels.len(),
             alpha,
@@ -394,7 +394,7 @@ pub fn make_table_refined_alpha<'a>(
 ///
 /// # Errors
 ///
-/// `Table` if there is room for no entry or for more than 256. `Length` if more are used than there are, or if there are not as
+/// `ColorTable` if there is room for no entry or for more than 256. `Length` if more are used than there are, or if there are not as
 /// many indices as pixels. `Full` if there is no room for a color. Nothing is changed then.
 pub fn index_pixels(
     entries: &mut [Srgb8],
@@ -406,7 +406,7 @@ pub fn index_pixels(
     check_library()?;
     // SAFETY: pointers and lengths are those of three slices and two values, and the exclusive ones share no byte with another.
     done(unsafe {
-        pix_sys::pix_table_index(
+        pix_sys::pix_raw_index_pixels(
             entries.as_mut_ptr(),
             entries.len(),
             used,
@@ -428,7 +428,7 @@ pub fn count_indices(indices: &[u8], counts: &mut [usize]) -> Result<(), Error> 
     check_library()?;
     // SAFETY: pointers and lengths are those of two slices, and the exclusive one shares no byte with the other.
     done(unsafe {
-        pix_sys::pix_table_count(
+        pix_sys::pix_raw_count_indices(
             indices.as_ptr(),
             indices.len(),
             counts.as_mut_ptr(),
@@ -448,7 +448,7 @@ pub fn pack_row(depth: IndexDepth, indices: &[u8], bytes: &mut [u8]) -> Result<(
     check_library()?;
     // SAFETY: pointers and lengths are those of two slices, and the exclusive one shares no byte with the other.
     done(unsafe {
-        pix_sys::pix_table_pack(
+        pix_sys::pix_raw_pack_row(
             depth as u32,
             indices.as_ptr(),
             indices.len(),
@@ -467,7 +467,7 @@ pub fn unpack_row(depth: IndexDepth, bytes: &[u8], indices: &mut [u8]) -> Result
     check_library()?;
     // SAFETY: pointers and lengths are those of two slices, and the exclusive one shares no byte with the other.
     done(unsafe {
-        pix_sys::pix_table_unpack(
+        pix_sys::pix_raw_unpack_row(
             depth as u32,
             bytes.as_ptr(),
             bytes.len(),

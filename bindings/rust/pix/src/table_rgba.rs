@@ -10,34 +10,34 @@ use pix_sys::check_library;
 /// Two pixels are compared as they are seen, over black and over white, in 8 bits. Over black a color is its product with the alpha,
 /// rounded to the nearest. Over white it is that and 255 less the alpha. The distance of two pixels is the sum of the squares of
 /// their six differences. So the color of a clear pixel does not count, and where all are opaque the indices are those of a
-/// [`Table`](crate::Table).
+/// [`ColorTable`](crate::ColorTable).
 ///
 /// ```
-/// use pix::{Srgba8, TableRgba};
+/// use pix::{Srgba8, RgbaTable};
 ///
 /// let entries = [Srgba8::new(0, 0, 0, 0), Srgba8::new(255, 0, 0, 128), Srgba8::new(255, 0, 0, 255)];
 /// let pixels = [Srgba8::new(250, 9, 0, 140), Srgba8::new(80, 90, 70, 0), Srgba8::new(240, 10, 10, 255)];
 /// let mut indices = [9; 3];
-/// TableRgba::new(&entries)?.map_indexed(&pixels, &mut indices)?;
+/// RgbaTable::new(&entries)?.map_indexed(&pixels, &mut indices)?;
 /// assert_eq!(indices, [1, 0, 2]);
 /// # Ok::<(), pix::Error>(())
 /// ```
 #[derive(Clone, Copy, Debug)]
-pub struct TableRgba<'a> {
+pub struct RgbaTable<'a> {
     entries: &'a [Srgba8],
 }
 
-impl<'a> TableRgba<'a> {
+impl<'a> RgbaTable<'a> {
     /// A table of these entries, in order.
     ///
     /// # Errors
     ///
-    /// `Table` where there is none, or more than 256.
-    pub fn new(entries: &'a [Srgba8]) -> Result<TableRgba<'a>, Error> {
+    /// `ColorTable` where there is none, or more than 256.
+    pub fn new(entries: &'a [Srgba8]) -> Result<RgbaTable<'a>, Error> {
         if entries.is_empty() || entries.len() > 256 {
-            return Err(Error::Table);
+            return Err(Error::ColorTable);
         }
-        Ok(TableRgba { entries })
+        Ok(RgbaTable { entries })
     }
 
     /// The entries, in order.
@@ -54,7 +54,7 @@ impl<'a> TableRgba<'a> {
         check_library()?;
         // SAFETY: pointers and lengths are those of three slices, and the exclusive one shares no byte with the others.
         done(unsafe {
-            pix_sys::pix_table_rgba_match(
+            pix_sys::pix_raw_map_indexed_rgba(
                 self.entries.as_ptr(),
                 self.entries.len(),
                 pixels.as_ptr(),
@@ -66,13 +66,13 @@ impl<'a> TableRgba<'a> {
     }
 
     /// Sets the index of each pixel of rows of `width` by error diffusion, as
-    /// [`Table::diffuse_indexed_by`](crate::Table::diffuse_indexed_by) does. Errors are those of the colors over black and of the
+    /// [`ColorTable::diffuse_indexed_by`](crate::ColorTable::diffuse_indexed_by) does. Errors are those of the colors over black and of the
     /// alpha. What is wanted of a color is at most what is wanted of the alpha. A clear pixel (alpha 0) gets the entry that is seen
-    /// nearest to it, takes nothing of other errors, and passes on none. `work` has [`diffusion_work`](crate::diffusion_work) pixels.
+    /// nearest to it, takes nothing of other errors, and passes on none. `work` has [`diffuse_indexed_work`](crate::diffuse_indexed_work) pixels.
     ///
     /// # Errors
     ///
-    /// As [`Table::diffuse_indexed_by`](crate::Table::diffuse_indexed_by).
+    /// As [`ColorTable::diffuse_indexed_by`](crate::ColorTable::diffuse_indexed_by).
     pub fn diffuse_indexed(
         &self,
         pixels: &[Srgba8],
@@ -84,7 +84,7 @@ impl<'a> TableRgba<'a> {
         check_library()?;
         // SAFETY: pointers and lengths are those of four slices, and the exclusive ones share no byte with another.
         done(unsafe {
-            pix_sys::pix_table_rgba_diffuse(
+            pix_sys::pix_raw_diffuse_indexed_rgba(
                 self.entries.as_ptr(),
                 self.entries.len(),
                 pixels.as_ptr(),
@@ -110,7 +110,7 @@ impl<'a> TableRgba<'a> {
         check_library()?;
         // SAFETY: pointers and lengths are those of three slices, and the exclusive one shares no byte with the others.
         done(unsafe {
-            pix_sys::pix_table_rgba_look_up(
+            pix_sys::pix_raw_look_up_rgba(
                 self.entries.as_ptr(),
                 self.entries.len(),
                 indices.as_ptr(),
@@ -122,26 +122,26 @@ impl<'a> TableRgba<'a> {
     }
 }
 
-/// Does what [`make_table_refined`](crate::make_table_refined) does, with a table of colors with an alpha. Of pixels that are seen
+/// Does what [`quantize_refined`](crate::quantize_refined) does, with a table of colors with an alpha. Of pixels that are seen
 /// alike the first one counts. Where there is room for all of these, they are the table, just as they are. Else boxes are cut by the
 /// alpha too, after red, green and blue over black. In a round an entry also stays where the mean of its colors would make their
 /// squared error greater. What is found is divided by its alpha in the end, and is still seen as just that. `work` is as long as
 /// `pixels`.
 ///
 /// ```
-/// use pix::{Srgba8, make_table_rgba};
+/// use pix::{Srgba8, quantize_rgba};
 ///
 /// let (red, half, clear) = (Srgba8::new(255, 0, 0, 255), Srgba8::new(255, 0, 0, 128), Srgba8::new(7, 8, 9, 0));
 /// let (mut work, mut entries) = ([Srgba8::default(); 4], [Srgba8::default(); 256]);
-/// let made = make_table_rgba(&[red, clear, half, red], 4, &mut work, &mut entries)?;
+/// let made = quantize_rgba(&[red, clear, half, red], 4, &mut work, &mut entries)?;
 /// assert_eq!(made, [red, clear, half]);
 /// # Ok::<(), pix::Error>(())
 /// ```
 ///
 /// # Errors
 ///
-/// As [`make_table`](crate::make_table).
-pub fn make_table_rgba<'a>(
+/// As [`quantize`](crate::quantize).
+pub fn quantize_rgba<'a>(
     pixels: &[Srgba8],
     rounds: u8,
     work: &mut [Srgba8],
@@ -151,7 +151,7 @@ pub fn make_table_rgba<'a>(
     let mut made = 0;
     // SAFETY: pointers and lengths are those of three slices and a value, and the exclusive ones share no byte with another.
     done(unsafe {
-        pix_sys::pix_table_rgba_from(
+        pix_sys::pix_raw_quantize_rgba(
             pixels.as_ptr(),
             pixels.len(),
             rounds,

@@ -37,14 +37,14 @@ fn comes_back(format: Format) {
     let mut pixels = vec![Rgba16::default(); (WIDTH * HEIGHT) as usize];
     let mut light = ImageMut::new(&mut pixels, WIDTH, HEIGHT);
     let source = Bitmap::new(&photo, WIDTH, HEIGHT, format);
-    light.as_bitmap_mut().convert_from(source).expect("decoded");
+    light.as_bitmap_mut().convert_bitmap(source).expect("decoded");
     let color = Rgba16::new(9000, 0, 0, 30000);
     let painted = Region::new(100, 50, 64, 64);
     let list = [Command::composite_color(painted, color, Op::SrcOver)];
     light.run(&list).expect("painted");
     let mut back = vec![0; photo.len()];
     let mut shown = BitmapMut::new(&mut back, WIDTH, HEIGHT, format);
-    shown.convert_from(light.as_bitmap()).expect("encoded");
+    shown.convert_bitmap(light.as_bitmap()).expect("encoded");
     let mut changed = 0;
     for (index, (old, new)) in photo.chunks(size).zip(back.chunks(size)).enumerate() {
         let (x, y) = (index as u32 % WIDTH, index as u32 / WIDTH);
@@ -74,9 +74,9 @@ fn pixels_of_each_alpha() {
         let mut pixels = [Rgba16::default()];
         let mut light = ImageMut::new(&mut pixels, 1, 1);
         let source = Bitmap::new(&photo, 1, 1, Format::SRgba8);
-        light.as_bitmap_mut().convert_from(source).expect("decoded");
+        light.as_bitmap_mut().convert_bitmap(source).expect("decoded");
         let mut shown = BitmapMut::new(&mut back, 1, 1, Format::SRgba8);
-        shown.convert_from(light.as_bitmap()).expect("encoded");
+        shown.convert_bitmap(light.as_bitmap()).expect("encoded");
         match alpha {
             0 => assert_eq!(back, [0; 4]),
             13.. => assert_eq!(back, photo),
@@ -92,7 +92,7 @@ fn rows_from_bottom_to_top() {
     let mut down = [9; 8];
     let source = Bitmap::with_stride(&up, 1, 2, -4, Format::SBgr8);
     let mut shown = BitmapMut::with_stride(&mut down, 1, 2, 4, Format::SRgb8);
-    shown.convert_from(source).expect("turned over");
+    shown.convert_bitmap(source).expect("turned over");
     assert_eq!(down, [6, 5, 4, 9, 3, 2, 1, 9]);
 }
 
@@ -102,7 +102,7 @@ fn opaque_pixels_and_words() {
     let mut words = [0; 8];
     let mut wide = BitmapMut::new(&mut words, 1, 1, Format::Rgba16);
     let source = Bitmap::new(&photo, 1, 1, Format::Rgbx8);
-    wide.convert_from(source)
+    wide.convert_bitmap(source)
         .expect("the last byte is not read");
     let numbers = words
         .chunks(2)
@@ -114,7 +114,7 @@ fn opaque_pixels_and_words() {
     let mut bytes = [0; 4];
     let mut opaque = BitmapMut::new(&mut bytes, 1, 1, Format::Bgrx8);
     opaque
-        .convert_from(Bitmap::new(&words, 1, 1, Format::Rgba16))
+        .convert_bitmap(Bitmap::new(&words, 1, 1, Format::Rgba16))
         .expect("the last byte is 255");
     assert_eq!(bytes, [30, 20, 10, 255]);
 }
@@ -148,7 +148,7 @@ fn refusals() {
     let mut small = [Rgba8::default(); 3];
     let mut image = ImageMut::new(&mut small, 2, 2);
     let source = Bitmap::new(&photo, 2, 2, Format::SRgba8);
-    assert_eq!(image.as_bitmap_mut().convert_from(source), Err(Error::Size));
+    assert_eq!(image.as_bitmap_mut().convert_bitmap(source), Err(Error::Size));
     let mut shown = BitmapMut::new(&mut back, 2, 2, Format::SRgba8);
     for source in [
         Bitmap::new(&photo[..15], 2, 2, Format::SRgba8),
@@ -156,11 +156,11 @@ fn refusals() {
         Bitmap::with_stride(&photo, 2, 2, -7, Format::SRgba8),
         Bitmap::with_stride(&photo, 2, 2, isize::MIN, Format::SRgba8),
     ] {
-        assert_eq!(shown.convert_from(source), Err(Error::Picture));
+        assert_eq!(shown.convert_bitmap(source), Err(Error::Picture));
     }
     for (width, height) in [(2, 1), (1, 2), (0, 0), (0, u32::MAX)] {
         let source = Bitmap::new(&photo, width, height, Format::SRgba8);
-        assert_eq!(shown.convert_from(source), Err(Error::OtherSize));
+        assert_eq!(shown.convert_bitmap(source), Err(Error::OtherSize));
     }
     assert_eq!(back, [7; 16]);
 }

@@ -3,8 +3,8 @@
 
 use pix::{
     Bitmap, BitmapMut, Command, Diffusion, Error, Format, Graya8, Image, ImageMut, Op, Pixel,
-    Region, Rgba8, Rgba16, Srgb8, Srgba8, Table, TableRgba, convert, diffusion_work,
-    make_table_rgba,
+    Region, Rgba8, Rgba16, Srgb8, Srgba8, ColorTable, RgbaTable, convert, diffuse_indexed_work,
+    quantize_rgba,
 };
 use std::time::{Duration, Instant};
 
@@ -56,13 +56,13 @@ fn paint<P: Pixel>() {
             let mut empty = ImageMut::<P>::new(&mut [], width, height);
             assert_eq!(at_once(|| empty.run(&list)), Ok(()));
             assert_eq!(
-                at_once(|| empty.run_in(LONG - width, LONG - height, &list)),
+                at_once(|| empty.run_window(LONG - width, LONG - height, &list)),
                 Ok(())
             );
             let answers = at_once(|| {
                 let bands = empty.bands(1);
                 bands
-                    .map(|(top, mut band)| band.run_in(0, top, &list))
+                    .map(|(top, mut band)| band.run_window(0, top, &list))
                     .collect::<Vec<_>>()
             });
             assert_eq!(answers, []);
@@ -95,7 +95,7 @@ fn bitmaps() {
         {
             let source = Bitmap::new(&[], width, height, from);
             let mut shown = BitmapMut::new(&mut [], width, height, to);
-            assert_eq!(at_once(|| shown.convert_from(source)), Ok(()));
+            assert_eq!(at_once(|| shown.convert_bitmap(source)), Ok(()));
             let wanted = if to.size() > from.size() {
                 Err(Error::Larger)
             } else {
@@ -107,14 +107,14 @@ fn bitmaps() {
         let mut light = ImageMut::<Rgba16>::new(&mut [], width, height);
         let source = Bitmap::new(&[], width, height, Format::SRgb8);
         assert_eq!(
-            at_once(|| light.as_bitmap_mut().convert_from(source)),
+            at_once(|| light.as_bitmap_mut().convert_bitmap(source)),
             Ok(())
         );
     }
     // Rows without pixels that lie a byte apart, upwards: they need memory all the same.
     let far = Bitmap::with_stride(&[], 0, LONG, -1, Format::SRgb8);
     let mut shown = BitmapMut::new(&mut [], 0, LONG, Format::SRgb8);
-    assert_eq!(at_once(|| shown.convert_from(far)), Err(Error::Picture));
+    assert_eq!(at_once(|| shown.convert_bitmap(far)), Err(Error::Picture));
     assert_eq!(
         at_once(|| convert(Format::SRgba8, &[], Format::Rgb8, &mut [])),
         Ok(())
@@ -139,8 +139,8 @@ fn patterns() {
 #[test]
 fn rows_of_indices() {
     let entries = [Srgb8::new(1, 2, 3)];
-    let table = Table::new(&entries).unwrap();
-    let mut work = vec![Srgb8::default(); diffusion_work(1 << 20).unwrap()];
+    let table = ColorTable::new(&entries).unwrap();
+    let mut work = vec![Srgb8::default(); diffuse_indexed_work(1 << 20).unwrap()];
     let no_row = at_once(|| table.diffuse_indexed(&[], 0, &mut [], &mut []));
     assert_eq!(no_row, Err(Error::Length));
     let no_pixel = at_once(|| table.diffuse_indexed(&[], 1 << 20, &mut work, &mut []));
@@ -149,10 +149,10 @@ fn rows_of_indices() {
     let turned = at_once(|| table.diffuse_indexed_by(&[], 1 << 20, how, &mut work, &mut []));
     assert_eq!(turned, Ok(()));
     let mut entries = [Srgba8::new(1, 2, 3, 4)];
-    let made = at_once(|| make_table_rgba(&[], 255, &mut [], &mut entries).map(<[_]>::len));
+    let made = at_once(|| quantize_rgba(&[], 255, &mut [], &mut entries).map(<[_]>::len));
     assert_eq!(made, Ok(0));
-    let table = TableRgba::new(&entries).unwrap();
-    let mut work = vec![Srgba8::default(); diffusion_work(1 << 20).unwrap()];
+    let table = RgbaTable::new(&entries).unwrap();
+    let mut work = vec![Srgba8::default(); diffuse_indexed_work(1 << 20).unwrap()];
     assert_eq!(at_once(|| table.map_indexed(&[], &mut [])), Ok(()));
     let no_pixel = at_once(|| table.diffuse_indexed(&[], 1 << 20, how, &mut work, &mut []));
     assert_eq!(no_pixel, Ok(()));

@@ -121,12 +121,12 @@ fn errors_have_texts() {
     assert_eq!(larger.to_string(), "in place, a pixel would be larger");
     let mut image = BitmapMut::new(&mut dst, 2, 1, Format::Rgba8);
     let sizes = image
-        .convert_from(Bitmap::new(&[1; 8], 1, 2, Format::Rgba8))
+        .convert_bitmap(Bitmap::new(&[1; 8], 1, 2, Format::Rgba8))
         .unwrap_err();
     let other_size = "the picture to be converted has another size than the one to be written";
     assert_eq!(sizes.to_string(), other_size);
     let few = image
-        .convert_from(Bitmap::new(&[1; 7], 2, 1, Format::Rgba8))
+        .convert_bitmap(Bitmap::new(&[1; 7], 2, 1, Format::Rgba8))
         .unwrap_err();
     let picture = "the picture to be converted has a bad size or stride, or too few bytes";
     assert_eq!(few.to_string(), picture);
@@ -239,7 +239,7 @@ fn operators_are_those_of_their_names() {
 #[test]
 fn masks_and_opacities() {
     let (pixel, below) = (Rgba8::new(200, 100, 0, 200), Rgba8::new(0, 0, 100, 255));
-    let (faded, kept) = (Rgba8::new(100, 50, 61, 255), Rgba8::new(200, 100, 22, 255));
+    let (faded, transparent_index) = (Rgba8::new(100, 50, 61, 255), Rgba8::new(200, 100, 22, 255));
     let whole = Region::new(0, 0, 3, 1);
     let sources = [pixel; 3];
     let source = Image::new(&sources, 3, 1);
@@ -265,7 +265,7 @@ fn masks_and_opacities() {
         Op::SrcOver,
     )];
     assert_eq!(ImageMut::new(&mut pixels, 3, 1).run(&list), Ok(()));
-    assert_eq!(pixels, [faded, below, kept]);
+    assert_eq!(pixels, [faded, below, transparent_index]);
     let short = Image::new(&[255; 5], 3, 2);
     let command = Command::composite_image_matte(whole, source, whole, short, whole, Op::SrcOver);
     assert_eq!(
@@ -381,7 +381,7 @@ fn tiles_are_the_picture_painted_whole() {
         let (columns, rows) = (6, if top == 0 { 5 } else { 6 });
         let start = top as usize * 12 + left as usize;
         ImageMut::with_stride(&mut tiles[start..], columns, rows, 12)
-            .run_in(left, top, &list)
+            .run_window(left, top, &list)
             .unwrap();
     }
     assert_eq!(tiles, whole);
@@ -398,7 +398,7 @@ fn threads_paint_bands_of_one_image() {
         thread::scope(|threads| {
             let painting: Vec<_> = image
                 .bands(rows)
-                .map(|(top, mut band)| threads.spawn(move || band.run_in(0, top, &list)))
+                .map(|(top, mut band)| threads.spawn(move || band.run_window(0, top, &list)))
                 .collect();
             assert_eq!(painting.len() as u32, 11_u32.div_ceil(rows.clamp(1, 11)));
             for each in painting {
@@ -417,22 +417,22 @@ fn windows_are_tested() {
         COLOR,
     )];
     for (left, top) in [(LONG - 4, 0), (0, LONG - 4), (u32::MAX, 0), (0, u32::MAX)] {
-        let answer = ImageMut::new(&mut image, 4, 4).run_in(left, top, &far);
+        let answer = ImageMut::new(&mut image, 4, 4).run_window(left, top, &far);
         assert_eq!(answer, Err(Error::Size));
     }
     let bad = Command::copy_color(Region::new(0, 0, LONG, 1), COLOR);
-    let answer = ImageMut::new(&mut image, 4, 4).run_in(LONG - 5, 0, &[far[0], bad]);
+    let answer = ImageMut::new(&mut image, 4, 4).run_window(LONG - 5, 0, &[far[0], bad]);
     assert_eq!(answer, Err(Error::Region { index: 1 }));
     assert_eq!(image, pixels());
     assert_eq!(
-        ImageMut::new(&mut image, 4, 4).run_in(LONG - 5, 0, &far),
+        ImageMut::new(&mut image, 4, 4).run_window(LONG - 5, 0, &far),
         Ok(())
     );
     assert_eq!((image[0], image[3], image[4]), (COLOR, COLOR, pixels()[4]));
     let mut short = pixels();
     let answers: Vec<_> = ImageMut::new(&mut short[..15], 4, 4)
         .bands(2)
-        .map(|(top, mut band)| band.run_in(0, top, &[Command::clear()]))
+        .map(|(top, mut band)| band.run_window(0, top, &[Command::clear()]))
         .collect();
     assert_eq!(answers, [Ok(()), Err(Error::Size)]);
 }
@@ -443,10 +443,10 @@ fn windows_of_the_other_kinds() {
     let mut wide = [Rgba16::new(1, 2, 3, 4); 4];
     let (one, dark) = (Rgba16::new(9, 9, 9, 9), Graya8::new(9, 9));
     let list = [Command::copy_color(far, one)];
-    assert_eq!(ImageMut::new(&mut wide, 2, 2).run_in(6, 3, &list), Ok(()));
+    assert_eq!(ImageMut::new(&mut wide, 2, 2).run_window(6, 3, &list), Ok(()));
     assert_eq!(wide.map(|pixel| pixel.r), [1, 9, 1, 1]);
     let mut gray = [Graya8::new(1, 2); 4];
     let list = [Command::copy_color(far, dark)];
-    assert_eq!(ImageMut::new(&mut gray, 2, 2).run_in(7, 2, &list), Ok(()));
+    assert_eq!(ImageMut::new(&mut gray, 2, 2).run_window(7, 2, &list), Ok(()));
     assert_eq!(gray.map(|pixel| pixel.value), [1, 1, 9, 1]);
 }

@@ -1,9 +1,9 @@
 //! Tables of colors beside plain loops, and what is refused.
 
 use pix::{
-    Diffusion, Error, IndexDepth, Srgb8, Srgba8, Table, TableRgba, count_indices, diffusion_work,
-    index_pixels, make_table, make_table_alpha, make_table_refined, make_table_refined_alpha,
-    make_table_rgba, pack_row, unpack_row,
+    Diffusion, Error, IndexDepth, Srgb8, Srgba8, ColorTable, RgbaTable, count_indices, diffuse_indexed_work,
+    index_pixels, quantize, quantize_alpha, quantize_refined, quantize_refined_alpha,
+    quantize_rgba, pack_row, unpack_row,
 };
 
 /// Bytes that look random.
@@ -29,7 +29,7 @@ fn nearest_entries() {
         let pixels: Vec<Srgb8> = (0..3000)
             .map(|i| color(if i % 2 == 0 { mask } else { 255 }))
             .collect();
-        let table = Table::new(&entries).unwrap();
+        let table = ColorTable::new(&entries).unwrap();
         let mut indices = vec![9; pixels.len()];
         table.map_indexed(&pixels, &mut indices).unwrap();
         for (pixel, index) in pixels.iter().zip(&indices) {
@@ -45,11 +45,11 @@ fn nearest_entries() {
             .enumerate()
             .map(|(i, p)| Srgba8::new(p.r, p.g, p.b, (126 + i % 4) as u8))
             .collect();
-        let mut kept = vec![9; pixels.len()];
+        let mut transparent_index = vec![9; pixels.len()];
         table
-            .map_indexed_alpha(&with_alpha, 128, 77, &mut kept)
+            .map_indexed_alpha(&with_alpha, 128, 77, &mut transparent_index)
             .unwrap();
-        for (i, index) in kept.iter().enumerate() {
+        for (i, index) in transparent_index.iter().enumerate() {
             assert_eq!(*index, if i % 4 < 2 { 77 } else { indices[i] });
         }
         let mut back = vec![Srgb8::default(); pixels.len()];
@@ -79,8 +79,8 @@ fn indexed_pixels() {
         index_pixels(&mut entries, &mut used, gray(0), &more, &mut indices[..2]) == Err(Error::Full),
         index_pixels(&mut entries, &mut used, gray(3), &pixels, &mut []) == Err(Error::Length),
         index_pixels(&mut entries[..2], &mut used, gray(3), &[], &mut []) == Err(Error::Length),
-        index_pixels(&mut [], &mut used, gray(3), &[], &mut []) == Err(Error::Table),
-        index_pixels(&mut all, &mut used, gray(3), &[], &mut []) == Err(Error::Table),
+        index_pixels(&mut [], &mut used, gray(3), &[], &mut []) == Err(Error::ColorTable),
+        index_pixels(&mut all, &mut used, gray(3), &[], &mut []) == Err(Error::ColorTable),
     ] {
         assert!(refused);
     }
@@ -93,27 +93,27 @@ fn tables_of_pixels() {
     let mut work = [Srgb8::default(); 8];
     let mut entries = [gray(77); 4];
     let few = [gray(9), gray(1), gray(9), gray(200)];
-    let made = make_table(&few, &mut work, &mut entries).unwrap();
+    let made = quantize(&few, &mut work, &mut entries).unwrap();
     assert_eq!(made, [gray(9), gray(1), gray(200)]);
-    assert!(make_table(&[], &mut [], &mut entries).unwrap().is_empty());
+    assert!(quantize(&[], &mut [], &mut entries).unwrap().is_empty());
     // Cut between 1 and 200: 0, 0, 0 and 1 make 0, and 200, 201, 200, 201 make 201, since ties go up.
     let many = [0, 0, 0, 1, 200, 201, 200, 201].map(gray);
-    let made = make_table(&many, &mut work, &mut entries[..2]).unwrap();
+    let made = quantize(&many, &mut work, &mut entries[..2]).unwrap();
     assert_eq!(made, [gray(0), gray(201)]);
     // Cuts at 11 and at 21 gain the same, and the first is made.
-    let made = make_table(&[10, 20, 30].map(gray), &mut work, &mut entries[..2]).unwrap();
+    let made = quantize(&[10, 20, 30].map(gray), &mut work, &mut entries[..2]).unwrap();
     assert_eq!(made, [gray(10), gray(25)]);
     let clear = [Srgba8::new(1, 2, 3, 128), Srgba8::new(4, 5, 6, 127)];
-    let made = make_table_alpha(&clear, 128, &mut work, &mut entries).unwrap();
+    let made = quantize_alpha(&clear, 128, &mut work, &mut entries).unwrap();
     assert_eq!(made, [Srgb8::new(1, 2, 3)]);
-    let made = make_table_alpha(&clear, 129, &mut work, &mut entries).unwrap();
+    let made = quantize_alpha(&clear, 129, &mut work, &mut entries).unwrap();
     assert_eq!(made, []);
     let before = (work, entries);
     let mut none: [Srgb8; 0] = [];
     let mut large = [gray(5); 257];
-    assert_eq!(make_table(&few, &mut work, &mut none), Err(Error::Table));
-    assert_eq!(make_table(&few, &mut work, &mut large), Err(Error::Table));
-    let short = make_table(&few, &mut work[..3], &mut entries);
+    assert_eq!(quantize(&few, &mut work, &mut none), Err(Error::ColorTable));
+    assert_eq!(quantize(&few, &mut work, &mut large), Err(Error::ColorTable));
+    let short = quantize(&few, &mut work[..3], &mut entries);
     assert_eq!(short, Err(Error::Length));
     assert_eq!((work, entries), before);
 }
@@ -124,13 +124,13 @@ fn refined_tables() {
     let mut work = [Srgb8::default(); 8];
     let mut entries = [gray(77); 4];
     let few = [gray(9), gray(1), gray(9), gray(200)];
-    let made = make_table_refined(&few, 3, &mut work, &mut entries).unwrap();
+    let made = quantize_refined(&few, 3, &mut work, &mut entries).unwrap();
     assert_eq!(made, [gray(9), gray(1), gray(200)]);
     // By hand: the boxes are 0, then 60 and 80, then 110, 160 and 190, whose mean is 153. 110 is
     // nearer to 70, and goes there.
     let pixels = [80, 110, 160, 60, 0, 190].map(gray);
     let mut made = |rounds| {
-        let made = make_table_refined(&pixels, rounds, &mut work, &mut entries[..3]);
+        let made = quantize_refined(&pixels, rounds, &mut work, &mut entries[..3]);
         made.unwrap().to_vec()
     };
     assert_eq!(made(0), [0, 70, 153].map(gray));
@@ -138,13 +138,13 @@ fn refined_tables() {
     assert_eq!(made(255), [0, 83, 175].map(gray));
     let alphas = [80, 110, 160, 60, 0, 190, 77];
     let alphas = alphas.map(|v| Srgba8::new(v, v, v, 50 + u8::from(v != 77)));
-    let made = make_table_refined_alpha(&alphas, 51, 1, &mut work, &mut entries[..3]).unwrap();
+    let made = quantize_refined_alpha(&alphas, 51, 1, &mut work, &mut entries[..3]).unwrap();
     assert_eq!(made, [0, 83, 175].map(gray));
     let before = (work, entries);
     let mut large = [gray(5); 257];
-    assert_eq!(make_table_refined(&few, 3, &mut work, &mut []), Err(Error::Table));
-    assert_eq!(make_table_refined(&few, 3, &mut work, &mut large), Err(Error::Table));
-    let short = make_table_refined(&few, 3, &mut work[..3], &mut entries);
+    assert_eq!(quantize_refined(&few, 3, &mut work, &mut []), Err(Error::ColorTable));
+    assert_eq!(quantize_refined(&few, 3, &mut work, &mut large), Err(Error::ColorTable));
+    let short = quantize_refined(&few, 3, &mut work[..3], &mut entries);
     assert_eq!(short, Err(Error::Length));
     assert_eq!((work, entries), before);
 }
@@ -153,8 +153,8 @@ fn refined_tables() {
 fn diffused_errors() {
     let gray = |v| Srgb8::new(v, v, v);
     let entries = [gray(0), gray(255)];
-    let table = Table::new(&entries).unwrap();
-    let mut work = vec![gray(0); diffusion_work(4).unwrap()];
+    let table = ColorTable::new(&entries).unwrap();
+    let mut work = vec![gray(0); diffuse_indexed_work(4).unwrap()];
     let mut indices = [9; 4];
     // By hand: 100 is black and hands on 700 sixteenths, so that 100 and 44 are 144, which is white.
     table
@@ -163,9 +163,9 @@ fn diffused_errors() {
     assert_eq!(indices, [0, 1, 0, 0]);
     let clear = [0, 255].map(|alpha| Srgba8::new(100, 100, 100, alpha));
     let mut two = [7; 2];
-    let (width, alpha, kept) = (2, 1, 9);
+    let (width, alpha, transparent_index) = (2, 1, 9);
     table
-        .diffuse_indexed_alpha(&clear, width, alpha, kept, &mut work[..8], &mut two)
+        .diffuse_indexed_alpha(&clear, width, alpha, transparent_index, &mut work[..8], &mut two)
         .unwrap();
     assert_eq!(two, [9, 0]);
     for (width, room, count) in [(0, 0, 4), (4, 15, 4), (4, 16, 3)] {
@@ -178,14 +178,14 @@ fn diffused_errors() {
         assert_eq!(refused, Err(Error::Length));
     }
     assert_eq!(indices, [0, 1, 0, 0]);
-    assert_eq!(diffusion_work(usize::MAX / 2), None);
+    assert_eq!(diffuse_indexed_work(usize::MAX / 2), None);
 }
 
 #[test]
 fn errors_diffused_in_a_way() {
     let gray = |v| Srgb8::new(v, v, v);
     let entries = [gray(0), gray(255)];
-    let table = Table::new(&entries).unwrap();
+    let table = ColorTable::new(&entries).unwrap();
     let mut work = vec![gray(0); 8];
     let mut indices = [9; 4];
     let shades = [255, 255, 50, 255].map(|alpha| Srgba8::new(100, 100, 100, alpha));
@@ -202,9 +202,9 @@ fn errors_diffused_in_a_way() {
             .diffuse_indexed_by(&[gray(100); 4], 2, how, &mut work, &mut indices)
             .unwrap();
         assert_eq!(indices, wanted);
-        let (alpha, kept) = (51, 7);
+        let (alpha, transparent_index) = (51, 7);
         table
-            .diffuse_indexed_by_alpha(&shades, 2, alpha, kept, how, &mut work, &mut indices)
+            .diffuse_indexed_by_alpha(&shades, 2, alpha, transparent_index, how, &mut work, &mut indices)
             .unwrap();
         assert_eq!(indices, [0, wanted[1], 7, 0]);
     }
@@ -258,7 +258,7 @@ fn tables_with_an_alpha() {
         let pixels: Vec<Srgba8> = (0..3000)
             .map(|i| pixel(if i % 2 == 0 { mask } else { 255 }))
             .collect();
-        let table = TableRgba::new(&entries).unwrap();
+        let table = RgbaTable::new(&entries).unwrap();
         let mut indices = vec![9; pixels.len()];
         table.map_indexed(&pixels, &mut indices).unwrap();
         for (pixel, index) in pixels.iter().zip(&indices) {
@@ -292,10 +292,10 @@ fn opaque_tables_with_an_alpha() {
     let (mut work, mut entries) = (vec![Srgb8::default(); 600], [Srgb8::default(); 31]);
     let (mut room, mut slots) = (vec![Srgba8::default(); 600], [Srgba8::default(); 31]);
     for rounds in [0, 1, 4] {
-        let plain = make_table_refined(&colors, rounds, &mut work, &mut entries).unwrap();
-        let made = make_table_rgba(&pixels, rounds, &mut room, &mut slots).unwrap();
+        let plain = quantize_refined(&colors, rounds, &mut work, &mut entries).unwrap();
+        let made = quantize_rgba(&pixels, rounds, &mut room, &mut slots).unwrap();
         assert_eq!(made, plain.iter().map(opaque).collect::<Vec<_>>());
-        let (table, with_alpha) = (Table::new(plain).unwrap(), TableRgba::new(made).unwrap());
+        let (table, with_alpha) = (ColorTable::new(plain).unwrap(), RgbaTable::new(made).unwrap());
         let (mut one, mut other) = ([0; 600], [1; 600]);
         for (strength, serpentine) in [(16, false), (16, true), (5, true), (11, false)] {
             let how = Diffusion { strength, serpentine };
@@ -316,25 +316,25 @@ fn tables_with_an_alpha_by_hand() {
     let mut entries = [Srgba8::new(7, 7, 7, 7); 4];
     let some = [(200, 128), (255, 255), (9, 0), (0, 0)].map(|(v, a)| Srgba8::new(v, v, v, a));
     // Clear pixels are seen alike, and the first of them is the entry.
-    let made = make_table_rgba(&some, 0, &mut work, &mut entries).unwrap();
+    let made = quantize_rgba(&some, 0, &mut work, &mut entries).unwrap();
     assert_eq!(made, &some[..3]);
     // 200 at 128 is 100 over black and 227 over white, and so nearer to white than to black. With white it makes 178 at 192, which
     // is 236 before it is multiplied.
     let three = [(200, 128), (0, 255), (255, 255)].map(|(v, a)| Srgba8::new(v, v, v, a));
-    let made = make_table_rgba(&three, 0, &mut work, &mut entries[..2]).unwrap();
+    let made = quantize_rgba(&three, 0, &mut work, &mut entries[..2]).unwrap();
     assert_eq!(made, [(0, 255), (236, 192)].map(|(v, a)| Srgba8::new(v, v, v, a)));
     // A clear pixel and an opaque white one make half of white.
-    let made = make_table_rgba(&some[1..3], 0, &mut work, &mut entries[..1]).unwrap();
+    let made = quantize_rgba(&some[1..3], 0, &mut work, &mut entries[..1]).unwrap();
     assert_eq!(made, [Srgba8::new(255, 255, 255, 128)]);
     let before = (work, entries);
     let mut large = [some[0]; 257];
-    let short = make_table_rgba(&some, 1, &mut work[..3], &mut entries);
+    let short = quantize_rgba(&some, 1, &mut work[..3], &mut entries);
     assert_eq!(short, Err(Error::Length));
-    assert_eq!(make_table_rgba(&some, 1, &mut work, &mut []), Err(Error::Table));
-    assert_eq!(make_table_rgba(&some, 1, &mut work, &mut large), Err(Error::Table));
-    assert_eq!(TableRgba::new(&[]).unwrap_err(), Error::Table);
-    assert_eq!(TableRgba::new(&large).unwrap_err(), Error::Table);
-    let table = TableRgba::new(&some[..2]).unwrap();
+    assert_eq!(quantize_rgba(&some, 1, &mut work, &mut []), Err(Error::ColorTable));
+    assert_eq!(quantize_rgba(&some, 1, &mut work, &mut large), Err(Error::ColorTable));
+    assert_eq!(RgbaTable::new(&[]).unwrap_err(), Error::ColorTable);
+    assert_eq!(RgbaTable::new(&large).unwrap_err(), Error::ColorTable);
+    let table = RgbaTable::new(&some[..2]).unwrap();
     assert_eq!(table.entries(), &some[..2]);
     let (mut indices, mut pixels) = ([2; 2], [some[3]; 2]);
     assert_eq!(table.map_indexed(&some, &mut indices), Err(Error::Length));
@@ -356,7 +356,7 @@ fn rounds_with_an_alpha() {
     let pixels = [80, 110, 160, 60, 0, 190].map(gray);
     let (mut work, mut entries) = ([gray(0); 6], [gray(0); 3]);
     for (rounds, wanted) in [(0, [0, 70, 153]), (1, [0, 83, 175]), (255, [0, 83, 175])] {
-        let made = make_table_rgba(&pixels, rounds, &mut work, &mut entries).unwrap();
+        let made = quantize_rgba(&pixels, rounds, &mut work, &mut entries).unwrap();
         assert_eq!(made, wanted.map(gray));
     }
 }
@@ -403,9 +403,9 @@ fn counts() {
 #[test]
 fn what_is_refused_changes_nothing() {
     let entries = [Srgb8::new(1, 2, 3); 257];
-    assert_eq!(Table::new(&[]).unwrap_err(), Error::Table);
-    assert_eq!(Table::new(&entries).unwrap_err(), Error::Table);
-    let table = Table::new(&entries[..2]).unwrap();
+    assert_eq!(ColorTable::new(&[]).unwrap_err(), Error::ColorTable);
+    assert_eq!(ColorTable::new(&entries).unwrap_err(), Error::ColorTable);
+    let table = ColorTable::new(&entries[..2]).unwrap();
     let (mut indices, mut pixels) = ([9; 2], [Srgb8::default(); 2]);
     assert_eq!(
         table.map_indexed(&entries[..3], &mut indices),

@@ -1,7 +1,7 @@
 //! The formats of bitmaps, by number.
 ghost use Rattle.std.specs.Prelude.{◌≡◌, slice_get, unwrap_or, Some, true};
 ghost use Rattle.std.specs.Option.{option_map};
-ghost use Rattle.pix_bytes.specs.Stored.{stored_formats, sample_size, pixel_size};
+ghost use Rattle.pix_bytes.specs.BitmapFormats.{stored_formats, sample_size, pixel_size};
 ghost use Rattle.pix_bytes.specs.Rows.{max_of, stored_of, is_sound};
 ghost use Rattle.pix_bytes.specs.Table.{first_line};
 
@@ -20,7 +20,7 @@ pub(crate) enum Depth {
 
 /// A format of pixels in bytes.
 #[derive(Clone, Copy)]
-pub(crate) struct Stored {
+pub(crate) struct FormatParts {
     /// The color model.
     pub model: ModelName,
     /// How many channels a pixel has.
@@ -33,7 +33,7 @@ pub(crate) struct Stored {
     pub spare: usize,
 }
 
-/// A line of the table of formats: the fields of [`Stored`] in their order.
+/// A line of the table of formats: the fields of [`FormatParts`] in their order.
 #[derive(Clone, Copy)]
 struct Line(ModelName, usize, bool, Depth, usize);
 
@@ -142,15 +142,15 @@ impl Depth {
     }
 }
 
-impl Stored {
+impl FormatParts {
     /// Returns the format of a number, if there is one.
-    pub(crate) fn from_number(number: u32) -> Option<Stored>
+    pub(crate) fn from_number(number: u32) -> Option<FormatParts>
         ensures value { option_map stored_of result ≡ slice_get stored_formats number }
-        ensures sound { (stored : Stored) → result ≡ Some stored → is_sound stored ≡ true }
+        ensures sound { (stored : FormatParts) → result ≡ Some stored → is_sound stored ≡ true }
     {
         if number < 81 {
             let row = line_or_first(number);
-            Some(Stored {
+            Some(FormatParts {
                 model: row.0,
                 count: row.1,
                 is_premultiplied: row.2,
@@ -171,15 +171,15 @@ impl Stored {
         count: usize,
         is_premultiplied: bool,
         spare: usize,
-    ) -> Option<Stored>
-        ensures { (known : Stored) → result ≡ Some known → known ≡ self }
+    ) -> Option<FormatParts>
+        ensures { (known : FormatParts) → result ≡ Some known → known ≡ self }
     {
         if self.model.is(model)
             && self.count == count
             && self.is_premultiplied == is_premultiplied
             && self.spare == spare
         {
-            Some(Stored {
+            Some(FormatParts {
                 model,
                 count,
                 is_premultiplied,

@@ -1,8 +1,8 @@
 //! Pixels of any format as four channels.
 ghost use Rattle.std.specs.Prelude.{◌≡◌, ◌≢◌, ◌≤◌, ◌<◌, ◌+◌, ◌*◌, ℕ, length, take, nat_lt, if◌then◌else◌};
 ghost use Rattle.pix_el.specs.Pixel.{channel};
-ghost use Rattle.pix_bytes.specs.Four.{listed};
-ghost use Rattle.pix_bytes.specs.Stored.{sample_at, samples, sample_size, padded};
+ghost use Rattle.pix_bytes.specs.Four.{as_list};
+ghost use Rattle.pix_bytes.specs.BitmapFormats.{sample_at, samples, sample_size, padded};
 
 use crate::bitmap::sample::Sample;
 use pix_chan::chan::Channel;
@@ -21,7 +21,7 @@ impl<C: Channel> Four<C> {
     /// Returns the channel of a number, and the maximum where there is none.
     #[inline(always)]
     pub(crate) fn at(self, ch: usize) -> C
-        ensures { C.number result ≡ channel C.max (listed C.number self) ch }
+        ensures { C.number result ≡ channel C.max (as_list C.number self) ch }
     {
         match ch {
             0 => self.one,
@@ -52,7 +52,7 @@ fn sample_or_max<C: Sample>(bytes: &[u8], count: usize, number: usize) -> C
 pub(crate) fn read_four<C: Sample>(bytes: &[u8], count: usize) -> Four<C>
     requires fits { count * sample_size C.max ≤ length bytes.now }
     requires few { count ≤ 4 }
-    ensures { (ch : ℕ) → channel C.max (listed C.number result) ch
+    ensures { (ch : ℕ) → channel C.max (as_list C.number result) ch
         ≡ channel C.max (samples C.max count bytes.now) ch }
 {
     Four {
@@ -85,7 +85,7 @@ pub(crate) fn write_four<C: Sample>(pixel: Four<C>, bytes: &mut [u8], count: usi
     requires fits { length bytes.old ≡ (count + spare) * sample_size C.max }
     requires few { count + spare ≤ 4 }
     ensures { samples C.max (count + spare) bytes.new ≡
-        padded C.max (count + spare) (take count (listed C.number pixel)) }
+        padded C.max (count + spare) (take count (as_list C.number pixel)) }
 {
     let all = count + spare;
     write_sample(pixel.one, bytes, count, all, 0);

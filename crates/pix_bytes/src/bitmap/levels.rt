@@ -11,7 +11,7 @@ ghost use Rattle.pix_chan.specs.Srgb16.{srgb_encoded8};
 ghost use Rattle.pix_bytes.specs.Rows.{IsEach};
 ghost use Rattle.pix_bytes.specs.Shown.{shown, straight_light, light_alpha, light_alphas, for_each_channel};
 ghost use Rattle.pix_bytes.specs.Shown.{reciprocal_of, parts, shown_places, shown_bytes};
-ghost use Rattle.pix_bytes.specs.Stored.{sample_at, samples};
+ghost use Rattle.pix_bytes.specs.BitmapFormats.{sample_at, samples};
 
 use crate::bitmap::fours::high_products;
 use crate::bitmap::quotient::reciprocal;

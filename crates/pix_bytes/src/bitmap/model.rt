@@ -2,9 +2,9 @@
 ghost use Rattle.std.specs.Prelude.{◌≡◌, ◌≤◌, ◌+◌, take, true};
 ghost use Rattle.pix_el.specs.Color.{rgba_of, of_rgba};
 ghost use Rattle.pix_el.specs.Model.{row};
-ghost use Rattle.pix_bytes.specs.Four.{listed};
+ghost use Rattle.pix_bytes.specs.Four.{as_list};
 ghost use Rattle.pix_bytes.specs.Models.{model_of, four_of};
-ghost use Rattle.pix_bytes.specs.Stored.{into_rgb, out_of_rgb};
+ghost use Rattle.pix_bytes.specs.BitmapFormats.{into_rgb, out_of_rgb};
 
 use crate::bitmap::four::Four;
 use pix_chan::chan::{Ch8, Ch16, Channel, Linear, Straight};
@@ -84,8 +84,8 @@ impl ModelName {
 pub(crate) trait Colored: Channel {
     /// Returns red, green, blue and alpha of a pixel of the model `M`.
     fn rgba_of<M: ColorModel>(pixel: Four<Self>) -> Four<Self>
-        ensures { listed Self.number result ≡
-            rgba_of M.to_rgb M.ALPHA Self.max (listed Self.number pixel) };
+        ensures { as_list Self.number result ≡
+            rgba_of M.to_rgb M.ALPHA Self.max (as_list Self.number pixel) };
 
     /// Returns the pixel of two channels of the model `M` that has this red, green, blue and alpha.
     /// Other channels are the maximum.
@@ -93,8 +93,8 @@ pub(crate) trait Colored: Channel {
     /// Condition: the model has as many channels.
     fn two_of_rgba<M: ColorModel>(rgba: Four<Self>) -> Four<Self>
         requires { 2 ≤ M.ALPHA + 1 }
-        ensures { listed Self.number result ≡ four_of Self.max (take 2
-            (of_rgba M.of_rgb Self.max (listed Self.number rgba))) };
+        ensures { as_list Self.number result ≡ four_of Self.max (take 2
+            (of_rgba M.of_rgb Self.max (as_list Self.number rgba))) };
 
     /// Returns the pixel of four channels of the model `M` that has this red, green, blue and
     /// alpha. Other channels are the maximum.
@@ -102,15 +102,15 @@ pub(crate) trait Colored: Channel {
     /// Condition: the model has as many channels.
     fn four_of_rgba<M: ColorModel>(rgba: Four<Self>) -> Four<Self>
         requires { 4 ≤ M.ALPHA + 1 }
-        ensures { listed Self.number result ≡ four_of Self.max (take 4
-            (of_rgba M.of_rgb Self.max (listed Self.number rgba))) };
+        ensures { as_list Self.number result ≡ four_of Self.max (take 4
+            (of_rgba M.of_rgb Self.max (as_list Self.number rgba))) };
 }
 
 impl Colored for Ch8 {
     #[inline(always)]
     fn rgba_of<M: ColorModel>(pixel: Four<Ch8>) -> Four<Ch8>
-        ensures { listed ⟦<Ch8 as Channel>⟧.number result ≡
-            rgba_of M.to_rgb M.ALPHA 255 (listed ⟦<Ch8 as Channel>⟧.number pixel) }
+        ensures { as_list ⟦<Ch8 as Channel>⟧.number result ≡
+            rgba_of M.to_rgb M.ALPHA 255 (as_list ⟦<Ch8 as Channel>⟧.number pixel) }
     {
         rgba_of::<Pix<4, Ch8, M, Straight, Linear>>(pixel)
     }
@@ -118,8 +118,8 @@ impl Colored for Ch8 {
     #[inline(always)]
     fn two_of_rgba<M: ColorModel>(rgba: Four<Ch8>) -> Four<Ch8>
         requires { 2 ≤ M.ALPHA + 1 }
-        ensures { listed ⟦<Ch8 as Channel>⟧.number result ≡ four_of 255 (take 2
-            (of_rgba M.of_rgb 255 (listed ⟦<Ch8 as Channel>⟧.number rgba))) }
+        ensures { as_list ⟦<Ch8 as Channel>⟧.number result ≡ four_of 255 (take 2
+            (of_rgba M.of_rgb 255 (as_list ⟦<Ch8 as Channel>⟧.number rgba))) }
     {
         of_rgba::<Pix<2, Ch8, M, Straight, Linear>>(rgba)
     }
@@ -127,8 +127,8 @@ impl Colored for Ch8 {
     #[inline(always)]
     fn four_of_rgba<M: ColorModel>(rgba: Four<Ch8>) -> Four<Ch8>
         requires { 4 ≤ M.ALPHA + 1 }
-        ensures { listed ⟦<Ch8 as Channel>⟧.number result ≡ four_of 255 (take 4
-            (of_rgba M.of_rgb 255 (listed ⟦<Ch8 as Channel>⟧.number rgba))) }
+        ensures { as_list ⟦<Ch8 as Channel>⟧.number result ≡ four_of 255 (take 4
+            (of_rgba M.of_rgb 255 (as_list ⟦<Ch8 as Channel>⟧.number rgba))) }
     {
         of_rgba::<Pix<4, Ch8, M, Straight, Linear>>(rgba)
     }
@@ -137,8 +137,8 @@ impl Colored for Ch8 {
 impl Colored for Ch16 {
     #[inline(always)]
     fn rgba_of<M: ColorModel>(pixel: Four<Ch16>) -> Four<Ch16>
-        ensures { listed ⟦<Ch16 as Channel>⟧.number result ≡
-            rgba_of M.to_rgb M.ALPHA 65535 (listed ⟦<Ch16 as Channel>⟧.number pixel) }
+        ensures { as_list ⟦<Ch16 as Channel>⟧.number result ≡
+            rgba_of M.to_rgb M.ALPHA 65535 (as_list ⟦<Ch16 as Channel>⟧.number pixel) }
     {
         rgba_of::<Pix<4, Ch16, M, Straight, Linear>>(pixel)
     }
@@ -146,8 +146,8 @@ impl Colored for Ch16 {
     #[inline(always)]
     fn two_of_rgba<M: ColorModel>(rgba: Four<Ch16>) -> Four<Ch16>
         requires { 2 ≤ M.ALPHA + 1 }
-        ensures { listed ⟦<Ch16 as Channel>⟧.number result ≡ four_of 65535 (take 2
-            (of_rgba M.of_rgb 65535 (listed ⟦<Ch16 as Channel>⟧.number rgba))) }
+        ensures { as_list ⟦<Ch16 as Channel>⟧.number result ≡ four_of 65535 (take 2
+            (of_rgba M.of_rgb 65535 (as_list ⟦<Ch16 as Channel>⟧.number rgba))) }
     {
         of_rgba::<Pix<2, Ch16, M, Straight, Linear>>(rgba)
     }
@@ -155,8 +155,8 @@ impl Colored for Ch16 {
     #[inline(always)]
     fn four_of_rgba<M: ColorModel>(rgba: Four<Ch16>) -> Four<Ch16>
         requires { 4 ≤ M.ALPHA + 1 }
-        ensures { listed ⟦<Ch16 as Channel>⟧.number result ≡ four_of 65535 (take 4
-            (of_rgba M.of_rgb 65535 (listed ⟦<Ch16 as Channel>⟧.number rgba))) }
+        ensures { as_list ⟦<Ch16 as Channel>⟧.number result ≡ four_of 65535 (take 4
+            (of_rgba M.of_rgb 65535 (as_list ⟦<Ch16 as Channel>⟧.number rgba))) }
     {
         of_rgba::<Pix<4, Ch16, M, Straight, Linear>>(rgba)
     }
@@ -165,8 +165,8 @@ impl Colored for Ch16 {
 /// Returns red, green, blue and alpha of a pixel of the model.
 #[inline(always)]
 pub(crate) fn into_rgb<C: Colored>(model: ModelName, pixel: Four<C>) -> Four<C>
-    ensures { listed C.number result ≡ rgba_of (into_rgb (model_of model))
-        (row (model_of model)).alpha C.max (listed C.number pixel) }
+    ensures { as_list C.number result ≡ rgba_of (into_rgb (model_of model))
+        (row (model_of model)).alpha C.max (as_list C.number pixel) }
 {
     match model {
         ModelName::Rgb => pixel,
@@ -186,8 +186,8 @@ pub(crate) fn into_rgb<C: Colored>(model: ModelName, pixel: Four<C>) -> Four<C>
 /// model lacks is the maximum.
 #[inline(always)]
 pub(crate) fn out_of_rgb<C: Colored>(model: ModelName, rgba: Four<C>) -> Four<C>
-    ensures { listed C.number result ≡ four_of C.max
-        (of_rgba (out_of_rgb (model_of model)) C.max (listed C.number rgba)) }
+    ensures { as_list C.number result ≡ four_of C.max
+        (of_rgba (out_of_rgb (model_of model)) C.max (as_list C.number rgba)) }
 {
     match model {
         ModelName::Rgb => rgba,
@@ -211,8 +211,8 @@ pub(crate) fn out_of_rgb<C: Colored>(model: ModelName, rgba: Four<C>) -> Four<C>
 /// Returns red, green, blue and alpha of a pixel of the format `P`.
 fn rgba_of<P: Pixel>(pixel: Four<P::Chan>) -> Four<P::Chan>
     requires { P.layout.count ≡ 4 }
-    ensures { listed P.Chan.number result ≡
-        rgba_of P.Model.to_rgb P.Model.ALPHA P.Chan.max (listed P.Chan.number pixel) }
+    ensures { as_list P.Chan.number result ≡
+        rgba_of P.Model.to_rgb P.Model.ALPHA P.Chan.max (as_list P.Chan.number pixel) }
 {
     let pixel = P::from_four(pixel.one, pixel.two, pixel.three, pixel.four);
     let (one, two, three, four) = <P::Model as ColorModel>::into_four::<P>(pixel);
@@ -230,8 +230,8 @@ fn rgba_of<P: Pixel>(pixel: Four<P::Chan>) -> Four<P::Chan>
 /// Condition: the format has no more channels than its model.
 fn of_rgba<P: Pixel>(rgba: Four<P::Chan>) -> Four<P::Chan>
     requires { P.layout.count ≤ P.Model.ALPHA + 1 }
-    ensures { listed P.Chan.number result ≡ four_of P.Chan.max (take P.layout.count
-        (of_rgba P.Model.of_rgb P.Chan.max (listed P.Chan.number rgba))) }
+    ensures { as_list P.Chan.number result ≡ four_of P.Chan.max (take P.layout.count
+        (of_rgba P.Model.of_rgb P.Chan.max (as_list P.Chan.number rgba))) }
 {
     let pixel = <P::Model as ColorModel>::from_four::<P>(rgba.one, rgba.two, rgba.three, rgba.four);
     Four {

@@ -3,17 +3,17 @@ ghost use Rattle.std.specs.Prelude.{◌≡◌, ◌≤◌, ◌+◌, ◌*◌, ℕ,
 ghost use Rattle.pix_chan.specs.Modes as modes;
 ghost use Rattle.pix_el.specs.Conversion.{converted};
 ghost use Rattle.pix_el.specs.Model.{row};
-ghost use Rattle.pix_bytes.specs.Four.{listed};
+ghost use Rattle.pix_bytes.specs.Four.{as_list};
 ghost use Rattle.pix_bytes.specs.Models.{model_of};
 ghost use Rattle.pix_bytes.specs.Recolored.{IsRecolored, model_in_order};
 ghost use Rattle.pix_bytes.specs.Rows.{IsEach, IsSame, format_at};
-ghost use Rattle.pix_bytes.specs.Stored.{sample_size};
+ghost use Rattle.pix_bytes.specs.BitmapFormats.{sample_size};
 
 use crate::bitmap::eights::{Decoded, Encoded, Table, map_eights, map_eights_opaque};
-use crate::bitmap::format::Stored;
+use crate::bitmap::format::FormatParts;
 use crate::bitmap::four::Four;
 use crate::bitmap::model::ModelName::{self, Bgr, Rgb};
-use crate::bitmap::way::{Converted, Way};
+use crate::bitmap::pixel_conversion::{Converted, PixelConversion};
 use pix_chan::chan::{Ch8, Channel, Linear, Srgb};
 
 /// Returns whether a model is blue, green and red, and not red, green and blue. Of other models it
@@ -43,7 +43,7 @@ fn differ(one: bool, other: bool) -> bool
 /// Returns whether the source has a straight alpha or none, the other format has four channels, and
 /// both have no spare samples.
 #[inline(always)]
-fn are_plain(from: Stored, to: Stored) -> bool
+fn are_plain(from: FormatParts, to: FormatParts) -> bool
     ensures straight { result ≡ true → from.is_premultiplied ≡ false }
     ensures none { result ≡ true → from.spare ≡ 0 }
     ensures count { result ≡ true → to.count ≡ 4 }
@@ -56,7 +56,13 @@ fn are_plain(from: Stored, to: Stored) -> bool
 /// Returns their number, which is 0 where the formats don't fit.
 ///
 /// Condition: there are `count` in both.
-fn map_ahead<T: Table>(from: Stored, to: Stored, src: &[u8], dst: &mut [u8], count: usize) -> usize
+fn map_ahead<T: Table>(
+    from: FormatParts,
+    to: FormatParts,
+    src: &[u8],
+    dst: &mut [u8],
+    count: usize,
+) -> usize
     requires src { length src.now ≡ count * ((from.count + from.spare) * sample_size 255) }
     requires dst { length dst.old ≡ count * ((to.count + to.spare) * sample_size 255) }
     ensures some { result ≤ count }
@@ -82,14 +88,14 @@ fn map_ahead<T: Table>(from: Stored, to: Stored, src: &[u8], dst: &mut [u8], cou
 /// The way of an sRGB pixel of 8 bits to a linear one.
 pub(crate) struct IntoLinear;
 
-impl Way<Ch8, Ch8> for IntoLinear {
+impl PixelConversion<Ch8, Ch8> for IntoLinear {
     ghost makes = { λ format to pixel. converted format modes.Srgb to modes.Linear pixel };
 
     #[inline(always)]
-    fn go(&self, from: Stored, to: Stored, pixel: Four<Ch8>) -> Four<Ch8>
+    fn go(&self, from: FormatParts, to: FormatParts, pixel: Four<Ch8>) -> Four<Ch8>
         requires few { to.count ≤ (row (model_of to.model)).alpha + 1 }
-        ensures { (p : List ℕ) → IsSame 255 (listed ⟦<Ch8 as Channel>⟧.number pixel) p
-            → take to.count (listed ⟦<Ch8 as Channel>⟧.number result)
+        ensures { (p : List ℕ) → IsSame 255 (as_list ⟦<Ch8 as Channel>⟧.number pixel) p
+            → take to.count (as_list ⟦<Ch8 as Channel>⟧.number result)
             ≡ converted (format_at 255 from) modes.Srgb (format_at 255 to) modes.Linear p }
     {
         Converted::<Srgb, Linear>::new().go(from, to, pixel)
@@ -98,8 +104,8 @@ impl Way<Ch8, Ch8> for IntoLinear {
     #[inline(always)]
     fn go_ahead(
         &self,
-        from: Stored,
-        to: Stored,
+        from: FormatParts,
+        to: FormatParts,
         src: &[u8],
         dst: &mut [u8],
         count: usize,
@@ -111,14 +117,14 @@ impl Way<Ch8, Ch8> for IntoLinear {
 /// The way of a linear pixel of 8 bits to an sRGB one.
 pub(crate) struct OutOfLinear;
 
-impl Way<Ch8, Ch8> for OutOfLinear {
+impl PixelConversion<Ch8, Ch8> for OutOfLinear {
     ghost makes = { λ format to pixel. converted format modes.Linear to modes.Srgb pixel };
 
     #[inline(always)]
-    fn go(&self, from: Stored, to: Stored, pixel: Four<Ch8>) -> Four<Ch8>
+    fn go(&self, from: FormatParts, to: FormatParts, pixel: Four<Ch8>) -> Four<Ch8>
         requires few { to.count ≤ (row (model_of to.model)).alpha + 1 }
-        ensures { (p : List ℕ) → IsSame 255 (listed ⟦<Ch8 as Channel>⟧.number pixel) p
-            → take to.count (listed ⟦<Ch8 as Channel>⟧.number result)
+        ensures { (p : List ℕ) → IsSame 255 (as_list ⟦<Ch8 as Channel>⟧.number pixel) p
+            → take to.count (as_list ⟦<Ch8 as Channel>⟧.number result)
             ≡ converted (format_at 255 from) modes.Linear (format_at 255 to) modes.Srgb p }
     {
         Converted::<Linear, Srgb>::new().go(from, to, pixel)
@@ -127,8 +133,8 @@ impl Way<Ch8, Ch8> for OutOfLinear {
     #[inline(always)]
     fn go_ahead(
         &self,
-        from: Stored,
-        to: Stored,
+        from: FormatParts,
+        to: FormatParts,
         src: &[u8],
         dst: &mut [u8],
         count: usize,

@@ -1,6 +1,6 @@
 //! Samples: channels in bytes.
 ghost use Rattle.std.specs.Prelude.{◌≡◌, ◌≢◌, ℕ, ◌+◌, ◌*◌, ◌≤◌, length};
-ghost use Rattle.pix_bytes.specs.Stored.{sample_at, sample_size};
+ghost use Rattle.pix_bytes.specs.BitmapFormats.{sample_at, sample_size};
 
 use pix_chan::chan::{Ch8, Ch16, Channel};
 

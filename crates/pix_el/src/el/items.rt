@@ -1,4 +1,4 @@
-//! The channels of a [`Pix`], lent.
+//! The channels of a [`Pix`], borrowed.
 ghost use Rattle.std.specs.Prelude.{◌≡◌, ◌<◌, length, slice_get, slice_set, Some};
 ghost use Rattle.std.specs.Borrow.{Lends, sem, Array};
 ghost use Rattle.pix_el.specs.contracts.el.Pix.{the_row};

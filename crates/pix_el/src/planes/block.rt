@@ -7,7 +7,7 @@ ghost use Rattle.pix_el.specs.PixelComposite.{pixel_composite, matted_composite}
 
 use crate::el::Pixel;
 use crate::planes::coverage::Coverage;
-use crate::planes::kept::{are_clear, keeps_all, keeps_under_clear, see_channels};
+use crate::planes::unchanged::{are_clear, keeps_all, keeps_under_clear, see_channels};
 use pix_ops::ops::Blend;
 
 /// A way to composite the pixels of a format by blocks of one size.

@@ -9,8 +9,8 @@ ghost use Rattle.pix_el.specs.PixelComposite.{pixel_composite, matted_composite}
 use crate::el::Pixel;
 use crate::planes::block::Block;
 use crate::planes::coverage::{Coverage, matte_values};
+use crate::planes::fours::{fours, put_fours};
 use crate::planes::interleaved::four_channels;
-use crate::planes::sixteen::{fours, put_fours};
 use crate::planes::{composite_first, scale_first};
 use pix_chan::chan::Channel;
 use pix_ops::ops::Blend;

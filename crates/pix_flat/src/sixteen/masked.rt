@@ -10,7 +10,7 @@ use pix_chan::chan::{Linear, Premultiplied};
 use pix_el::el::{Pix, Pixel};
 use pix_el::matte::Matte;
 use pix_ops::ops::Blend;
-use pix_raster::lent::MaskedBlit;
+use pix_raster::view::MaskedBlit;
 use std::marker::PhantomData;
 
 /// Composites pixels through mattes.

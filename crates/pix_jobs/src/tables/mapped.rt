@@ -55,21 +55,21 @@ fn count_of(side: u32, size: Size) -> u32 {
 /// Matches noise to a table of colors by chance, and photographs to the table of a photograph.
 fn small(
     alloc: Global,
-    way: Way,
+    scan: Way,
     side: u32,
     size: Size,
     random: &mut Random,
     digest: &mut Digest,
 ) -> Option<()> {
     let photo = pictures::photo(alloc, 240, 200, random)?;
-    let of_photo = ColorTable::from_raster(alloc, &photo, 256, 0).ok()??;
+    let of_photo = ColorTable::quantize(alloc, &photo, 256, 0).ok()??;
     let noise = pictures::noise(alloc, 16, 16, random)?;
-    let by_chance = ColorTable::from_raster(alloc, &noise, 256, 0).ok()??;
+    let by_chance = ColorTable::quantize(alloc, &noise, 256, 0).ok()??;
     for _ in 0..count_of(side, size).div_ceil(2) {
         let noise = pictures::noise(alloc, side, side, random)?;
-        match_picture(alloc, &by_chance, &noise, way, digest)?;
+        match_picture(alloc, &by_chance, &noise, scan, digest)?;
         let photo = pictures::photo(alloc, side, side, random)?;
-        match_picture(alloc, &of_photo, &photo, way, digest)?;
+        match_picture(alloc, &of_photo, &photo, scan, digest)?;
     }
     Some(())
 }
@@ -79,10 +79,10 @@ fn match_picture(
     alloc: Global,
     table: &ColorTable,
     picture: &Raster<SRgb8>,
-    way: Way,
+    scan: Way,
     digest: &mut Digest,
 ) -> Option<()> {
-    let image = match way {
+    let image = match scan {
         Way::Nearest => table.map_indexed(alloc, picture).ok()??,
         Way::ByAlpha => table.map_indexed_alpha(alloc, picture, 128, 0).ok()??,
         Way::Diffused => table.diffuse_indexed(alloc, picture, 128, 0).ok()??,

@@ -8,8 +8,8 @@ ghost use Rattle.pix_palette.specs.Indexing.{AreGray, colors_of, values};
 ghost use Rattle.pix_palette.specs.ColorTable.{entries_of, limit_of, IsIndexedIn};
 ghost use Rattle.pix_raster.specs.declared.fault.RasterFault.{RasterFault};
 
-use super::lent::index_in;
 use super::slots::ColorTable;
+use super::slots_indexing::index_in;
 use pix_chan::chan::{Ch8, Gamma};
 use pix_color::gray::Gray8;
 use pix_el::el::Pixel;

@@ -10,7 +10,7 @@ ghost use Rattle.pix_palette.specs.Palette.{numbers};
 ghost use Rattle.pix_palette.specs.Finder.{AreLists, Follows, IsNowhere, IsWhole, place};
 
 use super::lists::Lists;
-use super::near::Near;
+use super::threshold_search::ThresholdSearch;
 use pix_el::rgb::SRgb8;
 use pix_table::TableColor;
 use std::alloc::Global;
@@ -29,7 +29,7 @@ const MORE: usize = 2048;
 #[derive(Drop)]
 pub(super) struct Finder {
     pub(super) lists: Lists,
-    pub(super) near: Near,
+    pub(super) near: ThresholdSearch,
     room: usize,
     compared: usize,
 }
@@ -53,7 +53,7 @@ impl Finder {
     {
         Finder {
             lists: Lists::new(alloc),
-            near: Near::new(alloc, room),
+            near: ThresholdSearch::new(alloc, room),
             room,
             compared: 0,
         }

@@ -1,7 +1,7 @@
 //! Images of indices into a palette.
 ghost use Rattle.std.specs.Prelude.{◌≡◌, Some, None, length, map, true, if◌then◌else◌, IfOk, IfErr};
 ghost use Rattle.std.specs.Option.{option_map};
-ghost use Rattle.pix_table.specs.Kept.{AreRight};
+ghost use Rattle.pix_table.specs.ColorCache.{AreRight};
 ghost use Rattle.pix_table.specs.Setting.{IsSet};
 ghost use Rattle.pix_table.specs.Indexing.{IsSetUpTo, AreIndexed};
 ghost use Rattle.pix_palette.specs.Palette.{Answers, numbers};
@@ -120,7 +120,7 @@ impl Palette {
     ) -> Option<usize>
         requires right { AreRight
             (Answers Threshold.post (option_map (λ chosen. chosen.f) self.old.threshold))
-            (map numbers self.old.colors.items) cache.old.kept }
+            (map numbers self.old.colors.items) cache.old.cached }
         requires finder { Follows (map numbers self.old.colors.items) finder.old }
         ensures set { IsSetUpTo numbers (IsSet numbers
             (Answers Threshold.post (option_map (λ chosen. chosen.f) self.old.threshold))
@@ -128,7 +128,7 @@ impl Palette {
             greatest self.old.colors.items (numbers clr) result self.new.colors.items }
         ensures right { AreRight
             (Answers Threshold.post (option_map (λ chosen. chosen.f) self.old.threshold))
-            (map numbers self.new.colors.items) cache.new.kept }
+            (map numbers self.new.colors.items) cache.new.cached }
         ensures finder { Follows (map numbers self.new.colors.items) finder.new }
         ensures limit { self.new.limit ≡ self.old.limit }
         ensures threshold { self.new.threshold ≡ self.old.threshold }

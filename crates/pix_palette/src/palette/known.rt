@@ -1,15 +1,15 @@
 //! Colors that are cached beside a palette while an image is indexed.
 ghost use Rattle.std.specs.Prelude.{◌≡◌, ℕ, List, [], ◌∷◌, map, true};
 ghost use Rattle.std.specs.Option.{option_map};
-ghost use Rattle.pix_table.specs.Kept.{AreRight};
+ghost use Rattle.pix_table.specs.ColorCache.{AreRight};
 ghost use Rattle.pix_table.specs.Nearest.{numbers as color_numbers};
 ghost use Rattle.pix_table.specs.Setting.{IsSet, StandsFor};
 ghost use Rattle.pix_palette.specs.Palette.{Answers, numbers};
-ghost use Rattle.pix_palette.specs.Finder.{Follows, HasNear, IsNowhere, IsWhole};
+ghost use Rattle.pix_palette.specs.Finder.{Follows, HasThresholdSearch, IsNowhere, IsWhole};
 
 use super::finder::Finder;
-use super::near::Near;
 use super::table::{Palette, Threshold};
+use super::threshold_search::ThresholdSearch;
 use pix_el::rgb::SRgb8;
 use pix_table::{Cache, Color, TableColor};
 use std::alloc::Global;
@@ -43,13 +43,13 @@ impl Palette {
 
     /// Returns the entry that stands for a color which no entry equals. Where the threshold is 0
     /// there is none, and then nothing is made.
-    fn standing_near(&self, alloc: Global, near: &mut Near, clr: SRgb8) -> Option<usize>
+    fn standing_near(&self, alloc: Global, near: &mut ThresholdSearch, clr: SRgb8) -> Option<usize>
         requires nowhere { IsNowhere (map numbers self.now.colors.items) (numbers clr) }
-        requires near { HasNear (map numbers self.now.colors.items) near.old }
+        requires near { HasThresholdSearch (map numbers self.now.colors.items) near.old }
         ensures standing { StandsFor
             (Answers Threshold.post (option_map (λ chosen. chosen.f) self.now.threshold))
             (map numbers self.now.colors.items) (numbers clr) result }
-        ensures near { HasNear (map numbers self.now.colors.items) near.new }
+        ensures near { HasThresholdSearch (map numbers self.now.colors.items) near.new }
     {
         let threshold = self.threshold().color();
         if is_zero(threshold) {
@@ -92,14 +92,14 @@ impl Palette {
     ) -> Option<usize>
         requires right { AreRight
             (Answers Threshold.post (option_map (λ chosen. chosen.f) self.old.threshold))
-            (map numbers self.old.colors.items) cache.old.kept }
+            (map numbers self.old.colors.items) cache.old.cached }
         requires finder { Follows (map numbers self.old.colors.items) finder.old }
         ensures set { IsSet numbers
             (Answers Threshold.post (option_map (λ chosen. chosen.f) self.old.threshold))
             self.old.limit self.old.colors.items clr result self.new.colors.items }
         ensures right { AreRight
             (Answers Threshold.post (option_map (λ chosen. chosen.f) self.old.threshold))
-            (map numbers self.new.colors.items) cache.new.kept }
+            (map numbers self.new.colors.items) cache.new.cached }
         ensures finder { Follows (map numbers self.new.colors.items) finder.new }
         ensures limit { self.new.limit ≡ self.old.limit }
         ensures threshold { self.new.threshold ≡ self.old.threshold }

@@ -8,7 +8,7 @@ ghost use Rattle.pix_palette.specs.ColorTable.{entries_of, IsMapped, IsLookedUp}
 ghost use Rattle.pix_raster.specs.declared.fault.RasterFault.{RasterFault};
 
 use super::index::IndexPixel;
-use super::made::ENTRIES;
+use super::quantization::ENTRIES;
 use super::slots::ColorTable;
 use pix_chan::chan::{Ch8, Gamma};
 use pix_color::gray::Gray8;

@@ -4,23 +4,23 @@ ghost use Rattle.std.specs.Prelude.{IfOk, IfErr, MatchOption};
 ghost use Rattle.pix_table.specs.LookUp.{all_below};
 ghost use Rattle.pix_table.specs.Seen.{rgba_numbers, AreSeenMatched};
 ghost use Rattle.pix_table.specs.SeenDiffusion.{AreSeenDiffused};
-ghost use Rattle.pix_table.specs.SeenTables.{IsRgbaTableFrom};
+ghost use Rattle.pix_table.specs.SeenTables.{IsQuantizedRgba};
 ghost use Rattle.pix_table.specs.SrgbColor.{srgba_numbers};
 ghost use Rattle.pix_palette.specs.Indexing.{shades_of, values};
 ghost use Rattle.pix_palette.specs.ColorTable.{IsIndexImage};
 ghost use Rattle.pix_palette.specs.RgbaTable.{colors_of_table, IsRgbaLookedUp};
 ghost use Rattle.pix_raster.specs.declared.fault.RasterFault.{RasterFault};
 
-use super::made::{ENTRIES, WHOLE, index_image, shades};
 use super::mapped::look_up_pixels;
+use super::quantization::{ENTRIES, WHOLE, index_image, shades};
 use pix_chan::chan::{Ch8, Gamma};
 use pix_color::gray::Gray8;
 use pix_el::el::{Pix, Pixel};
 use pix_el::rgb::SRgba8;
 use pix_raster::{Raster, RasterFault};
 use pix_table::{
-    DiffusionWay, RgbaColor, RgbaDiffusion, Seen, diffuse_rgba_pixels, match_rgba_pixels,
-    rgba_table_from,
+    RgbaColor, RgbaDiffusion, ScanOrder, Seen, diffuse_indexed_rgba, map_indexed_rgba,
+    quantize_rgba,
 };
 use std::alloc::Global;
 
@@ -32,7 +32,7 @@ use std::alloc::Global;
 /// # Examples
 ///
 /// ```rust
-/// let Some(table) = RgbaTable::from_raster(alloc, picture, 256, 4)? else {
+/// let Some(table) = RgbaTable::quantize(alloc, picture, 256, 4)? else {
 ///     return Ok(None); // not for 256 entries
 /// };
 /// let Some(indices) = table.map_indexed(alloc, picture)? else {
@@ -63,7 +63,7 @@ impl RgbaTable {
     /// # Examples
     ///
     /// ```rust
-    /// let Some(table) = RgbaTable::from_raster(alloc, picture, 256, 4)? else {
+    /// let Some(table) = RgbaTable::quantize(alloc, picture, 256, 4)? else {
     ///     return Ok(None); // not for 256 entries
     /// };
     /// let Some(indices) = table.map_indexed(alloc, picture)? else {
@@ -71,7 +71,7 @@ impl RgbaTable {
     /// };
     /// table.look_up(alloc, &indices)
     /// ```
-    pub fn from_raster<S>(
+    pub fn quantize<S>(
         alloc: Global,
         raster: &Raster<S>,
         limit: usize,
@@ -83,7 +83,7 @@ impl RgbaTable {
         S::Gamma: Gamma<Ch8>,
         ensures made { IfOk result (λ answer. MatchOption answer
             ((limit ≡ 0) ⊎ (256 < limit))
-            (λ table. IsRgbaTableFrom rounds limit
+            (λ table. IsQuantizedRgba rounds limit
             (shades_of S.format ⟦<S::Gamma as Gamma<Ch8>>⟧.mode S.numbers raster.now.pixels)
             (map srgba_numbers (colors_of_table table)))) }
         ensures memory { IfErr result (λ fault. fault ≡ RasterFault.Memory) }
@@ -163,7 +163,7 @@ impl RgbaTable {
     /// # Examples
     ///
     /// ```rust
-    /// let Some(table) = RgbaTable::from_raster(alloc, picture, 256, 4)? else {
+    /// let Some(table) = RgbaTable::quantize(alloc, picture, 256, 4)? else {
     ///     return Ok(None); // not for 256 entries
     /// };
     /// let Some(indices) = table.map_indexed(alloc, picture)? else {
@@ -209,17 +209,17 @@ impl RgbaTable {
     /// # Examples
     ///
     /// ```rust
-    /// let Some(table) = RgbaTable::from_raster(alloc, picture, 256, 4)? else {
+    /// let Some(table) = RgbaTable::quantize(alloc, picture, 256, 4)? else {
     ///     return Ok(None); // not for 256 entries
     /// };
-    /// table.diffuse_indexed(alloc, picture, 12, DiffusionWay::Serpentine)
+    /// table.diffuse_indexed(alloc, picture, 12, ScanOrder::Serpentine)
     /// ```
     pub fn diffuse_indexed<S>(
         &self,
         alloc: Global,
         raster: &Raster<S>,
         strength: u8,
-        way: DiffusionWay,
+        scan: ScanOrder,
     ) -> Result<Option<Raster<Gray8>>, RasterFault>
     where
         S: Pixel,
@@ -229,7 +229,7 @@ impl RgbaTable {
             ((length (colors_of_table self.now) ≡ 0) ⊎ (256 < length (colors_of_table self.now))
             ⊎ (16 < strength))
             (λ image. IsIndexImage ⟦<Gray8 as Pixel>⟧.numbers raster.now.width raster.now.height
-            image × AreSeenDiffused way strength raster.now.width
+            image × AreSeenDiffused scan strength raster.now.width
             (map srgba_numbers (colors_of_table self.now))
             (shades_of S.format ⟦<S::Gamma as Gamma<Ch8>>⟧.mode S.numbers raster.now.pixels)
             (values ⟦<Gray8 as Pixel>⟧.numbers image.pixels))) }
@@ -242,7 +242,7 @@ impl RgbaTable {
         let how = RgbaDiffusion {
             width: shades.width() as usize,
             strength,
-            way,
+            scan,
         };
         let Some(indices) = rgba_diffused(alloc, self.colors(), shades.pixels(), how)? else {
             return Ok(None);
@@ -261,7 +261,7 @@ impl RgbaTable {
     /// # Examples
     ///
     /// ```rust
-    /// let Some(table) = RgbaTable::from_raster(alloc, picture, 256, 4)? else {
+    /// let Some(table) = RgbaTable::quantize(alloc, picture, 256, 4)? else {
     ///     return Ok(None); // not for 256 entries
     /// };
     /// let Some(indices) = table.map_indexed(alloc, picture)? else {
@@ -294,7 +294,7 @@ impl RgbaTable {
     }
 }
 
-/// Makes a table of pixels, as [`RgbaTable::from_raster`] does.
+/// Makes a table of pixels, as [`RgbaTable::quantize`] does.
 fn rgba_table_of(
     alloc: Global,
     pixels: &[SRgba8],
@@ -303,7 +303,7 @@ fn rgba_table_of(
 ) -> Result<Option<RgbaTable>, RasterFault>
     ensures made { IfOk result (λ answer. MatchOption answer
         ((limit ≡ 0) ⊎ (256 < limit))
-        (λ table. IsRgbaTableFrom rounds limit (map srgba_numbers pixels.now)
+        (λ table. IsQuantizedRgba rounds limit (map srgba_numbers pixels.now)
         (map srgba_numbers (colors_of_table table)))) }
     ensures memory { IfErr result (λ fault. fault ≡ RasterFault.Memory) }
 {
@@ -313,7 +313,7 @@ fn rgba_table_of(
     let mut work = vec![in alloc; Seen::default(); pixels.len()]?;
     let mut room = [RgbaColor::default(); ENTRIES];
     let entries = &mut room[..limit];
-    let Some(len) = rgba_table_from(pixels, rounds, &mut work, entries) else {
+    let Some(len) = quantize_rgba(pixels, rounds, &mut work, entries) else {
         return Ok(None);
     };
     let mut colors = vec![in alloc; SRgba8::default(); len]?;
@@ -360,7 +360,7 @@ fn rgba_matched(
         return Ok(None);
     }
     let mut indices = vec![in alloc; 0; pixels.len()]?;
-    match_rgba_pixels(colors, pixels, &mut indices);
+    map_indexed_rgba(colors, pixels, &mut indices);
     Ok(Some(indices))
 }
 
@@ -378,7 +378,7 @@ fn rgba_diffused(
     requires whole { length pixels.now % how.width ≡ 0 }
     ensures diffused { IfOk result (λ answer. MatchOption answer
         ((length colors.now ≡ 0) ⊎ (256 < length colors.now))
-        (λ indices. AreSeenDiffused how.way how.strength how.width (map srgba_numbers colors.now)
+        (λ indices. AreSeenDiffused how.scan how.strength how.width (map srgba_numbers colors.now)
         (map srgba_numbers pixels.now) indices.items)) }
     ensures memory { IfErr result (λ fault. fault ≡ RasterFault.Memory) }
 {
@@ -392,8 +392,8 @@ fn rgba_diffused(
     let rows = RgbaDiffusion {
         width,
         strength: how.strength,
-        way: how.way,
+        scan: how.scan,
     };
-    diffuse_rgba_pixels(colors, pixels, rows, &mut work, &mut indices);
+    diffuse_indexed_rgba(colors, pixels, rows, &mut work, &mut indices);
     Ok(Some(indices))
 }

@@ -6,10 +6,10 @@ ghost use Rattle.pix_raster.specs.Image.{point, region_of, Changed};
 ghost use Rattle.pix_raster.specs.Run.{run_at, done_at, op_of, HasSwappedNeighbours};
 ghost use Rattle.pix_ops.specs.ExactRun.{IsWithinBudget, IsWithinPremultipliedBound, HasSmallBudget};
 ghost use Rattle.pix_raster.specs.Bounds.{OfEachChannel};
-ghost use Rattle.pix_raster.specs.Kept.{KeepsPremultiplied};
+ghost use Rattle.pix_raster.specs.PremultipliedRuns.{KeepsPremultiplied};
 ghost use Rattle.pix_raster.specs.Stays.{StaysUnderTransparent, keeps_under};
 ghost use Rattle.pix_raster.specs.Reach.{is_paired};
-ghost use Rattle.pix_raster.specs.Lent.{IsShaped, where_covered, where_paired, where_masked};
+ghost use Rattle.pix_raster.specs.View.{IsShaped, where_covered, where_paired, where_masked};
 ghost use Rattle.pix_raster.specs.declared.command.Command.{Command};
 
 use super::Raster;
@@ -19,8 +19,8 @@ use super::row_change::{
 };
 use super::window::masked_from;
 use crate::command::Command;
-use crate::lent::{self, Blit, Fill, MaskedBlit, Shape, Window};
 use crate::region::Region;
+use crate::view::{self, Blit, Fill, MaskedBlit, Shape, Window};
 use pix_chan::chan::{Alpha, Linear, Premultiplied};
 use pix_el::el::{Pix, Pixel};
 use pix_el::matte::Matte;
@@ -103,7 +103,7 @@ impl<P> Raster<P> {
         ensures { Changed F.reads self.old self.new (where_covered reg (F.makes change.now)) }
     {
         let shape = self.shape();
-        lent::fill_region(&mut self.pixels, shape, reg, change);
+        view::fill_region(&mut self.pixels, shape, reg, change);
     }
 
     /// Changes each point of the overlap of two regions by its point of the source.
@@ -120,7 +120,7 @@ impl<P> Raster<P> {
             (point B.source_reads src.now) (B.makes change.now)) }
     {
         let shape = self.shape();
-        lent::blit_region(
+        view::blit_region(
             &mut self.pixels,
             shape,
             to,

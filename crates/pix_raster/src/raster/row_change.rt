@@ -2,11 +2,11 @@
 //! through mattes.
 //!
 //! A drawing call of another kind is another struct here, with its `Fill`, `Blit` or `MaskedBlit`;
-//! the walks of `lent.rt` stay as they are.
+//! the walks of `view.rt` stay as they are.
 ghost use Rattle.std.specs.Prelude.{◌≡◌, ◌+◌, ⊤};
 ghost use Rattle.pix_el.specs.PixelComposite.{pixel_composite, matted_composite, matte_value, matte_numbers};
 
-use crate::lent::{Blit, Fill, MaskedBlit};
+use crate::view::{Blit, Fill, MaskedBlit};
 use pix_chan::chan::{Alpha, Linear, Premultiplied};
 use pix_el::el::{Pix, Pixel};
 use pix_el::matte::Matte;

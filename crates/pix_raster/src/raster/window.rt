@@ -3,7 +3,7 @@ ghost use Rattle.std.specs.Prelude.{◌≡◌, ℕ, ◌+◌, ◌<◌, ◌≤◌,
 ghost use Rattle.pix_el.specs.PixelComposite.{matte_numbers};
 ghost use Rattle.pix_raster.specs.Region.{limit, whole};
 ghost use Rattle.pix_raster.specs.Image.{Image, Changed, point, region_of};
-ghost use Rattle.pix_raster.specs.Lent.{IsWindow, ChangedIn, where_paired, where_masked, picture, largest, in_window};
+ghost use Rattle.pix_raster.specs.View.{IsWindow, ChangedIn, where_paired, where_masked, picture, largest, in_window};
 ghost use Rattle.pix_raster.specs.Run.{run_at, op_of, is_masked};
 ghost use Rattle.pix_raster.specs.Claims.{IsImageRun};
 ghost use Rattle.pix_raster.specs.Window.{IsPartOf, command_from};
@@ -14,11 +14,11 @@ use super::row_change::{
     MattedPixels,
 };
 use crate::command::Command;
-use crate::lent::{
+use crate::region::Region;
+use crate::view::{
     Blit, MaskedBlit, Painting, Source, Window, blit_masked, blit_window, fill_window,
     paint_by_bands, points_in,
 };
-use crate::region::Region;
 use pix_chan::chan::{Alpha, Linear, Premultiplied};
 use pix_el::el::{Pix, Pixel};
 use pix_el::matte::Matte;

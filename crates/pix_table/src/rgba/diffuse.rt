@@ -3,14 +3,16 @@ ghost use Rattle.std.specs.Prelude.{◌≡◌, ℕ, ◌*◌, ◌%◌, ◌<◌, �
 ghost use Rattle.pix_table.specs.Seen.{AreSeen, seen, seen_distance, seen_numbers};
 ghost use Rattle.pix_table.specs.SeenDiffusion.{AreSeenDiffused, seen_of_channels};
 ghost use Rattle.pix_table.specs.SeenLanes.{AreSeenLanes};
-ghost use Rattle.pix_table.specs.declared.diffuse.DiffusionWay.TheVariants.{Serpentine};
+ghost use Rattle.pix_table.specs.declared.diffuse.ScanOrder.TheVariants.{Serpentine};
 
 use crate::color::TablePixel;
-use crate::diffuse::{Diffusion, DiffusionWay, diffuse_all};
+use crate::diffuse::{Diffusion, ScanOrder, diffuse_all};
+use crate::diffused_color::{
+    ColorError, DiffusedColor, FindsNearest, NeighborErrors, ShownAs, corrected, handed,
+};
 use crate::rgba::color::{Seen, seen_of};
 use crate::rgba::lanes::SeenLanes;
 use crate::rgba::matched::seen_entries;
-use crate::spread::{FindsNearest, Miss, Near, ShownAs, Spread, corrected, handed};
 
 /// How the pixels of a picture are indexed by error diffusion to a table of colors with an alpha.
 #[derive(Clone, Copy, Debug, PartialEq, Eq)]
@@ -20,10 +22,10 @@ pub struct RgbaDiffusion {
     /// How many sixteenths of the errors are handed on: at most 16.
     pub strength: u8,
     /// In which order the pixels of a row are taken.
-    pub way: DiffusionWay,
+    pub scan: ScanOrder,
 }
 
-/// Sets the index of each pixel by error diffusion, as [`diffuse_pixels`] does, to a table of
+/// Sets the index of each pixel by error diffusion, as [`diffuse_indexed`] does, to a table of
 /// colors with an alpha. The index is that of the entry that is seen nearest to the pixel plus its
 /// share of the errors of the pixels before it.
 ///
@@ -35,8 +37,8 @@ pub struct RgbaDiffusion {
 /// are handed on, there are as many indices as pixels, and `work` has four rows of colors. In the
 /// serpentine way the rows are whole.
 ///
-/// [`diffuse_pixels`]: crate::diffuse_pixels
-pub fn diffuse_rgba_pixels<E: TablePixel, P: TablePixel>(
+/// [`diffuse_indexed`]: crate::diffuse_indexed
+pub fn diffuse_indexed_rgba<E: TablePixel, P: TablePixel>(
     entries: &[E],
     pixels: &[P],
     how: RgbaDiffusion,
@@ -47,10 +49,10 @@ pub fn diffuse_rgba_pixels<E: TablePixel, P: TablePixel>(
     requires few_entries { length entries.now ≤ 256 }
     requires row { 0 < how.width }
     requires strength { how.strength ≤ 16 }
-    requires whole { how.way ≡ Serpentine → length pixels.now % how.width ≡ 0 }
+    requires whole { how.scan ≡ Serpentine → length pixels.now % how.width ≡ 0 }
     requires work { length work.old ≡ 4 * how.width }
     requires many { length indices.old ≡ length pixels.now }
-    ensures { AreSeenDiffused how.way how.strength how.width (map E.values entries.now)
+    ensures { AreSeenDiffused how.scan how.strength how.width (map E.values entries.now)
         (map P.values pixels.now) indices.new }
 {
     let colors = seen_entries(entries);
@@ -60,9 +62,9 @@ pub fn diffuse_rgba_pixels<E: TablePixel, P: TablePixel>(
     let how = Diffusion {
         width: how.width,
         alpha: 1,
-        kept: lanes.nearest(Seen::none()),
+        transparent_index: lanes.nearest(Seen::none()),
         strength: how.strength,
-        way: how.way,
+        scan: how.scan,
     };
     diffuse_all(
         &mut lanes,
@@ -93,7 +95,7 @@ impl ShownAs<Seen> for Seen {
     }
 }
 
-impl Spread for Seen {
+impl DiffusedColor for Seen {
     ghost spread = { seen_numbers };
 
     ghost of_channels = { seen_of_channels };
@@ -115,8 +117,8 @@ impl Spread for Seen {
     }
 
     #[inline(always)]
-    fn missed(self, found: Seen) -> Miss {
-        Miss {
+    fn missed(self, found: Seen) -> ColorError {
+        ColorError {
             red: 255 + u16::from(self.red) - u16::from(found.red),
             green: 255 + u16::from(self.green) - u16::from(found.green),
             blue: 255 + u16::from(self.blue) - u16::from(found.blue),
@@ -126,19 +128,24 @@ impl Spread for Seen {
     }
 
     #[inline(always)]
-    fn wanted<P: TablePixel>(pixel: P, how: Diffusion, near: Near, right_above: Miss) -> Seen {
-        let Near {
+    fn wanted<P: TablePixel>(
+        pixel: P,
+        how: Diffusion,
+        near: NeighborErrors,
+        right_above: ColorError,
+    ) -> Seen {
+        let NeighborErrors {
             left,
             left_above,
             above,
         } = near;
-        let way = how.way;
+        let scan = how.scan;
         let own = seen_of(pixel);
         let alpha = corrected(
             own.alpha,
             how.strength,
             handed(
-                way,
+                scan,
                 left.alpha,
                 left_above.alpha,
                 above.alpha,
@@ -148,13 +155,13 @@ impl Spread for Seen {
         let red = corrected(
             own.red,
             how.strength,
-            handed(way, left.red, left_above.red, above.red, right_above.red),
+            handed(scan, left.red, left_above.red, above.red, right_above.red),
         );
         let green = corrected(
             own.green,
             how.strength,
             handed(
-                way,
+                scan,
                 left.green,
                 left_above.green,
                 above.green,
@@ -165,7 +172,7 @@ impl Spread for Seen {
             own.blue,
             how.strength,
             handed(
-                way,
+                scan,
                 left.blue,
                 left_above.blue,
                 above.blue,
@@ -207,7 +214,7 @@ mod tests {
     }
 
     /// Returns the indices of two rows of pixels, of which the first is clear.
-    fn indices(strength: u8, way: DiffusionWay) -> [u8; 6]
+    fn indices(strength: u8, scan: ScanOrder) -> [u8; 6]
         requires { strength ≤ 16 }
     {
         let entries = [
@@ -227,27 +234,27 @@ mod tests {
         let how = RgbaDiffusion {
             width: 3,
             strength,
-            way,
+            scan,
         };
         let mut indices = [9; 6];
         let mut work = [Seen::default(); 12];
-        diffuse_rgba_pixels(&entries, &pixels, how, &mut work, &mut indices);
+        diffuse_indexed_rgba(&entries, &pixels, how, &mut work, &mut indices);
         indices
     }
 
     #[test]
     fn diffuses_seen_colors(rt: HostRuntime) {
-        let straight = indices(16, DiffusionWay::Straight);
+        let straight = indices(16, ScanOrder::LeftToRight);
         assert_eq!(rt; straight, [0, 2, 1, 0, 1, 2]);
-        let serpentine = indices(16, DiffusionWay::Serpentine);
+        let serpentine = indices(16, ScanOrder::Serpentine);
         assert_eq!(rt; serpentine, [0, 2, 1, 2, 1, 2]);
     }
 
     #[test]
     fn diffuses_less(rt: HostRuntime) {
-        let straight = indices(6, DiffusionWay::Straight);
+        let straight = indices(6, ScanOrder::LeftToRight);
         assert_eq!(rt; straight, [0, 2, 2, 0, 1, 1]);
-        let serpentine = indices(6, DiffusionWay::Serpentine);
+        let serpentine = indices(6, ScanOrder::Serpentine);
         assert_eq!(rt; serpentine, [0, 2, 2, 2, 1, 1]);
     }
 }

@@ -26,7 +26,7 @@ pub(crate) fn seen_entries<E: TablePixel>(entries: &[E]) -> [Seen; ENTRIES]
 /// equals.
 ///
 /// Condition: there is at least one entry and at most 256, and there are as many indices as pixels.
-pub fn match_rgba_pixels<E: TablePixel, P: TablePixel>(
+pub fn map_indexed_rgba<E: TablePixel, P: TablePixel>(
     entries: &[E],
     pixels: &[P],
     indices: &mut [u8],
@@ -80,7 +80,7 @@ mod tests {
             rgba(240, 0, 0, 255),
         ];
         let mut indices = [9; 4];
-        match_rgba_pixels(&entries, &pixels, &mut indices);
+        map_indexed_rgba(&entries, &pixels, &mut indices);
         assert_eq!(rt; indices, [2, 0, 1, 1]);
     }
 
@@ -90,7 +90,7 @@ mod tests {
         let entries = [rgba(0, 0, 255, 255), rgba(0, 0, 0, 255)];
         let pixels = [rgba(255, 255, 0, 255)];
         let mut indices = [9; 1];
-        match_rgba_pixels(&entries, &pixels, &mut indices);
+        map_indexed_rgba(&entries, &pixels, &mut indices);
         assert_eq!(rt; indices, [1]);
     }
 }

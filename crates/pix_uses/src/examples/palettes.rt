@@ -1,7 +1,7 @@
 //! Palettes. A palette is made and used up in one function.
 use pix::gray::Gray8;
 use pix::rgb::{SRgb8, SRgba8};
-use pix::{ColorTable, DiffusionWay, Palette, Raster, RasterFault, RgbaTable};
+use pix::{ColorTable, Palette, Raster, RasterFault, RgbaTable, ScanOrder};
 use std::alloc::Global;
 
 /// Sets colors, and asks for them.
@@ -121,7 +121,7 @@ pub fn diffused(
     alloc: Global,
     picture: &Raster<SRgba8>,
 ) -> Result<Option<Raster<Gray8>>, RasterFault> {
-    let Some(table) = ColorTable::from_raster(alloc, picture, 255, 128)? else {
+    let Some(table) = ColorTable::quantize(alloc, picture, 255, 128)? else {
         return Ok(None); // not for 255 entries
     };
     table.diffuse_indexed(alloc, picture, 128, 255) // index 255 where the alpha is below 128
@@ -132,10 +132,10 @@ pub fn diffused_by(
     alloc: Global,
     picture: &Raster<SRgba8>,
 ) -> Result<Option<Raster<Gray8>>, RasterFault> {
-    let Some(table) = ColorTable::from_raster(alloc, picture, 255, 128)? else {
+    let Some(table) = ColorTable::quantize(alloc, picture, 255, 128)? else {
         return Ok(None); // not for 255 entries
     };
-    table.diffuse_indexed_by(alloc, picture, 128, 255, 12, DiffusionWay::Serpentine)
+    table.diffuse_indexed_by(alloc, picture, 128, 255, 12, ScanOrder::Serpentine)
 }
 
 /// Indexes a picture by the nearest entries of a table of its colors, which is refined.
@@ -143,7 +143,7 @@ pub fn refined(
     alloc: Global,
     picture: &Raster<SRgba8>,
 ) -> Result<Option<Raster<Gray8>>, RasterFault> {
-    let Some(table) = ColorTable::from_raster_refined(alloc, picture, 255, 128, 4)? else {
+    let Some(table) = ColorTable::quantize_refined(alloc, picture, 255, 128, 4)? else {
         return Ok(None); // not for 255 entries
     };
     table.map_indexed_alpha(alloc, picture, 128, 255) // index 255 where the alpha is below 128
@@ -154,7 +154,7 @@ pub fn with_alpha(
     alloc: Global,
     picture: &Raster<SRgba8>,
 ) -> Result<Option<Raster<SRgba8>>, RasterFault> {
-    let Some(table) = RgbaTable::from_raster(alloc, picture, 256, 4)? else {
+    let Some(table) = RgbaTable::quantize(alloc, picture, 256, 4)? else {
         return Ok(None); // not for 256 entries
     };
     let Some(indices) = table.map_indexed(alloc, picture)? else {
@@ -168,10 +168,10 @@ pub fn diffused_with_alpha(
     alloc: Global,
     picture: &Raster<SRgba8>,
 ) -> Result<Option<Raster<Gray8>>, RasterFault> {
-    let Some(table) = RgbaTable::from_raster(alloc, picture, 256, 4)? else {
+    let Some(table) = RgbaTable::quantize(alloc, picture, 256, 4)? else {
         return Ok(None); // not for 256 entries
     };
-    table.diffuse_indexed(alloc, picture, 12, DiffusionWay::Serpentine)
+    table.diffuse_indexed(alloc, picture, 12, ScanOrder::Serpentine)
 }
 
 /// Makes a table of two colors, and asks for them.

@@ -2,8 +2,8 @@ use Rattle.std.proofs.Common.{◌≡◌, ◌∙◌, List, ℕ, sym, ap, refl, su
 use Rattle.pix_ops.specs.declared.ops.Op.{Op}
 use Rattle.pix_el.specs.Pixel.{Layout, channel}
 use Rattle.pix_el.specs.PixelComposite.{matted_composite, matte_value}
-use Rattle.pix_raster.specs.Lent.{IsShaped}
-use Rattle.pix_raster.specs.declared.lent.Shape.{Shape}
+use Rattle.pix_raster.specs.View.{IsShaped}
+use Rattle.pix_raster.specs.declared.view.Shape.{Shape}
 use Rattle.pix_flat.specs.Command.{op_at}
 use Rattle.pix_flat.proofs.Painted.{pixels_shaped, painted_faded}
 use Rattle.pix_flat.proofs.paint.composite_faded.Goals as goal

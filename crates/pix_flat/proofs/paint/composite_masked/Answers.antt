@@ -1,8 +1,8 @@
 use Rattle.std.proofs.Common.{sym, ap, subst, length}
 use Rattle.pix_ops.specs.declared.ops.Op.{Op}
 use Rattle.pix_el.specs.PixelComposite.{matted_composite, matte_value}
-use Rattle.pix_raster.specs.Lent.{IsShaped}
-use Rattle.pix_raster.specs.declared.lent.Shape.{Shape}
+use Rattle.pix_raster.specs.View.{IsShaped}
+use Rattle.pix_raster.specs.declared.view.Shape.{Shape}
 use Rattle.pix_flat.proofs.Painted.{masked_shaped, painted_masked}
 use Rattle.pix_flat.proofs.paint.composite_masked.Goals as goal
 

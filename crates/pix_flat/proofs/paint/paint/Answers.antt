@@ -1,6 +1,6 @@
 use Rattle.std.proofs.Common.{refl, sym, subst, ◌∙◌, length}
-use Rattle.pix_raster.specs.Lent.{IsShaped}
-use Rattle.pix_raster.specs.declared.lent.Shape.{Shape}
+use Rattle.pix_raster.specs.View.{IsShaped}
+use Rattle.pix_raster.specs.declared.view.Shape.{Shape}
 use Rattle.pix_flat.proofs.Painted.{pixels_shaped, painted_clear, painted_copy_color, painted_copy_image}
 use Rattle.pix_flat.proofs.paint.paint.Goals as goal
 

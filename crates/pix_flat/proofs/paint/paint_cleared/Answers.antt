@@ -3,8 +3,8 @@
 use Rattle.std.proofs.Common.{◌≡◌, ◌<◌, ◌∙◌, inl, inr, refl, sym, subst, length, arith}
 use Rattle.std.proofs.lemmas.Bool.{cases_lt}
 use Rattle.pix_el.specs.PixelComposite.{matted_color, matte_value}
-use Rattle.pix_raster.specs.Lent.{IsShaped}
-use Rattle.pix_raster.specs.declared.lent.Shape.{Shape}
+use Rattle.pix_raster.specs.View.{IsShaped}
+use Rattle.pix_raster.specs.declared.view.Shape.{Shape}
 use Rattle.pix_flat.specs.Command.{op_at}
 use Rattle.pix_flat.proofs.Painted.{sound, pixels_shaped, mattes_shaped, masked_shaped, painted_color, painted_image, painted_matte, painted_masked, painted_faded}
 use Rattle.pix_flat.proofs.Cleared.{cleared}

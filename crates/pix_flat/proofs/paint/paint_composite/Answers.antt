@@ -3,8 +3,8 @@
 use Rattle.std.proofs.Common.{refl, sym, ap, subst, length, ◌∙◌}
 use Rattle.pix_ops.specs.declared.ops.Op.{Op}
 use Rattle.pix_el.specs.PixelComposite.{pixel_composite}
-use Rattle.pix_raster.specs.Lent.{IsShaped}
-use Rattle.pix_raster.specs.declared.lent.Shape.{Shape}
+use Rattle.pix_raster.specs.View.{IsShaped}
+use Rattle.pix_raster.specs.declared.view.Shape.{Shape}
 use Rattle.pix_flat.proofs.Painted.{pixels_shaped, painted_color, painted_image}
 use Rattle.pix_flat.proofs.Replaced.{src_pixel}
 use Rattle.pix_flat.proofs.paint.paint_composite.Goals as goal

@@ -2,7 +2,7 @@
 use Rattle.std.proofs.Common.{◌≡◌, false, refl, SFits, w32}
 use Rattle.std.proofs.lemmas.Int.{to_z-of_z}
 use Rattle.pix_raster.specs.Region.{has_row, whole, intersection_of}
-use Rattle.pix_raster.proofs.Views.{no_row}
+use Rattle.pix_raster.proofs.WrittenLemmas.{no_row}
 use Rattle.pix_raster.proofs.clip.row_places.Goals as goal
 
 -- the region has no such row

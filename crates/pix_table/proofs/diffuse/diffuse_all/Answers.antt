@@ -5,9 +5,9 @@ use Rattle.std.proofs.Math.Nat.{zero-mod}
 use Rattle.std.proofs.lemmas.List.{length-map, get_or-map}
 use Rattle.pix_table.specs.Nearest.{IsNearestBy, alpha_of}
 use Rattle.pix_table.specs.Diffusion.{in_picture, wanted_at}
-use Rattle.pix_table.specs.Done.{AreLatest, AreNear, IsMiss, IsMissAbove}
+use Rattle.pix_table.specs.Done.{AreLatest, AreNeighborErrors, IsColorError, IsColorErrorAbove}
 use Rattle.pix_table.proofs.Diffused.{none_done, no_miss, clear_done, shown_done, alike, turned_as}
-use Rattle.pix_table.proofs.Ways.{begins, in_picture_below}
+use Rattle.pix_table.proofs.ScanOrders.{begins, in_picture_below}
 use Rattle.pix_table.proofs.diffuse.diffuse_all.Goals as goal
 use Rattle.pix_table.proofs.diffuse.diffuse_all.Goals.{then-clear, else-clear}
 
@@ -16,20 +16,20 @@ loop-k-init g c = record {
   done = none_done _ _ _ _ _ _ _ _ _ _ _ _ _ c.requires.row;
   same = c.requires.entries;
   column = sym (zero-mod c.args.how.width);
-  back = begins c.args.how.way c.args.how.width;
+  back = begins c.args.how.scan c.args.how.width;
 }
 
 pub place_of-at-requires-clause-few : goal.place_of-at-requires-clause-few
 place_of-at-requires-clause-few g c =
-    omega (arith, in_picture_below c.args.how.way c.args.how.width (length c.args.pixels.now) c.loop-k.k c.requires.row c.loop-k-test.true c.requires.whole)
+    omega (arith, in_picture_below c.args.how.scan c.args.how.width (length c.args.pixels.now) c.loop-k.k c.requires.row c.loop-k-test.true c.requires.whole)
 
 pub offset_bounds-pixels-at : goal.offset_bounds-pixels-at
 offset_bounds-pixels-at g c =
-    omega (arith, c.place_of-at.ensures, in_picture_below c.args.how.way c.args.how.width (length c.args.pixels.now) c.loop-k.k c.requires.row c.loop-k-test.true c.requires.whole)
+    omega (arith, c.place_of-at.ensures, in_picture_below c.args.how.scan c.args.how.width (length c.args.pixels.now) c.loop-k.k c.requires.row c.loop-k-test.true c.requires.whole)
 
 pub bounds-pixels-at : goal.bounds-pixels-at
 bounds-pixels-at g c =
-    omega (arith, c.place_of-at.ensures, in_picture_below c.args.how.way c.args.how.width (length c.args.pixels.now) c.loop-k.k c.requires.row c.loop-k-test.true c.requires.whole)
+    omega (arith, c.place_of-at.ensures, in_picture_below c.args.how.scan c.args.how.width (length c.args.pixels.now) c.loop-k.k c.requires.row c.loop-k-test.true c.requires.whole)
 
 pub bounds-indices-at : goal.bounds-indices-at
 bounds-indices-at g c =
@@ -38,16 +38,16 @@ bounds-indices-at g c =
       c.place_of-at.ensures,
       c.loop-k.auto.indices,
       c.requires.many,
-      in_picture_below c.args.how.way c.args.how.width (length c.args.pixels.now) c.loop-k.k c.requires.row c.loop-k-test.true c.requires.whole,
+      in_picture_below c.args.how.scan c.args.how.width (length c.args.pixels.now) c.loop-k.k c.requires.row c.loop-k-test.true c.requires.whole,
     )
 
 pub offset_bounds-pixels-at-else-clear : goal.offset_bounds-pixels-at-else-clear
 offset_bounds-pixels-at-else-clear g c =
-    omega (arith, c.place_of-at.ensures, in_picture_below c.args.how.way c.args.how.width (length c.args.pixels.now) c.loop-k.k c.requires.row c.loop-k-test.true c.requires.whole)
+    omega (arith, c.place_of-at.ensures, in_picture_below c.args.how.scan c.args.how.width (length c.args.pixels.now) c.loop-k.k c.requires.row c.loop-k-test.true c.requires.whole)
 
 pub bounds-pixels-at-else-clear : goal.bounds-pixels-at-else-clear
 bounds-pixels-at-else-clear g c =
-    omega (arith, c.place_of-at.ensures, in_picture_below c.args.how.way c.args.how.width (length c.args.pixels.now) c.loop-k.k c.requires.row c.loop-k-test.true c.requires.whole)
+    omega (arith, c.place_of-at.ensures, in_picture_below c.args.how.scan c.args.how.width (length c.args.pixels.now) c.loop-k.k c.requires.row c.loop-k-test.true c.requires.whole)
 
 pub offset_bounds-entries-from : goal.offset_bounds-entries-from
 offset_bounds-entries-from g c =
@@ -66,54 +66,54 @@ bounds-indices-at-else-clear g c =
       c.place_of-at.ensures,
       c.loop-k.auto.indices,
       c.requires.many,
-      in_picture_below c.args.how.way c.args.how.width (length c.args.pixels.now) c.loop-k.k c.requires.row c.loop-k-test.true c.requires.whole,
+      in_picture_below c.args.how.scan c.args.how.width (length c.args.pixels.now) c.loop-k.k c.requires.row c.loop-k-test.true c.requires.whole,
     )
 
 pub loop-k-preserved : goal.loop-k-preserved
 loop-k-preserved g c =
-    let way = c.args.how.way in
+    let scan = c.args.how.scan in
     let width : ℕ = c.args.how.width in
     let k : ℕ = c.loop-k.k in
-    let f = g.S.Spread.spread in
+    let f = g.S.DiffusedColor.spread in
     let entries = map g.C.ShownAs.shown c.args.entries.now in
-    let pixels = map (λ pixel. g.S.Spread.given (g.P.TablePixel.values pixel)) c.args.pixels.now in
+    let pixels = map (λ pixel. g.S.DiffusedColor.given (g.P.TablePixel.values pixel)) c.args.pixels.now in
     let place : c.loop-k.column ≡ c.loop-k.k % c.args.how.width = c.loop-k.invariant.column in
     let within : c.place_of-at.result < length c.args.pixels.now =
-    omega (arith, c.place_of-at.ensures, in_picture_below c.args.how.way c.args.how.width (length c.args.pixels.now) c.loop-k.k c.requires.row c.loop-k-test.true c.requires.whole) in
-    let inside : in_picture c.args.how.way c.args.how.width c.loop-k.k < length c.loop-k.indices =
+    omega (arith, c.place_of-at.ensures, in_picture_below c.args.how.scan c.args.how.width (length c.args.pixels.now) c.loop-k.k c.requires.row c.loop-k-test.true c.requires.whole) in
+    let inside : in_picture c.args.how.scan c.args.how.width c.loop-k.k < length c.loop-k.indices =
     omega (arith, c.place_of-at.ensures, within, c.loop-k.auto.indices, c.requires.many) in
-    let pixel : g.S.Spread.given (g.P.TablePixel.values c.index-pixels-at.result)
-    ≡ get_or (map (λ pixel. g.S.Spread.given (g.P.TablePixel.values pixel)) c.args.pixels.now) (in_picture c.args.how.way c.args.how.width c.loop-k.k) [] =
-    ap (λ v. g.S.Spread.given (g.P.TablePixel.values v)) c.index-pixels-at.is ∙ sym (get_or-map (λ v. g.S.Spread.given (g.P.TablePixel.values v)) c.args.pixels.now c.place_of-at.result c.index-pixels-at.result [] within)
+    let pixel : g.S.DiffusedColor.given (g.P.TablePixel.values c.index-pixels-at.result)
+    ≡ get_or (map (λ pixel. g.S.DiffusedColor.given (g.P.TablePixel.values pixel)) c.args.pixels.now) (in_picture c.args.how.scan c.args.how.width c.loop-k.k) [] =
+    ap (λ v. g.S.DiffusedColor.given (g.P.TablePixel.values v)) c.index-pixels-at.is ∙ sym (get_or-map (λ v. g.S.DiffusedColor.given (g.P.TablePixel.values v)) c.args.pixels.now c.place_of-at.result c.index-pixels-at.result [] within)
     ∙ ap (λ n. get_or pixels n []) c.place_of-at.ensures in
-    let alpha : alpha_of (g.S.Spread.given (g.P.TablePixel.values c.index-pixels-at.result)) ≡ c.alpha.result =
-    g.met.S.Spread.same_alpha (g.P.TablePixel.values c.index-pixels-at.result) ∙ sym c.alpha.ensures in
-    let long_wanted : length (map g.S.Spread.spread c.loop-k.wanted) ≡ c.args.how.width = length-map c.loop-k.wanted f ∙ c.loop-k.auto.wanted ∙ c.requires.wanted in
-    let long_found : length (map g.S.Spread.spread c.loop-k.found) ≡ c.args.how.width = length-map c.loop-k.found f ∙ c.loop-k.auto.found ∙ c.requires.found in
+    let alpha : alpha_of (g.S.DiffusedColor.given (g.P.TablePixel.values c.index-pixels-at.result)) ≡ c.alpha.result =
+    g.met.S.DiffusedColor.same_alpha (g.P.TablePixel.values c.index-pixels-at.result) ∙ sym c.alpha.ensures in
+    let long_wanted : length (map g.S.DiffusedColor.spread c.loop-k.wanted) ≡ c.args.how.width = length-map c.loop-k.wanted f ∙ c.loop-k.auto.wanted ∙ c.requires.wanted in
+    let long_found : length (map g.S.DiffusedColor.spread c.loop-k.found) ≡ c.args.how.width = length-map c.loop-k.found f ∙ c.loop-k.auto.found ∙ c.requires.found in
     let next : c.next_place-column.result ≡ (c.loop-k.k + 1) % c.args.how.width = c.next_place-column.ensures.next c.loop-k.k c.loop-k.invariant.column in
     let done = c.loop-k.invariant.done in
-    let last_wanted : AreLatest c.args.how.way done.all_wanted c.args.how.width (c.loop-k.k - c.loop-k.column) c.loop-k.column (map g.S.Spread.spread c.loop-k.wanted) =
-    subst (λ n. AreLatest way done.all_wanted width (k - n) n (map f c.loop-k.wanted)) (sym place) done.last_wanted in
-    let last_found : AreLatest c.args.how.way done.all_found c.args.how.width (c.loop-k.k - c.loop-k.column) c.loop-k.column (map g.S.Spread.spread c.loop-k.found) =
-    subst (λ n. AreLatest way done.all_found width (k - n) n (map f c.loop-k.found)) (sym place) done.last_found in
-    let around : AreNear c.args.how.way done.all_wanted done.all_found c.args.how.width (c.loop-k.k - c.loop-k.k % c.args.how.width) (c.loop-k.k % c.args.how.width) c.begun-around.result =
-    subst (λ n. AreNear way done.all_wanted done.all_found width (k - n) n c.begun-around.result) place
+    let last_wanted : AreLatest c.args.how.scan done.all_wanted c.args.how.width (c.loop-k.k - c.loop-k.column) c.loop-k.column (map g.S.DiffusedColor.spread c.loop-k.wanted) =
+    subst (λ n. AreLatest scan done.all_wanted width (k - n) n (map f c.loop-k.wanted)) (sym place) done.last_wanted in
+    let last_found : AreLatest c.args.how.scan done.all_found c.args.how.width (c.loop-k.k - c.loop-k.column) c.loop-k.column (map g.S.DiffusedColor.spread c.loop-k.found) =
+    subst (λ n. AreLatest scan done.all_found width (k - n) n (map f c.loop-k.found)) (sym place) done.last_found in
+    let around : AreNeighborErrors c.args.how.scan done.all_wanted done.all_found c.args.how.width (c.loop-k.k - c.loop-k.k % c.args.how.width) (c.loop-k.k % c.args.how.width) c.begun-around.result =
+    subst (λ n. AreNeighborErrors scan done.all_wanted done.all_found width (k - n) n c.begun-around.result) place
     (c.begun-around.ensures done.all_wanted done.all_found last_wanted last_found
-    (λ some. subst (λ n. AreNear way done.all_wanted done.all_found width (k - n) n c.loop-k.near) (sym place) (done.near_within (subst (λ n. 0 < n) place some)))) in
-    let above_right : IsMissAbove c.args.how.way done.all_wanted done.all_found c.args.how.width (c.loop-k.k - c.loop-k.k % c.args.how.width) (c.loop-k.k % c.args.how.width) c.right_above-right_above.result =
-    subst (λ n. IsMissAbove way done.all_wanted done.all_found width (k - n) n c.right_above-right_above.result) place
+    (λ some. subst (λ n. AreNeighborErrors scan done.all_wanted done.all_found width (k - n) n c.loop-k.near) (sym place) (done.near_within (subst (λ n. 0 < n) place some)))) in
+    let above_right : IsColorErrorAbove c.args.how.scan done.all_wanted done.all_found c.args.how.width (c.loop-k.k - c.loop-k.k % c.args.how.width) (c.loop-k.k % c.args.how.width) c.right_above-right_above.result =
+    subst (λ n. IsColorErrorAbove scan done.all_wanted done.all_found width (k - n) n c.right_above-right_above.result) place
     (c.right_above-right_above.ensures done.all_wanted done.all_found last_wanted last_found) in
     elim c.if-clear.branch [
       | then-clear w ↦
-          let below : alpha_of (g.S.Spread.given (g.P.TablePixel.values c.index-pixels-at.result)) < c.args.how.alpha = omega (arith, alpha, w.if-clear.true) in
+          let below : alpha_of (g.S.DiffusedColor.given (g.P.TablePixel.values c.index-pixels-at.result)) < c.args.how.alpha = omega (arith, alpha, w.if-clear.true) in
           record {
             done = alike _ _ _ _ _ _ _ _ _ _ _ _ _ _ _
-                (w.indices-is ∙ ap (λ n. set c.loop-k.indices n c.args.how.kept) c.place_of-at.ensures)
+                (w.indices-is ∙ ap (λ n. set c.loop-k.indices n c.args.how.transparent_index) c.place_of-at.ensures)
                 (clear_done _ _ _ _ _ _ _ _ _ _ _ _ _ _ _ _ _ c.requires.row inside long_wanted long_found done around above_right _ _
-                (subst (λ m. IsMiss true (g.S.Spread.of_channels (λ c. 0)) (g.S.Spread.of_channels (λ c. 0)) m) (sym w.left-is) (no_miss (g.S.Spread.of_channels (λ c. 0))))
+                (subst (λ m. IsColorError true (g.S.DiffusedColor.of_channels (λ c. 0)) (g.S.DiffusedColor.of_channels (λ c. 0)) m) (sym w.left-is) (no_miss (g.S.DiffusedColor.of_channels (λ c. 0))))
                 (subst (λ v. alpha_of v < c.args.how.alpha) pixel below)
-                (turned_as f way width k _ _ c.loop-k.wanted _ _ _ _ w.wanted-is place c.none-black.ensures next c.turned-back.ensures.wanted)
-                (turned_as f way width k _ _ c.loop-k.found _ _ _ _ w.found-is place c.none-black.ensures next c.turned-back.ensures.found));
+                (turned_as f scan width k _ _ c.loop-k.wanted _ _ _ _ w.wanted-is place c.none-black.ensures next c.turned-back.ensures.wanted)
+                (turned_as f scan width k _ _ c.loop-k.found _ _ _ _ w.found-is place c.none-black.ensures next c.turned-back.ensures.found));
             same = subst (λ m. g.N.FindsNearest.among m entries) (sym w.search-is) c.loop-k.invariant.same;
             column = next;
             back = c.turned-back.ensures.back;
@@ -121,17 +121,17 @@ loop-k-preserved g c =
       | else-clear w ↦
           let i : ℕ = w.find-index.result in
           let e = w.index-entries-from.result in
-          let again : g.S.Spread.given (g.P.TablePixel.values w.index-pixels-at-else-clear.result)
-          ≡ get_or (map (λ pixel. g.S.Spread.given (g.P.TablePixel.values pixel)) c.args.pixels.now) (in_picture c.args.how.way c.args.how.width c.loop-k.k) [] =
-          ap (λ v. g.S.Spread.given (g.P.TablePixel.values v)) w.index-pixels-at-else-clear.is
-          ∙ sym (get_or-map (λ v. g.S.Spread.given (g.P.TablePixel.values v)) c.args.pixels.now c.place_of-at.result w.index-pixels-at-else-clear.result [] within)
+          let again : g.S.DiffusedColor.given (g.P.TablePixel.values w.index-pixels-at-else-clear.result)
+          ≡ get_or (map (λ pixel. g.S.DiffusedColor.given (g.P.TablePixel.values pixel)) c.args.pixels.now) (in_picture c.args.how.scan c.args.how.width c.loop-k.k) [] =
+          ap (λ v. g.S.DiffusedColor.given (g.P.TablePixel.values v)) w.index-pixels-at-else-clear.is
+          ∙ sym (get_or-map (λ v. g.S.DiffusedColor.given (g.P.TablePixel.values v)) c.args.pixels.now c.place_of-at.result w.index-pixels-at-else-clear.result [] within)
           ∙ ap (λ n. get_or pixels n []) c.place_of-at.ensures in
-          let above : c.args.how.alpha ≤ alpha_of (g.S.Spread.given (g.P.TablePixel.values c.index-pixels-at.result)) = omega (arith, alpha, w.if-clear.false) in
-          let nearest : IsNearestBy g.S.Spread.apart entries (g.S.Spread.spread w.wanted-color.result) w.find-index.result =
+          let above : c.args.how.alpha ≤ alpha_of (g.S.DiffusedColor.given (g.P.TablePixel.values c.index-pixels-at.result)) = omega (arith, alpha, w.if-clear.false) in
+          let nearest : IsNearestBy g.S.DiffusedColor.apart entries (g.S.DiffusedColor.spread w.wanted-color.result) w.find-index.result =
           w.find-index.ensures.nearest entries c.loop-k.invariant.same in
           let stands : w.find-index.result < length c.args.entries.now =
           omega (arith, nearest.stands, length-map c.args.entries.now g.C.ShownAs.shown) in
-          let entry : g.S.Spread.spread w.shown-entry.result ≡ get_or entries w.find-index.result [] =
+          let entry : g.S.DiffusedColor.spread w.shown-entry.result ≡ get_or entries w.find-index.result [] =
           w.shown-entry.ensures ∙ ap g.C.ShownAs.shown w.index-entries-from.is ∙ ap (λ j. g.C.ShownAs.shown (get_or c.args.entries.now j e)) w.from.ensures
           ∙ sym (get_or-map g.C.ShownAs.shown c.args.entries.now w.find-index.result e [] stands) in
           record {
@@ -139,11 +139,11 @@ loop-k-preserved g c =
                 (w.indices-is ∙ ap (λ n. set c.loop-k.indices n i) c.place_of-at.ensures)
                 (shown_done _ _ _ _ _ _ _ _ _ _ _ _ _ _ _ _ _ c.requires.row inside long_wanted long_found done around above_right _ _ _ _ _
                 (w.wanted-color.ensures.wanted width done.all_wanted done.all_found (k - k % width) (k % width) around above_right
-                ∙ ap (wanted_at g.S.Spread.of_channels way c.args.how.strength width done.all_wanted done.all_found (k - k % width) (k % width)) again)
+                ∙ ap (wanted_at g.S.DiffusedColor.of_channels scan c.args.how.strength width done.all_wanted done.all_found (k - k % width) (k % width)) again)
                 (subst (λ v. c.args.how.alpha ≤ alpha_of v) pixel above) nearest entry
-                (subst (λ m. IsMiss true (f w.wanted-color.result) (f w.shown-entry.result) m) (sym w.left-is) w.missed-left.ensures)
-                (turned_as f way width k _ _ c.loop-k.wanted _ _ _ _ w.wanted-is place refl next c.turned-back.ensures.wanted)
-                (turned_as f way width k _ _ c.loop-k.found _ _ _ _ w.found-is place refl next c.turned-back.ensures.found));
+                (subst (λ m. IsColorError true (f w.wanted-color.result) (f w.shown-entry.result) m) (sym w.left-is) w.missed-left.ensures)
+                (turned_as f scan width k _ _ c.loop-k.wanted _ _ _ _ w.wanted-is place refl next c.turned-back.ensures.wanted)
+                (turned_as f scan width k _ _ c.loop-k.found _ _ _ _ w.found-is place refl next c.turned-back.ensures.found));
             same = subst (λ m. g.N.FindsNearest.among m entries) (sym w.search-is) (w.find-index.ensures.same entries c.loop-k.invariant.same);
             column = next;
             back = c.turned-back.ensures.back;

@@ -7,9 +7,9 @@ use Rattle.pix_table.proofs.diffuse.diffuse_all.Given as goal
 -- the first k pixels of the way are diffused
 abbrev pub invariant-loop-k : goal.invariant-loop-k
 invariant-loop-k g l = record {
-  done : AreDone g.S.Spread.of_channels g.S.Spread.apart l.how.way l.how.strength (map g.C.ShownAs.shown l.entries) l.how.alpha l.how.kept l.how.width
-      (map (λ pixel. g.S.Spread.given (g.P.TablePixel.values pixel)) l.pixels) l.k (map g.S.Spread.spread l.wanted) (map g.S.Spread.spread l.found) l.near l.indices;
+  done : AreDone g.S.DiffusedColor.of_channels g.S.DiffusedColor.apart l.how.scan l.how.strength (map g.C.ShownAs.shown l.entries) l.how.alpha l.how.transparent_index l.how.width
+      (map (λ pixel. g.S.DiffusedColor.given (g.P.TablePixel.values pixel)) l.pixels) l.k (map g.S.DiffusedColor.spread l.wanted) (map g.S.DiffusedColor.spread l.found) l.near l.indices;
   same : g.N.FindsNearest.among l.search (map g.C.ShownAs.shown l.entries);
   column : l.column ≡ l.k % l.how.width;
-  back : l.back ≡ is_back l.how.way l.how.width l.k;
+  back : l.back ≡ is_back l.how.scan l.how.width l.k;
 }

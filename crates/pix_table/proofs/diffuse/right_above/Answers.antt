@@ -4,7 +4,7 @@ use Rattle.std.proofs.lemmas.Bool.{lt-ltb, le-ltb}
 use Rattle.std.proofs.lemmas.Bool.Decides.{nat_tests}
 use Rattle.std.proofs.Math.Nat.{mod-eq_of_lt}
 use Rattle.pix_table.proofs.Diffused.{moved}
-use Rattle.pix_table.proofs.Ways.{same_test}
+use Rattle.pix_table.proofs.ScanOrders.{same_test}
 use Rattle.pix_table.proofs.diffuse.right_above.Goals as goal
 use Rattle.pix_table.proofs.diffuse.right_above.Goals.{then-column-how, else-column-how}
 
@@ -29,6 +29,6 @@ returns g c = λ ws gs wanted found.
     let next : nat_lt (place + 1) w && nat_le w (c.args.k - place) ≡ true → c.next_place.result ≡ place + 1 = λ t.
     c.next_place.ensures.next place (sym (mod-eq_of_lt below)) ∙ mod-eq_of_lt (inside t).0 in
     moved c.if-column-how.there (nat_lt (place + 1) w && nat_le w (c.args.k - place)) _ _ _ _ c.missed_at.result is
-    (λ t. sym (ap (λ n. get_or (map g.S.Spread.spread c.args.wanted.now) n []) (next t) ∙ wanted.above (place + 1) (omega arith) (inside t).0 (inside t).1))
-    (λ t. sym (ap (λ n. get_or (map g.S.Spread.spread c.args.found.now) n []) (next t) ∙ found.above (place + 1) (omega arith) (inside t).0 (inside t).1))
+    (λ t. sym (ap (λ n. get_or (map g.S.DiffusedColor.spread c.args.wanted.now) n []) (next t) ∙ wanted.above (place + 1) (omega arith) (inside t).0 (inside t).1))
+    (λ t. sym (ap (λ n. get_or (map g.S.DiffusedColor.spread c.args.found.now) n []) (next t) ∙ found.above (place + 1) (omega arith) (inside t).0 (inside t).1))
     c.missed_at.ensures

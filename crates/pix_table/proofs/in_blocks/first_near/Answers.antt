@@ -8,7 +8,7 @@ use Rattle.pix_table.specs.ColorBlocks.{IsFar}
 use Rattle.pix_table.specs.Nearest.{numbers}
 use Rattle.pix_table.proofs.BitLemmas.{shifted_bits}
 use Rattle.pix_table.proofs.ColorBlockLemmas.{no_block}
-use Rattle.pix_table.proofs.SpanLemmas.{clear_far, far_more}
+use Rattle.pix_table.proofs.BlockBoundLemmas.{clear_far, far_more}
 use Rattle.pix_table.proofs.in_blocks.first_near.Goals as goal
 
 pub returns-then-k-blocks : goal.returns-then-k-blocks

@@ -2,7 +2,7 @@
 use Rattle.std.proofs.Common.{◌≡◌, ◌≤◌, ◌+◌, ℕ, length}
 use Rattle.std.specs.Int.{bit_at}
 use Rattle.pix_table.specs.Nearest.{numbers}
-use Rattle.pix_table.specs.Spans.{AreFarBefore}
+use Rattle.pix_table.specs.BlockBounds.{AreFarBefore}
 use Rattle.pix_table.proofs.in_blocks.first_near.Given as goal
 
 -- the blocks before k are far, and `rest` has the bits from k on

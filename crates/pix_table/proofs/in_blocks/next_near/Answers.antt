@@ -2,7 +2,7 @@
 use Rattle.std.proofs.Common.{◌-◌, arith, inl, inr}
 use Rattle.std.proofs.lemmas.Bool.{cases_lt}
 use Rattle.pix_table.specs.Nearest.{numbers}
-use Rattle.pix_table.proofs.SpanLemmas.{group_far, no_spans}
+use Rattle.pix_table.proofs.BlockBoundLemmas.{group_far, no_spans}
 use Rattle.pix_table.proofs.in_blocks.next_near.Goals as goal
 
 pub bounds-spans-k : goal.bounds-spans-k

@@ -20,17 +20,17 @@ none_above answer e = subst (λ a. IfSome a (λ k. 255 < k)) (sym e) tt
 
 pub returns-in_default-clause-stopped : goal.returns-in_default-clause-stopped
 returns-in_default-clause-stopped c = λ _.
-    let s = rw (c.loop-i.invariant.room) at c.set_kept-answer.ensures.set in
+    let s = rw (c.loop-i.invariant.room) at c.set_cached-answer.ensures.set in
     stopped _ _ _ _ _ c.loop-i.i _ _ _ _ c.loop-i.invariant.set (omega (arith, length-map c.args.pixels.now numbers))
     (at_place c.args.pixels.now c.loop-i.i (record { red = 0; green = 0; blue = 0 }) c.loop-i-test.true)
-    (get_or c.args.pixels.now c.loop-i.i (record { red = 0; green = 0; blue = 0 }), c.set_kept-answer.result.0, refl, s, above _ c.in-Some.index c.in-Some.is c.if-index-le255.false)
+    (get_or c.args.pixels.now c.loop-i.i (record { red = 0; green = 0; blue = 0 }), c.set_cached-answer.result.0, refl, s, above _ c.in-Some.index c.in-Some.is c.if-index-le255.false)
 
 pub returns-in_default-2-clause-stopped : goal.returns-in_default-2-clause-stopped
 returns-in_default-2-clause-stopped c = λ _.
-    let s = rw (c.loop-i.invariant.room) at c.set_kept-answer.ensures.set in
+    let s = rw (c.loop-i.invariant.room) at c.set_cached-answer.ensures.set in
     stopped _ _ _ _ _ c.loop-i.i _ _ _ _ c.loop-i.invariant.set (omega (arith, length-map c.args.pixels.now numbers))
     (at_place c.args.pixels.now c.loop-i.i (record { red = 0; green = 0; blue = 0 }) c.loop-i-test.true)
-    (get_or c.args.pixels.now c.loop-i.i (record { red = 0; green = 0; blue = 0 }), c.set_kept-answer.result.0, refl, s, none_above _ c.in_default.is)
+    (get_or c.args.pixels.now c.loop-i.i (record { red = 0; green = 0; blue = 0 }), c.set_cached-answer.result.0, refl, s, none_above _ c.in_default.is)
 
 pub loop-i-init : goal.loop-i-init
 loop-i-init c = record {
@@ -47,8 +47,8 @@ loop-i-init c = record {
 
 pub loop-i-preserved : goal.loop-i-preserved
 loop-i-preserved c =
-    let some : c.set_kept-answer.result.0 ≡ Some c.in-Some.index = c.in-Some.is in
-    let s = rw (c.loop-i.invariant.room, some) at c.set_kept-answer.ensures.set in
+    let some : c.set_cached-answer.result.0 ≡ Some c.in-Some.index = c.in-Some.is in
+    let s = rw (c.loop-i.invariant.room, some) at c.set_cached-answer.ensures.set in
     record {
       all = c.loop-i.invariant.all ++ c.in-Some.index ∷ [];
       many = length-append c.loop-i.invariant.all (c.in-Some.index ∷ []) ∙ ap (λ n. n + 1) c.loop-i.invariant.many;
@@ -60,7 +60,7 @@ loop-i-preserved c =
           (omega (arith, c.loop-i.invariant.long, c.requires.many)) (c.loop-i.invariant.written w);
       unwritten = λ w. c.write_index.ensures.unwritten w ∙ c.loop-i.invariant.unwritten w;
       long = c.write_index.ensures.long ∙ c.loop-i.invariant.long;
-      right = c.set_kept-answer.ensures.right;
-      within = c.set_kept-answer.ensures.within;
-      room = c.set_kept-answer.ensures.room ∙ c.loop-i.invariant.room;
+      right = c.set_cached-answer.ensures.right;
+      within = c.set_cached-answer.ensures.within;
+      room = c.set_cached-answer.ensures.room ∙ c.loop-i.invariant.room;
     }

@@ -2,7 +2,7 @@
 use Rattle.std.proofs.Common.{◌≡◌, ◌≤◌, true, false, ℕ, List, length, map, take}
 use Rattle.pix_table.specs.Nearest.{numbers}
 use Rattle.pix_table.specs.Setting.{Always, IsSet}
-use Rattle.pix_table.specs.TableBlocks.{IsBeside}
+use Rattle.pix_table.specs.TableBlocks.{IsTableCache}
 use Rattle.pix_table.proofs.IndexingSets.{AreSetBelow}
 use Rattle.pix_table.proofs.index.set_pixels.Given as goal
 
@@ -16,7 +16,7 @@ invariant-loop-i l = record {
   written : l.write ≡ true → take l.i l.indices ≡ all;
   unwritten : l.write ≡ false → l.indices ≡ l.fn.indices;
   long : length l.indices ≡ length l.fn.indices;
-  right : IsBeside (numbers l.threshold) (map numbers (take l.used l.slots)) l.beside;
+  right : IsTableCache (numbers l.threshold) (map numbers (take l.used l.slots)) l.beside;
   within : l.used ≤ length l.slots;
   room : length l.slots ≡ length l.fn.slots;
 }

@@ -6,7 +6,7 @@ use Rattle.std.proofs.lemmas.Grind.{get_or-set_at}
 use Rattle.std.proofs.lemmas.Simd.{get_or-replicate}
 use Rattle.pix_table.specs.declared.color.Color.{Color}
 use Rattle.pix_table.specs.Nearest.{numbers}
-use Rattle.pix_table.specs.Boxes.{IsWord}
+use Rattle.pix_table.specs.InverseMap.{IsWord}
 use Rattle.pix_table.proofs.Words.{word_stands}
 use Rattle.pix_table.proofs.matcher.words_of.Goals as goal
 

@@ -1,7 +1,7 @@
 -- What holds at each turn of the loop over `i` in `words_of`.
 use Rattle.std.proofs.Common.{◌≡◌, ◌<◌, ◌%◌, ℕ, length, map, get_or}
 use Rattle.pix_table.specs.Nearest.{numbers}
-use Rattle.pix_table.specs.Boxes.{IsWord}
+use Rattle.pix_table.specs.InverseMap.{IsWord}
 use Rattle.pix_table.proofs.matcher.words_of.Given as goal
 
 -- all are numbers of entries, and the first i those of their own

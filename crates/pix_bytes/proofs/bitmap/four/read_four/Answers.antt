@@ -1,4 +1,4 @@
-use Rattle.pix_bytes.specs.Stored.{sample_at}
+use Rattle.pix_bytes.specs.BitmapFormats.{sample_at}
 use Rattle.pix_bytes.proofs.Fours.{four_made}
 use Rattle.pix_bytes.proofs.bitmap.four.read_four.Goals as goal
 

@@ -1,5 +1,5 @@
 use Rattle.std.proofs.Common.{sym, ap, ◌∙◌}
-use Rattle.pix_bytes.specs.Stored.{sample_at}
+use Rattle.pix_bytes.specs.BitmapFormats.{sample_at}
 use Rattle.pix_bytes.proofs.Fours.{channel_within, channel_past}
 use Rattle.pix_bytes.proofs.bitmap.four.sample_or_max.Goals as goal
 

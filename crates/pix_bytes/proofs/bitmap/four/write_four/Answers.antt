@@ -1,8 +1,8 @@
 use Rattle.std.proofs.Common.{◌≡◌, ℕ, zero, suc, ◌<◌, ◌≤◌, ◌+◌, nat_lt, [], ◌∷◌, take, ◌∙◌, arith}
 use Rattle.std.specs.Prelude.{if◌then◌else◌}
 use Rattle.pix_el.specs.Pixel.{channel}
-use Rattle.pix_bytes.specs.Four.{listed}
-use Rattle.pix_bytes.specs.Stored.{sample_at}
+use Rattle.pix_bytes.specs.Four.{as_list}
+use Rattle.pix_bytes.specs.BitmapFormats.{sample_at}
 use Rattle.pix_bytes.proofs.Fours.{same_made, channel_or_max}
 use Rattle.pix_bytes.proofs.bitmap.four.write_four.Goals as goal
 
@@ -29,6 +29,6 @@ returns g c =
     let e0 = c.write_sample-4.ensures.others 0 (omega arith) ∙ c.write_sample-3.ensures.others 0 (omega arith) ∙ c.write_sample-2.ensures.others 0 (omega arith) in
     let e1 = c.write_sample-4.ensures.others 1 (omega arith) ∙ c.write_sample-3.ensures.others 1 (omega arith) in
     let e2 = c.write_sample-4.ensures.others 2 (omega arith) in
-    same_made (sample_at max c.write_sample-4.new.bytes) (channel max (take count (listed v p))) all
+    same_made (sample_at max c.write_sample-4.new.bytes) (channel max (take count (as_list v p))) all
     (λ k h. each max one two three four count all (sample_at max c.write_sample-4.new.bytes)
     (λ h. e0 ∙ c.write_sample.ensures.own h) (λ h. e1 ∙ c.write_sample-2.ensures.own h) (λ h. e2 ∙ c.write_sample-3.ensures.own h) c.write_sample-4.ensures.own c.requires.few k h)

@@ -4,7 +4,7 @@ use mir.Val.{hbits, bits}
 use lib.Lanes.{zip2, pick_l, sel_l, top}
 use Rattle.std.specs.List.{range_with_len}
 use Rattle.pix_bytes.specs.Shown.{light_alpha, light_alphas, parts, for_each_channel, reciprocal_of}
-use Rattle.pix_bytes.specs.Stored.{samples}
+use Rattle.pix_bytes.specs.BitmapFormats.{samples}
 use Rattle.pix_bytes.proofs.ShownFours.{minus, divided_are, samples_fit, reciprocals_fit}
 use Rattle.pix_bytes.proofs.bitmap.levels.divided.Goals as goal
 

@@ -4,7 +4,7 @@ use lib.Lanes.{zip2, pick_l}
 use Rattle.pix_chan.specs.Product.{channel_quotient}
 use Rattle.pix_chan.specs.Srgb16.{srgb_encoded8}
 use Rattle.pix_bytes.specs.Shown.{straight_light, light_alphas, for_each_channel, shown_bytes, shown_places}
-use Rattle.pix_bytes.specs.Stored.{samples}
+use Rattle.pix_bytes.specs.BitmapFormats.{samples}
 use Rattle.pix_bytes.proofs.ShownFours.{opaque_are, samples_fit}
 use Rattle.pix_bytes.proofs.bitmap.levels.shown.Goals as goal
 use Rattle.pix_bytes.proofs.bitmap.levels.shown.Goals.{then-are_all, else-are_all, then-are_repeated, else-are_repeated}

@@ -5,7 +5,7 @@ use Rattle.pix_el.specs.PixelComposite.{matted_composite}
 use Rattle.pix_el.specs.Premultiplied.{IsBounded}
 use Rattle.pix_el.proofs.Models.{placed_by_row}
 use Rattle.pix_el.proofs.Composited.{Fits, channels_fit, alpha_bounded}
-use Rattle.pix_el.proofs.Kept.{kept_clear, kept_always, over_kept}
+use Rattle.pix_el.proofs.Unchanged.{kept_clear, kept_always, over_kept}
 use Rattle.pix_el.proofs.planes.block.matted_block.Goals as goal
 
 pub returns-then-keeps_all : goal.returns-then-keeps_all

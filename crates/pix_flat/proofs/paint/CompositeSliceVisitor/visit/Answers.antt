@@ -1,8 +1,8 @@
 use Rattle.std.proofs.Common.{◌<◌, ℕ, List, refl, sym, ap, subst, ◌∙◌, length, arith}
 use Rattle.pix_ops.specs.declared.ops.Op.{Op}
 use Rattle.pix_el.specs.PixelComposite.{pixel_composite, matted_composite, matte_value}
-use Rattle.pix_raster.specs.Lent.{IsShaped}
-use Rattle.pix_raster.specs.declared.lent.Shape.{Shape}
+use Rattle.pix_raster.specs.View.{IsShaped}
+use Rattle.pix_raster.specs.declared.view.Shape.{Shape}
 use Rattle.pix_flat.specs.Command.{op_at}
 use Rattle.pix_flat.proofs.Painted.{sound, pixels_shaped, mattes_shaped, painted_color, painted_image, painted_matte}
 use Rattle.pix_flat.proofs.paint.CompositeSliceVisitor.visit.Goals as goal

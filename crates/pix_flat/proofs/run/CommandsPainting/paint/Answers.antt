@@ -2,7 +2,7 @@ use Rattle.std.proofs.Common.{◌≡◌, ◌<◌, ◌+◌, ◌∷◌, [], length
 use Rattle.std.proofs.lemmas.List.{length-map, get_or-map, drop_all}
 use Rattle.pix_raster.specs.Region.{limit}
 use Rattle.pix_raster.specs.Run.{run_at}
-use Rattle.pix_raster.specs.Lent.{read_at, ChangedIn, picture, in_window}
+use Rattle.pix_raster.specs.View.{read_at, ChangedIn, picture, in_window}
 use Rattle.pix_raster.proofs.Pictures.{run_in_picture}
 use Rattle.pix_raster.proofs.Steps.{run_more}
 use Rattle.pix_flat.specs.declared.command.FlatCommand.{FlatCommand}

@@ -6,32 +6,32 @@ use Rattle.pix_table.specs.Seen.{seen}
 use Rattle.pix_table.specs.Diffusion.{none}
 use Rattle.pix_table.specs.SeenDiffusion.{AreSeenDiffused}
 use Rattle.pix_table.specs.SrgbColor.{srgba_numbers}
-use Rattle.pix_table.specs.declared.diffuse.DiffusionWay.{DiffusionWay}
+use Rattle.pix_table.specs.declared.diffuse.ScanOrder.{ScanOrder}
 use Rattle.pix_palette.proofs.palette.rgba_table.rgba_diffused.Goals as goal
 
-no_pixels : (way : DiffusionWay) (strength w width : ℕ) (entries pixels : List (List ℕ)) (indices : List ℕ) → length pixels ≡ 0
-    → AreSeenDiffused way strength w entries pixels indices → AreSeenDiffused way strength width entries pixels indices
-no_pixels way strength w width entries (p ∷ pixels) indices e h = absurd (omega arith)
-no_pixels way strength w width entries [] (i ∷ indices) e h = let many : length (i ∷ indices) ≡ 0 = h.diffused.many in absurd (omega arith)
-no_pixels way strength w width entries [] [] e h = record {
+no_pixels : (scan : ScanOrder) (strength w width : ℕ) (entries pixels : List (List ℕ)) (indices : List ℕ) → length pixels ≡ 0
+    → AreSeenDiffused scan strength w entries pixels indices → AreSeenDiffused scan strength width entries pixels indices
+no_pixels scan strength w width entries (p ∷ pixels) indices e h = absurd (omega arith)
+no_pixels scan strength w width entries [] (i ∷ indices) e h = let many : length (i ∷ indices) ≡ 0 = h.diffused.many in absurd (omega arith)
+no_pixels scan strength w width entries [] [] e h = record {
   clear = h.clear;
   nearest = h.nearest;
   diffused = record { wanted = []; found = []; along = []; diffused = none; whole = refl; many = refl; each = λ k less. absurd (omega arith) };
 }
 
-narrow : (way : DiffusionWay) (strength w width : ℕ) (entries pixels : List (List ℕ)) (indices : List ℕ) → (0 < width → w ≡ width)
-    → (width ≡ 0 → length pixels ≡ 0) → AreSeenDiffused way strength w entries pixels indices → AreSeenDiffused way strength width entries pixels indices
-narrow way strength w zero entries pixels indices same e h = no_pixels way strength w zero entries pixels indices (e refl) h
-narrow way strength w (suc n) entries pixels indices same e h = subst (λ v. AreSeenDiffused way strength v entries pixels indices) (same (omega arith)) h
+narrow : (scan : ScanOrder) (strength w width : ℕ) (entries pixels : List (List ℕ)) (indices : List ℕ) → (0 < width → w ≡ width)
+    → (width ≡ 0 → length pixels ≡ 0) → AreSeenDiffused scan strength w entries pixels indices → AreSeenDiffused scan strength width entries pixels indices
+narrow scan strength w zero entries pixels indices same e h = no_pixels scan strength w zero entries pixels indices (e refl) h
+narrow scan strength w (suc n) entries pixels indices same e h = subst (λ v. AreSeenDiffused scan strength v entries pixels indices) (same (omega arith)) h
 
 refilled : (n : ℕ) (xs ws : List ℕ) → n ≡ length ws → take n (ws ++ drop (length ws) xs) ≡ ws
 refilled n xs ws e = take-append-le n ws (drop (length ws) xs) (omega arith) ∙ ap (λ m. take m ws) e ∙ take-length ws
 
 pub returns-clause-diffused : goal.returns-clause-diffused
 returns-clause-diffused c =
-    let indices : List ℕ = c.diffuse_rgba_pixels.new.indices in
+    let indices : List ℕ = c.diffuse_indexed_rgba.new.indices in
     let long : c.in_ok-indices.indices.len ≡ length indices = cc in
     rw (refilled c.in_ok-indices.indices.len c.in_ok-indices.indices.items indices long)
-    (narrow c.args.how.way c.args.how.strength c.max-width.result c.args.how.width _ (map srgba_numbers c.args.pixels.now) indices
+    (narrow c.args.how.scan c.args.how.strength c.max-width.result c.args.how.width _ (map srgba_numbers c.args.pixels.now) indices
     (λ some. omega (arith, c.max-width.ensures)) (λ none. omega (arith, c.requires.row none, length-map c.args.pixels.now srgba_numbers))
-    c.diffuse_rgba_pixels.ensures)
+    c.diffuse_indexed_rgba.ensures)

@@ -3,9 +3,9 @@ use Rattle.std.specs.Prelude.{vec_len}
 use lib.IntN.{nat_abs}
 use Rattle.std.proofs.lemmas.Int.{to_z-of_z}
 use Rattle.pix_raster.specs.Image.{Image, IsPoint}
-use Rattle.pix_raster.specs.Views.{with_pixel}
+use Rattle.pix_raster.specs.Written.{with_pixel}
 use Rattle.pix_raster.proofs.Places.{point_within, pixel_read}
-use Rattle.pix_raster.proofs.Views.{point_place}
+use Rattle.pix_raster.proofs.WrittenLemmas.{point_place}
 use Rattle.pix_raster.proofs.raster.Raster.pixel_mut.Goals as goal
 
 pub index_mut-requires : goal.index_mut-requires

@@ -46,12 +46,12 @@ use Rattle.std.specs.contracts.option.Option as OP
 use Rattle.pix_raster.specs.Image.{Image}
 use Rattle.pix_raster.specs.Region.{has_row}
 use Rattle.pix_raster.specs.Rows.{clipped}
-use Rattle.pix_raster.specs.Views.{place_of, with_run}
+use Rattle.pix_raster.specs.Written.{place_of, with_run}
 use Rattle.pix_raster.specs.Clip.{row_start, row_end}
 use Rattle.pix_raster.specs.contracts.raster.Raster.{the_row as Raster-row}
 use Rattle.pix_raster.specs.contracts.region.Region as Reg
 use Rattle.pix_raster.proofs.region.Region.TheLaws.{the_told, the_row_laws}
-use Rattle.pix_raster.proofs.Views.{none_there, some_there, row_start_is, with_run-none}
+use Rattle.pix_raster.proofs.WrittenLemmas.{none_there, some_there, row_start_is, with_run-none}
 use Rattle.pix_raster.proofs.Points.{row_written}
 use Rattle.pix_raster.specs.contracts.raster.Raster.row_mut as f
 use Rattle.pix_raster.specs.contracts.raster.Raster.row_mut.Key.{name as #self}

@@ -1,6 +1,6 @@
 use Rattle.std.proofs.Common.{◌∙◌}
 use Rattle.pix_raster.specs.Image.{Image}
-use Rattle.pix_raster.proofs.Views.{walk_fits, walk_is}
+use Rattle.pix_raster.proofs.WrittenLemmas.{walk_fits, walk_is}
 use Rattle.pix_raster.proofs.raster.Raster.rows.Goals as goal
 
 pub invariant_of-result : goal.invariant_of-result

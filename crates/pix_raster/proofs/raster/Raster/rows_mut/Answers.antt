@@ -1,7 +1,7 @@
 use Rattle.std.proofs.Common.{arith, ◌∙◌}
 use borrow.Author.Rules.{scaled_fits≤}
 use Rattle.pix_raster.specs.Image.{Image}
-use Rattle.pix_raster.proofs.Views.{walk_fits, walk_is, row_begins}
+use Rattle.pix_raster.proofs.WrittenLemmas.{walk_fits, walk_is, row_begins}
 use Rattle.pix_raster.proofs.raster.Raster.rows_mut.Goals as goal
 
 pub invariant_of-result : goal.invariant_of-result

@@ -1,8 +1,8 @@
 use Rattle.std.specs.Vec.{with_items}
 use Rattle.std.proofs.lemmas.List.{with_items_is}
 use Rattle.pix_raster.specs.Run.{run_at}
-use Rattle.pix_raster.specs.Lent.{ChangedIn, largest}
-use Rattle.pix_raster.specs.declared.lent.Shape.{Shape}
+use Rattle.pix_raster.specs.View.{ChangedIn, largest}
+use Rattle.pix_raster.specs.declared.view.Shape.{Shape}
 use Rattle.std.proofs.Common.{ℕ, List, rules, ◌≡◌, ◌≤◌, ◌+◌, map, ap, sym, subst, ◌∙◌}
 use Rattle.pix_raster.specs.Region.{limit}
 use Rattle.pix_chan.specs.Product.{channel_product, fineness, IsProduct}

@@ -4,7 +4,7 @@ use Rattle.pix_el.specs.Pixel.{Layout, channel}
 use Rattle.pix_el.specs.PixelComposite.{matted_composite, matte_value, matte_numbers}
 use Rattle.pix_el.proofs.Written.{replaced}
 use Rattle.pix_raster.specs.Image.{point, region_of}
-use Rattle.pix_raster.specs.Lent.{picture}
+use Rattle.pix_raster.specs.View.{picture}
 use Rattle.pix_raster.specs.Run.{Matted}
 use Rattle.pix_raster.proofs.Shaped.{changed_alike}
 use Rattle.pix_raster.proofs.Steps.{from_pair_effect, masked_effect}

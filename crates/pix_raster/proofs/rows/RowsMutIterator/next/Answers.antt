@@ -1,7 +1,7 @@
 -- Of `RowsMutIterator::next`: the clauses `steps` and `goes`.
 use Rattle.std.proofs.Common.{◌≡◌, ◌-◌, ◌<◌, length, take, drop, arith}
 use Rattle.pix_raster.specs.Clip.{row_parts}
-use Rattle.pix_raster.proofs.Views.{row_parts-first, length-row_parts}
+use Rattle.pix_raster.proofs.WrittenLemmas.{row_parts-first, length-row_parts}
 use Rattle.pix_raster.proofs.rows.RowsMutIterator.next.Goals as goal
 
 pub returns-clause-steps : goal.returns-clause-steps

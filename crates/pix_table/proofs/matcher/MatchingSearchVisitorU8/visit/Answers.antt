@@ -16,9 +16,9 @@ loop-i-preserved g c =
     sym (get_or-map values pixels c.loop-i.i item [] (omega (arith, c.requires.2))) in
     record {
       matched = λ entries finds.
-          set_more (λ k i. IsMatched entries m.alpha m.kept (get_or (map values pixels) k []) i) c.loop-i.items c.loop-i.i c.matched.result (omega arith)
+          set_more (λ k i. IsMatched entries m.alpha m.transparent_index (get_or (map values pixels) k []) i) c.loop-i.items c.loop-i.i c.matched.result (omega arith)
           (c.loop-i.invariant.matched entries finds)
-          (subst (λ p. IsMatched entries m.alpha m.kept p c.matched.result) pixel (c.matched.ensures.matched entries (c.loop-i.invariant.same entries finds)));
+          (subst (λ p. IsMatched entries m.alpha m.transparent_index p c.matched.result) pixel (c.matched.ensures.matched entries (c.loop-i.invariant.same entries finds)));
       same = λ entries finds. c.matched.ensures.same entries (c.loop-i.invariant.same entries finds);
     }
 

@@ -7,6 +7,6 @@ use Rattle.pix_table.proofs.matcher.MatchingSearchVisitorU8.visit.Given as goal
 abbrev pub invariant-loop-i : goal.invariant-loop-i
 invariant-loop-i g l = record {
   matched : (entries : List (List ℕ)) → g.N.NearestSearch.finds l.fn.search entries
-      → (k : ℕ) → k < l.i → IsMatched entries l.self.alpha l.self.kept (get_or (map g.P.TablePixel.values l.self.pixels.now) k []) (get_or l.items k 0);
+      → (k : ℕ) → k < l.i → IsMatched entries l.self.alpha l.self.transparent_index (get_or (map g.P.TablePixel.values l.self.pixels.now) k []) (get_or l.items k 0);
   same : (entries : List (List ℕ)) → g.N.NearestSearch.finds l.fn.search entries → g.N.NearestSearch.finds l.search entries;
 }

@@ -2,7 +2,7 @@
 use Rattle.std.proofs.Common.{◌≡◌, ◌≢◌, ◌-◌, ◌∷◌, [], length, map, true, false, None, refl, arith, sym, ap, ◌∙◌, subst}
 use Rattle.std.proofs.lemmas.List.{length-map, get_or-map}
 use Rattle.std.specs.Prelude.{slice_index_or}
-use Rattle.pix_table.specs.From.{same_color}
+use Rattle.pix_table.specs.Quantization.{same_color}
 use Rattle.pix_table.specs.Nearest as nearest
 use Rattle.pix_table.specs.PaletteMatch.{color_difference, difference_to}
 use Rattle.pix_palette.specs.Palette.{numbers}

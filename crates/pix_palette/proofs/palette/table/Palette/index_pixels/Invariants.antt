@@ -1,7 +1,7 @@
 -- What holds at each turn of the loop over `i` in `Palette::index_pixels`.
 use Rattle.std.proofs.Common.{◌≡◌, ◌∷◌, [], map, take}
 use Rattle.std.specs.Option.{option_map}
-use Rattle.pix_table.specs.Kept.{AreRight}
+use Rattle.pix_table.specs.ColorCache.{AreRight}
 use Rattle.pix_table.specs.Setting.{IsSet}
 use Rattle.pix_table.proofs.IndexingSets.{AreSetBelow}
 use Rattle.pix_palette.specs.Palette.{Answers, numbers}
@@ -22,7 +22,7 @@ invariant-loop-i g l = record {
   right : AreRight (Answers (pointer.words g.row.S g.row.P g.row.S-Chan g.row.S-Model g.row.S-Alpha g.row.S-Gamma g.row.P-Chan g.row.P-Model g.row.P-Alpha g.row.P-Gamma g.fn-1.I
       (pointer.members g.row.S g.row.P g.row.S-Chan g.row.S-Model g.row.S-Alpha g.row.S-Gamma g.row.P-Chan g.row.P-Model g.row.P-Alpha g.row.P-Gamma g.fn-1)).post
       (option_map (λ chosen. chosen.f) l.fn.self.threshold))
-      (map numbers l.self.colors.items) l.cache.kept;
+      (map numbers l.self.colors.items) l.cache.cached;
   finder : Follows (map numbers l.self.colors.items) l.finder;
   limit : l.self.limit ≡ l.fn.self.limit;
   threshold : l.self.threshold ≡ l.fn.self.threshold;

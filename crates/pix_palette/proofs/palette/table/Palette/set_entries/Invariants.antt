@@ -1,7 +1,7 @@
 -- What holds at each turn of the loop over `i` in `Palette::set_entries`.
 use Rattle.std.proofs.Common.{◌≡◌, map}
 use Rattle.std.specs.Option.{option_map}
-use Rattle.pix_table.specs.Kept.{AreRight}
+use Rattle.pix_table.specs.ColorCache.{AreRight}
 use Rattle.pix_table.specs.Setting.{IsSet}
 use Rattle.pix_palette.specs.Palette.{Answers, numbers}
 use Rattle.pix_palette.specs.Finder.{Follows}
@@ -14,7 +14,7 @@ abbrev pub invariant-loop-i : goal.invariant-loop-i
 invariant-loop-i g l = record {
   set : AreEntriesBelow (IsSet numbers (Answers (pointer.words g.fn-1.I (pointer.members g.fn-1)).post (option_map (λ chosen. chosen.f) l.fn.self.threshold)) l.fn.self.limit)
       l.fn.self.colors.items l.colors l.i l.answers l.self.colors.items;
-  right : AreRight (Answers (pointer.words g.fn-1.I (pointer.members g.fn-1)).post (option_map (λ chosen. chosen.f) l.fn.self.threshold)) (map numbers l.self.colors.items) l.cache.kept;
+  right : AreRight (Answers (pointer.words g.fn-1.I (pointer.members g.fn-1)).post (option_map (λ chosen. chosen.f) l.fn.self.threshold)) (map numbers l.self.colors.items) l.cache.cached;
   finder : Follows (map numbers l.self.colors.items) l.finder;
   limit : l.self.limit ≡ l.fn.self.limit;
   threshold : l.self.threshold ≡ l.fn.self.threshold;

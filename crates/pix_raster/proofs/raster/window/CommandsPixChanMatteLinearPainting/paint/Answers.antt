@@ -2,7 +2,7 @@ use Rattle.std.proofs.Common.{◌+◌, ap, ◌∙◌, arith, drop}
 use Rattle.std.proofs.lemmas.List.{drop_all}
 use Rattle.pix_el.specs.PixelComposite.{matte_numbers}
 use Rattle.pix_raster.specs.Region.{limit}
-use Rattle.pix_raster.specs.Lent.{picture}
+use Rattle.pix_raster.specs.View.{picture}
 use Rattle.pix_raster.specs.Run.{run_at}
 use Rattle.pix_raster.proofs.Pictures.{run_in_picture}
 use Rattle.pix_raster.proofs.Steps.{run_more}

@@ -1,7 +1,7 @@
 -- What holds at each turn of the loop over `command` in the painting of a list of commands.
 use Rattle.std.proofs.Common.{◌≡◌, ℕ, ◌<◌, [], drop, map, get_or}
 use Rattle.pix_el.specs.PixelComposite.{matte_numbers}
-use Rattle.pix_raster.specs.Lent.{read_at, IsNoPoint, picture, in_window}
+use Rattle.pix_raster.specs.View.{read_at, IsNoPoint, picture, in_window}
 use Rattle.pix_raster.specs.Run.{run_at}
 use Rattle.pix_raster.proofs.raster.window.CommandsPixChanMatteLinearPainting.paint.Given as goal
 

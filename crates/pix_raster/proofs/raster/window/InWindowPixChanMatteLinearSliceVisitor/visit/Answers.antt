@@ -2,7 +2,7 @@ use Rattle.std.proofs.Common.{◌≡◌, ◌+◌, replicate, arith, refl, ap, sy
 use Rattle.pix_ops.specs.declared.ops.Op.{Op}
 use Rattle.pix_el.specs.PixelComposite.{pixel_composite}
 use Rattle.pix_raster.specs.Image.{point, region_of}
-use Rattle.pix_raster.specs.Lent.{where_covered, picture}
+use Rattle.pix_raster.specs.View.{where_covered, picture}
 use Rattle.pix_raster.specs.Run.{Cleared, Copied, Composited}
 use Rattle.pix_raster.proofs.Shaped.{changed_alike}
 use Rattle.pix_raster.proofs.Steps.{whole_effect, covered_effect, from_pair_effect}

@@ -1,9 +1,0 @@
--- Of `cross_pixels`: that it meets its contract, and that the pixels before those of its last call
--- are written.
-use Rattle.pix_bytes.proofs.bitmap.cross.cross_pixels.Goals as goal
-
-pub cross_each-requires-clause-ahead : goal.cross_each-requires-clause-ahead
-cross_each-requires-clause-ahead g c = rw (c.size.ensures, c.size-2.ensures) c.go_ahead-first.ensures.each
-
-pub returns : goal.returns
-returns g c = rw (c.size.ensures, c.size-2.ensures) at c.cross_each.ensures

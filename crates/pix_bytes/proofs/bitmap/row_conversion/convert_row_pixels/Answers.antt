@@ -1,0 +1,9 @@
+-- Of `convert_row_pixels`: that it meets its contract, and that the pixels before those of its last call
+-- are written.
+use Rattle.pix_bytes.proofs.bitmap.row_conversion.convert_row_pixels.Goals as goal
+
+pub convert_each-requires-clause-ahead : goal.convert_each-requires-clause-ahead
+convert_each-requires-clause-ahead g c = rw (c.size.ensures, c.size-2.ensures) c.go_ahead-first.ensures.each
+
+pub returns : goal.returns
+returns g c = rw (c.size.ensures, c.size-2.ensures) at c.convert_each.ensures

@@ -1,0 +1,19 @@
+-- Of `diffused`: that there is no index where a row has no pixel.
+use Rattle.std.proofs.Common.{◌≡◌, List, ℕ, [], ◌∷◌, length, map, refl, arith}
+use Rattle.std.proofs.lemmas.List.{length-map}
+use Rattle.pix_table.specs.Diffusion.{AreDiffusedBy, none}
+use Rattle.pix_table.specs.SrgbColor.{srgba_numbers}
+use Rattle.pix_table.specs.declared.diffuse.ScanOrder.{ScanOrder}
+use Rattle.pix_palette.specs.Palette.{numbers}
+use Rattle.pix_palette.proofs.palette.quantization.diffused.Goals as goal
+
+none_diffused : (scan : ScanOrder) (strength : ℕ) (entries : List (List ℕ)) (alpha transparent_index width : ℕ) (pixels : List (List ℕ)) (indices : List ℕ) → length pixels ≡ 0 → length indices ≡ 0
+    → AreDiffusedBy scan strength entries alpha transparent_index width pixels indices
+none_diffused scan strength entries alpha transparent_index width [] [] e f = record { wanted = []; found = []; along = []; diffused = none; whole = refl; many = refl; each = λ k less. absurd (omega arith) }
+none_diffused scan strength entries alpha transparent_index width (p ∷ pixels) indices e f = absurd (omega arith)
+none_diffused scan strength entries alpha transparent_index width [] (i ∷ indices) e f = absurd (omega arith)
+
+pub returns-then-how-eq0-clause-diffused : goal.returns-then-how-eq0-clause-diffused
+returns-then-how-eq0-clause-diffused c =
+    none_diffused c.args.how.scan c.args.how.strength (map numbers c.args.colors.now) c.args.how.alpha c.args.how.transparent_index c.args.how.width (map srgba_numbers c.args.pixels.now) c.in_ok-indices.indices.items
+    (omega (arith, c.requires.row, length-map c.args.pixels.now srgba_numbers)) (omega (arith, c.requires.row, c.in_ok-indices.ensures.len))

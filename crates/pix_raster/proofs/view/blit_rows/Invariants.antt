@@ -1,0 +1,19 @@
+-- What holds at each turn of the loop over `y` in `blit_rows`.
+use Rattle.std.proofs.Common.{◌≡◌, ℕ, ◌<◌, ◌+◌, ◌-◌, length}
+use Rattle.pix_raster.specs.View.{read_at}
+use Rattle.pix_raster.specs.Clip.{where_in}
+use Rattle.pix_raster.proofs.view.blit_rows.Given as goal
+
+-- the rows above y are done
+abbrev pub invariant-loop-y : goal.invariant-loop-y
+invariant-loop-y g l =
+    let n = g.B.Blit.reads in
+    let m = g.B.Blit.source_reads in
+    record {
+      long : length l.pixels ≡ length l.initial.pixels;
+      done : (x y : ℕ) → x < l.stride → read_at n l.stride l.pixels x y
+          ≡ where_in l.fn.overlap.columns.dst (record { start = l.fn.overlap.rows.dst.start; end = l.y })
+          (λ a b. g.B.Blit.makes l.change (read_at m l.src_stride l.src
+          (l.fn.overlap.columns.src_start + (a - l.fn.overlap.columns.dst.start)) (l.fn.overlap.rows.src_start + (b - l.fn.overlap.rows.dst.start))))
+          x y (read_at n l.stride l.initial.pixels x y);
+    }

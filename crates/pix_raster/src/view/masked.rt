@@ -1,0 +1,156 @@
+//! Changes of images in memory by a source and a mask: three regions are paired.
+ghost use Rattle.std.specs.Prelude.{◌≡◌, ℕ, ◌+◌, ◌-◌, ◌*◌, ◌<◌, ◌≤◌, List, length, map};
+ghost use Rattle.std.specs.List.{zip};
+ghost use Rattle.pix_chan.specs.Runs.{over};
+ghost use Rattle.pix_raster.specs.Region.{limit, whole};
+ghost use Rattle.pix_raster.specs.View.{read_at, IsShaped, IsWindow, ChangedIn, where_masked, picture, in_window};
+ghost use Rattle.pix_raster.specs.Clip.{where_in, IsOverlap};
+
+use super::{Shape, Window};
+use crate::clip::Overlap;
+use crate::region::Region;
+
+/// A change of the pixels of a row, each by a pixel of another row and through a matte of a third.
+pub trait MaskedBlit<D, S, M> {
+    /// What it needs of the formats.
+    ghost can_blit: { Type 0 };
+
+    /// How a pixel is read.
+    ghost reads: { D → List ℕ };
+
+    /// How a pixel of the source is read.
+    ghost source_reads: { S → List ℕ };
+
+    /// How a matte is read.
+    ghost mask_reads: { M → List ℕ };
+
+    /// What it makes of a matte, a source and a pixel.
+    ghost makes: { Self → List ℕ → List ℕ → List ℕ → List ℕ };
+
+    /// Changes each pixel of a row by the pixel of the source and the matte at the same place. The
+    /// shortest row decides how many change, and the rest stay as they are.
+    fn blit(&self, row: &mut [D], src: &[S], mask: &[M])
+        requires { can_blit }
+        ensures { map reads row.new ≡ over (λ t. makes self.now t.0 t.1)
+            (zip (map mask_reads mask.now) (map source_reads src.now)) (map reads row.old) };
+}
+
+/// A region of an image in memory, from which a change takes its pixels or its mattes.
+#[derive(Drop)]
+pub struct Source<'a, S> {
+    /// The pixels.
+    pub pixels: &'a [S],
+    /// The shape of the image, whose rows lie in `pixels`.
+    pub shape: Shape,
+    /// The region.
+    pub from: Region,
+}
+
+/// Changes the region `to` of a picture by a region of a source and a region of a mask, in those
+/// points that lie in the window. Each point is changed by the point of the source and the point of
+/// the mask that it is paired with. No other pixel changes.
+///
+/// Condition: `window` and the shapes are as the docs of their fields say. The rows of the window
+/// lie in `pixels`, and those of the source and of the mask in their own pixels. The change suits
+/// the formats.
+pub fn blit_masked<D, S, M, B: MaskedBlit<D, S, M>>(
+    pixels: &mut [D],
+    window: Window,
+    to: Region,
+    src: &Source<'_, S>,
+    mask: &Source<'_, M>,
+    change: &B,
+)
+    requires can_blit { B.can_blit }
+    requires fits { IsWindow window (length pixels.old) }
+    requires src_fits { IsShaped src.now.shape (length src.now.pixels.now) }
+    requires mask_fits { IsShaped mask.now.shape (length mask.now.pixels.now) }
+    ensures { ChangedIn B.reads window.shape pixels.old pixels.new
+        (in_window window (where_masked to (picture window)
+        src.now.from (whole src.now.shape.width src.now.shape.height)
+        mask.now.from (whole mask.now.shape.width mask.now.shape.height)
+        (read_at B.source_reads src.now.shape.stride src.now.pixels.now)
+        (read_at B.mask_reads mask.now.shape.stride mask.now.pixels.now)
+        (B.makes change.now))) }
+{
+    if window.shape.width > 0 {
+        let overlap = overlap_in(window, to, src.from, src.shape);
+        let masked = overlap_in(window, to, mask.from, mask.shape);
+        let both = overlap.within(&masked);
+        let masked = masked.within(&overlap);
+        let starts = (masked.columns.src_start, masked.rows.src_start);
+        blit_rows(pixels, window.shape.stride, src, mask, both, starts, change);
+    }
+}
+
+/// Returns the overlap of the region `to` of a picture and the region `from` of a source, as seen
+/// from a window.
+fn overlap_in(window: Window, to: Region, from: Region, src: Shape) -> Overlap
+    requires across { window.left + window.shape.width ≤ limit }
+    requires down { window.top + window.shape.height ≤ limit }
+    requires src_wide { src.width ≤ limit }
+    requires src_high { src.height ≤ limit }
+    ensures { IsOverlap window to from src result }
+{
+    let right = window.left + window.shape.width;
+    let bottom = window.top + window.shape.height;
+    let overlap = Overlap::new(to, right, bottom, from, src.width, src.height);
+    overlap.seen_from(window.left, window.top)
+}
+
+/// Changes the pixels of an overlap, in rows that lie `stride` pixels apart. Each is changed by its
+/// pixel of a source and its matte of a mask. The matte for the first pixel is at the column and
+/// row `mask_starts`.
+fn blit_rows<D, S, M, B: MaskedBlit<D, S, M>>(
+    pixels: &mut [D],
+    stride: usize,
+    src: &Source<'_, S>,
+    mask: &Source<'_, M>,
+    overlap: Overlap,
+    mask_starts: (usize, usize),
+    change: &B,
+)
+    requires can_blit { B.can_blit }
+    requires ordered { overlap.columns.dst.start ≤ overlap.columns.dst.end }
+    requires from_top { overlap.rows.dst.start ≤ overlap.rows.dst.end }
+    requires across { overlap.columns.dst.end ≤ stride }
+    requires down { (y : ℕ) → y < overlap.rows.dst.end →
+        y * stride + overlap.columns.dst.end ≤ length pixels.old }
+    requires src_rows { overlap.rows.src_start
+        + (overlap.rows.dst.end - overlap.rows.dst.start) ≤ limit }
+    requires src_down { (y : ℕ) → y < overlap.rows.src_start
+        + (overlap.rows.dst.end - overlap.rows.dst.start) →
+        y * src.now.shape.stride + (overlap.columns.src_start
+        + (overlap.columns.dst.end - overlap.columns.dst.start)) ≤ length src.now.pixels.now }
+    requires mask_rows { mask_starts.1
+        + (overlap.rows.dst.end - overlap.rows.dst.start) ≤ limit }
+    requires mask_down { (y : ℕ) → y < mask_starts.1
+        + (overlap.rows.dst.end - overlap.rows.dst.start) →
+        y * mask.now.shape.stride + (mask_starts.0
+        + (overlap.columns.dst.end - overlap.columns.dst.start)) ≤ length mask.now.pixels.now }
+    ensures { (x y : ℕ) → x < stride → read_at B.reads stride pixels.new x y ≡
+        where_in overlap.columns.dst overlap.rows.dst
+        (λ a b. B.makes change.now
+        (read_at B.mask_reads mask.now.shape.stride mask.now.pixels.now
+        (mask_starts.0 + (a - overlap.columns.dst.start))
+        (mask_starts.1 + (b - overlap.rows.dst.start)))
+        (read_at B.source_reads src.now.shape.stride src.now.pixels.now
+        (overlap.columns.src_start + (a - overlap.columns.dst.start))
+        (overlap.rows.src_start + (b - overlap.rows.dst.start))))
+        x y (read_at B.reads stride pixels.old x y) }
+{
+    let (mask_column, mask_row) = mask_starts;
+    let count = overlap.columns.dst.end - overlap.columns.dst.start;
+    for y in overlap.rows.dst.start..overlap.rows.dst.end {
+        let start = y * stride + overlap.columns.dst.start;
+        let src_y = overlap.rows.src_start + (y - overlap.rows.dst.start);
+        let src_start = src_y * src.shape.stride + overlap.columns.src_start;
+        let mask_y = mask_row + (y - overlap.rows.dst.start);
+        let mask_start = mask_y * mask.shape.stride + mask_column;
+        change.blit(
+            &mut pixels[start..start + count],
+            &src.pixels[src_start..src_start + count],
+            &mask.pixels[mask_start..mask_start + count],
+        );
+    }
+}

@@ -1,0 +1,23 @@
+-- Of `give_up`: the boxes afterwards.
+use Rattle.std.proofs.Common.{arith, map, ℕ, List, length, get_or, ◌+◌, ◌∙◌, ap, sym, subst}
+use Rattle.pix_table.specs.Nearest.{numbers}
+use Rattle.pix_table.specs.InverseMap.{AreEnough}
+use Rattle.pix_table.proofs.ShortLists.{empty_boxes}
+use Rattle.pix_table.proofs.inverse_map.give_up.Goals as goal
+
+pub returns-clause-boxes : goal.returns-clause-boxes
+returns-clause-boxes c =
+    let entries = map numbers c.args.entries.now in
+    let old = c.args.boxes.now in
+    let new = c.loop-k.boxes in
+    let first = c.requires.boxes.first c.requires.begun in
+    let same = c.loop-k.invariant in
+    empty_boxes entries _ same.long (ap length same.lists ∙ c.requires.boxes.lists) (omega arith)
+    (λ some. record {
+      few = omega (arith, first.few, same.first);
+      begun = omega arith;
+      enough = λ color.
+          subst (λ n. AreEnough entries color (λ p. get_or new.lists (0 + p) 0) n) (sym same.first)
+          (subst (λ (ls : List ℕ). AreEnough entries color (λ p. get_or ls (0 + p) 0) old.first) (sym same.lists) (first.enough color));
+    })
+    (λ k d b. same.empty k d (omega arith))

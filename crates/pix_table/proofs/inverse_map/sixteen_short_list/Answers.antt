@@ -1,0 +1,17 @@
+-- Of `sixteen_short_list`: that the first list is enough for the largest box, and the list of each box
+-- for the one of the next size inside it.
+use Rattle.std.proofs.Common.{map}
+use Rattle.pix_table.specs.Nearest.{numbers}
+use Rattle.pix_table.proofs.ShortLists.{first_for, list_inside}
+use Rattle.pix_table.proofs.inverse_map.sixteen_short_list.Goals as goal
+
+pub short_list_for-requires-clause-from : goal.short_list_for-requires-clause-from
+short_list_for-requires-clause-from c = first_for (map numbers c.args.entries.now) c.args.boxes.now _ c.requires.boxes c.requires.begun
+
+pub short_list_for-requires-2-clause-from : goal.short_list_for-requires-2-clause-from
+short_list_for-requires-2-clause-from c =
+    list_inside (map numbers c.args.entries.now) _ _ _ _ c.in_ok-first.ensures.short_list c.sixty_four_around-sixty_four.ensures.inside
+
+pub short_list_for-requires-3-clause-from : goal.short_list_for-requires-3-clause-from
+short_list_for-requires-3-clause-from c =
+    list_inside (map numbers c.args.entries.now) _ _ _ _ c.in_ok-second.ensures.short_list c.thirty_two_around-thirty_two.ensures.inside
