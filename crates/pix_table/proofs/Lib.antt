@@ -19,6 +19,7 @@ pub mod SeenSumLemmas
 pub mod SeenWeights
 pub mod Gains
 pub mod PieceBoxes
+pub mod PairLemmas
 pub mod CutColors
 pub mod SeenTable
 pub mod Splits

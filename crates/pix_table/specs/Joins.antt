@@ -23,6 +23,6 @@ pub record IsNextPairBy (weigh : List (List ℕ) → ℕ) (boxes : List (List (L
 pub data AreJoinedBy (weigh : List (List ℕ) → ℕ) : (boxes joined : List (List (List ℕ))) → Type 0 where
   none : (boxes : List (List (List ℕ))) → AreJoinedBy weigh boxes boxes
   join : (boxes before between after : List (List (List ℕ))) (p q : List (List ℕ))
-      → AreJoinedBy weigh boxes (before ++ p ∷ between ++ q ∷ after)
-      → IsNextPairBy weigh (before ++ p ∷ between ++ q ∷ after) (length before) (length before + 1 + length between)
-      → AreJoinedBy weigh boxes (before ++ (p ++ q) ∷ between ++ after)
+      → AreJoinedBy weigh boxes (before ++ p ∷ (between ++ q ∷ after))
+      → IsNextPairBy weigh (before ++ p ∷ (between ++ q ∷ after)) (length before) (length before + 1 + length between)
+      → AreJoinedBy weigh boxes (before ++ (p ++ q) ∷ (between ++ after))

@@ -1,6 +1,6 @@
 -- Boxes that are joined, as the program keeps them: the sums of each, and with which later one it is joined for least. No clause of a public
 -- call cites this file.
-use Rattle.std.specs.Prelude.{◌⊎◌, ◌≡◌, ℕ, ◌+◌, ◌<◌, ◌≤◌, ◌++◌, List, [], cond, length, nat_lt, slice_index_or, sum_by}
+use Rattle.std.specs.Prelude.{◌⊎◌, ◌≡◌, ℕ, ◌+◌, ◌-◌, ◌<◌, ◌≤◌, ◌++◌, ◌∷◌, List, [], cond, drop, length, nat_lt, slice_index_or, sum_by, take}
 use Rattle.pix_table.specs.Joins.{cost_at}
 use Rattle.pix_table.specs.declared.joins.Pair.{Pair}
 
@@ -42,6 +42,11 @@ skip gone k = cond (nat_lt k gone) k (k + 1)
 -- the pairs of the boxes before one was taken away, without the pair of that one
 pub record ArePairsWithout (weigh : List (List ℕ) → ℕ) (boxes : List (List (List ℕ))) (gone : ℕ) (pairs : List Pair) : Type 0 where
   pub each : (k : ℕ) (d : Pair) → skip gone k + 1 < length boxes → IsPairOf weigh boxes (skip gone k) (slice_index_or pairs k d)
+
+-- the boxes after two of them became one, that stands where the first stood
+abbrev pub join_at : (boxes : List (List (List ℕ))) (i j : ℕ) → List (List (List ℕ))
+join_at boxes i j =
+    take i boxes ++ (slice_index_or boxes i [] ++ slice_index_or boxes j []) ∷ (take (j - (i + 1)) (drop (i + 1) boxes) ++ drop (j + 1) boxes)
 
 -- two boxes became one, that stands where the first stood
 pub record IsJoinOf (old new : List (List (List ℕ))) (i j : ℕ) : Type 0 where

@@ -2,7 +2,7 @@
 ghost use Rattle.std.specs.Prelude.{◌≡◌, ◌+◌, ◌-◌, ◌^◌, ◌<◌, ◌≤◌, ℕ, List, length, min, slice_index_or};
 ghost use Rattle.pix_table.specs.Joins.{AreJoinedBy, IsNextPairBy, cost_by};
 ghost use Rattle.pix_table.specs.Pairs.{AreGroupsOf, ArePairs, ArePairsWithout};
-ghost use Rattle.pix_table.specs.Pairs.{IsBetter, IsJoinOf, IsPairOf, all_colors, skip};
+ghost use Rattle.pix_table.specs.Pairs.{IsBetter, IsJoinOf, IsPairOf, all_colors, join_at, skip};
 
 use crate::cutting::Cutting;
 
@@ -81,7 +81,7 @@ fn find_pair<C: Cutting>(groups: &[C::Group], k: usize, count: usize) -> Pair
 /// Returns the better of the best pair so far and one with a later box, the first of equals.
 #[inline(always)]
 fn better<C: Cutting>(best: Pair, p: C::Group, q: C::Group, with: usize) -> Pair
-    requires groups { (a b : List (List ℕ)) × C.is_group a p × C.is_group b q
+    requires { (a b : List (List ℕ)) × C.is_group a p × C.is_group b q
         × (length a + length b < 2 ^ 64) }
     ensures { (a b : List (List ℕ)) → C.is_group a p → C.is_group b q
         → IsBetter best (cost_by C.weigh a b) with result }
@@ -105,10 +105,10 @@ fn join_next<C: Cutting>(groups: &mut [C::Group], pairs: &mut [Pair], count: usi
         × AreGroupsOf C.is_group boxes groups.old count × (all_colors boxes < 2 ^ 64)
         × ArePairs C.weigh boxes pairs.old }
     ensures { (boxes : List (List (List ℕ))) → AreGroupsOf C.is_group boxes groups.old count
-        → ArePairs C.weigh boxes pairs.old → (joined : List (List (List ℕ))) × (i j : ℕ)
-        × IsNextPairBy C.weigh boxes i j × IsJoinOf boxes joined i j
-        × AreGroupsOf C.is_group joined groups.new (count - 1)
-        × ArePairs C.weigh joined pairs.new }
+        → ArePairs C.weigh boxes pairs.old → (i : ℕ) × (j : ℕ)
+        × IsNextPairBy C.weigh boxes i j
+        × AreGroupsOf C.is_group (join_at boxes i j) groups.new (count - 1)
+        × ArePairs C.weigh (join_at boxes i j) pairs.new }
 {
     let i = next_pair(&pairs[..count - 1]);
     let j = pairs[i].with;
