@@ -2,7 +2,7 @@
 use Rattle.std.proofs.Common.{◌≡◌, ◌⊎◌, inl, inr, ℕ, zero, suc, ◌+◌, ◌-◌, ◌<◌, ◌≤◌, List, [], ◌∷◌, ◌++◌, cond, length, nat_lt, get_or, take, drop, set, sum_by, refl, append_assoc, arith, sym, ap, ap₂, ◌∙◌, subst, lt-ltb, le-ltb, length-append, length-drop, length-take, take-append-drop, IsPermutation}
 use Rattle.std.specs.List.{flat_map}
 use Rattle.std.proofs.lemmas.Bool.{cases_eq, cases_lt}
-use Rattle.std.proofs.lemmas.List.{drop-drop, drop_more, get_or_append_left, get_or-append-add, get_or_default, get_or-set_same, get_or-set_other}
+use Rattle.std.proofs.lemmas.List.{drop-drop, drop_more, get_or_append_left, get_or-append-add, get_or-set_same, get_or-set_other, get_or-take, length-set}
 use Rattle.std.proofs.lemmas.List.Sums.{sum_by-cons, sum_by-append}
 use Rattle.std.proofs.lemmas.List.Sorted.{IsPermutation-refl, IsPermutation-trans, IsPermutation-append_left, IsPermutation-append_right, IsPermutation-append_comm}
 use Rattle.std.proofs.lemmas.Grind.{flat_map-append}
@@ -58,114 +58,12 @@ skip_below gone k b = ap (λ t. cond t k (k + 1)) (lt-ltb k gone b)
 pub skip_above : (gone k : ℕ) → gone ≤ k → skip gone k ≡ k + 1
 skip_above gone k b = ap (λ t. cond t k (k + 1)) (le-ltb k gone b)
 
-pub skip_less : (gone k l : ℕ) → k < l → skip gone k < skip gone l
-skip_less gone k l h = elim (skip_cases gone k) [
-  | inl a ↦ elim (skip_cases gone l) [
-    | inl b ↦ omega (arith, a.1, b.1)
-    | inr b ↦ omega (arith, a.1, b.1)
-  ]
-  | inr a ↦ elim (skip_cases gone l) [
-    | inl b ↦ absurd (omega (arith, a.0, b.0))
-    | inr b ↦ omega (arith, a.1, b.1)
-  ]
-]
-
-pub skip_order : (gone k l : ℕ) → skip gone k < skip gone l → k < l
-skip_order gone k l h = elim (cases_lt k l) [
-  | inl b ↦ b
-  | inr b ↦ elim (cases_eq l k) [
-    | inl e ↦ absurd (let same : skip gone l ≡ skip gone k = ap (λ n. skip gone n) e in omega (arith, same, h))
-    | inr n ↦ absurd (omega (arith, h, skip_less gone l k (omega arith)))
-  ]
-]
-
 -- a place is not far from where it was
 pub skip_near : (gone k : ℕ) → (k ≤ skip gone k) × (skip gone k ≤ k + 1)
 skip_near gone k = elim (skip_cases gone k) [
   | inl a ↦ (omega (arith, a.1), omega (arith, a.1))
   | inr a ↦ (omega (arith, a.1), omega (arith, a.1))
 ]
-
--- the pair of a box after two others became one
-module _ (weigh : List (List ℕ) → ℕ) (old new : List (List (List ℕ))) (i j k cost with w : ℕ) (joined : IsJoinOf old new i j) (apart : k ≡ i → ⊥)
-    (pair : IsLeastAfter (cost_at weigh old (skip j k)) (skip j k) (length old) cost with) (is : skip j w ≡ with) (not_first : with ≡ i → ⊥) where
-  same_cost : (l : ℕ) → (l ≡ i → ⊥) → cost_at weigh new k l ≡ cost_at weigh old (skip j k) (skip j l)
-  same_cost l n = ap₂ (λ p q. cost_by weigh p q) (joined.others k apart) (joined.others l n)
-
-  w_after : k < w
-  w_after = skip_order j k w (omega (arith, pair.after, is))
-
-  w_before : w < length new
-  w_before = elim (skip_cases j w) [
-    | inl a ↦ omega (arith, a.0, joined.within, joined.many)
-    | inr a ↦ omega (arith, a.1, is, pair.before, joined.many)
-  ]
-
-  w_apart : w ≡ i → ⊥
-  w_apart e = not_first (sym is ∙ ap (λ n. skip j n) e ∙ skip_below j i joined.order)
-
-  w_cost : cost_at weigh new k w ≡ cost
-  w_cost = same_cost w w_apart ∙ ap (λ n. cost_at weigh old (skip j k) n) is ∙ pair.is
-
-  others_least : (l : ℕ) → (l ≡ i → ⊥) → k < l → l < length new → cost ≤ cost_at weigh new k l
-  others_least l n a b =
-      let near = skip_near j l in
-      omega (arith, same_cost l n, pair.least (skip j l) (skip_less j k l a) (omega (arith, near.1, joined.many)))
-
-  others_first : (l : ℕ) → (l ≡ i → ⊥) → k < l → l < w → cost < cost_at weigh new k l
-  others_first l n a b =
-      let less : skip j l < with = (let d = skip_less j l w b in omega (arith, d, is)) in
-      omega (arith, same_cost l n, pair.first (skip j l) (skip_less j k l a) less)
-
-  pub pair_stays : (k < i → (cost < cost_at weigh new k i) ⊎ ((cost ≡ cost_at weigh new k i) × (w < i))) → IsLeastAfter (cost_at weigh new k) k (length new) cost w
-  pair_stays h = record {
-    after = w_after;
-    before = w_before;
-    is = w_cost;
-    least = λ l a b. elim (cases_eq l i) [
-      | inl e ↦
-          let here : cost_at weigh new k l ≡ cost_at weigh new k i = ap (λ n. cost_at weigh new k n) e in
-          elim (h (omega arith)) [
-            | inl m ↦ omega (arith, here, m)
-            | inr m ↦ omega (arith, here, m.0)
-          ]
-      | inr n ↦ others_least l n a b
-    ];
-    first = λ l a b. elim (cases_eq l i) [
-      | inl e ↦
-          let here : cost_at weigh new k l ≡ cost_at weigh new k i = ap (λ n. cost_at weigh new k n) e in
-          elim (h (omega arith)) [
-            | inl m ↦ omega (arith, here, m)
-            | inr m ↦ absurd (omega (arith, m.1, e))
-          ]
-      | inr n ↦ others_first l n a b
-    ];
-  }
-
-  pub pair_taken : (least : ℕ) → k < i → cost_at weigh new k i ≡ least → (least < cost) ⊎ ((least ≡ cost) × (i < w)) → IsLeastAfter (cost_at weigh new k) k (length new) least i
-  pair_taken least order here h =
-      let at_most : least ≤ cost = elim h [
-        | inl m ↦ omega (arith, m)
-        | inr m ↦ omega (arith, m.0)
-      ] in
-      record {
-        after = order;
-        before = omega (arith, joined.order, joined.within, joined.many);
-        is = here;
-        least = λ l a b. elim (cases_eq l i) [
-          | inl e ↦ let same : cost_at weigh new k l ≡ cost_at weigh new k i = ap (λ n. cost_at weigh new k n) e in omega (arith, same, here)
-          | inr n ↦ omega (arith, at_most, others_least l n a b)
-        ];
-        first = λ l a b. elim h [
-          | inl m ↦
-              omega (
-                arith,
-                m,
-                others_least l (λ e. omega arith) a (omega (arith, b, joined.order, joined.within, joined.many)),
-              )
-          | inr m ↦ omega (arith, m.0, others_first l (λ e. omega arith) a (omega (arith, b, m.1)))
-        ];
-      }
 
 -- the pair that costs least of all is joined next
 pub next_found : (weigh : List (List ℕ) → ℕ) (boxes : List (List (List ℕ))) (pairs : List Pair) (i : ℕ) (d : Pair) → ArePairs weigh boxes pairs
@@ -428,3 +326,31 @@ set_each {X} P xs k x inside before now m d h = elim (cases_eq m k) [
       subst (λ (n : ℕ). P n (get_or (set xs k x) n d)) (sym e) (subst (P k) (sym (get_or-set_same xs k x d inside)) now)
   | inr n ↦ subst (P m) (sym (get_or-set_other xs k m x d n)) (before m d (omega (arith, n, h)))
 ]
+
+-- the first of the pairs that cost least, of all but the last, is the next one
+front : (pairs : List Pair) (n k : ℕ) (d : Pair) → k < n → (get_or (take n pairs) k d).cost ≡ (get_or pairs k d).cost
+front pairs n k d h = ap (λ (p : Pair). p.cost) (get_or-take n pairs k d h)
+
+pub next_in : (weigh : List (List ℕ) → ℕ) (boxes : List (List (List ℕ))) (pairs : List Pair) (i count : ℕ) (d : Pair) → 1 < count → count ≤ length pairs
+    → length boxes ≡ count → ArePairs weigh boxes pairs → i < length (take (count - 1) pairs)
+    → ((k : ℕ) (e : Pair) → k < length (take (count - 1) pairs) → (get_or (take (count - 1) pairs) i e).cost ≤ (get_or (take (count - 1) pairs) k e).cost)
+    → ((k : ℕ) (e : Pair) → k < i → (get_or (take (count - 1) pairs) i e).cost < (get_or (take (count - 1) pairs) k e).cost)
+    → IsNextPairBy weigh boxes i (get_or pairs i d).with
+next_in weigh boxes pairs i count d two room many are within least first =
+    let long = length-take (count - 1) pairs in
+    let here = front pairs (count - 1) i d (omega (arith, within, long)) in
+    next_found weigh boxes pairs i d are (omega (arith, within, long, many, two))
+    (λ k h.
+    omega (arith, here, front pairs (count - 1) k d (omega (arith, h, many)), least k d (omega (arith, long, h, many, room))))
+    (λ k h. omega (arith, here, front pairs (count - 1) k d (omega (arith, h, within, long)), first k d h))
+
+-- what is kept of the boxes after the next two are joined
+pub groups_after : {G : Type 0} (is_group : List (List ℕ) → G → Type 0) (weigh : List (List ℕ) → ℕ) (boxes : List (List (List ℕ))) (groups after : List G)
+    (i j count : ℕ) (p q one : G) → IsNextPairBy weigh boxes i j → AreGroupsOf is_group boxes groups count → p ≡ get_or groups i p → q ≡ get_or groups j q
+    → ((a b : List (List ℕ)) → is_group a p → is_group b q → is_group (a ++ b) one) → length after ≡ length (set groups i one)
+    → ((k : ℕ) (d : G) → k + 1 < count → get_or after k d ≡ get_or (set groups i one) (skip j k) d) → AreGroupsOf is_group (join_at boxes i j) after (count - 1)
+groups_after is_group weigh boxes groups after i j count p q one next are read other made long moved =
+    groups_joined is_group boxes (join_at boxes i j) groups after i j count one (join_is boxes i j next.order next.within) are
+    (made (get_or boxes i []) (get_or boxes j []) (group_is is_group boxes groups count i p are (omega (arith, next.order, next.within, are.many)) read)
+    (group_is is_group boxes groups count j q are (omega (arith, next.within, are.many)) other))
+    (omega (arith, long, length-set groups i one)) moved
