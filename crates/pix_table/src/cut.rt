@@ -1,11 +1,11 @@
 //! A table of the means of boxes of colors, which are cut where the squared error falls most, and
 //! then joined.
-ghost use Rattle.std.specs.Prelude.{◌≡◌, ◌⊎◌, ℕ, ◌+◌, ◌<◌, ◌≤◌, List, ◌∷◌, [], All, length, map, take, drop, slice_index, IsPermutation, ⊤, true, false};
+ghost use Rattle.std.specs.Prelude.{◌≡◌, ◌⊎◌, ℕ, ◌+◌, ◌^◌, ◌<◌, ◌≤◌, List, ◌∷◌, [], All, length, map, take, drop, slice_index, IsPermutation, ⊤, true, false};
 ghost use Rattle.pix_table.specs.Nearest.{numbers};
 ghost use Rattle.pix_table.specs.Places.{CannotBeCutBy, HasBestBy, IsCutBy, weight};
 ghost use Rattle.pix_table.specs.Cut.{AreBoxesBy, IsCutTable, IsCutTableBy, mean, more_boxes};
 ghost use Rattle.pix_table.specs.Pieces.{ArePieces, AreWhole, IsKnown, IsNext, boxes_of};
-ghost use Rattle.pix_table.specs.Pairs.{AreGroupsOf};
+ghost use Rattle.pix_table.specs.Pairs.{AreGroupsOf, all_colors};
 ghost use Rattle.pix_table.specs.ColorGroups.{IsGroup};
 
 use crate::color::Color;
@@ -138,7 +138,7 @@ fn cut_groups<C: Cutting>(colors: &mut [C], groups: &mut [C::Group], room: usize
         × AreBoxesBy C.channels C.weigh (map C.parts colors.old) boxes
         × (length boxes ≤ more_boxes room)
         × ((length boxes ≡ more_boxes room) ⊎ All (CannotBeCutBy C.channels) boxes)
-        × AreGroupsOf C.is_group boxes groups.new result }
+        × AreGroupsOf C.is_group boxes groups.new result × (all_colors boxes < 2 ^ 64) }
 {
     let mut pieces = [Piece::none(); BOXES];
     let more = (2 * room).min(room + MORE);

@@ -1,7 +1,8 @@
 //! What is kept of a box of colors: their sums, and what they weigh.
-ghost use Rattle.std.specs.Prelude.{◌≡◌, ℕ, ◌+◌, ◌*◌, ◌^◌, ◌<◌, ◌≤◌, ◌++◌, List, length, map, true};
+ghost use Rattle.std.specs.Prelude.{◌≡◌, ℕ, ◌+◌, ◌*◌, ◌^◌, ◌<◌, ◌≤◌, ◌++◌, All, List, length, map, true};
 ghost use Rattle.pix_table.specs.Nearest.{numbers};
 ghost use Rattle.pix_table.specs.Places.{weight};
+ghost use Rattle.pix_table.specs.BestPlaces.{AreBytes, AreSums};
 ghost use Rattle.pix_table.specs.Joins.{cost_by};
 ghost use Rattle.pix_table.specs.Cut.{mean};
 ghost use Rattle.pix_table.specs.ColorGroups.{IsGroup};
@@ -37,6 +38,23 @@ impl Group {
         }
     }
 
+    /// Returns the sums of two boxes as one.
+    #[inline(always)]
+    fn both(self, other: Group) -> Sums
+        requires { (a b : List (List ℕ)) × IsGroup a self × IsGroup b other
+            × (length a + length b < 2 ^ 64) }
+        ensures some { 0 < result.count }
+        ensures red { result.red ≤ 255 * result.count }
+        ensures green { result.green ≤ 255 * result.count }
+        ensures blue { result.blue ≤ 255 * result.count }
+        ensures sums { (a b : List (List ℕ)) → IsGroup a self → IsGroup b other
+            → AreSums (λ color. true) (a ++ b) result }
+        ensures bytes { (a b : List (List ℕ)) → IsGroup a self → IsGroup b other
+            → All AreBytes (a ++ b) }
+    {
+        self.sums.and(other.sums)
+    }
+
     /// Returns that of two boxes as one.
     pub(crate) fn join(self, other: Group) -> Group
         requires { (a b : List (List ℕ)) × IsGroup a self × IsGroup b other
@@ -44,7 +62,7 @@ impl Group {
         ensures { (a b : List (List ℕ)) → IsGroup a self → IsGroup b other
             → IsGroup (a ++ b) result }
     {
-        let sums = self.sums.and(other.sums);
+        let sums = self.both(other);
         Group {
             sums,
             weight: sums.weight(),
@@ -58,7 +76,7 @@ impl Group {
         ensures { (a b : List (List ℕ)) → IsGroup a self → IsGroup b other
             → result ≡ cost_by weight a b }
     {
-        let both = self.sums.and(other.sums);
+        let both = self.both(other);
         (self.weight + other.weight).saturating_sub(both.weight())
     }
 
@@ -70,7 +88,7 @@ impl Group {
         ensures { result ≡ true → (a b : List (List ℕ)) → IsGroup a self → IsGroup b other
             → most ≤ cost_by weight a b }
     {
-        let both = self.sums.and(other.sums);
+        let both = self.both(other);
         let apart = self.weight + other.weight;
         most <= apart && both.weighs_at_most(apart - most)
     }

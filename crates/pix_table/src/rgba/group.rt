@@ -2,6 +2,7 @@
 ghost use Rattle.std.specs.Prelude.{◌≡◌, ℕ, ◌+◌, ◌*◌, ◌^◌, ◌<◌, ◌≤◌, ◌++◌, All, List, length, map, true};
 ghost use Rattle.pix_table.specs.Seen.{AreSeen, seen_numbers};
 ghost use Rattle.pix_table.specs.SeenCut.{seen_mean, seen_weight};
+ghost use Rattle.pix_table.specs.SeenSums.{AreFew, AreSeenSums};
 ghost use Rattle.pix_table.specs.Joins.{cost_by};
 ghost use Rattle.pix_table.specs.ColorGroups.{IsSeenGroup};
 
@@ -37,6 +38,21 @@ impl SeenGroup {
         }
     }
 
+    /// Returns the sums of two boxes as one.
+    #[inline(always)]
+    fn both(self, other: SeenGroup) -> SeenSums
+        requires { (a b : List (List ℕ)) × IsSeenGroup a self × IsSeenGroup b other
+            × (length a + length b < 2 ^ 64) }
+        ensures some { 0 < result.count }
+        ensures few { AreFew result }
+        ensures sums { (a b : List (List ℕ)) → IsSeenGroup a self → IsSeenGroup b other
+            → AreSeenSums (λ color. true) (a ++ b) result }
+        ensures seen { (a b : List (List ℕ)) → IsSeenGroup a self → IsSeenGroup b other
+            → All AreSeen (a ++ b) }
+    {
+        self.sums.and(other.sums)
+    }
+
     /// Returns that of two boxes as one.
     pub(crate) fn join(self, other: SeenGroup) -> SeenGroup
         requires { (a b : List (List ℕ)) × IsSeenGroup a self × IsSeenGroup b other
@@ -44,7 +60,7 @@ impl SeenGroup {
         ensures { (a b : List (List ℕ)) → IsSeenGroup a self → IsSeenGroup b other
             → IsSeenGroup (a ++ b) result }
     {
-        let sums = self.sums.and(other.sums);
+        let sums = self.both(other);
         SeenGroup {
             sums,
             weight: sums.weight(),
@@ -58,7 +74,7 @@ impl SeenGroup {
         ensures { (a b : List (List ℕ)) → IsSeenGroup a self → IsSeenGroup b other
             → result ≡ cost_by seen_weight a b }
     {
-        let both = self.sums.and(other.sums);
+        let both = self.both(other);
         (self.weight + other.weight).saturating_sub(both.weight())
     }
 
@@ -70,7 +86,7 @@ impl SeenGroup {
         ensures { result ≡ true → (a b : List (List ℕ)) → IsSeenGroup a self
             → IsSeenGroup b other → most ≤ cost_by seen_weight a b }
     {
-        let both = self.sums.and(other.sums);
+        let both = self.both(other);
         let apart = self.weight + other.weight;
         most <= apart && both.weighs_at_most(apart - most)
     }

@@ -10,8 +10,7 @@ returns-then-count-room-clause-joined g c = λ boxes are few. (boxes, none boxes
 
 pub loop-done-init : goal.loop-done-init
 loop-done-init g c = λ boxes are few.
-    let e : c.args.count ≡ c.args.count - 0 = omega arith in
-    (
+    let e : c.args.count ≡ c.args.count - 0 = omega arith in (
       boxes,
       none boxes,
       subst (λ n. AreGroupsOf g.C.Cutting.is_group boxes c.args.groups.now n) e are,
@@ -23,8 +22,7 @@ pub loop-done-preserved : goal.loop-done-preserved
 loop-done-preserved g c = λ boxes are few.
     let old = c.loop-done.invariant boxes are few in
     let step = c.join_next.ensures old.0 old.2 old.3 in
-    let e : c.args.count - c.loop-done.done - 1 ≡ c.args.count - (c.loop-done.done + 1) = omega arith in
-    (
+    let e : c.args.count - c.loop-done.done - 1 ≡ c.args.count - (c.loop-done.done + 1) = omega arith in (
       join_at old.0 step.0 step.1,
       join_more old.0 step.0 step.1 step.2.order step.2.within g.C.Cutting.weigh boxes old.1 step.2,
       subst (λ n. AreGroupsOf g.C.Cutting.is_group (join_at old.0 step.0 step.1) c.join_next.new.groups n) e step.3,

@@ -24,8 +24,7 @@ update_pairs-requires-clause-boxes g c =
     let j : ℕ = (get_or c.args.pairs.now c.next_pair-i.result first).with in
     let found = c.next_pair-i.ensures in
     let pair = next_in g.C.Cutting.weigh h.0 c.args.pairs.now i c.args.count first c.requires.two c.requires.room h.1.many h.3 found.within found.least
-    found.first in
-    (
+    found.first in (
       h.0,
       join_at h.0 i j,
       join_is h.0 i j pair.order pair.within,
@@ -43,8 +42,7 @@ returns g c = λ boxes are pairs.
     let pair = next_in g.C.Cutting.weigh boxes c.args.pairs.now i c.args.count first c.requires.two c.requires.room are.many pairs found.within found.least
     found.first in
     let groups = groups_after g.C.Cutting.is_group g.C.Cutting.weigh boxes c.args.groups.now c.take_away.new.items i j c.args.count c.index-groups-i.result
-    c.index-groups-j.result c.join.result pair are c.index-groups-i.is c.index-groups-j.is c.join.ensures c.take_away.auto.items c.take_away.ensures in
-    (
+    c.index-groups-j.result c.join.result pair are c.index-groups-i.is c.index-groups-j.is c.join.ensures c.take_away.auto.items c.take_away.ensures in (
       i,
       j,
       pair,
