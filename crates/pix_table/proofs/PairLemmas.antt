@@ -8,7 +8,7 @@ use Rattle.std.proofs.lemmas.List.Sorted.{IsPermutation-refl, IsPermutation-tran
 use Rattle.std.proofs.lemmas.Grind.{flat_map-append}
 use Rattle.pix_table.specs.Places.{IsBefore}
 use Rattle.pix_table.specs.Joins.{AreJoinedBy, IsNextPairBy, cost_at, cost_by, none, join}
-use Rattle.pix_table.specs.Pairs.{AreGroupsOf, ArePairs, ArePairsWithout, IsBetter, IsJoinOf, IsLeastAfter, IsPairOf, all_colors, join_at, skip}
+use Rattle.pix_table.specs.Pairs.{AreGroupsOf, ArePairs, ArePairsWithout, IsBetter, IsEarlier, IsJoinOf, IsLeastAfter, IsPairOf, all_colors, join_at, skip}
 use Rattle.pix_table.specs.declared.joins.Pair.{Pair}
 
 -- the first place of a row behind another, and one place more
@@ -58,12 +58,123 @@ skip_below gone k b = ap (λ t. cond t k (k + 1)) (lt-ltb k gone b)
 pub skip_above : (gone k : ℕ) → gone ≤ k → skip gone k ≡ k + 1
 skip_above gone k b = ap (λ t. cond t k (k + 1)) (le-ltb k gone b)
 
+pub skip_less : (gone k l : ℕ) → k < l → skip gone k < skip gone l
+skip_less gone k l h = elim (skip_cases gone k) [
+  | inl a ↦ elim (skip_cases gone l) [
+    | inl b ↦ omega (arith, a.1, b.1)
+    | inr b ↦ omega (arith, a.1, b.1)
+  ]
+  | inr a ↦ elim (skip_cases gone l) [
+    | inl b ↦ absurd (omega (arith, a.0, b.0))
+    | inr b ↦ omega (arith, a.1, b.1)
+  ]
+]
+
+pub skip_order : (gone k l : ℕ) → skip gone k < skip gone l → k < l
+skip_order gone k l h = elim (cases_lt k l) [
+  | inl b ↦ b
+  | inr b ↦ elim (cases_eq l k) [
+    | inl e ↦ absurd (let same : skip gone l ≡ skip gone k = ap (λ n. skip gone n) e in omega (arith, same, h))
+    | inr n ↦ absurd (omega (arith, h, skip_less gone l k (omega arith)))
+  ]
+]
+
 -- a place is not far from where it was
 pub skip_near : (gone k : ℕ) → (k ≤ skip gone k) × (skip gone k ≤ k + 1)
 skip_near gone k = elim (skip_cases gone k) [
   | inl a ↦ (omega (arith, a.1), omega (arith, a.1))
   | inr a ↦ (omega (arith, a.1), omega (arith, a.1))
 ]
+
+-- the pair of a box after two others became one
+module _ (weigh : List (List ℕ) → ℕ) (old new : List (List (List ℕ))) (i j k cost with w : ℕ) (joined : IsJoinOf old new i j) (apart : k ≡ i → ⊥)
+    (pair : IsLeastAfter (cost_at weigh old (skip j k)) (skip j k) (length old) cost with) (is : skip j w ≡ with) (not_first : with ≡ i → ⊥) where
+  same_cost : (l : ℕ) → (l ≡ i → ⊥) → cost_at weigh new k l ≡ cost_at weigh old (skip j k) (skip j l)
+  same_cost l n = ap₂ (λ p q. cost_by weigh p q) (joined.others k apart) (joined.others l n)
+
+  w_after : k < w
+  w_after = skip_order j k w (omega (arith, pair.after, is))
+
+  w_before : w < length new
+  w_before = elim (skip_cases j w) [
+    | inl a ↦ omega (arith, a.0, joined.within, joined.many)
+    | inr a ↦ omega (arith, a.1, is, pair.before, joined.many)
+  ]
+
+  w_apart : w ≡ i → ⊥
+  w_apart e = not_first (sym is ∙ ap (λ n. skip j n) e ∙ skip_below j i joined.order)
+
+  w_cost : cost_at weigh new k w ≡ cost
+  w_cost = same_cost w w_apart ∙ ap (λ n. cost_at weigh old (skip j k) n) is ∙ pair.is
+
+  others_least : (l : ℕ) → (l ≡ i → ⊥) → k < l → l < length new → cost ≤ cost_at weigh new k l
+  others_least l n a b =
+      let near = skip_near j l in
+      omega (arith, same_cost l n, pair.least (skip j l) (skip_less j k l a) (omega (arith, near.1, joined.many)))
+
+  others_first : (l : ℕ) → (l ≡ i → ⊥) → k < l → l < w → cost < cost_at weigh new k l
+  others_first l n a b =
+      let less : skip j l < with = (let d = skip_less j l w b in omega (arith, d, is)) in
+      omega (arith, same_cost l n, pair.first (skip j l) (skip_less j k l a) less)
+
+  pair_stays : (k < i → (cost < cost_at weigh new k i) ⊎ ((cost ≡ cost_at weigh new k i) × (w ≤ i))) → IsLeastAfter (cost_at weigh new k) k (length new) cost w
+  pair_stays h = record {
+    after = w_after;
+    before = w_before;
+    is = w_cost;
+    least = λ l a b. elim (cases_eq l i) [
+      | inl e ↦
+          let here : cost_at weigh new k l ≡ cost_at weigh new k i = ap (λ n. cost_at weigh new k n) e in
+          elim (h (omega arith)) [
+            | inl m ↦ omega (arith, here, m)
+            | inr m ↦ omega (arith, here, m.0)
+          ]
+      | inr n ↦ others_least l n a b
+    ];
+    first = λ l a b. elim (cases_eq l i) [
+      | inl e ↦
+          let here : cost_at weigh new k l ≡ cost_at weigh new k i = ap (λ n. cost_at weigh new k n) e in
+          elim (h (omega arith)) [
+            | inl m ↦ omega (arith, here, m)
+            | inr m ↦ absurd (omega (arith, b, m.1, e))
+          ]
+      | inr n ↦ others_first l n a b
+    ];
+  }
+
+  pair_taken : (least : ℕ) → k < i → cost_at weigh new k i ≡ least → (least < cost) ⊎ ((least ≡ cost) × (i < w)) → IsLeastAfter (cost_at weigh new k) k (length new) least i
+  pair_taken least order here h =
+      let at_most : least ≤ cost = elim h [
+        | inl m ↦ omega (arith, m)
+        | inr m ↦ omega (arith, m.0)
+      ] in
+      record {
+        after = order;
+        before = omega (arith, joined.order, joined.within, joined.many);
+        is = here;
+        least = λ l a b. elim (cases_eq l i) [
+          | inl e ↦ let same : cost_at weigh new k l ≡ cost_at weigh new k i = ap (λ n. cost_at weigh new k n) e in omega (arith, same, here)
+          | inr n ↦ omega (arith, at_most, others_least l n a b)
+        ];
+        first = λ l a b. elim h [
+          | inl m ↦
+              omega (
+                arith,
+                m,
+                others_least l (λ e. omega arith) a (omega (arith, b, joined.order, joined.within, joined.many)),
+              )
+          | inr m ↦ omega (arith, m.0, others_first l (λ e. omega arith) a (omega (arith, b, m.1)))
+        ];
+      }
+
+  -- the better of the pair and one with the joined box
+  pub pair_found : (found : Pair) → k < i → IsEarlier (record { cost = cost; with = w }) (cost_at weigh new k i) i found
+      → IsLeastAfter (cost_at weigh new k) k (length new) found.cost found.with
+  pair_found found order (inl h) = subst (λ (p : Pair). IsLeastAfter (cost_at weigh new k) k (length new) p.cost p.with) (sym h.1) (pair_stays (λ o. h.0))
+  pair_found found order (inr h) = rw (h.1, h.2) (pair_taken (cost_at weigh new k i) order refl h.0)
+
+  pub pair_kept : i < k → IsLeastAfter (cost_at weigh new k) k (length new) cost w
+  pair_kept order = pair_stays (λ o. absurd (omega arith))
 
 -- the pair that costs least of all is joined next
 pub next_found : (weigh : List (List ℕ) → ℕ) (boxes : List (List (List ℕ))) (pairs : List Pair) (i : ℕ) (d : Pair) → ArePairs weigh boxes pairs

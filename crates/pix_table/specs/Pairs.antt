@@ -31,6 +31,12 @@ IsPairOf weigh boxes k pair = IsLeastAfter (cost_at weigh boxes k) k (length box
 abbrev pub IsBetter : (best : Pair) (cost with : ℕ) (better : Pair) → Type 0
 IsBetter best cost with better = ((best.cost ≤ cost) × (better ≡ best)) ⊎ ((cost < best.cost) × (better.cost ≡ cost) × (better.with ≡ with))
 
+-- the better of a pair and one that costs so much with a box, of equals that with the earlier box
+abbrev pub IsEarlier : (best : Pair) (cost with : ℕ) (better : Pair) → Type 0
+IsEarlier best cost with better =
+    (((best.cost < cost) ⊎ ((best.cost ≡ cost) × (best.with ≤ with))) × (better ≡ best))
+    ⊎ (((cost < best.cost) ⊎ ((cost ≡ best.cost) × (with < best.with))) × (better.cost ≡ cost) × (better.with ≡ with))
+
 -- these pairs of all boxes but the last
 pub record ArePairs (weigh : List (List ℕ) → ℕ) (boxes : List (List (List ℕ))) (pairs : List Pair) : Type 0 where
   pub each : (k : ℕ) (d : Pair) → k + 1 < length boxes → IsPairOf weigh boxes k (slice_index_or pairs k d)

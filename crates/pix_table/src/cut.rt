@@ -69,8 +69,8 @@ impl Cutting for Color {
     }
 
     #[inline(always)]
-    fn costs_no_less(p: Group, q: Group, most: u128) -> bool {
-        p.costs_no_less(q, most)
+    fn costs_more(p: Group, q: Group, most: u128) -> bool {
+        p.costs_more(q, most)
     }
 
     fn mean_color(group: Group) -> Color {

@@ -61,12 +61,12 @@ pub(crate) trait Cutting: Copy {
         ensures { (a b : List (List ℕ)) → is_group a p → is_group b q
             → result ≡ cost_by weigh a b };
 
-    /// Returns whether it tells, without a division, that it rises by no less than `most`.
-    fn costs_no_less(p: Self::Group, q: Self::Group, most: u128) -> bool
+    /// Returns whether it tells, without a division, that it rises by more than `most`.
+    fn costs_more(p: Self::Group, q: Self::Group, most: u128) -> bool
         requires { (a b : List (List ℕ)) × is_group a p × is_group b q
             × (length a + length b < 2 ^ 64) }
         ensures { result ≡ true → (a b : List (List ℕ)) → is_group a p → is_group b q
-            → most ≤ cost_by weigh a b };
+            → most < cost_by weigh a b };
 
     /// Returns the mean of a box.
     fn mean_color(group: Self::Group) -> Self

@@ -80,17 +80,17 @@ impl Group {
         (self.weight + other.weight).saturating_sub(both.weight())
     }
 
-    /// Returns whether it tells, without a division, that it rises by no less than `most`.
+    /// Returns whether it tells, without a division, that it rises by more than `most`.
     #[inline(always)]
-    pub(crate) fn costs_no_less(self, other: Group, most: u128) -> bool
+    pub(crate) fn costs_more(self, other: Group, most: u128) -> bool
         requires { (a b : List (List ℕ)) × IsGroup a self × IsGroup b other
             × (length a + length b < 2 ^ 64) }
         ensures { result ≡ true → (a b : List (List ℕ)) → IsGroup a self → IsGroup b other
-            → most ≤ cost_by weight a b }
+            → most < cost_by weight a b }
     {
         let both = self.both(other);
         let apart = self.weight + other.weight;
-        most <= apart && both.weighs_at_most(apart - most)
+        most < apart && both.weighs_at_most(apart - most - 1)
     }
 
     /// Returns the mean of the box.

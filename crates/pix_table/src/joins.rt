@@ -2,7 +2,7 @@
 ghost use Rattle.std.specs.Prelude.{◌≡◌, ◌+◌, ◌-◌, ◌^◌, ◌<◌, ◌≤◌, ℕ, List, length, min, slice_index_or};
 ghost use Rattle.pix_table.specs.Joins.{AreJoinedBy, IsNextPairBy, cost_by};
 ghost use Rattle.pix_table.specs.Pairs.{AreGroupsOf, ArePairs, ArePairsWithout};
-ghost use Rattle.pix_table.specs.Pairs.{IsBetter, IsJoinOf, IsPairOf, all_colors, join_at, skip};
+ghost use Rattle.pix_table.specs.Pairs.{IsBetter, IsEarlier, IsJoinOf, IsPairOf, all_colors, join_at, skip};
 
 use crate::cutting::Cutting;
 
@@ -86,7 +86,7 @@ fn better<C: Cutting>(best: Pair, p: C::Group, q: C::Group, with: usize) -> Pair
     ensures { (a b : List (List ℕ)) → C.is_group a p → C.is_group b q
         → IsBetter best (cost_by C.weigh a b) with result }
 {
-    if C::costs_no_less(p, q, best.cost) {
+    if C::costs_more(p, q, best.cost) {
         return best;
     }
     let cost = C::cost(p, q);
@@ -199,10 +199,25 @@ fn updated_pair<C: Cutting>(
     if i < k {
         return kept;
     }
-    let cost = C::cost(groups[k], groups[i]);
-    if cost < pair.cost || cost == pair.cost && i < with {
+    earlier::<C>(kept, groups[k], groups[i], i)
+}
+
+/// Returns the better of a pair and one with the box at `i`. Of equals it is the one with the
+/// earlier box.
+#[inline(always)]
+fn earlier<C: Cutting>(best: Pair, p: C::Group, q: C::Group, i: usize) -> Pair
+    requires { (a b : List (List ℕ)) × C.is_group a p × C.is_group b q
+        × (length a + length b < 2 ^ 64) }
+    ensures { (a b : List (List ℕ)) → C.is_group a p → C.is_group b q
+        → IsEarlier best (cost_by C.weigh a b) i result }
+{
+    if C::costs_more(p, q, best.cost) {
+        return best;
+    }
+    let cost = C::cost(p, q);
+    if cost < best.cost || cost == best.cost && i < best.with {
         Pair { cost, with: i }
     } else {
-        kept
+        best
     }
 }

@@ -51,8 +51,8 @@ impl Cutting for Seen {
     }
 
     #[inline(always)]
-    fn costs_no_less(p: SeenGroup, q: SeenGroup, most: u128) -> bool {
-        p.costs_no_less(q, most)
+    fn costs_more(p: SeenGroup, q: SeenGroup, most: u128) -> bool {
+        p.costs_more(q, most)
     }
 
     fn mean_color(group: SeenGroup) -> Seen {

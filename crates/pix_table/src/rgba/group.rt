@@ -78,17 +78,17 @@ impl SeenGroup {
         (self.weight + other.weight).saturating_sub(both.weight())
     }
 
-    /// Returns whether it tells, without a division, that it rises by no less than `most`.
+    /// Returns whether it tells, without a division, that it rises by more than `most`.
     #[inline(always)]
-    pub(crate) fn costs_no_less(self, other: SeenGroup, most: u128) -> bool
+    pub(crate) fn costs_more(self, other: SeenGroup, most: u128) -> bool
         requires { (a b : List (List ℕ)) × IsSeenGroup a self × IsSeenGroup b other
             × (length a + length b < 2 ^ 64) }
         ensures { result ≡ true → (a b : List (List ℕ)) → IsSeenGroup a self
-            → IsSeenGroup b other → most ≤ cost_by seen_weight a b }
+            → IsSeenGroup b other → most < cost_by seen_weight a b }
     {
         let both = self.both(other);
         let apart = self.weight + other.weight;
-        most <= apart && both.weighs_at_most(apart - most)
+        most < apart && both.weighs_at_most(apart - most - 1)
     }
 
     /// Returns the mean of the box.

@@ -1,8 +1,8 @@
--- Of `SeenGroup::costs_no_less`: that the sum fits, and that the cost is no less.
+-- Of `SeenGroup::costs_more`: that the sum fits, and that the cost is more.
 use Rattle.std.proofs.Common.{◌++◌, arith}
 use Rattle.pix_table.proofs.SeenWeights.{whole_weight}
 use Rattle.pix_table.proofs.GroupLemmas.{little_seen}
-use Rattle.pix_table.proofs.rgba.group.SeenGroup.costs_no_less.Goals as goal
+use Rattle.pix_table.proofs.rgba.group.SeenGroup.costs_more.Goals as goal
 
 pub overflow_add-apart : goal.overflow_add-apart
 overflow_add-apart c = omega (arith, little_seen c.requires.0 c.args.self c.requires.2, little_seen c.requires.1 c.args.other c.requires.3, c.requires.4)

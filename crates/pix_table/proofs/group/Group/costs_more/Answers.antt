@@ -1,8 +1,8 @@
--- Of `Group::costs_no_less`: that the sum fits, and that the cost is no less.
+-- Of `Group::costs_more`: that the sum fits, and that the cost is more.
 use Rattle.std.proofs.Common.{◌++◌, arith}
 use Rattle.pix_table.proofs.BoxSumLemmas.{whole_weight}
 use Rattle.pix_table.proofs.GroupLemmas.{little}
-use Rattle.pix_table.proofs.group.Group.costs_no_less.Goals as goal
+use Rattle.pix_table.proofs.group.Group.costs_more.Goals as goal
 
 pub overflow_add-apart : goal.overflow_add-apart
 overflow_add-apart c = omega (arith, little c.requires.0 c.args.self c.requires.2, little c.requires.1 c.args.other c.requires.3, c.requires.4)
