@@ -34,9 +34,9 @@ typedef struct {
 } way;
 
 static const way WAYS[] = {
-    {"cut", 0, 0, 0, 0, 0, 0, false},          {"rounds", 0, 0, 4, 0, 0, 0, false},
-    {"sample-cut", 0, 0, 0, 1, 0, 0, false},   {"sample-rounds", 0, 0, 4, 1, 0, 0, false},
-    {"diffused", 0, 0, 4, 0, 1, 16, false},    {"weaker", 0, 0, 4, 0, 1, 12, true},
+    {"cut", 0, 0, 0, 0, 0, 0, false},          {"rounds", 0, 0, 6, 0, 0, 0, false},
+    {"sample-cut", 0, 0, 0, 1, 0, 0, false},   {"sample-rounds", 0, 0, 6, 1, 0, 0, false},
+    {"diffused", 0, 0, 6, 0, 1, 16, false},    {"weaker", 0, 0, 6, 0, 1, 12, true},
     {"liq", 4, 0, 0, 0, 0, 0, false},          {"liq-fast", 10, 0, 0, 0, 0, 0, false},
     {"liq-dithered", 4, 1, 0, 0, 0, 0, false},
 };

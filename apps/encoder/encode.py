@@ -5,7 +5,7 @@ Writes pictures that Pillow reads as indexed ones: each as a PNG, or all as the 
   --into FOLDER    write each FILE as an indexed PNG of its name into this folder (the present one)
   --gif FILE       write one GIF in place of that, with one table of colors for all frames
   --colors N       at most so many colors, from 2 to 256 (256)
-  --rounds N       refine the table by so many rounds, from 0 to 255 (4)
+  --rounds N       refine the table by so many rounds, from 0 to 255 (6)
   --dither         spread the error of each pixel over those that come after it
   --strength N     with --dither, spread so many sixteenths of it, from 0 to 16 (16)
   --serpentine     with --dither, go from right to left in every other row
@@ -47,7 +47,7 @@ class Options:
     """What was asked for."""
 
     def __init__(self, words):
-        self.values = {"--into": ".", "--gif": None, "--colors": "256", "--rounds": "4", "--ground": None}
+        self.values = {"--into": ".", "--gif": None, "--colors": "256", "--rounds": "6", "--ground": None}
         self.values.update({"--delay": "100", "--strength": "16"})
         self.flags, self.files = set(), []
         words = list(words)

@@ -125,20 +125,75 @@ static inline size_t plain_part(const plain_box *box) {
     return low;
 }
 
-static inline uint8_t plain_mean(const plain_box *box, int channel) {
-    size_t sum = 0, i;
-    for (i = 0; i < box->count; i++)
-        sum += plain_number(box->colors[i], channel);
-    return (uint8_t)((2 * sum + box->count) / (2 * box->count));
+/* How many colors a box has, and the sums of their numbers. */
+typedef struct plain_sums {
+    uint64_t count, sums[3];
+} plain_sums;
+
+static inline plain_sums plain_sums_of(const plain_box *box) {
+    plain_sums all = {0, {0, 0, 0}};
+    int k;
+    for (; all.count < box->count; all.count++)
+        for (k = 0; k < 3; k++)
+            all.sums[k] += plain_number(box->colors[all.count], k);
+    return all;
 }
 
-/* The means of at most so many boxes: each time that box is cut whose cut lowers the squared error most, the first of equals,
- * and its parts stand where it stood. */
+static inline plain_sums plain_both(plain_sums p, plain_sums q) {
+    int k;
+    p.count += q.count;
+    for (k = 0; k < 3; k++)
+        p.sums[k] += q.sums[k];
+    return p;
+}
+
+static inline uint64_t plain_weight_of(plain_sums it) {
+    return (it.sums[0] * it.sums[0] + it.sums[1] * it.sums[1] + it.sums[2] * it.sums[2]) / it.count;
+}
+
+/* By how much the squared error rises where two boxes become one. */
+static inline uint64_t plain_cost(plain_sums p, plain_sums q) {
+    const uint64_t apart = plain_weight_of(p) + plain_weight_of(q), both = plain_weight_of(plain_both(p, q));
+    return apart > both ? apart - both : 0;
+}
+
+/* Joins boxes until there is room: of all pairs that of least cost, the first of equals. One stands where the first of both
+ * stood. Answers how many there are. */
+static inline size_t plain_join(plain_sums *boxes, size_t used, size_t room) {
+    while (used > room) {
+        size_t i, j, first = 0, second = 1;
+        uint64_t least = plain_cost(boxes[0], boxes[1]);
+        for (i = 0; i < used; i++)
+            for (j = i + 1; j < used; j++)
+                if (plain_cost(boxes[i], boxes[j]) < least) {
+                    first = i;
+                    second = j;
+                    least = plain_cost(boxes[i], boxes[j]);
+                }
+        boxes[first] = plain_both(boxes[first], boxes[second]);
+        for (used--; second < used; second++)
+            boxes[second] = boxes[second + 1];
+    }
+    return used;
+}
+
+static inline uint8_t plain_mean(plain_sums it, int channel) {
+    return (uint8_t)((2 * it.sums[channel] + it.count) / (2 * it.count));
+}
+
+/* How many boxes are cut for so many entries: twice as many, but at most 64 more. */
+static inline size_t plain_more(size_t room) {
+    return room + (room < 64 ? room : 64);
+}
+
+/* The means of at most so many boxes. First more are cut: each time that box whose cut lowers the squared error most, the first of
+ * equals, and its parts stand where it stood. Then boxes are joined. */
 static inline size_t plain_cut(pix_srgb8 *colors, size_t count, pix_srgb8 *entries, size_t room) {
-    plain_box boxes[256];
+    plain_box boxes[256 + 64];
+    plain_sums sums[256 + 64];
     size_t used = 1, i;
     boxes[0] = plain_box_of(colors, count);
-    while (used < room) {
+    while (used < plain_more(room)) {
         size_t at = used, low;
         plain_box cut;
         for (i = 0; i < used; i++)
@@ -153,10 +208,13 @@ static inline size_t plain_cut(pix_srgb8 *colors, size_t count, pix_srgb8 *entri
         boxes[at] = plain_box_of(cut.colors, low);
         boxes[at + 1] = plain_box_of(cut.colors + low, cut.count - low);
     }
+    for (i = 0; i < used; i++)
+        sums[i] = plain_sums_of(&boxes[i]);
+    used = plain_join(sums, used, room);
     for (i = 0; i < used; i++) {
-        entries[i].r = plain_mean(&boxes[i], 0);
-        entries[i].g = plain_mean(&boxes[i], 1);
-        entries[i].b = plain_mean(&boxes[i], 2);
+        entries[i].r = plain_mean(sums[i], 0);
+        entries[i].g = plain_mean(sums[i], 1);
+        entries[i].b = plain_mean(sums[i], 2);
     }
     return used;
 }

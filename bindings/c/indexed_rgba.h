@@ -154,12 +154,78 @@ static inline size_t plain_seen_part(const plain_seen_box *box) {
     return low;
 }
 
+/* A box to be joined: its colors, in a block of its own, and their weight. */
+typedef struct plain_seen_group {
+    plain_seen *colors;
+    size_t count;
+    uint64_t weight;
+} plain_seen_group;
+
+static inline plain_seen_group plain_seen_group_of(const plain_seen *p, size_t p_count, const plain_seen *q, size_t q_count) {
+    plain_seen_group it;
+    plain_seen_box box;
+    it.count = p_count + q_count;
+    it.colors = (plain_seen *)malloc(it.count * sizeof *it.colors);
+    if (!it.colors)
+        abort();
+    memcpy(it.colors, p, p_count * sizeof *p);
+    if (q_count)
+        memcpy(it.colors + p_count, q, q_count * sizeof *q);
+    box.colors = it.colors;
+    box.count = it.count;
+    plain_seen_weight(&box, 0, 0, 255, &it.weight);
+    return it;
+}
+
+/* By how much the squared error rises where two boxes become one. */
+static inline uint64_t plain_seen_cost(const plain_seen_group *p, const plain_seen_group *q) {
+    const plain_seen_group both = plain_seen_group_of(p->colors, p->count, q->colors, q->count);
+    const uint64_t apart = p->weight + q->weight;
+    free(both.colors);
+    return apart > both.weight ? apart - both.weight : 0;
+}
+
+/* Joins boxes until there is room, as plain_join. The costs of all pairs are kept. */
+static inline size_t plain_seen_join(plain_seen_group *boxes, size_t used, size_t room) {
+    enum { MOST = 256 + 64 };
+    static uint64_t costs[MOST][MOST];
+    size_t i, j;
+    for (i = 0; i < used; i++)
+        for (j = i + 1; j < used; j++)
+            costs[i][j] = plain_seen_cost(&boxes[i], &boxes[j]);
+    while (used > room) {
+        size_t first = 0, second = 1;
+        plain_seen_group both;
+        for (i = 0; i < used; i++)
+            for (j = i + 1; j < used; j++)
+                if (costs[i][j] < costs[first][second]) {
+                    first = i;
+                    second = j;
+                }
+        both = plain_seen_group_of(boxes[first].colors, boxes[first].count, boxes[second].colors, boxes[second].count);
+        free(boxes[first].colors);
+        free(boxes[second].colors);
+        boxes[first] = both;
+        used--;
+        for (i = second; i < used; i++)
+            boxes[i] = boxes[i + 1];
+        for (i = 0; i < used; i++)
+            for (j = i + 1; j < used; j++)
+                if (i == first || j == first)
+                    costs[i][j] = plain_seen_cost(&boxes[i], &boxes[j]);
+                else
+                    costs[i][j] = costs[i + (i >= second)][j + (j >= second)];
+    }
+    return used;
+}
+
 /* The means of at most so many boxes, as plain_cut. */
 static inline size_t plain_seen_cut(plain_seen *colors, size_t count, plain_seen *entries, size_t room) {
-    plain_seen_box boxes[256];
+    plain_seen_box boxes[256 + 64];
+    plain_seen_group groups[256 + 64];
     size_t used = 1, i;
     boxes[0] = plain_seen_box_of(colors, count);
-    while (used < room) {
+    while (used < plain_more(room)) {
         size_t at = used, low;
         plain_seen_box cut;
         for (i = used; i-- > 0;)
@@ -175,7 +241,12 @@ static inline size_t plain_seen_cut(plain_seen *colors, size_t count, plain_seen
         boxes[at + 1] = plain_seen_box_of(cut.colors + low, cut.count - low);
     }
     for (i = 0; i < used; i++)
-        entries[i] = plain_seen_mean(boxes[i].colors, boxes[i].count);
+        groups[i] = plain_seen_group_of(boxes[i].colors, boxes[i].count, NULL, 0);
+    used = plain_seen_join(groups, used, room);
+    for (i = 0; i < used; i++) {
+        entries[i] = plain_seen_mean(groups[i].colors, groups[i].count);
+        free(groups[i].colors);
+    }
     return used;
 }
 

@@ -183,12 +183,54 @@ static seen_box seen_box_of(seen *colors, size_t count) {
     return box;
 }
 
-/* Cuts the box that gains most again and again, and writes the means of the boxes. */
+static seen_sums both_sums(seen_sums p, const seen_sums *q) {
+    p.count += q->count;
+    for (int k = 0; k < 7; k++)
+        p.of[k] += q->of[k];
+    return p;
+}
+
+/* By how much the squared error rises where two boxes become one. */
+static uint64_t seen_cost(const seen_sums *p, const seen_sums *q) {
+    const seen_sums both = both_sums(*p, q);
+    const uint64_t apart = seen_weight(p) + seen_weight(q), one = seen_weight(&both);
+    return apart > one ? apart - one : 0;
+}
+
+/* Joins the two boxes that cost least, the first of equals, again and again. The costs of all pairs are kept. */
+static size_t join_seen(seen_box *boxes, size_t used, size_t room) {
+    uint64_t (*costs)[320] = zeros(320, sizeof *costs);
+    for (size_t j = 1; j < used; j++)
+        for (size_t i = 0; i < j; i++)
+            costs[i][j] = seen_cost(&boxes[i].all, &boxes[j].all);
+    while (used > room) {
+        size_t first = 0, second = 1;
+        for (size_t i = 0; i < used; i++)
+            for (size_t j = i + 1; j < used; j++)
+                if (costs[i][j] < costs[first][second]) {
+                    first = i;
+                    second = j;
+                }
+        boxes[first].all = both_sums(boxes[first].all, &boxes[second].all);
+        used--;
+        memmove(&boxes[second], &boxes[second + 1], (used - second) * sizeof *boxes);
+        memmove(&costs[second], &costs[second + 1], (used - second) * sizeof *costs);
+        for (size_t i = 0; i < used; i++)
+            memmove(&costs[i][second], &costs[i][second + 1], (used - second) * sizeof costs[i][0]);
+        for (size_t i = 0; i < used; i++)
+            if (i != first)
+                costs[i < first ? i : first][i < first ? first : i] = seen_cost(&boxes[i].all, &boxes[first].all);
+    }
+    free(costs);
+    return used;
+}
+
+/* Cuts the box that gains most again and again, into more boxes than there is room for, joins them, and writes their means. */
 static size_t cut_seen(seen *colors, size_t count, seen *entries, size_t room) {
-    seen_box boxes[256];
+    seen_box boxes[320];
     size_t used = 1;
     boxes[0] = seen_box_of(colors, count);
-    for (; used < room; used++) {
+    for (; used < room + (room < 64 ? room : 64); used++) {
         seen_box *most = NULL, cut;
         size_t low = 0;
         for (size_t i = 0; i < used; i++)
@@ -208,6 +250,7 @@ static size_t cut_seen(seen *colors, size_t count, seen *entries, size_t room) {
         most[0] = seen_box_of(cut.colors, low);
         most[1] = seen_box_of(cut.colors + low, cut.count - low);
     }
+    used = join_seen(boxes, used, room);
     for (size_t i = 0; i < used; i++)
         entries[i] = seen_mean(&boxes[i].all);
     return used;

@@ -54,7 +54,7 @@
  *
  *     256   pix_quantize_refined, pix_map_indexed, pix_diffuse_indexed, pix_diffuse_indexed_by,
  *           and all four with _alpha
- *      96   pix_quantize, pix_quantize_alpha, pix_quantize_rgba
+ *     128   pix_quantize, pix_quantize_alpha, pix_quantize_rgba
  *      32   pix_index_pixels, pix_map_indexed_rgba, pix_diffuse_indexed_rgba
  *      16   all others
  *
@@ -490,7 +490,7 @@ static inline size_t pix_diffuse_indexed_work(size_t width);
 /* Writes a table of the colors of `count` pixels, of at most `len` entries, and writes into `made`
  * how many it has. Where there are no more distinct colors than `len`, they are the table, in order
  * of first place. Otherwise they are the means of boxes of colors, which are cut again and again
- * where the squared error falls most. The entries past `made` may hold anything. `work` has
+ * where the squared error falls most, and then joined where it rises least. The entries past `made` may hold anything. `work` has
  * pix_quantize_work(count) colors; for a large picture pass a sample of its pixels. Returns PIX_OK,
  * PIX_BAD_TABLE (`len` is 0 or above 256), PIX_BAD_LENGTH, PIX_NULL or PIX_OVERLAP. */
 static inline pix_status pix_quantize(const pix_srgb8 *pixels, size_t count, pix_srgb8 *work, pix_srgb8 *entries, size_t len,
@@ -505,7 +505,7 @@ static inline pix_status pix_quantize_alpha(const pix_srgba8 *pixels, size_t cou
  * `len`, so many rounds then refine the table. In a round each color goes to its nearest entry, the
  * first of equals. Each entry goes to the mean of its colors, rounded, and stays where it has none.
  * No round makes the sum of the squared errors greater. A round takes about as long as
- * pix_map_indexed, and four are enough for most pictures. */
+ * pix_map_indexed, and six are enough for most pictures. */
 static inline pix_status pix_quantize_refined(const pix_srgb8 *pixels, size_t count, uint8_t rounds, pix_srgb8 *work,
                                                 pix_srgb8 *entries, size_t len, size_t *made);
 static inline pix_status pix_quantize_refined_alpha(const pix_srgba8 *pixels, size_t count, uint8_t alpha, uint8_t rounds,

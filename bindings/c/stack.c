@@ -228,7 +228,7 @@ static pix_status unpack(void) {
 }
 
 /* The calls, and the kibibytes of stack that pix.h says they need. */
-enum { FEW = 16, SETTING = 32, MAKING = 96, MATCHING = 256 };
+enum { FEW = 16, SETTING = 32, MAKING = 128, MATCHING = 256 };
 static const struct { const char *name; size_t kibibytes; pix_status (*call)(void); } calls[] = {
     {"pix_check_library", FEW, pix_check_library},
     {"pix_run", FEW, run},

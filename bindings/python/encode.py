@@ -9,7 +9,7 @@ frames becomes a GIF with all of them and their times, and one table.
 --nearest         each pixel has the nearest color; else errors are diffused
 --strength=N      so many sixteenths of an error are passed on, 0 to 16 (16)
 --serpentine      every other row goes from right to left
---rounds=N        so many rounds refine the table, 0 to 255 (4)
+--rounds=N        so many rounds refine the table, 0 to 255 (6)
 
 The file is written by this program itself, and the library makes its table, its indices and its rows; Pillow reads the picture,
 and then the file, whose pixels are compared. Needs Pillow. Prints what was made, with the mean squared error of its pixels as they
@@ -28,7 +28,7 @@ import pix
 # A pixel whose alpha is below this is transparent in a GIF.
 CLEAR = 128
 # How many rounds refine a table where none are named.
-ROUNDS = 4
+ROUNDS = 6
 # How hard zlib tries. Level 9 takes three times as long and more, for one or two hundredths of the size.
 LEVEL = 6
 

@@ -1,5 +1,6 @@
 """Images of indices beside plain loops, and what is refused."""
 
+import itertools
 import random
 import unittest
 
@@ -34,17 +35,33 @@ def best_cut(box):
     return best
 
 
+def cut_boxes(colors, room, best):
+    """Boxes of colors, more than there is room for: each time that one is cut whose cut gains most, the first of equals."""
+    boxes, cuts = [colors], [best(colors)]
+    while len(boxes) < min(2 * room, room + 64) and any(cuts):
+        at = max((i for i, cut in enumerate(cuts) if cut), key=lambda i: cuts[i][0])
+        boxes[at : at + 1] = parts = cuts[at][1:]
+        cuts[at : at + 1] = map(best, parts)
+    return boxes
+
+
+def joined_boxes(boxes, room, weigh):
+    """Boxes until there is room for them: each time that pair becomes one for which the squared error rises least, the first of
+    equals. It stands where the first of both stood."""
+    boxes = list(boxes)
+    while len(boxes) > room:
+        rise = lambda i, j: max(0, weigh(boxes[i]) + weigh(boxes[j]) - weigh(boxes[i] + boxes[j]))
+        i, j = min(itertools.combinations(range(len(boxes)), 2), key=lambda pair: rise(*pair))
+        boxes[i] = boxes[i] + boxes.pop(j)
+    return boxes
+
+
 def plain_table(colors, room):
-    """The distinct colors, or the means of boxes: each time that one is cut whose cut gains most, the first of equals."""
+    """The distinct colors, or the means of boxes, which are cut and then joined."""
     firsts = list(dict.fromkeys(colors))
     if len(firsts) <= room:
         return firsts
-    boxes, cuts = [colors], [best_cut(colors)]
-    while len(boxes) < room and any(cuts):
-        at = max((i for i, cut in enumerate(cuts) if cut), key=lambda i: cuts[i][0])
-        boxes[at : at + 1] = parts = cuts[at][1:]
-        cuts[at : at + 1] = map(best_cut, parts)
-    return [mean(box) for box in boxes]
+    return [mean(box) for box in joined_boxes(cut_boxes(colors, room, best_cut), room, weight)]
 
 
 def mean(box):
@@ -116,12 +133,7 @@ def seen_table(pixels, room, rounds):
         firsts.setdefault(color, pixel)
     if len(firsts) <= room:
         return list(firsts.values())
-    boxes = [colors]
-    while len(boxes) < room:
-        cuts = [seen_cut(box) for box in boxes]
-        at = max((i for i, cut in enumerate(cuts) if cut), key=lambda i: cuts[i][0])
-        boxes[at : at + 1] = cuts[at][1:]
-    entries = list(map(mean, boxes))
+    entries = list(map(mean, joined_boxes(cut_boxes(colors, room, seen_cut), room, seen_weight)))
     for _ in range(rounds):
         groups = [[] for _ in entries]
         for color in colors:

@@ -24,8 +24,10 @@ pub fn quantize_work(pixels: usize) -> usize
 /// where `work` has fewer colors than [`quantize_work`] says.
 ///
 /// Pixels whose alpha is below `alpha` do not count. With no more distinct colors than entries,
-/// they are the table, in order of first place. Else it is made by the cut by squared error, which
-/// uses at most as many entries as there are. The other entries may hold anything.
+/// they are the table, in order of first place. Else it is made by the cut by squared error: boxes
+/// of colors are cut where the squared error falls most, into twice as many as there are entries,
+/// but at most 64 more. Then pairs of boxes become one where it rises least, until there are no
+/// more of them than entries. Each entry is the mean of a box. The other entries may hold anything.
 pub fn quantize<P: TablePixel>(
     pixels: &[P],
     alpha: u8,

@@ -46,9 +46,9 @@ fn nearest_entries_and_back(rt: HostRuntime) -> Result<(), Fail> {
     Ok(())
 }
 
-/// A table of at most three colors of a picture, refined by so many rounds.
+/// A table of at most two colors of a picture, refined by so many rounds.
 fn refined(alloc: Global, picture: &Raster<SRgba8>, rounds: u8) -> Result<ColorTable, Fail> {
-    match ColorTable::quantize_refined(alloc, picture, 3, 0, rounds)? {
+    match ColorTable::quantize_refined(alloc, picture, 2, 0, rounds)? {
         None => Err(Fail::from(RasterFault::Memory)),
         Some(table) => Ok(table),
     }
@@ -56,15 +56,15 @@ fn refined(alloc: Global, picture: &Raster<SRgba8>, rounds: u8) -> Result<ColorT
 
 #[test]
 fn refined_tables(rt: HostRuntime) -> Result<(), Fail> {
-    let values = [80, 110, 160, 60, 0, 190].map(|value: u8| srgba([value, value, value, 255]));
+    let values = [130, 100, 160, 60, 170, 70].map(|value: u8| srgba([value, value, value, 255]));
     let picture = picture(rt.alloc(), 6, 1, &values)?;
-    // The boxes are 0, then 60 and 80, then 110, 160 and 190, whose mean is 153. 110 is nearer to
-    // 70, and goes there.
+    // The joined boxes are 60, 70, 100 and 130, whose mean is 90, and 160 and 170. 130 is nearer to
+    // 165, and goes there.
     let cut = refined(rt.alloc(), &picture, 0)?;
-    assert_colors(&rt, cut.colors(), &[0, 70, 153].map(gray));
-    assert_eq!(rt; cut.limit(), 3);
+    assert_colors(&rt, cut.colors(), &[90, 165].map(gray));
+    assert_eq!(rt; cut.limit(), 2);
     let once = refined(rt.alloc(), &picture, 1)?;
-    assert_colors(&rt, once.colors(), &[0, 83, 175].map(gray));
+    assert_colors(&rt, once.colors(), &[77, 153].map(gray));
     let often = refined(rt.alloc(), &picture, 255)?;
     assert_colors(&rt, often.colors(), once.colors());
     assert!(rt; ColorTable::quantize_refined(rt.alloc(), &picture, 0, 0, 1)?.is_none());
@@ -98,13 +98,13 @@ fn tables_of_a_picture(rt: HostRuntime) -> Result<(), Fail> {
     let indices = exact.map_indexed_alpha(rt.alloc(), &shades, 127, 9)?;
     assert_image(&rt, indices, &[0, 1, 2, 2]);
 
-    // Cuts of 10, 20 and 30 at 11 and at 21 gain the same, so the first is made: the means are 10
-    // and 25. The error makes 28 of 30.
+    // To join 10 and 20 costs as much as to join 20 and 30, so the first are joined: the means are
+    // 15 and 30. The error makes 18 of 20.
     let means = counted(rt.alloc(), &shades, 2)?;
-    assert_colors(&rt, means.colors(), &[10, 25].map(gray));
+    assert_colors(&rt, means.colors(), &[15, 30].map(gray));
     assert_eq!(rt; means.limit(), 2);
     let indices = means.diffuse_indexed(rt.alloc(), &shades, 128, 9)?;
-    assert_image(&rt, indices, &[0, 1, 1, 9]);
+    assert_image(&rt, indices, &[0, 0, 1, 9]);
 
     let none = picture(rt.alloc(), 0, 3, &[])?;
     let indices = means.diffuse_indexed(rt.alloc(), &none, 0, 0)?;

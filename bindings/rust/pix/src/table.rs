@@ -221,7 +221,7 @@ pub const fn diffuse_indexed_work(width: usize) -> Option<usize> {
 
 /// Makes a table of the colors of `pixels` in the first of `entries`, and returns those. With no more distinct colors than entries
 /// they are the table, in order of first place. Else it has the means of boxes of colors, which are cut again and again where
-/// the squared error falls most; what the other entries hold is not said.
+/// the squared error falls most, and then joined where it rises least; what the other entries hold is not said.
 /// `work` has as many colors as there are pixels; for a large picture pass a sample of its pixels.
 ///
 /// ```
@@ -310,10 +310,10 @@ pub fn quantize_alpha<'a>(
 /// use pix::{Srgb8, quantize, quantize_refined};
 ///
 /// let gray = |v| Srgb8::new(v, v, v);
-/// let pixels = [80, 110, 160, 60, 0, 190].map(gray);
-/// let (mut work, mut entries) = ([Srgb8::default(); 6], [Srgb8::default(); 3]);
-/// assert_eq!(quantize(&pixels, &mut work, &mut entries)?, [0, 70, 153].map(gray));
-/// assert_eq!(quantize_refined(&pixels, 4, &mut work, &mut entries)?, [0, 83, 175].map(gray));
+/// let pixels = [130, 100, 160, 60, 170, 70].map(gray);
+/// let (mut work, mut entries) = ([Srgb8::default(); 6], [Srgb8::default(); 2]);
+/// assert_eq!(quantize(&pixels, &mut work, &mut entries)?, [90, 165].map(gray));
+/// assert_eq!(quantize_refined(&pixels, 4, &mut work, &mut entries)?, [77, 153].map(gray));
 /// # Ok::<(), pix::Error>(())
 /// ```
 ///

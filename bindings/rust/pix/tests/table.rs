@@ -126,20 +126,20 @@ fn refined_tables() {
     let few = [gray(9), gray(1), gray(9), gray(200)];
     let made = quantize_refined(&few, 3, &mut work, &mut entries).unwrap();
     assert_eq!(made, [gray(9), gray(1), gray(200)]);
-    // By hand: the boxes are 0, then 60 and 80, then 110, 160 and 190, whose mean is 153. 110 is
-    // nearer to 70, and goes there.
-    let pixels = [80, 110, 160, 60, 0, 190].map(gray);
+    // By hand: the joined boxes are 60, 70, 100 and 130, whose mean is 90, and 160 and 170. 130 is
+    // nearer to 165, and goes there.
+    let pixels = [130, 100, 160, 60, 170, 70].map(gray);
     let mut made = |rounds| {
-        let made = quantize_refined(&pixels, rounds, &mut work, &mut entries[..3]);
+        let made = quantize_refined(&pixels, rounds, &mut work, &mut entries[..2]);
         made.unwrap().to_vec()
     };
-    assert_eq!(made(0), [0, 70, 153].map(gray));
-    assert_eq!(made(1), [0, 83, 175].map(gray));
-    assert_eq!(made(255), [0, 83, 175].map(gray));
-    let alphas = [80, 110, 160, 60, 0, 190, 77];
+    assert_eq!(made(0), [90, 165].map(gray));
+    assert_eq!(made(1), [77, 153].map(gray));
+    assert_eq!(made(255), [77, 153].map(gray));
+    let alphas = [130, 100, 160, 60, 170, 70, 77];
     let alphas = alphas.map(|v| Srgba8::new(v, v, v, 50 + u8::from(v != 77)));
-    let made = quantize_refined_alpha(&alphas, 51, 1, &mut work, &mut entries[..3]).unwrap();
-    assert_eq!(made, [0, 83, 175].map(gray));
+    let made = quantize_refined_alpha(&alphas, 51, 1, &mut work, &mut entries[..2]).unwrap();
+    assert_eq!(made, [77, 153].map(gray));
     let before = (work, entries);
     let mut large = [gray(5); 257];
     assert_eq!(quantize_refined(&few, 3, &mut work, &mut []), Err(Error::ColorTable));
@@ -353,9 +353,9 @@ fn tables_with_an_alpha_by_hand() {
 #[test]
 fn rounds_with_an_alpha() {
     let gray = |v| Srgba8::new(v, v, v, 255);
-    let pixels = [80, 110, 160, 60, 0, 190].map(gray);
-    let (mut work, mut entries) = ([gray(0); 6], [gray(0); 3]);
-    for (rounds, wanted) in [(0, [0, 70, 153]), (1, [0, 83, 175]), (255, [0, 83, 175])] {
+    let pixels = [130, 100, 160, 60, 170, 70].map(gray);
+    let (mut work, mut entries) = ([gray(0); 6], [gray(0); 2]);
+    for (rounds, wanted) in [(0, [90, 165]), (1, [77, 153]), (255, [77, 153])] {
         let made = quantize_rgba(&pixels, rounds, &mut work, &mut entries).unwrap();
         assert_eq!(made, wanted.map(gray));
     }

@@ -18,8 +18,8 @@ use crate::rgba::refine::refine_seen;
 ///
 /// Pixels that are seen as the same over black and over white count as one. With no more of them
 /// than entries, they are the table, in order of first place, as they are. Else it is made by the
-/// cut by squared error, which uses at most as many entries as there are. Then `rounds` rounds,
-/// from 0 to 255, make it fit better. The other entries may hold anything.
+/// cut by squared error, whose boxes are joined until there are no more of them than entries. Then
+/// `rounds` rounds, from 0 to 255, make it fit better. The other entries may hold anything.
 ///
 /// In a round each pixel goes to the entry that is seen nearest to it, the first of equals. Then
 /// each entry goes to the mean of its pixels, where that makes their squared error no greater. An
@@ -283,7 +283,7 @@ mod tests {
         assert_eq!(rt; quantize_rgba(&pixels, 0, &mut work, &mut two), Some(2));
         assert_eq!(rt; two, [black(1), black(255)]);
         assert_eq!(rt; quantize_rgba(&pixels, 0, &mut work, &mut three), Some(3));
-        assert_eq!(rt; three, [black(0), black(1), black(255)]);
+        assert_eq!(rt; three, [black(1), black(254), black(255)]);
     }
 
     /// White and black at half are as far apart over black as over white.
@@ -297,23 +297,23 @@ mod tests {
         assert_eq!(rt; entries, [black(128), white]);
     }
 
-    /// The cut has the means of 0, of 60 and 80, and of 110, 160 and 190. 110 is nearer to 70.
+    /// The joined boxes have the means of 60 to 130, and of 160 and 170. 130 is nearer to 165.
     #[test]
     fn moves_entries_to_means(rt: HostRuntime) {
         let pixels = [
-            black(80),
-            black(110),
+            black(130),
+            black(100),
             black(160),
             black(60),
-            black(0),
-            black(190),
+            black(170),
+            black(70),
         ];
         let mut work = [Seen::default(); 6];
-        let mut cut = [RgbaColor::default(); 3];
-        let mut entries = [RgbaColor::default(); 3];
-        assert_eq!(rt; quantize_rgba(&pixels, 0, &mut work, &mut cut), Some(3));
-        assert_eq!(rt; cut, [black(0), black(70), black(153)]);
-        assert_eq!(rt; quantize_rgba(&pixels, 1, &mut work, &mut entries), Some(3));
-        assert_eq!(rt; entries, [black(0), black(83), black(175)]);
+        let mut cut = [RgbaColor::default(); 2];
+        let mut entries = [RgbaColor::default(); 2];
+        assert_eq!(rt; quantize_rgba(&pixels, 0, &mut work, &mut cut), Some(2));
+        assert_eq!(rt; cut, [black(90), black(165)]);
+        assert_eq!(rt; quantize_rgba(&pixels, 1, &mut work, &mut entries), Some(2));
+        assert_eq!(rt; entries, [black(77), black(153)]);
     }
 }
