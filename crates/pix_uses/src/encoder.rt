@@ -44,7 +44,7 @@ impl Encoder {
         S::Gamma: Gamma<Ch8>,
         ensures unchanged { IfErr result (λ _. entries_of self.new.table ≡ entries_of self.old.table) }
     {
-        self.table.index(alloc, picture)
+        self.table.index_pixels(alloc, picture)
     }
 }
 
@@ -64,7 +64,7 @@ pub fn there_and_back(
         (slice_index_or (colors_of ⟦<SRgb8 as Pixel>⟧.format ⟦<Srgb as Gamma<Ch8>>⟧.mode
         ⟦<SRgb8 as Pixel>⟧.numbers picture.now.pixels) k []) ≡ 0 ∷ 0 ∷ 0 ∷ [])) }
 {
-    match table.index(alloc, picture)? {
+    match table.index_pixels(alloc, picture)? {
         None => Ok(None),
         Some(indices) => table.look_up(alloc, &indices),
     }

@@ -1,7 +1,7 @@
 //! Error diffusion with a strength, and in rows of both directions.
 
 use crate::error::Error;
-use crate::table::{Srgb8, Srgba8, ColorTable, done};
+use crate::table::{ColorTable, Srgb8, Srgba8, done};
 use pix_sys::check_library;
 
 /// How errors are diffused. The default is what [`ColorTable::diffuse_indexed`] does: all of each error, and no row from right to left.

@@ -59,7 +59,7 @@ pub use crate::format::{Format, convert};
 pub use crate::image::{Bands, Image, ImageMut};
 pub use crate::pixel::{Graya8, Pixel, Region, Rgba8, Rgba16, bytes, bytes_mut};
 pub use crate::table::{
-    IndexDepth, Srgb8, Srgba8, ColorTable, count_indices, diffuse_indexed_work, index_pixels, quantize,
-    quantize_alpha, quantize_refined, quantize_refined_alpha, pack_row, unpack_row,
+    ColorTable, IndexDepth, Srgb8, Srgba8, count_indices, diffuse_indexed_work, index_pixels,
+    pack_row, quantize, quantize_alpha, quantize_refined, quantize_refined_alpha, unpack_row,
 };
 pub use crate::table_rgba::{RgbaTable, quantize_rgba};

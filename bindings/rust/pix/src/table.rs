@@ -52,10 +52,10 @@ impl<'a> ColorTable<'a> {
     ///
     /// # Errors
     ///
-    /// `ColorTable` where there is none, or more than 256.
+    /// `Table` where there is none, or more than 256.
     pub fn new(entries: &'a [Srgb8]) -> Result<ColorTable<'a>, Error> {
         if entries.is_empty() || entries.len() > 256 {
-            return Err(Error::ColorTable);
+            return Err(Error::Table);
         }
         Ok(ColorTable { entries })
     }
@@ -236,7 +236,7 @@ pub const fn diffuse_indexed_work(width: usize) -> Option<usize> {
 ///
 /// # Errors
 ///
-/// `ColorTable` where there is no entry or more than 256, and `Length` where `work` has fewer colors. Both are unchanged.
+/// `Table` where there is no entry or more than 256, and `Length` where `work` has fewer colors. Both are unchanged.
 pub fn quantize<'a>(
     pixels: &[Srgb8],
     work: &mut [Srgb8],

@@ -32,10 +32,10 @@ impl<'a> RgbaTable<'a> {
     ///
     /// # Errors
     ///
-    /// `ColorTable` where there is none, or more than 256.
+    /// `Table` where there is none, or more than 256.
     pub fn new(entries: &'a [Srgba8]) -> Result<RgbaTable<'a>, Error> {
         if entries.is_empty() || entries.len() > 256 {
-            return Err(Error::ColorTable);
+            return Err(Error::Table);
         }
         Ok(RgbaTable { entries })
     }
