@@ -35,7 +35,7 @@ static void nearest(size_t len, unsigned levels) {
     pix_srgb8 entries[256];
     size_t i;
     uint8_t one = 0;
-    int same = 1, alone = 1, transparent_index = 1, colors = 1;
+    int same = 1, alone = 1, clear = 1, colors = 1;
     pix_table table = pix_table_of(entries, len);
     for (i = 0; i < len; i++)
         entries[i] = random_color(levels);
@@ -59,8 +59,8 @@ static void nearest(size_t len, unsigned levels) {
     check(colors, "an index has another color");
     check(pix_map_indexed_alpha(table, with_alpha, PIXELS, 128, 77, unpacked) == PIX_OK, "pixels with an alpha are mapped");
     for (i = 0; i < PIXELS; i++)
-        transparent_index &= unpacked[i] == (with_alpha[i].a < 128 ? 77 : indices[i]);
-    check(transparent_index, "a pixel with an alpha has another index");
+        clear &= unpacked[i] == (with_alpha[i].a < 128 ? 77 : indices[i]);
+    check(clear, "a pixel with an alpha has another index");
 }
 
 enum { ROOM = 256 };
