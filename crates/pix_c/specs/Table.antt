@@ -19,13 +19,13 @@ nearest_status len = if is_table len then 0 else 11
 
 -- the status of matching pixels: 11 without a table, 7 where there are not as many indices as
 -- pixels, and else 0
-abbrev pub match_status : (len pixels indices : ℕ) → ℕ
-match_status len pixels indices = if is_table len then (if nat_eq indices pixels then 0 else 7) else 11
+abbrev pub map_indexed_status : (len pixels indices : ℕ) → ℕ
+map_indexed_status len pixels indices = if is_table len then (if nat_eq indices pixels then 0 else 7) else 11
 
 -- the status of making a table: 11 without room for one, 7 where work memory has fewer colors than
 -- there are pixels, and else 0
-abbrev pub make_status : (len pixels work : ℕ) → ℕ
-make_status len pixels work = if is_table len then (if nat_le pixels work then 0 else 7) else 11
+abbrev pub quantize_status : (len pixels work : ℕ) → ℕ
+quantize_status len pixels work = if is_table len then (if nat_le pixels work then 0 else 7) else 11
 
 -- the status of error diffusion: 11 without a table; 7 where a row has no pixel, work memory has
 -- not four rows of colors, or there are not as many indices as pixels; and else 0

@@ -7,7 +7,7 @@ use Rattle.std.proofs.lemmas.Grind.{get_or-set_at}
 use Rattle.std.proofs.Math.Nat.{min-eq_left, min-eq_right}
 use Rattle.pix_table.specs.Nearest.{distance, distance_to, IsNearest, numbers}
 use Rattle.pix_table.specs.EntryLanes.{AreChosen}
-use Rattle.pix_table.specs.InverseMap.{IsInside, IsListed, IsBeaten, IsPlaced, IsFirst, IsListFor, IsInverseMap, HasLists, AreEnough, AreShortListed, IsKnown, low_at, reach_at}
+use Rattle.pix_table.specs.InverseMap.{IsInside, IsInList, IsBeaten, IsPlaced, IsFirst, IsListFor, IsInverseMap, HasLists, AreEnough, AreShortListed, IsKnown, low_at, reach_at}
 use Rattle.pix_table.specs.declared.inverse_map.InverseMap.{InverseMap}
 use Rattle.pix_table.specs.declared.inverse_map.ShortList.{ShortList}
 use Rattle.pix_table.specs.declared.color.Color.{Color}
@@ -21,7 +21,7 @@ IsFarther entries reach low near k = (color : List ℕ) → IsInside reach low c
 -- color of the box
 pub record AreSifted (entries : List (List ℕ)) (reach : ℕ) (low : List ℕ) (near : ℕ) (from : ℕ → ℕ) (i : ℕ) (short_list : ℕ → ℕ) (count : ℕ) : Type 0 where
   pub below : (p : ℕ) → p < count → short_list p < length entries
-  pub each : (q : ℕ) → q < i → IsListed short_list count (from q) ⊎ IsFarther entries reach low near (from q)
+  pub each : (q : ℕ) → q < i → IsInList short_list count (from q) ⊎ IsFarther entries reach low near (from q)
 
 pub none_sifted : (entries : List (List ℕ)) (reach : ℕ) (low : List ℕ) (near : ℕ) (from short_list : ℕ → ℕ) → AreSifted entries reach low near from 0 short_list 0
 none_sifted entries reach low near from short_list = record {
@@ -34,7 +34,7 @@ listed_before : (lists : List ℕ) (start count i p : ℕ) → p < count → get
 listed_before lists start count i p b =
     let apart : start + p ≢ start + count = (λ e. omega arith) in get_or-set_other lists (start + count) (start + p) i 0 apart
 
-listed_still : (f g : ℕ → ℕ) (count more k : ℕ) → count ≤ more → ((p : ℕ) → p < count → g p ≡ f p) → IsListed f count k → IsListed g more k
+listed_still : (f g : ℕ → ℕ) (count more k : ℕ) → count ≤ more → ((p : ℕ) → p < count → g p ≡ f p) → IsInList f count k → IsInList g more k
 listed_still f g count more k grows same l = record {
   at = l.at;
   below = (let b : l.at < count = l.below in omega arith);
@@ -106,7 +106,7 @@ not_beaten entries color near few n f = elim (cases_lt f.at near) [
 ]
 
 pub some_listed : (entries : List (List ℕ)) (color : List ℕ) (short_list : ℕ → ℕ) (count : ℕ) → 0 < length entries → length entries ≤ 256
-    → ((k : ℕ) → k < length entries → IsListed short_list count k ⊎ IsBeaten entries color k) → 0 < count
+    → ((k : ℕ) → k < length entries → IsInList short_list count k ⊎ IsBeaten entries color k) → 0 < count
 some_listed entries color short_list count some few all =
     let has = some_nearest_below entries color (length entries) some (omega arith) in
     let n : IsNearest entries color has.at = nearest_of_all entries color (length entries) has.at has.far refl has.nearest in
@@ -121,9 +121,9 @@ pub all_sifted : (entries : List (List ℕ)) (reach : ℕ) (low : List ℕ) (nea
     → AreShortListed entries reach low short_list count
 all_sifted entries reach low near from i short_list count stands few enough h = λ color within.
     let old : AreEnough entries color from i = enough color within in
-    let all : (k : ℕ) → k < length entries → IsListed short_list count k ⊎ IsBeaten entries color k =
+    let all : (k : ℕ) → k < length entries → IsInList short_list count k ⊎ IsBeaten entries color k =
     (λ k b. elim (old.all k b) [
-      | inl l ↦ subst (λ j. IsListed short_list count j ⊎ IsBeaten entries color j) l.same (elim (h.each l.at l.below) [
+      | inl l ↦ subst (λ j. IsInList short_list count j ⊎ IsBeaten entries color j) l.same (elim (h.each l.at l.below) [
         | inl m ↦ inl m
         | inr f ↦ inr (record { at = near; stands = stands; less = omega (arith, f color within) })
       ])
@@ -139,7 +139,7 @@ all_sifted entries reach low near from i short_list count stands few enough h = 
 pub chosen_listed : (entries colors : List (List ℕ)) (indices : List ℕ) (color : List ℕ) (short_list : ℕ → ℕ) (count : ℕ) → 0 < length entries → length entries ≤ 256
     → AreChosen entries (length entries) colors indices count → ((p : ℕ) → p < count → short_list p ≡ get_or indices p 0) → AreEnough entries color short_list count
 chosen_listed entries colors indices color short_list count some few h same =
-    let all : (k : ℕ) → k < length entries → IsListed short_list count k ⊎ IsBeaten entries color k =
+    let all : (k : ℕ) → k < length entries → IsInList short_list count k ⊎ IsBeaten entries color k =
     (λ k b.
     let l = h.whole k b in
     let below : l.at < count = l.below in
@@ -215,7 +215,7 @@ key_order far apart at near small less h farther = (omega (arith, small, less, h
 nearest_is_listed : (entries : List (List ℕ)) (color : List ℕ) (short_list : ℕ → ℕ) (count i key near : ℕ) → length entries ≤ 256 → count ≤ i
     → AreEnough entries color short_list count → ((p : ℕ) → short_list p < 256) → (h : IsLeastKey entries color short_list count i key) → IsNearest entries color near → near ≡ short_list h.place
 nearest_is_listed entries color short_list count i key near few end enough small h n =
-    let found : IsListed short_list count near = elim (enough.all near n.stands) [
+    let found : IsInList short_list count near = elim (enough.all near n.stands) [
       | inl l ↦ l
       | inr f ↦ absurd (not_beaten entries color near few n f)
     ] in

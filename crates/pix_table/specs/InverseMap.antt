@@ -25,7 +25,7 @@ abbrev pub end : (reach low x y : ℕ) → ℕ
 end reach low x y = if nat_lt x y then low + reach else low
 
 -- an entry is among the first listed ones
-pub record IsListed (short_list : ℕ → ℕ) (count k : ℕ) : Type 0 where
+pub record IsInList (short_list : ℕ → ℕ) (count k : ℕ) : Type 0 where
   pub at : ℕ
   pub below : at < count
   pub same : short_list at ≡ k
@@ -62,7 +62,7 @@ pub record AreWords (entries : List (List ℕ)) (words : List ℕ) : Type 0 wher
 pub record AreEnough (entries : List (List ℕ)) (color : List ℕ) (short_list : ℕ → ℕ) (count : ℕ) : Type 0 where
   pub some : 0 < count
   pub inside : (p : ℕ) → p < count → short_list p < length entries
-  pub all : (k : ℕ) → k < length entries → IsListed short_list count k ⊎ IsBeaten entries color k
+  pub all : (k : ℕ) → k < length entries → IsInList short_list count k ⊎ IsBeaten entries color k
 
 -- it is so for each color of a box
 abbrev pub AreShortListed : List (List ℕ) → (reach : ℕ) → (low : List ℕ) → (ℕ → ℕ) → ℕ → Type 0

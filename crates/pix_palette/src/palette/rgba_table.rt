@@ -89,7 +89,7 @@ impl RgbaTable {
         ensures memory { IfErr result (λ fault. fault ≡ RasterFault.Memory) }
     {
         let shades = shades(alloc, raster)?;
-        rgba_table_of(alloc, shades.pixels(), limit, rounds)
+        quantized_rgba_table(alloc, shades.pixels(), limit, rounds)
     }
 
     /// Makes a table of these colors.
@@ -295,7 +295,7 @@ impl RgbaTable {
 }
 
 /// Makes a table of pixels, as [`RgbaTable::quantize`] does.
-fn rgba_table_of(
+fn quantized_rgba_table(
     alloc: Global,
     pixels: &[SRgba8],
     limit: usize,
