@@ -70,8 +70,8 @@ pub fn diffuse_indexed<C: TableColor, P: TablePixel>(
     requires whole { how.scan ≡ Serpentine → length pixels.now % how.width ≡ 0 }
     requires work { length work.old ≡ 4 * how.width }
     requires many { length indices.old ≡ length pixels.now }
-    ensures { AreDiffusedBy how.scan how.strength (map C.channels entries.now) how.alpha how.transparent_index
-        how.width (map P.values pixels.now) indices.new }
+    ensures { AreDiffusedBy how.scan how.strength (map C.channels entries.now) how.alpha
+        how.transparent_index how.width (map P.values pixels.now) indices.new }
 {
     let diffusing = Diffusing {
         entries,
@@ -99,7 +99,8 @@ impl<C: TableColor, P: TablePixel> SearchVisitor<u8> for Diffusing<'_, C, P> {
 
     ghost visits = { λ diffusing entries old new. entries ≡ map C.channels diffusing.entries.now
         → AreDiffusedBy diffusing.how.scan diffusing.how.strength entries diffusing.how.alpha
-        diffusing.how.transparent_index diffusing.how.width (map P.values diffusing.pixels.now) new };
+        diffusing.how.transparent_index diffusing.how.width (map P.values diffusing.pixels.now)
+        new };
 
     // Out of line. Where it is inlined, a matcher is put together on the stack beside its place.
     #[inline(never)]
@@ -179,8 +180,8 @@ where
     requires many { length indices.old ≡ length pixels.now }
     requires entries { N.among search.old (map C.shown entries.now) }
     ensures { IsWayThrough S.of_channels S.apart how.scan how.strength (map C.shown entries.now)
-        how.alpha how.transparent_index how.width (map (λ pixel. S.given (P.values pixel)) pixels.now)
-        indices.new }
+        how.alpha how.transparent_index how.width
+        (map (λ pixel. S.given (P.values pixel)) pixels.now) indices.new }
 {
     let black = S::none();
     let mut near = NeighborErrors {

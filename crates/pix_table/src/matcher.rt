@@ -184,8 +184,8 @@ fn visit_with_lists<C: TableColor, T, V: SearchVisitor<T>>(
     visitor.visit(&mut matcher, items, work);
 }
 
-/// Pixels that are matched to entries. A pixel whose alpha is below `alpha` gets the index `transparent_index`,
-/// and any other gets that of its nearest entry.
+/// Pixels that are matched to entries. A pixel whose alpha is below `alpha` gets the index
+/// `transparent_index`, and any other gets that of its nearest entry.
 #[derive(Drop)]
 struct Matching<'a, P> {
     pixels: &'a [P],
@@ -193,8 +193,8 @@ struct Matching<'a, P> {
     transparent_index: u8,
 }
 
-/// Returns the index of a pixel: `transparent_index` where its alpha is below `alpha`, and else that of the
-/// nearest entry.
+/// Returns the index of a pixel: `transparent_index` where its alpha is below `alpha`, and else
+/// that of the nearest entry.
 #[inline(always)]
 fn matched<N: NearestSearch, P: TablePixel>(
     search: &mut N,
@@ -217,7 +217,8 @@ impl<P: TablePixel> SearchVisitor<u8> for Matching<'_, P> {
     ghost can_visit = { λ matching entries count work. count ≡ length matching.pixels.now };
 
     ghost visits = { λ matching entries old new.
-        AreMatched entries matching.alpha matching.transparent_index (map P.values matching.pixels.now) new };
+        AreMatched entries matching.alpha matching.transparent_index
+        (map P.values matching.pixels.now) new };
 
     // Out of line: where it is inlined, a matcher is put together on the stack beside its place.
     #[inline(never)]
@@ -228,8 +229,8 @@ impl<P: TablePixel> SearchVisitor<u8> for Matching<'_, P> {
     }
 }
 
-/// Sets the index of each pixel: to `transparent_index` where the pixel's alpha is below `alpha`, and else to
-/// that of the nearest entry, the first of equals.
+/// Sets the index of each pixel: to `transparent_index` where the pixel's alpha is below `alpha`,
+/// and else to that of the nearest entry, the first of equals.
 ///
 /// Condition: the table has at least one and at most 256 entries, and there are as many indices as
 /// pixels.
@@ -243,8 +244,8 @@ pub fn map_indexed<C: TableColor, P: TablePixel>(
     requires some { 0 < length colors.now }
     requires few { length colors.now ≤ 256 }
     requires many { length indices.old ≡ length pixels.now }
-    ensures { AreMatched (map C.channels colors.now) alpha transparent_index (map P.values pixels.now)
-        indices.new }
+    ensures { AreMatched (map C.channels colors.now) alpha transparent_index
+        (map P.values pixels.now) indices.new }
 {
     let matching = Matching {
         pixels,

@@ -42,7 +42,8 @@ impl Encoder {
         S: Pixel,
         Ch8: From<S::Chan>,
         S::Gamma: Gamma<Ch8>,
-        ensures unchanged { IfErr result (λ _. entries_of self.new.table ≡ entries_of self.old.table) }
+        ensures unchanged { IfErr result (λ _.
+            entries_of self.new.table ≡ entries_of self.old.table) }
     {
         self.table.index_pixels(alloc, picture)
     }
