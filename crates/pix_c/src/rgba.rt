@@ -4,7 +4,8 @@ ghost use Rattle.pix_table.specs.LookUp.{AreLookedUp};
 ghost use Rattle.pix_table.specs.Seen.{AreSeenMatched, rgba_numbers};
 ghost use Rattle.pix_table.specs.SeenTables.{IsQuantizedRgba};
 ghost use Rattle.pix_table.specs.SeenDiffusion.{AreSeenDiffused};
-ghost use Rattle.pix_c.specs.Table.{diffuse_by_status, look_up_status, quantize_status, map_indexed_status};
+ghost use Rattle.pix_c.specs.Table.{diffuse_by_status, look_up_status, quantize_status};
+ghost use Rattle.pix_c.specs.Table.{map_indexed_status};
 ghost use Rattle.pix_c.specs.Table.{scan_of};
 
 use crate::diffuse::{BAD_STRENGTH, WHOLE, are_rows, scan_of};

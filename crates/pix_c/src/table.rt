@@ -1,5 +1,6 @@
 //! Tables of colors, for images of indices.
-ghost use Rattle.std.specs.Prelude.{◌≡◌, ◌≢◌, ℕ, ◌<◌, ◌≤◌, List, length, map, take, Some, slice_index};
+ghost use Rattle.std.specs.Prelude.{◌≡◌, ◌≢◌, ℕ, ◌<◌, ◌≤◌, List, length, map, take, Some};
+ghost use Rattle.std.specs.Prelude.{slice_index};
 ghost use Rattle.pix_table.specs.Nearest.{numbers, IsNearest, AreMatched};
 ghost use Rattle.pix_table.specs.LookUp.{AreLookedUp, AreCounted};
 ghost use Rattle.pix_table.specs.Seen.{rgba_numbers};

@@ -1,6 +1,7 @@
 //! Hues: the circle of colors that a chroma and a value leave open.
 ghost use Rattle.std.specs.Prelude.{◌≡◌, ◌+◌, ◌*◌, ◌-◌, ◌<◌, ◌≤◌, [], ◌∷◌};
-ghost use Rattle.pix_color.specs.Hexcone.{numbered, hexcone_of, rgb_of_hexcone, lifted_rgb, turn, hue_at, hue_after, hue_of, chroma_of, value_of};
+ghost use Rattle.pix_color.specs.Hexcone.{numbered, hexcone_of, rgb_of_hexcone, lifted_rgb, turn};
+ghost use Rattle.pix_color.specs.Hexcone.{hue_at, hue_after, hue_of, chroma_of, value_of};
 
 use crate::numbers::{complement, divided_short, exact, max, nearest, number, product, sum};
 use pix_chan::reciprocals::quotient_by_byte;

@@ -1,8 +1,12 @@
 //! The words of a line as its command.
 ghost use Rattle.std.specs.Prelude.{◌≡◌, ◌∷◌, ◌||◌, map, Some};
 ghost use Rattle.std.specs.Option.{option_map};
-ghost use Rattle.pix_script.specs.Commands.{new_image, on_image, from_kept, named, commands, problem_of, meaning_of, problem_of_shape, any_fails, is_bad_operator, is_bad_number, is_bad_color, is_above, any_side_above};
-ghost use Rattle.pix_script.specs.Meaning.{rectangle_of, image_of, fill_of, paint_of, copy_of, comp_of};
+ghost use Rattle.pix_script.specs.Commands.{new_image, on_image, from_kept, named, commands};
+ghost use Rattle.pix_script.specs.Commands.{problem_of, meaning_of, problem_of_shape, any_fails};
+ghost use Rattle.pix_script.specs.Commands.{is_bad_operator, is_bad_number, is_bad_color, is_above};
+ghost use Rattle.pix_script.specs.Commands.{any_side_above};
+ghost use Rattle.pix_script.specs.Meaning.{rectangle_of, image_of, fill_of, paint_of, copy_of};
+ghost use Rattle.pix_script.specs.Meaning.{comp_of};
 ghost use Rattle.pix_script.specs.Numbers.{side_of};
 ghost use Rattle.pix_script.specs.Reading.{Reads, Checks, IsRowOf, AreBad, shape_of};
 
