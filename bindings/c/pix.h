@@ -171,7 +171,7 @@ typedef struct { pix_rgba8 *pixels; uint32_t width, height, stride; } pix_image;
 typedef struct { pix_rgba16 *pixels; uint32_t width, height, stride; } pix_image_rgba16;
 typedef struct { pix_graya8 *pixels; uint32_t width, height, stride; } pix_image_graya8;
 
-/* An image that is only read. */
+/* A view of an image that is only read, as a source is. */
 typedef struct { const pix_rgba8 *pixels; uint32_t width, height, stride; } pix_view;
 typedef struct { const pix_rgba16 *pixels; uint32_t width, height, stride; } pix_view_rgba16;
 typedef struct { const pix_graya8 *pixels; uint32_t width, height, stride; } pix_view_graya8;
@@ -272,7 +272,7 @@ static inline pix_matte16 pix_matte16_of(const uint16_t *values, uint32_t width,
     return matte;
 }
 
-/* An image as a source for another one. */
+/* A view of an image, to read it as a source for another one. */
 static inline pix_view pix_view_of_image(pix_image image);
 
 /* ---- Commands ----
@@ -474,10 +474,10 @@ static inline pix_status pix_nearest(pix_table table, pix_srgb8 color, uint8_t *
  * PIX_BAD_LENGTH (more pixels than an eighth of PTRDIFF_MAX), PIX_NULL or PIX_OVERLAP. */
 static inline pix_status pix_map_indexed(pix_table table, const pix_srgb8 *pixels, size_t count, uint8_t *indices);
 
-/* Does the same for pixels with an alpha. One whose alpha is below `alpha` gets the index `transparent_index`,
- * which may be that of a transparent entry. The alpha of the others is not looked at. Where all
- * pixels are below `alpha`, a table of no entry serves too: pix_quantize_alpha makes one of them.
- */
+/* Does the same for pixels with an alpha. One whose alpha is below `alpha` gets the index
+ * `transparent_index`, which may be that of a transparent entry. The alpha of the others is not
+ * looked at. Where all pixels are below `alpha`, a table of no entry serves too:
+ * pix_quantize_alpha makes one of them. */
 static inline pix_status pix_map_indexed_alpha(pix_table table, const pix_srgba8 *pixels, size_t count, uint8_t alpha,
                                                uint8_t transparent_index, uint8_t *indices);
 
@@ -525,8 +525,9 @@ static inline pix_status pix_quantize_refined_alpha(const pix_srgba8 *pixels, si
 static inline pix_status pix_diffuse_indexed(pix_table table, const pix_srgb8 *pixels, size_t count, size_t width,
                                              pix_srgb8 *work, uint8_t *indices);
 
-/* Does the same for pixels with an alpha. One whose alpha is below `alpha` gets the index `transparent_index`,
- * and passes on no error. Where all are below, a table of no entry serves too. */
+/* Does the same for pixels with an alpha. One whose alpha is below `alpha` gets the index
+ * `transparent_index`, and passes on no error. Where all are below, a table of no entry serves too.
+ */
 static inline pix_status pix_diffuse_indexed_alpha(pix_table table, const pix_srgba8 *pixels, size_t count, size_t width,
                                                    uint8_t alpha, uint8_t transparent_index, pix_srgb8 *work, uint8_t *indices);
 
@@ -540,11 +541,10 @@ static inline pix_status pix_diffuse_indexed_alpha(pix_table table, const pix_sr
  *     rows that all go one way. */
 typedef struct { uint8_t strength; bool serpentine; } pix_diffusion;
 
-/* Do what pix_diffuse_indexed and pix_diffuse_indexed_alpha do, in the way that `how` says. These
- * two have a strength of 16, and no row goes from right to left. What is wanted at a pixel is
- * rounded once, after its share is multiplied. Return PIX_BAD_STRENGTH too where the strength is
- * above 16, and PIX_BAD_LENGTH where `serpentine` rows are not whole: `count` is a multiple of
- * `width` then. */
+/* Do what pix_diffuse_indexed and pix_diffuse_indexed_alpha do, as `how` says. These two have a
+ * strength of 16, and no row goes from right to left. What is wanted at a pixel is rounded once,
+ * after its share is multiplied. Return PIX_BAD_STRENGTH too where the strength is above 16, and
+ * PIX_BAD_LENGTH where `serpentine` rows are not whole: `count` is a multiple of `width` then. */
 static inline pix_status pix_diffuse_indexed_by(pix_table table, const pix_srgb8 *pixels, size_t count, size_t width,
                                                 pix_diffusion how, pix_srgb8 *work, uint8_t *indices);
 static inline pix_status pix_diffuse_indexed_by_alpha(pix_table table, const pix_srgba8 *pixels, size_t count, size_t width,
@@ -709,12 +709,12 @@ typedef struct {
 
 /* ---- What libpix_c.a has ----
  *
- * The functions above call these, which are proved. They test sizes, kinds, regions, operators,
- * sources, formats, lengths, tables, indices, depths and strengths. Here no pointer may be null or
- * badly aligned, even where its length is 0, and even in commands of kinds that do not use it. The
- * image, `done` and `dst` may share memory with nothing else that is passed. Lengths are counted in
- * elements. `stride` is at least the width, and 0 does not stand for it. `serpentine` is 0 where
- * all rows go from left to right. */
+ * The functions above call these, which are proved: pix_X calls pix_raw_X. They test sizes, kinds,
+ * regions, operators, sources, formats, lengths, tables, indices, depths and strengths. Here no
+ * pointer may be null or badly aligned, even where its length is 0, and even in commands of kinds
+ * that do not use it. The image, `done` and `dst` may share memory with nothing else that is
+ * passed. Lengths are counted in elements. `stride` is at least the width, and 0 does not stand for
+ * it. `serpentine` is 0 where all rows go from left to right. */
 
 uint32_t pix_raw_run(pix_rgba8 *pixels, size_t pixel_count, uint32_t width, uint32_t height, uint32_t stride,
                      const pix_command *commands, size_t command_count, size_t *done);
@@ -1274,7 +1274,7 @@ static inline pix_status pix_map_indexed(pix_table table, const pix_srgb8 *pixel
 }
 
 /* Writes the index of each pixel where there is no entry: all of them are below `alpha`. */
-static inline pix_status pix_keep_all_(const pix_srgba8 *pixels, size_t count, uint8_t alpha, uint8_t transparent_index,
+static inline pix_status pix_map_none_(const pix_srgba8 *pixels, size_t count, uint8_t alpha, uint8_t transparent_index,
                                        uint8_t *indices) {
     size_t i;
     for (i = 0; i < count; i++)
@@ -1306,7 +1306,7 @@ static inline pix_status pix_map_indexed_alpha(pix_table table, const pix_srgba8
     if (status != PIX_OK)
         return status;
     if (!table.len)
-        return pix_keep_all_(pixels, count, alpha, transparent_index, indices);
+        return pix_map_none_(pixels, count, alpha, transparent_index, indices);
     return (pix_status)pix_raw_map_indexed_alpha(table.entries, table.len, pixels, count, alpha, transparent_index, indices,
                                                  count);
 }
@@ -1404,7 +1404,7 @@ static inline pix_status pix_quantize_refined_alpha(const pix_srgba8 *pixels, si
     return (pix_status)pix_raw_quantize_refined_alpha(pixels, count, alpha, rounds, work, count, entries, len, made);
 }
 
-/* Tests the way that errors are diffused, and the lengths. */
+/* Tests how errors are diffused, and the lengths. */
 static inline pix_status pix_diffuses_by_(pix_diffusion how, size_t count, size_t width) {
     const size_t work_len = pix_diffuse_indexed_work(width);
     if (how.strength > 16)
@@ -1475,7 +1475,7 @@ static inline pix_status pix_diffuse_indexed_alpha(pix_table table, const pix_sr
     if (status != PIX_OK)
         return status;
     if (!table.len)
-        return pix_keep_all_(pixels, count, alpha, transparent_index, indices);
+        return pix_map_none_(pixels, count, alpha, transparent_index, indices);
     return (pix_status)pix_raw_diffuse_indexed_alpha(table.entries, table.len, pixels, count, width, alpha, transparent_index,
                                                      work, work_len, indices, count);
 }
@@ -1525,7 +1525,7 @@ static inline pix_status pix_diffuse_indexed_by_alpha(pix_table table, const pix
     if (status != PIX_OK)
         return status;
     if (!table.len)
-        return pix_keep_all_(pixels, count, alpha, transparent_index, indices);
+        return pix_map_none_(pixels, count, alpha, transparent_index, indices);
     return (pix_status)pix_raw_diffuse_indexed_by_alpha(table.entries, table.len, pixels, count, width, alpha,
                                                         transparent_index, how.strength, how.serpentine, work, work_len,
                                                         indices, count);
