@@ -140,7 +140,7 @@ pub extern "C" fn pix_raw_diffuse_indexed_by_alpha(
     diffuse(entries, pixels, how, work, indices)
 }
 
-/// Returns the way of a flag: serpentine where it is not 0.
+/// Returns the scan order of a flag: serpentine where it is not 0.
 pub(crate) fn scan_of(serpentine: u8) -> ScanOrder
     ensures { result ≡ scan_of serpentine }
 {
@@ -178,8 +178,8 @@ fn diffuse<P: TablePixel>(
     DONE
 }
 
-/// Returns whether pixels are rows that can be taken in a way, there are as many indices, and there
-/// are four rows of work memory.
+/// Returns whether pixels are rows that can be scanned in an order, there are as many indices, and
+/// there are four rows of work memory.
 pub(crate) fn are_rows(
     pixels: usize,
     width: usize,

@@ -5,8 +5,8 @@
 #![tactic(auto)]
 
 mod block_bounds;
-mod box_place;
 mod box_sums;
+mod cell_place;
 mod chosen;
 mod color;
 mod color_block;

@@ -7,7 +7,7 @@ ghost use Rattle.pix_table.specs.EntryLanes.{AreLanes};
 use crate::chosen::ENTRIES;
 use crate::color::{Color, TableColor, TablePixel};
 use crate::entry_lanes::EntryLanes;
-use crate::inverse_map::{BOXES, CREDIT, InverseMap, LISTS, NONE, RATE, nearest_of};
+use crate::inverse_map::{CELLS, CREDIT, InverseMap, LISTS, NONE, RATE, nearest_of};
 use crate::nearest_search::{NearestSearch, SearchVisitor};
 use crate::word::word_of;
 use std::marker::Model;
@@ -43,7 +43,7 @@ struct Matcher {
     words: [u32; ENTRIES],
     len: usize,
     lanes: EntryLanes,
-    boxes: InverseMap,
+    inverse_map: InverseMap,
 }
 
 impl Model for Matcher {
@@ -59,7 +59,7 @@ impl Model for Matcher {
     ghost invariant = { λ m. (0 < m.len) × (m.len ≤ 256) × (length m.entries ≡ 256)
         × AreWords (map numbers (take m.len m.entries)) m.words
         × AreLanes (map numbers (take m.len m.entries)) m.lanes
-        × IsInverseMap (map numbers (take m.len m.entries)) m.boxes };
+        × IsInverseMap (map numbers (take m.len m.entries)) m.inverse_map };
 }
 
 impl NearestSearch for Matcher {
@@ -68,7 +68,13 @@ impl NearestSearch for Matcher {
     #[inline(always)]
     fn nearest_entry(&mut self, clr: Color) -> u8 {
         let entries = &self.entries[..self.len];
-        nearest_of(&mut self.boxes, entries, &self.words, &self.lanes, clr)
+        nearest_of(
+            &mut self.inverse_map,
+            entries,
+            &self.words,
+            &self.lanes,
+            clr,
+        )
     }
 }
 
@@ -172,8 +178,8 @@ fn visit_with_lists<C: TableColor, T, V: SearchVisitor<T>>(
         words,
         len,
         lanes,
-        boxes: InverseMap {
-            known: [NONE; BOXES],
+        inverse_map: InverseMap {
+            known: [NONE; CELLS],
             lists: [0; LISTS],
             used: 0,
             first: 0,

@@ -32,7 +32,7 @@ impl Default for Diffusion {
 }
 
 impl ColorTable<'_> {
-    /// Does what [`diffuse_indexed`](ColorTable::diffuse_indexed) does, in the way that `how` says. What a pixel gets of the errors before
+    /// Does what [`diffuse_indexed`](ColorTable::diffuse_indexed) does, as `how` says. What a pixel gets of the errors before
     /// it is multiplied by the strength, and rounded once.
     ///
     /// ```
@@ -79,7 +79,7 @@ impl ColorTable<'_> {
         })
     }
 
-    /// Does what [`diffuse_indexed_alpha`](ColorTable::diffuse_indexed_alpha) does, in the way that `how` says.
+    /// Does what [`diffuse_indexed_alpha`](ColorTable::diffuse_indexed_alpha) does, as `how` says.
     ///
     /// # Errors
     ///

@@ -236,8 +236,8 @@ pub(crate) fn convert_row(
     }
 }
 
-/// Does what [`convert_row`] does for as many of the first `count` pixels of 8 bits as a way
-/// converts several at once, and returns their number.
+/// Does what [`convert_row`] does for as many of the first `count` pixels of 8 bits as are
+/// converted several at once, and returns their number.
 ///
 /// Condition: there are `count` in both.
 pub(crate) fn convert_row_ahead(

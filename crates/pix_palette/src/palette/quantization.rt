@@ -213,8 +213,8 @@ impl ColorTable {
     }
 
     /// Does what [`ColorTable::diffuse_indexed`] does, with `strength` sixteenths of each error,
-    /// and in a way. In the serpentine way every second row goes from right to left, and the shares
-    /// are mirrored in it. Returns `None` also where the strength is above 16.
+    /// and in a scan order. If that is serpentine, every second row goes from right to left, and
+    /// the shares are mirrored in it. Returns `None` also where the strength is above 16.
     ///
     /// # Errors
     ///
@@ -267,7 +267,7 @@ impl ColorTable {
 }
 
 /// Makes a raster of indices by error diffusion, as [`ColorTable::diffuse_indexed_by`] does with an
-/// alpha, a kept index and a strength.
+/// alpha, a transparent index and a strength.
 fn diffused_image<S>(
     colors: &[SRgb8],
     alloc: Global,
@@ -363,8 +363,8 @@ fn table_with(alloc: Global, limit: usize, colors: &[Color]) -> Result<ColorTabl
     Ok(table)
 }
 
-/// Makes, for each pixel, the index of the nearest entry or the kept index. Returns `None` where
-/// there is no entry, or more than 256.
+/// Makes, for each pixel, the index of the nearest entry or the transparent one. Returns `None`
+/// where there is no entry, or more than 256.
 fn matched(
     alloc: Global,
     colors: &[SRgb8],

@@ -1,4 +1,4 @@
--- Of `four_in_mode`: that it meets its contract where the colors are kept.
+-- Of `four_in_mode`: the pixels where the colors are the same in both modes.
 use Rattle.std.proofs.Common.{arith, subst, map, ℕ}
 use Rattle.pix_el.specs.LightBlocks.{AreSameInBothModes}
 use Rattle.pix_el.proofs.LightBlocks.{kept_changed}
