@@ -85,7 +85,7 @@
 #include <string.h>
 
 /* The version of the library that this header belongs to. */
-#define PIX_VERSION "0.2.0"
+#define PIX_VERSION "0.3.0"
 
 #ifdef __cplusplus
 extern "C" {
@@ -790,8 +790,8 @@ uint32_t pix_layout(size_t index);
 
 /* The version of the binary interface. It changes where a call, a number or a layout changes; a
  * program that was compiled with an older header then does not run. It is the number in the soname,
- * libpix.so.1, and pix_layout(0) returns it. */
-#define PIX_ABI_VERSION 1
+ * libpix.so.2, and pix_layout(0) returns it. */
+#define PIX_ABI_VERSION 2
 
 /* ---- Definitions. Nothing below is for callers. ---- */
 
