@@ -9,7 +9,7 @@ ghost use Rattle.pix_bytes.specs.BitmapFormats.{sample_size, pixel_size};
 use crate::bitmap::format::Depth::{Linear8, Linear16, Srgb8};
 use crate::bitmap::format::FormatParts;
 use crate::bitmap::four::{read_four, write_four};
-use crate::bitmap::model::ModelName::{Bgr, Rgb};
+use crate::bitmap::model::ModelName::{Bgr, Gray, Rgb};
 use crate::bitmap::pixel_conversion::{Converted, IntoLight, OutOfLight, PixelConversion};
 use crate::bitmap::recoloring::{IntoLinear, OutOfLinear};
 use crate::bitmap::sample::Sample;
@@ -138,6 +138,8 @@ fn convert_from_usual<C: Sample, D: Sample, W: PixelConversion<C, D>>(
         convert_known(conversion, known, to_known, from, to, src, dst, count);
     } else if let Some(known) = from.known(Bgr, 3, false, 1) {
         convert_known(conversion, known, to_known, from, to, src, dst, count);
+    } else if let Some(known) = from.known(Gray, 1, false, 0) {
+        convert_known(conversion, known, to_known, from, to, src, dst, count);
     } else {
         convert_known(conversion, from, to_known, from, to, src, dst, count);
     }
@@ -177,6 +179,8 @@ fn convert_to_usual<C: Sample, D: Sample, W: PixelConversion<C, D>>(
     } else if let Some(known) = to.known(Rgb, 3, false, 1) {
         convert_known(conversion, from_known, known, from, to, src, dst, count);
     } else if let Some(known) = to.known(Bgr, 3, false, 1) {
+        convert_known(conversion, from_known, known, from, to, src, dst, count);
+    } else if let Some(known) = to.known(Gray, 1, false, 0) {
         convert_known(conversion, from_known, known, from, to, src, dst, count);
     } else {
         convert_known(conversion, from_known, to, from, to, src, dst, count);
