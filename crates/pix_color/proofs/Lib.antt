@@ -2,4 +2,5 @@
 pub mod Narrow
 pub mod Nearest
 pub mod Shares
+pub mod ShortSums
 pub mod Sums
