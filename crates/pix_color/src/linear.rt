@@ -69,7 +69,6 @@ fn short_sum<C: Channel>(
 /// Does what [`weighted_sum`] does, for channels of any width.
 ///
 /// Condition: each weight is at most 2^21, either way, and `whole` is positive and at most 2^20.
-///
 #[inline(always)]
 fn wide_sum<C: Channel>(
     first: (i64, C),
