@@ -17,9 +17,12 @@ pub mod PlaceLemmas
 pub mod PlaceSteps
 pub mod SeenSumLemmas
 pub mod SeenWeights
+pub mod GroupLemmas
 pub mod Gains
 pub mod PieceBoxes
+pub mod PairLemmas
 pub mod CutColors
+pub mod CutGroups
 pub mod SeenTable
 pub mod Splits
 pub mod Distinct

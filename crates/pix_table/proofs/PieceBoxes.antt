@@ -6,7 +6,7 @@ use Rattle.std.proofs.lemmas.List.{length-map, drop-drop, drop_at, take-append-l
 use Rattle.std.proofs.lemmas.List.Elements.{All-cons, All-nil, All-head, All-tail, All-append, All-take, All-drop}
 use Rattle.std.proofs.lemmas.List.Sums.{sum_by-cons, sum_by-append, sum_by_more_le}
 use Rattle.pix_table.specs.Places.{CannotBeCutBy, HasBestBy, IsBestPlaceBy, IsCutBy, gain_by}
-use Rattle.pix_table.specs.Cut.{AreBoxesBy, IsCutTableBy, IsNextCutBy, one, cut}
+use Rattle.pix_table.specs.Cut.{AreBoxesBy, IsNextCutBy, one, cut}
 use Rattle.pix_table.specs.Pieces.{ArePieces, AreWhole, IsKnown, IsNext, IsPlaceOf, boxes_of, total}
 use Rattle.pix_table.specs.declared.pieces.Piece.{Piece}
 use Rattle.pix_table.specs.declared.pieces.Next.{Next}
@@ -77,19 +77,6 @@ pub boxes_more : {X : Type 0} (numbers : X → List ℕ) (xs : List X) (ps : Lis
     → boxes_of numbers xs (take (i + 1) ps) ≡ boxes_of numbers xs (take i ps) ++ map numbers (take (get_or ps i d).len (drop (total (take i ps)) xs)) ∷ []
 boxes_more numbers xs ps i d inside =
     ap (boxes_of numbers xs) (take_more ps i d inside) ∙ boxes_joined numbers xs (take i ps) (get_or ps i d ∷ [])
-
--- the means of the first boxes, with one more that is written
-pub means_more : {X : Type 0} (numbers : X → List ℕ) (middle : List (List ℕ) → List ℕ) (xs entries : List X) (ps : List Piece) (i n start : ℕ) (d : Piece) (x : X) → i < length ps → i < length entries
-    → start ≡ total (take i ps) → n ≡ (get_or ps i d).len → numbers x ≡ middle (map numbers (take n (drop start xs)))
-    → map numbers (take i entries) ≡ map middle (boxes_of numbers xs (take i ps))
-    → map numbers (take (i + 1) (set entries i x)) ≡ map middle (boxes_of numbers xs (take (i + 1) ps))
-means_more numbers middle xs entries ps i n start d x inside there begin wide is so_far =
-    let here : numbers x ≡ middle (map numbers (take (get_or ps i d).len (drop (total (take i ps)) xs))) =
-    is ∙ ap₂ (λ (m s : ℕ). middle (map numbers (take m (drop s xs)))) wide begin in
-    ap (map numbers) (take_more_set entries i x there) ∙ map-append numbers (take i entries) (x ∷ []) ∙ ap (λ l. l ++ numbers x ∷ []) so_far
-    ∙ ap (λ y. map middle (boxes_of numbers xs (take i ps)) ++ y ∷ []) here
-    ∙ sym (map-append middle (boxes_of numbers xs (take i ps)) (map numbers (take (get_or ps i d).len (drop (total (take i ps)) xs)) ∷ []))
-    ∙ ap (map middle) (sym (boxes_more numbers xs ps i d inside))
 
 -- pieces of colors of some kind
 module _ {X : Type 0} (numbers : X → List ℕ) (channels : ℕ) (weigh : List (List ℕ) → ℕ) where
@@ -255,23 +242,3 @@ module _ {X : Type 0} (numbers : X → List ℕ) (channels : ℕ) (weigh : List 
   pub whole_boxes : (xs : List X) (ps : List Piece) → AllZip (IsKnown channels weigh) (boxes_of numbers xs ps) ps → AreWhole ps → All (CannotBeCutBy channels) (boxes_of numbers xs ps)
   whole_boxes xs ps known whole =
       from_known (λ o. o ≡ None) (CannotBeCutBy channels) (λ b o k e. subst (IsPlaceOf channels weigh b) e k) (boxes_of numbers xs ps) ps known whole
-
-  -- the table of the boxes, where they are as many as there is room for, or none can be cut
-  pub table_made : (middle : List (List ℕ) → List ℕ) (room count : ℕ) (start xs entries : List X) (ps all : List Piece) → length ps ≡ room → count ≤ length ps
-      → take count all ≡ take count ps → ArePieces channels weigh numbers xs (take count ps) → AreBoxesBy channels weigh (map numbers start) (boxes_of numbers xs (take count ps))
-      → (count ≡ length ps) ⊎ AreWhole (take count ps)
-      → map numbers (take (length (take count all)) entries) ≡ map middle (boxes_of numbers xs (take count all))
-      → IsCutTableBy channels weigh middle room (map numbers start) (map numbers (take count entries))
-  table_made middle room count start xs entries ps all fits within same stand are is_full means =
-      let many : length (boxes_of numbers xs (take count ps)) ≡ count = omega (arith, length-boxes numbers xs (take count ps), length-take count ps) in
-      let long : length (take count all) ≡ count = ap length same ∙ (let e : length (take count ps) ≡ count = omega (arith, length-take count ps) in e) in
-      record {
-        boxes = boxes_of numbers xs (take count ps);
-        are = are;
-        few = omega (arith, many, fits, within);
-        full = elim is_full [
-          | inl e ↦ inl (many ∙ e ∙ fits)
-          | inr whole ↦ inr (whole_boxes xs (take count ps) stand.known whole)
-        ];
-        means = ap (λ n. map numbers (take n entries)) (sym long) ∙ means ∙ ap (λ l. map middle (boxes_of numbers xs l)) same;
-      }

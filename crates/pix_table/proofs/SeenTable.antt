@@ -1,16 +1,17 @@
 -- The table of seen colors has seen colors.
 use Rattle.std.specs.List.{flat_map}
-use Rattle.std.proofs.Common.{ℕ, ◌+◌, ◌*◌, ◌/◌, ◌<◌, ◌≤◌, true, List, [], ◌∷◌, ◌++◌, length, get_or, All, refl, arith, sym, subst, inl, inr}
+use Rattle.std.proofs.Common.{IsPermutation, ℕ, ◌+◌, ◌*◌, ◌/◌, ◌<◌, ◌≤◌, true, List, [], ◌∷◌, ◌++◌, length, get_or, All, refl, arith, sym, subst, inl, inr}
 use Rattle.std.proofs.lemmas.Bool.{cases_lt}
 use Rattle.std.proofs.lemmas.List.{take_at, drop_at}
 use Rattle.std.proofs.lemmas.List.Elements.{All-cons, All-nil, All-take, All-drop, All-map}
-use Rattle.std.proofs.lemmas.List.Sorted.{All-permutation}
+use Rattle.std.proofs.lemmas.List.Sorted.{All-permutation, IsPermutation-trans}
 use Rattle.std.proofs.lemmas.Nat.{le-div}
 use Rattle.std.proofs.Math.Nat.{div-mul-le_self, mul-le-mul_right}
 use Rattle.pix_table.specs.Places.{sum_in}
 use Rattle.pix_table.specs.Seen.{AreSeen}
 use Rattle.pix_table.specs.SeenCut.{IsSeenCutTable, seen_mean}
 use Rattle.pix_table.proofs.CutColors.{boxes_moved}
+use Rattle.pix_table.proofs.PairLemmas.{joined_moved}
 use Rattle.pix_table.proofs.SeenWeights.{few_alphas}
 use Rattle.pix_table.proofs.SumLemmas.{sum_at_most}
 
@@ -51,5 +52,8 @@ each_box P (b ∷ boxes) h =
 
 pub table_seen : (room : ℕ) (colors table : List (List ℕ)) → IsSeenCutTable room colors table → All AreSeen colors → All AreSeen table
 table_seen room colors table is seen =
-    let each = each_box AreSeen is.boxes (All-permutation AreSeen colors (flat_map (λ box. box) is.boxes) (boxes_moved colors is.boxes is.are) seen) in
-    subst (All AreSeen) (sym is.means) (All-map AreSeen seen_mean is.boxes (λ j d inside. mean_of_box (get_or is.boxes j d) (each j d inside)))
+    let moved : IsPermutation colors (flat_map (λ box. box) is.groups) =
+    IsPermutation-trans colors (flat_map (λ box. box) is.boxes) (flat_map (λ box. box) is.groups) (boxes_moved colors is.boxes is.are)
+    (joined_moved is.boxes is.groups is.joined) in
+    let each = each_box AreSeen is.groups (All-permutation AreSeen colors (flat_map (λ box. box) is.groups) moved seen) in
+    subst (All AreSeen) (sym is.means) (All-map AreSeen seen_mean is.groups (λ j d inside. mean_of_box (get_or is.groups j d) (each j d inside)))

@@ -1,9 +1,10 @@
--- A table of colors by the cut by squared error: the means of boxes of colors, which are cut where the
--- squared error falls most (X. Wu, Efficient statistical computations for optimal color quantization,
--- Graphics Gems II, 1991). How many channels the colors have, what a box weighs and what its mean is,
--- are the parameters of what is said of any kind of color.
-use Rattle.std.specs.Prelude.{◌⊎◌, ◌≡◌, ℕ, ◌+◌, ◌*◌, ◌/◌, ◌<◌, ◌≤◌, List, [], ◌∷◌, ◌++◌, length, map, All}
+-- A table of colors by the cut by squared error: boxes of colors are cut where the squared error falls
+-- most (X. Wu, Efficient statistical computations for optimal color quantization, Graphics Gems II,
+-- 1991), into more of them than there are entries, and then joined. How many channels the colors have,
+-- what a box weighs and what its mean is, are the parameters of what is said of any kind of color.
+use Rattle.std.specs.Prelude.{◌⊎◌, ◌≡◌, ℕ, ◌+◌, ◌*◌, ◌/◌, ◌<◌, ◌≤◌, List, [], ◌∷◌, ◌++◌, length, map, min, All}
 use Rattle.pix_table.specs.Places.{IsCutBy, IsBestPlaceBy, CannotBeCutBy, gain_by, sum_in, weight}
+use Rattle.pix_table.specs.Joins.{AreJoinedBy}
 
 -- of a list of boxes the one that is cut next, at its best place: that whose cut gains most, the first
 -- of equals
@@ -31,15 +32,23 @@ mean_of channel box = (2 * sum_in channel box + length box) / (2 * length box)
 abbrev pub mean : List (List ℕ) → List ℕ
 mean box = mean_of 0 box ∷ mean_of 1 box ∷ mean_of 2 box ∷ []
 
--- the table of a list of colors, of at most so many entries: the means of its boxes. There are as many
--- as there is room for, or none of them can be cut
+-- how many boxes are cut for so many entries: twice as many, but at most 64 more
+abbrev pub more_boxes : ℕ → ℕ
+more_boxes room = min (2 * room) (room + 64)
+
+-- the table of a list of colors, of at most so many entries: the means of its boxes after they are
+-- joined. So many boxes are cut, or none of them can be cut any more. They are joined until there are
+-- no more of them than entries
 pub record IsCutTableBy (channels : ℕ) (weigh : List (List ℕ) → ℕ) (middle : List (List ℕ) → List ℕ) (room : ℕ)
     (colors table : List (List ℕ)) : Type 0 where
   pub boxes : List (List (List ℕ))
   pub are : AreBoxesBy channels weigh colors boxes
-  pub few : length boxes ≤ room
-  pub full : (length boxes ≡ room) ⊎ All (CannotBeCutBy channels) boxes
-  pub means : table ≡ map middle boxes
+  pub few : length boxes ≤ more_boxes room
+  pub full : (length boxes ≡ more_boxes room) ⊎ All (CannotBeCutBy channels) boxes
+  pub groups : List (List (List ℕ))
+  pub joined : AreJoinedBy weigh boxes groups
+  pub many : length groups ≡ min room (length boxes)
+  pub means : table ≡ map middle groups
 
 -- the same for red, green and blue
 abbrev pub IsCutTable : (room : ℕ) (colors table : List (List ℕ)) → Type 0

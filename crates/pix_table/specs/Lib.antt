@@ -5,11 +5,14 @@ pub mod InverseMap
 pub mod LookUp
 pub mod Packing
 pub mod Places
+pub mod Joins
 pub mod Cut
+pub mod Pairs
 pub mod BestPlaces
 pub mod Pieces
 pub mod SeenCut
 pub mod SeenSums
+pub mod ColorGroups
 pub mod BlockBounds
 pub mod Quantization
 pub mod Refine

@@ -17,6 +17,12 @@ const ONE: u64 = 1 << 48;
 /// What the number of one channel is multiplied by in a word. That of the other is below it.
 const HIGH: u64 = 1 << 24;
 
+/// Fewer colors than these have sums of at most 30 bits.
+pub(crate) const FEW: usize = 1 << 22;
+
+/// More than few colors weigh.
+pub(crate) const LITTLE: u128 = 1 << 41;
+
 /// More than a cut of a block gains.
 const MUCH: u128 = 1 << 62;
 
@@ -213,16 +219,30 @@ impl Sums {
                 < u128::from(most as u64 + whole as u64 + 1) * u128::from(count * others)
     }
 
-    /// Returns the squares of the sums of a block, added.
+    /// Returns the squares of the sums of few colors, added.
     #[inline(always)]
     fn squares_of_few(self) -> u64
-        requires few { self.count ≤ 65535 }
+        requires few { self.count < 4194304 }
         requires red { self.red ≤ 255 * self.count }
         requires green { self.green ≤ 255 * self.count }
         requires blue { self.blue ≤ 255 * self.count }
         ensures { result ≡ self.red * self.red + self.green * self.green + self.blue * self.blue }
     {
         square(self.red as u64) + square(self.green as u64) + square(self.blue as u64)
+    }
+
+    /// Returns whether it tells, without a division, that they weigh at most so much.
+    #[inline(always)]
+    pub(crate) fn weighs_at_most(self, most: u128) -> bool
+        requires some { 0 < self.count }
+        requires red { self.red ≤ 255 * self.count }
+        requires green { self.green ≤ 255 * self.count }
+        requires blue { self.blue ≤ 255 * self.count }
+        ensures { result ≡ true → weight_by self.count self.red self.green self.blue ≤ most }
+    {
+        self.count < FEW
+            && most < LITTLE
+            && self.squares_of_few() < (most as u64 + 1) * self.count as u64
     }
 
     /// Does what [`Sums::weight`] does for the sums of a block, in 64 bits.

@@ -1,19 +1,23 @@
-//! A table of the means of boxes of colors, which are cut where the squared error falls most.
-ghost use Rattle.std.specs.Prelude.{◌≡◌, ◌⊎◌, ℕ, ◌+◌, ◌<◌, ◌≤◌, List, ◌∷◌, [], All, length, map, take, drop, slice_index, IsPermutation, ⊤, true, false};
+//! A table of the means of boxes of colors, which are cut where the squared error falls most, and
+//! then joined.
+ghost use Rattle.std.specs.Prelude.{◌≡◌, ◌⊎◌, ℕ, ◌+◌, ◌^◌, ◌<◌, ◌≤◌, List, ◌∷◌, [], All, length, map, take, drop, slice_index, IsPermutation, ⊤, true, false};
 ghost use Rattle.pix_table.specs.Nearest.{numbers};
-ghost use Rattle.pix_table.specs.Places.{HasBestBy, IsCutBy, weight};
-ghost use Rattle.pix_table.specs.Cut.{AreBoxesBy, IsCutTable, IsCutTableBy, mean};
+ghost use Rattle.pix_table.specs.Places.{CannotBeCutBy, HasBestBy, IsCutBy, weight};
+ghost use Rattle.pix_table.specs.Cut.{AreBoxesBy, IsCutTable, IsCutTableBy, mean, more_boxes};
 ghost use Rattle.pix_table.specs.Pieces.{ArePieces, AreWhole, IsKnown, IsNext, boxes_of};
+ghost use Rattle.pix_table.specs.Pairs.{AreGroupsOf, all_colors};
+ghost use Rattle.pix_table.specs.ColorGroups.{IsGroup};
 
-use crate::box_sums::sums_of;
 use crate::color::Color;
 use crate::cutting::Cutting;
 use crate::exchange::exchange;
+use crate::group::Group;
+use crate::joins::{BOXES, join_boxes};
 use crate::pieces::{Next, Piece, next_cut, split};
 use crate::place::{Place, best_place};
 
-/// How many entries a table has at most.
-const ROOM: usize = 256;
+/// At most so many more boxes are cut than there are entries.
+const MORE: usize = 64;
 
 /// Returns the number of a channel: 0 is red, 1 green, 2 blue.
 #[inline(always)]
@@ -29,6 +33,8 @@ pub(crate) fn channel(clr: Color, channel: usize) -> u8
 }
 
 impl Cutting for Color {
+    type Group = Group;
+
     ghost parts = { numbers };
 
     ghost channels = { 3 };
@@ -39,6 +45,8 @@ impl Cutting for Color {
 
     ghost fits = { λ color. ⊤ };
 
+    ghost is_group = { IsGroup };
+
     #[inline(always)]
     fn channel(self, k: usize) -> u8 {
         channel(self, k)
@@ -48,8 +56,25 @@ impl Cutting for Color {
         best_place(colors)
     }
 
-    fn mean_color(colors: &[Color]) -> Color {
-        mean_color(colors)
+    fn group_of(colors: &[Color]) -> Group {
+        Group::of(colors)
+    }
+
+    fn join(p: Group, q: Group) -> Group {
+        p.join(q)
+    }
+
+    fn cost(p: Group, q: Group) -> u128 {
+        p.cost(q)
+    }
+
+    #[inline(always)]
+    fn costs_no_less(p: Group, q: Group, most: u128) -> bool {
+        p.costs_no_less(q, most)
+    }
+
+    fn mean_color(group: Group) -> Color {
+        group.mean()
     }
 }
 
@@ -69,25 +94,56 @@ pub(crate) fn cut_table(colors: &mut [Color], entries: &mut [Color]) -> usize
     ensures table { IsCutTable (length entries.old) (map numbers colors.old)
         (map numbers (take result entries.new)) }
 {
-    cut_colors(colors, entries)
+    let mut groups = [Group::none(); BOXES];
+    cut_colors(colors, &mut groups, entries)
 }
 
-/// Does what [`cut_table`] does, for any kind of color.
-pub(crate) fn cut_colors<C: Cutting>(colors: &mut [C], entries: &mut [C]) -> usize
+/// Does what [`cut_table`] does, for any kind of color, with room for what is kept of the boxes.
+pub(crate) fn cut_colors<C: Cutting>(
+    colors: &mut [C],
+    groups: &mut [C::Group],
+    entries: &mut [C],
+) -> usize
     requires some { 0 < length colors.old }
     requires fit { All C.fits (map C.parts colors.old) }
     requires room { 0 < length entries.old }
     requires few { length entries.old ≤ 256 }
+    requires groups { length groups.old ≡ 320 }
     ensures some { 0 < result }
     ensures within { result ≤ length entries.new }
     ensures moved { IsPermutation (map C.parts colors.old) (map C.parts colors.new) }
     ensures table { IsCutTableBy C.channels C.weigh C.middle (length entries.old)
         (map C.parts colors.old) (map C.parts (take result entries.new)) }
 {
-    let mut pieces = [Piece::none(); ROOM];
     let room = entries.len();
-    let count = cut_boxes(colors, &mut pieces[..room]);
-    write_means(colors, &pieces[..count], entries);
+    let count = cut_groups(colors, groups, room);
+    let joined = join_boxes::<C>(groups, count, room);
+    write_means(groups, joined, entries);
+    joined
+}
+
+/// Cuts the colors into more boxes than there is room for entries, sets what is kept of them, and
+/// returns how many they are.
+// Out of line, so that its stack and that of the joins do not add up.
+#[inline(never)]
+fn cut_groups<C: Cutting>(colors: &mut [C], groups: &mut [C::Group], room: usize) -> usize
+    requires some { 0 < length colors.old }
+    requires fit { All C.fits (map C.parts colors.old) }
+    requires room { 0 < room }
+    requires few { room ≤ 256 }
+    requires groups { length groups.old ≡ 320 }
+    ensures some { 0 < result }
+    ensures moved { IsPermutation (map C.parts colors.old) (map C.parts colors.new) }
+    ensures boxes { (boxes : List (List (List ℕ)))
+        × AreBoxesBy C.channels C.weigh (map C.parts colors.old) boxes
+        × (length boxes ≤ more_boxes room)
+        × ((length boxes ≡ more_boxes room) ⊎ All (CannotBeCutBy C.channels) boxes)
+        × AreGroupsOf C.is_group boxes groups.new result × (all_colors boxes < 2 ^ 64) }
+{
+    let mut pieces = [Piece::none(); BOXES];
+    let more = (2 * room).min(room + MORE);
+    let count = cut_boxes(colors, &mut pieces[..more]);
+    set_groups(colors, &pieces[..count], groups);
     count
 }
 
@@ -175,28 +231,33 @@ fn cut_piece<C: Cutting>(colors: &mut [C], place: Place) -> (Piece, Piece)
     (Piece::of(low), Piece::of(high))
 }
 
-/// Writes the means of the boxes into the first of the entries.
-fn write_means<C: Cutting>(colors: &[C], pieces: &[Piece], entries: &mut [C])
+/// Sets what is kept of the boxes of some pieces.
+fn set_groups<C: Cutting>(colors: &[C], pieces: &[Piece], groups: &mut [C::Group])
     requires fit { All C.fits (map C.parts colors.now) }
     requires stand { ArePieces C.channels C.weigh C.parts colors.now pieces.now }
-    requires room { length pieces.now ≤ length entries.old }
-    ensures { map C.parts (take (length pieces.now) entries.new)
-        ≡ map C.middle (boxes_of C.parts colors.now pieces.now) }
+    requires room { length pieces.now ≤ length groups.old }
+    ensures { AreGroupsOf C.is_group (boxes_of C.parts colors.now pieces.now) groups.new
+        (length pieces.now) }
 {
     let mut start = 0;
     for i in 0..pieces.len() {
         let end = start + pieces[i].len;
-        entries[i] = C::mean_color(&colors[start..end]);
+        groups[i] = C::group_of(&colors[start..end]);
         start = end;
     }
 }
 
-/// Returns the mean of a box. Condition: it has a color.
-fn mean_color(colors: &[Color]) -> Color
-    requires { 0 < length colors.now }
-    ensures { numbers result ≡ mean (map numbers colors.now) }
+/// Writes the means of the first `count` boxes into the first of the entries.
+fn write_means<C: Cutting>(groups: &[C::Group], count: usize, entries: &mut [C])
+    requires boxes { (boxes : List (List (List ℕ)))
+        × AreGroupsOf C.is_group boxes groups.now count }
+    requires room { count ≤ length entries.old }
+    ensures { (boxes : List (List (List ℕ))) → AreGroupsOf C.is_group boxes groups.now count
+        → map C.parts (take count entries.new) ≡ map C.middle boxes }
 {
-    sums_of(colors).mean()
+    for i in 0..count {
+        entries[i] = C::mean_color(groups[i]);
+    }
 }
 
 /// Moves the colors whose number in a channel is below `value` to the front, and returns how many

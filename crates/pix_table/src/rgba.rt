@@ -2,6 +2,7 @@
 pub(crate) mod color;
 pub(crate) mod cut;
 mod diffuse;
+pub(crate) mod group;
 pub(crate) mod groups;
 pub(crate) mod lanes;
 pub(crate) mod matched;

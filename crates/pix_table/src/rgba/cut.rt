@@ -1,16 +1,22 @@
-//! A table of the means of boxes of seen colors, which are cut where the squared error falls most.
+//! A table of the means of boxes of seen colors, which are cut where the squared error falls most,
+//! and then joined.
 ghost use Rattle.std.specs.Prelude.{◌≡◌, ◌<◌, ◌≤◌, All, IsPermutation, length, map, take};
 ghost use Rattle.pix_table.specs.Seen.{AreSeen, seen_numbers};
 ghost use Rattle.pix_table.specs.SeenCut.{IsSeenCutTable, seen_mean, seen_weight};
+ghost use Rattle.pix_table.specs.ColorGroups.{IsSeenGroup};
 
 use crate::cut::cut_colors;
 use crate::cutting::Cutting;
+use crate::joins::BOXES;
 use crate::place::Place;
 use crate::rgba::color::Seen;
+use crate::rgba::group::SeenGroup;
 use crate::rgba::place::best_seen_place;
-use crate::rgba::sums::{seen_channel, seen_sums_of};
+use crate::rgba::sums::seen_channel;
 
 impl Cutting for Seen {
+    type Group = SeenGroup;
+
     ghost parts = { seen_numbers };
 
     ghost channels = { 4 };
@@ -21,6 +27,8 @@ impl Cutting for Seen {
 
     ghost fits = { AreSeen };
 
+    ghost is_group = { IsSeenGroup };
+
     #[inline(always)]
     fn channel(self, k: usize) -> u8 {
         seen_channel(self, k)
@@ -30,8 +38,25 @@ impl Cutting for Seen {
         best_seen_place(colors)
     }
 
-    fn mean_color(colors: &[Seen]) -> Seen {
-        seen_mean_of(colors)
+    fn group_of(colors: &[Seen]) -> SeenGroup {
+        SeenGroup::of(colors)
+    }
+
+    fn join(p: SeenGroup, q: SeenGroup) -> SeenGroup {
+        p.join(q)
+    }
+
+    fn cost(p: SeenGroup, q: SeenGroup) -> u128 {
+        p.cost(q)
+    }
+
+    #[inline(always)]
+    fn costs_no_less(p: SeenGroup, q: SeenGroup, most: u128) -> bool {
+        p.costs_no_less(q, most)
+    }
+
+    fn mean_color(group: SeenGroup) -> Seen {
+        group.mean()
     }
 }
 
@@ -51,14 +76,6 @@ pub(crate) fn cut_seen_table(colors: &mut [Seen], entries: &mut [Seen]) -> usize
         (map seen_numbers (take result entries.new)) }
     ensures seen { All AreSeen (map seen_numbers (take result entries.new)) }
 {
-    cut_colors(colors, entries)
-}
-
-/// Returns the mean of a box. Condition: it has a color.
-fn seen_mean_of(colors: &[Seen]) -> Seen
-    requires some { 0 < length colors.now }
-    requires seen { All AreSeen (map seen_numbers colors.now) }
-    ensures { seen_numbers result ≡ seen_mean (map seen_numbers colors.now) }
-{
-    seen_sums_of(colors).mean()
+    let mut groups = [SeenGroup::none(); BOXES];
+    cut_colors(colors, &mut groups, entries)
 }

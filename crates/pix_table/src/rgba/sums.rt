@@ -4,9 +4,9 @@ ghost use Rattle.pix_table.specs.Seen.{AreSeen, seen_numbers};
 ghost use Rattle.pix_table.specs.SeenSums.{AreFew, AreSeenByValue, AreSeenPart, AreSeenSums};
 ghost use Rattle.pix_table.specs.SeenSums.{seen_weight_by};
 
-use crate::box_sums::quotient;
+use crate::box_sums::{FEW, LITTLE, quotient};
 use crate::rgba::color::Seen;
-use crate::weight::weight;
+use crate::weight::{square, weight};
 
 /// How many seen colors there are, and the sums of their numbers.
 #[derive(Clone, Copy)]
@@ -106,6 +106,24 @@ impl SeenSums {
         let clear = 255 * self.count as u128 - self.alpha;
         let white = [self.red + clear, self.green + clear, self.blue + clear];
         black + weight(self.count, white)
+    }
+
+    /// Returns whether it tells, without a division, that they weigh at most so much.
+    #[inline(always)]
+    pub(crate) fn weighs_at_most(self, most: u128) -> bool
+        requires some { 0 < self.count }
+        requires few { AreFew self }
+        ensures { result ≡ true → seen_weight_by self.count self.red self.green self.blue
+            self.alpha ≤ most }
+    {
+        if self.count >= FEW || most >= LITTLE {
+            return false;
+        }
+        let clear = 255 * self.count as u64 - self.alpha as u64;
+        let (red, green, blue) = (self.red as u64, self.green as u64, self.blue as u64);
+        let black = square(red) + square(green) + square(blue);
+        let white = square(red + clear) + square(green + clear) + square(blue + clear);
+        black + white < (most as u64 + 1) * self.count as u64
     }
 
     /// Returns the mean of the colors, to the nearest whole number in each channel, ties up.

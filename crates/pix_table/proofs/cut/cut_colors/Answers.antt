@@ -1,35 +1,30 @@
--- Of `cut_colors`: its clauses `moved` and `table`.
-use Rattle.std.proofs.Common.{◌++◌, length, map, take, drop, replicate, IsPermutation, arith, subst, length-take}
-use Rattle.std.proofs.lemmas.List.{length-replicate, take-append-le}
-use Rattle.pix_table.specs.Pieces.{boxes_of}
-use Rattle.pix_table.proofs.CutColors.{boxes_fit, boxes_moved, boxes_whole}
-use Rattle.pix_table.proofs.PieceBoxes.{table_made}
+-- Of `cut_colors`: that the boxes are joined, and its clause `table`.
+use Rattle.std.proofs.Common.{◌∙◌, length, sym, ap}
+use Rattle.std.specs.Prelude.{min}
 use Rattle.pix_table.proofs.cut.cut_colors.Goals as goal
 
-pub write_means-requires-clause-fit : goal.write_means-requires-clause-fit
-write_means-requires-clause-fit g c =
-    let pieces = take c.cut_boxes-count.result c.cut_boxes-count.new.pieces in
-    boxes_fit g.C.Cutting.fits g.C.Cutting.parts (map g.C.Cutting.parts c.args.colors.now) c.cut_boxes-count.new.colors pieces
-    c.cut_boxes-count.ensures.boxes c.cut_boxes-count.ensures.stand.all c.requires.fit
+pub join_boxes-joined-requires-clause-boxes : goal.join_boxes-joined-requires-clause-boxes
+join_boxes-joined-requires-clause-boxes g c =
+    let h = c.cut_groups-count.ensures.boxes in
+    (h.0, h.4, h.5)
 
-pub returns-clause-moved : goal.returns-clause-moved
-returns-clause-moved g c =
-    let pieces = take c.cut_boxes-count.result c.cut_boxes-count.new.pieces in
-    subst (IsPermutation (map g.C.Cutting.parts c.args.colors.now))
-    (boxes_whole g.C.Cutting.parts c.cut_boxes-count.new.colors pieces c.cut_boxes-count.ensures.stand.all)
-    (boxes_moved (map g.C.Cutting.parts c.args.colors.now) (boxes_of g.C.Cutting.parts c.cut_boxes-count.new.colors pieces) c.cut_boxes-count.ensures.boxes)
+pub write_means-requires-clause-boxes : goal.write_means-requires-clause-boxes
+write_means-requires-clause-boxes g c =
+    let h = c.cut_groups-count.ensures.boxes in
+    let j = c.join_boxes-joined.ensures.joined h.0 h.4 h.5 in
+    (j.0, j.2)
 
 pub returns-clause-table : goal.returns-clause-table
 returns-clause-table g c =
-    table_made g.C.Cutting.parts g.C.Cutting.channels g.C.Cutting.weigh g.C.Cutting.middle (length c.args.entries.now) c.cut_boxes-count.result
-    c.args.colors.now c.cut_boxes-count.new.colors c.write_means.new.entries c.cut_boxes-count.new.pieces
-    (c.cut_boxes-count.new.pieces ++ drop (length c.args.entries.now) (replicate 256 c.none-pieces.result))
-    (omega (
-      arith,
-      c.cut_boxes-count.auto.pieces,
-      length-take (length c.args.entries.now) (replicate 256 c.none-pieces.result),
-      length-replicate 256 c.none-pieces.result,
-      c.requires.few,
-    ))
-    c.cut_boxes-count.ensures.within (take-append-le c.cut_boxes-count.result _ _ c.cut_boxes-count.ensures.within) c.cut_boxes-count.ensures.stand
-    c.cut_boxes-count.ensures.boxes c.cut_boxes-count.ensures.full c.write_means.ensures
+    let h = c.cut_groups-count.ensures.boxes in
+    let j = c.join_boxes-joined.ensures.joined h.0 h.4 h.5 in
+    record {
+      boxes = h.0;
+      are = h.1;
+      few = h.2;
+      full = h.3;
+      groups = j.0;
+      joined = j.1;
+      many = j.2.many ∙ c.join_boxes-joined.ensures.many ∙ ap (λ n. min (length c.args.entries.now) n) (sym h.4.many);
+      means = c.write_means.ensures j.0 j.2;
+    }

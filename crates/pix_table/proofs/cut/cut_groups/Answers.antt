@@ -1,0 +1,36 @@
+-- Of `cut_groups`: its clauses `moved` and `boxes`.
+use Rattle.std.proofs.Common.{◌++◌, length, map, take, drop, replicate, IsPermutation, arith, subst, length-take}
+use Rattle.std.proofs.lemmas.List.{length-replicate, take-append-le}
+use Rattle.pix_table.specs.Pieces.{boxes_of}
+use Rattle.pix_table.proofs.CutColors.{boxes_fit, boxes_moved, boxes_whole}
+use Rattle.pix_table.proofs.CutGroups.{boxes_made}
+use Rattle.pix_table.proofs.cut.cut_groups.Goals as goal
+
+pub set_groups-requires-clause-fit : goal.set_groups-requires-clause-fit
+set_groups-requires-clause-fit g c =
+    let pieces = take c.cut_boxes-count.result c.cut_boxes-count.new.pieces in
+    boxes_fit g.C.Cutting.fits g.C.Cutting.parts (map g.C.Cutting.parts c.args.colors.now) c.cut_boxes-count.new.colors pieces
+    c.cut_boxes-count.ensures.boxes c.cut_boxes-count.ensures.stand.all c.requires.fit
+
+pub returns-clause-moved : goal.returns-clause-moved
+returns-clause-moved g c =
+    let pieces = take c.cut_boxes-count.result c.cut_boxes-count.new.pieces in
+    subst (IsPermutation (map g.C.Cutting.parts c.args.colors.now))
+    (boxes_whole g.C.Cutting.parts c.cut_boxes-count.new.colors pieces c.cut_boxes-count.ensures.stand.all)
+    (boxes_moved (map g.C.Cutting.parts c.args.colors.now) (boxes_of g.C.Cutting.parts c.cut_boxes-count.new.colors pieces) c.cut_boxes-count.ensures.boxes)
+
+pub returns-clause-boxes : goal.returns-clause-boxes
+returns-clause-boxes g c =
+    boxes_made g.C.Cutting.is_group g.C.Cutting.parts g.C.Cutting.channels g.C.Cutting.weigh c.args.room c.cut_boxes-count.result c.args.colors.now
+    c.cut_boxes-count.new.colors c.cut_boxes-count.new.pieces
+    (c.cut_boxes-count.new.pieces ++ drop c.min-more.result (replicate 320 c.none-pieces.result)) c.set_groups.new.groups
+    (omega (
+      arith,
+      c.cut_boxes-count.auto.pieces,
+      length-take c.min-more.result (replicate 320 c.none-pieces.result),
+      length-replicate 320 c.none-pieces.result,
+      c.min-more.ensures,
+      c.requires.few,
+    ))
+    c.cut_boxes-count.ensures.within (take-append-le c.cut_boxes-count.result _ _ c.cut_boxes-count.ensures.within) c.cut_boxes-count.ensures.stand
+    c.cut_boxes-count.ensures.boxes c.cut_boxes-count.ensures.full c.set_groups.ensures (omega arith)

@@ -1,0 +1,12 @@
+-- What holds at each turn of the loop over `i` in `set_groups`.
+use Rattle.std.proofs.Common.{◌≡◌, take}
+use Rattle.pix_table.specs.Pairs.{AreGroupsOf}
+use Rattle.pix_table.specs.Pieces.{boxes_of, total}
+use Rattle.pix_table.proofs.cut.set_groups.Given as goal
+
+-- what is kept of the first i boxes is set
+abbrev pub invariant-loop-i : goal.invariant-loop-i
+invariant-loop-i g l = record {
+  start : l.start ≡ total (take l.i l.pieces);
+  set : AreGroupsOf g.C.Cutting.is_group (boxes_of g.C.Cutting.parts l.colors (take l.i l.pieces)) l.groups l.i;
+}

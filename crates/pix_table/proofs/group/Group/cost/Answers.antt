@@ -1,0 +1,19 @@
+-- Of `Group::cost`: that the sum fits, and the cost.
+use Rattle.std.proofs.Common.{◌++◌, arith}
+use Rattle.pix_table.proofs.BoxSumLemmas.{whole_weight}
+use Rattle.pix_table.proofs.GroupLemmas.{little}
+use Rattle.pix_table.proofs.group.Group.cost.Goals as goal
+
+pub overflow_add-self : goal.overflow_add-self
+overflow_add-self c = omega (arith, little c.requires.0 c.args.self c.requires.2, little c.requires.1 c.args.other c.requires.3, c.requires.4)
+
+pub returns : goal.returns
+returns c = λ a b p q.
+    omega (
+      arith,
+      p.weight,
+      q.weight,
+      c.weight.ensures.weight,
+      whole_weight (a ++ b) c.both-both.result (c.both-both.ensures.sums a b p q),
+      c.saturating_sub.ensures,
+    )

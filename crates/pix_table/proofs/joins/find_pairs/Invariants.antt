@@ -1,0 +1,11 @@
+-- What holds at each turn of the loop over `k` in `find_pairs`.
+use Rattle.std.proofs.Common.{ℕ, List, ◌+◌, ◌<◌, length, get_or}
+use Rattle.pix_table.specs.Pairs.{AreGroupsOf, IsPairOf}
+use Rattle.pix_table.specs.declared.joins.Pair.{Pair}
+use Rattle.pix_table.proofs.joins.find_pairs.Given as goal
+
+-- the first k pairs are those of the boxes
+abbrev pub invariant-loop-k : goal.invariant-loop-k
+invariant-loop-k g l =
+    (boxes : List (List (List ℕ))) → AreGroupsOf g.C.Cutting.is_group boxes l.groups l.count → (m : ℕ) (d : Pair) → m < l.k → m + 1 < length boxes
+    → IsPairOf g.C.Cutting.weigh boxes m (get_or l.pairs m d)
