@@ -20,6 +20,7 @@ mod exchange;
 mod in_blocks;
 mod index;
 mod inverse_map;
+mod items;
 mod lanes;
 mod look;
 mod matcher;
