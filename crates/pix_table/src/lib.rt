@@ -22,6 +22,7 @@ mod in_blocks;
 mod index;
 mod inverse_map;
 mod joins;
+mod items;
 mod lanes;
 mod look;
 mod matcher;
