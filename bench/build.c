@@ -8,7 +8,7 @@
         const uint32_t across = job->across;                                                                           \
         const pix_op op = (pix_op)job->op;                                                                             \
         const PIXEL color = *(const PIXEL *)job->color;                                                                \
-        const pix_view##S source = pix_view_of##S((const PIXEL *)job->read, across, across);                       \
+        const pix_view##S source = pix_view_of##S((const PIXEL *)job->read, across, across);                           \
         switch (job->source) {                                                                                         \
         case IMAGE: return pix_composite_image##S(to, source, to, op);                                                 \
         case COLOR: return pix_composite_color##S(to, color, op);                                                      \

@@ -44,7 +44,7 @@ def of_picture(picture, most, rounds):
     cut by squared error, which so many rounds refine. Those that are not opaque come first."""
     if picture.is_opaque:
         return of_frames([picture], most, rounds)
-    made = bytes(pix.table_rgba_from(picture.pixels, most, rounds))
+    made = bytes(pix.quantize_rgba(picture.pixels, most, rounds))
     entries = [made[i : i + 4] for i in range(0, len(made), 4)]
     return Table(b"".join(sorted(entries, key=lambda entry: entry[3] == 255)))
 
@@ -53,7 +53,7 @@ def of_frames(pictures, most, rounds):
     """Returns one table for all of these pictures, whose pixels are opaque or clear, as a GIF has them."""
     pixels = b"".join(it.pixels for it in pictures)
     has_clear = any(alpha < CLEAR_BELOW for alpha in set(pixels[3::4]))
-    colors = pix.table_from(pixels, most - has_clear, format=pix.SRGBA8, alpha=CLEAR_BELOW, rounds=rounds)
+    colors = pix.quantize(pixels, most - has_clear, format=pix.SRGBA8, alpha=CLEAR_BELOW, rounds=rounds)
     entries = b"".join(bytes(colors[i : i + 3]) + b"\xff" for i in range(0, len(colors), 3))
     return Table(entries + bytes(4 * has_clear), len(colors) // 3 if has_clear else None)
 

@@ -152,9 +152,9 @@ static void order(part *parts, size_t count) {
             for (end = from; end < count && parts[end].level >= level;)
                 end++;
             for (size_t i = from, j = end; j > i + 1; i++) {
-                part transparent_index = parts[i];
+                part kept = parts[i];
                 parts[i] = parts[--j];
-                parts[j] = transparent_index;
+                parts[j] = kept;
             }
         }
 }

@@ -25,7 +25,7 @@ enum { WIDE = 3, HIGH = 3, APART = 5, LENGTH = APART * (HIGH - 1) + WIDE, ALL = 
         PIXEL memory[ALL];                                                                                             \
         const pix_region whole = pix_region_of(0, 0, WIDE, HIGH);                                                      \
         pix_image##S image = pix_image_of##S(memory, WIDE, HIGH);                                                      \
-        pix_view##S source = pix_view_of##S(memory + LENGTH, WIDE, HIGH);                                          \
+        pix_view##S source = pix_view_of##S(memory + LENGTH, WIDE, HIGH);                                              \
         MATTE matte;                                                                                                   \
         size_t i;                                                                                                      \
         memset(memory, 0, sizeof memory);                                                                              \
@@ -41,7 +41,7 @@ enum { WIDE = 3, HIGH = 3, APART = 5, LENGTH = APART * (HIGH - 1) + WIDE, ALL = 
         CHECK(pix_do##S(image, pix_copy_image##S(whole, source, whole)) == PIX_OVERLAP);                               \
         source.pixels = memory + 2 * LENGTH - 1;                                                                       \
         CHECK(pix_do##S(image, pix_copy_image##S(whole, source, whole)) == PIX_OVERLAP);                               \
-        source = pix_view_of##S(memory + LENGTH + WIDE, 1, 1);                                                       \
+        source = pix_view_of##S(memory + LENGTH + WIDE, 1, 1);                                                         \
         CHECK(pix_do##S(image, pix_composite_image##S(whole, source, whole, PIX_OP_XOR)) == PIX_OVERLAP);              \
         /* The same with mattes. */                                                                                    \
         matte.values = (const VALUE *)(const void *)(memory + 2 * LENGTH);                                             \
@@ -54,7 +54,7 @@ enum { WIDE = 3, HIGH = 3, APART = 5, LENGTH = APART * (HIGH - 1) + WIDE, ALL = 
         matte.values += 1;                                                                                             \
         CHECK(pix_do##S(image, pix_composite_matte##S(whole, matte, whole, ONE, PIX_OP_SRC_OVER)) == PIX_OVERLAP);     \
         /* And with the mask of an image that lies apart. */                                                           \
-        source = pix_view_of##S(memory, 1, 1);                                                                       \
+        source = pix_view_of##S(memory, 1, 1);                                                                         \
         CHECK(pix_do##S(image, pix_composite_image_matte##S(whole, source, whole, matte, whole, PIX_OP_XOR))           \
               == PIX_OVERLAP);                                                                                         \
         CHECK(pix_do##S(image, pix_composite_image_alpha##S(whole, source, whole, 9, PIX_OP_XOR)) == PIX_OK);          \
@@ -67,13 +67,13 @@ enum { WIDE = 3, HIGH = 3, APART = 5, LENGTH = APART * (HIGH - 1) + WIDE, ALL = 
         PIXEL memory[LENGTH], copy[WIDE * HIGH];                                                                       \
         const pix_region whole = pix_region_of(0, 0, WIDE, HIGH);                                                      \
         pix_image##S image = pix_image_of##S(memory, WIDE, HIGH);                                                      \
-        pix_view##S source;                                                                                          \
+        pix_view##S source;                                                                                            \
         size_t i;                                                                                                      \
         memset(memory, 0, sizeof memory);                                                                              \
         image.stride = APART;                                                                                          \
         for (i = 0; i < LENGTH; i++)                                                                                   \
             memory[i].a = (VALUE)i;                                                                                    \
-        source = pix_view_of_image##S(image);                                                                        \
+        source = pix_view_of_image##S(image);                                                                          \
         CHECK(source.pixels == memory && source.width == WIDE && source.height == HIGH && source.stride == APART);     \
         CHECK(pix_do##S(pix_image_of##S(copy, WIDE, HIGH), pix_copy_image##S(whole, source, whole)) == PIX_OK);        \
         for (i = 0; i < WIDE * HIGH; i++)                                                                              \

@@ -8,7 +8,7 @@
 #include "pix.h"
 
 #define EACH_(S, PIXEL, MATTE, VALUE)                                                                                  \
-    static inline pix_command##S command_of##S(pix_kind kind, pix_region to, pix_view##S source, pix_region from,    \
+    static inline pix_command##S command_of##S(pix_kind kind, pix_region to, pix_view##S source, pix_region from,      \
                                                MATTE matte, pix_region mask_from, PIXEL color, VALUE alpha, pix_op op) { \
         switch (kind) {                                                                                                \
         case PIX_KIND_CLEAR: return pix_clear##S();                                                                    \

@@ -23,7 +23,7 @@ static void check(int is_well, const char *what, int size) {
 /* One command of each kind. */
 #define LIST_(S, MATTE)                                                                                                \
     static void list##S(pix_command##S *list, pix_region to, pix_region from, uint32_t width, uint32_t height) {       \
-        const pix_view##S source = pix_view_of##S(NULL, width, height);                                            \
+        const pix_view##S source = pix_view_of##S(NULL, width, height);                                                \
         const MATTE mask = MATTE##_of(NULL, width, height);                                                            \
         const pix_command##S clear = pix_clear##S();                                                                   \
         for (int i = 0; i < KINDS; i++)                                                                                \
@@ -44,7 +44,7 @@ LIST_(_graya8, pix_matte)
         memset(&pixel, 0, sizeof pixel);                                                                               \
         list##S(commands, to, from, width, height);                                                                    \
         check(pix_run##S(empty, commands, KINDS, &done) == PIX_OK && done == KINDS, "pix_run" #S, size);               \
-        check(pix_run_window##S(empty, LONG - width, LONG - height, commands, KINDS, &done) == PIX_OK, "pix_run_window" #S,    \
+        check(pix_run_window##S(empty, LONG - width, LONG - height, commands, KINDS, &done) == PIX_OK, "pix_run_window" #S, \
               size);                                                                                                   \
         check(pix_do##S(empty, commands[PIX_KIND_COMPOSITE_IMAGE]) == PIX_OK, "pix_do" #S, size);                      \
         check(pix_run##S(pix_image_of##S(&pixel, 1, 1), commands, KINDS, &done) == PIX_OK, "pix_run" #S " by none",    \

@@ -148,15 +148,15 @@ static outcome model(const plain_kind *kind, const int64_t *n) {
         list[0].alpha = (VALUE)n[OPACITY];                                                                             \
         it.done = 77;                                                                                                  \
         if (is_window)                                                                                                 \
-            it.status = pix_raw_run_window##S((PIXEL *)(void *)it.after.image + n[IMAGE], (size_t)n[IMAGE_COUNT],          \
-                                          (uint32_t)n[LEFT], (uint32_t)n[TOP], (uint32_t)n[IMAGE_WIDTH],               \
-                                          (uint32_t)n[IMAGE_HEIGHT], (uint32_t)n[IMAGE_STRIDE], list + n[COMMANDS],    \
-                                          (size_t)n[COMMAND_COUNT], &it.done);                                         \
+            it.status = pix_raw_run_window##S((PIXEL *)(void *)it.after.image + n[IMAGE], (size_t)n[IMAGE_COUNT],      \
+                                              (uint32_t)n[LEFT], (uint32_t)n[TOP], (uint32_t)n[IMAGE_WIDTH],           \
+                                              (uint32_t)n[IMAGE_HEIGHT], (uint32_t)n[IMAGE_STRIDE], list + n[COMMANDS], \
+                                              (size_t)n[COMMAND_COUNT], &it.done);                                     \
         else                                                                                                           \
-            it.status = pix_raw_run##S((PIXEL *)(void *)it.after.image + n[IMAGE], (size_t)n[IMAGE_COUNT],        \
-                                            (uint32_t)n[IMAGE_WIDTH], (uint32_t)n[IMAGE_HEIGHT],                       \
-                                            (uint32_t)n[IMAGE_STRIDE], list + n[COMMANDS],                             \
-                                            (size_t)n[COMMAND_COUNT], &it.done);                                       \
+            it.status = pix_raw_run##S((PIXEL *)(void *)it.after.image + n[IMAGE], (size_t)n[IMAGE_COUNT],             \
+                                       (uint32_t)n[IMAGE_WIDTH], (uint32_t)n[IMAGE_HEIGHT],                            \
+                                       (uint32_t)n[IMAGE_STRIDE], list + n[COMMANDS],                                  \
+                                       (size_t)n[COMMAND_COUNT], &it.done);                                            \
         return it;                                                                                                     \
     }
 
@@ -200,16 +200,16 @@ static void try_fields(const char *name, const plain_kind *kind, outcome (*run)(
     if (!is_same(&base, &same))
         fail(name, "all fields", "not as the model has them");
     for (int field = 0; field < FIELDS; field++) {
-        int64_t transparent_index = n[field];
+        int64_t kept = n[field];
         if (!is_read(kind, command, field))
             continue;
-        n[field] = field == MATTE_COUNT ? transparent_index - 1 : other[field];
+        n[field] = field == MATTE_COUNT ? kept - 1 : other[field];
         const outcome wanted = model(kind, n), got = run(n);
         if (is_same(&wanted, &base))
             fail(name, names[field], "changes nothing, so that this test shows nothing");
         if (!is_same(&wanted, &got))
             fail(name, names[field], "not as the model has it");
-        n[field] = transparent_index;
+        n[field] = kept;
     }
 }
 

@@ -222,8 +222,8 @@ static list random_list(const plain_kind *kind) {
     static pix_command##S command##S(const list *all, size_t i) {                                                      \
         const plain_command *it = &all->commands[i];                                                                   \
         const plain_rows *rows = it->kind == PLAIN_MATTE ? &mattes[all->read[i]].rows : &sources[all->read[i]].rows;   \
-        pix_view##S source = {(const PIXEL *)(const void *)rows->bytes, (uint32_t)rows->width,                       \
-                                (uint32_t)rows->height, (uint32_t)rows->stride};                                       \
+        pix_view##S source = {(const PIXEL *)(const void *)rows->bytes, (uint32_t)rows->width,                         \
+                              (uint32_t)rows->height, (uint32_t)rows->stride};                                         \
         MATTE matte = {(const VALUE *)(const void *)rows->bytes, source.width, source.height, source.stride};          \
         const plain_rows *covers = &mattes[all->read[i] % MATTES].rows;                                                \
         MATTE mask = {(const VALUE *)(const void *)covers->bytes, (uint32_t)covers->width, (uint32_t)covers->height,   \
@@ -274,7 +274,7 @@ static list random_list(const plain_kind *kind) {
         if (all->fault == LIST_OVERLAP)                                                                                \
             commands = (const pix_command##S *)((uintptr_t)image.rows.bytes & ~(uintptr_t)15);                         \
         if (all->is_window)                                                                                            \
-            return pix_run_window##S(whole, all->left, all->top, commands, all->count, done);                              \
+            return pix_run_window##S(whole, all->left, all->top, commands, all->count, done);                          \
         return pix_run##S(whole, commands, all->count, done);                                                          \
     }
 

@@ -56,9 +56,9 @@ static plain_region plain(pix_region it) {
             return PIX_BAD_SOURCE;                                                                                     \
         return PIX_OK;                                                                                                 \
     }                                                                                                                  \
-    uint32_t pix_raw_run_window##S(PIXEL *pixels, size_t pixel_count, uint32_t left, uint32_t top, uint32_t width,         \
-                               uint32_t height, uint32_t stride, const pix_command##S *commands,                       \
-                               size_t command_count, size_t *done) {                                                   \
+    uint32_t pix_raw_run_window##S(PIXEL *pixels, size_t pixel_count, uint32_t left, uint32_t top, uint32_t width,     \
+                                   uint32_t height, uint32_t stride, const pix_command##S *commands,                   \
+                                   size_t command_count, size_t *done) {                                               \
         const plain_kind kind = KIND;                                                                                  \
         plain_rows image = {(unsigned char *)pixels, width, height, stride};                                           \
         *done = 0;                                                                                                     \
@@ -81,9 +81,9 @@ static plain_region plain(pix_region it) {
         }                                                                                                              \
         return PIX_OK;                                                                                                 \
     }                                                                                                                  \
-    uint32_t pix_raw_run##S(PIXEL *pixels, size_t pixel_count, uint32_t width, uint32_t height, uint32_t stride,  \
-                                 const pix_command##S *commands, size_t command_count, size_t *done) {                 \
-        return pix_raw_run_window##S(pixels, pixel_count, 0, 0, width, height, stride, commands, command_count, done);     \
+    uint32_t pix_raw_run##S(PIXEL *pixels, size_t pixel_count, uint32_t width, uint32_t height, uint32_t stride,       \
+                            const pix_command##S *commands, size_t command_count, size_t *done) {                      \
+        return pix_raw_run_window##S(pixels, pixel_count, 0, 0, width, height, stride, commands, command_count, done); \
     }
 
 #define FOUR_ {it->color.r, it->color.g, it->color.b, it->color.a}
@@ -96,7 +96,7 @@ OTHER_(_rgba16, pix_rgba16, RGBA16_, FOUR_)
 OTHER_(_graya8, pix_graya8, GRAYA8_, TWO_)
 
 uint32_t pix_raw_convert(uint32_t from, uint32_t to, const uint8_t *src, size_t src_len, uint8_t *dst, size_t dst_len,
-                           size_t count) {
+                         size_t count) {
     if (from >= PLAIN_FORMATS || to >= PLAIN_FORMATS)
         return PIX_BAD_FORMAT;
     const plain_format *source = &plain_formats[from], *target = &plain_formats[to];
@@ -125,7 +125,7 @@ static const uint8_t *row_at(const uint8_t *bytes, int64_t stride, uint64_t heig
 }
 
 uint32_t pix_raw_convert_bitmap(uint32_t from, uint32_t to, const uint8_t *src, size_t src_len, uint8_t *dst, size_t dst_len,
-                          int64_t src_stride, int64_t dst_stride, uint32_t width, uint32_t height) {
+                                int64_t src_stride, int64_t dst_stride, uint32_t width, uint32_t height) {
     plain_stored source = plain_stored_of(from), target = plain_stored_of(to);
     size_t size = plain_stored_size(&source), to_size = plain_stored_size(&target);
     if (!source.model || !target.model)
@@ -150,7 +150,7 @@ uint32_t pix_raw_nearest(const pix_srgb8 *entries, size_t len, const pix_srgb8 *
 }
 
 uint32_t pix_raw_map_indexed(const pix_srgb8 *entries, size_t len, const pix_srgb8 *pixels, size_t pixel_count,
-                         uint8_t *indices, size_t index_count) {
+                             uint8_t *indices, size_t index_count) {
     if (!len || len > 256)
         return PIX_BAD_TABLE;
     if (index_count != pixel_count)
@@ -161,7 +161,7 @@ uint32_t pix_raw_map_indexed(const pix_srgb8 *entries, size_t len, const pix_srg
 }
 
 uint32_t pix_raw_map_indexed_alpha(const pix_srgb8 *entries, size_t len, const pix_srgba8 *pixels, size_t pixel_count,
-                               uint8_t alpha, uint8_t transparent_index, uint8_t *indices, size_t index_count) {
+                                   uint8_t alpha, uint8_t transparent_index, uint8_t *indices, size_t index_count) {
     if (!len || len > 256)
         return PIX_BAD_TABLE;
     if (index_count != pixel_count)
@@ -173,8 +173,8 @@ uint32_t pix_raw_map_indexed_alpha(const pix_srgb8 *entries, size_t len, const p
     return PIX_OK;
 }
 
-uint32_t pix_raw_index_pixels(pix_srgb8 *entries, size_t len, size_t *used, const pix_srgb8 *threshold, const pix_srgb8 *pixels,
-                         size_t pixel_count, uint8_t *indices, size_t index_count) {
+uint32_t pix_raw_index_pixels(pix_srgb8 *entries, size_t len, size_t *used, const pix_srgb8 *threshold,
+                              const pix_srgb8 *pixels, size_t pixel_count, uint8_t *indices, size_t index_count) {
     pix_srgb8 copy[256];
     uint8_t *found;
     size_t now = *used;
@@ -198,7 +198,7 @@ uint32_t pix_raw_index_pixels(pix_srgb8 *entries, size_t len, size_t *used, cons
 }
 
 uint32_t pix_raw_look_up(const pix_srgb8 *entries, size_t len, const uint8_t *indices, size_t index_count,
-                           pix_srgb8 *pixels, size_t pixel_count) {
+                         pix_srgb8 *pixels, size_t pixel_count) {
     if (index_count != pixel_count)
         return PIX_BAD_LENGTH;
     for (size_t i = 0; i < index_count; i++)
@@ -243,8 +243,8 @@ uint32_t pix_raw_unpack_row(uint32_t bits, const uint8_t *bytes, size_t byte_cou
     return PIX_OK;
 }
 
-uint32_t pix_raw_quantize_refined(const pix_srgb8 *pixels, size_t pixel_count, uint8_t rounds, pix_srgb8 *work, size_t work_len,
-                           pix_srgb8 *entries, size_t len, size_t *made) {
+uint32_t pix_raw_quantize_refined(const pix_srgb8 *pixels, size_t pixel_count, uint8_t rounds, pix_srgb8 *work,
+                                  size_t work_len, pix_srgb8 *entries, size_t len, size_t *made) {
     if (!len || len > 256)
         return PIX_BAD_TABLE;
     if (work_len < pixel_count)
@@ -254,8 +254,8 @@ uint32_t pix_raw_quantize_refined(const pix_srgb8 *pixels, size_t pixel_count, u
     return PIX_OK;
 }
 
-uint32_t pix_raw_quantize_refined_alpha(const pix_srgba8 *pixels, size_t pixel_count, uint8_t alpha, uint8_t rounds, pix_srgb8 *work,
-                                 size_t work_len, pix_srgb8 *entries, size_t len, size_t *made) {
+uint32_t pix_raw_quantize_refined_alpha(const pix_srgba8 *pixels, size_t pixel_count, uint8_t alpha, uint8_t rounds,
+                                        pix_srgb8 *work, size_t work_len, pix_srgb8 *entries, size_t len, size_t *made) {
     size_t count = 0;
     if (!len || len > 256)
         return PIX_BAD_TABLE;
@@ -271,12 +271,12 @@ uint32_t pix_raw_quantize_refined_alpha(const pix_srgba8 *pixels, size_t pixel_c
 }
 
 uint32_t pix_raw_quantize(const pix_srgb8 *pixels, size_t pixel_count, pix_srgb8 *work, size_t work_len, pix_srgb8 *entries,
-                        size_t len, size_t *made) {
+                          size_t len, size_t *made) {
     return pix_raw_quantize_refined(pixels, pixel_count, 0, work, work_len, entries, len, made);
 }
 
 uint32_t pix_raw_quantize_alpha(const pix_srgba8 *pixels, size_t pixel_count, uint8_t alpha, pix_srgb8 *work, size_t work_len,
-                              pix_srgb8 *entries, size_t len, size_t *made) {
+                                pix_srgb8 *entries, size_t len, size_t *made) {
     return pix_raw_quantize_refined_alpha(pixels, pixel_count, alpha, 0, work, work_len, entries, len, made);
 }
 
@@ -310,8 +310,9 @@ static void diffuse_colors(const pix_srgb8 *entries, size_t len, const pix_srgba
 }
 
 uint32_t pix_raw_diffuse_indexed_by_alpha(const pix_srgb8 *entries, size_t len, const pix_srgba8 *pixels, size_t pixel_count,
-                                    size_t width, uint8_t alpha, uint8_t transparent_index, uint8_t strength, uint8_t serpentine,
-                                    pix_srgb8 *work, size_t work_len, uint8_t *indices, size_t index_count) {
+                                          size_t width, uint8_t alpha, uint8_t transparent_index, uint8_t strength,
+                                          uint8_t serpentine, pix_srgb8 *work, size_t work_len, uint8_t *indices,
+                                          size_t index_count) {
     const uint32_t fault = diffusion_fault(len, pixel_count, width, strength, serpentine, work_len, index_count);
     (void)work;
     if (!fault)
@@ -319,9 +320,9 @@ uint32_t pix_raw_diffuse_indexed_by_alpha(const pix_srgb8 *entries, size_t len, 
     return fault;
 }
 
-uint32_t pix_raw_diffuse_indexed_by(const pix_srgb8 *entries, size_t len, const pix_srgb8 *pixels, size_t pixel_count, size_t width,
-                              uint8_t strength, uint8_t serpentine, pix_srgb8 *work, size_t work_len, uint8_t *indices,
-                              size_t index_count) {
+uint32_t pix_raw_diffuse_indexed_by(const pix_srgb8 *entries, size_t len, const pix_srgb8 *pixels, size_t pixel_count,
+                                    size_t width, uint8_t strength, uint8_t serpentine, pix_srgb8 *work, size_t work_len,
+                                    uint8_t *indices, size_t index_count) {
     const uint32_t fault = diffusion_fault(len, pixel_count, width, strength, serpentine, work_len, index_count);
     pix_srgba8 *opaque;
     (void)work;
@@ -337,22 +338,22 @@ uint32_t pix_raw_diffuse_indexed_by(const pix_srgb8 *entries, size_t len, const 
     return PIX_OK;
 }
 
-uint32_t pix_raw_diffuse_indexed(const pix_srgb8 *entries, size_t len, const pix_srgb8 *pixels, size_t pixel_count, size_t width,
-                           pix_srgb8 *work, size_t work_len, uint8_t *indices, size_t index_count) {
+uint32_t pix_raw_diffuse_indexed(const pix_srgb8 *entries, size_t len, const pix_srgb8 *pixels, size_t pixel_count,
+                                 size_t width, pix_srgb8 *work, size_t work_len, uint8_t *indices, size_t index_count) {
     return pix_raw_diffuse_indexed_by(entries, len, pixels, pixel_count, width, 16, 0, work, work_len, indices, index_count);
 }
 
 uint32_t pix_raw_diffuse_indexed_alpha(const pix_srgb8 *entries, size_t len, const pix_srgba8 *pixels, size_t pixel_count,
-                                 size_t width, uint8_t alpha, uint8_t transparent_index, pix_srgb8 *work, size_t work_len, uint8_t *indices,
-                                 size_t index_count) {
-    return pix_raw_diffuse_indexed_by_alpha(entries, len, pixels, pixel_count, width, alpha, transparent_index, 16, 0, work, work_len, indices,
-                                      index_count);
+                                       size_t width, uint8_t alpha, uint8_t transparent_index, pix_srgb8 *work,
+                                       size_t work_len, uint8_t *indices, size_t index_count) {
+    return pix_raw_diffuse_indexed_by_alpha(entries, len, pixels, pixel_count, width, alpha, transparent_index, 16, 0, work,
+                                            work_len, indices, index_count);
 }
 
 /* Tables of colors with an alpha. */
 uint32_t pix_raw_diffuse_indexed_rgba(const pix_srgba8 *entries, size_t len, const pix_srgba8 *pixels, size_t pixel_count,
-                                size_t width, uint8_t strength, uint8_t serpentine, pix_srgba8 *work, size_t work_len,
-                                uint8_t *indices, size_t index_count) {
+                                      size_t width, uint8_t strength, uint8_t serpentine, pix_srgba8 *work, size_t work_len,
+                                      uint8_t *indices, size_t index_count) {
     const uint32_t fault = diffusion_fault(len, pixel_count, width, strength, serpentine, work_len, index_count);
     seen *table, *colors;
     uint8_t *is_apart;
@@ -373,7 +374,7 @@ uint32_t pix_raw_diffuse_indexed_rgba(const pix_srgba8 *entries, size_t len, con
 }
 
 uint32_t pix_raw_map_indexed_rgba(const pix_srgba8 *entries, size_t len, const pix_srgba8 *pixels, size_t pixel_count,
-                              uint8_t *indices, size_t index_count) {
+                                  uint8_t *indices, size_t index_count) {
     seen *table;
     if (!len || len > 256)
         return PIX_BAD_TABLE;
@@ -387,7 +388,7 @@ uint32_t pix_raw_map_indexed_rgba(const pix_srgba8 *entries, size_t len, const p
 }
 
 uint32_t pix_raw_look_up_rgba(const pix_srgba8 *entries, size_t len, const uint8_t *indices, size_t index_count,
-                                pix_srgba8 *pixels, size_t pixel_count) {
+                              pix_srgba8 *pixels, size_t pixel_count) {
     if (index_count != pixel_count)
         return PIX_BAD_LENGTH;
     for (size_t i = 0; i < index_count; i++)
@@ -398,8 +399,8 @@ uint32_t pix_raw_look_up_rgba(const pix_srgba8 *entries, size_t len, const uint8
     return PIX_OK;
 }
 
-uint32_t pix_raw_quantize_rgba(const pix_srgba8 *pixels, size_t pixel_count, uint8_t rounds, pix_srgba8 *work, size_t work_len,
-                             pix_srgba8 *entries, size_t len, size_t *made) {
+uint32_t pix_raw_quantize_rgba(const pix_srgba8 *pixels, size_t pixel_count, uint8_t rounds, pix_srgba8 *work,
+                               size_t work_len, pix_srgba8 *entries, size_t len, size_t *made) {
     seen table[256], *colors;
     size_t places[256];
     int is_cut;

@@ -87,7 +87,8 @@ static int shared(const diffusion *it, size_t k, int channel) {
 static void diffuse_at(const diffusion *it, size_t k, uint8_t *indices) {
     seen *wanted = &it->wanted[k];
     if (it->is_apart[k]) {
-        indices[k] = it->transparent_index < 0 ? seen_nearest(it->entries, it->len, it->pixels[k]) : (uint8_t)it->transparent_index;
+        const int index = it->transparent_index;
+        indices[k] = index < 0 ? seen_nearest(it->entries, it->len, it->pixels[k]) : (uint8_t)index;
         return;
     }
     wanted->n[3] = shared(it, k, 3);

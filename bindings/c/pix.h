@@ -85,7 +85,7 @@
 #include <string.h>
 
 /* The version of the library that this header belongs to. */
-#define PIX_VERSION "0.2.0"
+#define PIX_VERSION "0.3.0"
 
 #ifdef __cplusplus
 extern "C" {
@@ -171,7 +171,7 @@ typedef struct { pix_rgba8 *pixels; uint32_t width, height, stride; } pix_image;
 typedef struct { pix_rgba16 *pixels; uint32_t width, height, stride; } pix_image_rgba16;
 typedef struct { pix_graya8 *pixels; uint32_t width, height, stride; } pix_image_graya8;
 
-/* An image that is only read. */
+/* A view of an image that is only read, as a source is. */
 typedef struct { const pix_rgba8 *pixels; uint32_t width, height, stride; } pix_view;
 typedef struct { const pix_rgba16 *pixels; uint32_t width, height, stride; } pix_view_rgba16;
 typedef struct { const pix_graya8 *pixels; uint32_t width, height, stride; } pix_view_graya8;
@@ -272,7 +272,7 @@ static inline pix_matte16 pix_matte16_of(const uint16_t *values, uint32_t width,
     return matte;
 }
 
-/* An image as a source for another one. */
+/* A view of an image, to read it as a source for another one. */
 static inline pix_view pix_view_of_image(pix_image image);
 
 /* ---- Commands ----
@@ -375,7 +375,7 @@ static inline pix_status pix_run(pix_image image, const pix_command *commands, s
  * Returns what pix_run does, and PIX_BAD_SIZE too where left + width or top + height is above
  * 2147483647. */
 static inline pix_status pix_run_window(pix_image window, uint32_t left, uint32_t top, const pix_command *commands,
-                                    size_t count, size_t *done);
+                                        size_t count, size_t *done);
 
 /* Runs one command. */
 static inline pix_status pix_do(pix_image image, pix_command command);
@@ -474,10 +474,10 @@ static inline pix_status pix_nearest(pix_table table, pix_srgb8 color, uint8_t *
  * PIX_BAD_LENGTH (more pixels than an eighth of PTRDIFF_MAX), PIX_NULL or PIX_OVERLAP. */
 static inline pix_status pix_map_indexed(pix_table table, const pix_srgb8 *pixels, size_t count, uint8_t *indices);
 
-/* Does the same for pixels with an alpha. One whose alpha is below `alpha` gets the index `transparent_index`,
- * which may be that of a transparent entry. The alpha of the others is not looked at. Where all
- * pixels are below `alpha`, a table of no entry serves too: pix_quantize_alpha makes one of them.
- */
+/* Does the same for pixels with an alpha. One whose alpha is below `alpha` gets the index
+ * `transparent_index`, which may be that of a transparent entry. The alpha of the others is not
+ * looked at. Where all pixels are below `alpha`, a table of no entry serves too:
+ * pix_quantize_alpha makes one of them. */
 static inline pix_status pix_map_indexed_alpha(pix_table table, const pix_srgba8 *pixels, size_t count, uint8_t alpha,
                                                uint8_t transparent_index, uint8_t *indices);
 
@@ -494,12 +494,12 @@ static inline size_t pix_diffuse_indexed_work(size_t width);
  * pix_quantize_work(count) colors; for a large picture pass a sample of its pixels. Returns PIX_OK,
  * PIX_BAD_TABLE (`len` is 0 or above 256), PIX_BAD_LENGTH, PIX_NULL or PIX_OVERLAP. */
 static inline pix_status pix_quantize(const pix_srgb8 *pixels, size_t count, pix_srgb8 *work, pix_srgb8 *entries, size_t len,
-                                        size_t *made);
+                                      size_t *made);
 
 /* Does the same for pixels with an alpha. Those whose alpha is below `alpha` do not count. Where
  * none counts, `made` is 0. */
 static inline pix_status pix_quantize_alpha(const pix_srgba8 *pixels, size_t count, uint8_t alpha, pix_srgb8 *work,
-                                              pix_srgb8 *entries, size_t len, size_t *made);
+                                            pix_srgb8 *entries, size_t len, size_t *made);
 
 /* Do what pix_quantize and pix_quantize_alpha do. Where there are more distinct colors than
  * `len`, so many rounds then refine the table. In a round each color goes to its nearest entry, the
@@ -507,9 +507,9 @@ static inline pix_status pix_quantize_alpha(const pix_srgba8 *pixels, size_t cou
  * No round makes the sum of the squared errors greater. A round takes about as long as
  * pix_map_indexed, and six are enough for most pictures. */
 static inline pix_status pix_quantize_refined(const pix_srgb8 *pixels, size_t count, uint8_t rounds, pix_srgb8 *work,
-                                                pix_srgb8 *entries, size_t len, size_t *made);
+                                              pix_srgb8 *entries, size_t len, size_t *made);
 static inline pix_status pix_quantize_refined_alpha(const pix_srgba8 *pixels, size_t count, uint8_t alpha, uint8_t rounds,
-                                                      pix_srgb8 *work, pix_srgb8 *entries, size_t len, size_t *made);
+                                                    pix_srgb8 *work, pix_srgb8 *entries, size_t len, size_t *made);
 
 /* Writes the index of each of `count` pixels, in rows of `width`, with error diffusion (Floyd and
  * Steinberg). It is the index of the entry that is nearest to the color that is wanted there.
@@ -522,11 +522,12 @@ static inline pix_status pix_quantize_refined_alpha(const pix_srgba8 *pixels, si
  *
  * `work` has pix_diffuse_indexed_work(width) colors. Returns what pix_map_indexed does, and
  * PIX_BAD_LENGTH too where `width` is 0 or more than memory holds. */
-static inline pix_status pix_diffuse_indexed(pix_table table, const pix_srgb8 *pixels, size_t count, size_t width, pix_srgb8 *work,
-                                             uint8_t *indices);
+static inline pix_status pix_diffuse_indexed(pix_table table, const pix_srgb8 *pixels, size_t count, size_t width,
+                                             pix_srgb8 *work, uint8_t *indices);
 
-/* Does the same for pixels with an alpha. One whose alpha is below `alpha` gets the index `transparent_index`,
- * and passes on no error. Where all are below, a table of no entry serves too. */
+/* Does the same for pixels with an alpha. One whose alpha is below `alpha` gets the index
+ * `transparent_index`, and passes on no error. Where all are below, a table of no entry serves too.
+ */
 static inline pix_status pix_diffuse_indexed_alpha(pix_table table, const pix_srgba8 *pixels, size_t count, size_t width,
                                                    uint8_t alpha, uint8_t transparent_index, pix_srgb8 *work, uint8_t *indices);
 
@@ -540,16 +541,15 @@ static inline pix_status pix_diffuse_indexed_alpha(pix_table table, const pix_sr
  *     rows that all go one way. */
 typedef struct { uint8_t strength; bool serpentine; } pix_diffusion;
 
-/* Do what pix_diffuse_indexed and pix_diffuse_indexed_alpha do, in the way that `how` says. These
- * two have a strength of 16, and no row goes from right to left. What is wanted at a pixel is
- * rounded once, after its share is multiplied. Return PIX_BAD_STRENGTH too where the strength is
- * above 16, and PIX_BAD_LENGTH where `serpentine` rows are not whole: `count` is a multiple of
- * `width` then. */
+/* Do what pix_diffuse_indexed and pix_diffuse_indexed_alpha do, as `how` says. These two have a
+ * strength of 16, and no row goes from right to left. What is wanted at a pixel is rounded once,
+ * after its share is multiplied. Return PIX_BAD_STRENGTH too where the strength is above 16, and
+ * PIX_BAD_LENGTH where `serpentine` rows are not whole: `count` is a multiple of `width` then. */
 static inline pix_status pix_diffuse_indexed_by(pix_table table, const pix_srgb8 *pixels, size_t count, size_t width,
                                                 pix_diffusion how, pix_srgb8 *work, uint8_t *indices);
 static inline pix_status pix_diffuse_indexed_by_alpha(pix_table table, const pix_srgba8 *pixels, size_t count, size_t width,
-                                                      uint8_t alpha, uint8_t transparent_index, pix_diffusion how, pix_srgb8 *work,
-                                                      uint8_t *indices);
+                                                      uint8_t alpha, uint8_t transparent_index, pix_diffusion how,
+                                                      pix_srgb8 *work, uint8_t *indices);
 
 /* Sets the color of each of `count` pixels in a table, one after the other, and writes its index.
  * That is the index of the entry that stands for the color, or of the next entry, which is then set
@@ -613,7 +613,7 @@ static inline pix_table_rgba pix_table_rgba_of(const pix_srgba8 *entries, size_t
  * What is found is divided by its alpha in the end, and is still seen as just that. `work` has
  * pix_quantize_work(count) pixels. */
 static inline pix_status pix_quantize_rgba(const pix_srgba8 *pixels, size_t count, uint8_t rounds, pix_srgba8 *work,
-                                             pix_srgba8 *entries, size_t len, size_t *made);
+                                           pix_srgba8 *entries, size_t len, size_t *made);
 
 /* Writes for each of `count` pixels the index of the entry that is seen nearest to it, the first of
  * equals. Returns what pix_map_indexed does. */
@@ -709,79 +709,80 @@ typedef struct {
 
 /* ---- What libpix_c.a has ----
  *
- * The functions above call these, which are proved. They test sizes, kinds, regions, operators,
- * sources, formats, lengths, tables, indices, depths and strengths. Here no pointer may be null or
- * badly aligned, even where its length is 0, and even in commands of kinds that do not use it. The
- * image, `done` and `dst` may share memory with nothing else that is passed. Lengths are counted in
- * elements. `stride` is at least the width, and 0 does not stand for it. `serpentine` is 0 where
- * all rows go from left to right. */
+ * The functions above call these, which are proved: pix_X calls pix_raw_X. They test sizes, kinds,
+ * regions, operators, sources, formats, lengths, tables, indices, depths and strengths. Here no
+ * pointer may be null or badly aligned, even where its length is 0, and even in commands of kinds
+ * that do not use it. The image, `done` and `dst` may share memory with nothing else that is
+ * passed. Lengths are counted in elements. `stride` is at least the width, and 0 does not stand for
+ * it. `serpentine` is 0 where all rows go from left to right. */
 
 uint32_t pix_raw_run(pix_rgba8 *pixels, size_t pixel_count, uint32_t width, uint32_t height, uint32_t stride,
-                          const pix_command *commands, size_t command_count, size_t *done);
+                     const pix_command *commands, size_t command_count, size_t *done);
 uint32_t pix_raw_run_rgba16(pix_rgba16 *pixels, size_t pixel_count, uint32_t width, uint32_t height,
-                                 uint32_t stride, const pix_command_rgba16 *commands, size_t command_count,
-                                 size_t *done);
+                            uint32_t stride, const pix_command_rgba16 *commands, size_t command_count,
+                            size_t *done);
 uint32_t pix_raw_run_graya8(pix_graya8 *pixels, size_t pixel_count, uint32_t width, uint32_t height,
-                                 uint32_t stride, const pix_command_graya8 *commands, size_t command_count,
-                                 size_t *done);
+                            uint32_t stride, const pix_command_graya8 *commands, size_t command_count,
+                            size_t *done);
 uint32_t pix_raw_run_window(pix_rgba8 *pixels, size_t pixel_count, uint32_t left, uint32_t top, uint32_t width,
-                        uint32_t height, uint32_t stride, const pix_command *commands, size_t command_count,
-                        size_t *done);
+                            uint32_t height, uint32_t stride, const pix_command *commands, size_t command_count,
+                            size_t *done);
 uint32_t pix_raw_run_window_rgba16(pix_rgba16 *pixels, size_t pixel_count, uint32_t left, uint32_t top,
-                               uint32_t width, uint32_t height, uint32_t stride,
-                               const pix_command_rgba16 *commands, size_t command_count, size_t *done);
+                                   uint32_t width, uint32_t height, uint32_t stride,
+                                   const pix_command_rgba16 *commands, size_t command_count, size_t *done);
 uint32_t pix_raw_run_window_graya8(pix_graya8 *pixels, size_t pixel_count, uint32_t left, uint32_t top,
-                               uint32_t width, uint32_t height, uint32_t stride,
-                               const pix_command_graya8 *commands, size_t command_count, size_t *done);
+                                   uint32_t width, uint32_t height, uint32_t stride,
+                                   const pix_command_graya8 *commands, size_t command_count, size_t *done);
 uint32_t pix_raw_convert(uint32_t from, uint32_t to, const uint8_t *src, size_t src_len, uint8_t *dst, size_t dst_len,
-                           size_t count);
+                         size_t count);
 
 /* Bitmaps: `src` and `dst` begin with the row that is lowest in memory, and have the bytes up to
  * the end of the row that is highest. Strides are counted in bytes, and 0 does not stand for the
  * width. A negative stride says that the first row in memory is the bottom one. */
 uint32_t pix_raw_convert_bitmap(uint32_t from, uint32_t to, const uint8_t *src, size_t src_len, uint8_t *dst, size_t dst_len,
-                          int64_t src_stride, int64_t dst_stride, uint32_t width, uint32_t height);
+                                int64_t src_stride, int64_t dst_stride, uint32_t width, uint32_t height);
 uint32_t pix_raw_format_size(uint32_t format);
 uint32_t pix_raw_nearest(const pix_srgb8 *entries, size_t len, const pix_srgb8 *color, uint8_t *index);
 uint32_t pix_raw_map_indexed(const pix_srgb8 *entries, size_t len, const pix_srgb8 *pixels, size_t pixel_count,
-                         uint8_t *indices, size_t index_count);
+                             uint8_t *indices, size_t index_count);
 uint32_t pix_raw_map_indexed_alpha(const pix_srgb8 *entries, size_t len, const pix_srgba8 *pixels, size_t pixel_count,
-                               uint8_t alpha, uint8_t transparent_index, uint8_t *indices, size_t index_count);
+                                   uint8_t alpha, uint8_t transparent_index, uint8_t *indices, size_t index_count);
 uint32_t pix_raw_quantize(const pix_srgb8 *pixels, size_t pixel_count, pix_srgb8 *work, size_t work_len, pix_srgb8 *entries,
-                        size_t len, size_t *made);
+                          size_t len, size_t *made);
 uint32_t pix_raw_quantize_alpha(const pix_srgba8 *pixels, size_t pixel_count, uint8_t alpha, pix_srgb8 *work, size_t work_len,
-                              pix_srgb8 *entries, size_t len, size_t *made);
+                                pix_srgb8 *entries, size_t len, size_t *made);
 uint32_t pix_raw_quantize_refined(const pix_srgb8 *pixels, size_t pixel_count, uint8_t rounds, pix_srgb8 *work, size_t work_len,
-                           pix_srgb8 *entries, size_t len, size_t *made);
-uint32_t pix_raw_quantize_refined_alpha(const pix_srgba8 *pixels, size_t pixel_count, uint8_t alpha, uint8_t rounds, pix_srgb8 *work,
-                                 size_t work_len, pix_srgb8 *entries, size_t len, size_t *made);
-uint32_t pix_raw_diffuse_indexed(const pix_srgb8 *entries, size_t len, const pix_srgb8 *pixels, size_t pixel_count, size_t width,
-                           pix_srgb8 *work, size_t work_len, uint8_t *indices, size_t index_count);
+                                  pix_srgb8 *entries, size_t len, size_t *made);
+uint32_t pix_raw_quantize_refined_alpha(const pix_srgba8 *pixels, size_t pixel_count, uint8_t alpha, uint8_t rounds,
+                                        pix_srgb8 *work, size_t work_len, pix_srgb8 *entries, size_t len, size_t *made);
+uint32_t pix_raw_diffuse_indexed(const pix_srgb8 *entries, size_t len, const pix_srgb8 *pixels, size_t pixel_count,
+                                 size_t width, pix_srgb8 *work, size_t work_len, uint8_t *indices, size_t index_count);
 uint32_t pix_raw_diffuse_indexed_alpha(const pix_srgb8 *entries, size_t len, const pix_srgba8 *pixels, size_t pixel_count,
-                                 size_t width, uint8_t alpha, uint8_t transparent_index, pix_srgb8 *work, size_t work_len, uint8_t *indices,
-                                 size_t index_count);
-uint32_t pix_raw_diffuse_indexed_by(const pix_srgb8 *entries, size_t len, const pix_srgb8 *pixels, size_t pixel_count, size_t width,
-                              uint8_t strength, uint8_t serpentine, pix_srgb8 *work, size_t work_len, uint8_t *indices,
-                              size_t index_count);
+                                       size_t width, uint8_t alpha, uint8_t transparent_index, pix_srgb8 *work, size_t work_len,
+                                       uint8_t *indices, size_t index_count);
+uint32_t pix_raw_diffuse_indexed_by(const pix_srgb8 *entries, size_t len, const pix_srgb8 *pixels, size_t pixel_count,
+                                    size_t width, uint8_t strength, uint8_t serpentine, pix_srgb8 *work, size_t work_len,
+                                    uint8_t *indices, size_t index_count);
 uint32_t pix_raw_diffuse_indexed_by_alpha(const pix_srgb8 *entries, size_t len, const pix_srgba8 *pixels, size_t pixel_count,
-                                    size_t width, uint8_t alpha, uint8_t transparent_index, uint8_t strength, uint8_t serpentine,
-                                    pix_srgb8 *work, size_t work_len, uint8_t *indices, size_t index_count);
+                                          size_t width, uint8_t alpha, uint8_t transparent_index, uint8_t strength,
+                                          uint8_t serpentine, pix_srgb8 *work, size_t work_len, uint8_t *indices,
+                                          size_t index_count);
 uint32_t pix_raw_index_pixels(pix_srgb8 *entries, size_t len, size_t *used, const pix_srgb8 *threshold, const pix_srgb8 *pixels,
-                         size_t pixel_count, uint8_t *indices, size_t index_count);
+                              size_t pixel_count, uint8_t *indices, size_t index_count);
 uint32_t pix_raw_look_up(const pix_srgb8 *entries, size_t len, const uint8_t *indices, size_t index_count,
-                           pix_srgb8 *pixels, size_t pixel_count);
+                         pix_srgb8 *pixels, size_t pixel_count);
 uint32_t pix_raw_count_indices(const uint8_t *indices, size_t index_count, size_t *counts, size_t len);
 uint32_t pix_raw_pack_row(uint32_t bits, const uint8_t *indices, size_t index_count, uint8_t *bytes, size_t byte_count);
 uint32_t pix_raw_unpack_row(uint32_t bits, const uint8_t *bytes, size_t byte_count, uint8_t *indices, size_t index_count);
 uint32_t pix_raw_quantize_rgba(const pix_srgba8 *pixels, size_t pixel_count, uint8_t rounds, pix_srgba8 *work, size_t work_len,
-                             pix_srgba8 *entries, size_t len, size_t *made);
+                               pix_srgba8 *entries, size_t len, size_t *made);
 uint32_t pix_raw_map_indexed_rgba(const pix_srgba8 *entries, size_t len, const pix_srgba8 *pixels, size_t pixel_count,
-                              uint8_t *indices, size_t index_count);
+                                  uint8_t *indices, size_t index_count);
 uint32_t pix_raw_diffuse_indexed_rgba(const pix_srgba8 *entries, size_t len, const pix_srgba8 *pixels, size_t pixel_count,
-                                size_t width, uint8_t strength, uint8_t serpentine, pix_srgba8 *work, size_t work_len,
-                                uint8_t *indices, size_t index_count);
+                                      size_t width, uint8_t strength, uint8_t serpentine, pix_srgba8 *work, size_t work_len,
+                                      uint8_t *indices, size_t index_count);
 uint32_t pix_raw_look_up_rgba(const pix_srgba8 *entries, size_t len, const uint8_t *indices, size_t index_count,
-                                pix_srgba8 *pixels, size_t pixel_count);
+                              pix_srgba8 *pixels, size_t pixel_count);
 
 /* Fact number `index` of the library. The first is its version; the sizes and offsets of PIX_FACTS_
  * in bytes follow, in that order. Past the last one it is UINT32_MAX. */
@@ -789,8 +790,8 @@ uint32_t pix_layout(size_t index);
 
 /* The version of the binary interface. It changes where a call, a number or a layout changes; a
  * program that was compiled with an older header then does not run. It is the number in the soname,
- * libpix.so.1, and pix_layout(0) returns it. */
-#define PIX_ABI_VERSION 1
+ * libpix.so.2, and pix_layout(0) returns it. */
+#define PIX_ABI_VERSION 2
 
 /* ---- Definitions. Nothing below is for callers. ---- */
 
@@ -928,12 +929,12 @@ static inline const char *pix_status_text(pix_status status) {
         pix_image##S image = {pixels, width, height, width};                                                           \
         return image;                                                                                                  \
     }                                                                                                                  \
-    static inline pix_view##S pix_view_of##S(const PIXEL *pixels, uint32_t width, uint32_t height) {               \
-        pix_view##S source = {pixels, width, height, width};                                                         \
+    static inline pix_view##S pix_view_of##S(const PIXEL *pixels, uint32_t width, uint32_t height) {                   \
+        pix_view##S source = {pixels, width, height, width};                                                           \
         return source;                                                                                                 \
     }                                                                                                                  \
-    static inline pix_view##S pix_view_of_image##S(pix_image##S image) {                                           \
-        pix_view##S source = {image.pixels, image.width, image.height, image.stride};                                \
+    static inline pix_view##S pix_view_of_image##S(pix_image##S image) {                                               \
+        pix_view##S source = {image.pixels, image.width, image.height, image.stride};                                  \
         return source;                                                                                                 \
     }                                                                                                                  \
     /* A command without a source. */                                                                                  \
@@ -956,7 +957,7 @@ static inline const char *pix_status_text(pix_status status) {
         command.color = color;                                                                                         \
         return command;                                                                                                \
     }                                                                                                                  \
-    static inline pix_command##S pix_copy_image##S(pix_region to, pix_view##S source, pix_region from) {             \
+    static inline pix_command##S pix_copy_image##S(pix_region to, pix_view##S source, pix_region from) {               \
         pix_command##S command = pix_command_of_##S(PIX_KIND_COPY_IMAGE, PIX_OP_SRC, to, from);                        \
         PIX_NOTE_(source, pixels, pixels, pixel_count);                                                                \
         return command;                                                                                                \
@@ -966,7 +967,7 @@ static inline const char *pix_status_text(pix_status status) {
         command.color = color;                                                                                         \
         return command;                                                                                                \
     }                                                                                                                  \
-    static inline pix_command##S pix_composite_image##S(pix_region to, pix_view##S source, pix_region from,          \
+    static inline pix_command##S pix_composite_image##S(pix_region to, pix_view##S source, pix_region from,            \
                                                         pix_op op) {                                                   \
         pix_command##S command = pix_command_of_##S(PIX_KIND_COMPOSITE_IMAGE, op, to, from);                           \
         PIX_NOTE_(source, pixels, pixels, pixel_count);                                                                \
@@ -979,14 +980,14 @@ static inline const char *pix_status_text(pix_status status) {
         PIX_NOTE_(matte, mattes, values, matte_count);                                                                 \
         return command;                                                                                                \
     }                                                                                                                  \
-    static inline pix_command##S pix_composite_image_matte##S(pix_region to, pix_view##S source, pix_region from,    \
+    static inline pix_command##S pix_composite_image_matte##S(pix_region to, pix_view##S source, pix_region from,      \
                                                               MATTE matte, pix_region matte_from, pix_op op) {         \
         pix_command##S command = pix_command_of_##S(PIX_KIND_COMPOSITE_IMAGE_MATTE, op, to, from);                     \
         PIX_NOTE_(source, pixels, pixels, pixel_count);                                                                \
         PIX_NOTE_MASK_(matte, matte_from);                                                                             \
         return command;                                                                                                \
     }                                                                                                                  \
-    static inline pix_command##S pix_composite_image_alpha##S(pix_region to, pix_view##S source, pix_region from,    \
+    static inline pix_command##S pix_composite_image_alpha##S(pix_region to, pix_view##S source, pix_region from,      \
                                                               VALUE opacity, pix_op op) {                              \
         pix_command##S command = pix_command_of_##S(PIX_KIND_COMPOSITE_IMAGE_ALPHA, op, to, from);                     \
         PIX_NOTE_(source, pixels, pixels, pixel_count);                                                                \
@@ -1020,11 +1021,11 @@ static inline const char *pix_status_text(pix_status status) {
             at += status == PIX_OK;                                                                                    \
         }                                                                                                              \
         if (status == PIX_OK && corner)                                                                                \
-            status = (pix_status)pix_raw_run_window##S((PIXEL *)pixels, extent, corner[0], corner[1], image.width,         \
-                                                   image.height, stride, (const pix_command##S *)list, count, &at);    \
+            status = (pix_status)pix_raw_run_window##S((PIXEL *)pixels, extent, corner[0], corner[1], image.width,     \
+                                                       image.height, stride, (const pix_command##S *)list, count, &at); \
         else if (status == PIX_OK)                                                                                     \
-            status = (pix_status)pix_raw_run##S((PIXEL *)pixels, extent, image.width, image.height, stride,       \
-                                                     (const pix_command##S *)list, count, &at);                        \
+            status = (pix_status)pix_raw_run##S((PIXEL *)pixels, extent, image.width, image.height, stride,            \
+                                                (const pix_command##S *)list, count, &at);                             \
         if (done && !is_inside)                                                                                        \
             *done = at;                                                                                                \
         return status;                                                                                                 \
@@ -1033,8 +1034,8 @@ static inline const char *pix_status_text(pix_status status) {
                                         size_t *done) {                                                                \
         return pix_call_##S(image, NULL, commands, count, done);                                                       \
     }                                                                                                                  \
-    static inline pix_status pix_run_window##S(pix_image##S window, uint32_t left, uint32_t top,                           \
-                                           const pix_command##S *commands, size_t count, size_t *done) {               \
+    static inline pix_status pix_run_window##S(pix_image##S window, uint32_t left, uint32_t top,                       \
+                                               const pix_command##S *commands, size_t count, size_t *done) {           \
         uint32_t corner[2];                                                                                            \
         corner[0] = left;                                                                                              \
         corner[1] = top;                                                                                               \
@@ -1071,7 +1072,7 @@ static inline pix_status pix_convert(pix_format from, pix_format to, const void 
     if (status != PIX_OK)
         return status;
     return (pix_status)pix_raw_convert((uint32_t)from, (uint32_t)to, (const uint8_t *)src, count * src_size,
-                                         (uint8_t *)dst, count * dst_size, count);
+                                       (uint8_t *)dst, count * dst_size, count);
 }
 
 static inline pix_bitmap pix_bitmap_of(void *pixels, uint32_t width, uint32_t height, pix_format format) {
@@ -1080,7 +1081,7 @@ static inline pix_bitmap pix_bitmap_of(void *pixels, uint32_t width, uint32_t he
 }
 
 static inline pix_bitmap_view pix_bitmap_view_of(const void *pixels, uint32_t width, uint32_t height,
-                                                     pix_format format) {
+                                                 pix_format format) {
     pix_bitmap_view image = {pixels, width, height, 0, format};
     return image;
 }
@@ -1127,8 +1128,8 @@ static inline pix_status pix_convert_bitmap(pix_bitmap_view src, pix_bitmap dst)
     if (status != PIX_OK)
         return status;
     return (pix_status)pix_raw_convert_bitmap((uint32_t)src.format, (uint32_t)dst.format, read.lowest, read.length,
-                                        (uint8_t *)(uintptr_t)written.lowest, written.length, read.stride, written.stride,
-                                        dst.width, dst.height);
+                                              (uint8_t *)(uintptr_t)written.lowest, written.length, read.stride, written.stride,
+                                              dst.width, dst.height);
 }
 
 static inline pix_status pix_convert_in_place(pix_bitmap image, pix_format to) {
@@ -1154,7 +1155,7 @@ static inline pix_status pix_convert_in_place(pix_bitmap image, pix_format to) {
             size_t read = (size_t)(count * size), written = (size_t)(count * to_size);
             memcpy(block, row + x * size, read);
             pix_raw_convert_bitmap((uint32_t)image.format, (uint32_t)to, block, read, row + x * to_size, written, (int64_t)read,
-                             (int64_t)written, count, 1);
+                                   (int64_t)written, count, 1);
         }
     }
     return PIX_OK;
@@ -1200,11 +1201,11 @@ static inline pix_region pix_copy_of_(pix_region to, uint32_t width, uint32_t he
     static inline PIXEL pix_color_of##S(pix_format format, const void *pixel) {                                        \
         PIXEL color;                                                                                                   \
         memset(&color, 0, sizeof color);                                                                               \
-        pix_convert_bitmap(pix_bitmap_view_of(pixel, 1, 1, format), pix_bitmap_of(&color, 1, 1, FORMAT));            \
+        pix_convert_bitmap(pix_bitmap_view_of(pixel, 1, 1, format), pix_bitmap_of(&color, 1, 1, FORMAT));              \
         return color;                                                                                                  \
     }                                                                                                                  \
     static inline uint64_t pix_repeat_image##S(pix_command##S *commands, uint64_t room, pix_region to,                 \
-                                               pix_view##S source, pix_region from, pix_op op) {                     \
+                                               pix_view##S source, pix_region from, pix_op op) {                       \
         const uint64_t columns = pix_copies_(to.x, to.width, from.width);                                              \
         const uint64_t count = columns * pix_copies_(to.y, to.height, from.height);                                    \
         uint64_t i;                                                                                                    \
@@ -1273,7 +1274,8 @@ static inline pix_status pix_map_indexed(pix_table table, const pix_srgb8 *pixel
 }
 
 /* Writes the index of each pixel where there is no entry: all of them are below `alpha`. */
-static inline pix_status pix_keep_all_(const pix_srgba8 *pixels, size_t count, uint8_t alpha, uint8_t transparent_index, uint8_t *indices) {
+static inline pix_status pix_map_none_(const pix_srgba8 *pixels, size_t count, uint8_t alpha, uint8_t transparent_index,
+                                       uint8_t *indices) {
     size_t i;
     for (i = 0; i < count; i++)
         if (pixels[i].a >= alpha)
@@ -1304,8 +1306,9 @@ static inline pix_status pix_map_indexed_alpha(pix_table table, const pix_srgba8
     if (status != PIX_OK)
         return status;
     if (!table.len)
-        return pix_keep_all_(pixels, count, alpha, transparent_index, indices);
-    return (pix_status)pix_raw_map_indexed_alpha(table.entries, table.len, pixels, count, alpha, transparent_index, indices, count);
+        return pix_map_none_(pixels, count, alpha, transparent_index, indices);
+    return (pix_status)pix_raw_map_indexed_alpha(table.entries, table.len, pixels, count, alpha, transparent_index, indices,
+                                                 count);
 }
 
 static inline size_t pix_quantize_work(size_t count) {
@@ -1319,7 +1322,7 @@ static inline size_t pix_diffuse_indexed_work(size_t width) {
 /* Tests what a table is made of and in. Each of the pixels is so many bytes, and so is each color of
  * the work memory and of the entries. */
 static inline pix_status pix_quantizes_(const void *pixels, size_t size, size_t count, const void *work, const void *entries,
-                                          size_t color_size, size_t len, const size_t *made) {
+                                        size_t color_size, size_t len, const size_t *made) {
     const size_t bytes = count * size, work_bytes = count * color_size, table_bytes = len * color_size;
     pix_status status = made ? PIX_OK : PIX_NULL;
     if (!len || len > 256)
@@ -1342,7 +1345,7 @@ static inline pix_status pix_quantizes_(const void *pixels, size_t size, size_t 
 }
 
 static inline pix_status pix_quantize(const pix_srgb8 *pixels, size_t count, pix_srgb8 *work, pix_srgb8 *entries, size_t len,
-                                        size_t *made) {
+                                      size_t *made) {
     const pix_srgb8 none = {0, 0, 0};
     pix_srgb8 nothing = {0, 0, 0};
     pix_status status;
@@ -1357,7 +1360,7 @@ static inline pix_status pix_quantize(const pix_srgb8 *pixels, size_t count, pix
 }
 
 static inline pix_status pix_quantize_alpha(const pix_srgba8 *pixels, size_t count, uint8_t alpha, pix_srgb8 *work,
-                                              pix_srgb8 *entries, size_t len, size_t *made) {
+                                            pix_srgb8 *entries, size_t len, size_t *made) {
     const pix_srgba8 none = {0, 0, 0, 0};
     pix_srgb8 nothing = {0, 0, 0};
     pix_status status;
@@ -1372,7 +1375,7 @@ static inline pix_status pix_quantize_alpha(const pix_srgba8 *pixels, size_t cou
 }
 
 static inline pix_status pix_quantize_refined(const pix_srgb8 *pixels, size_t count, uint8_t rounds, pix_srgb8 *work,
-                                                pix_srgb8 *entries, size_t len, size_t *made) {
+                                              pix_srgb8 *entries, size_t len, size_t *made) {
     const pix_srgb8 none = {0, 0, 0};
     pix_srgb8 nothing = {0, 0, 0};
     pix_status status;
@@ -1387,7 +1390,7 @@ static inline pix_status pix_quantize_refined(const pix_srgb8 *pixels, size_t co
 }
 
 static inline pix_status pix_quantize_refined_alpha(const pix_srgba8 *pixels, size_t count, uint8_t alpha, uint8_t rounds,
-                                                      pix_srgb8 *work, pix_srgb8 *entries, size_t len, size_t *made) {
+                                                    pix_srgb8 *work, pix_srgb8 *entries, size_t len, size_t *made) {
     const pix_srgba8 none = {0, 0, 0, 0};
     pix_srgb8 nothing = {0, 0, 0};
     pix_status status;
@@ -1401,7 +1404,7 @@ static inline pix_status pix_quantize_refined_alpha(const pix_srgba8 *pixels, si
     return (pix_status)pix_raw_quantize_refined_alpha(pixels, count, alpha, rounds, work, count, entries, len, made);
 }
 
-/* Tests the way that errors are diffused, and the lengths. */
+/* Tests how errors are diffused, and the lengths. */
 static inline pix_status pix_diffuses_by_(pix_diffusion how, size_t count, size_t width) {
     const size_t work_len = pix_diffuse_indexed_work(width);
     if (how.strength > 16)
@@ -1426,8 +1429,8 @@ static inline pix_status pix_diffuses_(const void *entries, size_t table_bytes, 
     return status;
 }
 
-static inline pix_status pix_diffuse_indexed(pix_table table, const pix_srgb8 *pixels, size_t count, size_t width, pix_srgb8 *work,
-                                             uint8_t *indices) {
+static inline pix_status pix_diffuse_indexed(pix_table table, const pix_srgb8 *pixels, size_t count, size_t width,
+                                             pix_srgb8 *work, uint8_t *indices) {
     const pix_diffusion how = {16, false};
     const pix_srgb8 none = {0, 0, 0};
     const size_t work_len = pix_diffuse_indexed_work(width);
@@ -1449,7 +1452,8 @@ static inline pix_status pix_diffuse_indexed(pix_table table, const pix_srgb8 *p
 }
 
 static inline pix_status pix_diffuse_indexed_alpha(pix_table table, const pix_srgba8 *pixels, size_t count, size_t width,
-                                                   uint8_t alpha, uint8_t transparent_index, pix_srgb8 *work, uint8_t *indices) {
+                                                   uint8_t alpha, uint8_t transparent_index, pix_srgb8 *work,
+                                                   uint8_t *indices) {
     const pix_diffusion how = {16, false};
     const pix_srgba8 none = {0, 0, 0, 0};
     const pix_srgb8 no_entry = {0, 0, 0};
@@ -1471,9 +1475,9 @@ static inline pix_status pix_diffuse_indexed_alpha(pix_table table, const pix_sr
     if (status != PIX_OK)
         return status;
     if (!table.len)
-        return pix_keep_all_(pixels, count, alpha, transparent_index, indices);
-    return (pix_status)pix_raw_diffuse_indexed_alpha(table.entries, table.len, pixels, count, width, alpha, transparent_index, work, work_len,
-                                               indices, count);
+        return pix_map_none_(pixels, count, alpha, transparent_index, indices);
+    return (pix_status)pix_raw_diffuse_indexed_alpha(table.entries, table.len, pixels, count, width, alpha, transparent_index,
+                                                     work, work_len, indices, count);
 }
 
 static inline pix_status pix_diffuse_indexed_by(pix_table table, const pix_srgb8 *pixels, size_t count, size_t width,
@@ -1494,13 +1498,13 @@ static inline pix_status pix_diffuse_indexed_by(pix_table table, const pix_srgb8
                            work_len * sizeof *work, indices, count);
     if (status != PIX_OK)
         return status;
-    return (pix_status)pix_raw_diffuse_indexed_by(table.entries, table.len, pixels, count, width, how.strength, how.serpentine, work,
-                                            work_len, indices, count);
+    return (pix_status)pix_raw_diffuse_indexed_by(table.entries, table.len, pixels, count, width, how.strength, how.serpentine,
+                                                  work, work_len, indices, count);
 }
 
 static inline pix_status pix_diffuse_indexed_by_alpha(pix_table table, const pix_srgba8 *pixels, size_t count, size_t width,
-                                                      uint8_t alpha, uint8_t transparent_index, pix_diffusion how, pix_srgb8 *work,
-                                                      uint8_t *indices) {
+                                                      uint8_t alpha, uint8_t transparent_index, pix_diffusion how,
+                                                      pix_srgb8 *work, uint8_t *indices) {
     const pix_srgba8 none = {0, 0, 0, 0};
     const pix_srgb8 no_entry = {0, 0, 0};
     const size_t work_len = pix_diffuse_indexed_work(width);
@@ -1521,9 +1525,10 @@ static inline pix_status pix_diffuse_indexed_by_alpha(pix_table table, const pix
     if (status != PIX_OK)
         return status;
     if (!table.len)
-        return pix_keep_all_(pixels, count, alpha, transparent_index, indices);
-    return (pix_status)pix_raw_diffuse_indexed_by_alpha(table.entries, table.len, pixels, count, width, alpha, transparent_index, how.strength,
-                                                  how.serpentine, work, work_len, indices, count);
+        return pix_map_none_(pixels, count, alpha, transparent_index, indices);
+    return (pix_status)pix_raw_diffuse_indexed_by_alpha(table.entries, table.len, pixels, count, width, alpha,
+                                                        transparent_index, how.strength, how.serpentine, work, work_len,
+                                                        indices, count);
 }
 
 static inline pix_status pix_index_pixels(pix_srgb8 *entries, size_t len, size_t *used, pix_srgb8 threshold,
@@ -1642,7 +1647,7 @@ static inline pix_table_rgba pix_table_rgba_of(const pix_srgba8 *entries, size_t
 }
 
 static inline pix_status pix_quantize_rgba(const pix_srgba8 *pixels, size_t count, uint8_t rounds, pix_srgba8 *work,
-                                             pix_srgba8 *entries, size_t len, size_t *made) {
+                                           pix_srgba8 *entries, size_t len, size_t *made) {
     const pix_srgba8 none = {0, 0, 0, 0};
     pix_srgba8 nothing = {0, 0, 0, 0};
     pix_status status;
@@ -1694,8 +1699,8 @@ static inline pix_status pix_diffuse_indexed_rgba(pix_table_rgba table, const pi
                            work_len * sizeof *work, indices, count);
     if (status != PIX_OK)
         return status;
-    return (pix_status)pix_raw_diffuse_indexed_rgba(table.entries, table.len, pixels, count, width, how.strength, how.serpentine,
-                                              work, work_len, indices, count);
+    return (pix_status)pix_raw_diffuse_indexed_rgba(table.entries, table.len, pixels, count, width, how.strength,
+                                                    how.serpentine, work, work_len, indices, count);
 }
 
 static inline pix_status pix_look_up_rgba(pix_table_rgba table, const uint8_t *indices, size_t count, pix_srgba8 *pixels) {

@@ -47,7 +47,7 @@ static void fill(void) {
     static pix_status run##S(void) {                                                                                   \
         const pix_region whole = pix_region_of(0, 0, SIDE, SIDE);                                                      \
         const pix_image##S image = pix_image_of##S(pixels##S, SIDE, SIDE);                                             \
-        const pix_view##S from = pix_view_of##S(source##S, SIDE, SIDE);                                            \
+        const pix_view##S from = pix_view_of##S(source##S, SIDE, SIDE);                                                \
         const MATTE mask = MATTE##_of(VALUES, SIDE, SIDE);                                                             \
         pix_status status = PIX_OK;                                                                                    \
         for (int i = 0; i < OPERATORS && status == PIX_OK; i++) {                                                      \
@@ -57,7 +57,7 @@ static void fill(void) {
                 list[k] = command_of##S((pix_kind)k, whole, from, whole, mask, whole, source##S[i], 99, op);           \
             status = pix_run##S(image, list, KINDS, NULL);                                                             \
             if (status == PIX_OK)                                                                                      \
-                status = pix_run_window##S(image, 7, 9, list, KINDS, NULL);                                                \
+                status = pix_run_window##S(image, 7, 9, list, KINDS, NULL);                                            \
             for (int k = 0; k < KINDS && status == PIX_OK; k++)                                                        \
                 status = pix_do##S(image, list[k]);                                                                    \
         }                                                                                                              \

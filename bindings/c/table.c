@@ -35,7 +35,7 @@ static void nearest(size_t len, unsigned levels) {
     pix_srgb8 entries[256];
     size_t i;
     uint8_t one = 0;
-    int same = 1, alone = 1, transparent_index = 1, colors = 1;
+    int same = 1, alone = 1, clear = 1, colors = 1;
     pix_table table = pix_table_of(entries, len);
     for (i = 0; i < len; i++)
         entries[i] = random_color(levels);
@@ -59,8 +59,8 @@ static void nearest(size_t len, unsigned levels) {
     check(colors, "an index has another color");
     check(pix_map_indexed_alpha(table, with_alpha, PIXELS, 128, 77, unpacked) == PIX_OK, "pixels with an alpha are mapped");
     for (i = 0; i < PIXELS; i++)
-        transparent_index &= unpacked[i] == (with_alpha[i].a < 128 ? 77 : indices[i]);
-    check(transparent_index, "a pixel with an alpha has another index");
+        clear &= unpacked[i] == (with_alpha[i].a < 128 ? 77 : indices[i]);
+    check(clear, "a pixel with an alpha has another index");
 }
 
 enum { ROOM = 256 };
@@ -152,7 +152,7 @@ static void refined_refused(void) {
     check(pix_quantize_refined(NULL, 0, 255, NULL, entries, 2, &count) == PIX_OK && count == 0, "a refined table of no pixels");
 }
 
-/* Errors are diffused as by the plain loops, and in the way of old where the strength is 16 and no row goes to the left. Rows from
+/* Errors are diffused as by the plain loops, and as before where the strength is 16 and no row goes to the left. Rows from
  * right to left are whole. */
 static void diffused(size_t len, size_t width, size_t count, pix_diffusion how) {
     const pix_diffusion old = {16, false};
@@ -180,11 +180,11 @@ static void diffused(size_t len, size_t width, size_t count, pix_diffusion how) 
     check(pix_diffuse_indexed_alpha(table, with_alpha, count, width, 150, 99, work, indices) == PIX_OK, "with an alpha");
     check(!memcmp(indices, unpacked, count), "an index by error diffusion with an alpha is another one");
     plain_diffuse(entries, len, with_alpha, count, width, 0, 0, how, unpacked);
-    check(pix_diffuse_indexed_by(table, pixels, count, width, how, work, indices) == PIX_OK, "in a way");
-    check(!memcmp(indices, unpacked, count), "an index by error diffusion in a way is another one");
+    check(pix_diffuse_indexed_by(table, pixels, count, width, how, work, indices) == PIX_OK, "in an order");
+    check(!memcmp(indices, unpacked, count), "an index by error diffusion in an order is another one");
     plain_diffuse(entries, len, with_alpha, count, width, 150, 99, how, unpacked);
     check(pix_diffuse_indexed_by_alpha(table, with_alpha, count, width, 150, 99, how, work, indices) == PIX_OK, "both");
-    check(!memcmp(indices, unpacked, count), "an index by error diffusion in a way with an alpha is another one");
+    check(!memcmp(indices, unpacked, count), "an index by error diffusion in an order with an alpha is another one");
     if (how.strength)
         return;
     check(pix_map_indexed(table, pixels, count, unpacked) == PIX_OK, "nearest entries");
@@ -297,12 +297,12 @@ static void diffused_refused(void) {
     check(pix_diffuse_indexed_by(table, some, 3, 2, turning, room, index) == PIX_BAD_LENGTH, "a row that is not whole");
     check(pix_diffuse_indexed_by(table, some, 3, 0, turning, room, index) == PIX_BAD_LENGTH, "no row from right to left");
     check(pix_diffuse_indexed_by(table, some, 3, SIZE_MAX / 4 + 2, straight, room, index) == PIX_BAD_LENGTH, "too long a row");
-    check(pix_diffuse_indexed_by(table, some, SIZE_MAX / 2, 1, turning, room, index) == PIX_BAD_LENGTH, "too many pixels in a way");
-    check(pix_diffuse_indexed_by(table, some, 3, 1, turning, NULL, index) == PIX_NULL, "no work memory in a way");
-    check(pix_diffuse_indexed_by(table, NULL, 3, 1, turning, room, index) == PIX_NULL, "no pixels in a way");
-    check(pix_diffuse_indexed_by(table, some, 3, 1, turning, some, index) == PIX_OVERLAP, "in the pixels in a way");
-    check(pix_diffuse_indexed_by(table, some, 3, 1, turning, entries, index) == PIX_OVERLAP, "in the table in a way");
-    check(pix_diffuse_indexed_by(table, some, 3, 1, turning, room, &room[1].g) == PIX_OVERLAP, "in the work memory in a way");
+    check(pix_diffuse_indexed_by(table, some, SIZE_MAX / 2, 1, turning, room, index) == PIX_BAD_LENGTH, "too many pixels in an order");
+    check(pix_diffuse_indexed_by(table, some, 3, 1, turning, NULL, index) == PIX_NULL, "no work memory in an order");
+    check(pix_diffuse_indexed_by(table, NULL, 3, 1, turning, room, index) == PIX_NULL, "no pixels in an order");
+    check(pix_diffuse_indexed_by(table, some, 3, 1, turning, some, index) == PIX_OVERLAP, "in the pixels in an order");
+    check(pix_diffuse_indexed_by(table, some, 3, 1, turning, entries, index) == PIX_OVERLAP, "in the table in an order");
+    check(pix_diffuse_indexed_by(table, some, 3, 1, turning, room, &room[1].g) == PIX_OVERLAP, "in the work memory in an order");
     check(pix_diffuse_indexed_by_alpha(table, with, 3, 2, 1, 7, strong, room, index) == PIX_BAD_STRENGTH, "with an alpha, 17");
     check(pix_diffuse_indexed_by_alpha(table, with, 3, 2, 1, 7, turning, room, index) == PIX_BAD_LENGTH, "with an alpha, a row");
     check(pix_diffuse_indexed_by_alpha(table, with, 3, 1, 1, 7, turning, NULL, index) == PIX_NULL, "with an alpha, no work memory");
@@ -317,8 +317,8 @@ static void diffused_refused(void) {
     check(pix_raw_diffuse_indexed_by_alpha(entries, 2, with, 3, 2, 1, 7, 16, 1, room, 8, index, 3) == PIX_BAD_LENGTH, "a row with alphas");
     check(index[0] == 9 && index[2] == 9 && entries[0].r == 1 && some[1].g == 1 && room[0].r == 5, "what is refused diffuses none");
     check(pix_diffuse_indexed_by_alpha(pix_table_of(NULL, 0), with, 3, 3, 10, 7, turning, room, index) == PIX_OK, "all are clear");
-    check(index[0] == 7 && index[1] == 7 && index[2] == 7, "indices of clear pixels in a way");
-    check(pix_diffuse_indexed_by(table, NULL, 0, 2, turning, room, NULL) == PIX_OK, "no pixels to diffuse in a way");
+    check(index[0] == 7 && index[1] == 7 && index[2] == 7, "indices of clear pixels in an order");
+    check(pix_diffuse_indexed_by(table, NULL, 0, 2, turning, room, NULL) == PIX_OK, "no pixels to diffuse in an order");
 }
 
 /* A clear picture makes a table of no entry, and that serves it; a pixel that counts has no entry there. */
@@ -447,7 +447,7 @@ int main(void) {
     static const size_t lengths[] = {1, 2, 3, 16, 17, 255, 256};
     static const unsigned levels[] = {2, 4, 256};
     static const uint32_t depths[] = {1, 2, 4, 8};
-    static const pix_diffusion ways[] = {{16, true}, {7, false}, {16, false}, {0, true}, {1, true}, {12, true}};
+    static const pix_diffusion orders[] = {{16, true}, {7, false}, {16, false}, {0, true}, {1, true}, {12, true}};
     size_t i, j;
     for (i = 0; i < sizeof lengths / sizeof *lengths; i++)
         for (j = 0; j < sizeof levels / sizeof *levels; j++)
@@ -466,7 +466,7 @@ int main(void) {
             indexed(lengths[i], levels[j % 3], j < 3 ? 0 : (unsigned)(j * j * 3));
     for (i = 1; i < 40; i++)
         for (j = 1; j < 4; j++)
-            diffused(j * j * 28, i, i * j * 3 + i % 3, ways[(i + j) % 6]);
+            diffused(j * j * 28, i, i * j * 3 + i % 3, orders[(i + j) % 6]);
     diffused_by_hand();
     refused();
     if (!failures)

@@ -54,7 +54,7 @@ static void compare_number(const char *what, size_t got, size_t wanted) {
     static void run##S(PIXEL *pixels, size_t length, uint32_t width, uint32_t height, uint32_t stride,                 \
                        const pix_command##S *list, size_t count, pix_status status, size_t done) {                     \
         size_t at = 7;                                                                                                 \
-        uint32_t got = pix_raw_run##S(pixels, length, width, height, stride, list, count, &at);                   \
+        uint32_t got = pix_raw_run##S(pixels, length, width, height, stride, list, count, &at);                        \
         compare_number("the status", got, status);                                                                     \
         compare_number("done", at, done);                                                                              \
     }
@@ -288,11 +288,11 @@ static void sixteen_bits(void) {
 static void masks_and_opacities(void) {
     static const uint8_t values[] = {9, 9, 9, 128, 0, 255};
     static const pix_rgba8 pixel = {200, 100, 0, 200}, faded = {100, 50, 61, 255}, below = {0, 0, 100, 255};
-    static const pix_rgba8 transparent_index = {200, 100, 22, 255}; /* 100 * 55 / 255 = 21.6 */
+    static const pix_rgba8 kept = {200, 100, 22, 255}; /* 100 * 55 / 255 = 21.6 */
     const pix_region all = pix_region_of(0, 0, 9, 9), one = pix_region_of(0, 0, 1, 1);
     const pix_view source = pix_view_of(&pixel, 1, 1);
     pix_rgba8 image[3] = {below, below, below}, row[3];
-    const pix_rgba8 wanted[3] = {faded, below, transparent_index};
+    const pix_rgba8 wanted[3] = {faded, below, kept};
     pix_matte mask = pix_matte_of(values, 3, 2);
     pix_command it = pix_composite_image_alpha(one, source, all, 128, PIX_OP_SRC_OVER);
     begin("masks_and_opacities: at an opacity");

@@ -24,7 +24,7 @@ fn main() -> Result<(), Box<dyn Error>> {
         light(102, 58, Rgba8::new(20, 60, 230, 255)),
     ])?;
     let mut bytes = vec![0; (3 * WIDTH * HEIGHT) as usize]; // from light to the bytes of a screen
-    BitmapMut::new(&mut bytes, WIDTH, HEIGHT, Format::SRgb8).convert_from(image.as_bitmap())?;
+    BitmapMut::new(&mut bytes, WIDTH, HEIGHT, Format::SRgb8).convert_bitmap(image.as_bitmap())?;
     let mut file = format!("P6\n{WIDTH} {HEIGHT}\n255\n").into_bytes();
     file.extend(&bytes);
     fs::write("first.ppm", file)?;

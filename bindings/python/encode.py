@@ -69,15 +69,15 @@ def with_alphas(picture: Image.Image, colors: int, rounds: int, diffusion: Optio
 def with_clear(frames: List[Image.Image], colors: int, rounds: int, diffusion: Optional[Dict[str, Any]]) -> Tuple[bytes, List[bytes]]:
     """One table for all frames, four bytes a color, and the indices of each. Where a frame has clear pixels, the last is clear."""
     pixels = [frame.tobytes() for frame in frames]
-    kept = any(alpha < CLEAR for frame in pixels for alpha in set(frame[3::4]))
-    table = bytes(pix.quantize(b"".join(pixels), colors - kept, pix.SRGBA8, CLEAR, rounds))
-    how = {"format": pix.SRGBA8, "alpha": CLEAR, "transparent_index": len(table) // 3 if kept else 0}
+    has_clear = any(alpha < CLEAR for frame in pixels for alpha in set(frame[3::4]))
+    table = bytes(pix.quantize(b"".join(pixels), colors - has_clear, pix.SRGBA8, CLEAR, rounds))
+    how = {"format": pix.SRGBA8, "alpha": CLEAR, "transparent_index": len(table) // 3 if has_clear else 0}
     if diffusion is None:
         indices = [bytes(pix.map_indexed(table, frame, **how)) for frame in pixels]
     else:
         indices = [bytes(pix.diffuse_indexed(table, frame, frames[0].width, **how, **diffusion)) for frame in pixels]
     entries = [table[i : i + 3] + b"\xff" for i in range(0, len(table), 3)]
-    return b"".join(entries) + bytes(4 * kept), indices
+    return b"".join(entries) + bytes(4 * has_clear), indices
 
 
 def mean_squared_error(frames: List[Image.Image], shown: List[Image.Image]) -> float:

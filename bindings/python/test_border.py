@@ -74,7 +74,7 @@ class OneWayIn(unittest.TestCase):
             ):
                 self.assertRaises(TypeError, call)
         self.assertEqual([name for name in asked if isinstance(name, str)], [])
-        registered = type("Registered", (), {"_listed": None})
+        registered = type("Registered", (), {"_prepared": None})
         pix.CommandList.register(registered)
         self.assertRaises(TypeError, image.run, registered())
 

@@ -166,7 +166,7 @@ def plain_diffused(width, pixels, strength, serpentine, chosen):
 
 
 def by_colors(table, alpha, transparent_index):
-    """How a pixel is chosen among colors; one below an alpha is transparent_index, and has no errors."""
+    """How a pixel is chosen among colors; one below an alpha has the transparent index, and no errors."""
 
     def chosen(pixel, wanted):
         if pixel[3] < alpha:
@@ -215,9 +215,9 @@ class Tables(unittest.TestCase):
             back = pix.look_up(joined(table), wanted)
             self.assertEqual(back, joined(table[i] for i in wanted))
             with_alpha = joined((*pixel, 126 + i % 4) for i, pixel in enumerate(pixels))
-            transparent_index = bytes(77 if i % 4 < 2 else index for i, index in enumerate(wanted))
+            wanted_alpha = bytes(77 if i % 4 < 2 else index for i, index in enumerate(wanted))
             found = pix.map_indexed(joined(table), with_alpha, format=pix.Format.SRGBA8, alpha=128, transparent_index=77)
-            self.assertEqual(found, transparent_index)
+            self.assertEqual(found, wanted_alpha)
 
     def test_made(self):
         chance = random.Random(3)
@@ -347,11 +347,11 @@ class Tables(unittest.TestCase):
     def test_tables_of_clear_pictures(self):
         clear = joined((9, 9, 9, i) for i in range(20))
         for make in (lambda *words: pix.map_indexed(*words), lambda table, pixels, *more: pix.diffuse_indexed(table, pixels, 4, *more)):
-            table, transparent_index = pix.quantize(clear, format=pix.Format.SRGBA8, alpha=20), bytearray(20)
-            self.assertEqual(make(table, clear, transparent_index, pix.Format.SRGBA8, 20, 7), b"\7" * 20)
+            table, indices = pix.quantize(clear, format=pix.Format.SRGBA8, alpha=20), bytearray(20)
+            self.assertEqual(make(table, clear, indices, pix.Format.SRGBA8, 20, 7), b"\7" * 20)
             for alpha in (0, 19):
-                self.refused(pix.Status.BAD_TABLE, make, table, clear, transparent_index, pix.Format.SRGBA8, alpha, 3)
-            self.assertEqual(transparent_index, b"\7" * 20)
+                self.refused(pix.Status.BAD_TABLE, make, table, clear, indices, pix.Format.SRGBA8, alpha, 3)
+            self.assertEqual(indices, b"\7" * 20)
             self.assertEqual(make(b"", b"", None, pix.Format.SRGBA8), b"")
 
     def test_indexed(self):
@@ -403,12 +403,12 @@ class Tables(unittest.TestCase):
         self.assertEqual(refused.exception.status, status)
 
     def test_refusals(self):
-        status, transparent_index = pix.Status, bytearray(b"\x09\x09")
+        status, kept = pix.Status, bytearray(b"\x09\x09")
         self.refused(status.BAD_TABLE, pix.map_indexed, b"", b"abc")
         self.refused(status.BAD_TABLE, pix.map_indexed, bytes(3 * 257), b"abc")
         self.refused(status.BAD_LENGTH, pix.map_indexed, b"ab", b"abc")
         self.refused(status.BAD_LENGTH, pix.map_indexed, b"abc", b"abcd")
-        self.refused(status.BAD_LENGTH, pix.map_indexed, b"abc", b"abc", transparent_index)
+        self.refused(status.BAD_LENGTH, pix.map_indexed, b"abc", b"abc", kept)
         self.refused(status.BAD_FORMAT, pix.map_indexed, b"abc", b"abcd", format=pix.Format.RGBA8P)
         self.refused(status.BAD_TABLE, pix.quantize, b"abc", 0)
         self.refused(status.BAD_TABLE, pix.quantize, b"abc", 257)
@@ -417,32 +417,32 @@ class Tables(unittest.TestCase):
         self.refused(status.BAD_TABLE, pix.diffuse_indexed, b"", b"abc", 1)
         self.refused(status.BAD_LENGTH, pix.diffuse_indexed, b"abc", b"abc", 0)
         self.refused(status.BAD_LENGTH, pix.diffuse_indexed, b"abc", b"abcabc", 3)
-        self.refused(status.BAD_LENGTH, pix.diffuse_indexed, b"abc", b"abc", 1, transparent_index)
+        self.refused(status.BAD_LENGTH, pix.diffuse_indexed, b"abc", b"abc", 1, kept)
         self.refused(status.BAD_INDEX, pix.look_up, b"abc", b"\0\1")
         self.refused(status.BAD_LENGTH, pix.look_up, b"abc", b"\0", bytearray(6))
         self.refused(status.BAD_DEPTH, pix.pack_row, 3, b"\0")
         self.refused(status.BAD_DEPTH, pix.unpack_row, 0, b"\0")
         self.refused(status.BAD_INDEX, pix.pack_row, 1, b"\0\2", bytearray(1))
-        self.refused(status.BAD_LENGTH, pix.pack_row, 1, b"\0", transparent_index)
-        self.refused(status.BAD_LENGTH, pix.unpack_row, 1, b"\0\0", transparent_index)
+        self.refused(status.BAD_LENGTH, pix.pack_row, 1, b"\0", kept)
+        self.refused(status.BAD_LENGTH, pix.unpack_row, 1, b"\0\0", kept)
         self.refused(status.BAD_TABLE, pix.map_indexed_rgba, b"", b"")
         self.refused(status.BAD_TABLE, pix.diffuse_indexed_rgba, bytes(4 * 257), b"abcd", 1)
         self.refused(status.BAD_TABLE, pix.quantize_rgba, b"abcd", 0)
         self.refused(status.BAD_TABLE, pix.quantize_rgba, b"abcd", 257)
         self.refused(status.BAD_LENGTH, pix.map_indexed_rgba, b"abc", b"abcd")
         self.refused(status.BAD_LENGTH, pix.map_indexed_rgba, b"abcd", b"abc")
-        self.refused(status.BAD_LENGTH, pix.map_indexed_rgba, b"abcd", b"abcd", transparent_index)
+        self.refused(status.BAD_LENGTH, pix.map_indexed_rgba, b"abcd", b"abcd", kept)
         self.refused(status.BAD_LENGTH, pix.quantize_rgba, b"abc")
         self.refused(status.BAD_LENGTH, pix.diffuse_indexed_rgba, b"abcd", bytes(12), 2)
-        self.refused(status.BAD_LENGTH, pix.diffuse_indexed_rgba, b"abcd", b"abcd", 1, transparent_index)
+        self.refused(status.BAD_LENGTH, pix.diffuse_indexed_rgba, b"abcd", b"abcd", 1, kept)
         self.refused(status.BAD_INDEX, pix.look_up_rgba, b"abcd", b"\0\1")
         self.refused(status.BAD_LENGTH, pix.look_up_rgba, b"abcd", b"\0", bytearray(3))
         # After the table, and before the lengths.
         for strength in (-1, 17, 256 + 16):
             self.refused(status.BAD_STRENGTH, pix.diffuse_indexed, b"abc", b"abcd", 0, strength=strength)
-            self.refused(status.BAD_STRENGTH, pix.diffuse_indexed_rgba, b"abcd", b"abc", 0, transparent_index, strength)
+            self.refused(status.BAD_STRENGTH, pix.diffuse_indexed_rgba, b"abcd", b"abc", 0, kept, strength)
             self.refused(status.BAD_TABLE, pix.diffuse_indexed, b"", b"abc", 1, strength=strength)
-        self.assertEqual(transparent_index, b"\x09\x09")
+        self.assertEqual(kept, b"\x09\x09")
         for wrong in (-1, 256):
             self.assertRaises(ValueError, pix.quantize_rgba, b"abcd", 256, wrong)
             self.assertRaises(ValueError, pix.map_indexed, b"abc", b"abcd", format=pix.Format.SRGBA8, alpha=wrong)

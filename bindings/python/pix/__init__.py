@@ -71,7 +71,7 @@ from pix._pixels import GRAYA8, RGBA8, RGBA16, PixelType
 from pix._values import Format, Op, PixError, Region, Status
 from pix._views import Matte
 
-__version__ = "0.2.0"
+__version__ = "0.3.0"
 __all__ = [
     "Op", "Format", "Status", "PixError", "PixelType", "RGBA8", "RGBA16", "GRAYA8", "Region", "Image", "Matte",
     "Command", "CommandList", "Color", "Srgb", "srgb", "clear", "copy_color", "copy_image", "composite_color", "composite_image", "composite_matte",

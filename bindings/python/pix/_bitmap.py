@@ -11,7 +11,7 @@ from pix._memory import Memory, is_held
 from pix._values import Format, PixError, Status, u32
 from pix._views import Rows
 
-_convert_rows = Call("pix_raw_convert_bitmap")
+_convert_bitmap = Call("pix_raw_convert_bitmap")
 
 
 class Bitmap:
@@ -78,7 +78,7 @@ def write(target: Bitmap, source: Bitmap) -> None:
     target.refuse_unheld(Status.BAD_SIZE)
     source.refuse_unheld(Status.BAD_SOURCE)
     if target.pixels:
-        _convert_rows(
+        _convert_bitmap(
             target.pixels, source.format, target.format, source.memory, target.memory, source.stride, target.stride,
             target.width, target.height,
         )  # fmt: skip
@@ -94,7 +94,7 @@ def write_in_place(image: Bitmap, to: Format) -> None:
     memory = image.memory
     if image.pixels:
         copy = Copy(memory, (ctypes.c_ubyte * memory.length)(), memory.length)
-        _convert_rows(
+        _convert_bitmap(
             image.pixels, image.format, to, copy, memory, image.stride, image.stride, image.width, image.height
         )  # fmt: skip
 

@@ -10,13 +10,13 @@ from pix._memory import Buffer, Memory
 from pix._numbers import index
 from pix._values import Format, PixError, Status
 
-_match, _match_alpha = Call("pix_raw_map_indexed"), Call("pix_raw_map_indexed_alpha")
-_from, _from_alpha = Call("pix_raw_quantize"), Call("pix_raw_quantize_alpha")
+_quantize, _quantize_alpha = Call("pix_raw_quantize"), Call("pix_raw_quantize_alpha")
 _refined, _refined_alpha = Call("pix_raw_quantize_refined"), Call("pix_raw_quantize_refined_alpha")
+_map, _map_alpha = Call("pix_raw_map_indexed"), Call("pix_raw_map_indexed_alpha")
 _diffuse, _diffuse_alpha = Call("pix_raw_diffuse_indexed_by"), Call("pix_raw_diffuse_indexed_by_alpha")
-_rgba_from, _rgba_match = Call("pix_raw_quantize_rgba"), Call("pix_raw_map_indexed_rgba")
-_rgba_diffuse, _rgba_look_up = Call("pix_raw_diffuse_indexed_rgba"), Call("pix_raw_look_up_rgba")
-_index, _look_up, _count_all = Call("pix_raw_index_pixels"), Call("pix_raw_look_up"), Call("pix_raw_count_indices")
+_quantize_rgba, _map_rgba = Call("pix_raw_quantize_rgba"), Call("pix_raw_map_indexed_rgba")
+_diffuse_rgba, _look_up_rgba = Call("pix_raw_diffuse_indexed_rgba"), Call("pix_raw_look_up_rgba")
+_index, _look_up, _count_indices = Call("pix_raw_index_pixels"), Call("pix_raw_look_up"), Call("pix_raw_count_indices")
 _pack, _unpack = Call("pix_raw_pack_row"), Call("pix_raw_unpack_row")
 _COUNTS = ctypes.c_size_t * ENTRIES
 
@@ -82,22 +82,22 @@ def _table_rgba(buffer: Any) -> Memory:
     return memory
 
 
-def _kept_by(match: Any) -> Any:
+def _without_entries(match: Any) -> Any:
     """What a function that matches does where there is no entry: it takes pixels that are all below the alpha."""
 
-    def keep(table: int, _: int, pixels: int, count: int, alpha: int, transparent_index: int, indices: int, size: int) -> int:
+    def fill(table: int, _: int, pixels: int, count: int, alpha: int, index: int, indices: int, size: int) -> int:
         seen = (ctypes.c_ubyte * count)()
         match(table, 1, pixels, count, alpha, 1, ctypes.addressof(seen), count)
         if 0 in bytes(seen):
             return Status.BAD_TABLE
-        ctypes.memset(indices, transparent_index, size)
+        ctypes.memset(indices, index, size)
         return 0
 
-    return keep
+    return fill
 
 
-_keep = Call("pix_raw_map_indexed_alpha")
-_keep.both = tuple(map(_kept_by, _keep.both))
+_map_none = Call("pix_raw_map_indexed_alpha")
+_map_none.both = tuple(map(_without_entries, _map_none.both))
 
 
 def _indices(indices: Any, count: int, *read: Memory) -> Tuple[Any, Memory]:
@@ -133,8 +133,9 @@ def map_indexed(
 
     The table has from 1 to 256 colors of three bytes: red, green and blue in sRGB. The pixels are of the format SRGB8, or of
     SRGBA8. The nearest entry, the first of equals, is the one with the least sum of the squares of the differences in red, green
-    and blue. A pixel whose alpha is below `alpha` has the index `transparent_index`; of the others the alpha is not looked at. Where all pixels
-    are below it, the table may be empty, as quantize() makes it of them. Where the table has alphas too, take map_indexed_rgba().
+    and blue. A pixel whose alpha is below `alpha` has the index `transparent_index`; of the others the alpha is not looked at. Where
+    all pixels are below it, the table may be empty, as quantize() makes it of them. Where the table has alphas too, take
+    map_indexed_rgba().
 
     Raises PixError where the table or the lengths don't fit, and leaves `indices` as they were.
     """
@@ -144,9 +145,9 @@ def map_indexed(
     count = _count(source, size)
     indices, target = _indices(indices, count, entries, source)
     if size == 3:
-        _match(count, entries, source, target)
+        _map(count, entries, source, target)
     else:
-        (_match_alpha if entries.length else _keep)(count, entries, source, alpha, transparent_index, target)
+        (_map_alpha if entries.length else _map_none)(count, entries, source, alpha, transparent_index, target)
     return indices
 
 
@@ -179,11 +180,11 @@ def quantize(
     target, room = Memory(entries), Memory(bytearray(3 * count))
     own = room.address, count, target.address, most, made
     if size == 3:
-        _refined(count * rounds, source, rounds, *own) if rounds else _from(count, source, *own)
+        _refined(count * rounds, source, rounds, *own) if rounds else _quantize(count, source, *own)
     elif rounds:
         _refined_alpha(count * rounds, source, alpha, rounds, *own)
     else:
-        _from_alpha(count, source, alpha, *own)
+        _quantize_alpha(count, source, alpha, *own)
     return entries[: 3 * made.value]
 
 
@@ -215,7 +216,7 @@ def diffuse_indexed(
     across, count = _across(share, across, source, size), _count(source, size)
     indices, target = _indices(indices, count, entries, source)
     if not entries.length:
-        _keep(count, entries, source, alpha, transparent_index, target)
+        _map_none(count, entries, source, alpha, transparent_index, target)
         return indices
     room = Memory(bytearray(3 * 4 * across))
     how = share, back, room.address, 4 * across
@@ -244,7 +245,7 @@ def quantize_rgba(pixels: Buffer, length: SupportsIndex = 256, rounds: SupportsI
         raise PixError(Status.BAD_TABLE)
     entries, made = bytearray(4 * most), ctypes.c_size_t()
     target, room = Memory(entries), Memory(bytearray(4 * count))
-    _rgba_from(count * (1 + rounds), source, rounds, room.address, count, target.address, most, made)
+    _quantize_rgba(count * (1 + rounds), source, rounds, room.address, count, target.address, most, made)
     return entries[: 4 * made.value]
 
 
@@ -261,7 +262,7 @@ def map_indexed_rgba(table: Buffer, pixels: Buffer, indices: Any = None) -> Any:
     entries, source = _table_rgba(table), _read(pixels)
     count = _count(source, 4)
     indices, target = _indices(indices, count, entries, source)
-    _rgba_match(count, entries, source, target)
+    _map_rgba(count, entries, source, target)
     return indices
 
 
@@ -285,7 +286,7 @@ def diffuse_indexed_rgba(
     across, count = _across(share, across, source, 4), _count(source, 4)
     indices, target = _indices(indices, count, entries, source)
     room = Memory(bytearray(4 * 4 * across))
-    _rgba_diffuse(count, entries, source, across, share, back, room.address, 4 * across, target)
+    _diffuse_rgba(count, entries, source, across, share, back, room.address, 4 * across, target)
     return indices
 
 
@@ -331,7 +332,7 @@ def look_up(table: Buffer, indices: Buffer, pixels: Any = None) -> Any:
 
 def look_up_rgba(table: Buffer, indices: Buffer, pixels: Any = None) -> Any:
     """Does what `look_up` does, with a table of colors with an alpha, of four bytes each."""
-    return _looked_up(_rgba_look_up, 4, table, indices, pixels)
+    return _looked_up(_look_up_rgba, 4, table, indices, pixels)
 
 
 def _looked_up(call: Call, size: int, table: Buffer, indices: Buffer, pixels: Any) -> Any:
@@ -353,7 +354,7 @@ def count_indices(indices: Buffer, length: SupportsIndex = 256) -> List[int]:
     if size < 0:
         raise ValueError(f"length {size} is below 0")
     source, counts = _read(indices), _COUNTS()
-    _count_all(source.length, source, ctypes.addressof(counts), min(size, ENTRIES))
+    _count_indices(source.length, source, ctypes.addressof(counts), min(size, ENTRIES))
     return counts[:size] + [0] * (size - ENTRIES)
 
 

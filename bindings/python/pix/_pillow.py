@@ -259,13 +259,13 @@ def indexed(image: Any, table: Any, diffuse: bool) -> Any:
         entries = bytes(quantize(pixels, 255 if has_clear else 256, Format.SRGBA8, CLEAR))
     else:
         entries = table_of(table)
-    kept = len(entries) // 3
-    if has_clear and kept == 256:
+    clear = len(entries) // 3
+    if has_clear and clear == 256:
         raise ValueError(
             "a table of 256 colors has no room for clear pixels, which this image has: pass 255 at"
             " most"
         )
-    how = {"format": Format.SRGBA8, "alpha": CLEAR, "transparent_index": kept if has_clear else 0}
+    how = {"format": Format.SRGBA8, "alpha": CLEAR, "transparent_index": clear if has_clear else 0}
     if not image.width or not image.height:
         return pillow.new("P", size)
     known = entries or bytes(3)
@@ -277,7 +277,7 @@ def indexed(image: Any, table: Any, diffuse: bool) -> Any:
     picture = pillow.frombuffer("P", size, indices, "raw", "P", 0, 1)
     picture.putpalette(entries + bytes(3) if has_clear else entries)
     if has_clear:
-        picture.info["transparency"] = kept
+        picture.info["transparency"] = clear
     return picture
 
 

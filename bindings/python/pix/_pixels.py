@@ -76,7 +76,7 @@ def kind_of(type: Any) -> PixelType:
 
 
 # The version of the binary interface, and the fields whose offsets the library answers, in its order.
-ABI_VERSION = 1
+ABI_VERSION = 2
 REGION = "x y width height"
 COMMAND = "kind op to from_ color pixels pixel_count mattes matte_count width height stride mask mask_width mask_height mask_stride alpha"
 

@@ -140,7 +140,7 @@ made_all max n xs e =
     let none : n + 0 ≡ n = omega arith in
     ap (λ (k : ℕ). padded max k xs) none ∙ ap (λ (m : ℕ). padded m n xs) e
 
--- pixels of 8 bits that are crossed are converted
+-- pixels of 8 bits that are converted by levels are converted
 pub converted_as : (from to : BufferFormat) (count whole : ℕ) (src dst : List ℕ) → from.format.layout.max ≡ 255 → to.format.layout.max ≡ 255
     → ((p : List ℕ) → length (converted from.format from.gamma to.format to.gamma p) ≡ channels to)
     → count ≤ whole → length src ≡ whole * channels from → length dst ≡ whole * channels to → IsConvertedBitmap (bare from) (bare to) count src dst → IsConverted from to count src dst

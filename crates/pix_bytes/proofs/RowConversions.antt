@@ -13,7 +13,7 @@ use Rattle.pix_bytes.specs.declared.bitmap.format.Depth.{Depth}
 use Rattle.pix_bytes.specs.declared.bitmap.format.FormatParts.{FormatParts}
 use Rattle.pix_bytes.specs.declared.bitmap.model.ModelName.TheVariants.{Rgb, Bgr}
 
--- each pixel is crossed, where both depths are known
+-- each pixel is converted, where both depths are known
 pub crossed_as : (from to : FormatParts) (depth to_depth : Depth) (count : ℕ) (src dst : List ℕ) → from.depth ≡ depth → to.depth ≡ to_depth
     → IsEach (max_of depth) (max_of to_depth) from.count (to.count + to.spare)
     ((from.count + from.spare) * sample_size (max_of depth)) ((to.count + to.spare) * sample_size (max_of to_depth))

@@ -107,8 +107,8 @@ fn convert_rows(
         (length src.now) ≡ true }
     requires dst { is_held width height (width * pixel_size (stored_of to)) dst_lines.stride
         (length dst.old) ≡ true }
-    ensures { IsBitmapOf (stored_of from) (stored_of to) width height src_lines.stride dst_lines.stride
-        src.now dst.old dst.new }
+    ensures { IsBitmapOf (stored_of from) (stored_of to) width height src_lines.stride
+        dst_lines.stride src.now dst.old dst.new }
 {
     let (wide, to_wide) = (width * from.size(), width * to.size());
     for y in 0..height {

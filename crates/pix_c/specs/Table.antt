@@ -19,13 +19,13 @@ nearest_status len = if is_table len then 0 else 11
 
 -- the status of matching pixels: 11 without a table, 7 where there are not as many indices as
 -- pixels, and else 0
-abbrev pub match_status : (len pixels indices : ℕ) → ℕ
-match_status len pixels indices = if is_table len then (if nat_eq indices pixels then 0 else 7) else 11
+abbrev pub map_indexed_status : (len pixels indices : ℕ) → ℕ
+map_indexed_status len pixels indices = if is_table len then (if nat_eq indices pixels then 0 else 7) else 11
 
 -- the status of making a table: 11 without room for one, 7 where work memory has fewer colors than
 -- there are pixels, and else 0
-abbrev pub make_status : (len pixels work : ℕ) → ℕ
-make_status len pixels work = if is_table len then (if nat_le pixels work then 0 else 7) else 11
+abbrev pub quantize_status : (len pixels work : ℕ) → ℕ
+quantize_status len pixels work = if is_table len then (if nat_le pixels work then 0 else 7) else 11
 
 -- the status of error diffusion: 11 without a table; 7 where a row has no pixel, work memory has
 -- not four rows of colors, or there are not as many indices as pixels; and else 0
@@ -33,21 +33,21 @@ abbrev pub diffuse_status : (len pixels width work indices : ℕ) → ℕ
 diffuse_status len pixels width work indices =
     if is_table len then (if nat_lt 0 width && nat_eq work (4 * width) && nat_eq indices pixels then 0 else 7) else 11
 
--- the way of a flag: serpentine where it is not 0
+-- the scan order of a flag: serpentine where it is not 0
 abbrev pub scan_of : ℕ → ScanOrder
 scan_of serpentine = if nat_eq serpentine 0 then LeftToRight else Serpentine
 
--- whether rows can be taken in a way: where they turn, all of them are whole
+-- whether rows can be scanned in an order: where they turn, all of them are whole
 abbrev pub are_whole : ScanOrder → (pixels width : ℕ) → Bool
 are_whole LeftToRight pixels width = true
 are_whole Serpentine pixels width = nat_eq (pixels % width) 0
 
--- whether pixels are rows that can be taken in a way, with as many indices, and with four rows of
+-- whether pixels are rows that can be scanned in an order, with as many indices, and with four rows of
 -- work memory
 abbrev pub are_rows : (pixels width : ℕ) → ScanOrder → (work indices : ℕ) → Bool
 are_rows pixels width scan work indices = are_whole scan pixels width && nat_lt 0 width && nat_eq work (4 * width) && nat_eq indices pixels
 
--- the status of error diffusion in a way, with a strength: 11 without a table, 15 where the strength
+-- the status of error diffusion in an order, with a strength: 11 without a table, 15 where the strength
 -- is above 16, 7 where a length is wrong, and else 0
 abbrev pub diffuse_by_status : (len pixels width strength : ℕ) → ScanOrder → (work indices : ℕ) → ℕ
 diffuse_by_status len pixels width strength scan work indices =

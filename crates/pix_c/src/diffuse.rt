@@ -47,8 +47,8 @@ pub extern "C" fn pix_raw_diffuse_indexed(
     diffuse(entries, pixels, how, work, indices)
 }
 
-/// Does what [`pix_raw_diffuse_indexed`] does, on pixels with an alpha. A pixel whose alpha is below
-/// `alpha` gets the index `transparent_index`, and hands on no error.
+/// Does what [`pix_raw_diffuse_indexed`] does, on pixels with an alpha. A pixel whose alpha is
+/// below `alpha` gets the index `transparent_index`, and hands on no error.
 #[unsafe(no_mangle)]
 pub extern "C" fn pix_raw_diffuse_indexed_alpha(
     entries: &[Color],
@@ -81,8 +81,8 @@ pub extern "C" fn pix_raw_diffuse_indexed_alpha(
 ///
 /// Returns 0 when all indices are written. Else nothing is written. The status is then 11 where
 /// there is no entry or more than 256, and otherwise 15, where the strength is above 16. Otherwise
-/// it is 7, where a length is wrong as for [`pix_raw_diffuse_indexed`], or where rows turn and the pixels
-/// are not whole rows.
+/// it is 7, where a length is wrong as for [`pix_raw_diffuse_indexed`], or where rows turn and the
+/// pixels are not whole rows.
 #[unsafe(no_mangle)]
 pub extern "C" fn pix_raw_diffuse_indexed_by(
     entries: &[Color],
@@ -109,8 +109,8 @@ pub extern "C" fn pix_raw_diffuse_indexed_by(
     diffuse(entries, pixels, how, work, indices)
 }
 
-/// Does what [`pix_raw_diffuse_indexed_by`] does, on pixels with an alpha. A pixel whose alpha is below
-/// `alpha` gets the index `transparent_index`, and hands on no error.
+/// Does what [`pix_raw_diffuse_indexed_by`] does, on pixels with an alpha. A pixel whose alpha is
+/// below `alpha` gets the index `transparent_index`, and hands on no error.
 #[unsafe(no_mangle)]
 pub extern "C" fn pix_raw_diffuse_indexed_by_alpha(
     entries: &[Color],
@@ -127,7 +127,8 @@ pub extern "C" fn pix_raw_diffuse_indexed_by_alpha(
         strength (scan_of serpentine) (length work.old) (length indices.old) }
     ensures refused { result ≢ 0 → (work.new ≡ work.old) × (indices.new ≡ indices.old) }
     ensures done { result ≡ 0 → AreDiffusedBy (scan_of serpentine) strength
-        (map numbers entries.now) alpha transparent_index width (map rgba_numbers pixels.now) indices.new }
+        (map numbers entries.now) alpha transparent_index width (map rgba_numbers pixels.now)
+        indices.new }
 {
     let how = Diffusion {
         width,
@@ -139,7 +140,7 @@ pub extern "C" fn pix_raw_diffuse_indexed_by_alpha(
     diffuse(entries, pixels, how, work, indices)
 }
 
-/// Returns the way of a flag: serpentine where it is not 0.
+/// Returns the scan order of a flag: serpentine where it is not 0.
 pub(crate) fn scan_of(serpentine: u8) -> ScanOrder
     ensures { result ≡ scan_of serpentine }
 {
@@ -177,8 +178,8 @@ fn diffuse<P: TablePixel>(
     DONE
 }
 
-/// Returns whether pixels are rows that can be taken in a way, there are as many indices, and there
-/// are four rows of work memory.
+/// Returns whether pixels are rows that can be scanned in an order, there are as many indices, and
+/// there are four rows of work memory.
 pub(crate) fn are_rows(
     pixels: usize,
     width: usize,

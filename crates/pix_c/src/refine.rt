@@ -4,16 +4,16 @@ ghost use Rattle.pix_table.specs.Nearest.{numbers};
 ghost use Rattle.pix_table.specs.Quantization.{shown};
 ghost use Rattle.pix_table.specs.Refine.{IsQuantizedRefined};
 ghost use Rattle.pix_table.specs.Seen.{rgba_numbers};
-ghost use Rattle.pix_c.specs.Table.{make_status};
+ghost use Rattle.pix_c.specs.Table.{quantize_status};
 
 use crate::status::{BAD_LENGTH, DONE};
 use crate::table::BAD_TABLE;
 use pix_table::{Color, RgbaColor, TablePixel, quantize_refined};
 
-/// Does what [`pix_raw_quantize`](crate::table::pix_raw_quantize) does. Where there are more distinct
-/// colors than entries, `rounds` rounds then refine the table. In a round each color goes to its
-/// nearest entry, the first of equals. Each entry goes to the mean of its colors, rounded, and
-/// stays where it has none. No round makes the sum of the squared errors greater.
+/// Does what [`pix_raw_quantize`](crate::table::pix_raw_quantize) does. Where there are more
+/// distinct colors than entries, `rounds` rounds then refine the table. In a round each color goes
+/// to its nearest entry, the first of equals. Each entry goes to the mean of its colors, rounded,
+/// and stays where it has none. No round makes the sum of the squared errors greater.
 #[unsafe(no_mangle)]
 pub extern "C" fn pix_raw_quantize_refined(
     pixels: &[Color],
@@ -23,7 +23,7 @@ pub extern "C" fn pix_raw_quantize_refined(
     made: &mut usize,
 ) -> u32
     ensures status { result ≡
-        make_status (length entries.old) (length pixels.now) (length work.old) }
+        quantize_status (length entries.old) (length pixels.now) (length work.old) }
     ensures refused { result ≢ 0 → (work.new ≡ work.old) × (entries.new ≡ entries.old)
         × (made.new ≡ made.old) }
     ensures done { result ≡ 0 → (made.new ≤ length entries.new)
@@ -45,7 +45,7 @@ pub extern "C" fn pix_raw_quantize_refined_alpha(
     made: &mut usize,
 ) -> u32
     ensures status { result ≡
-        make_status (length entries.old) (length pixels.now) (length work.old) }
+        quantize_status (length entries.old) (length pixels.now) (length work.old) }
     ensures refused { result ≢ 0 → (work.new ≡ work.old) × (entries.new ≡ entries.old)
         × (made.new ≡ made.old) }
     ensures done { result ≡ 0 → (made.new ≤ length entries.new)
@@ -65,7 +65,7 @@ fn refine_table<P: TablePixel>(
     made: &mut usize,
 ) -> u32
     ensures status { result ≡
-        make_status (length entries.old) (length pixels.now) (length work.old) }
+        quantize_status (length entries.old) (length pixels.now) (length work.old) }
     ensures refused { result ≢ 0 → (work.new ≡ work.old) × (entries.new ≡ entries.old)
         × (made.new ≡ made.old) }
     ensures done { result ≡ 0 → (made.new ≤ length entries.new)

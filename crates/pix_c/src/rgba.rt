@@ -4,7 +4,8 @@ ghost use Rattle.pix_table.specs.LookUp.{AreLookedUp};
 ghost use Rattle.pix_table.specs.Seen.{AreSeenMatched, rgba_numbers};
 ghost use Rattle.pix_table.specs.SeenTables.{IsQuantizedRgba};
 ghost use Rattle.pix_table.specs.SeenDiffusion.{AreSeenDiffused};
-ghost use Rattle.pix_c.specs.Table.{diffuse_by_status, look_up_status, make_status, match_status};
+ghost use Rattle.pix_c.specs.Table.{diffuse_by_status, look_up_status, quantize_status};
+ghost use Rattle.pix_c.specs.Table.{map_indexed_status};
 ghost use Rattle.pix_c.specs.Table.{scan_of};
 
 use crate::diffuse::{BAD_STRENGTH, WHOLE, are_rows, scan_of};
@@ -35,7 +36,7 @@ pub extern "C" fn pix_raw_quantize_rgba(
     made: &mut usize,
 ) -> u32
     ensures status { result ≡
-        make_status (length entries.old) (length pixels.now) (length work.old) }
+        quantize_status (length entries.old) (length pixels.now) (length work.old) }
     ensures refused { result ≢ 0 → (work.new ≡ work.old) × (entries.new ≡ entries.old)
         × (made.new ≡ made.old) }
     ensures done { result ≡ 0 → (made.new ≤ length entries.new)
@@ -65,7 +66,7 @@ pub extern "C" fn pix_raw_map_indexed_rgba(
     indices: &mut [u8],
 ) -> u32
     ensures status { result ≡
-        match_status (length entries.now) (length pixels.now) (length indices.old) }
+        map_indexed_status (length entries.now) (length pixels.now) (length indices.old) }
     ensures refused { result ≢ 0 → indices.new ≡ indices.old }
     ensures done { result ≡ 0 → AreSeenMatched (map rgba_numbers entries.now)
         (map rgba_numbers pixels.now) indices.new }
@@ -106,9 +107,10 @@ pub extern "C" fn pix_raw_look_up_rgba(
 }
 
 /// Writes for each pixel, in rows of `width`, its index by error diffusion, as
-/// [`pix_raw_diffuse_indexed_by`](crate::diffuse::pix_raw_diffuse_indexed_by) does: that of the entry which is
-/// seen nearest to the pixel plus its share of the errors before it. Errors are those of colors
-/// times their alphas, and of the alphas. A pixel of the alpha 0 has no share and hands on no error.
+/// [`pix_raw_diffuse_indexed_by`](crate::diffuse::pix_raw_diffuse_indexed_by) does: that of the
+/// entry which is seen nearest to the pixel plus its share of the errors before it. Errors are
+/// those of colors times their alphas, and of the alphas. A pixel of the alpha 0 has no share and
+/// hands on no error.
 ///
 /// The statuses are those of `pix_raw_diffuse_indexed_by`.
 #[unsafe(no_mangle)]

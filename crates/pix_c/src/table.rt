@@ -1,5 +1,6 @@
 //! Tables of colors, for images of indices.
-ghost use Rattle.std.specs.Prelude.{◌≡◌, ◌≢◌, ℕ, ◌<◌, ◌≤◌, List, length, map, take, Some, slice_index};
+ghost use Rattle.std.specs.Prelude.{◌≡◌, ◌≢◌, ℕ, ◌<◌, ◌≤◌, List, length, map, take, Some};
+ghost use Rattle.std.specs.Prelude.{slice_index};
 ghost use Rattle.pix_table.specs.Nearest.{numbers, IsNearest, AreMatched};
 ghost use Rattle.pix_table.specs.LookUp.{AreLookedUp, AreCounted};
 ghost use Rattle.pix_table.specs.Seen.{rgba_numbers};
@@ -9,8 +10,8 @@ ghost use Rattle.pix_table.specs.Setting.{Always, IsSet};
 ghost use Rattle.pix_table.specs.Indexing.{AreSet, IsStopped};
 ghost use Rattle.pix_table.specs.declared.color.Color.{Color};
 ghost use Rattle.pix_table.specs.declared.row.IndexDepth.{IndexDepth};
-ghost use Rattle.pix_c.specs.Table.{nearest_status, match_status, look_up_status};
-ghost use Rattle.pix_c.specs.Table.{make_status, index_status};
+ghost use Rattle.pix_c.specs.Table.{nearest_status, map_indexed_status, look_up_status};
+ghost use Rattle.pix_c.specs.Table.{quantize_status, index_status};
 ghost use Rattle.pix_c.specs.Table.{count_status, pack_status, unpack_status, depth_of, row_status};
 
 use crate::status::{BAD_LENGTH, DONE};
@@ -66,7 +67,7 @@ pub extern "C" fn pix_raw_map_indexed(
     indices: &mut [u8],
 ) -> u32
     ensures status { result ≡
-        match_status (length entries.now) (length pixels.now) (length indices.old) }
+        map_indexed_status (length entries.now) (length pixels.now) (length indices.old) }
     ensures refused { result ≢ 0 → indices.new ≡ indices.old }
     ensures done { result ≡ 0 → AreMatched (map numbers entries.now) 0 0
         (map numbers pixels.now) indices.new }
@@ -85,7 +86,7 @@ pub extern "C" fn pix_raw_map_indexed_alpha(
     indices: &mut [u8],
 ) -> u32
     ensures status { result ≡
-        match_status (length entries.now) (length pixels.now) (length indices.old) }
+        map_indexed_status (length entries.now) (length pixels.now) (length indices.old) }
     ensures refused { result ≢ 0 → indices.new ≡ indices.old }
     ensures done { result ≡ 0 → AreMatched (map numbers entries.now) alpha transparent_index
         (map rgba_numbers pixels.now) indices.new }
@@ -102,7 +103,7 @@ fn match_all<P: TablePixel>(
     indices: &mut [u8],
 ) -> u32
     ensures status { result ≡
-        match_status (length entries.now) (length pixels.now) (length indices.old) }
+        map_indexed_status (length entries.now) (length pixels.now) (length indices.old) }
     ensures refused { result ≢ 0 → indices.new ≡ indices.old }
     ensures done { result ≡ 0 → AreMatched (map numbers entries.now) alpha transparent_index
         (map P.values pixels.now) indices.new }
@@ -132,14 +133,14 @@ pub extern "C" fn pix_raw_quantize(
     made: &mut usize,
 ) -> u32
     ensures status { result ≡
-        make_status (length entries.old) (length pixels.now) (length work.old) }
+        quantize_status (length entries.old) (length pixels.now) (length work.old) }
     ensures refused { result ≢ 0 → (work.new ≡ work.old) × (entries.new ≡ entries.old)
         × (made.new ≡ made.old) }
     ensures done { result ≡ 0 → (made.new ≤ length entries.new)
         × IsQuantized (length entries.old) (shown 0 (map numbers pixels.now))
         (map numbers (take made.new entries.new)) }
 {
-    make_table(pixels, 0, work, entries, made)
+    quantize_pixels(pixels, 0, work, entries, made)
 }
 
 /// Does what [`pix_raw_quantize`] does, on pixels with an alpha. Those whose alpha is below `alpha`
@@ -153,18 +154,18 @@ pub extern "C" fn pix_raw_quantize_alpha(
     made: &mut usize,
 ) -> u32
     ensures status { result ≡
-        make_status (length entries.old) (length pixels.now) (length work.old) }
+        quantize_status (length entries.old) (length pixels.now) (length work.old) }
     ensures refused { result ≢ 0 → (work.new ≡ work.old) × (entries.new ≡ entries.old)
         × (made.new ≡ made.old) }
     ensures done { result ≡ 0 → (made.new ≤ length entries.new)
         × IsQuantized (length entries.old) (shown alpha (map rgba_numbers pixels.now))
         (map numbers (take made.new entries.new)) }
 {
-    make_table(pixels, alpha, work, entries, made)
+    quantize_pixels(pixels, alpha, work, entries, made)
 }
 
 /// Makes a table of pixels of any kind.
-fn make_table<P: TablePixel>(
+fn quantize_pixels<P: TablePixel>(
     pixels: &[P],
     alpha: u8,
     work: &mut [Color],
@@ -172,7 +173,7 @@ fn make_table<P: TablePixel>(
     made: &mut usize,
 ) -> u32
     ensures status { result ≡
-        make_status (length entries.old) (length pixels.now) (length work.old) }
+        quantize_status (length entries.old) (length pixels.now) (length work.old) }
     ensures refused { result ≢ 0 → (work.new ≡ work.old) × (entries.new ≡ entries.old)
         × (made.new ≡ made.old) }
     ensures done { result ≡ 0 → (made.new ≤ length entries.new)

@@ -64,8 +64,8 @@ pub extern "C" fn pix_raw_run_window_rgba16(
     ensures done { done.new ≡ window_done_of left top width height stride (length pixels.old)
         (map rgba16_command commands.now) }
     ensures refused { result ≢ 0 → pixels.new ≡ pixels.old }
-    ensures run { result ≡ 0 → IsWindowRun rgba16 rgba16_numbers matte16_numbers left top width height
-        stride (map rgba16_command commands.now) pixels.old pixels.new }
+    ensures run { result ≡ 0 → IsWindowRun rgba16 rgba16_numbers matte16_numbers left top width
+        height stride (map rgba16_command commands.now) pixels.old pixels.new }
 {
     run::run_window::<Rgba16p, PixRgba16, u16, PixCommandRgba16<'_>>(
         pixels, left, top, width, height, stride, commands, done,
@@ -89,8 +89,8 @@ pub extern "C" fn pix_raw_run_window_graya8(
     ensures done { done.new ≡ window_done_of left top width height stride (length pixels.old)
         (map graya8_command commands.now) }
     ensures refused { result ≢ 0 → pixels.new ≡ pixels.old }
-    ensures run { result ≡ 0 → IsWindowRun graya8 graya8_numbers matte8_numbers left top width height
-        stride (map graya8_command commands.now) pixels.old pixels.new }
+    ensures run { result ≡ 0 → IsWindowRun graya8 graya8_numbers matte8_numbers left top width
+        height stride (map graya8_command commands.now) pixels.old pixels.new }
 {
     run::run_window::<Graya8p, PixGraya8, u8, PixCommandGraya8<'_>>(
         pixels, left, top, width, height, stride, commands, done,

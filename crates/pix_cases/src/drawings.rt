@@ -73,7 +73,7 @@ where
     P: Pixel,
     Raster<P>: Canvas<P>,
 {
-    let [scan, size, pixels, words @ ..] = words else {
+    let [way, size, pixels, words @ ..] = words else {
         return Err(Flaw::Count);
     };
     let mut raster: Raster<P> = image(size, pixels, alloc)?;
@@ -81,7 +81,7 @@ where
     let mattes = named_image("mattes", words, alloc)?;
     let images = Images { source, mattes };
     let orders = orders::<P>(words, alloc)?;
-    match *scan {
+    match *way {
         "list" => raster.run_list(&commands_of(&images, &orders, alloc)?),
         "calls" => {
             for order in &orders {

@@ -44,6 +44,19 @@ lifted_rgb max hue chroma lift =
     let rgb = rgb_of_hexcone max (hexcone_of max hue) chroma in
     saturating_sum max rgb.0 lift ∷ saturating_sum max rgb.1 lift ∷ saturating_sum max rgb.2 lift ∷ []
 
+-- how much of its chroma red has where six times the hue is p: all of it up to a sixth on either
+-- side, and none from two sixths on
+abbrev pub red_share : ℕ → ℕ → ℕ
+red_share top p = min (max (2 * top - p) (p - 4 * top)) top
+
+-- the same of green, which is whole from one sixth to three
+abbrev pub green_share : ℕ → ℕ → ℕ
+green_share top p = min (min p (4 * top - p)) top
+
+-- and of blue, which is whole from three sixths to five
+abbrev pub blue_share : ℕ → ℕ → ℕ
+blue_share top p = min (min (p - 2 * top) (6 * top - p)) top
+
 -- the value of a color: the greatest of red, green and blue
 abbrev pub value_of : ℕ → ℕ → ℕ → ℕ
 value_of r g b = max (max r g) b

@@ -1,8 +1,10 @@
 //! Hues: the circle of colors that a chroma and a value leave open.
 ghost use Rattle.std.specs.Prelude.{◌≡◌, ◌+◌, ◌*◌, ◌-◌, ◌<◌, ◌≤◌, [], ◌∷◌};
-ghost use Rattle.pix_color.specs.Hexcone.{numbered, hexcone_of, rgb_of_hexcone, lifted_rgb, turn, hue_at, hue_after, hue_of, chroma_of, value_of};
+ghost use Rattle.pix_color.specs.Hexcone.{numbered, hexcone_of, rgb_of_hexcone, lifted_rgb, turn};
+ghost use Rattle.pix_color.specs.Hexcone.{red_share, green_share, blue_share};
+ghost use Rattle.pix_color.specs.Hexcone.{hue_at, hue_after, hue_of, chroma_of, value_of};
 
-use crate::numbers::{complement, divided_short, exact, max, nearest, number, product, sum};
+use crate::numbers::{complement, divided_short, exact, max, nearest, number, product, sum, units};
 use pix_chan::reciprocals::quotient_by_byte;
 use pix_el::chan::Channel;
 
@@ -71,13 +73,44 @@ impl<C: Channel> Hexcone<C> {
     }
 }
 
+/// Returns how much of its chroma each of red, green and blue has at a hue.
+///
+/// It looks for no sixth, because a processor could not predict a branch on it. Numbers of 32 bits
+/// let LLVM convert several pixels at once.
+#[inline(always)]
+fn shares<C: Channel>(hue: C) -> (C, C, C)
+    ensures red { C.number result.0 ≡ red_share C.max (6 * C.number hue) }
+    ensures green { C.number result.1 ≡ green_share C.max (6 * C.number hue) }
+    ensures blue { C.number result.2 ≡ blue_share C.max (6 * C.number hue) }
+{
+    let place = 6 * units(hue);
+    let top = units(C::MAX);
+    let red = (2 * top)
+        .saturating_sub(place)
+        .max(place.saturating_sub(4 * top));
+    let green = place.min((4 * top).saturating_sub(place));
+    let blue = place
+        .saturating_sub(2 * top)
+        .min((6 * top).saturating_sub(place));
+    (
+        exact(u64::from(red.min(top))),
+        exact(u64::from(green.min(top))),
+        exact(u64::from(blue.min(top))),
+    )
+}
+
 /// Returns red, green and blue of a hue at a chroma, with `lift` added to each.
+#[inline(always)]
 pub(crate) fn lifted_rgb<C: Channel>(hue: C, chroma: C, lift: C) -> (C, C, C)
     ensures { C.number result.0 ∷ C.number result.1 ∷ C.number result.2 ∷ []
         ≡ lifted_rgb C.max (C.number hue) (C.number chroma) (C.number lift) }
 {
-    let (red, green, blue) = Hexcone::from_hue(hue).rgb(chroma);
-    (sum(red, lift), sum(green, lift), sum(blue, lift))
+    let (red, green, blue) = shares(hue);
+    (
+        sum(product(chroma, red), lift),
+        sum(product(chroma, green), lift),
+        sum(product(chroma, blue), lift),
+    )
 }
 
 /// Returns the hue that is `n` / (6 * `chroma`) of the circle. Condition: the chroma is a

@@ -17,6 +17,16 @@ pub(crate) fn number<C: Channel>(c: C) -> u64
     u64::from(c.to_u32())
 }
 
+/// Returns the number of a channel in 32 bits, with room for small multiples.
+#[inline(always)]
+pub(crate) fn units<C: Channel>(c: C) -> u32
+    ensures value { result ≡ C.number c }
+    ensures fits { result ≤ C.max }
+    ensures small { result < 65536 }
+{
+    c.to_u32()
+}
+
 /// Returns the maximum.
 pub(crate) fn max<C: Channel>() -> u64
     ensures value { result ≡ C.max }

@@ -12,7 +12,7 @@ use Rattle.pix_el.specs.Pixel.{channel, lies_in}
 use Rattle.pix_el.specs.Planes.{by_fours}
 use Rattle.pix_el.specs.Conversion.{Format, at_depth}
 use Rattle.pix_el.specs.Light.{mode_changed, channel_as_srgb}
-use Rattle.pix_el.specs.LightBlocks.{IsKept, AreKept, AreLevels, changed_four}
+use Rattle.pix_el.specs.LightBlocks.{IsSameInBothModes, AreSameInBothModes, AreLevels, changed_four}
 
 -- what is made of each of sixteen
 pub mapped16 : {A B : Type 0} (f : A → B) (xs : List A) (d0 d1 d2 d3 d4 d5 d6 d7 d8 d9 d10 d11 d12 d13 d14 d15 : A) {r0 r1 r2 r3 r4 r5 r6 r7 r8 r9 r10 r11 r12 r13 r14 r15 : B} → length xs ≡ 16
@@ -102,11 +102,11 @@ four_made {D = D} {P = P} v n made ds ps a b c d w x y z h k ew ex ey ez ia ib i
 
 -- the channels of four pixels whose colors are the same in both alpha modes
 module _ {C P : Type 0} (max : ℕ) (mode to_mode : AlphaMode) (v : C → ℕ) (n : P → List ℕ) (fits : (c : C) → v c ≤ max) where
-  kept_pixel : (pixel : List ℕ) (a b c d : C) → v a ∷ v b ∷ v c ∷ v d ∷ [] ≡ pixel → IsKept max mode to_mode (channel max pixel 3)
+  kept_pixel : (pixel : List ℕ) (a b c d : C) → v a ∷ v b ∷ v c ∷ v d ∷ [] ≡ pixel → IsSameInBothModes max mode to_mode (channel max pixel 3)
       → pixel ≡ changed_four max mode to_mode pixel
   kept_pixel pixel a b c d same kept =
-      subst (λ (p : List ℕ). IsKept max mode to_mode (channel max p 3) → p ≡ changed_four max mode to_mode p) same
-      (λ (k : IsKept max mode to_mode (v d)).
+      subst (λ (p : List ℕ). IsSameInBothModes max mode to_mode (channel max p 3) → p ≡ changed_four max mode to_mode p) same
+      (λ (k : IsSameInBothModes max mode to_mode (v d)).
       sym (ap (λ (x : ℕ). x ∷ mode_changed max mode to_mode (v d) (v b) ∷ mode_changed max mode to_mode (v d) (v c) ∷ v d ∷ []) (k (v a) (fits a))
       ∙ ap (λ (x : ℕ). v a ∷ x ∷ mode_changed max mode to_mode (v d) (v c) ∷ v d ∷ []) (k (v b) (fits b))
       ∙ ap (λ (x : ℕ). v a ∷ v b ∷ x ∷ v d ∷ []) (k (v c) (fits c))))
@@ -120,7 +120,7 @@ module _ {C P : Type 0} (max : ℕ) (mode to_mode : AlphaMode) (v : C → ℕ) (
   abbrev pub Changed : List C → List P → Type 0
   Changed cs ps = by_fours (map v cs) ≡ map (λ p. changed_four max mode to_mode (n p)) ps
 
-  kept_of : (a b c d e f g h i j k l m o q r : C) (s t u w : P) → AreKept max mode to_mode 3 (map n (s ∷ t ∷ u ∷ w ∷ []))
+  kept_of : (a b c d e f g h i j k l m o q r : C) (s t u w : P) → AreSameInBothModes max mode to_mode 3 (map n (s ∷ t ∷ u ∷ w ∷ []))
       → Same (a ∷ b ∷ c ∷ d ∷ e ∷ f ∷ g ∷ h ∷ i ∷ j ∷ k ∷ l ∷ m ∷ o ∷ q ∷ r ∷ []) (s ∷ t ∷ u ∷ w ∷ [])
       → Changed (a ∷ b ∷ c ∷ d ∷ e ∷ f ∷ g ∷ h ∷ i ∷ j ∷ k ∷ l ∷ m ∷ o ∷ q ∷ r ∷ []) (s ∷ t ∷ u ∷ w ∷ [])
   kept_of a b c d e f g h i j k l m o q r s t u w kept same =
@@ -136,10 +136,10 @@ module _ {C P : Type 0} (max : ℕ) (mode to_mode : AlphaMode) (v : C → ℕ) (
       ∙ ap (λ (x : List ℕ). made (n s) ∷ made (n t) ∷ x ∷ n w ∷ []) three
       ∙ ap (λ (x : List ℕ). made (n s) ∷ made (n t) ∷ made (n u) ∷ x ∷ []) four
 
-  pub kept_changed : (cs : List C) (ps : List P) → length cs ≡ 16 → length ps ≡ 4 → AreKept max mode to_mode 3 (map n ps) → Same cs ps → Changed cs ps
+  pub kept_changed : (cs : List C) (ps : List P) → length cs ≡ 16 → length ps ≡ 4 → AreSameInBothModes max mode to_mode 3 (map n ps) → Same cs ps → Changed cs ps
   kept_changed cs ps h k =
-      subst (λ (ps : List P). AreKept max mode to_mode 3 (map n ps) → Same cs ps → Changed cs ps) (is_four ps k).1
-      (subst (λ (cs : List C). AreKept max mode to_mode 3 (map n ((is_four ps k).0.0 ∷ (is_four ps k).0.1 ∷ (is_four ps k).0.2 ∷ (is_four ps k).0.3 ∷ []))
+      subst (λ (ps : List P). AreSameInBothModes max mode to_mode 3 (map n ps) → Same cs ps → Changed cs ps) (is_four ps k).1
+      (subst (λ (cs : List C). AreSameInBothModes max mode to_mode 3 (map n ((is_four ps k).0.0 ∷ (is_four ps k).0.1 ∷ (is_four ps k).0.2 ∷ (is_four ps k).0.3 ∷ []))
       → Same cs ((is_four ps k).0.0 ∷ (is_four ps k).0.1 ∷ (is_four ps k).0.2 ∷ (is_four ps k).0.3 ∷ [])
       → Changed cs ((is_four ps k).0.0 ∷ (is_four ps k).0.1 ∷ (is_four ps k).0.2 ∷ (is_four ps k).0.3 ∷ [])) (is_sixteen cs h).1
       (kept_of _ _ _ _ _ _ _ _ _ _ _ _ _ _ _ _ _ _ _ _))

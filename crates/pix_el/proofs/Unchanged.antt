@@ -66,14 +66,14 @@ module _ (max : ℕ) (laws : IsProduct fineness max (channel_product max)) where
   keeps_any op e f = λ s sa d da l k.
       (sum_of _ _ d (ap (λ (c : Coefficient). term max c s da) e) (ap (λ (c : Coefficient). term max c d sa) f) l, ap (λ (c : Coefficient). term max c sa da) e)
 
--- a channel that is kept
+-- a channel that is unchanged
 kept_at : (max : ℕ) (op : Op) (b : Bool) (s sa d da : ℕ) → 0 < max → d ≤ max → da ≤ max → (b ≡ false → Keeps max op s sa) → hue_weight max op sa da ≡ 0
     → d ≡ (if b then hue_composite max op s sa d da else channel_composite max op s sa d da)
 kept_at max op true s sa d da some h k keeps still =
     sym (ap (λ (w : ℕ). hue_after max d (hue_steps max w d s)) still ∙ over_hue max s d da some h)
 kept_at max op false s sa d da some h k keeps still = sym (keeps refl d da h k).0
 
--- a pixel of which each channel is kept
+-- a pixel of which each channel is unchanged
 pub kept_pixel : (layout : Layout) (op : Op) (source dest : List ℕ) → 0 < layout.max → length dest ≡ layout.count → Fits layout.max dest
     → ((ch : ℕ) → ch < layout.count → is_hue layout ch ≡ false → Keeps layout.max op (channel layout.max source ch) (alpha_of layout source))
     → hue_weight layout.max op (alpha_of layout source) (alpha_of layout dest) ≡ 0
@@ -106,7 +106,7 @@ module _ (layout : Layout) (op : Op) (laws : IsProduct fineness layout.max (chan
       (λ ch lt no. keeps (channel layout.max source ch) (alpha_of layout source))
       (keeps 0 (alpha_of layout source) 0 (alpha_of layout dest) (omega arith) (fd.at layout.alpha)).1
 
--- pixels that are kept, each under the matte of its place
+-- pixels that are unchanged, each under the matte of its place
 pub over_kept : {X : Type 0} (f : ℕ → List ℕ → List ℕ) (numbers : X → List ℕ) (count : ℕ) (ms : List ℕ) (ps : List X)
     → ((k : ℕ) (p : X) → length (numbers p) ≡ count → numbers p ≡ f (get_or ms k 0) (numbers p))
     → ((k : ℕ) → k < length ps → length (get_or (map numbers ps) k []) ≡ count)

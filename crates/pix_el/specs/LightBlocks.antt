@@ -6,15 +6,15 @@ use Rattle.pix_el.specs.Pixel.{channel}
 use Rattle.pix_el.specs.Light.{mode_changed}
 
 -- at an alpha, each color is the same in both alpha modes
-abbrev pub IsKept : ℕ → AlphaMode → AlphaMode → ℕ → Type 0
-IsKept max mode to_mode alpha = (x : ℕ) → x ≤ max → mode_changed max mode to_mode alpha x ≡ x
+abbrev pub IsSameInBothModes : ℕ → AlphaMode → AlphaMode → ℕ → Type 0
+IsSameInBothModes max mode to_mode alpha = (x : ℕ) → x ≤ max → mode_changed max mode to_mode alpha x ≡ x
 
 -- the same at the alpha of each of four pixels
-pub record AreKept (max : ℕ) (mode to_mode : AlphaMode) (alpha : ℕ) (pixels : List (List ℕ)) : Type 0 where
-  pub first : IsKept max mode to_mode (channel max (get_or pixels 0 []) alpha)
-  pub second : IsKept max mode to_mode (channel max (get_or pixels 1 []) alpha)
-  pub third : IsKept max mode to_mode (channel max (get_or pixels 2 []) alpha)
-  pub fourth : IsKept max mode to_mode (channel max (get_or pixels 3 []) alpha)
+pub record AreSameInBothModes (max : ℕ) (mode to_mode : AlphaMode) (alpha : ℕ) (pixels : List (List ℕ)) : Type 0 where
+  pub first : IsSameInBothModes max mode to_mode (channel max (get_or pixels 0 []) alpha)
+  pub second : IsSameInBothModes max mode to_mode (channel max (get_or pixels 1 []) alpha)
+  pub third : IsSameInBothModes max mode to_mode (channel max (get_or pixels 2 []) alpha)
+  pub fourth : IsSameInBothModes max mode to_mode (channel max (get_or pixels 3 []) alpha)
 
 -- a linear pixel of four channels, its colors in another alpha mode
 abbrev pub changed_four : ℕ → AlphaMode → AlphaMode → List ℕ → List ℕ

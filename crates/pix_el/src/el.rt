@@ -460,11 +460,21 @@ pub trait Pixel: Copy + Debug + Default + PartialEq {
 
     /// The layout is that of the channel type and the color model.
     ghost laid_out: { layout ≡
-        record { max = Self.Chan.max; count = layout.count; hues = Self.Model.CIRCULAR; alpha = Self.Model.ALPHA } };
+        record {
+          max = Self.Chan.max;
+          count = layout.count;
+          hues = Self.Model.CIRCULAR;
+          alpha = Self.Model.ALPHA;
+        } };
 
     /// The format is that of the layout, the color model and the alpha mode.
     ghost formatted: { format ≡ record {
-      layout = record { max = Self.Chan.max; count = layout.count; hues = Self.Model.CIRCULAR; alpha = Self.Model.ALPHA };
+      layout = record {
+        max = Self.Chan.max;
+        count = layout.count;
+        hues = Self.Model.CIRCULAR;
+        alpha = Self.Model.ALPHA;
+      };
       kind = Self.Model.KIND;
       colors = Self.Model.LINEAR;
       to_rgb = Self.Model.to_rgb;

@@ -52,7 +52,7 @@ command_facts R = size_of R ∷ offset R 0 ∷ offset R 1 ∷ offset R 2 ∷ off
 -- the version; the sizes of the pixels; the region; the command of each format, for any lifetime of
 -- its slices
 abbrev pub facts : List ℕ
-facts = 1 ∷ size_of rgba8.the_row ∷ size_of rgba16.the_row ∷ size_of graya8.the_row ∷ region_facts region.the_row
+facts = 2 ∷ size_of rgba8.the_row ∷ size_of rgba16.the_row ∷ size_of graya8.the_row ∷ region_facts region.the_row
     ++ command_facts (command.the_row (record { mir = named 0; lft = [] }))
     ++ command_facts (command_rgba16.the_row (record { mir = named 0; lft = [] }))
     ++ command_facts (command_graya8.the_row (record { mir = named 0; lft = [] }))

@@ -3,7 +3,8 @@ ghost use Rattle.std.specs.Prelude.{◌≡◌, ◌≢◌, length, map};
 ghost use Rattle.pix_raster.specs.Run.{run_at};
 ghost use Rattle.pix_raster.specs.View.{largest};
 ghost use Rattle.pix_flat.specs.Command.{command_of};
-ghost use Rattle.pix_flat.specs.Status.{status_of, done_of, window_status_of, window_done_of, first_fault};
+ghost use Rattle.pix_flat.specs.Status.{status_of, done_of, window_status_of, window_done_of};
+ghost use Rattle.pix_flat.specs.Status.{first_fault};
 ghost use Rattle.pix_flat.specs.Run.{IsRun, IsWindowRun};
 
 use crate::command::Flatten;

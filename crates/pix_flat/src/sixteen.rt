@@ -1,6 +1,7 @@
 //! Composites in a row of pixels in memory. Sixteen at a time are read, composited and written
 //! back, and then eight or four of the rest: eight where no block has fewer than sixteen.
-ghost use Rattle.std.specs.Prelude.{◌≡◌, ◌≤◌, ◌<◌, ◌+◌, List, ℕ, length, map, min, replicate, take, ⊤};
+ghost use Rattle.std.specs.Prelude.{◌≡◌, ◌≤◌, ◌<◌, ◌+◌, List, ℕ, length, map, min, replicate, take};
+ghost use Rattle.std.specs.Prelude.{⊤};
 ghost use Rattle.pix_chan.specs.Runs.{over};
 ghost use Rattle.pix_el.specs.PixelComposite.{pixel_composite, matted_composite, matte_value};
 

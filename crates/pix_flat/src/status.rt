@@ -1,6 +1,7 @@
 //! Statuses, and which commands are refused.
 ghost use Rattle.std.specs.Prelude.{◌≡◌, map};
-ghost use Rattle.pix_flat.specs.Status.{fits, has_pixels, has_mask, has_source, fault_of, first_fault, count_before_fault};
+ghost use Rattle.pix_flat.specs.Status.{fits, has_pixels, has_mask, has_source, fault_of};
+ghost use Rattle.pix_flat.specs.Status.{first_fault, count_before_fault};
 
 use crate::command::{FlatCommand, Flatten, PixRegion};
 use crate::kind;

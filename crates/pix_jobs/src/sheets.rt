@@ -78,7 +78,7 @@ fn few(
 ) -> Option<()> {
     let mut table = ColorTable::new(alloc, 256, threshold).ok()?;
     digest.add(table.len() as u64);
-    match table.index(alloc, picture).ok()? {
+    match table.index_pixels(alloc, picture).ok()? {
         Some(image) => {
             digest.add_raster(alloc, &image)?;
             let shown = table.look_up(alloc, &image).ok()??;

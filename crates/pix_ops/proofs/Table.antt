@@ -17,6 +17,6 @@ passed_at test xs i x all at = elim (cases_Bool (test x)) [
       absurd (cc (list_all_at test xs i x (slice_get_within xs i x at) fails))
 ]
 
--- a test that all listed operators pass is passed by each operator
+-- a test that all operators of the list pass is passed by each operator
 pub passed_by_each : (test : Op → Bool) → list_all test operators ≡ true → (op : Op) → test op ≡ true
 passed_by_each test all op = passed_at test operators (op_number op) op all (stands_at_number op)

@@ -137,7 +137,7 @@ IsUnmatted (Replaced s sa) = ⊤
 IsUnmatted (Composited op s sa) = ⊤
 IsUnmatted (Matted op matte s sa) = ⊥
 
--- the listed kinds: a clear, a copy, and a composite with a listed operator
+-- the listed kinds: a clear, a copy, and a composite with a constant source
 abbrev pub HasConstantSource : ChannelEffect → Type 0
 HasConstantSource (Replaced s sa) = ⊤
 HasConstantSource (Composited op s sa) = IsTrue (has_constant_source op)

@@ -60,7 +60,7 @@ product_count op = count_by 0 (row op).source (row op).dest
 abbrev pub matted_count : Op → ℕ
 matted_count op = count_by 1 (row op).source (row op).dest
 
--- the listed operators: the source's coefficient does not read the destination's alpha
+-- operators with a constant source: its coefficient does not read the destination's alpha
 abbrev pub has_constant_source : Op → Bool
 has_constant_source op = reads (row op).source == 0
 

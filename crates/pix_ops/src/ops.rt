@@ -2,7 +2,8 @@
 //!
 //! Colors are premultiplied, and the alpha is composited as any other channel. `sa` and `da` are
 //! the alphas of source and destination, products are channel products, and sums saturate.
-ghost use Rattle.std.specs.Prelude.{◌≡◌, ℕ, ◌-◌, ⊤, List, length, map, slice_get, Some, ◌↔◌, IsTrue, nat_eq, refl};
+ghost use Rattle.std.specs.Prelude.{◌≡◌, ℕ, ◌-◌, ⊤, List, length, map, slice_get, Some, ◌↔◌};
+ghost use Rattle.std.specs.Prelude.{IsTrue, nat_eq, refl};
 ghost use Rattle.pix_ops.specs.declared.ops.Op.{Op};
 ghost use Rattle.pix_ops.specs.Operators.{row};
 ghost use Rattle.pix_ops.specs.Seal.{Seal, seal};

@@ -1,4 +1,4 @@
--- PaletteBlocks and their spans, with one more.
+-- Blocks and their bounds, with one more.
 use Rattle.std.proofs.Common.{◌≡◌, ◌≢◌, ℕ, ◌+◌, ◌*◌, ◌<◌, ◌≤◌, List, [], ◌∷◌, ◌++◌, length, arith, sym, ap, ◌∙◌, subst, inl, inr, get_or, set, length-append, length-set}
 use Rattle.std.specs.Prelude.{◌/◌, ◌%◌}
 use Rattle.std.proofs.lemmas.Bool.{cases_lt, cases_eq}
@@ -25,7 +25,7 @@ blocks_more entries blocks block h is = λ k d below. elim (cases_lt k (length b
       subst (IsBlock entries (16 * k)) (sym (last_there blocks block d k same)) (subst (λ j. IsBlock entries (16 * j) block) same is)
 ]
 
--- no block is one of the first entries, and needs no span
+-- no block is one of the first entries, and needs no bounds
 pub no_blocks : (entries : List (List ℕ)) (blocks : List ColorBlock) → blocks ≡ [] → AreBlocks entries blocks
 no_blocks entries blocks e = subst (AreBlocks entries) (sym e) (λ k d below. absurd (omega arith))
 
@@ -33,7 +33,7 @@ pub no_spans : (blocks : List ColorBlock) (spans : List BlockBounds) → blocks 
 no_spans blocks spans e =
     subst (λ b. AreBlockBounds b spans) (sym e) (record { enough = λ k below. absurd (omega arith); each = λ k b s below. absurd (omega arith) })
 
--- the span of the block after the last, of number k, is set, and the others stay
+-- the bounds of the block after the last, of number k, are set, and the others stay
 pub span_set : (blocks : List ColorBlock) (spans : List BlockBounds) (k : ℕ) (old new : BlockBounds) → AreBlockBounds blocks spans → k ≡ length blocks
     → k / 16 < length spans → old ≡ get_or spans (k / 16) old
     → ((i : ℕ) (other : ColorBlock) → i ≢ k % 16 → Covers old i other → Covers new i other) → AreBlockBounds blocks (set spans (k / 16) new)

@@ -55,7 +55,7 @@ AreFar colors color difference from to holds =
 abbrev pub IsNowhere : List (List ℕ) → List ℕ → Type 0
 IsNowhere colors color = (k : ℕ) → k < length colors → difference_to colors color k ≢ 0 ∷ 0 ∷ 0 ∷ []
 
--- blocks of the first entries, with their spans
+-- blocks of the first entries, with their bounds
 pub record HasBlocks (colors : List (List ℕ)) (has : PaletteBlocks) : Type 0 where
   pub blocks : AreBlocks colors has.blocks.items
   pub spans : AreBlockBounds has.blocks.items has.spans.items

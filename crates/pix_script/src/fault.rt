@@ -1,6 +1,7 @@
 //! Why a script gives no image.
 ghost use Rattle.std.specs.Prelude.{◌≡◌, Some};
-ghost use Rattle.pix_script.specs.Fault.{problem_number, problem_text, fault_number, fault_line, fault_text};
+ghost use Rattle.pix_script.specs.Fault.{problem_number, problem_text, fault_number, fault_line};
+ghost use Rattle.pix_script.specs.Fault.{fault_text};
 ghost use Rattle.pix_script.specs.declared.fault.PaintFault.TheVariants.{OutOfMemory};
 
 use std::alloc::AllocError;

@@ -1,6 +1,7 @@
 //! The words of a script as numbers and colors.
 ghost use Rattle.std.specs.Prelude.{◌≡◌, ◌<◌, ◌≤◌, IfSome};
-ghost use Rattle.pix_script.specs.Numbers.{number_up_to, side_of, coordinate_of, hex_digit_of, hex_byte_of, color_of};
+ghost use Rattle.pix_script.specs.Numbers.{number_up_to, side_of, coordinate_of, hex_digit_of};
+ghost use Rattle.pix_script.specs.Numbers.{hex_byte_of, color_of};
 
 /// The greatest side.
 const MAX_SIDE: u32 = 2_147_483_647;

@@ -1,8 +1,12 @@
 //! The words of a line as its command.
 ghost use Rattle.std.specs.Prelude.{◌≡◌, ◌∷◌, ◌||◌, map, Some};
 ghost use Rattle.std.specs.Option.{option_map};
-ghost use Rattle.pix_script.specs.Commands.{new_image, on_image, from_kept, named, commands, problem_of, meaning_of, problem_of_shape, any_fails, is_bad_operator, is_bad_number, is_bad_color, is_above, any_side_above};
-ghost use Rattle.pix_script.specs.Meaning.{rectangle_of, image_of, fill_of, paint_of, copy_of, comp_of};
+ghost use Rattle.pix_script.specs.Commands.{new_image, on_image, from_kept, named, commands};
+ghost use Rattle.pix_script.specs.Commands.{problem_of, meaning_of, problem_of_shape, any_fails};
+ghost use Rattle.pix_script.specs.Commands.{is_bad_operator, is_bad_number, is_bad_color, is_above};
+ghost use Rattle.pix_script.specs.Commands.{any_side_above};
+ghost use Rattle.pix_script.specs.Meaning.{rectangle_of, image_of, fill_of, paint_of, copy_of};
+ghost use Rattle.pix_script.specs.Meaning.{comp_of};
 ghost use Rattle.pix_script.specs.Numbers.{side_of};
 ghost use Rattle.pix_script.specs.Reading.{Reads, Checks, IsRowOf, AreBad, shape_of};
 
@@ -60,9 +64,11 @@ fn parse_words(name: &[u8], arguments: &[&[u8]], earlier: Earlier) -> Result<Opt
 /// Returns the row of the command of a name, where these words follow the name. It is the table of
 /// all commands.
 fn row_of(name: &[u8], words: &[&[u8]]) -> Option<Row>
-    ensures shape { option_map shape_of result ≡ option_map (λ c. c.shape) (named name.now commands) }
+    ensures shape { option_map shape_of result
+        ≡ option_map (λ c. c.shape) (named name.now commands) }
     ensures line { let all = map (λ word. word.now) words.now in
-        option_map (λ r. r.line) result ≡ option_map (λ c. c.reading all) (named name.now commands) }
+        option_map (λ r. r.line) result
+        ≡ option_map (λ c. c.reading all) (named name.now commands) }
 {
     if name == b"image".as_slice() {
         return Some(new_image(&[Side, Side], image(words)));
@@ -209,7 +215,8 @@ fn comp(arguments: &[&[u8]]) -> Option<Line>
 /// Checks the words after a command's name, from which its row was made.
 fn check(row: &Row, arguments: &[&[u8]], earlier: Earlier) -> Result<(), Problem>
     ensures { let all = map (λ word. word.now) arguments.now in
-        IsRowOf row.now all → Checks (problem_of_shape earlier all (Some (shape_of row.now))) result }
+        IsRowOf row.now all
+        → Checks (problem_of_shape earlier all (Some (shape_of row.now))) result }
 {
     let bad = bad_words_of(row, arguments);
     if bad.operator {
@@ -280,9 +287,12 @@ impl Bad {
 
 /// Returns which of the words are bad in their places.
 fn bad_words(kinds: &[Kind], arguments: &[&[u8]]) -> Bad
-    ensures operator { result.operator ≡ any_fails is_bad_operator kinds.now (map (λ word. word.now) arguments.now) }
-    ensures number { result.number ≡ any_fails is_bad_number kinds.now (map (λ word. word.now) arguments.now) }
-    ensures color { result.color ≡ any_fails is_bad_color kinds.now (map (λ word. word.now) arguments.now) }
+    ensures operator { result.operator
+        ≡ any_fails is_bad_operator kinds.now (map (λ word. word.now) arguments.now) }
+    ensures number { result.number
+        ≡ any_fails is_bad_number kinds.now (map (λ word. word.now) arguments.now) }
+    ensures color { result.color
+        ≡ any_fails is_bad_color kinds.now (map (λ word. word.now) arguments.now) }
 {
     let mut bad = Bad {
         operator: false,

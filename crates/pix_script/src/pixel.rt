@@ -70,7 +70,8 @@ fn write_cells(cells: &mut [[u8; 9]], pixels: &[Rgba8p], start: usize, width: us
     requires start { start < width }
     ensures text { (rest : List (List ℕ))
         → text_from width start (map color_numbers pixels.now ++ rest)
-        ≡ flat_map (λ cell. cell) (take (length pixels.now) cells.new) ++ text_from width result rest }
+        ≡ flat_map (λ cell. cell) (take (length pixels.now) cells.new)
+        ++ text_from width result rest }
     ensures column { result < width }
 {
     let mut column = start;

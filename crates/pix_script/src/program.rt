@@ -34,7 +34,8 @@ pub fn run<R: Read, W: Write, E: Write>(
 
 /// Writes the line that reports a stop, and flushes it.
 fn report<E: Write>(errors: &mut E, stop: PaintStop) -> io::Result<()>
-    ensures { AppendsOrPart (E.contents errors.old) (E.contents errors.new) (stop_line stop) result }
+    ensures { AppendsOrPart (E.contents errors.old) (E.contents errors.new) (stop_line stop)
+        result }
 {
     let mut line = ReportLine::new();
     writeln!(line, "{stop}")?;

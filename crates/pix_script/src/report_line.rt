@@ -43,7 +43,8 @@ impl Write for ReportLine {
     // It takes the bytes that there is room for.
     fn write(&mut self, buf: &[u8]) -> io::Result<usize>
         ensures bound { WritesAtMost result buf.now }
-        ensures bytes { WriteAppends (Some (bytes_of self.old)) (Some (bytes_of self.new)) result buf.now }
+        ensures bytes { WriteAppends (Some (bytes_of self.old)) (Some (bytes_of self.new)) result
+            buf.now }
     {
         let start = self.filled.min(MAX_REPORT);
         let count = buf.len().min(MAX_REPORT - start);

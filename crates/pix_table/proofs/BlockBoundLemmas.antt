@@ -1,4 +1,4 @@
--- The spans of blocks.
+-- The bounds of blocks.
 use Rattle.std.specs.Prelude.{◌/◌, ◌%◌}
 use Rattle.std.specs.Int.{bit_at}
 use Rattle.std.proofs.Common.{◌≡◌, ℕ, true, ◌+◌, ◌-◌, ◌*◌, ◌^◌, ◌≤◌, ◌<◌, false, List, [], ◌∷◌, length, get_or, take, drop, arith, sym, ap, ◌∙◌, subst, inl, inr}
@@ -12,7 +12,7 @@ use Rattle.pix_table.specs.declared.block_bounds.BlockBounds.{BlockBounds}
 use Rattle.pix_table.specs.declared.color_block.ColorBlock.{ColorBlock}
 use Rattle.pix_table.proofs.BitLemmas.{shifted_bit}
 
--- spans with no numbers, which stand for those behind the last
+-- bounds with no numbers, which stand for those behind the last
 abbrev pub no_spans : BlockBounds
 no_spans = record { least_red = []; least_green = []; least_blue = []; greatest_red = []; greatest_green = []; greatest_blue = [] }
 
@@ -26,12 +26,12 @@ near_parts : (color difference near : List ℕ) → is_within (color_difference 
 near_parts color difference near h =
     within_parts (apart (get_or near 0 0) (get_or color 0 0)) (apart (get_or near 1 0) (get_or color 1 0)) (apart (get_or near 2 0) (get_or color 2 0)) (get_or difference 0 0) (get_or difference 1 0) (get_or difference 2 0) h
 
--- two spans meet whose ends lie so
+-- two bounds meet whose ends lie so
 meets_by : (a b c d e f g h i j k l : ℕ) → a ≤ b → c ≤ d → e ≤ f → g ≤ h → i ≤ j → k ≤ l
     → meets (c ∷ g ∷ k ∷ []) (b ∷ f ∷ j ∷ []) (a ∷ e ∷ i ∷ []) (d ∷ h ∷ l ∷ []) ≡ true
 meets_by a b c d e f g h i j k l ab cd ef gh ij kl = grind (arith, nat_tests)
 
--- the span of a color within a difference of another meets the reach of that
+-- the bounds of a color within a difference of another meet the reach of that
 span_meets : (least greatest color difference low high near : List ℕ) → IsReach color difference low high → Lies least greatest near
     → get_or greatest 0 0 ≤ 255 → get_or greatest 1 0 ≤ 255 → get_or greatest 2 0 ≤ 255
     → is_within (color_difference near color) difference ≡ true → meets low high least greatest ≡ true
@@ -43,7 +43,7 @@ span_meets least greatest color difference low high near reach lies red green bl
     (omega (arith, parts.1, lies.green_low, lies.green_high, green)) (omega (arith, parts.1, lies.green_high))
     (omega (arith, parts.2, lies.blue_low, lies.blue_high, blue)) (omega (arith, parts.2, lies.blue_high)))
 
--- a block whose span does not meet the reach of a color has no color within the difference
+-- a block whose bounds do not meet the reach of a color has no color within the difference
 pub far_by_span : (spans : BlockBounds) (j : ℕ) (block : ColorBlock) (color difference low high : List ℕ) → Covers spans j block → IsReach color difference low high
     → meets low high (least_at spans j) (greatest_at spans j) ≡ false → IsFar block color difference
 far_by_span spans j block color difference low high covers reach apart i below =
@@ -55,7 +55,7 @@ far_by_span spans j block color difference low high covers reach apart i below =
       | inr far ↦ far
     ]
 
--- a block is far whose span does not meet the reach
+-- a block is far whose bounds do not meet the reach
 far_in_group : (blocks : List ColorBlock) (spans : List BlockBounds) (s : BlockBounds) (k : ℕ) (d : ColorBlock) (color difference low high : List ℕ)
     → AreBlockBounds blocks spans → IsReach color difference low high → k < length blocks
     → meets low high (least_at (get_or spans (k / 16) s) (k % 16)) (greatest_at (get_or spans (k / 16) s) (k % 16)) ≡ false
@@ -63,7 +63,7 @@ far_in_group : (blocks : List ColorBlock) (spans : List BlockBounds) (s : BlockB
 far_in_group blocks spans s k d color difference low high are reach below apart =
     far_by_span (get_or spans (k / 16) s) (k % 16) (get_or blocks k d) color difference low high (are.each k d s below) reach apart
 
--- blocks from k on in its group are far that are so where the bit of a span which meets the reach
+-- blocks from k on in its group are far that are so where the bit of bounds which meet the reach
 -- is set
 pub group_far : (blocks : List ColorBlock) (spans : List BlockBounds) (s : BlockBounds) (k m n bits : ℕ) (color difference low high : List ℕ)
     → AreBlockBounds blocks spans → IsReach color difference low high → k + n ≤ length blocks → k + n ≤ k / 16 * 16 + 16 → n ≤ m

@@ -1,4 +1,4 @@
--- InverseMap of colors, one color after the other.
+-- Boxes of colors, one color after the other.
 use Rattle.std.proofs.Common.{◌≡◌, ℕ, suc, ◌+◌, ◌<◌, ◌≤◌, cond, List, [], ◌∷◌, ◌++◌, length, map, take, get_or, fold, nat_lt, refl, arith, sym, ap, ◌∙◌, lt-ltb, le-ltb}
 use Rattle.std.proofs.lemmas.List.{map-append, take_more}
 use Rattle.std.proofs.lemmas.List.Sums.{fold-append, sum_by-cons}

@@ -1,4 +1,4 @@
--- What is kept stays right while the table grows.
+-- What is cached stays right while the table grows.
 use Rattle.std.specs.Prelude.{All, take}
 use Rattle.std.proofs.Common.{◌≡◌, ℕ, ◌+◌, ◌-◌, ◌<◌, ◌≤◌, true, List, [], ◌∷◌, ◌++◌, length, map, get_or, refl, arith, sym, ap, ◌∙◌, subst, inl, inr, Some, Option, length-append}
 use Rattle.std.proofs.lemmas.Bool.{cases_eq}
@@ -49,7 +49,7 @@ same_difference p q h =
     let blue : get_or p 2 0 - get_or q 2 0 + (get_or q 2 0 - get_or p 2 0) ≡ 0 = grind (arith, nat_tests) in
     rw (red, green, blue) refl
 
--- a color that is kept has its entry stand for it
+-- a color that is cached has its entry stand for it
 right_serves : (answers : ℕ → List ℕ → Type 0) (entries : List (List ℕ)) (kept : CacheEntry) → IsRight answers entries kept
     → serves kept.count (length entries) ≡ true → StandsFor answers entries (numbers kept.clr) (Some kept.index)
 right_serves answers entries kept h e = elim (cases_eq kept.count 65535) [
@@ -105,7 +105,7 @@ none_right answers entries places h = λ k d below.
     let none : (get_or places k d).count ≡ 0 = h k d below in
     record { always = λ e. absurd (omega (arith, none, e)); while = λ some _. absurd (omega (arith, none, some)) }
 
--- setting a color that is kept answers its index
+-- setting a color that is cached answers its index
 pub kept_is_set : {C : Type 0} (read : C → List ℕ) (answers : ℕ → List ℕ → Type 0) (limit : ℕ) (slots : List C) (len : ℕ) (places : List CacheEntry) (clr : C)
     (color : List ℕ) (i : ℕ) → len ≤ length slots → AreRight answers (map read (take len slots)) places → IsCached places color len i → color ≡ read clr
     → IsSet read answers limit (take len slots) clr (Some i) (take len slots)
@@ -122,7 +122,7 @@ set_below read answers limit old color i new h =
     let below : i < length (map read new) = match_below (map read new) (read color) i (set_stands read answers limit old color i new h).match in
     omega (arith, length-map new read)
 
--- what is kept after a color was set is right
+-- what is cached after a color was set is right
 pub set_right : {C : Type 0} (read : C → List ℕ) (answers : ℕ → List ℕ → Type 0) (limit : ℕ) (old : List C) (clr : C) (answer : Option ℕ) (new : List C)
     (places : List CacheEntry) → IsSet read answers limit old clr answer new → AreRight answers (map read old) places → AreRight answers (map read new) places
 set_right read answers limit old clr answer new places h right =

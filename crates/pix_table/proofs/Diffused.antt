@@ -85,7 +85,7 @@ scaled : (there : Bool) (n : ℕ) (color : List ℕ) (c : ℕ) → part there n 
 scaled true n color c = ap (λ x. n * x) (omega arith)
 scaled false n color c = omega arith
 
--- the sums of four misses, each of which is 255 too great, and of the parts of four colors
+-- the sums of four errors, each of which is 255 too great, and of the parts of four colors
 sum_of : (scan : ScanOrder) (left left_above above right_above a b c d w x y z : ℕ) → left + a ≡ 255 + w → left_above + b ≡ 255 + x → above + c ≡ 255 + y → right_above + d ≡ 255 + z
     → 7 * left + share_before scan * left_above + 5 * above + share_next scan * right_above + (7 * a + share_before scan * b + 5 * c + share_next scan * d)
     ≡ 4080 + (7 * w + share_before scan * x + 5 * y + share_next scan * z)
@@ -107,7 +107,7 @@ in_parts scan colors width first place c =
     (scaled (nat_le width first) 5 (get_or colors (number_above scan width first place) []) c))
     (scaled (nat_lt (place + 1) width && nat_le width first) (share_next scan) (get_or colors (number_above scan width first (place + 1)) []) c)
 
--- what a pixel gets in a channel of the four misses around it, each of which is 255 too great
+-- what a pixel gets in a channel of the four errors around it, each of which is 255 too great
 pub together : (scan : ScanOrder) (ws gs : List (List ℕ)) (width first place c left left_above above right_above : ℕ)
     → left + part (nat_lt 0 place) 1 (get_or gs (first + place - 1) []) c ≡ 255 + part (nat_lt 0 place) 1 (get_or ws (first + place - 1) []) c
     → left_above + part (nat_lt 0 place && nat_le width first) 1 (get_or gs (number_above scan width first (place - 1)) []) c
@@ -126,18 +126,18 @@ together scan ws gs width first place c left left_above above right_above a b d 
 pub in_channel : (h s f w : ℕ) → h ≡ s → s + f ≡ 4080 + w → h + f ≡ 4080 + w
 in_channel h s f w e all = omega arith
 
--- no miss where a color is both wanted and found
+-- no error where a color is both wanted and found
 pub no_miss : (color : List ℕ) → IsColorError true color color (record { red = 255; green = 255; blue = 255; alpha = 255; spare = 0 })
 no_miss color = record { red = refl; green = refl; blue = refl; alpha = refl }
 
--- the same miss, of the same pixel if it is there
+-- the same error, of the same pixel if it is there
 pub moved : (s t : Bool) (w f x g : List ℕ) (miss : ColorError) → t ≡ s → (t ≡ true → x ≡ w) → (t ≡ true → g ≡ f) → IsColorError s w f miss → IsColorError t x g miss
 moved true true w f x g miss e a b h = subst (λ y. IsColorError true y g miss) (sym (a refl)) (subst (λ y. IsColorError true w y miss) (sym (b refl)) h)
 moved false false w f x g miss e a b h = record { red = h.red; green = h.green; blue = h.blue; alpha = h.alpha }
 moved true false w f x g miss e a b h = cc
 moved false true w f x g miss e a b h = cc
 
--- a miss above a row is kept when one color comes after it
+-- an error above a row stays when one color comes after it
 kept_above : (scan : ScanOrder) (ws gs : List (List ℕ)) (w g : List ℕ) (width first p place : ℕ) (s t : Bool) (miss : ColorError) → p < width → length ws ≡ first + place → length gs ≡ first + place
     → t ≡ s → (t ≡ true → width ≤ first) → IsColorError s (get_or ws (number_above scan width first p) []) (get_or gs (number_above scan width first p) []) miss
     → IsColorError t (get_or (ws ++ w ∷ []) (number_above scan width first p) []) (get_or (gs ++ g ∷ []) (number_above scan width first p) []) miss

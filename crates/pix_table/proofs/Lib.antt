@@ -11,6 +11,8 @@ pub mod SumLemmas
 pub mod BoxSumLemmas
 pub mod PartedSums
 pub mod WordLemmas
+pub mod ItemSums
+pub mod ItemGroups
 pub mod Rounds
 pub mod PlacesBy
 pub mod PlaceLemmas

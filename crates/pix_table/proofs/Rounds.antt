@@ -1,23 +1,22 @@
 -- The colors of each entry, their sums, and the round that the sums make.
 use Rattle.std.specs.List.{flat_map}
-use Rattle.std.proofs.Common.{◌≡◌, ◌≢◌, ℕ, zero, suc, ◌+◌, ◌-◌, ◌*◌, ◌<◌, ◌≤◌, Bool, true, false, not, ◌&&◌, ◌||◌, cond, List, [], ◌∷◌, ◌++◌, length, map, take, set, replicate, get_or, nat_eq, nat_lt, filter, sum_by, All, IsPermutation, refl, arith, sym, ap, ◌∙◌, subst, inl, inr, lt-ltb, le-ltb, eq-eqb, ne_eqb, length-append, length-set}
+use Rattle.std.proofs.Common.{◌≡◌, ◌≢◌, ℕ, zero, suc, ◌+◌, ◌-◌, ◌<◌, ◌≤◌, Bool, true, false, not, ◌&&◌, ◌||◌, cond, List, [], ◌∷◌, ◌++◌, length, map, take, set, get_or, nat_eq, nat_lt, filter, sum_by, All, IsPermutation, refl, arith, sym, ap, ◌∙◌, subst, inl, inr, lt-ltb, le-ltb, eq-eqb, ne_eqb, length-append, length-set}
 use Rattle.std.proofs.Math.Seq.{map-set_same}
 use Rattle.std.proofs.lemmas.Bool.{cases_lt, cases_order, cases_Bool, eqb-true, true≢false, and_parts}
 use Rattle.std.proofs.lemmas.List.{append-nil, get_or_append_left, get_or-append-add, get_or-take, get_or-set_other, length-map, map-set}
 use Rattle.std.proofs.lemmas.Grind.{flat_map-append, get_or-set_at}
-use Rattle.std.proofs.lemmas.List.Elements.{All-cons, All-nil, All-push}
+use Rattle.std.proofs.lemmas.List.Elements.{All-cons, All-nil}
 use Rattle.std.proofs.lemmas.List.Sums.{length-filter, sum_by-cons}
 use Rattle.std.proofs.lemmas.List.Sorted.{IsPermutation-refl, IsPermutation-sym, IsPermutation-trans, IsPermutation-cons, IsPermutation-middle, IsPermutation-append_left}
 use Rattle.pix_table.specs.Nearest.{distance, IsNearest, IsNearestBy, numbers}
 use Rattle.pix_table.specs.Quantization.{same_color}
 use Rattle.pix_table.specs.Places.{sum_in}
-use Rattle.pix_table.specs.BestPlaces.{AreBytes, AreParted, AreSums, sum_of}
+use Rattle.pix_table.specs.BestPlaces.{AreSums, sum_of}
 use Rattle.pix_table.specs.Refine.{AreGroupsBy, IsRound, refined}
-use Rattle.pix_table.specs.Groups.{AreGrouped, mean_by, settled}
+use Rattle.pix_table.specs.Groups.{AreItemGroups, AreItemSums, AreOfBytes, mean_by, settled}
+use Rattle.pix_table.specs.Items.{AreItemsOf}
 use Rattle.pix_table.specs.declared.box_sums.Sums.{Sums}
 use Rattle.pix_table.specs.declared.color.Color.{Color}
-use Rattle.pix_table.proofs.BoxSumLemmas.{are_few, count_few}
-use Rattle.pix_table.proofs.PartedSums.{parted_more, parted_none}
 
 -- by any measure of how far two colors are apart
 module _ (apart : List ℕ → List ℕ → ℕ) where
@@ -180,17 +179,10 @@ settled_is sums entry (c ∷ group) count red green blue =
     ap (λ b. cond b entry (mean_by sums)) (ne_eqb sums.count 0 (λ e. omega (arith, count, e))) ∙ rw (count, red, green, blue) refl
 
 -- the sums of an entry are those of bytes
-pub sums_few : (entries colors : List Color) (sums : List Sums) (d : Sums) → 0 < length entries
-    → AreGrouped (map numbers entries) (map numbers colors) (take (length entries) sums) → (k : ℕ) → k < length entries
-    → ((get_or sums k d).red ≤ 255 * (get_or sums k d).count) × ((get_or sums k d).green ≤ 255 * (get_or sums k d).count)
-    × ((get_or sums k d).blue ≤ 255 * (get_or sums k d).count)
-sums_few entries colors sums d some grouped k inside =
-    let at : List ℕ → ℕ = (λ c. (nearest_at distance (map numbers entries) (omega (arith, length-map entries numbers, some)) c).0) in
-    let nearest : (c : List ℕ) → IsNearest (map numbers entries) c (at c) =
-    (λ c. (nearest_at distance (map numbers entries) (omega (arith, length-map entries numbers, some)) c).1) in
-    are_few (λ c. nat_eq (at c) k) (map numbers colors) (get_or sums k d) grouped.bytes
-    (subst (AreSums (λ c. nat_eq (at c) k) (map numbers colors)) (get_or-take (length entries) sums k d inside)
-    ((grouped.parts at nearest).each k d (omega (arith, length-map entries numbers, inside))))
+pub sums_few : (entries items : List (List ℕ)) (pairs n m : ℕ) (sums : List Sums) (d : Sums) → m ≡ length entries
+    → AreItemGroups entries items pairs n (take m sums) → (k : ℕ) → k < m → AreOfBytes (get_or sums k d)
+sums_few entries items pairs n m sums d e grouped k inside =
+    subst AreOfBytes (get_or-take m sums k d inside) (grouped.bytes k d (omega (arith, e, inside)))
 
 -- the first i entries have moved by their sums, and the others stand
 pub record AreMoved (old new : List (List ℕ)) (sums : List Sums) (d : Sums) (i : ℕ) : Type 0 where
@@ -257,10 +249,20 @@ pub same_more : (start : List (List ℕ)) (es : List Color) (i : ℕ) (x d : Col
 same_more start es i x d moved same new e is h g =
     same_more_by numbers start es i x d moved same new (λ t. same_numbers x (get_or es i d) (sym e ∙ t)) is h g
 
+-- the sums of the items are those of the colors
+sums_of_items : (p : List ℕ → Bool) (colors items : List (List ℕ)) (pairs singles : ℕ) (sums : Sums) → AreItemsOf colors items pairs singles
+    → AreItemSums p items pairs (pairs + singles) sums → AreSums p colors sums
+sums_of_items p colors items pairs singles sums are h = record {
+  count = h.count ∙ sym (are (λ c. cond (p c) 1 0));
+  red = h.red ∙ sym (are (λ c. cond (p c) (get_or c 0 0) 0));
+  green = h.green ∙ sym (are (λ c. cond (p c) (get_or c 1 0) 0));
+  blue = h.blue ∙ sym (are (λ c. cond (p c) (get_or c 2 0) 0));
+}
+
 -- the round
-pub round_made : (old colors new : List (List ℕ)) (n i : ℕ) (sums : List Sums) (d : Sums) → 0 < n → n ≡ length old → n ≤ i
-    → AreGrouped old colors (take n sums) → AreMoved old new sums d i → IsRound colors old new
-round_made old colors new n i sums d some e all grouped h =
+pub round_made : (old colors items new : List (List ℕ)) (pairs singles n i : ℕ) (sums : List Sums) (d : Sums) → 0 < n → n ≡ length old → n ≤ i
+    → AreItemsOf colors items pairs singles → AreItemGroups old items pairs (pairs + singles) (take n sums) → AreMoved old new sums d i → IsRound colors old new
+round_made old colors items new pairs singles n i sums d some e all of_items grouped h =
     let at : List ℕ → ℕ = (λ c. (nearest_at distance old (omega (arith, e, some)) c).0) in
     let nearest : (c : List ℕ) → IsNearest old c (at c) = (λ c. (nearest_at distance old (omega (arith, e, some)) c).1) in
     record {
@@ -268,8 +270,11 @@ round_made old colors new n i sums d some e all grouped h =
       are = groups_are distance old colors at nearest;
       many = h.many;
       each = λ k inside.
+          let taken : AreItemSums (λ c. nat_eq (at c) k) items pairs (pairs + singles) (get_or sums k d) =
+          subst (AreItemSums (λ c. nat_eq (at c) k) items pairs (pairs + singles)) (get_or-take n sums k d (omega (arith, e, inside)))
+          (grouped.parts at nearest k d inside) in
           let s : AreSums (λ c. nat_eq (at c) k) colors (get_or sums k d) =
-          subst (AreSums (λ c. nat_eq (at c) k) colors) (get_or-take n sums k d (omega (arith, e, inside))) ((grouped.parts at nearest).each k d inside) in
+          sums_of_items (λ c. nat_eq (at c) k) colors items pairs singles (get_or sums k d) of_items taken in
           h.moved k (omega (arith, e, inside, all))
           ∙ settled_is (get_or sums k d) (get_or old k []) (part at k colors) (s.count ∙ sym (length-filter (λ c. nat_eq (at c) k) colors))
           (s.red ∙ sum_kept (λ c. nat_eq (at c) k) (λ c. get_or c 0 0) colors)
@@ -277,32 +282,3 @@ round_made old colors new n i sums d some e all grouped h =
           (s.blue ∙ sum_kept (λ c. nat_eq (at c) k) (λ c. get_or c 2 0) colors)
           ∙ ap (refined (get_or old k [])) (sym (part_of at (length old) k colors inside));
     }
-
--- the sums of no colors, and of one color more
-pub grouped_none : (entries : List (List ℕ)) (n : ℕ) (none : Sums) → n ≡ length entries → none.count ≡ 0 → none.red ≡ 0 → none.green ≡ 0 → none.blue ≡ 0
-    → AreGrouped entries [] (replicate n none)
-grouped_none entries n none e count red green blue = record {
-  bytes = All-nil AreBytes;
-  parts = λ at nearest. subst (λ m. AreParted at m [] (replicate n none)) e (parted_none at n none count red green blue);
-}
-
-pub grouped_more : (entries box more : List (List ℕ)) (sums : List Sums) (c : Color) (v : ℕ) (old new : Sums) → more ≡ box ++ numbers c ∷ [] → AreBytes (numbers c)
-    → IsNearest entries (numbers c) v → old ≡ get_or sums v old → new.count ≡ old.count + 1 → new.red ≡ old.red + c.red → new.green ≡ old.green + c.green
-    → new.blue ≡ old.blue + c.blue → AreGrouped entries box sums → AreGrouped entries more (set sums v new)
-grouped_more entries box more sums c v old new grown bytes is read count red green blue h = record {
-  bytes = subst (All AreBytes) (sym grown) (All-push AreBytes box (numbers c) h.bytes bytes);
-  parts = λ at nearest.
-      parted_more at (length entries) v box more sums c old new grown (h.parts at nearest)
-      (nearest_is_one distance entries (numbers c) v (at (numbers c)) is (nearest (numbers c))) is.stands read count red green blue;
-}
-
--- what is known of the sums to which a color is added
-pub sums_open : (entries box : List (List ℕ)) (sums : List Sums) (d : Sums) (v : ℕ) → v < length entries → AreGrouped entries box sums
-    → ((get_or sums v d).count ≤ length box) × ((get_or sums v d).red ≤ 255 * (get_or sums v d).count) × ((get_or sums v d).green ≤ 255 * (get_or sums v d).count)
-    × ((get_or sums v d).blue ≤ 255 * (get_or sums v d).count)
-sums_open entries box sums d v inside h =
-    let at : List ℕ → ℕ = (λ c. (nearest_at distance entries (omega arith) c).0) in
-    let nearest : (c : List ℕ) → IsNearest entries c (at c) = (λ c. (nearest_at distance entries (omega arith) c).1) in
-    let s : AreSums (λ c. nat_eq (at c) v) box (get_or sums v d) = (h.parts at nearest).each v d inside in
-    let few = are_few (λ c. nat_eq (at c) v) box (get_or sums v d) h.bytes s in
-    (count_few (λ c. nat_eq (at c) v) box (get_or sums v d) s, few.0, few.1, few.2)

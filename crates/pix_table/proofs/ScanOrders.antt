@@ -1,4 +1,4 @@
--- Ways through the rows of a picture.
+-- Orders in which the pixels of a picture are scanned.
 use Rattle.std.proofs.Common.{◌≡◌, ◌≢◌, ℕ, ◌+◌, ◌-◌, ◌*◌, ◌/◌, ◌%◌, ◌<◌, ◌≤◌, Bool, true, false, not, nat_lt, nat_le, refl, arith, sym, ap, ◌∙◌, subst, inl, inr, if◌then◌else◌, mod-lt, div-add-mod', mul-le-mul_right, add-mul}
 use Rattle.std.proofs.lemmas.Bool.{cases_lt}
 use Rattle.std.proofs.Math.Nat.{mod-le, mul-div_left, zero-div}
@@ -70,12 +70,12 @@ pub begins : (scan : ScanOrder) (width : ℕ) → false ≡ is_back scan width 0
 begins LeftToRight width = refl
 begins Serpentine width = ap (λ n. nat_lt 0 (n % 2)) (sym (zero-div width))
 
--- pixels of the same row go the same way
+-- pixels of the same row are scanned in one direction
 same_scan : (scan : ScanOrder) (width j k : ℕ) → j / width ≡ k / width → is_back scan width j ≡ is_back scan width k
 same_scan LeftToRight width j k e = refl
 same_scan Serpentine width j k e = ap (λ n. nat_lt 0 (n % 2)) e
 
--- two pixels of a way are at different places of the picture
+-- two pixels of a scan are at different places of the picture
 pub places_apart : (scan : ScanOrder) (width j k : ℕ) → 0 < width → j < k → in_picture scan width j ≢ in_picture scan width k
 places_apart scan width j k some less same = elim (cases_lt (j / width) (k / width)) [
   | inl b ↦
@@ -121,7 +121,7 @@ same_row k width inside =
 other : (n : ℕ) → nat_lt 0 ((n + 1) % 2) ≡ not (nat_lt 0 (n % 2))
 other n = grind (arith, nat_tests)
 
--- the next row goes the other way in the serpentine way, and the same row goes on
+-- in the serpentine order the next row goes in the other direction, and the same row goes on
 pub turns : (k width : ℕ) → 0 < width → k % width + 1 ≡ width → is_back Serpentine width (k + 1) ≡ not (is_back Serpentine width k)
 turns k width some end = ap (λ n. nat_lt 0 (n % 2)) (next_row k width some end) ∙ other (k / width)
 

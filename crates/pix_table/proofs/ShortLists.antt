@@ -1,4 +1,4 @@
--- The entries of a box, one after the other, and the nearest of those that are listed.
+-- The entries of a cell, one after the other, and the nearest of those of its list.
 use Rattle.std.specs.Prelude.{min}
 use Rattle.std.proofs.Common.{◌≡◌, ◌≢◌, ◌⊎◌, ℕ, zero, suc, ◌+◌, ◌*◌, ◌%◌, ◌<◌, ◌≤◌, List, [], length, map, get_or, set, length-set, refl, sym, ap, ◌∙◌, subst, arith, inl, inr}
 use Rattle.std.proofs.lemmas.Bool.{cases_lt, cases_order}
@@ -7,21 +7,21 @@ use Rattle.std.proofs.lemmas.Grind.{get_or-set_at}
 use Rattle.std.proofs.Math.Nat.{min-eq_left, min-eq_right}
 use Rattle.pix_table.specs.Nearest.{distance, distance_to, IsNearest, numbers}
 use Rattle.pix_table.specs.EntryLanes.{AreChosen}
-use Rattle.pix_table.specs.InverseMap.{IsInside, IsListed, IsBeaten, IsPlaced, IsFirst, IsListFor, IsInverseMap, HasLists, AreEnough, AreShortListed, IsKnown, low_at, reach_at}
+use Rattle.pix_table.specs.InverseMap.{IsInside, IsInList, IsBeaten, IsPlaced, IsFirst, IsListFor, IsInverseMap, HasLists, AreEnough, AreShortListed, IsKnown, low_at, reach_at}
 use Rattle.pix_table.specs.declared.inverse_map.InverseMap.{InverseMap}
 use Rattle.pix_table.specs.declared.inverse_map.ShortList.{ShortList}
 use Rattle.pix_table.specs.declared.color.Color.{Color}
 use Rattle.pix_table.proofs.NearestEntries.{IsNearestBelow, nearest_at_first, nearest_changes, nearest_stays, nearest_of_all}
 
--- one entry is nearer than another to each color of a box
+-- one entry is nearer than another to each color of a cell
 abbrev pub IsFarther : List (List ℕ) → (reach : ℕ) → (low : List ℕ) → (near k : ℕ) → Type 0
 IsFarther entries reach low near k = (color : List ℕ) → IsInside reach low color → distance_to entries color near < distance_to entries color k
 
 -- the first i entries of a list are sifted: each is on the new list, or `near` is nearer to each
--- color of the box
+-- color of the cell
 pub record AreSifted (entries : List (List ℕ)) (reach : ℕ) (low : List ℕ) (near : ℕ) (from : ℕ → ℕ) (i : ℕ) (short_list : ℕ → ℕ) (count : ℕ) : Type 0 where
   pub below : (p : ℕ) → p < count → short_list p < length entries
-  pub each : (q : ℕ) → q < i → IsListed short_list count (from q) ⊎ IsFarther entries reach low near (from q)
+  pub each : (q : ℕ) → q < i → IsInList short_list count (from q) ⊎ IsFarther entries reach low near (from q)
 
 pub none_sifted : (entries : List (List ℕ)) (reach : ℕ) (low : List ℕ) (near : ℕ) (from short_list : ℕ → ℕ) → AreSifted entries reach low near from 0 short_list 0
 none_sifted entries reach low near from short_list = record {
@@ -34,7 +34,7 @@ listed_before : (lists : List ℕ) (start count i p : ℕ) → p < count → get
 listed_before lists start count i p b =
     let apart : start + p ≢ start + count = (λ e. omega arith) in get_or-set_other lists (start + count) (start + p) i 0 apart
 
-listed_still : (f g : ℕ → ℕ) (count more k : ℕ) → count ≤ more → ((p : ℕ) → p < count → g p ≡ f p) → IsListed f count k → IsListed g more k
+listed_still : (f g : ℕ → ℕ) (count more k : ℕ) → count ≤ more → ((p : ℕ) → p < count → g p ≡ f p) → IsInList f count k → IsInList g more k
 listed_still f g count more k grows same l = record {
   at = l.at;
   below = (let b : l.at < count = l.below in omega arith);
@@ -106,7 +106,7 @@ not_beaten entries color near few n f = elim (cases_lt f.at near) [
 ]
 
 pub some_listed : (entries : List (List ℕ)) (color : List ℕ) (short_list : ℕ → ℕ) (count : ℕ) → 0 < length entries → length entries ≤ 256
-    → ((k : ℕ) → k < length entries → IsListed short_list count k ⊎ IsBeaten entries color k) → 0 < count
+    → ((k : ℕ) → k < length entries → IsInList short_list count k ⊎ IsBeaten entries color k) → 0 < count
 some_listed entries color short_list count some few all =
     let has = some_nearest_below entries color (length entries) some (omega arith) in
     let n : IsNearest entries color has.at = nearest_of_all entries color (length entries) has.at has.far refl has.nearest in
@@ -121,9 +121,9 @@ pub all_sifted : (entries : List (List ℕ)) (reach : ℕ) (low : List ℕ) (nea
     → AreShortListed entries reach low short_list count
 all_sifted entries reach low near from i short_list count stands few enough h = λ color within.
     let old : AreEnough entries color from i = enough color within in
-    let all : (k : ℕ) → k < length entries → IsListed short_list count k ⊎ IsBeaten entries color k =
+    let all : (k : ℕ) → k < length entries → IsInList short_list count k ⊎ IsBeaten entries color k =
     (λ k b. elim (old.all k b) [
-      | inl l ↦ subst (λ j. IsListed short_list count j ⊎ IsBeaten entries color j) l.same (elim (h.each l.at l.below) [
+      | inl l ↦ subst (λ j. IsInList short_list count j ⊎ IsBeaten entries color j) l.same (elim (h.each l.at l.below) [
         | inl m ↦ inl m
         | inr f ↦ inr (record { at = near; stands = stands; less = omega (arith, f color within) })
       ])
@@ -139,7 +139,7 @@ all_sifted entries reach low near from i short_list count stands few enough h = 
 pub chosen_listed : (entries colors : List (List ℕ)) (indices : List ℕ) (color : List ℕ) (short_list : ℕ → ℕ) (count : ℕ) → 0 < length entries → length entries ≤ 256
     → AreChosen entries (length entries) colors indices count → ((p : ℕ) → p < count → short_list p ≡ get_or indices p 0) → AreEnough entries color short_list count
 chosen_listed entries colors indices color short_list count some few h same =
-    let all : (k : ℕ) → k < length entries → IsListed short_list count k ⊎ IsBeaten entries color k =
+    let all : (k : ℕ) → k < length entries → IsInList short_list count k ⊎ IsBeaten entries color k =
     (λ k b.
     let l = h.whole k b in
     let below : l.at < count = l.below in
@@ -158,7 +158,7 @@ chosen_listed entries colors indices color short_list count some few h same =
       all = all;
     }
 
--- the least key of the first i that are listed: how far one of them is, 256 times, and its index
+-- the least key of the first i of a list: how far one of them is, 256 times, and its index
 pub record IsLeastKey (entries : List (List ℕ)) (color : List ℕ) (short_list : ℕ → ℕ) (count i key : ℕ) : Type 0 where
   pub place : ℕ
   pub below : place < count
@@ -215,7 +215,7 @@ key_order far apart at near small less h farther = (omega (arith, small, less, h
 nearest_is_listed : (entries : List (List ℕ)) (color : List ℕ) (short_list : ℕ → ℕ) (count i key near : ℕ) → length entries ≤ 256 → count ≤ i
     → AreEnough entries color short_list count → ((p : ℕ) → short_list p < 256) → (h : IsLeastKey entries color short_list count i key) → IsNearest entries color near → near ≡ short_list h.place
 nearest_is_listed entries color short_list count i key near few end enough small h n =
-    let found : IsListed short_list count near = elim (enough.all near n.stands) [
+    let found : IsInList short_list count near = elim (enough.all near n.stands) [
       | inl l ↦ l
       | inr f ↦ absurd (not_beaten entries color near few n f)
     ] in
@@ -250,7 +250,7 @@ pub entry_distance : (entries : List Color) (color : List ℕ) (i : ℕ) (d : Co
     → distance (numbers (get_or entries i d)) color ≡ distance_to (map numbers entries) color i
 entry_distance entries color i d below = ap (λ p. distance p color) (sym (get_or-map numbers entries i d [] below))
 
--- what is listed stays so where the lists before it stay
+-- what stands in a list stays there where the lists before it stay
 listed_same : (entries : List (List ℕ)) (reach : ℕ) (low : List ℕ) (f g : ℕ → ℕ) (count : ℕ) → ((p : ℕ) → p < count → g p ≡ f p)
     → AreShortListed entries reach low f count → AreShortListed entries reach low g count
 listed_same entries reach low f g count same h = λ color within.
@@ -264,7 +264,7 @@ listed_same entries reach low f g count same h = λ color within.
       ];
     }
 
--- a box stays known where the lists grow
+-- a cell stays known where the lists grow
 pub known_stays : (entries : List (List ℕ)) (old new : List ℕ) (used more k : ℕ) (known : ShortList) → used ≤ more → ((k : ℕ) → k < used → get_or new k 0 ≡ get_or old k 0)
     → IsKnown entries old used k known → IsKnown entries new more k known
 known_stays entries old new used more k known grows same h = λ some.
@@ -275,7 +275,7 @@ known_stays entries old new used more k known grows same h = λ some.
           (λ p b. same (known.start + p) (omega arith)) (h some).1,
     )
 
--- with one box more
+-- with one cell more
 pub known_more : (entries : List (List ℕ)) (old new : List ℕ) (used more at : ℕ) (places : List ShortList) (known : ShortList) → used ≤ more
     → ((k : ℕ) → k < used → get_or new k 0 ≡ get_or old k 0)
     → ((k : ℕ) (d : ShortList) → k < length places → IsKnown entries old used k (get_or places k d)) → IsKnown entries new more at known
@@ -292,10 +292,10 @@ known_more entries old new used more at places known grows same h here k d below
           (known_stays entries old new used more k (get_or places k d) grows same (h k d inside))
     ]
 
--- boxes of which none has a list
-pub empty_boxes : (entries : List (List ℕ)) (boxes : InverseMap) → length boxes.known ≡ 37440 → length boxes.lists ≡ 65539 → boxes.used ≤ 65536
-    → (0 < boxes.first → IsFirst entries boxes) → ((k : ℕ) (d : ShortList) → k < length boxes.known → (get_or boxes.known k d).count ≡ 0) → IsInverseMap entries boxes
-empty_boxes entries boxes places lists used first none = record {
+-- cells of which none has a list
+pub empty_cells : (entries : List (List ℕ)) (cells : InverseMap) → length cells.known ≡ 37440 → length cells.lists ≡ 65539 → cells.used ≤ 65536
+    → (0 < cells.first → IsFirst entries cells) → ((k : ℕ) (d : ShortList) → k < length cells.known → (get_or cells.known k d).count ≡ 0) → IsInverseMap entries cells
+empty_cells entries cells places lists used first none = record {
   places = places;
   lists = lists;
   used = used;
@@ -316,39 +316,39 @@ enough_same entries color f g count same e = record {
   ];
 }
 
--- a list for a box is its list
-pub known_as : (entries : List (List ℕ)) (boxes : InverseMap) (place : ℕ) (known : ShortList) → IsListFor entries boxes place known
-    → IsKnown entries boxes.lists boxes.used place known
-known_as entries boxes place known h = λ some. (h.placed, h.short_list)
+-- a list for a cell is its list
+pub known_as : (entries : List (List ℕ)) (cells : InverseMap) (place : ℕ) (known : ShortList) → IsListFor entries cells place known
+    → IsKnown entries cells.lists cells.used place known
+known_as entries cells place known h = λ some. (h.placed, h.short_list)
 
--- the list that a box has is one for it
-pub list_of : (entries : List (List ℕ)) (boxes : InverseMap) (place : ℕ) (d : ShortList) → IsInverseMap entries boxes → place < 37440 → 0 < (get_or boxes.known place d).count
-    → IsListFor entries boxes place (get_or boxes.known place d)
-list_of entries boxes place d h below some =
+-- the list that a cell has is one for it
+pub list_of : (entries : List (List ℕ)) (cells : InverseMap) (place : ℕ) (d : ShortList) → IsInverseMap entries cells → place < 37440 → 0 < (get_or cells.known place d).count
+    → IsListFor entries cells place (get_or cells.known place d)
+list_of entries cells place d h below some =
     let known = h.known place d (omega (arith, h.places)) some in
     record { some = some; placed = known.0; short_list = known.1 }
 
--- the first list is one for any box
-pub first_for : (entries : List (List ℕ)) (boxes : InverseMap) (place : ℕ) → IsInverseMap entries boxes → 0 < boxes.first
-    → IsListFor entries boxes place (record { start = 0; count = boxes.first })
-first_for entries boxes place h some =
+-- the first list is one for any cell
+pub first_for : (entries : List (List ℕ)) (cells : InverseMap) (place : ℕ) → IsInverseMap entries cells → 0 < cells.first
+    → IsListFor entries cells place (record { start = 0; count = cells.first })
+first_for entries cells place h some =
     let first = h.first some in
-    let few : boxes.first ≤ 256 = first.few in
-    let begun : 256 ≤ boxes.used = first.begun in
+    let few : cells.first ≤ 256 = first.few in
+    let begun : 256 ≤ cells.used = first.begun in
     record { some = some; placed = record { few = few; before = omega arith }; short_list = λ color inside. first.enough color }
 
--- a list for a box is one for a box inside it
-pub list_inside : (entries : List (List ℕ)) (boxes : InverseMap) (around place : ℕ) (known : ShortList) → IsListFor entries boxes around known
+-- a list for a cell is one for a cell inside it
+pub list_inside : (entries : List (List ℕ)) (cells : InverseMap) (around place : ℕ) (known : ShortList) → IsListFor entries cells around known
     → ((color : List ℕ) → IsInside (reach_at place) (low_at place) color → IsInside (reach_at around) (low_at around) color)
-    → IsListFor entries boxes place known
-list_inside entries boxes around place known h inside =
+    → IsListFor entries cells place known
+list_inside entries cells around place known h inside =
     record { some = h.some; placed = h.placed; short_list = λ color b. h.short_list color (inside color b) }
 
--- boxes with a list for one of them more, behind the others or among them
-pub boxes_more : (entries : List (List ℕ)) (old new : InverseMap) (place : ℕ) (known : ShortList) → IsInverseMap entries old → 0 < old.first
+-- cells with a list for one of them more, behind the others or among them
+pub cells_more : (entries : List (List ℕ)) (old new : InverseMap) (place : ℕ) (known : ShortList) → IsInverseMap entries old → 0 < old.first
     → new.known ≡ set old.known place known → new.first ≡ old.first → length new.lists ≡ 65539 → old.used ≤ new.used → new.used ≤ 65536
     → ((k : ℕ) → k < old.used → get_or new.lists k 0 ≡ get_or old.lists k 0) → IsKnown entries new.lists new.used place known → IsInverseMap entries new
-boxes_more entries old new place known h begun e f long more room same here =
+cells_more entries old new place known h begun e f long more room same here =
     let first = h.first begun in
     let few : old.first ≤ 256 = first.few in
     let used : 256 ≤ old.used = first.begun in
@@ -371,9 +371,9 @@ boxes_more entries old new place known h begun e f long more room same here =
           (known_more entries old.lists new.lists old.used new.used place old.known known more same h.known here k d inside);
     }
 
--- boxes with the same lists
-pub boxes_same : (entries : List (List ℕ)) (old new : InverseMap) → HasLists old new → IsInverseMap entries old → IsInverseMap entries new
-boxes_same entries old new s h = record {
+-- cells with the same lists
+pub cells_same : (entries : List (List ℕ)) (old new : InverseMap) → HasLists old new → IsInverseMap entries old → IsInverseMap entries new
+cells_same entries old new s h = record {
   places = ap length s.known ∙ h.places;
   lists = ap length s.lists ∙ h.lists;
   used = omega (arith, s.used, h.used);

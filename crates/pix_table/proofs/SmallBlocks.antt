@@ -35,7 +35,7 @@ are_spans entries has h =
           (subst (Covers (get_or has.spans 0 s) k) (sym (get_or-take has.len has.blocks k b inside)) (h.spans k b s inside)));
     }
 
--- one block more; `old` and `new` are the spans before and afterwards
+-- one block more; `old` and `new` are the bounds before and afterwards
 pub block_added : (entries : List (List ℕ)) (has : TableBlocks) (block : ColorBlock) (old new : BlockBounds) → HasBlocks entries has → has.len < 16
     → IsBlock entries (16 * has.len) block → old ≡ get_or has.spans 0 old → Covers new has.len block
     → ((i : ℕ) (other : ColorBlock) → (i ≡ has.len → ⊥) → Covers old i other → Covers new i other)

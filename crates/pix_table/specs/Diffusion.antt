@@ -4,17 +4,17 @@ use Rattle.pix_table.specs.Nearest.{IsNearestBy, distance, alpha_of}
 use Rattle.pix_table.specs.declared.diffuse.ScanOrder.{ScanOrder}
 use Rattle.pix_table.specs.declared.diffuse.ScanOrder.TheVariants.{LeftToRight, Serpentine}
 
--- a way goes through the rows from above. Its pixel k is in a row from right to left: in the
--- serpentine way in every second row
+-- pixels are scanned row by row, from above. Pixel k of the scan is in a row from right to left: in
+-- every second row, where the order is serpentine
 abbrev pub is_back : ScanOrder → (width k : ℕ) → Bool
 is_back LeftToRight width k = false
 is_back Serpentine width k = nat_lt 0 (k / width % 2)
 
--- where pixel k of a way is in the picture
+-- where pixel k of the scan is in the picture
 abbrev pub in_picture : ScanOrder → (width k : ℕ) → ℕ
 in_picture scan width k = if is_back scan width k then k - k % width + (width - (k % width + 1)) else k
 
--- the number in a way of the pixel above a place of the row that begins with number `first`
+-- the number in the scan of the pixel above a place of the row that begins with number `first`
 abbrev pub number_above : ScanOrder → (width first place : ℕ) → ℕ
 number_above LeftToRight width first place = first + place - width
 number_above Serpentine width first place = first - (place + 1)
@@ -23,9 +23,9 @@ number_above Serpentine width first place = first - (place + 1)
 abbrev pub part : Bool → ℕ → List ℕ → ℕ → ℕ
 part there sixteenths color channel = if there then sixteenths * slice_index color channel else 0
 
--- a pixel hands 3 sixteenths on to the pixel below that is behind it in the direction of its row, and 1
--- to the one ahead. In the serpentine way the row above has the other direction: what a pixel gets from
--- the one above the pixel before it, and from the one above the next
+-- a pixel hands 3 sixteenths on to the pixel below that is behind it in the direction of its row, and
+-- 1 to the one ahead. Where the order is serpentine, the row above has the other direction: what a
+-- pixel gets from the one above the pixel before it, and from the one above the next
 abbrev pub share_before : ScanOrder → ℕ
 share_before LeftToRight = 1
 share_before Serpentine = 3
@@ -57,9 +57,9 @@ abbrev pub wanted_at : ((ℕ → ℕ) → List ℕ) → ScanOrder → (strength 
 wanted_at color scan strength width wanted found first place pixel =
     color (λ channel. corrected strength (slice_index pixel channel) (handed scan width wanted first place channel) (handed scan width found first place channel))
 
--- the first pixels of a way through rows, one after the other: what is wanted at each, what is found
--- for it, and its index. A pixel whose alpha is below one has the kept index, and hands on no error:
--- both colors are 0. Any other has the index of the entry that is nearest to what is wanted, and finds
+-- the first pixels of a scan, one after the other: what is wanted at each, what is found for it, and
+-- its index. A pixel whose alpha is below one has the transparent index, and hands on no error: both
+-- colors are 0. Any other has the index of the entry that is nearest to what is wanted, and finds
 -- that entry.
 pub data IsDiffused (color : (ℕ → ℕ) → List ℕ) (apart : List ℕ → List ℕ → ℕ) (scan : ScanOrder) (strength : ℕ) (entries : List (List ℕ)) (alpha transparent_index width : ℕ) (pixels : List (List ℕ)) : List (List ℕ) → List (List ℕ) → List ℕ → Type 0 where
   none : IsDiffused color apart scan strength entries alpha transparent_index width pixels [] [] []
@@ -74,8 +74,8 @@ pub data IsDiffused (color : (ℕ → ℕ) → List ℕ) (apart : List ℕ → L
       → IsNearestBy apart entries w i
       → IsDiffused color apart scan strength entries alpha transparent_index width pixels (wanted ++ w ∷ []) (found ++ slice_index_or entries i [] ∷ []) (indices ++ i ∷ [])
 
--- the indices of all pixels of rows of a width: those of a way through them
-pub record IsWayThrough (color : (ℕ → ℕ) → List ℕ) (apart : List ℕ → List ℕ → ℕ) (scan : ScanOrder) (strength : ℕ) (entries : List (List ℕ)) (alpha transparent_index width : ℕ) (pixels : List (List ℕ)) (indices : List ℕ) : Type 0 where
+-- the indices of all pixels of rows of a width: those of a scan of them
+pub record IsDiffusedScan (color : (ℕ → ℕ) → List ℕ) (apart : List ℕ → List ℕ → ℕ) (scan : ScanOrder) (strength : ℕ) (entries : List (List ℕ)) (alpha transparent_index width : ℕ) (pixels : List (List ℕ)) (indices : List ℕ) : Type 0 where
   pub wanted : List (List ℕ)
   pub found : List (List ℕ)
   pub along : List ℕ
@@ -84,9 +84,9 @@ pub record IsWayThrough (color : (ℕ → ℕ) → List ℕ) (apart : List ℕ �
   pub many : length indices ≡ length pixels
   pub each : (k : ℕ) → k < length pixels → slice_index indices (in_picture scan width k) ≡ slice_index along k
 
--- the indices of all pixels by error diffusion, in a way and with so many sixteenths of the errors
+-- the indices of all pixels by error diffusion, in an order and with so many sixteenths of the errors
 abbrev pub AreDiffusedBy : ScanOrder → (strength : ℕ) (entries : List (List ℕ)) (alpha transparent_index width : ℕ) (pixels : List (List ℕ)) (indices : List ℕ) → Type 0
-AreDiffusedBy scan strength entries alpha transparent_index width pixels indices = IsWayThrough rgb_of distance scan strength entries alpha transparent_index width pixels indices
+AreDiffusedBy scan strength entries alpha transparent_index width pixels indices = IsDiffusedScan rgb_of distance scan strength entries alpha transparent_index width pixels indices
 
 -- the same from left to right in each row, with the whole errors
 abbrev pub AreDiffused : (entries : List (List ℕ)) (alpha transparent_index width : ℕ) (pixels : List (List ℕ)) (indices : List ℕ) → Type 0

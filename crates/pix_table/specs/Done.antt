@@ -1,4 +1,4 @@
--- What is kept while errors are diffused. No clause of a public call cites this file.
+-- What is stored while errors are diffused. No clause of a public call cites this file.
 use Rattle.std.specs.Prelude.{◌≡◌, ℕ, ◌+◌, ◌-◌, ◌%◌, ◌<◌, ◌≤◌, List, [], Bool, ◌&&◌, nat_lt, nat_le, length, slice_index, slice_index_or}
 use Rattle.pix_table.specs.Diffusion.{IsDiffused, in_picture, number_above, part}
 use Rattle.pix_table.specs.declared.diffuse.ScanOrder.{ScanOrder}
@@ -19,13 +19,13 @@ pub record IsColorError (there : Bool) (wanted found : List ℕ) (miss : ColorEr
   pub blue : miss.blue + part there 1 found 2 ≡ 255 + part there 1 wanted 2
   pub alpha : miss.alpha + part there 1 found 3 ≡ 255 + part there 1 wanted 3
 
--- the miss above the place after one
+-- the error above the place after one
 abbrev pub IsColorErrorAbove : ScanOrder → (wanted found : List (List ℕ)) → (width first place : ℕ) → ColorError → Type 0
 IsColorErrorAbove scan wanted found width first place miss =
     IsColorError (nat_lt (place + 1) width && nat_le width first) (slice_index_or wanted (number_above scan width first (place + 1)) [])
     (slice_index_or found (number_above scan width first (place + 1)) []) miss
 
--- the misses before a place of a row, above that, and above the place
+-- the errors before a place of a row, above that, and above the place
 pub record AreNeighborErrors (scan : ScanOrder) (wanted found : List (List ℕ)) (width first place : ℕ) (near : NeighborErrors) : Type 0 where
   pub left : IsColorError (nat_lt 0 place) (slice_index_or wanted (first + place - 1) []) (slice_index_or found (first + place - 1) []) near.left
   pub left_above : IsColorError (nat_lt 0 place && nat_le width first) (slice_index_or wanted (number_above scan width first (place - 1)) [])
@@ -33,7 +33,7 @@ pub record AreNeighborErrors (scan : ScanOrder) (wanted found : List (List ℕ))
   pub above : IsColorError (nat_le width first) (slice_index_or wanted (number_above scan width first place) [])
       (slice_index_or found (number_above scan width first place) []) near.above
 
--- the first k pixels of a way are diffused. What is near is kept within a row
+-- the first k pixels of a scan are diffused. The errors of neighbors are known within a row
 pub record AreDone (color : (ℕ → ℕ) → List ℕ) (apart : List ℕ → List ℕ → ℕ) (scan : ScanOrder) (strength : ℕ) (entries : List (List ℕ)) (alpha transparent_index width : ℕ) (pixels : List (List ℕ)) (k : ℕ)
     (wanted found : List (List ℕ)) (near : NeighborErrors) (indices : List ℕ) : Type 0 where
   pub all_wanted : List (List ℕ)

@@ -1,13 +1,27 @@
--- The sums of the colors of each entry, as a round takes them. No clause of a public call cites this file.
-use Rattle.std.specs.Prelude.{ℕ, ◌+◌, ◌*◌, ◌/◌, List, [], ◌∷◌, length, cond, nat_eq, All}
+-- The sums of the colors of each entry, as a round takes them of items. No clause of a public call cites this file.
+use Rattle.std.specs.Prelude.{◌≡◌, ℕ, ◌+◌, ◌*◌, ◌/◌, ◌<◌, ◌≤◌, Bool, List, [], ◌∷◌, length, cond, nat_eq, slice_index, slice_index_or}
 use Rattle.pix_table.specs.Nearest.{IsNearest}
-use Rattle.pix_table.specs.BestPlaces.{AreBytes, AreParted}
+use Rattle.pix_table.specs.Items.{item_sum}
 use Rattle.pix_table.specs.declared.box_sums.Sums.{Sums}
 
--- the sums of the colors of each entry: those to which it is the nearest, the first of equals
-pub record AreGrouped (entries colors : List (List ℕ)) (sums : List Sums) : Type 0 where
-  pub bytes : All AreBytes colors
-  pub parts : (at : List ℕ → ℕ) → ((color : List ℕ) → IsNearest entries color (at color)) → AreParted at (length entries) colors sums
+-- the sums of those colors of the first n items that pass a test
+pub record AreItemSums (p : List ℕ → Bool) (items : List (List ℕ)) (pairs n : ℕ) (sums : Sums) : Type 0 where
+  pub count : sums.count ≡ item_sum (λ color. cond (p color) 1 0) items pairs n
+  pub red : sums.red ≡ item_sum (λ color. cond (p color) (slice_index color 0) 0) items pairs n
+  pub green : sums.green ≡ item_sum (λ color. cond (p color) (slice_index color 1) 0) items pairs n
+  pub blue : sums.blue ≡ item_sum (λ color. cond (p color) (slice_index color 2) 0) items pairs n
+
+-- sums may be those of bytes
+pub record AreOfBytes (sums : Sums) : Type 0 where
+  pub red : sums.red ≤ 255 * sums.count
+  pub green : sums.green ≤ 255 * sums.count
+  pub blue : sums.blue ≤ 255 * sums.count
+
+-- for each entry the sums of those colors of the first n items to which it is the nearest, the first of equals
+pub record AreItemGroups (entries items : List (List ℕ)) (pairs n : ℕ) (sums : List Sums) : Type 0 where
+  pub bytes : (k : ℕ) (d : Sums) → k < length entries → AreOfBytes (slice_index_or sums k d)
+  pub parts : (at : List ℕ → ℕ) → ((color : List ℕ) → IsNearest entries color (at color)) → (k : ℕ) (d : Sums) → k < length entries
+      → AreItemSums (λ color. nat_eq (at color) k) items pairs n (slice_index_or sums k d)
 
 -- the mean of some colors by their sums
 abbrev pub mean_by : Sums → List ℕ

@@ -17,6 +17,7 @@ pub mod BlockBounds
 pub mod Quantization
 pub mod Refine
 pub mod Groups
+pub mod Items
 pub mod Diffusion
 pub mod Done
 pub mod PaletteMatch

@@ -46,7 +46,7 @@ pub record IsFirst (entries : List (List ℕ)) (color : List ℕ) (i : ℕ) : Ty
 abbrev pub alpha_of : List ℕ → ℕ
 alpha_of pixel = slice_index_or pixel 3 255
 
--- the index of a pixel: the kept one for pixels below an alpha, and else that of its nearest entry
+-- the index of a pixel: the transparent one below an alpha, and else that of its nearest entry
 abbrev pub IsMatched : List (List ℕ) → (alpha transparent_index : ℕ) → List ℕ → ℕ → Type 0
 IsMatched entries alpha transparent_index pixel i =
     ((alpha_of pixel < alpha) × (i ≡ transparent_index)) ⊎ ((alpha ≤ alpha_of pixel) × IsNearest entries pixel i)

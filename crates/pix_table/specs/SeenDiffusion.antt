@@ -2,7 +2,7 @@
 use Rattle.std.specs.Prelude.{ℕ, min, List, [], ◌∷◌, map}
 use Rattle.pix_table.specs.Nearest.{IsNearestBy}
 use Rattle.pix_table.specs.Seen.{seen, seen_distance}
-use Rattle.pix_table.specs.Diffusion.{IsWayThrough}
+use Rattle.pix_table.specs.Diffusion.{IsDiffusedScan}
 use Rattle.pix_table.specs.declared.diffuse.ScanOrder.{ScanOrder}
 
 -- the color of a number for each channel, of which none is above the alpha
@@ -14,4 +14,4 @@ seen_of_channels number = min (number 3) (number 0) ∷ min (number 3) (number 1
 pub record AreSeenDiffused (scan : ScanOrder) (strength width : ℕ) (entries pixels : List (List ℕ)) (indices : List ℕ) : Type 0 where
   pub clear : ℕ
   pub nearest : IsNearestBy seen_distance (map seen entries) (0 ∷ 0 ∷ 0 ∷ 0 ∷ []) clear
-  pub diffused : IsWayThrough seen_of_channels seen_distance scan strength (map seen entries) 1 clear width (map seen pixels) indices
+  pub diffused : IsDiffusedScan seen_of_channels seen_distance scan strength (map seen entries) 1 clear width (map seen pixels) indices

@@ -9,7 +9,7 @@ use Rattle.pix_table.specs.declared.color_block.ColorBlock.{ColorBlock}
 use Rattle.pix_table.specs.declared.table_blocks.TableBlocks.{TableBlocks}
 use Rattle.pix_table.specs.declared.table_blocks.TableCache.{TableCache}
 
--- blocks of the first entries, with their spans
+-- blocks of the first entries, with their bounds
 pub record HasBlocks (entries : List (List ℕ)) (has : TableBlocks) : Type 0 where
   pub few : has.len ≤ 16
   pub long : length has.blocks ≡ 16
@@ -17,7 +17,7 @@ pub record HasBlocks (entries : List (List ℕ)) (has : TableBlocks) : Type 0 wh
   pub blocks : (k : ℕ) (d : ColorBlock) → k < has.len → IsBlock entries (16 * k) (slice_index_or has.blocks k d)
   pub spans : (k : ℕ) (d : ColorBlock) (s : BlockBounds) → k < has.len → Covers (slice_index_or has.spans 0 s) k (slice_index_or has.blocks k d)
 
--- what is kept beside a table is right for it
+-- what is cached beside a table is right for it
 pub record IsTableCache (threshold : List ℕ) (entries : List (List ℕ)) (beside : TableCache) : Type 0 where
   pub right : AreRight (Always threshold) entries beside.cache.cached
   pub blocks : HasBlocks entries beside.blocks

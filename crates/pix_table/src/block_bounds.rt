@@ -1,5 +1,5 @@
-//! How far the colors of blocks reach, for sixteen blocks at a time. Blocks that are nowhere near a
-//! color are skipped without a look at their colors.
+//! Between which bounds the colors of blocks lie, for sixteen blocks at a time. Blocks that are
+//! nowhere near a color are skipped without a look at their colors.
 //!
 //! Neighboring entries are often near each other, so most blocks are skipped.
 ghost use Rattle.std.specs.Prelude.{◌≡◌, ◌≢◌, ◌<◌, ℕ, slice_index, true};
@@ -24,7 +24,7 @@ pub struct BlockBounds {
 }
 
 impl BlockBounds {
-    /// Makes the spans of no block yet.
+    /// Makes the bounds of no block yet.
     pub fn new() -> BlockBounds {
         BlockBounds {
             least_red: [0; SIZE],
@@ -36,7 +36,7 @@ impl BlockBounds {
         }
     }
 
-    /// Sets the span of one of the sixteen blocks.
+    /// Sets the bounds of one of the sixteen blocks.
     pub fn set(&mut self, j: usize, block: &ColorBlock)
         requires { j < 16 }
         ensures own { Covers self.new j block.now }
@@ -52,8 +52,8 @@ impl BlockBounds {
         self.greatest_blue[j] = greatest.blue;
     }
 
-    /// Returns 0 where the span of one of the sixteen blocks meets that from `low` to `high` in
-    /// every channel. It has no branch, so all sixteen are done at once.
+    /// Returns 0 where, in every channel, one of the sixteen blocks has bounds that meet the
+    /// numbers from `low` to `high`. It has no branch, so all sixteen are done at once.
     #[inline(always)]
     fn gap(&self, j: usize, low: Color, high: Color) -> u8
         requires { j < 16 }
@@ -68,8 +68,8 @@ impl BlockBounds {
             | low.blue.saturating_sub(self.greatest_blue[j])
     }
 
-    /// Returns 0 for each of the sixteen blocks whose span meets that from `low` to `high` in every
-    /// channel.
+    /// Returns 0 for each of the sixteen blocks whose bounds meet the numbers from `low` to `high`
+    /// in every channel.
     #[inline(always)]
     fn gaps(&self, low: Color, high: Color) -> [u8; SIZE]
         ensures { (j : ℕ) → j < 16 → meets (numbers low) (numbers high) (least_at self.now j)
@@ -82,8 +82,8 @@ impl BlockBounds {
         gaps
     }
 
-    /// Returns a bit for each of the sixteen blocks. It is set where the block's span meets that
-    /// from `low` to `high` in every channel.
+    /// Returns a bit for each of the sixteen blocks. It is set where the block's bounds meet the
+    /// numbers from `low` to `high` in every channel.
     #[inline(always)]
     pub(crate) fn near_bits(&self, low: Color, high: Color) -> u64
         ensures { (j : ℕ) → j < 16 → meets (numbers low) (numbers high) (least_at self.now j)

@@ -101,6 +101,23 @@ impl Sums {
         }
     }
 
+    /// Returns the sums of a color that stands so often.
+    pub(crate) fn of_times(clr: Color, times: u16) -> Sums
+        ensures count { result.count ≡ times }
+        ensures red { result.red ≡ times * clr.red }
+        ensures green { result.green ≡ times * clr.green }
+        ensures blue { result.blue ≡ times * clr.blue }
+        ensures bytes { AreBytes (numbers clr) }
+    {
+        let count = u32::from(times);
+        Sums {
+            count: usize::from(times),
+            red: u128::from(count * u32::from(clr.red)),
+            green: u128::from(count * u32::from(clr.green)),
+            blue: u128::from(count * u32::from(clr.blue)),
+        }
+    }
+
     /// Returns the sums of these colors and of others.
     pub(crate) fn and(self, more: Sums) -> Sums
         requires few { self.count + more.count < 18446744073709551616 }

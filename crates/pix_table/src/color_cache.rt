@@ -1,4 +1,4 @@
-//! Colors that are cached beside a table, each with the index that stands for it. A color is kept
+//! Colors that are cached beside a table, each with the index that stands for it. A color is cached
 //! near the place that its channels give.
 //!
 //! Which place a color is given and how many are tried decide only how often the table is searched.
@@ -13,7 +13,7 @@ use crate::quantization::same;
 /// The number of places.
 const PLACES: usize = 2056;
 
-/// How many places in a row a color may be kept at.
+/// How many places in a row a color may be cached at.
 const TRIES: usize = 8;
 
 /// Means any number of entries.
@@ -28,14 +28,14 @@ pub struct CacheEntry {
     count: u16,
 }
 
-/// Places for colors that are kept.
+/// Places for colors that are cached.
 #[derive(Drop)]
 pub struct Cache {
     cached: [CacheEntry; PLACES],
     ghost long: { length cached ≡ 2056 },
 }
 
-/// Returns the first place that a color may be kept at.
+/// Returns the first place that a color may be cached at.
 pub(crate) fn first_place(clr: Color) -> usize
     ensures { result < 2048 }
 {
@@ -60,7 +60,7 @@ impl Cache {
         }
     }
 
-    /// Returns the index of a color that is kept for a table of this many entries.
+    /// Returns the index of a color that is cached for a table of this many entries.
     pub fn find(&self, clr: Color, count: usize) -> Option<usize>
         ensures { IfSome result (IsCached self.now.cached (numbers clr) count) }
     {
@@ -74,9 +74,9 @@ impl Cache {
         None
     }
 
-    /// Keeps a color with the index of the entry that stands for it. If the entry equals the color,
-    /// the index holds for any number of entries, and else only for the present number. A color is
-    /// not kept if its index or the number of entries is too great.
+    /// Caches a color with the index of the entry that stands for it. If the entry equals the
+    /// color, the index holds for any number of entries, and else only for the present number. A
+    /// color is not cached if its index or the number of entries is too great.
     pub fn keep<C: TableColor>(&mut self, entries: &[C], clr: Color, index: usize)
         requires { index < length entries.now }
         ensures { IsCaching (map C.channels entries.now) (numbers clr) index
@@ -117,7 +117,7 @@ impl Cache {
 }
 
 impl CacheEntry {
-    /// Returns whether it is kept for this many entries.
+    /// Returns whether it is cached for this many entries.
     fn serves(self, count: usize) -> bool
         ensures { result ≡ serves self.count count }
     {

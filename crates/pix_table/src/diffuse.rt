@@ -1,6 +1,6 @@
 //! Error diffusion by Floyd and Steinberg, in whole numbers.
 ghost use Rattle.std.specs.Prelude.{◌≡◌, ℕ, ◌+◌, ◌-◌, ◌*◌, ◌%◌, ◌^◌, ◌<◌, ◌≤◌, List, [], length, map, true, slice_index_or, MatchOption};
-ghost use Rattle.pix_table.specs.Diffusion.{AreDiffusedBy, IsWayThrough, in_picture, is_back};
+ghost use Rattle.pix_table.specs.Diffusion.{AreDiffusedBy, IsDiffusedScan, in_picture, is_back};
 ghost use Rattle.pix_table.specs.Done.{AreLatest, AreNeighborErrors, IsColorError, IsColorErrorAbove};
 ghost use Rattle.pix_table.specs.declared.diffuse.ScanOrder.{ScanOrder};
 ghost use Rattle.pix_table.specs.declared.diffuse.ScanOrder.TheVariants.{Serpentine, LeftToRight};
@@ -27,7 +27,7 @@ pub struct Diffusion {
     pub scan: ScanOrder,
 }
 
-/// A way through the rows of a picture, which are taken from above.
+/// The order of the pixels of a picture: its rows from above, and each in a direction.
 #[derive(Clone, Copy, Debug, PartialEq, Eq)]
 pub enum ScanOrder {
     /// Each row from left to right.
@@ -54,8 +54,8 @@ pub fn diffuse_indexed_work(width: usize) -> Option<usize>
 /// `how.strength` sixteenths of its share.
 ///
 /// Condition: there is at least one entry and at most 256, a row has a pixel, at most 16 sixteenths
-/// are handed on, there are as many indices as pixels, and `work` has four rows of colors. In the
-/// serpentine way the rows are whole.
+/// are handed on, there are as many indices as pixels, and `work` has four rows of colors. Where
+/// the scan order is serpentine, the rows are whole.
 pub fn diffuse_indexed<C: TableColor, P: TablePixel>(
     entries: &[C],
     pixels: &[P],
@@ -70,8 +70,8 @@ pub fn diffuse_indexed<C: TableColor, P: TablePixel>(
     requires whole { how.scan ≡ Serpentine → length pixels.now % how.width ≡ 0 }
     requires work { length work.old ≡ 4 * how.width }
     requires many { length indices.old ≡ length pixels.now }
-    ensures { AreDiffusedBy how.scan how.strength (map C.channels entries.now) how.alpha how.transparent_index
-        how.width (map P.values pixels.now) indices.new }
+    ensures { AreDiffusedBy how.scan how.strength (map C.channels entries.now) how.alpha
+        how.transparent_index how.width (map P.values pixels.now) indices.new }
 {
     let diffusing = Diffusing {
         entries,
@@ -99,7 +99,8 @@ impl<C: TableColor, P: TablePixel> SearchVisitor<u8> for Diffusing<'_, C, P> {
 
     ghost visits = { λ diffusing entries old new. entries ≡ map C.channels diffusing.entries.now
         → AreDiffusedBy diffusing.how.scan diffusing.how.strength entries diffusing.how.alpha
-        diffusing.how.transparent_index diffusing.how.width (map P.values diffusing.pixels.now) new };
+        diffusing.how.transparent_index diffusing.how.width (map P.values diffusing.pixels.now)
+        new };
 
     // Out of line. Where it is inlined, a matcher is put together on the stack beside its place.
     #[inline(never)]
@@ -141,7 +142,7 @@ fn is_plain(how: Diffusion) -> bool
     }
 }
 
-/// Returns the same, so that the strength and the way are constants where it is used.
+/// Returns the same, so that the strength and the scan order are constants where it is used.
 #[inline(always)]
 fn as_plain(how: Diffusion) -> Diffusion
     requires strength { how.strength ≡ 16 }
@@ -178,9 +179,9 @@ where
     requires found { length found.old ≡ how.width }
     requires many { length indices.old ≡ length pixels.now }
     requires entries { N.among search.old (map C.shown entries.now) }
-    ensures { IsWayThrough S.of_channels S.apart how.scan how.strength (map C.shown entries.now)
-        how.alpha how.transparent_index how.width (map (λ pixel. S.given (P.values pixel)) pixels.now)
-        indices.new }
+    ensures { IsDiffusedScan S.of_channels S.apart how.scan how.strength (map C.shown entries.now)
+        how.alpha how.transparent_index how.width
+        (map (λ pixel. S.given (P.values pixel)) pixels.now) indices.new }
 {
     let black = S::none();
     let mut near = NeighborErrors {
@@ -219,7 +220,7 @@ where
     }
 }
 
-/// Returns where the pixel of number `k` in a way is in the picture.
+/// Returns where the pixel of number `k` in the scan order is in the picture.
 #[inline(always)]
 fn place_of(how: Diffusion, back: bool, k: usize, column: usize) -> usize
     requires row { 0 < how.width }
@@ -235,7 +236,7 @@ fn place_of(how: Diffusion, back: bool, k: usize, column: usize) -> usize
     }
 }
 
-/// Returns the misses around pixel `k`. At the start of a row they are those of the row above, and
+/// Returns the errors around pixel `k`. At the start of a row they are those of the row above, and
 /// else those in `near`.
 #[inline(always)]
 fn begun<S: DiffusedColor>(
@@ -266,7 +267,7 @@ fn begun<S: DiffusedColor>(
     }
 }
 
-/// Returns the miss of the pixel above the next one.
+/// Returns the error of the pixel above the next one.
 #[inline(always)]
 fn right_above<S: DiffusedColor>(
     wanted: &[S],
@@ -289,7 +290,7 @@ fn right_above<S: DiffusedColor>(
     missed_at(wanted, found, there, next_place(column, how.width))
 }
 
-/// Returns the miss of the pixel whose colors are kept at a place, if there is one.
+/// Returns the error of the pixel whose colors are stored at a place, if there is one.
 #[inline(always)]
 fn missed_at<S: DiffusedColor>(wanted: &[S], found: &[S], there: bool, at: usize) -> ColorError
     requires wanted { at < length wanted.now }
@@ -314,8 +315,8 @@ fn next_place(place: usize, len: usize) -> usize
     if place + 1 < len { place + 1 } else { 0 }
 }
 
-/// Returns whether the next pixel is in a row from right to left. Where a row begins that goes the
-/// other way than the one before it, the colors of that one are put in the new order.
+/// Returns whether the next pixel is in a row from right to left. Where a row begins that goes in
+/// the other direction than the one before it, the colors of that one are put in the new order.
 #[inline(always)]
 fn turned<S: DiffusedColor>(
     how: Diffusion,

@@ -21,8 +21,8 @@ pub(crate) struct ColorError {
     pub(crate) spare: u16,
 }
 
-/// The misses at three of the four pixels that hand on errors to a pixel. The fourth is the one
-/// above the next pixel of its row.
+/// The errors of three of the four pixels that hand them on to a pixel. The fourth is the one above
+/// the next pixel of its row.
 #[derive(Clone, Copy)]
 pub(crate) struct NeighborErrors {
     /// That of the pixel before it in its row.
@@ -33,7 +33,7 @@ pub(crate) struct NeighborErrors {
     pub(crate) above: ColorError,
 }
 
-/// No miss.
+/// No error.
 pub(crate) const NO_ERROR: ColorError = ColorError {
     red: 255,
     green: 255,
@@ -63,11 +63,11 @@ pub(crate) trait DiffusedColor: Copy {
     fn none() -> Self
         ensures { spread result ≡ of_channels (λ channel. 0) };
 
-    /// Returns the miss of a pixel at which this color was wanted and another was found.
+    /// Returns the error of a pixel at which this color was wanted and another was found.
     fn missed(self, found: Self) -> ColorError
         ensures { IsColorError true (spread self) (spread found) result };
 
-    /// Returns the color that is wanted at a pixel with these misses around it.
+    /// Returns the color that is wanted at a pixel with these errors around it.
     fn wanted<P: TablePixel>(
         pixel: P,
         how: Diffusion,
@@ -207,8 +207,8 @@ impl DiffusedColor for Color {
     ghost same_alpha = { λ pixel. refl };
 }
 
-/// Returns a pixel's share in a channel of the misses around it, in sixteenths. In the serpentine
-/// way the row above goes the other way.
+/// Returns a pixel's share in a channel of the errors around it, in sixteenths. Where the scan
+/// order is serpentine, the row above goes in the other direction.
 #[inline(always)]
 pub(crate) fn handed(
     scan: ScanOrder,
@@ -228,7 +228,7 @@ pub(crate) fn handed(
     7 * u32::from(left) + u32::from(ahead) + 5 * u32::from(above) + 3 * u32::from(behind)
 }
 
-/// Returns a number plus so many sixteenths of its share of misses that are 255 too great. The
+/// Returns a number plus so many sixteenths of its share of errors that are 255 too great. The
 /// share is in sixteenths itself.
 #[inline(always)]
 pub(crate) fn corrected(number: u8, strength: u8, handed: u32) -> u8

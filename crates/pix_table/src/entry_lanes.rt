@@ -25,7 +25,7 @@ pub struct EntryLanes {
 }
 
 impl EntryLanes {
-    ghost use Rattle.std.specs.Prelude.{◌≡◌, ◌≢◌, ℕ, List, length, map, false};
+    ghost use Rattle.std.specs.Prelude.{◌≡◌, ◌≢◌, ℕ, List, [], ◌∷◌, length, map, false};
     ghost use Rattle.pix_table.specs.Nearest.{IsNearest, numbers};
     ghost use Rattle.pix_table.specs.EntryLanes.{AreChosen, AreLanes};
 
@@ -99,11 +99,23 @@ impl EntryLanes {
     }
 
     /// Returns the index of the entry that is nearest to a color, the first of equals.
-    #[inline]
+    #[inline(always)]
     pub fn nearest(&self, clr: Color) -> u8
         ensures { (entries : List (List ℕ)) → AreLanes entries self.now
             → IsNearest entries (numbers clr) result }
     {
+        self.nearest_to(clr.red, clr.green, clr.blue)
+    }
+
+    /// Does what [`EntryLanes::nearest`] does, for the numbers of a color.
+    // A color would be stored byte by byte and read as a whole, for which a processor waits. Its
+    // numbers come in registers.
+    #[inline(never)]
+    fn nearest_to(&self, red: u8, green: u8, blue: u8) -> u8
+        ensures { (entries : List (List ℕ)) → AreLanes entries self.now
+            → IsNearest entries (red ∷ green ∷ blue ∷ []) result }
+    {
+        let clr = Color { red, green, blue };
         let lane = nearest_lane(&self.blocks[..(self.len + 15) / SIZE], clr);
         self.indices[usize::from(lane)]
     }

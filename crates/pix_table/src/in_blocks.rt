@@ -1,4 +1,4 @@
-//! The match of a color, found with blocks of entries and their spans.
+//! The match of a color, found with blocks of entries and their bounds.
 ghost use Rattle.std.specs.Prelude.{◌≡◌, ◌*◌, ◌<◌, ◌≤◌, ℕ, length, map, slice_index_or, MatchOption};
 ghost use Rattle.pix_table.specs.ColorBlocks.{AreBlocks, IsBest, IsFar};
 ghost use Rattle.pix_table.specs.Nearest.{numbers};
@@ -150,7 +150,7 @@ fn closest_in<C: TableColor>(
 }
 
 /// Returns the entry that stands for a color, as [`standing`](crate::standing) does. It uses blocks
-/// of the first entries and their spans.
+/// of the first entries and their bounds.
 pub fn standing_in<C: TableColor>(
     spans: &[BlockBounds],
     blocks: &[ColorBlock],

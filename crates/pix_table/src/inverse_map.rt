@@ -1,19 +1,21 @@
-//! InverseMap of colors, each with the entries that may be the nearest to one of its colors.
+//! An inverse color map (S. Thomas, Efficient inverse color map computation, Graphics Gems II,
+//! 1991): cells of colors, each with a short list of the entries that may be nearest to one of
+//! them.
 //!
-//! The colors are cut into small boxes of eight reds, eight greens and eight blues, and into larger
-//! ones of sixteen, thirty-two and sixty-four each. The entries of a small box are listed when a
-//! color of it is asked for. They are sifted from the list of the next larger box around it, which
-//! is made first in the same way. The lists of the largest boxes are made from all entries. A list
-//! is stored after those that are there. Colors whose lists are long, or not made, are searched
-//! among all entries, on lanes. Which lists are made, and how much room there is for them, decides
-//! only how long a search takes. No answer depends on it.
+//! The colors are cut into small cells of eight reds, eight greens and eight blues, and into larger
+//! ones of sixteen, thirty-two and sixty-four each. The short list of a small cell is made when a
+//! color of it is asked for. It is sifted from the list of the next larger cell around it, which is
+//! made first, just so. The lists of the largest cells are made from all entries. A list is stored
+//! after those that are there. Colors whose lists are long, or not made, are searched among all
+//! entries, on lanes. Which lists are made, and how much room there is for them, decides only how
+//! long a search takes. No answer depends on it.
 ghost use Rattle.std.specs.Prelude.{◌≡◌, ◌<◌, ◌≤◌, ◌+◌, ℕ, List, length, map, slice_index, IfSome};
 ghost use Rattle.pix_table.specs.Nearest.{IsNearest, numbers};
 ghost use Rattle.pix_table.specs.EntryLanes.{AreLanes};
 ghost use Rattle.pix_table.specs.InverseMap.{IsLow, AreEnough, AreShortListed, AreWords};
 ghost use Rattle.pix_table.specs.InverseMap.{IsInverseMap, HasLists, IsListFor};
 
-use crate::box_place::{
+use crate::cell_place::{
     is_nearer, low_of, middle, place_of, reach_of, sixteen_around, sixty_four_around,
     thirty_two_around,
 };
@@ -22,8 +24,8 @@ use crate::color::Color;
 use crate::entry_lanes::EntryLanes;
 use crate::word::{color_of, nearest_in_list};
 
-/// The number of all boxes.
-pub(crate) const BOXES: usize = 37440;
+/// The number of all cells.
+pub(crate) const CELLS: usize = 37440;
 
 /// The room for lists, one byte for an index.
 const ROOM: usize = 65536;
@@ -38,32 +40,32 @@ const AT_ONCE: u16 = 4;
 /// than all entries on lanes.
 const LONG: u16 = 24;
 
-/// The greatest length of a list that is sifted for a small box.
+/// The greatest length of a list that is sifted for a small cell.
 const SIFTED: u16 = 64;
 
 /// How many entries may be sifted at first.
 pub(crate) const CREDIT: u32 = 10000;
 
-/// How many more may be sifted for each color that is asked for while its box has no list.
+/// How many more may be sifted for each color that is asked for while its cell has no list.
 pub(crate) const RATE: u32 = 16;
 
-/// A box without a list.
+/// A cell without a list.
 pub(crate) const NONE: ShortList = ShortList { start: 0, count: 0 };
 
-/// Where the list of a box is. It is empty where there is none.
+/// Where the short list of a cell is. It is empty where there is none.
 #[derive(Clone, Copy)]
 pub struct ShortList {
     /// Where it begins.
     pub start: u16,
-    /// How many entries are listed.
+    /// How many entries it has.
     pub count: u16,
 }
 
-/// InverseMap, and the lists of their entries.
+/// The cells, and the short lists of their entries.
 #[derive(Drop)]
 pub struct InverseMap {
-    /// Where the list of each box is.
-    pub known: [ShortList; BOXES],
+    /// Where the list of each cell is.
+    pub known: [ShortList; CELLS],
     /// The lists, one after the other. The first is that of all entries.
     pub lists: [u8; LISTS],
     /// How much of the room is used.
@@ -72,7 +74,7 @@ pub struct InverseMap {
     pub first: u16,
     /// How many entries may be sifted now.
     pub credit: u32,
-    /// How many more may be sifted for each color that is asked for while its box has no list.
+    /// How many more may be sifted for each color that is asked for while its cell has no list.
     pub rate: u32,
 }
 
@@ -94,11 +96,11 @@ fn nearest_from(lanes: &EntryLanes, words: &[u32], lists: &[u8], from: ShortList
     }
 }
 
-/// Lists, from `start` on, those entries of a list that may be nearest to a color of a box, in
+/// Lists, from `start` on, those entries of a list that may be nearest to a color of a cell, in
 /// order. Returns their number.
 ///
-/// An entry is left out where the entry nearest to the middle of the box is nearer to each color of
-/// the box.
+/// An entry is left out where the entry nearest to the middle of the cell is nearer to each color
+/// of the cell.
 fn sift(
     entries: &[Color],
     words: &[u32],
@@ -140,72 +142,72 @@ fn sift(
 
 /// Makes room for four more lists, and writes the first list if it is not there. Where there is no
 /// room, all other lists are given up.
-fn make_room(boxes: &mut InverseMap, entries: &[Color], lanes: &EntryLanes)
+fn make_room(cells: &mut InverseMap, entries: &[Color], lanes: &EntryLanes)
     requires few { length entries.now ≤ 256 }
     requires lanes { AreLanes (map numbers entries.now) lanes.now }
-    requires boxes { IsInverseMap (map numbers entries.now) boxes.old }
-    ensures boxes { IsInverseMap (map numbers entries.now) boxes.new }
-    ensures first { 0 < boxes.new.first }
-    ensures free { boxes.new.used + 1024 ≤ 65536 }
+    requires cells { IsInverseMap (map numbers entries.now) cells.old }
+    ensures cells { IsInverseMap (map numbers entries.now) cells.new }
+    ensures first { 0 < cells.new.first }
+    ensures free { cells.new.used + 1024 ≤ 65536 }
 {
-    if boxes.first == 0 {
-        begin(boxes, entries, lanes);
-    } else if ROOM - boxes.used < 4 * ENTRIES {
-        give_up(boxes, entries);
+    if cells.first == 0 {
+        begin(cells, entries, lanes);
+    } else if ROOM - cells.used < 4 * ENTRIES {
+        give_up(cells, entries);
     }
 }
 
 /// Writes the first list. It has all entries, and of equal ones at least the first.
-fn begin(boxes: &mut InverseMap, entries: &[Color], lanes: &EntryLanes)
+fn begin(cells: &mut InverseMap, entries: &[Color], lanes: &EntryLanes)
     requires few { length entries.now ≤ 256 }
     requires lanes { AreLanes (map numbers entries.now) lanes.now }
-    requires boxes { IsInverseMap (map numbers entries.now) boxes.old }
-    requires unused { boxes.old.first ≡ 0 }
-    ensures boxes { IsInverseMap (map numbers entries.now) boxes.new }
-    ensures first { 0 < boxes.new.first }
-    ensures used { boxes.new.used ≡ 256 }
+    requires cells { IsInverseMap (map numbers entries.now) cells.old }
+    requires unused { cells.old.first ≡ 0 }
+    ensures cells { IsInverseMap (map numbers entries.now) cells.new }
+    ensures first { 0 < cells.new.first }
+    ensures used { cells.new.used ≡ 256 }
 {
     for p in 0..lanes.len {
-        boxes.lists[p] = lanes.indices[p];
+        cells.lists[p] = lanes.indices[p];
     }
-    boxes.used = ENTRIES;
-    boxes.first = lanes.len as u16;
+    cells.used = ENTRIES;
+    cells.first = lanes.len as u16;
 }
 
 /// Gives up all lists except the first, where there are any. From then on fewer are made, since the
 /// earlier ones were of little use.
 #[inline(never)]
-fn give_up(boxes: &mut InverseMap, entries: &[Color])
-    requires boxes { IsInverseMap (map numbers entries.now) boxes.old }
-    requires begun { 0 < boxes.old.first }
-    ensures boxes { IsInverseMap (map numbers entries.now) boxes.new }
-    ensures first { 0 < boxes.new.first }
-    ensures used { boxes.new.used ≡ 256 }
+fn give_up(cells: &mut InverseMap, entries: &[Color])
+    requires cells { IsInverseMap (map numbers entries.now) cells.old }
+    requires begun { 0 < cells.old.first }
+    ensures cells { IsInverseMap (map numbers entries.now) cells.new }
+    ensures first { 0 < cells.new.first }
+    ensures used { cells.new.used ≡ 256 }
 {
-    for k in 0..BOXES {
-        boxes.known[k] = NONE;
+    for k in 0..CELLS {
+        cells.known[k] = NONE;
     }
-    boxes.used = ENTRIES;
-    boxes.rate = boxes.rate / 2 + 1;
+    cells.used = ENTRIES;
+    cells.rate = cells.rate / 2 + 1;
 }
 
 /// Takes the price of sifting this many entries off the credit. Returns whether there is enough.
-fn pays(boxes: &mut InverseMap, count: u16) -> bool
-    ensures { HasLists boxes.old boxes.new }
+fn pays(cells: &mut InverseMap, count: u16) -> bool
+    ensures { HasLists cells.old cells.new }
 {
     let price = u32::from(count);
-    if boxes.credit < price {
+    if cells.credit < price {
         return false;
     }
-    boxes.credit -= price;
+    cells.credit -= price;
     true
 }
 
-/// Returns where the list of a box is. A box without a list gets one, sifted from another list that
-/// has all entries it needs. Where that list is no longer than what is looked at at once, or
-/// sifting drops nothing, the box shares it.
+/// Returns where the list of a cell is. A cell without a list gets one, sifted from another list
+/// that has all entries it needs. Where that list is no longer than what is looked at at once, or
+/// sifting drops nothing, the cell shares it.
 fn short_list(
-    boxes: &mut InverseMap,
+    cells: &mut InverseMap,
     entries: &[Color],
     words: &[u32],
     lanes: &EntryLanes,
@@ -215,25 +217,25 @@ fn short_list(
     requires few { length entries.now ≤ 256 }
     requires words { AreWords (map numbers entries.now) words.now }
     requires lanes { AreLanes (map numbers entries.now) lanes.now }
-    requires boxes { IsInverseMap (map numbers entries.now) boxes.old }
-    requires begun { 0 < boxes.old.first }
+    requires cells { IsInverseMap (map numbers entries.now) cells.old }
+    requires begun { 0 < cells.old.first }
     requires place { place < 37440 }
-    requires free { boxes.old.used + 256 ≤ 65536 }
-    requires from { IsListFor (map numbers entries.now) boxes.old place from }
-    ensures boxes { IsInverseMap (map numbers entries.now) boxes.new }
-    ensures few { boxes.new.used ≤ boxes.old.used + 256 }
-    ensures first { boxes.new.first ≡ boxes.old.first }
-    ensures short_list { IsListFor (map numbers entries.now) boxes.new place result }
+    requires free { cells.old.used + 256 ≤ 65536 }
+    requires from { IsListFor (map numbers entries.now) cells.old place from }
+    ensures cells { IsInverseMap (map numbers entries.now) cells.new }
+    ensures few { cells.new.used ≤ cells.old.used + 256 }
+    ensures first { cells.new.first ≡ cells.old.first }
+    ensures short_list { IsListFor (map numbers entries.now) cells.new place result }
 {
-    let old = boxes.known[place];
+    let old = cells.known[place];
     if old.count > 0 {
         return old;
     }
     if from.count <= AT_ONCE {
-        boxes.known[place] = from;
+        cells.known[place] = from;
         return from;
     }
-    let start = boxes.used;
+    let start = cells.used;
     let (low, reach) = (low_of(place), reach_of(place));
     let count = sift(
         entries,
@@ -242,25 +244,25 @@ fn short_list(
         from,
         low,
         reach,
-        &mut boxes.lists,
+        &mut cells.lists,
         start,
     );
     if count == usize::from(from.count) {
-        boxes.known[place] = from;
+        cells.known[place] = from;
         return from;
     }
     let known = ShortList {
         start: start as u16,
         count: count as u16,
     };
-    boxes.known[place] = known;
-    boxes.used = start + count;
+    cells.known[place] = known;
+    cells.used = start + count;
     known
 }
 
 /// Does the same if there is a list or credit for one. Else returns `None`.
 fn short_list_for(
-    boxes: &mut InverseMap,
+    cells: &mut InverseMap,
     entries: &[Color],
     words: &[u32],
     lanes: &EntryLanes,
@@ -270,30 +272,30 @@ fn short_list_for(
     requires few { length entries.now ≤ 256 }
     requires words { AreWords (map numbers entries.now) words.now }
     requires lanes { AreLanes (map numbers entries.now) lanes.now }
-    requires boxes { IsInverseMap (map numbers entries.now) boxes.old }
-    requires begun { 0 < boxes.old.first }
+    requires cells { IsInverseMap (map numbers entries.now) cells.old }
+    requires begun { 0 < cells.old.first }
     requires place { place < 37440 }
-    requires free { boxes.old.used + 256 ≤ 65536 }
-    requires from { IsListFor (map numbers entries.now) boxes.old place from }
-    ensures boxes { IsInverseMap (map numbers entries.now) boxes.new }
-    ensures few { boxes.new.used ≤ boxes.old.used + 256 }
-    ensures first { boxes.new.first ≡ boxes.old.first }
-    ensures short_list { IfSome result (IsListFor (map numbers entries.now) boxes.new place) }
+    requires free { cells.old.used + 256 ≤ 65536 }
+    requires from { IsListFor (map numbers entries.now) cells.old place from }
+    ensures cells { IsInverseMap (map numbers entries.now) cells.new }
+    ensures few { cells.new.used ≤ cells.old.used + 256 }
+    ensures first { cells.new.first ≡ cells.old.first }
+    ensures short_list { IfSome result (IsListFor (map numbers entries.now) cells.new place) }
 {
-    let old = boxes.known[place];
+    let old = cells.known[place];
     if old.count > 0 {
         return Some(old);
     }
-    if !pays(boxes, from.count) {
+    if !pays(cells, from.count) {
         return None;
     }
-    Some(short_list(boxes, entries, words, lanes, from, place))
+    Some(short_list(cells, entries, words, lanes, from, place))
 }
 
-/// Returns where the list of a box of sixteen is. A box without a list gets one if there is credit,
-/// after the boxes around it got theirs.
+/// Returns where the list of a cell of sixteen is. A cell without a list gets one if there is
+/// credit, after the cells around it got theirs.
 fn sixteen_short_list(
-    boxes: &mut InverseMap,
+    cells: &mut InverseMap,
     entries: &[Color],
     words: &[u32],
     lanes: &EntryLanes,
@@ -302,36 +304,36 @@ fn sixteen_short_list(
     requires few { length entries.now ≤ 256 }
     requires words { AreWords (map numbers entries.now) words.now }
     requires lanes { AreLanes (map numbers entries.now) lanes.now }
-    requires boxes { IsInverseMap (map numbers entries.now) boxes.old }
+    requires cells { IsInverseMap (map numbers entries.now) cells.old }
     requires sixteen { 32768 ≤ place }
     requires place { place < 36864 }
-    requires begun { 0 < boxes.old.first }
-    requires free { boxes.old.used + 768 ≤ 65536 }
-    ensures boxes { IsInverseMap (map numbers entries.now) boxes.new }
-    ensures few { boxes.new.used ≤ boxes.old.used + 768 }
-    ensures first { 0 < boxes.new.first }
-    ensures short_list { IfSome result (IsListFor (map numbers entries.now) boxes.new place) }
+    requires begun { 0 < cells.old.first }
+    requires free { cells.old.used + 768 ≤ 65536 }
+    ensures cells { IsInverseMap (map numbers entries.now) cells.new }
+    ensures few { cells.new.used ≤ cells.old.used + 768 }
+    ensures first { 0 < cells.new.first }
+    ensures short_list { IfSome result (IsListFor (map numbers entries.now) cells.new place) }
 {
-    let old = boxes.known[place];
+    let old = cells.known[place];
     if old.count > 0 {
         return Some(old);
     }
     let all = ShortList {
         start: 0,
-        count: boxes.first,
+        count: cells.first,
     };
     let thirty_two = thirty_two_around(place);
     let sixty_four = sixty_four_around(thirty_two);
-    let first = short_list_for(boxes, entries, words, lanes, all, sixty_four)?;
-    let second = short_list_for(boxes, entries, words, lanes, first, thirty_two)?;
-    short_list_for(boxes, entries, words, lanes, second, place)
+    let first = short_list_for(cells, entries, words, lanes, all, sixty_four)?;
+    let second = short_list_for(cells, entries, words, lanes, first, thirty_two)?;
+    short_list_for(cells, entries, words, lanes, second, place)
 }
 
-/// Returns where the list of a small box is. The box gets a list if there is credit, after the
-/// boxes around it got theirs. Where the list of the box around it is too long to be sifted, it
+/// Returns where the list of a small cell is. The cell gets a list if there is credit, after the
+/// cells around it got theirs. Where the list of the cell around it is too long to be sifted, it
 /// shares that list.
 fn small_short_list(
-    boxes: &mut InverseMap,
+    cells: &mut InverseMap,
     entries: &[Color],
     words: &[u32],
     lanes: &EntryLanes,
@@ -340,26 +342,26 @@ fn small_short_list(
     requires few { length entries.now ≤ 256 }
     requires words { AreWords (map numbers entries.now) words.now }
     requires lanes { AreLanes (map numbers entries.now) lanes.now }
-    requires boxes { IsInverseMap (map numbers entries.now) boxes.old }
+    requires cells { IsInverseMap (map numbers entries.now) cells.old }
     requires place { place < 32768 }
-    ensures boxes { IsInverseMap (map numbers entries.now) boxes.new }
-    ensures short_list { IfSome result (IsListFor (map numbers entries.now) boxes.new place) }
+    ensures cells { IsInverseMap (map numbers entries.now) cells.new }
+    ensures short_list { IfSome result (IsListFor (map numbers entries.now) cells.new place) }
 {
-    make_room(boxes, entries, lanes);
+    make_room(cells, entries, lanes);
     let sixteen = sixteen_around(place);
-    let from = sixteen_short_list(boxes, entries, words, lanes, sixteen)?;
+    let from = sixteen_short_list(cells, entries, words, lanes, sixteen)?;
     if from.count > SIFTED {
-        boxes.known[place] = from;
+        cells.known[place] = from;
         return Some(from);
     }
-    short_list_for(boxes, entries, words, lanes, from, place)
+    short_list_for(cells, entries, words, lanes, from, place)
 }
 
-/// Returns the index of the entry that is nearest to a color whose box has no list, or a long one.
+/// Returns the index of the entry that is nearest to a color whose cell has no list, or a long one.
 // Out of line, so that only the search of a list is inlined where pixels are matched.
 #[inline(never)]
 fn nearest_without_list(
-    boxes: &mut InverseMap,
+    cells: &mut InverseMap,
     entries: &[Color],
     words: &[u32],
     lanes: &EntryLanes,
@@ -368,26 +370,26 @@ fn nearest_without_list(
     requires few { length entries.now ≤ 256 }
     requires words { AreWords (map numbers entries.now) words.now }
     requires lanes { AreLanes (map numbers entries.now) lanes.now }
-    requires boxes { IsInverseMap (map numbers entries.now) boxes.old }
+    requires cells { IsInverseMap (map numbers entries.now) cells.old }
     ensures nearest { IsNearest (map numbers entries.now) (numbers clr) result }
-    ensures boxes { IsInverseMap (map numbers entries.now) boxes.new }
+    ensures cells { IsInverseMap (map numbers entries.now) cells.new }
 {
     let place = place_of(clr);
-    if boxes.known[place].count > 0 {
+    if cells.known[place].count > 0 {
         return lanes.nearest(clr);
     }
-    boxes.credit = boxes.credit.saturating_add(boxes.rate).min(CREDIT);
-    match small_short_list(boxes, entries, words, lanes, place) {
-        Some(known) => nearest_from(lanes, words, &boxes.lists, known, clr),
+    cells.credit = cells.credit.saturating_add(cells.rate).min(CREDIT);
+    match small_short_list(cells, entries, words, lanes, place) {
+        Some(known) => nearest_from(lanes, words, &cells.lists, known, clr),
         None => lanes.nearest(clr),
     }
 }
 
-/// Returns the index of the nearest of at least 1 and at most 256 entries, of which the boxes have
+/// Returns the index of the nearest of at least 1 and at most 256 entries, of which the cells have
 /// the lists.
 #[inline(always)]
 pub fn nearest_of(
-    boxes: &mut InverseMap,
+    cells: &mut InverseMap,
     entries: &[Color],
     words: &[u32],
     lanes: &EntryLanes,
@@ -396,15 +398,15 @@ pub fn nearest_of(
     requires few { length entries.now ≤ 256 }
     requires words { AreWords (map numbers entries.now) words.now }
     requires lanes { AreLanes (map numbers entries.now) lanes.now }
-    requires boxes { IsInverseMap (map numbers entries.now) boxes.old }
+    requires cells { IsInverseMap (map numbers entries.now) cells.old }
     ensures nearest { IsNearest (map numbers entries.now) (numbers clr) result }
-    ensures boxes { IsInverseMap (map numbers entries.now) boxes.new }
+    ensures cells { IsInverseMap (map numbers entries.now) cells.new }
 {
-    let known = boxes.known[place_of(clr)];
+    let known = cells.known[place_of(clr)];
     // One comparison tells that there is a list, and that it is not long.
     if known.count.wrapping_sub(1) < LONG {
-        nearest_in_list(words, &boxes.lists, known, clr)
+        nearest_in_list(words, &cells.lists, known, clr)
     } else {
-        nearest_without_list(boxes, entries, words, lanes, clr)
+        nearest_without_list(cells, entries, words, lanes, clr)
     }
 }

@@ -5,8 +5,8 @@
 #![tactic(auto)]
 
 mod block_bounds;
-mod box_place;
 mod box_sums;
+mod cell_place;
 mod chosen;
 mod color;
 mod color_block;
@@ -21,6 +21,7 @@ mod group;
 mod in_blocks;
 mod index;
 mod inverse_map;
+mod items;
 mod joins;
 mod lanes;
 mod look;

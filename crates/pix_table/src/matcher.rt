@@ -7,7 +7,7 @@ ghost use Rattle.pix_table.specs.EntryLanes.{AreLanes};
 use crate::chosen::ENTRIES;
 use crate::color::{Color, TableColor, TablePixel};
 use crate::entry_lanes::EntryLanes;
-use crate::inverse_map::{BOXES, CREDIT, InverseMap, LISTS, NONE, RATE, nearest_of};
+use crate::inverse_map::{CELLS, CREDIT, InverseMap, LISTS, NONE, RATE, nearest_of};
 use crate::nearest_search::{NearestSearch, SearchVisitor};
 use crate::word::word_of;
 use std::marker::Model;
@@ -43,7 +43,7 @@ struct Matcher {
     words: [u32; ENTRIES],
     len: usize,
     lanes: EntryLanes,
-    boxes: InverseMap,
+    inverse_map: InverseMap,
 }
 
 impl Model for Matcher {
@@ -59,7 +59,7 @@ impl Model for Matcher {
     ghost invariant = { λ m. (0 < m.len) × (m.len ≤ 256) × (length m.entries ≡ 256)
         × AreWords (map numbers (take m.len m.entries)) m.words
         × AreLanes (map numbers (take m.len m.entries)) m.lanes
-        × IsInverseMap (map numbers (take m.len m.entries)) m.boxes };
+        × IsInverseMap (map numbers (take m.len m.entries)) m.inverse_map };
 }
 
 impl NearestSearch for Matcher {
@@ -68,7 +68,13 @@ impl NearestSearch for Matcher {
     #[inline(always)]
     fn nearest_entry(&mut self, clr: Color) -> u8 {
         let entries = &self.entries[..self.len];
-        nearest_of(&mut self.boxes, entries, &self.words, &self.lanes, clr)
+        nearest_of(
+            &mut self.inverse_map,
+            entries,
+            &self.words,
+            &self.lanes,
+            clr,
+        )
     }
 }
 
@@ -172,8 +178,8 @@ fn visit_with_lists<C: TableColor, T, V: SearchVisitor<T>>(
         words,
         len,
         lanes,
-        boxes: InverseMap {
-            known: [NONE; BOXES],
+        inverse_map: InverseMap {
+            known: [NONE; CELLS],
             lists: [0; LISTS],
             used: 0,
             first: 0,
@@ -184,8 +190,8 @@ fn visit_with_lists<C: TableColor, T, V: SearchVisitor<T>>(
     visitor.visit(&mut matcher, items, work);
 }
 
-/// Pixels that are matched to entries. A pixel whose alpha is below `alpha` gets the index `transparent_index`,
-/// and any other gets that of its nearest entry.
+/// Pixels that are matched to entries. A pixel whose alpha is below `alpha` gets the index
+/// `transparent_index`, and any other gets that of its nearest entry.
 #[derive(Drop)]
 struct Matching<'a, P> {
     pixels: &'a [P],
@@ -193,8 +199,8 @@ struct Matching<'a, P> {
     transparent_index: u8,
 }
 
-/// Returns the index of a pixel: `transparent_index` where its alpha is below `alpha`, and else that of the
-/// nearest entry.
+/// Returns the index of a pixel: `transparent_index` where its alpha is below `alpha`, and else
+/// that of the nearest entry.
 #[inline(always)]
 fn matched<N: NearestSearch, P: TablePixel>(
     search: &mut N,
@@ -217,7 +223,8 @@ impl<P: TablePixel> SearchVisitor<u8> for Matching<'_, P> {
     ghost can_visit = { λ matching entries count work. count ≡ length matching.pixels.now };
 
     ghost visits = { λ matching entries old new.
-        AreMatched entries matching.alpha matching.transparent_index (map P.values matching.pixels.now) new };
+        AreMatched entries matching.alpha matching.transparent_index
+        (map P.values matching.pixels.now) new };
 
     // Out of line: where it is inlined, a matcher is put together on the stack beside its place.
     #[inline(never)]
@@ -228,8 +235,8 @@ impl<P: TablePixel> SearchVisitor<u8> for Matching<'_, P> {
     }
 }
 
-/// Sets the index of each pixel: to `transparent_index` where the pixel's alpha is below `alpha`, and else to
-/// that of the nearest entry, the first of equals.
+/// Sets the index of each pixel: to `transparent_index` where the pixel's alpha is below `alpha`,
+/// and else to that of the nearest entry, the first of equals.
 ///
 /// Condition: the table has at least one and at most 256 entries, and there are as many indices as
 /// pixels.
@@ -243,8 +250,8 @@ pub fn map_indexed<C: TableColor, P: TablePixel>(
     requires some { 0 < length colors.now }
     requires few { length colors.now ≤ 256 }
     requires many { length indices.old ≡ length pixels.now }
-    ensures { AreMatched (map C.channels colors.now) alpha transparent_index (map P.values pixels.now)
-        indices.new }
+    ensures { AreMatched (map C.channels colors.now) alpha transparent_index
+        (map P.values pixels.now) indices.new }
 {
     let matching = Matching {
         pixels,

@@ -1,32 +1,85 @@
 //! Rounds by which a table fits a list of colors better.
-ghost use Rattle.std.specs.Prelude.{◌≡◌, ◌<◌, ◌≤◌, false, length, map, take};
+ghost use Rattle.std.specs.Prelude.{◌≡◌, ◌<◌, ◌≤◌, ◌+◌, ◌*◌, ◌^◌, ℕ, List, false, length, map, take};
+ghost use Rattle.pix_table.specs.InverseMap.{word_color};
 ghost use Rattle.pix_table.specs.Nearest.{numbers};
 ghost use Rattle.pix_table.specs.Refine.{AreRounds, IsRound, squared_error};
-ghost use Rattle.pix_table.specs.Groups.{AreGrouped};
+ghost use Rattle.pix_table.specs.Groups.{AreItemGroups};
+ghost use Rattle.pix_table.specs.Items.{AreItemsOf, item_sum};
 
 use crate::box_sums::Sums;
 use crate::chosen::ENTRIES;
 use crate::color::Color;
+use crate::items::{Counted, Items, count_colors};
 use crate::matcher::visit_nearest;
 use crate::nearest_search::{NearestSearch, SearchVisitor};
 use crate::quantization::same;
+use crate::word::{color_of, word_of};
+
+impl Counted for Color {
+    ghost parts = { numbers };
+
+    ghost key_parts = { word_color };
+
+    #[inline(always)]
+    fn key(self) -> u32 {
+        word_of(self, 0)
+    }
+
+    #[inline(always)]
+    fn of_key(key: u32) -> Color {
+        color_of(key)
+    }
+
+    #[inline(always)]
+    fn of_count(count: u16) -> Color {
+        Color {
+            red: (count % 256) as u8,
+            green: (count / 256) as u8,
+            blue: 0,
+        }
+    }
+
+    #[inline(always)]
+    fn count(self) -> u16 {
+        u16::from(self.red) + 256 * u16::from(self.green)
+    }
+}
 
 /// Moves the entries by `rounds` rounds. In each, every color goes to its nearest entry, the first
-/// of equals, and every entry to the mean of its colors. An entry without colors stays.
+/// of equals, and every entry to the mean of its colors. An entry without colors stays. Items take
+/// the place of the colors.
 ///
 /// Condition: there are 1 to 256 entries.
 // Out of line, so that its stack and that of the cut do not add up.
 #[inline(never)]
-pub(crate) fn refine(colors: &[Color], rounds: u8, entries: &mut [Color])
+pub(crate) fn refine(colors: &mut [Color], rounds: u8, entries: &mut [Color])
     requires some { 0 < length entries.old }
     requires few { length entries.old ≤ 256 }
-    ensures rounds { AreRounds rounds (map numbers colors.now) (map numbers entries.old)
+    ensures rounds { AreRounds rounds (map numbers colors.old) (map numbers entries.old)
         (map numbers entries.new) }
-    ensures no_worse { squared_error (map numbers entries.new) (map numbers colors.now)
-        ≤ squared_error (map numbers entries.old) (map numbers colors.now) }
+    ensures no_worse { squared_error (map numbers entries.new) (map numbers colors.old)
+        ≤ squared_error (map numbers entries.old) (map numbers colors.old) }
+{
+    if rounds == 0 {
+        return;
+    }
+    let items = count_colors(colors);
+    refine_by(colors, items, rounds, entries);
+}
+
+/// Does the same by the items of the colors.
+fn refine_by(colors: &[Color], items: Items, rounds: u8, entries: &mut [Color])
+    requires some { 0 < length entries.old }
+    requires few { length entries.old ≤ 256 }
+    requires room { 2 * items.pairs + items.singles ≤ length colors.now }
+    requires count { item_sum (λ color. 1) (map numbers colors.now) items.pairs
+        (items.pairs + items.singles) < 2 ^ 64 }
+    ensures rounds { (all : List (List ℕ))
+        → AreItemsOf all (map numbers colors.now) items.pairs items.singles
+        → AreRounds rounds all (map numbers entries.old) (map numbers entries.new) }
 {
     for done in 0..rounds {
-        let is_moved = round(colors, entries);
+        let is_moved = round(colors, items, entries);
         if !is_moved {
             return;
         }
@@ -35,17 +88,19 @@ pub(crate) fn refine(colors: &[Color], rounds: u8, entries: &mut [Color])
 
 /// Moves the entries by one round, and returns whether one has moved. Where none has, none moves in
 /// the next round.
-fn round(colors: &[Color], entries: &mut [Color]) -> bool
+fn round(colors: &[Color], items: Items, entries: &mut [Color]) -> bool
     requires some { 0 < length entries.old }
     requires few { length entries.old ≤ 256 }
-    ensures round { IsRound (map numbers colors.now) (map numbers entries.old)
-        (map numbers entries.new) }
-    ensures no_worse { squared_error (map numbers entries.new) (map numbers colors.now)
-        ≤ squared_error (map numbers entries.old) (map numbers colors.now) }
+    requires room { 2 * items.pairs + items.singles ≤ length colors.now }
+    requires count { item_sum (λ color. 1) (map numbers colors.now) items.pairs
+        (items.pairs + items.singles) < 2 ^ 64 }
+    ensures round { (all : List (List ℕ))
+        → AreItemsOf all (map numbers colors.now) items.pairs items.singles
+        → IsRound all (map numbers entries.old) (map numbers entries.new) }
     ensures same { result ≡ false → map numbers entries.new ≡ map numbers entries.old }
 {
     let mut sums = [Sums::none(); ENTRIES];
-    set_sums_by_entry(colors, entries, &mut sums);
+    set_sums_by_entry(colors, items, entries, &mut sums);
     let mut is_moved = false;
     for i in 0..entries.len() {
         if 0 < sums[i].count {
@@ -58,42 +113,50 @@ fn round(colors: &[Color], entries: &mut [Color]) -> bool
 }
 
 /// Sets the first sums to those of the colors of each entry.
-fn set_sums_by_entry(colors: &[Color], entries: &[Color], sums: &mut [Sums; ENTRIES])
+fn set_sums_by_entry(colors: &[Color], items: Items, entries: &[Color], sums: &mut [Sums; ENTRIES])
     requires some { 0 < length entries.now }
     requires few { length entries.now ≤ 256 }
-    ensures { AreGrouped (map numbers entries.now) (map numbers colors.now)
-        (take (length entries.now) sums.new) }
+    requires room { 2 * items.pairs + items.singles ≤ length colors.now }
+    requires count { item_sum (λ color. 1) (map numbers colors.now) items.pairs
+        (items.pairs + items.singles) < 2 ^ 64 }
+    ensures { AreItemGroups (map numbers entries.now) (map numbers colors.now) items.pairs
+        (items.pairs + items.singles) (take (length entries.now) sums.new) }
 {
-    let grouping = Grouping { colors };
+    let grouping = Grouping { colors, items };
     visit_nearest(
         entries,
         &grouping,
-        colors.len(),
+        items.pairs + items.singles,
         &mut sums[..entries.len()],
         &mut [],
     );
 }
 
-/// Colors, each of which is added to the sums of its nearest entry.
+/// Items, the colors of each of which are added to the sums of their nearest entry.
 #[derive(Drop)]
 struct Grouping<'a> {
     colors: &'a [Color],
+    items: Items,
 }
 
 impl SearchVisitor<Sums> for Grouping<'_> {
-    ghost can_visit = { λ grouping entries count work. count ≡ length entries };
+    ghost can_visit = { λ grouping entries count work. (count ≡ length entries)
+        × (2 * grouping.items.pairs + grouping.items.singles ≤ length grouping.colors.now)
+        × (item_sum (λ color. 1) (map numbers grouping.colors.now) grouping.items.pairs
+        (grouping.items.pairs + grouping.items.singles) < 2 ^ 64) };
 
-    ghost visits = { λ grouping entries old new. length old ≡ length entries → AreGrouped entries
-        (map numbers grouping.colors.now) new };
+    ghost visits = { λ grouping entries old new. length old ≡ length entries
+        → AreItemGroups entries (map numbers grouping.colors.now) grouping.items.pairs
+        (grouping.items.pairs + grouping.items.singles) new };
 
     // Out of line, as that of `Matching`.
     #[inline(never)]
     fn visit<N: NearestSearch>(&self, search: &mut N, items: &mut [Sums], _work: &mut [Color]) {
         items.fill(Sums::none());
-        for i in 0..self.colors.len() {
-            let clr = self.colors[i];
+        for k in 0..self.items.pairs + self.items.singles {
+            let (clr, count) = self.items.item(self.colors, k);
             let entry = usize::from(search.nearest_entry(clr));
-            items[entry] = items[entry].with(clr);
+            items[entry] = items[entry].and(Sums::of_times(clr, count));
         }
     }
 }

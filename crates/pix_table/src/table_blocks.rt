@@ -20,7 +20,7 @@ const MANY: usize = 64;
 /// The maximum number of blocks.
 const BLOCKS: usize = 16;
 
-/// Blocks of the first entries of a table, up to 256 of them, and the spans of those blocks.
+/// Blocks of the first entries of a table, up to 256 of them, and the bounds of those blocks.
 #[derive(Drop)]
 pub struct TableBlocks {
     pub(crate) spans: [BlockBounds; 1],

@@ -39,7 +39,7 @@ fn key(word: u32, clr: Color) -> u32
     distance(color_of(word), clr) * 256 + word % 256
 }
 
-/// Returns the least key of four entries that are listed from a place on.
+/// Returns the least key of four entries that stand in a list from a place on.
 #[inline(always)]
 fn least_of_four(words: &[u32], lists: &[u8], at: usize, clr: Color) -> u32
     requires words { length words.now ≡ 256 }
@@ -57,8 +57,8 @@ fn least_of_four(words: &[u32], lists: &[u8], at: usize, clr: Color) -> u32
     first.min(second).min(third.min(fourth))
 }
 
-/// Returns the nearest of the listed entries. They are looked at in fours, so up to three entries
-/// after the list are looked at too.
+/// Returns the nearest of the entries of a short list. They are looked at in fours, so up to three
+/// entries after the list are looked at too.
 #[inline(always)]
 pub fn nearest_in_list(words: &[u32], lists: &[u8], known: ShortList, clr: Color) -> u8
     requires words { length words.now ≡ 256 }

@@ -13,11 +13,11 @@ fn near_colors_while_a_table_grows(rt: HostRuntime) -> Result<(), Fail> {
     let values = [10, 13, 200, 13, 14, 13, 14, 201].map(gray);
     let picture = colors(rt.alloc(), 8, 1, &values)?;
     // 13 is within 3 of 10 until 14 is added, which is closer.
-    let indices = table.index(rt.alloc(), &picture)?;
+    let indices = table.index_pixels(rt.alloc(), &picture)?;
     assert_image(&rt, indices, &[0, 0, 1, 0, 2, 2, 2, 1]);
     assert_eq!(rt; table.len(), 3);
     let more = colors(rt.alloc(), 2, 1, &[10, 100].map(gray))?;
-    assert!(rt; table.index(rt.alloc(), &more)?.is_none());
+    assert!(rt; table.index_pixels(rt.alloc(), &more)?.is_none());
     assert_eq!(rt; table.len(), 3);
     Ok(())
 }

@@ -1,5 +1,6 @@
 //! An encoder of indexed images that has one table of colors for all of them.
-ghost use Rattle.std.specs.Prelude.{◌≡◌, ◌<◌, ℕ, [], ◌∷◌, length, map, slice_index_or, IfOk, IfErr, IfSome};
+ghost use Rattle.std.specs.Prelude.{◌≡◌, ◌<◌, ℕ, [], ◌∷◌, length, map, slice_index_or, IfOk, IfErr};
+ghost use Rattle.std.specs.Prelude.{IfSome};
 ghost use Rattle.pix.specs.ColorTable.{entries_of, IsMadeOf};
 ghost use Rattle.pix.specs.Diffusion.{AreDiffused};
 ghost use Rattle.pix.specs.Quantization.{shown};
@@ -42,9 +43,10 @@ impl Encoder {
         S: Pixel,
         Ch8: From<S::Chan>,
         S::Gamma: Gamma<Ch8>,
-        ensures unchanged { IfErr result (λ _. entries_of self.new.table ≡ entries_of self.old.table) }
+        ensures unchanged { IfErr result (λ _.
+            entries_of self.new.table ≡ entries_of self.old.table) }
     {
-        self.table.index(alloc, picture)
+        self.table.index_pixels(alloc, picture)
     }
 }
 
@@ -64,7 +66,7 @@ pub fn there_and_back(
         (slice_index_or (colors_of ⟦<SRgb8 as Pixel>⟧.format ⟦<Srgb as Gamma<Ch8>>⟧.mode
         ⟦<SRgb8 as Pixel>⟧.numbers picture.now.pixels) k []) ≡ 0 ∷ 0 ∷ 0 ∷ [])) }
 {
-    match table.index(alloc, picture)? {
+    match table.index_pixels(alloc, picture)? {
         None => Ok(None),
         Some(indices) => table.look_up(alloc, &indices),
     }

@@ -359,7 +359,7 @@ unsafe extern "C" {
 }
 
 /// The version of the binary interface: another one where a call, a number or a layout changes.
-pub const ABI_VERSION: u32 = 1;
+pub const ABI_VERSION: u32 = 2;
 
 /// What [`pix_layout`] returns, from 0 on. First comes the version. Then come the sizes of the three kinds of pixels and of
 /// a region, and the offsets of its fields. Last is the size of the command of each kind, and the offsets of its fields.

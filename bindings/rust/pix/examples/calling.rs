@@ -4,7 +4,7 @@
 #![forbid(unsafe_code)]
 
 use pix::{Bitmap, BitmapMut, Command, Error, Format, Image, ImageMut, Op, Pixel, Region};
-use pix::{Rgba8, Rgba16, Srgb8, ColorTable};
+use pix::{ColorTable, Rgba8, Rgba16, Srgb8};
 use std::io::Write;
 
 /// The letter P as a mask: each digit is a ninth of full coverage.
@@ -21,7 +21,7 @@ const LETTER: &[u8; 8 * 9] = b"99999720\
 /// Makes a pixel to paint with from a color of sRGB, written as 0xRRGGBB.
 fn srgb(color: u32) -> Result<Rgba8, Error> {
     let [_, red, green, blue] = color.to_be_bytes();
-    Rgba8::of(Format::SRgba8, &[red, green, blue, 255])
+    Rgba8::color_of(Format::SRgba8, &[red, green, blue, 255])
 }
 
 /// Fills a picture with the color of the sky.
@@ -87,7 +87,7 @@ fn glaze(photo: &mut [u8], width: u32, height: u32) -> Result<(), Error> {
     let bytes = Bitmap::new(photo, width, height, Format::SRgb8);
     image.as_bitmap_mut().convert_bitmap(bytes)?;
     let band = Region::new(0, height as i32 / 3, width, height / 3);
-    let half_white = Rgba16::of(Format::SRgba8, &[255, 255, 255, 128])?;
+    let half_white = Rgba16::color_of(Format::SRgba8, &[255, 255, 255, 128])?;
     image.run(&[Command::composite_color(band, half_white, Op::SrcOver)])?;
     BitmapMut::new(photo, width, height, Format::SRgb8).convert_bitmap(image.as_bitmap())
 }

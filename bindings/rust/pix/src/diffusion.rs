@@ -1,10 +1,11 @@
 //! Error diffusion with a strength, and in rows of both directions.
 
 use crate::error::Error;
-use crate::table::{Srgb8, Srgba8, ColorTable, done};
+use crate::table::{ColorTable, Srgb8, Srgba8, done};
 use pix_sys::check_library;
 
-/// How errors are diffused. The default is what [`ColorTable::diffuse_indexed`] does: all of each error, and no row from right to left.
+/// How errors are diffused. The default is what [`ColorTable::diffuse_indexed`] does: all of each error, and no row from right to
+/// left.
 ///
 /// ```
 /// use pix::Diffusion;
@@ -17,8 +18,8 @@ pub struct Diffusion {
     /// How many sixteenths of an error are passed on, from 0 to 16. With less there is less noise, and areas are less like the
     /// picture. With 0 each pixel gets its nearest entry.
     pub strength: u8,
-    /// Whether every second row goes from right to left: the second, the fourth and so on. Left and right are exchanged there, also
-    /// where an error goes.
+    /// Whether every second row goes from right to left: the second, the fourth and so on. Left and right are exchanged there,
+    /// also where an error goes.
     pub serpentine: bool,
 }
 
@@ -32,11 +33,11 @@ impl Default for Diffusion {
 }
 
 impl ColorTable<'_> {
-    /// Does what [`diffuse_indexed`](ColorTable::diffuse_indexed) does, in the way that `how` says. What a pixel gets of the errors before
+    /// Does what [`diffuse_indexed`](ColorTable::diffuse_indexed) does, as `how` says. What a pixel gets of the errors before
     /// it is multiplied by the strength, and rounded once.
     ///
     /// ```
-    /// use pix::{Diffusion, Srgb8, ColorTable, diffuse_indexed_work};
+    /// use pix::{ColorTable, Diffusion, Srgb8, diffuse_indexed_work};
     ///
     /// let gray = |v| Srgb8::new(v, v, v);
     /// let entries = [gray(0), gray(255)];
@@ -50,8 +51,8 @@ impl ColorTable<'_> {
     ///
     /// # Errors
     ///
-    /// `Strength` where that is above 16. `Length` as [`diffuse_indexed`](ColorTable::diffuse_indexed), and where serpentine rows are not
-    /// whole. The indices are unchanged.
+    /// `Strength` where that is above 16. `Length` as [`diffuse_indexed`](ColorTable::diffuse_indexed), and where serpentine rows
+    /// are not whole. The indices are unchanged.
     pub fn diffuse_indexed_by(
         &self,
         pixels: &[Srgb8],
@@ -79,7 +80,7 @@ impl ColorTable<'_> {
         })
     }
 
-    /// Does what [`diffuse_indexed_alpha`](ColorTable::diffuse_indexed_alpha) does, in the way that `how` says.
+    /// Does what [`diffuse_indexed_alpha`](ColorTable::diffuse_indexed_alpha) does, as `how` says.
     ///
     /// # Errors
     ///

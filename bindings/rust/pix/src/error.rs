@@ -27,7 +27,7 @@ pub enum Error {
     /// memory of another length, or serpentine rows that are not whole.
     Length,
     /// A table of colors has no entry, or more than 256.
-    ColorTable,
+    Table,
     /// An index is past the end of a table or of the counts, or takes more bits than it is to have.
     Index,
     /// A table has no room for a color.
@@ -51,7 +51,7 @@ impl Error {
             status::BAD_SOURCE => Error::Source { index },
             status::BAD_FORMAT => Error::Format,
             status::BAD_LENGTH => Error::Length,
-            status::BAD_TABLE => Error::ColorTable,
+            status::BAD_TABLE => Error::Table,
             status::BAD_INDEX => Error::Index,
             status::FULL_TABLE => Error::Full,
             status::BAD_STRENGTH => Error::Strength,
@@ -93,7 +93,7 @@ impl fmt::Display for Error {
             }
             Error::Larger => f.write_str("in place, a pixel would be larger"),
             Error::Length => f.write_str("the lengths do not go together"),
-            Error::ColorTable => f.write_str("a table has no entry, or more than 256"),
+            Error::Table => f.write_str("a table has no entry, or more than 256"),
             Error::Index => {
                 f.write_str("an index is past the end, or takes more bits than it is to have")
             }

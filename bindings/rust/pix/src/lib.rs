@@ -34,9 +34,9 @@
 //! or another language has too. Nothing else writes it while it is borrowed. Nothing else reads it while it is borrowed to
 //! be written. Both hold for each address of that memory.
 //!
-//! A call takes up to 256 KiB of stack to match pixels to a table ([`ColorTable::map_indexed`], [`ColorTable::diffuse_indexed`]), and for
-//! [`quantize_refined`]. It takes 96 KiB for [`quantize`] and [`quantize_rgba`], 32 for [`index_pixels`] and to match to a
-//! [`RgbaTable`], and 16 for all else. Threads of `std` have 2 MiB.
+//! A call takes up to 256 KiB of stack to match pixels to a table ([`ColorTable::map_indexed`], [`ColorTable::diffuse_indexed`]),
+//! and for [`quantize_refined`]. It takes 96 KiB for [`quantize`] and [`quantize_rgba`], 32 for [`index_pixels`] and to match to
+//! a [`RgbaTable`], and 16 for all else. Threads of `std` have 2 MiB.
 //!
 //! docs/PROMISES.md of the repository lists all calls in four languages, and what is proved of each.
 #![no_std]
@@ -48,8 +48,8 @@ mod error;
 mod format;
 mod image;
 mod pixel;
+mod rgba_table;
 mod table;
-mod table_rgba;
 
 pub use crate::bitmap::{Bitmap, BitmapMut};
 pub use crate::command::{Command, Op};
@@ -58,8 +58,8 @@ pub use crate::error::Error;
 pub use crate::format::{Format, convert};
 pub use crate::image::{Bands, Image, ImageMut};
 pub use crate::pixel::{Graya8, Pixel, Region, Rgba8, Rgba16, bytes, bytes_mut};
+pub use crate::rgba_table::{RgbaTable, quantize_rgba};
 pub use crate::table::{
-    IndexDepth, Srgb8, Srgba8, ColorTable, count_indices, diffuse_indexed_work, index_pixels, quantize,
-    quantize_alpha, quantize_refined, quantize_refined_alpha, pack_row, unpack_row,
+    ColorTable, IndexDepth, Srgb8, Srgba8, count_indices, diffuse_indexed_work, index_pixels,
+    pack_row, quantize, quantize_alpha, quantize_refined, quantize_refined_alpha, unpack_row,
 };
-pub use crate::table_rgba::{RgbaTable, quantize_rgba};

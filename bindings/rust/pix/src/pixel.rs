@@ -20,11 +20,11 @@ pub trait Pixel: Copy + Default + private::Calls<Self::Matte> {
     /// ```
     /// use pix::{Format, Pixel, Rgba16};
     ///
-    /// let half_white = Rgba16::of(Format::SRgba8, &[255, 255, 255, 128])?; // in light
+    /// let half_white = Rgba16::color_of(Format::SRgba8, &[255, 255, 255, 128])?; // in light
     /// assert_eq!(half_white, Rgba16::new(32896, 32896, 32896, 32896));
     /// # Ok::<(), pix::Error>(())
     /// ```
-    fn of(format: Format, pixel: &[u8]) -> Result<Self, Error> {
+    fn color_of(format: Format, pixel: &[u8]) -> Result<Self, Error> {
         let mut color = [Self::default()];
         let source = Bitmap::new(pixel, 1, 1, format);
         BitmapMut::new(bytes_mut(&mut color), 1, 1, Self::FORMAT).convert_bitmap(source)?;

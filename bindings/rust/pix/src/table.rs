@@ -7,7 +7,7 @@ use pix_sys::{check_library, status};
 /// A table of 1 to 256 colors, which it borrows.
 ///
 /// ```
-/// use pix::{Srgb8, ColorTable};
+/// use pix::{ColorTable, Srgb8};
 ///
 /// let entries = [Srgb8::new(0, 0, 0), Srgb8::new(255, 255, 255)];
 /// let table = ColorTable::new(&entries)?;
@@ -52,10 +52,10 @@ impl<'a> ColorTable<'a> {
     ///
     /// # Errors
     ///
-    /// `ColorTable` where there is none, or more than 256.
+    /// `Table` where there is none, or more than 256.
     pub fn new(entries: &'a [Srgb8]) -> Result<ColorTable<'a>, Error> {
         if entries.is_empty() || entries.len() > 256 {
-            return Err(Error::ColorTable);
+            return Err(Error::Table);
         }
         Ok(ColorTable { entries })
     }
@@ -128,10 +128,11 @@ impl<'a> ColorTable<'a> {
     }
 
     /// Sets the index of each pixel of rows of `width` by error diffusion: to that of the entry that is nearest to the pixel and
-    /// what it gets of the errors before it. An error is what was wanted less the entry that was found. 7 sixteenths of it go
-    /// to the pixel on the right, 3 to the one below on the left, 5 to the one below, and 1 to the one below on the right.
-    /// What would go past the sides of a row is lost. What is wanted is, in each channel, the pixel's number and the sum of the
-    /// sixteenths that it gets, rounded to the nearest, a half up, and kept from 0 to 255. `work` has [`diffuse_indexed_work`] colors.
+    /// what it gets of the errors before it. An error is what was wanted less the entry that was found. 7 sixteenths of it go to
+    /// the pixel on the right, 3 to the one below on the left, 5 to the one below, and 1 to the one below on the right. What
+    /// would go past the sides of a row is lost. What is wanted is, in each channel, the pixel's number and the sum of the
+    /// sixteenths that it gets, rounded to the nearest, a half up, and kept from 0 to 255. `work` has [`diffuse_indexed_work`]
+    /// colors.
     ///
     /// # Errors
     ///
@@ -161,8 +162,8 @@ impl<'a> ColorTable<'a> {
         })
     }
 
-    /// Does what [`diffuse_indexed`](ColorTable::diffuse_indexed) does, on pixels with an alpha. One whose alpha is below `alpha` has
-    /// the index `transparent_index`, and hands on no error.
+    /// Does what [`diffuse_indexed`](ColorTable::diffuse_indexed) does, on pixels with an alpha. One whose alpha is below `alpha`
+    /// has the index `transparent_index`, and hands on no error.
     pub fn diffuse_indexed_alpha(
         &self,
         pixels: &[Srgba8],
@@ -219,10 +220,10 @@ pub const fn diffuse_indexed_work(width: usize) -> Option<usize> {
     width.checked_mul(4)
 }
 
-/// Makes a table of the colors of `pixels` in the first of `entries`, and returns those. With no more distinct colors than entries
-/// they are the table, in order of first place. Else it has the means of boxes of colors, which are cut again and again where
-/// the squared error falls most, and then joined where it rises least; what the other entries hold is not said.
-/// `work` has as many colors as there are pixels; for a large picture pass a sample of its pixels.
+/// Makes a table of the colors of `pixels` in the first of `entries`, and returns those. With no more distinct colors than
+/// entries they are the table, in order of first place. Else it has the means of boxes of colors, which are cut again and again
+/// where the squared error falls most, and then joined where it rises least; what the other entries hold is not said. `work` has
+/// as many colors as there are pixels; for a large picture pass a sample of its pixels.
 ///
 /// ```
 /// use pix::{Srgb8, quantize};
@@ -236,7 +237,7 @@ pub const fn diffuse_indexed_work(width: usize) -> Option<usize> {
 ///
 /// # Errors
 ///
-/// `ColorTable` where there is no entry or more than 256, and `Length` where `work` has fewer colors. Both are unchanged.
+/// `Table` where there is no entry or more than 256, and `Length` where `work` has fewer colors. Both are unchanged.
 pub fn quantize<'a>(
     pixels: &[Srgb8],
     work: &mut [Srgb8],
@@ -260,10 +261,10 @@ pub fn quantize<'a>(
 }
 
 /// Does what [`quantize`] does, on pixels with an alpha. Those whose alpha is below `alpha` do not count. Where none counts there
-/// is no entry, and so no [`ColorTable`]: the index of each pixel is the one that is kept.
+/// is no entry, and so no [`ColorTable`]: the index of each pixel is the transparent one.
 ///
 /// ```
-/// use pix::{Srgb8, Srgba8, ColorTable, quantize_alpha};
+/// use pix::{ColorTable, Srgb8, Srgba8, quantize_alpha};
 ///
 /// let clear = [Srgba8::new(1, 2, 3, 0), Srgba8::new(4, 5, 6, 99)];
 /// let (mut work, mut entries, mut indices) = ([Srgb8::default(); 2], [Srgb8::default(); 255], [0; 2]);
@@ -376,11 +377,12 @@ pub fn quantize_refined_alpha<'a>(
     Ok(&entries[..made])
 }
 
-/// Sets the color of each pixel in a table, one after the other, and its index. The index is that of the entry that stands for the
-/// color, or of the next one, which is set to the color. `used` is how many of the entries are used, before and afterwards, so one
-/// table may serve several pictures. What stands for a color is its match, if that differs from it by no more than `threshold` in
-/// each of red, green and blue. With a threshold of 0 that is the color itself. The match is the last of the candidates: entry 0,
-/// and each later entry that differs by no more than the candidate before it in each channel, and by less in one.
+/// Sets the color of each pixel in a table, one after the other, and its index. The index is that of the entry that stands for
+/// the color, or of the next one, which is set to the color. `used` is how many of the entries are used, before and afterwards,
+/// so one table may serve several pictures. What stands for a color is its match, if that differs from it by no more than
+/// `threshold` in each of red, green and blue. With a threshold of 0 that is the color itself. The match is the last of the
+/// candidates: entry 0, and each later entry that differs by no more than the candidate before it in each channel, and by less in
+/// one.
 ///
 /// ```
 /// use pix::{Srgb8, index_pixels};
@@ -394,7 +396,7 @@ pub fn quantize_refined_alpha<'a>(
 ///
 /// # Errors
 ///
-/// `ColorTable` if there is room for no entry or for more than 256. `Length` if more are used than there are, or if there are not as
+/// `Table` if there is room for no entry or for more than 256. `Length` if more are used than there are, or if there are not as
 /// many indices as pixels. `Full` if there is no room for a color. Nothing is changed then.
 pub fn index_pixels(
     entries: &mut [Srgb8],

@@ -37,7 +37,10 @@ fn comes_back(format: Format) {
     let mut pixels = vec![Rgba16::default(); (WIDTH * HEIGHT) as usize];
     let mut light = ImageMut::new(&mut pixels, WIDTH, HEIGHT);
     let source = Bitmap::new(&photo, WIDTH, HEIGHT, format);
-    light.as_bitmap_mut().convert_bitmap(source).expect("decoded");
+    light
+        .as_bitmap_mut()
+        .convert_bitmap(source)
+        .expect("decoded");
     let color = Rgba16::new(9000, 0, 0, 30000);
     let painted = Region::new(100, 50, 64, 64);
     let list = [Command::composite_color(painted, color, Op::SrcOver)];
@@ -74,7 +77,10 @@ fn pixels_of_each_alpha() {
         let mut pixels = [Rgba16::default()];
         let mut light = ImageMut::new(&mut pixels, 1, 1);
         let source = Bitmap::new(&photo, 1, 1, Format::SRgba8);
-        light.as_bitmap_mut().convert_bitmap(source).expect("decoded");
+        light
+            .as_bitmap_mut()
+            .convert_bitmap(source)
+            .expect("decoded");
         let mut shown = BitmapMut::new(&mut back, 1, 1, Format::SRgba8);
         shown.convert_bitmap(light.as_bitmap()).expect("encoded");
         match alpha {
@@ -134,11 +140,17 @@ fn in_place() {
 
 #[test]
 fn colors() {
-    let half_white = Rgba16::of(Format::SRgba8, &[255, 255, 255, 128]);
+    let half_white = Rgba16::color_of(Format::SRgba8, &[255, 255, 255, 128]);
     assert_eq!(half_white, Ok(Rgba16::new(32896, 32896, 32896, 32896)));
-    assert_eq!(Rgba16::of(Format::SRgb8, &[188, 0, 0]), Ok(Rgba16::new(32957, 0, 0, 65535)));
-    assert_eq!(Rgba8::of(Format::Rgba8, &[200, 100, 50, 128]), Ok(Rgba8::new(100, 50, 25, 128)));
-    let few = Rgba8::of(Format::Rgba8, &[200, 100, 50]);
+    assert_eq!(
+        Rgba16::color_of(Format::SRgb8, &[188, 0, 0]),
+        Ok(Rgba16::new(32957, 0, 0, 65535))
+    );
+    assert_eq!(
+        Rgba8::color_of(Format::Rgba8, &[200, 100, 50, 128]),
+        Ok(Rgba8::new(100, 50, 25, 128))
+    );
+    let few = Rgba8::color_of(Format::Rgba8, &[200, 100, 50]);
     assert_eq!(few, Err(Error::Picture));
 }
 
@@ -148,7 +160,10 @@ fn refusals() {
     let mut small = [Rgba8::default(); 3];
     let mut image = ImageMut::new(&mut small, 2, 2);
     let source = Bitmap::new(&photo, 2, 2, Format::SRgba8);
-    assert_eq!(image.as_bitmap_mut().convert_bitmap(source), Err(Error::Size));
+    assert_eq!(
+        image.as_bitmap_mut().convert_bitmap(source),
+        Err(Error::Size)
+    );
     let mut shown = BitmapMut::new(&mut back, 2, 2, Format::SRgba8);
     for source in [
         Bitmap::new(&photo[..15], 2, 2, Format::SRgba8),

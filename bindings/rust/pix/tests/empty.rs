@@ -2,8 +2,8 @@
 #![forbid(unsafe_code)]
 
 use pix::{
-    Bitmap, BitmapMut, Command, Diffusion, Error, Format, Graya8, Image, ImageMut, Op, Pixel,
-    Region, Rgba8, Rgba16, Srgb8, Srgba8, ColorTable, RgbaTable, convert, diffuse_indexed_work,
+    Bitmap, BitmapMut, ColorTable, Command, Diffusion, Error, Format, Graya8, Image, ImageMut, Op,
+    Pixel, Region, Rgba8, Rgba16, RgbaTable, Srgb8, Srgba8, convert, diffuse_indexed_work,
     quantize_rgba,
 };
 use std::time::{Duration, Instant};
@@ -145,7 +145,10 @@ fn rows_of_indices() {
     assert_eq!(no_row, Err(Error::Length));
     let no_pixel = at_once(|| table.diffuse_indexed(&[], 1 << 20, &mut work, &mut []));
     assert_eq!(no_pixel, Ok(()));
-    let how = Diffusion { strength: 16, serpentine: true };
+    let how = Diffusion {
+        strength: 16,
+        serpentine: true,
+    };
     let turned = at_once(|| table.diffuse_indexed_by(&[], 1 << 20, how, &mut work, &mut []));
     assert_eq!(turned, Ok(()));
     let mut entries = [Srgba8::new(1, 2, 3, 4)];

@@ -239,7 +239,7 @@ fn operators_are_those_of_their_names() {
 #[test]
 fn masks_and_opacities() {
     let (pixel, below) = (Rgba8::new(200, 100, 0, 200), Rgba8::new(0, 0, 100, 255));
-    let (faded, transparent_index) = (Rgba8::new(100, 50, 61, 255), Rgba8::new(200, 100, 22, 255));
+    let (faded, kept) = (Rgba8::new(100, 50, 61, 255), Rgba8::new(200, 100, 22, 255));
     let whole = Region::new(0, 0, 3, 1);
     let sources = [pixel; 3];
     let source = Image::new(&sources, 3, 1);
@@ -265,7 +265,7 @@ fn masks_and_opacities() {
         Op::SrcOver,
     )];
     assert_eq!(ImageMut::new(&mut pixels, 3, 1).run(&list), Ok(()));
-    assert_eq!(pixels, [faded, below, transparent_index]);
+    assert_eq!(pixels, [faded, below, kept]);
     let short = Image::new(&[255; 5], 3, 2);
     let command = Command::composite_image_matte(whole, source, whole, short, whole, Op::SrcOver);
     assert_eq!(
@@ -443,10 +443,16 @@ fn windows_of_the_other_kinds() {
     let mut wide = [Rgba16::new(1, 2, 3, 4); 4];
     let (one, dark) = (Rgba16::new(9, 9, 9, 9), Graya8::new(9, 9));
     let list = [Command::copy_color(far, one)];
-    assert_eq!(ImageMut::new(&mut wide, 2, 2).run_window(6, 3, &list), Ok(()));
+    assert_eq!(
+        ImageMut::new(&mut wide, 2, 2).run_window(6, 3, &list),
+        Ok(())
+    );
     assert_eq!(wide.map(|pixel| pixel.r), [1, 9, 1, 1]);
     let mut gray = [Graya8::new(1, 2); 4];
     let list = [Command::copy_color(far, dark)];
-    assert_eq!(ImageMut::new(&mut gray, 2, 2).run_window(7, 2, &list), Ok(()));
+    assert_eq!(
+        ImageMut::new(&mut gray, 2, 2).run_window(7, 2, &list),
+        Ok(())
+    );
     assert_eq!(gray.map(|pixel| pixel.value), [1, 1, 9, 1]);
 }

@@ -1,9 +1,9 @@
 //! Tables of colors beside plain loops, and what is refused.
 
 use pix::{
-    Diffusion, Error, IndexDepth, Srgb8, Srgba8, ColorTable, RgbaTable, count_indices, diffuse_indexed_work,
-    index_pixels, quantize, quantize_alpha, quantize_refined, quantize_refined_alpha,
-    quantize_rgba, pack_row, unpack_row,
+    ColorTable, Diffusion, Error, IndexDepth, RgbaTable, Srgb8, Srgba8, count_indices,
+    diffuse_indexed_work, index_pixels, pack_row, quantize, quantize_alpha, quantize_refined,
+    quantize_refined_alpha, quantize_rgba, unpack_row,
 };
 
 /// Bytes that look random.
@@ -45,11 +45,11 @@ fn nearest_entries() {
             .enumerate()
             .map(|(i, p)| Srgba8::new(p.r, p.g, p.b, (126 + i % 4) as u8))
             .collect();
-        let mut transparent_index = vec![9; pixels.len()];
+        let mut with_clear = vec![9; pixels.len()];
         table
-            .map_indexed_alpha(&with_alpha, 128, 77, &mut transparent_index)
+            .map_indexed_alpha(&with_alpha, 128, 77, &mut with_clear)
             .unwrap();
-        for (i, index) in transparent_index.iter().enumerate() {
+        for (i, index) in with_clear.iter().enumerate() {
             assert_eq!(*index, if i % 4 < 2 { 77 } else { indices[i] });
         }
         let mut back = vec![Srgb8::default(); pixels.len()];
@@ -70,17 +70,25 @@ fn indexed_pixels() {
     assert_eq!((entries, used), ([gray(10), gray(200), gray(14)], 3));
     assert_eq!(indices, [0, 1, 0, 2]);
     // 13 differs by 3 from entry 0 and by 1 from entry 2, which is the last candidate.
-    index_pixels(&mut entries, &mut used, gray(3), &[gray(13)], &mut indices[..1]).unwrap();
+    index_pixels(
+        &mut entries,
+        &mut used,
+        gray(3),
+        &[gray(13)],
+        &mut indices[..1],
+    )
+    .unwrap();
     assert_eq!(indices[0], 2);
     let before = (entries, used, indices);
     let mut all = [gray(5); 257];
     let more = [gray(10), gray(100)];
     for refused in [
-        index_pixels(&mut entries, &mut used, gray(0), &more, &mut indices[..2]) == Err(Error::Full),
+        index_pixels(&mut entries, &mut used, gray(0), &more, &mut indices[..2])
+            == Err(Error::Full),
         index_pixels(&mut entries, &mut used, gray(3), &pixels, &mut []) == Err(Error::Length),
         index_pixels(&mut entries[..2], &mut used, gray(3), &[], &mut []) == Err(Error::Length),
-        index_pixels(&mut [], &mut used, gray(3), &[], &mut []) == Err(Error::ColorTable),
-        index_pixels(&mut all, &mut used, gray(3), &[], &mut []) == Err(Error::ColorTable),
+        index_pixels(&mut [], &mut used, gray(3), &[], &mut []) == Err(Error::Table),
+        index_pixels(&mut all, &mut used, gray(3), &[], &mut []) == Err(Error::Table),
     ] {
         assert!(refused);
     }
@@ -111,8 +119,8 @@ fn tables_of_pixels() {
     let before = (work, entries);
     let mut none: [Srgb8; 0] = [];
     let mut large = [gray(5); 257];
-    assert_eq!(quantize(&few, &mut work, &mut none), Err(Error::ColorTable));
-    assert_eq!(quantize(&few, &mut work, &mut large), Err(Error::ColorTable));
+    assert_eq!(quantize(&few, &mut work, &mut none), Err(Error::Table));
+    assert_eq!(quantize(&few, &mut work, &mut large), Err(Error::Table));
     let short = quantize(&few, &mut work[..3], &mut entries);
     assert_eq!(short, Err(Error::Length));
     assert_eq!((work, entries), before);
@@ -142,8 +150,14 @@ fn refined_tables() {
     assert_eq!(made, [77, 153].map(gray));
     let before = (work, entries);
     let mut large = [gray(5); 257];
-    assert_eq!(quantize_refined(&few, 3, &mut work, &mut []), Err(Error::ColorTable));
-    assert_eq!(quantize_refined(&few, 3, &mut work, &mut large), Err(Error::ColorTable));
+    assert_eq!(
+        quantize_refined(&few, 3, &mut work, &mut []),
+        Err(Error::Table)
+    );
+    assert_eq!(
+        quantize_refined(&few, 3, &mut work, &mut large),
+        Err(Error::Table)
+    );
     let short = quantize_refined(&few, 3, &mut work[..3], &mut entries);
     assert_eq!(short, Err(Error::Length));
     assert_eq!((work, entries), before);
@@ -165,7 +179,14 @@ fn diffused_errors() {
     let mut two = [7; 2];
     let (width, alpha, transparent_index) = (2, 1, 9);
     table
-        .diffuse_indexed_alpha(&clear, width, alpha, transparent_index, &mut work[..8], &mut two)
+        .diffuse_indexed_alpha(
+            &clear,
+            width,
+            alpha,
+            transparent_index,
+            &mut work[..8],
+            &mut two,
+        )
         .unwrap();
     assert_eq!(two, [9, 0]);
     for (width, room, count) in [(0, 0, 4), (4, 15, 4), (4, 16, 3)] {
@@ -197,27 +218,44 @@ fn errors_diffused_in_a_way() {
         (8, true, [0, 0, 1, 0]),
         (0, true, [0, 0, 0, 0]),
     ] {
-        let how = Diffusion { strength, serpentine };
+        let how = Diffusion {
+            strength,
+            serpentine,
+        };
         table
             .diffuse_indexed_by(&[gray(100); 4], 2, how, &mut work, &mut indices)
             .unwrap();
         assert_eq!(indices, wanted);
         let (alpha, transparent_index) = (51, 7);
         table
-            .diffuse_indexed_by_alpha(&shades, 2, alpha, transparent_index, how, &mut work, &mut indices)
+            .diffuse_indexed_by_alpha(
+                &shades,
+                2,
+                alpha,
+                transparent_index,
+                how,
+                &mut work,
+                &mut indices,
+            )
             .unwrap();
         assert_eq!(indices, [0, wanted[1], 7, 0]);
     }
     // Of three pixels in a row that goes from right to left, the one on the left gets what the other two hand on.
     let (mut row, mut work) = ([9; 6], vec![gray(0); 12]);
     let pixels = [0, 0, 0, 100, 100, 100].map(|v| Srgba8::new(v, v, v, 255));
-    let how = Diffusion { serpentine: true, ..Diffusion::default() };
+    let how = Diffusion {
+        serpentine: true,
+        ..Diffusion::default()
+    };
     table
         .diffuse_indexed_by_alpha(&pixels, 3, 0, 0, how, &mut work, &mut row)
         .unwrap();
     assert_eq!(row, [0, 0, 0, 0, 1, 0]);
     let before = indices;
-    let strong = Diffusion { strength: 17, ..how };
+    let strong = Diffusion {
+        strength: 17,
+        ..how
+    };
     let mut diffuse = |count: usize, width, how, indices: &mut [u8]| {
         table.diffuse_indexed_by(&[gray(1); 4][..count], width, how, &mut work[..8], indices)
     };
@@ -272,7 +310,13 @@ fn tables_with_an_alpha() {
             assert_eq!(*pixel, entries[usize::from(*index)]);
         }
         // Without strength, errors are not diffused.
-        let (how, mut work) = (Diffusion { strength: 0, serpentine: true }, vec![pixels[0]; 400]);
+        let (how, mut work) = (
+            Diffusion {
+                strength: 0,
+                serpentine: true,
+            },
+            vec![pixels[0]; 400],
+        );
         let mut diffused = vec![9; pixels.len()];
         table
             .diffuse_indexed(&pixels, 100, how, &mut work, &mut diffused)
@@ -295,10 +339,16 @@ fn opaque_tables_with_an_alpha() {
         let plain = quantize_refined(&colors, rounds, &mut work, &mut entries).unwrap();
         let made = quantize_rgba(&pixels, rounds, &mut room, &mut slots).unwrap();
         assert_eq!(made, plain.iter().map(opaque).collect::<Vec<_>>());
-        let (table, with_alpha) = (ColorTable::new(plain).unwrap(), RgbaTable::new(made).unwrap());
+        let (table, with_alpha) = (
+            ColorTable::new(plain).unwrap(),
+            RgbaTable::new(made).unwrap(),
+        );
         let (mut one, mut other) = ([0; 600], [1; 600]);
         for (strength, serpentine) in [(16, false), (16, true), (5, true), (11, false)] {
-            let how = Diffusion { strength, serpentine };
+            let how = Diffusion {
+                strength,
+                serpentine,
+            };
             table
                 .diffuse_indexed_by(&colors, 30, how, &mut work[..120], &mut one)
                 .unwrap();
@@ -322,7 +372,10 @@ fn tables_with_an_alpha_by_hand() {
     // is 236 before it is multiplied.
     let three = [(200, 128), (0, 255), (255, 255)].map(|(v, a)| Srgba8::new(v, v, v, a));
     let made = quantize_rgba(&three, 0, &mut work, &mut entries[..2]).unwrap();
-    assert_eq!(made, [(0, 255), (236, 192)].map(|(v, a)| Srgba8::new(v, v, v, a)));
+    assert_eq!(
+        made,
+        [(0, 255), (236, 192)].map(|(v, a)| Srgba8::new(v, v, v, a))
+    );
     // A clear pixel and an opaque white one make half of white.
     let made = quantize_rgba(&some[1..3], 0, &mut work, &mut entries[..1]).unwrap();
     assert_eq!(made, [Srgba8::new(255, 255, 255, 128)]);
@@ -330,23 +383,38 @@ fn tables_with_an_alpha_by_hand() {
     let mut large = [some[0]; 257];
     let short = quantize_rgba(&some, 1, &mut work[..3], &mut entries);
     assert_eq!(short, Err(Error::Length));
-    assert_eq!(quantize_rgba(&some, 1, &mut work, &mut []), Err(Error::ColorTable));
-    assert_eq!(quantize_rgba(&some, 1, &mut work, &mut large), Err(Error::ColorTable));
-    assert_eq!(RgbaTable::new(&[]).unwrap_err(), Error::ColorTable);
-    assert_eq!(RgbaTable::new(&large).unwrap_err(), Error::ColorTable);
+    assert_eq!(
+        quantize_rgba(&some, 1, &mut work, &mut []),
+        Err(Error::Table)
+    );
+    assert_eq!(
+        quantize_rgba(&some, 1, &mut work, &mut large),
+        Err(Error::Table)
+    );
+    assert_eq!(RgbaTable::new(&[]).unwrap_err(), Error::Table);
+    assert_eq!(RgbaTable::new(&large).unwrap_err(), Error::Table);
     let table = RgbaTable::new(&some[..2]).unwrap();
     assert_eq!(table.entries(), &some[..2]);
     let (mut indices, mut pixels) = ([2; 2], [some[3]; 2]);
     assert_eq!(table.map_indexed(&some, &mut indices), Err(Error::Length));
     assert_eq!(table.look_up(&[0, 2], &mut pixels), Err(Error::Index));
     assert_eq!(table.look_up(&[0], &mut pixels), Err(Error::Length));
-    let strong = Diffusion { strength: 17, serpentine: false };
+    let strong = Diffusion {
+        strength: 17,
+        serpentine: false,
+    };
     let refused = table.diffuse_indexed(&some[..2], 0, strong, &mut work, &mut indices);
     assert_eq!(refused, Err(Error::Strength));
-    let turning = Diffusion { strength: 16, serpentine: true };
+    let turning = Diffusion {
+        strength: 16,
+        serpentine: true,
+    };
     let refused = table.diffuse_indexed(&some[..2], 4, turning, &mut [some[0]; 16], &mut indices);
     assert_eq!(refused, Err(Error::Length));
-    assert_eq!((work, entries, indices, pixels), (before.0, before.1, [2; 2], [some[3]; 2]));
+    assert_eq!(
+        (work, entries, indices, pixels),
+        (before.0, before.1, [2; 2], [some[3]; 2])
+    );
 }
 
 /// By hand: a table with a round that moves its entries.
@@ -403,8 +471,8 @@ fn counts() {
 #[test]
 fn what_is_refused_changes_nothing() {
     let entries = [Srgb8::new(1, 2, 3); 257];
-    assert_eq!(ColorTable::new(&[]).unwrap_err(), Error::ColorTable);
-    assert_eq!(ColorTable::new(&entries).unwrap_err(), Error::ColorTable);
+    assert_eq!(ColorTable::new(&[]).unwrap_err(), Error::Table);
+    assert_eq!(ColorTable::new(&entries).unwrap_err(), Error::Table);
     let table = ColorTable::new(&entries[..2]).unwrap();
     let (mut indices, mut pixels) = ([9; 2], [Srgb8::default(); 2]);
     assert_eq!(

@@ -199,7 +199,8 @@ fn map_eight_opaque<T: Table>(is_reversed: bool, src: &[u8], dst: &mut [u8])
     requires src { length src.now ≡ 24 }
     requires dst { length dst.old ≡ 32 }
     ensures { (is_premultiplied : Bool)
-        → IsEach 255 255 3 4 3 4 (recolored T.curve is_reversed is_premultiplied) src.now dst.new 8 }
+        → IsEach 255 255 3 4 3 4 (recolored T.curve is_reversed is_premultiplied) src.now dst.new
+        8 }
 {
     if let Some(whole) = dst.as_mut_array::<32>() {
         *whole = opaque::<T>(is_reversed, 3, src).to_array();

@@ -201,7 +201,13 @@ impl FormatParts {
         is_premultiplied: bool,
         spare: usize,
     ) -> bool
-        ensures { result ≡ true → self ≡ record { model = model; count = count; is_premultiplied = is_premultiplied; depth = self.depth; spare = spare } }
+        ensures { result ≡ true → self ≡ record {
+          model = model;
+          count = count;
+          is_premultiplied = is_premultiplied;
+          depth = self.depth;
+          spare = spare;
+        } }
     {
         self.model.is(model)
             && self.count == count

@@ -194,7 +194,7 @@ where
     }
 }
 
-/// A way from formats of channels `C` to formats of channels `D`.
+/// How pixels with channels `C` are converted to pixels with channels `D`.
 pub(crate) trait PixelConversion<C: Channel, D: Channel> {
     /// What a pixel becomes.
     ghost makes: { Format → Format → List ℕ → List ℕ };
@@ -206,7 +206,7 @@ pub(crate) trait PixelConversion<C: Channel, D: Channel> {
             → take to.count (as_list D.number result)
             ≡ makes (format_at C.max from) (format_at D.max to) p };
 
-    /// Writes as many of the first `count` pixels as this way converts several at once, and returns
+    /// Writes as many of the first `count` pixels as it converts several at once, and returns
     /// their number.
     ///
     /// Condition: there are `count` in both.
@@ -235,7 +235,7 @@ pub(crate) struct Converted<G, H> {
 }
 
 impl<G, H> Converted<G, H> {
-    /// Returns the way.
+    /// Returns the conversion.
     pub(crate) fn new() -> Converted<G, H> {
         Converted {
             _from: PhantomData,
@@ -276,7 +276,7 @@ impl<C: Colored, D: Colored, G: Gamma<D>, H: Gamma<D>> PixelConversion<C, D> for
     }
 }
 
-/// The way of an sRGB pixel into light.
+/// The conversion of an sRGB pixel into light.
 pub(crate) struct IntoLight;
 
 /// Decodes a pixel into light within its model. A channel that the format in light lacks is the
@@ -359,7 +359,7 @@ impl PixelConversion<Ch8, Ch16> for IntoLight {
     }
 }
 
-/// The way of a linear pixel of 16 bits to sRGB.
+/// The conversion of a linear pixel of 16 bits to sRGB.
 pub(crate) struct OutOfLight;
 
 /// Does what [`mode_changed`] does, with the quotient of channels of 16 bits.

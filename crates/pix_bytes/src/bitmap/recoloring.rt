@@ -1,4 +1,4 @@
-//! The ways between sRGB and linear channels of 8 bits.
+//! The conversions between sRGB and linear channels of 8 bits.
 ghost use Rattle.std.specs.Prelude.{◌≡◌, ◌≤◌, ◌+◌, ◌*◌, ℕ, List, Bool, length, take, Some, true, false, if◌then◌else◌};
 ghost use Rattle.pix_chan.specs.Modes as modes;
 ghost use Rattle.pix_el.specs.Conversion.{converted};
@@ -85,7 +85,7 @@ fn map_ahead<T: Table>(
     }
 }
 
-/// The way of an sRGB pixel of 8 bits to a linear one.
+/// The conversion of an sRGB pixel of 8 bits to a linear one.
 pub(crate) struct IntoLinear;
 
 impl PixelConversion<Ch8, Ch8> for IntoLinear {
@@ -114,7 +114,7 @@ impl PixelConversion<Ch8, Ch8> for IntoLinear {
     }
 }
 
-/// The way of a linear pixel of 8 bits to an sRGB one.
+/// The conversion of a linear pixel of 8 bits to an sRGB one.
 pub(crate) struct OutOfLinear;
 
 impl PixelConversion<Ch8, Ch8> for OutOfLinear {

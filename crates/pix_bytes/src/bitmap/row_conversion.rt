@@ -9,7 +9,7 @@ ghost use Rattle.pix_bytes.specs.BitmapFormats.{sample_size, pixel_size};
 use crate::bitmap::format::Depth::{Linear8, Linear16, Srgb8};
 use crate::bitmap::format::FormatParts;
 use crate::bitmap::four::{read_four, write_four};
-use crate::bitmap::model::ModelName::{Bgr, Rgb};
+use crate::bitmap::model::ModelName::{Bgr, Gray, Rgb};
 use crate::bitmap::pixel_conversion::{Converted, IntoLight, OutOfLight, PixelConversion};
 use crate::bitmap::recoloring::{IntoLinear, OutOfLinear};
 use crate::bitmap::sample::Sample;
@@ -41,8 +41,8 @@ fn convert_row_pixels<C: Sample, D: Sample, W: PixelConversion<C, D>>(
     convert_each(conversion, from, to, size, to_size, src, dst, first, count);
 }
 
-/// Does what [`convert_row_pixels`] does from the pixel `first` on, where a pixel has `size` bytes, and
-/// `to_size` of them in the other format.
+/// Does what [`convert_row_pixels`] does from the pixel `first` on, where a pixel has `size` bytes,
+/// and `to_size` of them in the other format.
 ///
 /// Condition: those before it are written.
 #[inline(always)]
@@ -103,8 +103,8 @@ fn convert_known<C: Sample, D: Sample, W: PixelConversion<C, D>>(
     convert_row_pixels(conversion, known, to_known, src, dst, count);
 }
 
-/// Does what [`convert_known`] does, with a loop of its own for each format that pictures mostly come
-/// in.
+/// Does what [`convert_known`] does, with a loop of its own for each format that pictures mostly
+/// come in.
 #[inline(always)]
 fn convert_from_usual<C: Sample, D: Sample, W: PixelConversion<C, D>>(
     conversion: &W,
@@ -137,6 +137,8 @@ fn convert_from_usual<C: Sample, D: Sample, W: PixelConversion<C, D>>(
     } else if let Some(known) = from.known(Rgb, 3, false, 1) {
         convert_known(conversion, known, to_known, from, to, src, dst, count);
     } else if let Some(known) = from.known(Bgr, 3, false, 1) {
+        convert_known(conversion, known, to_known, from, to, src, dst, count);
+    } else if let Some(known) = from.known(Gray, 1, false, 0) {
         convert_known(conversion, known, to_known, from, to, src, dst, count);
     } else {
         convert_known(conversion, from, to_known, from, to, src, dst, count);
@@ -178,13 +180,15 @@ fn convert_to_usual<C: Sample, D: Sample, W: PixelConversion<C, D>>(
         convert_known(conversion, from_known, known, from, to, src, dst, count);
     } else if let Some(known) = to.known(Bgr, 3, false, 1) {
         convert_known(conversion, from_known, known, from, to, src, dst, count);
+    } else if let Some(known) = to.known(Gray, 1, false, 0) {
+        convert_known(conversion, from_known, known, from, to, src, dst, count);
     } else {
         convert_known(conversion, from_known, to, from, to, src, dst, count);
     }
 }
 
-/// Does what [`convert_row_pixels`] does. Between the format of images that are painted and those that
-/// pictures mostly have, the loops know both.
+/// Does what [`convert_row_pixels`] does. Between the format of images that are painted and those
+/// that pictures mostly have, the loops know both.
 #[inline(always)]
 fn convert_painted<C: Sample, D: Sample, W: PixelConversion<C, D>>(
     conversion: &W,
@@ -236,8 +240,8 @@ pub(crate) fn convert_row(
     }
 }
 
-/// Does what [`convert_row`] does for as many of the first `count` pixels of 8 bits as a way converts
-/// several at once, and returns their number.
+/// Does what [`convert_row`] does for as many of the first `count` pixels of 8 bits as are
+/// converted several at once, and returns their number.
 ///
 /// Condition: there are `count` in both.
 pub(crate) fn convert_row_ahead(

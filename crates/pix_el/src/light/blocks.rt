@@ -8,7 +8,7 @@ ghost use Rattle.pix_chan.specs.Srgb16.{srgb_decoded16, srgb_encoded8};
 ghost use Rattle.pix_el.specs.Pixel.{channel};
 ghost use Rattle.pix_el.specs.Conversion.{at_depth};
 ghost use Rattle.pix_el.specs.Light.{in_light, as_srgb};
-ghost use Rattle.pix_el.specs.LightBlocks.{IsKept, AreKept, AreLevels, changed_four};
+ghost use Rattle.pix_el.specs.LightBlocks.{IsSameInBothModes, AreSameInBothModes, AreLevels, changed_four};
 ghost use Rattle.pix_el.specs.Planes.{by_fours};
 
 use crate::conversion::blocks::{Curve, premultiplies, premultiply_blocks};
@@ -106,7 +106,7 @@ fn has_three_colors<P: Pixel>() -> bool
 /// Returns whether the colors of a pixel are the same in the alpha mode of `D`.
 #[inline(always)]
 fn is_kept<P: Pixel, D: Pixel>(p: &P) -> bool
-    ensures { result ≡ true → IsKept P.Chan.max P.Alpha.mode D.Alpha.mode
+    ensures { result ≡ true → IsSameInBothModes P.Chan.max P.Alpha.mode D.Alpha.mode
         (channel P.Chan.max (P.numbers p.now) P.Model.ALPHA) }
 {
     P::Alpha::KIND == D::Alpha::KIND || p.alpha().to_u32() == P::Chan::MAX.to_u32()
@@ -116,7 +116,7 @@ fn is_kept<P: Pixel, D: Pixel>(p: &P) -> bool
 #[inline(always)]
 fn are_kept<P: Pixel, D: Pixel>(p: &[P]) -> bool
     requires { length p.now ≡ 4 }
-    ensures { result ≡ true → AreKept P.Chan.max P.Alpha.mode D.Alpha.mode
+    ensures { result ≡ true → AreSameInBothModes P.Chan.max P.Alpha.mode D.Alpha.mode
         P.Model.ALPHA (map P.numbers p.now) }
 {
     is_kept::<P, D>(&p[0])

@@ -55,7 +55,7 @@ fn count_of(side: u32, size: Size) -> u32 {
 /// Matches noise to a table of colors by chance, and photographs to the table of a photograph.
 fn small(
     alloc: Global,
-    scan: Way,
+    how: Way,
     side: u32,
     size: Size,
     random: &mut Random,
@@ -67,9 +67,9 @@ fn small(
     let by_chance = ColorTable::quantize(alloc, &noise, 256, 0).ok()??;
     for _ in 0..count_of(side, size).div_ceil(2) {
         let noise = pictures::noise(alloc, side, side, random)?;
-        match_picture(alloc, &by_chance, &noise, scan, digest)?;
+        match_picture(alloc, &by_chance, &noise, how, digest)?;
         let photo = pictures::photo(alloc, side, side, random)?;
-        match_picture(alloc, &of_photo, &photo, scan, digest)?;
+        match_picture(alloc, &of_photo, &photo, how, digest)?;
     }
     Some(())
 }
@@ -79,10 +79,10 @@ fn match_picture(
     alloc: Global,
     table: &ColorTable,
     picture: &Raster<SRgb8>,
-    scan: Way,
+    how: Way,
     digest: &mut Digest,
 ) -> Option<()> {
-    let image = match scan {
+    let image = match how {
         Way::Nearest => table.map_indexed(alloc, picture).ok()??,
         Way::ByAlpha => table.map_indexed_alpha(alloc, picture, 128, 0).ok()??,
         Way::Diffused => table.diffuse_indexed(alloc, picture, 128, 0).ok()??,

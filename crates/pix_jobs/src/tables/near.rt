@@ -23,7 +23,7 @@ pub(crate) fn run(
             let apart = least.saturating_add(10 * more);
             let near = SRgb8::new(apart, apart, apart);
             let mut table = ColorTable::new(alloc, 256, near).ok()?;
-            if let Some(image) = table.index(alloc, &photo).ok()? {
+            if let Some(image) = table.index_pixels(alloc, &photo).ok()? {
                 digest.add(table.len() as u64);
                 digest.add_indices(&image);
                 break;

@@ -174,12 +174,12 @@ impl ColorTable {
     /// # Examples
     ///
     /// ```rust
-    /// let Some(indices) = table.index(alloc, picture)? else {
+    /// let Some(indices) = table.index_pixels(alloc, picture)? else {
     ///     return Ok(None); // the table has no room for all colors
     /// };
     /// table.look_up(alloc, &indices)
     /// ```
-    pub fn index<S>(
+    pub fn index_pixels<S>(
         &mut self,
         alloc: Global,
         raster: &Raster<S>,

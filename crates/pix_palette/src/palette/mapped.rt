@@ -74,7 +74,7 @@ impl ColorTable {
     /// # Examples
     ///
     /// ```rust
-    /// let Some(indices) = table.index(alloc, picture)? else {
+    /// let Some(indices) = table.index_pixels(alloc, picture)? else {
     ///     return Ok(None); // the table has no room for all colors
     /// };
     /// table.look_up(alloc, &indices)

@@ -1,4 +1,4 @@
-//! PaletteBlocks of the entries of a palette, which find the match of a color.
+//! Blocks of the entries of a palette, which find the match of a color.
 //!
 //! Their memory is allocated once. Where that fails there are none. No answer depends on their
 //! number.
@@ -11,10 +11,10 @@ use pix_el::rgb::SRgb8;
 use pix_table::{BlockBounds, ColorBlock};
 use std::alloc::Global;
 
-/// How many entries a block has, and how many blocks the spans of one group.
+/// How many entries a block has, and how many blocks the bounds of one group.
 const SIZE: usize = 16;
 
-/// PaletteBlocks of the first entries, sixteen each, and the spans of those blocks.
+/// Blocks of the first entries, sixteen each, and the bounds of those blocks.
 #[derive(Drop)]
 pub(super) struct PaletteBlocks {
     pub(super) spans: Vec<BlockBounds>,
@@ -36,7 +36,7 @@ impl PaletteBlocks {
         }
     }
 
-    /// Allocates memory once for the most blocks that there may be, and for their spans.
+    /// Allocates memory once for the most blocks that there may be, and for their bounds.
     fn take_memory(&mut self, alloc: Global)
         ensures { (colors : List (List ℕ)) → HasBlocks colors self.old
             → HasBlocks colors self.new }
@@ -56,7 +56,7 @@ impl PaletteBlocks {
         self.blocks = blocks;
     }
 
-    /// Adds a block with its span. Returns whether there is room for both.
+    /// Adds a block with its bounds. Returns whether there is room for both.
     fn add(&mut self, block: ColorBlock) -> bool
         requires { AreBlockBounds self.old.blocks.items self.old.spans.items }
         ensures spans { AreBlockBounds self.new.blocks.items self.new.spans.items }

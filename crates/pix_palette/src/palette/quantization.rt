@@ -110,9 +110,9 @@ impl ColorTable {
     }
 
     /// Makes a raster of indices. The value of each pixel is the index of the entry that is nearest
-    /// to the color of the pixel at its place, the first of equals. It is `transparent_index` instead where the
-    /// alpha of that pixel is below `alpha`. Returns `None` where there is no entry, or more than
-    /// 256.
+    /// to the color of the pixel at its place, the first of equals. It is `transparent_index`
+    /// instead where the alpha of that pixel is below `alpha`. Returns `None` where there is no
+    /// entry, or more than 256.
     ///
     /// # Errors
     ///
@@ -162,8 +162,8 @@ impl ColorTable {
 
     /// Makes a raster of indices by error diffusion. The value of each pixel is the index of the
     /// entry that is nearest to its color plus its share of the errors of the pixels before it. It
-    /// is `transparent_index` instead where the pixel's alpha is below `alpha`, and then the pixel hands on no
-    /// error. Returns `None` where there is no entry, or more than 256.
+    /// is `transparent_index` instead where the pixel's alpha is below `alpha`, and then the pixel
+    /// hands on no error. Returns `None` where there is no entry, or more than 256.
     ///
     /// The error of a pixel is what was wanted there less the entry that was found. The pixel on
     /// the right gets 7 sixteenths of it, the one below on the left 3, the one below 5, and the one
@@ -195,7 +195,8 @@ impl ColorTable {
         ensures diffused { IfOk result (λ answer. MatchOption answer
             ((length (entries_of self.now) ≡ 0) ⊎ (256 < length (entries_of self.now)))
             (λ image. IsIndexImage ⟦<Gray8 as Pixel>⟧.numbers raster.now.width raster.now.height
-            image × AreDiffused (map numbers (entries_of self.now)) alpha transparent_index raster.now.width
+            image × AreDiffused (map numbers (entries_of self.now)) alpha transparent_index
+            raster.now.width
             (shades_of S.format ⟦<S::Gamma as Gamma<Ch8>>⟧.mode S.numbers raster.now.pixels)
             (values ⟦<Gray8 as Pixel>⟧.numbers image.pixels))) }
         ensures memory { IfErr result (λ fault. fault ≡ RasterFault.Memory) }
@@ -212,8 +213,8 @@ impl ColorTable {
     }
 
     /// Does what [`ColorTable::diffuse_indexed`] does, with `strength` sixteenths of each error,
-    /// and in a way. In the serpentine way every second row goes from right to left, and the shares
-    /// are mirrored in it. Returns `None` also where the strength is above 16.
+    /// and in a scan order. If that is serpentine, every second row goes from right to left, and
+    /// the shares are mirrored in it. Returns `None` also where the strength is above 16.
     ///
     /// # Errors
     ///
@@ -244,8 +245,8 @@ impl ColorTable {
             ((length (entries_of self.now) ≡ 0) ⊎ (256 < length (entries_of self.now))
             ⊎ (16 < strength))
             (λ image. IsIndexImage ⟦<Gray8 as Pixel>⟧.numbers raster.now.width raster.now.height
-            image × AreDiffusedBy scan strength (map numbers (entries_of self.now)) alpha transparent_index
-            raster.now.width
+            image × AreDiffusedBy scan strength (map numbers (entries_of self.now)) alpha
+            transparent_index raster.now.width
             (shades_of S.format ⟦<S::Gamma as Gamma<Ch8>>⟧.mode S.numbers raster.now.pixels)
             (values ⟦<Gray8 as Pixel>⟧.numbers image.pixels))) }
         ensures memory { IfErr result (λ fault. fault ≡ RasterFault.Memory) }
@@ -266,7 +267,7 @@ impl ColorTable {
 }
 
 /// Makes a raster of indices by error diffusion, as [`ColorTable::diffuse_indexed_by`] does with an
-/// alpha, a kept index and a strength.
+/// alpha, a transparent index and a strength.
 fn diffused_image<S>(
     colors: &[SRgb8],
     alloc: Global,
@@ -284,7 +285,8 @@ where
     ensures diffused { IfOk result (λ answer. MatchOption answer
         ((length colors.now ≡ 0) ⊎ (256 < length colors.now))
         (λ image. IsIndexImage ⟦<Gray8 as Pixel>⟧.numbers raster.now.width raster.now.height image
-        × AreDiffusedBy scan strength (map numbers colors.now) alpha transparent_index raster.now.width
+        × AreDiffusedBy scan strength (map numbers colors.now) alpha transparent_index
+        raster.now.width
         (shades_of S.format ⟦<S::Gamma as Gamma<Ch8>>⟧.mode S.numbers raster.now.pixels)
         (values ⟦<Gray8 as Pixel>⟧.numbers image.pixels))) }
     ensures memory { IfErr result (λ fault. fault ≡ RasterFault.Memory) }
@@ -361,8 +363,8 @@ fn table_with(alloc: Global, limit: usize, colors: &[Color]) -> Result<ColorTabl
     Ok(table)
 }
 
-/// Makes, for each pixel, the index of the nearest entry or the kept index. Returns `None` where
-/// there is no entry, or more than 256.
+/// Makes, for each pixel, the index of the nearest entry or the transparent one. Returns `None`
+/// where there is no entry, or more than 256.
 fn matched(
     alloc: Global,
     colors: &[SRgb8],
@@ -398,8 +400,8 @@ fn diffused(
     requires whole { length pixels.now % how.width ≡ 0 }
     ensures diffused { IfOk result (λ answer. MatchOption answer
         ((length colors.now ≡ 0) ⊎ (256 < length colors.now))
-        (λ indices. AreDiffusedBy how.scan how.strength (map numbers colors.now) how.alpha how.transparent_index
-        how.width (map srgba_numbers pixels.now) indices.items)) }
+        (λ indices. AreDiffusedBy how.scan how.strength (map numbers colors.now) how.alpha
+        how.transparent_index how.width (map srgba_numbers pixels.now) indices.items)) }
     ensures memory { IfErr result (λ fault. fault ≡ RasterFault.Memory) }
 {
     if colors.is_empty() || colors.len() > ENTRIES {

@@ -89,7 +89,7 @@ impl RgbaTable {
         ensures memory { IfErr result (λ fault. fault ≡ RasterFault.Memory) }
     {
         let shades = shades(alloc, raster)?;
-        rgba_table_of(alloc, shades.pixels(), limit, rounds)
+        quantized_rgba_table(alloc, shades.pixels(), limit, rounds)
     }
 
     /// Makes a table of these colors.
@@ -197,9 +197,9 @@ impl RgbaTable {
     }
 
     /// Makes a raster of indices by error diffusion, with `strength` sixteenths of each error, and
-    /// in a way. The value of each pixel is the index of the entry that is seen nearest to it plus
-    /// its share of the errors of the pixels before it. Errors are those of colors times their
-    /// alphas, and of the alphas. A pixel of the alpha 0 has no share and hands on no error.
+    /// in a scan order. The value of each pixel is the index of the entry that is seen nearest to
+    /// it plus its share of the errors of the pixels before it. Errors are those of colors times
+    /// their alphas, and of the alphas. A pixel of the alpha 0 has no share and hands on no error.
     /// Returns `None` where there is no entry, or more than 256, or where the strength is above 16.
     ///
     /// # Errors
@@ -295,7 +295,7 @@ impl RgbaTable {
 }
 
 /// Makes a table of pixels, as [`RgbaTable::quantize`] does.
-fn rgba_table_of(
+fn quantized_rgba_table(
     alloc: Global,
     pixels: &[SRgba8],
     limit: usize,

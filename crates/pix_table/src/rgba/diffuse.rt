@@ -34,8 +34,8 @@ pub struct RgbaDiffusion {
 /// entry that is seen nearest to it, and hands on no error.
 ///
 /// Condition: there is at least one entry and at most 256, a row has a pixel, at most 16 sixteenths
-/// are handed on, there are as many indices as pixels, and `work` has four rows of colors. In the
-/// serpentine way the rows are whole.
+/// are handed on, there are as many indices as pixels, and `work` has four rows of colors. Where
+/// the scan order is serpentine, the rows are whole.
 ///
 /// [`diffuse_indexed`]: crate::diffuse_indexed
 pub fn diffuse_indexed_rgba<E: TablePixel, P: TablePixel>(

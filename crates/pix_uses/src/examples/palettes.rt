@@ -85,7 +85,7 @@ pub fn looked_up(
     table: &mut ColorTable,
     picture: &Raster<SRgb8>,
 ) -> Result<Option<Raster<SRgb8>>, RasterFault> {
-    let Some(indices) = table.index(alloc, picture)? else {
+    let Some(indices) = table.index_pixels(alloc, picture)? else {
         return Ok(None); // the table has no room for all colors
     };
     table.look_up(alloc, &indices)

@@ -1,4 +1,4 @@
--- Of `scaled`: that it meets its contract, for a hue and for another channel.
+-- Of `scaled`: its channel, for a hue and for another one.
 use Rattle.std.proofs.Common.{◌∙◌, ap, sym, if◌then◌else◌}
 use Rattle.pix_chan.specs.Product.{channel_product}
 use Rattle.pix_el.proofs.each.scaled.Goals as goal

@@ -1,4 +1,4 @@
--- Of `paint_cleared`: that it meets its contract for each kind of command, and the conditions of
+-- Of `paint_cleared`: its pixels for each kind of command, and the conditions of
 -- its calls.
 use Rattle.std.proofs.Common.{◌≡◌, ◌<◌, ◌∙◌, inl, inr, refl, sym, subst, length, arith}
 use Rattle.std.proofs.lemmas.Bool.{cases_lt}

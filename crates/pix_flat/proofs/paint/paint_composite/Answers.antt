@@ -1,4 +1,4 @@
--- Of `paint_composite`: that it meets its contract where a color or an image is copied, and the
+-- Of `paint_composite`: its pixels where a color or an image is copied, and the
 -- condition of its call of `blit_window`.
 use Rattle.std.proofs.Common.{refl, sym, ap, subst, length, ◌∙◌}
 use Rattle.pix_ops.specs.declared.ops.Op.{Op}

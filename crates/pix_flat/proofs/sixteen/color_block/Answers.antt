@@ -1,4 +1,3 @@
--- Of `color_block`: that it meets its contract.
 use Rattle.std.proofs.Common.{length, map, sym, arith}
 use Rattle.std.proofs.lemmas.List.{length-map}
 use Rattle.pix_el.specs.PixelComposite.{pixel_composite}

@@ -1,4 +1,3 @@
--- Of `merge_block`: that it meets its contract.
 use Rattle.std.proofs.Common.{length, map, sym, arith}
 use Rattle.std.proofs.lemmas.List.{length-map}
 use Rattle.pix_flat.proofs.Rows.{merged_part, long_block}

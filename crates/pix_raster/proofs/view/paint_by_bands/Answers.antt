@@ -1,4 +1,4 @@
--- Of `paint_by_bands`: that it meets its contract, that the invariant of its loop over `first`
+-- Of `paint_by_bands`: its pixels, that the invariant of its loop over `first`
 -- holds after each turn, and that a band is a window.
 use Rattle.std.proofs.Common.{◌≡◌, ◌+◌, ◌*◌, ◌≤◌, length, arith, refl}
 use Rattle.pix_raster.proofs.Bands.{band_fits, band_more}

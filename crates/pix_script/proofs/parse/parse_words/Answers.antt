@@ -1,4 +1,4 @@
--- Of `parse_words`: that it meets its contract where the first word names a command.
+-- Of `parse_words`: what it reads where the first word names a command.
 use Rattle.std.proofs.Common.{◌≡◌, ◌∙◌, false, map, rules}
 use Rattle.std.proofs.lemmas.Result.{err_from_is_err_and}
 use Rattle.pix_script.specs.Commands.{is_comment}

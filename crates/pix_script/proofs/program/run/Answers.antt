@@ -1,4 +1,4 @@
--- Of `run`: that it meets its contract after a stop.
+-- Of `run`: what it leaves after a stop.
 use Rattle.std.proofs.Common.{Err}
 use Rattle.pix_script.proofs.ReportLemmas.{appends_part}
 use Rattle.pix_script.proofs.program.run.Goals as goal

@@ -4,7 +4,7 @@ use Rattle.pix_table.specs.Diffusion.{is_back}
 use Rattle.pix_table.specs.Done.{AreDone}
 use Rattle.pix_table.proofs.diffuse.diffuse_all.Given as goal
 
--- the first k pixels of the way are diffused
+-- the first k pixels of the scan are diffused
 abbrev pub invariant-loop-k : goal.invariant-loop-k
 invariant-loop-k g l = record {
   done : AreDone g.S.DiffusedColor.of_channels g.S.DiffusedColor.apart l.how.scan l.how.strength (map g.C.ShownAs.shown l.entries) l.how.alpha l.how.transparent_index l.how.width

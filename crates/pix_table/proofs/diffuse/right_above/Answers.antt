@@ -1,4 +1,4 @@
--- Of `right_above`: where that pixel is kept.
+-- Of `right_above`: where the colors of that pixel are stored.
 use Rattle.std.proofs.Common.{◌≡◌, ℕ, ◌+◌, ◌-◌, ◌<◌, ◌≤◌, ◌&&◌, [], map, get_or, true, false, nat_lt, nat_le, arith, sym, ap, ◌∙◌, mod-lt}
 use Rattle.std.proofs.lemmas.Bool.{lt-ltb, le-ltb}
 use Rattle.std.proofs.lemmas.Bool.Decides.{nat_tests}

@@ -1,4 +1,4 @@
--- Of `turned`: which way the next row goes, and that the colors of a row are put in its order.
+-- Of `turned`: in which direction the next row goes, and that the colors of a row are put in its order.
 use Rattle.std.proofs.Common.{◌≡◌, ◌+◌, ◌-◌, ◌%◌, map, not, arith, sym, ap, ◌∙◌, subst}
 use Rattle.pix_table.specs.Diffusion.{is_back}
 use Rattle.pix_table.specs.Done.{AreLatest}

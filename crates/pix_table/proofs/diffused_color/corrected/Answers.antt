@@ -2,7 +2,7 @@
 use Rattle.std.proofs.Common.{◌≡◌, ℕ, ◌+◌, ◌-◌, ◌*◌, ◌/◌, ◌<◌, ◌≤◌, min, arith, sym, ap, subst}
 use Rattle.pix_table.proofs.diffused_color.corrected.Goals as goal
 
--- the same rest, with the misses and with the colors
+-- the same rest, with the errors and with the colors
 rest : (s t n m h w f : ℕ) → t ≡ s → m ≡ n → h + f ≡ 4080 + w → 256 * m + 128 + t * h - t * 4080 ≡ 256 * n + 128 + s * w - s * f
 rest s t n m h w f e d all =
     let products : s * (h + f) ≡ s * (4080 + w) = ap (λ x. s * x) all in

@@ -1,19 +1,19 @@
--- Of `begin`: the boxes afterwards.
+-- Of `begin`: the cells afterwards.
 use Rattle.std.proofs.Common.{arith, map, List, length, ◌+◌, ◌<◌, ◌≡◌, ◌∙◌, ap, get_or}
 use Rattle.std.proofs.lemmas.List.{length-map}
 use Rattle.pix_table.specs.Nearest.{numbers}
 use Rattle.pix_table.specs.declared.inverse_map.ShortList.{ShortList}
-use Rattle.pix_table.proofs.ShortLists.{chosen_listed, empty_boxes}
+use Rattle.pix_table.proofs.ShortLists.{chosen_listed, empty_cells}
 use Rattle.pix_table.proofs.inverse_map.begin.Goals as goal
 
-pub returns-clause-boxes : goal.returns-clause-boxes
-returns-clause-boxes c =
+pub returns-clause-cells : goal.returns-clause-cells
+returns-clause-cells c =
     let entries = map numbers c.args.entries.now in
-    let lists = c.loop-p.boxes.lists in
+    let lists = c.loop-p.cells.lists in
     let lanes = c.args.lanes.now in
     let h = c.requires.lanes in
     let some_entries : 0 < length entries = omega (arith, h.chosen.stands 0 (omega arith)) in
-    empty_boxes entries _ (ap length c.loop-p.invariant.known ∙ c.requires.boxes.places) c.loop-p.invariant.long (omega arith)
+    empty_cells entries _ (ap length c.loop-p.invariant.known ∙ c.requires.cells.places) c.loop-p.invariant.long (omega arith)
     (λ some. record {
       few = omega arith;
       begun = omega arith;
@@ -23,4 +23,4 @@ returns-clause-boxes c =
     })
     (λ k d b.
     let same = c.loop-p.invariant.known in
-    ap (λ (ks : List ShortList). (get_or ks k d).count) same ∙ c.requires.boxes.none c.requires.unused k d (omega (arith, ap length same, b)))
+    ap (λ (ks : List ShortList). (get_or ks k d).count) same ∙ c.requires.cells.none c.requires.unused k d (omega (arith, ap length same, b)))

@@ -5,7 +5,7 @@ use Rattle.pix_table.proofs.inverse_map.begin.Given as goal
 -- the indices below the index are written, and nothing else is changed
 abbrev pub invariant-loop-p : goal.invariant-loop-p
 invariant-loop-p l = record {
-  written : (k : ℕ) → k < l.p → slice_index l.boxes.lists k ≡ slice_index l.lanes.indices k;
-  long : length l.boxes.lists ≡ 65539;
-  known : l.boxes.known ≡ l.initial.boxes.known;
+  written : (k : ℕ) → k < l.p → slice_index l.cells.lists k ≡ slice_index l.lanes.indices k;
+  long : length l.cells.lists ≡ 65539;
+  known : l.cells.known ≡ l.initial.cells.known;
 }

@@ -1,18 +1,18 @@
--- Of `give_up`: the boxes afterwards.
+-- Of `give_up`: the cells afterwards.
 use Rattle.std.proofs.Common.{arith, map, ℕ, List, length, get_or, ◌+◌, ◌∙◌, ap, sym, subst}
 use Rattle.pix_table.specs.Nearest.{numbers}
 use Rattle.pix_table.specs.InverseMap.{AreEnough}
-use Rattle.pix_table.proofs.ShortLists.{empty_boxes}
+use Rattle.pix_table.proofs.ShortLists.{empty_cells}
 use Rattle.pix_table.proofs.inverse_map.give_up.Goals as goal
 
-pub returns-clause-boxes : goal.returns-clause-boxes
-returns-clause-boxes c =
+pub returns-clause-cells : goal.returns-clause-cells
+returns-clause-cells c =
     let entries = map numbers c.args.entries.now in
-    let old = c.args.boxes.now in
-    let new = c.loop-k.boxes in
-    let first = c.requires.boxes.first c.requires.begun in
+    let old = c.args.cells.now in
+    let new = c.loop-k.cells in
+    let first = c.requires.cells.first c.requires.begun in
     let same = c.loop-k.invariant in
-    empty_boxes entries _ same.long (ap length same.lists ∙ c.requires.boxes.lists) (omega arith)
+    empty_cells entries _ same.long (ap length same.lists ∙ c.requires.cells.lists) (omega arith)
     (λ some. record {
       few = omega (arith, first.few, same.first);
       begun = omega arith;

@@ -2,12 +2,12 @@
 -- is made is enough for the color.
 use Rattle.std.proofs.Common.{map, refl}
 use Rattle.pix_table.specs.Nearest.{numbers}
-use Rattle.pix_table.proofs.ShortLists.{boxes_same}
+use Rattle.pix_table.proofs.ShortLists.{cells_same}
 use Rattle.pix_table.proofs.inverse_map.nearest_without_list.Goals as goal
 
-pub small_short_list-requires-clause-boxes : goal.small_short_list-requires-clause-boxes
-small_short_list-requires-clause-boxes c =
-    boxes_same (map numbers c.args.entries.now) c.args.boxes.now _ (record { known = refl; lists = refl; used = refl; first = refl }) c.requires.boxes
+pub small_short_list-requires-clause-cells : goal.small_short_list-requires-clause-cells
+small_short_list-requires-clause-cells c =
+    cells_same (map numbers c.args.entries.now) c.args.cells.now _ (record { known = refl; lists = refl; used = refl; first = refl }) c.requires.cells
 
 pub returns-in-Some-clause-nearest : goal.returns-in-Some-clause-nearest
 returns-in-Some-clause-nearest c =

@@ -1,4 +1,4 @@
--- Of `sift`: that the nearest entry is one, what is listed, and that the invariant of its loop over
+-- Of `sift`: that the nearest entry is one, what stands in the list, and that the invariant of its loop over
 -- `p` holds at first and after each turn.
 use Rattle.std.proofs.Common.{◌≡◌, ◌≢◌, ◌<◌, ◌≤◌, ◌+◌, ℕ, length, map, get_or, set, refl, ap, ◌∙◌, subst, arith}
 use Rattle.std.proofs.lemmas.List.{length-map, get_or-set_other}

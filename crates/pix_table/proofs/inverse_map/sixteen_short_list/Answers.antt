@@ -1,4 +1,4 @@
--- Of `sixteen_short_list`: that the first list is enough for the largest box, and the list of each box
+-- Of `sixteen_short_list`: that the first list is enough for the largest cell, and the list of each cell
 -- for the one of the next size inside it.
 use Rattle.std.proofs.Common.{map}
 use Rattle.pix_table.specs.Nearest.{numbers}
@@ -6,7 +6,7 @@ use Rattle.pix_table.proofs.ShortLists.{first_for, list_inside}
 use Rattle.pix_table.proofs.inverse_map.sixteen_short_list.Goals as goal
 
 pub short_list_for-requires-clause-from : goal.short_list_for-requires-clause-from
-short_list_for-requires-clause-from c = first_for (map numbers c.args.entries.now) c.args.boxes.now _ c.requires.boxes c.requires.begun
+short_list_for-requires-clause-from c = first_for (map numbers c.args.entries.now) c.args.cells.now _ c.requires.cells c.requires.begun
 
 pub short_list_for-requires-2-clause-from : goal.short_list_for-requires-2-clause-from
 short_list_for-requires-2-clause-from c =

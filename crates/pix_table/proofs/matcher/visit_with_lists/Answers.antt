@@ -3,7 +3,7 @@ use Rattle.std.proofs.Common.{arith, ℕ, ap, sym, subst}
 use Rattle.std.proofs.lemmas.Simd.{length-replicate, get_or-replicate}
 use Rattle.pix_table.specs.EntryLanes.{AreLanes}
 use Rattle.pix_table.specs.declared.inverse_map.ShortList.{ShortList}
-use Rattle.pix_table.proofs.ShortLists.{empty_boxes}
+use Rattle.pix_table.proofs.ShortLists.{empty_cells}
 use Rattle.pix_table.proofs.matcher.visit_with_lists.Goals as goal
 
 pub invariant_of-matcher : goal.invariant_of-matcher
@@ -14,6 +14,6 @@ invariant_of-matcher g c =
       c.colors_of-entries.ensures.long,
       c.words_of-words.ensures,
       subst (λ es. AreLanes es c.args.lanes) (sym c.colors_of-entries.ensures.colors) c.requires.lanes,
-      empty_boxes _ _ (length-replicate 37440 none) (length-replicate {A = ℕ} 65539 0) (omega arith) (λ b. absurd (omega arith))
+      empty_cells _ _ (length-replicate 37440 none) (length-replicate {A = ℕ} 65539 0) (omega arith) (λ b. absurd (omega arith))
           (λ k d b. ap (λ (k : ShortList). k.count) (get_or-replicate 37440 k none d (omega (arith, length-replicate 37440 none)))),
     )

@@ -1,11 +1,8 @@
 -- Of `round`: that the sums make it.
-use Rattle.std.proofs.Common.{map, length, refl, arith, sym}
+use Rattle.std.proofs.Common.{◌+◌, map, length, refl, arith, sym}
 use Rattle.std.proofs.lemmas.List.{length-map}
-use Rattle.pix_table.specs.Nearest.{distance, numbers}
-use Rattle.pix_table.specs.Refine.{refined}
+use Rattle.pix_table.specs.Nearest.{numbers}
 use Rattle.pix_table.specs.declared.color.Color.{Color}
-use Rattle.pix_table.proofs.LeastMeans.{refined_least}
-use Rattle.pix_table.proofs.RefinedTables.{round_falls}
 use Rattle.pix_table.proofs.Rounds.{none_moved, one_moves, one_stays, round_made, same_more, sums_few}
 use Rattle.pix_table.proofs.refine.round.Invariants.{nothing}
 use Rattle.pix_table.proofs.refine.round.Goals as goal
@@ -41,25 +38,24 @@ loop-i-preserved c =
 
 pub mean-next-requires-clause-red : goal.mean-next-requires-clause-red
 mean-next-requires-clause-red c =
-    (sums_few c.args.entries.now c.args.colors.now c.set_sums_by_entry.new.sums nothing c.requires.some c.set_sums_by_entry.ensures c.loop-i.i
-    c.loop-i-test.true).0
+    (sums_few (map numbers c.args.entries.now) (map numbers c.args.colors.now) c.args.items.pairs (c.args.items.pairs + c.args.items.singles)
+    (length c.args.entries.now) c.set_sums_by_entry.new.sums nothing (sym (length-map c.args.entries.now numbers)) c.set_sums_by_entry.ensures c.loop-i.i
+    c.loop-i-test.true).red
 
 pub mean-next-requires-clause-green : goal.mean-next-requires-clause-green
 mean-next-requires-clause-green c =
-    (sums_few c.args.entries.now c.args.colors.now c.set_sums_by_entry.new.sums nothing c.requires.some c.set_sums_by_entry.ensures c.loop-i.i
-    c.loop-i-test.true).1
+    (sums_few (map numbers c.args.entries.now) (map numbers c.args.colors.now) c.args.items.pairs (c.args.items.pairs + c.args.items.singles)
+    (length c.args.entries.now) c.set_sums_by_entry.new.sums nothing (sym (length-map c.args.entries.now numbers)) c.set_sums_by_entry.ensures c.loop-i.i
+    c.loop-i-test.true).green
 
 pub mean-next-requires-clause-blue : goal.mean-next-requires-clause-blue
 mean-next-requires-clause-blue c =
-    (sums_few c.args.entries.now c.args.colors.now c.set_sums_by_entry.new.sums nothing c.requires.some c.set_sums_by_entry.ensures c.loop-i.i
-    c.loop-i-test.true).2
+    (sums_few (map numbers c.args.entries.now) (map numbers c.args.colors.now) c.args.items.pairs (c.args.items.pairs + c.args.items.singles)
+    (length c.args.entries.now) c.set_sums_by_entry.new.sums nothing (sym (length-map c.args.entries.now numbers)) c.set_sums_by_entry.ensures c.loop-i.i
+    c.loop-i-test.true).blue
 
 pub returns-clause-round : goal.returns-clause-round
-returns-clause-round c =
-    round_made (map numbers c.args.entries.now) (map numbers c.args.colors.now) (map numbers c.loop-i.entries) (length c.args.entries.now) c.loop-i.i
-    c.set_sums_by_entry.new.sums nothing c.requires.some (sym (length-map c.args.entries.now numbers)) c.loop-i-test.false c.set_sums_by_entry.ensures
-    c.loop-i.invariant.moved
-
-pub returns-clause-no_worse : goal.returns-clause-no_worse
-returns-clause-no_worse c =
-    round_falls distance refined refined_least (map numbers c.args.colors.now) (map numbers c.args.entries.now) (map numbers c.loop-i.entries) (returns-clause-round c)
+returns-clause-round c = λ all are.
+    round_made (map numbers c.args.entries.now) all (map numbers c.args.colors.now) (map numbers c.loop-i.entries) c.args.items.pairs c.args.items.singles
+    (length c.args.entries.now) c.loop-i.i c.set_sums_by_entry.new.sums nothing c.requires.some (sym (length-map c.args.entries.now numbers))
+    c.loop-i-test.false are c.set_sums_by_entry.ensures c.loop-i.invariant.moved

@@ -1,4 +1,3 @@
--- Answers to the goals of `divided`.
 use Rattle.std.proofs.Common.{arith}
 use Rattle.pix_table.proofs.Quotients.{one_more}
 use Rattle.pix_table.proofs.weight.divided.Goals as goal

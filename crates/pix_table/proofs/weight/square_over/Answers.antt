@@ -1,4 +1,3 @@
--- Answers to the goals of `square_over`.
 use Rattle.std.proofs.Common.{arith}
 use Rattle.pix_table.proofs.Quotients.{square_over, square_is_small}
 use Rattle.pix_table.proofs.weight.square_over.Goals as goal

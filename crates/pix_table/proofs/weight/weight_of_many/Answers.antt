@@ -1,4 +1,3 @@
--- Answers to the goals of `weight_of_many`.
 use Rattle.pix_table.proofs.Quotients.{three_over}
 use Rattle.pix_table.proofs.weight.weight_of_many.Goals as goal
 

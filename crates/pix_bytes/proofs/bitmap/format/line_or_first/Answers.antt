@@ -1,4 +1,4 @@
--- Of `line_or_first`: that it meets its contract, in a table of any length.
+-- Of `line_or_first`: its line, in a table of any length.
 use Rattle.std.proofs.Common.{◌≡◌, slice_get, unwrap_or, ℕ, List, Option, Some, None, option_copied, arith, sym, ap, ◌∙◌}
 use Rattle.std.proofs.lemmas.Option.{unwrap_or-slice_get}
 use Rattle.std.specs.Slice.{IsItemAt}

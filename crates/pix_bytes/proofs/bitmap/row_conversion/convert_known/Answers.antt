@@ -1,4 +1,4 @@
--- Of `convert_known`: that its pixels are crossed by what is known of both formats.
+-- Of `convert_known`: that its pixels are converted by what is known of both formats.
 use Rattle.pix_bytes.proofs.RowConversions.{crossed_from, crossed_to}
 use Rattle.pix_bytes.proofs.bitmap.row_conversion.convert_known.Goals as goal
 

@@ -1,4 +1,4 @@
--- Of `convert_row_pixels`: that it meets its contract, and that the pixels before those of its last call
+-- Of `convert_row_pixels`: its pixels, and that those before its last call
 -- are written.
 use Rattle.pix_bytes.proofs.bitmap.row_conversion.convert_row_pixels.Goals as goal
 

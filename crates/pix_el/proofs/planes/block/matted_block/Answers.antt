@@ -1,4 +1,4 @@
--- Of `matted_block`: that it meets its contract where nothing is written.
+-- Of `matted_block`: the pixels where nothing is written.
 use Rattle.std.proofs.Common.{◌≡◌, ◌+◌, ◌∙◌, ℕ, List, map, get_or, sym, ap, subst, refl}
 use Rattle.pix_el.specs.Pixel.{Layout}
 use Rattle.pix_el.specs.PixelComposite.{matted_composite}

@@ -1,4 +1,4 @@
--- Of `matted_block`: that its mattes fit in memory, and that it meets its contract.
+-- Of `matted_block`: that its mattes fit in memory, and its pixels.
 use Rattle.std.proofs.Common.{◌≤◌, ◌<◌, ◌*◌, ℕ, List, length, map, sym, mul-le-mul_right, arith}
 use Rattle.std.proofs.lemmas.List.{length-map}
 use Rattle.pix_el.specs.PixelComposite.{matted_composite, matte_value}

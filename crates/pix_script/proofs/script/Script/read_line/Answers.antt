@@ -1,4 +1,4 @@
--- Of `read_line`: that it meets its contract at a comment.
+-- Of `read_line`: that a comment changes nothing.
 use Rattle.std.proofs.Common.{◌≡◌, true, rules}
 use Rattle.std.specs.Str.Lines.{strip_carriage_return}
 use Rattle.pix_script.specs.Commands.{is_comment}

@@ -4,7 +4,7 @@ use Rattle.pix_table.specs.Nearest.{numbers}
 use Rattle.pix_table.specs.BlockBounds.{greatest_at, least_at, meets}
 use Rattle.pix_table.proofs.block_bounds.BlockBounds.gaps.Given as goal
 
--- of the first j blocks those whose span meets have 0
+-- of the first j blocks those whose bounds meet have 0
 abbrev pub invariant-loop-j : goal.invariant-loop-j
 invariant-loop-j l = record {
   long : length l.gaps ≡ 16;

@@ -2,7 +2,7 @@
 use Rattle.std.proofs.Common.{◌≡◌, ℕ, List, map, sym, subst}
 use Rattle.std.proofs.lemmas.Simd.{map-map}
 use Rattle.pix_table.specs.Nearest.{IsNearestBy}
-use Rattle.pix_table.specs.Diffusion.{IsWayThrough}
+use Rattle.pix_table.specs.Diffusion.{IsDiffusedScan}
 use Rattle.pix_table.specs.Seen.{seen, seen_distance}
 use Rattle.pix_table.specs.SeenDiffusion.{seen_of_channels}
 use Rattle.pix_table.specs.SeenLanes.{AreSeenLanes}
@@ -17,7 +17,7 @@ returns g c =
       clear = c.nearest.result;
       nearest = subst (λ l. IsNearestBy seen_distance entries l c.nearest.result) c.none.ensures
           (c.nearest.ensures entries (subst (λ l. AreSeenLanes l c.of-lanes.result) c.seen_entries-colors.ensures.numbers c.of-lanes.ensures));
-      diffused = subst (λ ps. IsWayThrough seen_of_channels seen_distance c.args.how.scan c.args.how.strength entries 1 c.nearest.result c.args.how.width ps c.diffuse_all.new.indices) (sym pixels)
-          (subst (λ es. IsWayThrough seen_of_channels seen_distance c.args.how.scan c.args.how.strength es 1 c.nearest.result c.args.how.width
+      diffused = subst (λ ps. IsDiffusedScan seen_of_channels seen_distance c.args.how.scan c.args.how.strength entries 1 c.nearest.result c.args.how.width ps c.diffuse_all.new.indices) (sym pixels)
+          (subst (λ es. IsDiffusedScan seen_of_channels seen_distance c.args.how.scan c.args.how.strength es 1 c.nearest.result c.args.how.width
           (map (λ pixel. seen (g.P.TablePixel.values pixel)) c.args.pixels.now) c.diffuse_all.new.indices) c.seen_entries-colors.ensures.numbers c.diffuse_all.ensures);
     }

@@ -1,4 +1,4 @@
--- Of `TableBlocks::standing`: that the blocks, with their spans, are those of the entries.
+-- Of `TableBlocks::standing`: that the blocks, with their bounds, are those of the entries.
 use Rattle.std.proofs.Common.{map}
 use Rattle.pix_table.proofs.SmallBlocks.{are_blocks, are_spans}
 use Rattle.pix_table.proofs.table_blocks.TableBlocks.standing.Goals as goal

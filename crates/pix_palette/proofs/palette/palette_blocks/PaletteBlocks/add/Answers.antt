@@ -1,4 +1,4 @@
--- Of `PaletteBlocks::add`: that each block has its span.
+-- Of `PaletteBlocks::add`: that each block has its bounds.
 use Rattle.std.proofs.Common.{◌≡◌, ◌∷◌, ◌++◌, [], ◌<◌, length, sym, subst, arith, set, length-set}
 use Rattle.std.specs.Prelude.{◌/◌, ◌%◌}
 use Rattle.std.proofs.lemmas.List.{get_or-set_same}

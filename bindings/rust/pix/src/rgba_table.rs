@@ -7,13 +7,13 @@ use pix_sys::check_library;
 
 /// A table of 1 to 256 colors with an alpha, which it borrows, as a PNG with the chunks PLTE and tRNS has it.
 ///
-/// Two pixels are compared as they are seen, over black and over white, in 8 bits. Over black a color is its product with the alpha,
-/// rounded to the nearest. Over white it is that and 255 less the alpha. The distance of two pixels is the sum of the squares of
-/// their six differences. So the color of a clear pixel does not count, and where all are opaque the indices are those of a
-/// [`ColorTable`](crate::ColorTable).
+/// Two pixels are compared as they are seen, over black and over white, in 8 bits. Over black a color is its product with the
+/// alpha, rounded to the nearest. Over white it is that and 255 less the alpha. The distance of two pixels is the sum of the
+/// squares of their six differences. So the color of a clear pixel does not count, and where all are opaque the indices are those
+/// of a [`ColorTable`](crate::ColorTable).
 ///
 /// ```
-/// use pix::{Srgba8, RgbaTable};
+/// use pix::{RgbaTable, Srgba8};
 ///
 /// let entries = [Srgba8::new(0, 0, 0, 0), Srgba8::new(255, 0, 0, 128), Srgba8::new(255, 0, 0, 255)];
 /// let pixels = [Srgba8::new(250, 9, 0, 140), Srgba8::new(80, 90, 70, 0), Srgba8::new(240, 10, 10, 255)];
@@ -32,10 +32,10 @@ impl<'a> RgbaTable<'a> {
     ///
     /// # Errors
     ///
-    /// `ColorTable` where there is none, or more than 256.
+    /// `Table` where there is none, or more than 256.
     pub fn new(entries: &'a [Srgba8]) -> Result<RgbaTable<'a>, Error> {
         if entries.is_empty() || entries.len() > 256 {
-            return Err(Error::ColorTable);
+            return Err(Error::Table);
         }
         Ok(RgbaTable { entries })
     }
@@ -66,9 +66,10 @@ impl<'a> RgbaTable<'a> {
     }
 
     /// Sets the index of each pixel of rows of `width` by error diffusion, as
-    /// [`ColorTable::diffuse_indexed_by`](crate::ColorTable::diffuse_indexed_by) does. Errors are those of the colors over black and of the
-    /// alpha. What is wanted of a color is at most what is wanted of the alpha. A clear pixel (alpha 0) gets the entry that is seen
-    /// nearest to it, takes nothing of other errors, and passes on none. `work` has [`diffuse_indexed_work`](crate::diffuse_indexed_work) pixels.
+    /// [`ColorTable::diffuse_indexed_by`](crate::ColorTable::diffuse_indexed_by) does. Errors are those of the colors over black
+    /// and of the alpha. What is wanted of a color is at most what is wanted of the alpha. A clear pixel (alpha 0) gets the entry
+    /// that is seen nearest to it, takes nothing of other errors, and passes on none. `work` has
+    /// [`diffuse_indexed_work`](crate::diffuse_indexed_work) pixels.
     ///
     /// # Errors
     ///
@@ -123,10 +124,10 @@ impl<'a> RgbaTable<'a> {
 }
 
 /// Does what [`quantize_refined`](crate::quantize_refined) does, with a table of colors with an alpha. Of pixels that are seen
-/// alike the first one counts. Where there is room for all of these, they are the table, just as they are. Else boxes are cut by the
-/// alpha too, after red, green and blue over black, and then joined. In a round an entry also stays where the mean of its colors would make their
-/// squared error greater. What is found is divided by its alpha in the end, and is still seen as just that. `work` is as long as
-/// `pixels`.
+/// alike the first one counts. Where there is room for all of these, they are the table, just as they are. Else boxes are cut by
+/// the alpha too, after red, green and blue over black, and then joined. In a round an entry also stays where the mean of its
+/// colors would make their squared error greater. What is found is divided by its alpha in the end, and is still seen as just
+/// that. `work` is as long as `pixels`.
 ///
 /// ```
 /// use pix::{Srgba8, quantize_rgba};

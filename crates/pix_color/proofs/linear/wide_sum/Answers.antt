@@ -3,7 +3,7 @@ use Rattle.std.proofs.Common.{◌≡◌, ◌∙◌, ap, w64, to_z, of_z, arith, 
 use Rattle.std.proofs.lemmas.Int.{ints, int_max_is}
 use Rattle.pix_color.proofs.Nearest.{nearest-same, nearest-cut}
 use Rattle.pix_color.proofs.Sums.{fits, stays, sum_small, cut_stays}
-use Rattle.pix_color.proofs.linear.weighted_sum.Goals as goal
+use Rattle.pix_color.proofs.linear.wide_sum.Goals as goal
 
 pub overflow_add-sum-2 : goal.overflow_add-sum-2
 overflow_add-sum-2 g c =

@@ -1,7 +1,7 @@
-//! The places of boxes of colors: the number of each, where it lies, and the boxes around it.
+//! The places of cells of colors: the number of each, where it lies, and the cells around it.
 //!
-//! Small boxes have eight reds, eight greens and eight blues. The larger ones have sixteen,
-//! thirty-two and sixty-four of each. Small boxes are numbered first, and then the larger ones by
+//! Small cells have eight reds, eight greens and eight blues. The larger ones have sixteen,
+//! thirty-two and sixty-four of each. Small cells are numbered first, and then the larger ones by
 //! size.
 ghost use Rattle.std.specs.Prelude.{◌≡◌, ◌<◌, ◌≤◌, ◌+◌, ℕ, List, true};
 ghost use Rattle.pix_table.specs.Nearest.{distance, numbers};
@@ -10,19 +10,19 @@ ghost use Rattle.pix_table.specs.InverseMap.{IsInside, IsLow, end, low_at, reach
 use crate::color::Color;
 use crate::search::distance;
 
-/// The number of small boxes.
+/// The number of small cells.
 const SMALL: usize = 32768;
 
-/// The number of the first box of sixteen. After the small boxes come the larger ones, by size.
+/// The number of the first cell of sixteen. After the small cells come the larger ones, by size.
 const SIXTEENS: usize = SMALL;
 
-/// The number of the first box of thirty-two.
+/// The number of the first cell of thirty-two.
 const THIRTY_TWOS: usize = 36864;
 
-/// The number of the first box of sixty-four.
+/// The number of the first cell of sixty-four.
 const SIXTY_FOURS: usize = 37376;
 
-/// Returns the number of a color's small box.
+/// Returns the number of a color's small cell.
 #[inline(always)]
 pub(crate) fn place_of(clr: Color) -> usize
     ensures below { result < 32768 }
@@ -31,7 +31,7 @@ pub(crate) fn place_of(clr: Color) -> usize
     usize::from(clr.red) / 8 * 1024 + usize::from(clr.green) / 8 * 32 + usize::from(clr.blue) / 8
 }
 
-/// Returns the number of the box of sixteen around a small one.
+/// Returns the number of the cell of sixteen around a small one.
 pub(crate) fn sixteen_around(place: usize) -> usize
     requires { place < 32768 }
     ensures sixteen { 32768 ≤ result }
@@ -42,7 +42,7 @@ pub(crate) fn sixteen_around(place: usize) -> usize
     SIXTEENS + place / 2048 * 256 + place / 64 % 16 * 16 + place / 2 % 16
 }
 
-/// Returns the number of the box of thirty-two around one of sixteen.
+/// Returns the number of the cell of thirty-two around one of sixteen.
 pub(crate) fn thirty_two_around(place: usize) -> usize
     requires sixteen { 32768 ≤ place }
     requires few { place < 36864 }
@@ -55,7 +55,7 @@ pub(crate) fn thirty_two_around(place: usize) -> usize
     THIRTY_TWOS + at / 512 * 64 + at / 32 % 8 * 8 + at / 2 % 8
 }
 
-/// Returns the number of the box of sixty-four around one of thirty-two.
+/// Returns the number of the cell of sixty-four around one of thirty-two.
 pub(crate) fn sixty_four_around(place: usize) -> usize
     requires thirty_two { 36864 ≤ place }
     requires few { place < 37376 }
@@ -68,7 +68,7 @@ pub(crate) fn sixty_four_around(place: usize) -> usize
     SIXTY_FOURS + at / 128 * 16 + at / 16 % 4 * 4 + at / 2 % 4
 }
 
-/// Returns how far a box reaches from its least color in each channel.
+/// Returns how far a cell reaches from its least color in each channel.
 pub(crate) fn reach_of(place: usize) -> u8
     ensures { result ≡ reach_at place }
 {
@@ -83,7 +83,7 @@ pub(crate) fn reach_of(place: usize) -> u8
     }
 }
 
-/// Returns the color of a box that is least in each channel.
+/// Returns the color of a cell that is least in each channel.
 pub(crate) fn low_of(place: usize) -> Color
     requires { place < 37440 }
     ensures low { numbers result ≡ low_at place }
@@ -108,7 +108,7 @@ pub(crate) fn low_of(place: usize) -> Color
     }
 }
 
-/// Returns a color near the middle of a box.
+/// Returns a color near the middle of a cell.
 pub(crate) fn middle(low: Color, reach: u8) -> Color
     requires { IsLow reach (numbers low) }
     ensures { IsInside reach (numbers low) (numbers result) }
@@ -120,7 +120,7 @@ pub(crate) fn middle(low: Color, reach: u8) -> Color
     }
 }
 
-/// Returns the end of a box in one channel, from `low` on, that is on the side of `y` as seen from
+/// Returns the end of a cell in one channel, from `low` on, that is on the side of `y` as seen from
 /// `x`. It has no branch, since a processor couldn't predict one.
 #[inline(always)]
 fn end(low: u8, reach: u8, x: u8, y: u8) -> u8
@@ -131,8 +131,8 @@ fn end(low: u8, reach: u8, x: u8, y: u8) -> u8
     (u32::from(low) + u32::from(reach) * past) as u8
 }
 
-/// Returns whether `near` is nearer than `far` to the corner of a box on the side of `far`. Then it
-/// is nearer to each color of the box.
+/// Returns whether `near` is nearer than `far` to the corner of a cell on the side of `far`. Then
+/// it is nearer to each color of the cell.
 #[inline(always)]
 pub(crate) fn is_nearer(near: Color, far: Color, low: Color, reach: u8) -> bool
     requires { IsLow reach (numbers low) }

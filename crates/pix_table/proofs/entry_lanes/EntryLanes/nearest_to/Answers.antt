@@ -1,15 +1,16 @@
--- Of `EntryLanes::nearest`: that the entry is the nearest.
-use Rattle.std.proofs.Common.{arith, sym, subst, get_or}
+-- Of `EntryLanes::nearest_to`: that the entry is the nearest.
+use Rattle.std.proofs.Common.{ℕ, List, [], ◌∷◌, arith, sym, subst, get_or}
 use Rattle.std.proofs.lemmas.List.{length-take-le, get_or-take}
-use Rattle.pix_table.specs.Nearest.{IsNearest, numbers}
+use Rattle.pix_table.specs.Nearest.{IsNearest}
 use Rattle.pix_table.specs.EntryLanes.{blocks_for}
 use Rattle.pix_table.specs.Lanes.{no_block}
 use Rattle.pix_table.proofs.LaneEntries.{nearest_entry}
-use Rattle.pix_table.proofs.entry_lanes.EntryLanes.nearest.Goals as goal
+use Rattle.pix_table.proofs.entry_lanes.EntryLanes.nearest_to.Goals as goal
 
 pub returns : goal.returns
 returns c = λ entries h.
     let lanes = c.args.self.now in
-    subst (λ p. IsNearest entries (numbers c.args.clr) (get_or lanes.indices p 0)) (sym c.from.ensures)
-    (nearest_entry entries lanes _ (numbers c.args.clr) _ h
+    let clr : List ℕ = c.args.red ∷ c.args.green ∷ c.args.blue ∷ [] in
+    subst (λ p. IsNearest entries clr (get_or lanes.indices p 0)) (sym c.from.ensures)
+    (nearest_entry entries lanes _ clr _ h
     (length-take-le (blocks_for lanes.len) lanes.blocks (omega arith)) (λ k b. get_or-take (blocks_for lanes.len) lanes.blocks k _ b) (c.nearest_lane-lane.ensures no_block))

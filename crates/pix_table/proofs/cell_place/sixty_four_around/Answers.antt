@@ -1,7 +1,7 @@
--- Of `sixty_four_around`: that a box of thirty-two is inside.
+-- Of `sixty_four_around`: that a cell of thirty-two is inside.
 use Rattle.std.proofs.Common.{◌+◌, ◌-◌, ◌*◌, ◌/◌, ◌%◌, ◌≤◌, ℕ, arith}
 use Rattle.std.proofs.lemmas.Bool.{lt-ltb, le-ltb}
-use Rattle.pix_table.proofs.box_place.sixty_four_around.Goals as goal
+use Rattle.pix_table.proofs.cell_place.sixty_four_around.Goals as goal
 
 pub returns-clause-inside : goal.returns-clause-inside
 returns-clause-inside c =

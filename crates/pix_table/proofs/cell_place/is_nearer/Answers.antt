@@ -1,10 +1,10 @@
--- Of `is_nearer`: that what is nearer to the corner is nearer to each color of the box.
+-- Of `is_nearer`: that what is nearer to the corner is nearer to each color of the cell.
 use Rattle.std.proofs.Common.{◌<◌}
 use Rattle.std.proofs.lemmas.Bool.{ltb-true}
 use Rattle.pix_table.specs.Nearest.{numbers}
 use Rattle.pix_table.specs.declared.color.Color.{Color}
 use Rattle.pix_table.proofs.Corners.{nearer_inside}
-use Rattle.pix_table.proofs.box_place.is_nearer.Goals as goal
+use Rattle.pix_table.proofs.cell_place.is_nearer.Goals as goal
 
 pub returns : goal.returns
 returns c = λ yes color inside.

@@ -1,9 +1,9 @@
--- Of `ColorTable::index`: the clause `indexed`.
+-- Of `ColorTable::index_pixels`: the clause `indexed`.
 use Rattle.std.proofs.Common.{◌≡◌, length, take, sym, ap, ◌∙◌}
 use Rattle.std.proofs.lemmas.List.{with_items_is}
 use Rattle.pix_palette.proofs.IndexingSets.{refilled}
 use Rattle.pix_palette.proofs.IndexingLaws.{all_in}
-use Rattle.pix_palette.proofs.palette.slots.ColorTable.index.Goals as goal
+use Rattle.pix_palette.proofs.palette.slots.ColorTable.index_pixels.Goals as goal
 
 pub returns-then-not-all-clause-indexed : goal.returns-then-not-all-clause-indexed
 returns-then-not-all-clause-indexed g c =
