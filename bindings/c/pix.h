@@ -488,11 +488,12 @@ static inline size_t pix_quantize_work(size_t count);
 static inline size_t pix_diffuse_indexed_work(size_t width);
 
 /* Writes a table of the colors of `count` pixels, of at most `len` entries, and writes into `made`
- * how many it has. Where there are no more distinct colors than `len`, they are the table, in order
- * of first place. Otherwise they are the means of boxes of colors, which are cut again and again
- * where the squared error falls most, and then joined where it rises least. The entries past `made` may hold anything. `work` has
- * pix_quantize_work(count) colors; for a large picture pass a sample of its pixels. Returns PIX_OK,
- * PIX_BAD_TABLE (`len` is 0 or above 256), PIX_BAD_LENGTH, PIX_NULL or PIX_OVERLAP. */
+ * how many it has. Where there are no more distinct colors than `len`, they are the table, in
+ * order of first place. Otherwise they are the means of boxes of colors, which are cut again and
+ * again where the squared error falls most, and then joined where it rises least. The entries past
+ * `made` may hold anything. `work` has pix_quantize_work(count) colors; for a large picture pass a
+ * sample of its pixels. Returns PIX_OK, PIX_BAD_TABLE (`len` is 0 or above 256), PIX_BAD_LENGTH,
+ * PIX_NULL or PIX_OVERLAP. */
 static inline pix_status pix_quantize(const pix_srgb8 *pixels, size_t count, pix_srgb8 *work, pix_srgb8 *entries, size_t len,
                                       size_t *made);
 
