@@ -21,11 +21,11 @@ inline pix_status convert(const pix_bitmap &from, const pix_bitmap &to) {
 struct Bytes {
     using pixel = pix_rgba8;
     using command = pix_command;
-    using source = pix_view;
+    using view = pix_view;
 
     static constexpr pix_format straight = PIX_FORMAT_RGBA8, opaque = PIX_FORMAT_RGB8, shown = PIX_FORMAT_BGRA8;
     static constexpr auto image_of = pix_image_of;
-    static constexpr auto source_of = pix_view_of;
+    static constexpr auto view_of = pix_view_of;
     static constexpr auto bitmap_of = pix_bitmap_of_image;
     static constexpr auto copy_image = pix_copy_image;
     static constexpr auto composite_image = pix_composite_image;
@@ -36,11 +36,11 @@ struct Bytes {
 struct Light {
     using pixel = pix_rgba16;
     using command = pix_command_rgba16;
-    using source = pix_view_rgba16;
+    using view = pix_view_rgba16;
 
     static constexpr pix_format straight = PIX_FORMAT_SRGBA8, opaque = PIX_FORMAT_SRGB8, shown = PIX_FORMAT_SBGRA8;
     static constexpr auto image_of = pix_image_of_rgba16;
-    static constexpr auto source_of = pix_view_of_rgba16;
+    static constexpr auto view_of = pix_view_of_rgba16;
     static constexpr auto bitmap_of = pix_bitmap_of_image_rgba16;
     static constexpr auto copy_image = pix_copy_image_rgba16;
     static constexpr auto composite_image = pix_composite_image_rgba16;

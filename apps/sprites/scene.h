@@ -21,7 +21,7 @@ template <typename Kind> class Scene {
           frame(std::size_t(width) * height), ground(frame), cells(std::size_t(atlas.width) * atlas.height) {
         insist(convert(pix_bitmap_of(atlas.bytes, atlas.width, atlas.height, Kind::straight),
                        Kind::bitmap_of(Kind::image_of(cells.data(), atlas.width, atlas.height))));
-        source = Kind::source_of(cells.data(), atlas.width, atlas.height);
+        source = Kind::view_of(cells.data(), atlas.width, atlas.height);
         paint_sky();
         std::minstd_rand random(8);
         const int kinds = std::max(1, static_cast<int>(atlas.width / atlas.height));
@@ -49,7 +49,7 @@ template <typename Kind> class Scene {
         const std::uint32_t cell = static_cast<std::uint32_t>(side);
         const pix_region all = {0, 0, static_cast<std::uint32_t>(width), static_cast<std::uint32_t>(height)};
         std::vector<typename Kind::command> list = {
-            Kind::copy_image(all, Kind::source_of(ground.data(), width, height), all)};
+            Kind::copy_image(all, Kind::view_of(ground.data(), width, height), all)};
         for (const Sprite &it : sprites)
             list.push_back(Kind::composite_image({it.x, it.y, cell, cell}, source, {it.cell * side, 0, cell, cell},
                                                  PIX_OP_SRC_OVER));
@@ -76,7 +76,7 @@ template <typename Kind> class Scene {
 
     int width, height, threads, side;
     std::vector<typename Kind::pixel> frame, ground, cells;
-    typename Kind::source source;
+    typename Kind::view source;
     std::vector<Sprite> sprites;
 
     // Takes the sky as a picture of a file is taken.

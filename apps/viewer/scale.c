@@ -18,7 +18,7 @@ void canvas_free(canvas *it) {
 
 pix_image_rgba16 canvas_image(const canvas *it) { return pix_image_of_rgba16(it->pixels, it->width, it->height); }
 
-pix_view_rgba16 canvas_source(const canvas *it) { return pix_view_of_rgba16(it->pixels, it->width, it->height); }
+pix_view_rgba16 canvas_view(const canvas *it) { return pix_view_of_rgba16(it->pixels, it->width, it->height); }
 
 void insist(pix_status status) {
     if (status != PIX_OK) {
@@ -60,7 +60,7 @@ canvas scale_up(pix_view_rgba16 source, uint32_t times) {
     canvas wide = canvas_of(source.width * times, source.height);
     canvas both = canvas_of(source.width * times, source.height * times);
     copy_lines(canvas_image(&wide), source, COLUMNS, 0, times, 1);
-    copy_lines(canvas_image(&both), canvas_source(&wide), ROWS, 0, times, 1);
+    copy_lines(canvas_image(&both), canvas_view(&wide), ROWS, 0, times, 1);
     canvas_free(&wide);
     return both;
 }
@@ -74,7 +74,7 @@ static void mean_of_lines(pix_image_rgba16 mean, pix_view_rgba16 source, lines w
         uint32_t share = 65535 * (i + 1) / by - 65535 * i / by;
         copy_lines(canvas_image(&part), source, way, i, 1, by);
         insist(pix_do_rgba16(
-            mean, pix_composite_image_alpha_rgba16(all, canvas_source(&part), all, (uint16_t)share, PIX_OP_PLUS)));
+            mean, pix_composite_image_alpha_rgba16(all, canvas_view(&part), all, (uint16_t)share, PIX_OP_PLUS)));
     }
     canvas_free(&part);
 }
@@ -83,7 +83,7 @@ canvas scale_down(pix_view_rgba16 source, uint32_t by) {
     uint32_t width = (source.width + by - 1) / by, height = (source.height + by - 1) / by;
     canvas flat = canvas_of(source.width, height), both = canvas_of(width, height);
     mean_of_lines(canvas_image(&flat), source, ROWS, by);
-    mean_of_lines(canvas_image(&both), canvas_source(&flat), COLUMNS, by);
+    mean_of_lines(canvas_image(&both), canvas_view(&flat), COLUMNS, by);
     canvas_free(&flat);
     return both;
 }
@@ -115,7 +115,7 @@ static void share_lines(pix_image_rgba16 image, pix_view_rgba16 source, lines wa
 canvas scale_to(pix_view_rgba16 source, uint32_t width, uint32_t height) {
     canvas flat = canvas_of(source.width, height), both = canvas_of(width, height);
     share_lines(canvas_image(&flat), source, ROWS);
-    share_lines(canvas_image(&both), canvas_source(&flat), COLUMNS);
+    share_lines(canvas_image(&both), canvas_view(&flat), COLUMNS);
     canvas_free(&flat);
     return both;
 }

@@ -14,7 +14,7 @@ typedef struct {
 canvas canvas_of(uint32_t width, uint32_t height);
 void canvas_free(canvas *it);
 pix_image_rgba16 canvas_image(const canvas *it);
-pix_view_rgba16 canvas_source(const canvas *it);
+pix_view_rgba16 canvas_view(const canvas *it);
 
 /* Ends the program with a sentence where a call was refused, which no call of this program should be. */
 void insist(pix_status status);

@@ -170,7 +170,7 @@ static pix_view_rgba16 shown(view *it, pix_region part, pix_region *to, canvas *
             it->shrunk_at = at->zoom;
         }
         *to = pix_region_of(at->x, at->y, at->wide, at->high);
-        return canvas_source(&it->shrunk);
+        return canvas_view(&it->shrunk);
     }
     uint32_t width, height, left = seen(at->x, at->zoom, source.width, part.x, part.width, &width);
     uint32_t top = seen(at->y, at->zoom, source.height, part.y, part.height, &height);
@@ -179,7 +179,7 @@ static pix_view_rgba16 shown(view *it, pix_region part, pix_region *to, canvas *
     source.height = height;
     *made = scale_up(source, (uint32_t)at->zoom);
     *to = pix_region_of(at->x + (int32_t)left * at->zoom, at->y + (int32_t)top * at->zoom, made->width, made->height);
-    return canvas_source(made);
+    return canvas_view(made);
 }
 
 /* Adds the dark cells of the checkerboard that reach a part of the window; the board moves with the picture. */

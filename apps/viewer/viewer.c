@@ -47,7 +47,7 @@ static void go(viewer *it, size_t first, int step) {
     canvas next;
     for (size_t i = 0, at = first % count; i < count && at != it->files.at; i++) {
         if (decode(it->files.names[at], &next)) {
-            view_show(&it->shown, canvas_source(&next));
+            view_show(&it->shown, canvas_view(&next));
             canvas_free(&it->picture);
             it->picture = next;
             it->files.at = at;
@@ -67,7 +67,7 @@ static void turn(viewer *it, int orientation) {
     file_turn(old.pixels, old.width, old.height, sizeof *old.pixels, orientation,
               it->picture.pixels);
     free(old.pixels);
-    view_show_turned(&it->shown, canvas_source(&it->picture));
+    view_show_turned(&it->shown, canvas_view(&it->picture));
 }
 
 /* Goes to full screen or back to the window, which SDL may leave as large as the screen. */
@@ -268,7 +268,7 @@ static void open_window(viewer *it, const options *chosen) {
     if (it->wants_full)
         set_full(it);
     SDL_GetWindowSize(it->window, &width, &height);
-    view_open(&it->shown, canvas_source(&it->picture), (uint32_t)width, (uint32_t)height);
+    view_open(&it->shown, canvas_view(&it->picture), (uint32_t)width, (uint32_t)height);
     if (chosen->is_exact)
         view_fit(&it->shown, EXACTLY);
 }

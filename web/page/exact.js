@@ -47,8 +47,8 @@ export function budgetStep(budget, { op }) {
     };
 }
 
-// Whether a command is of the listed kinds, for which the bound is n units after n of them.
-export const isListed = ({ op }) => op === undefined || READS[OPERATORS[op].source] === 0;
+// Whether a command is of the listed kinds (a clear, a copy, or a constant source), for which the bound is n units after n of them.
+export const hasConstantSource = ({ op }) => op === undefined || READS[OPERATORS[op].source] === 0;
 
 // A fraction as a decimal number of four places, rounded down.
 export function decimal(value, whole) {

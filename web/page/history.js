@@ -1,5 +1,5 @@
 // What became of one pixel: the commands that reach it, what the library made of it, and the exact run beside it.
-import { budgetStart, budgetStep, exactStart, exactStep, isListed } from './exact.js';
+import { budgetStart, budgetStep, exactStart, exactStep, hasConstantSource } from './exact.js';
 
 // Whether a point lies in a region, and how far from its corner.
 function offsetIn([left, top, width, height], x, y) {
@@ -38,5 +38,5 @@ export function historyOf(library, { steps }, x, y, most) {
         return { line, text, effect, pixel: Array.from(library.pixels(pixel)), exact, budget };
     });
     library.top = top;
-    return { states, isListed: reached.every(({ effect }) => isListed(effect)) };
+    return { states, hasConstantSource: reached.every(({ effect }) => hasConstantSource(effect)) };
 }

@@ -99,14 +99,14 @@ function showPixel(library) {
 }
 
 // The bound in words: as the main theorem says it, for so many commands.
-function sentence(x, y, { states, isListed }) {
+function sentence(x, y, { states, hasConstantSource }) {
     const n = states.length;
     if (n === 0) return `No command reaches the pixel (${x}, ${y}): it stays clear, and nothing was rounded.`;
-    const bound = isListed ? `n = ${n}` : `n² + n = ${n * n + n}`;
-    const kinds = isListed ? 'all of the listed kinds' : 'not all of the listed kinds';
+    const bound = hasConstantSource ? `n = ${n}` : `n² + n = ${n * n + n}`;
+    const kinds = hasConstantSource ? 'all of the listed kinds' : 'not all of the listed kinds';
     const reach = n === 1 ? 'One command reaches' : `${n} commands reach`;
     return `${reach} the pixel (${x}, ${y}), ${kinds}: rounding moved no channel by more than ${bound} `
-        + `unit${isListed && n === 1 ? '' : 's'}. The budgets below are closer.`;
+        + `unit${hasConstantSource && n === 1 ? '' : 's'}. The budgets below are closer.`;
 }
 
 // Shows each channel of the pixel beside the exact one: how far apart they are, and the budget.

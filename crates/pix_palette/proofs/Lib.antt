@@ -4,7 +4,7 @@ pub mod IndexingSets
 pub mod IndexingLaws
 pub mod Thresholds
 pub mod Mapped
-pub mod Made
+pub mod QuantizedTables
 pub mod Finders
 pub mod PaletteBlocksMore
 pub mod Entries
