@@ -33,8 +33,7 @@ pub trait Alpha: Clone + Copy + Debug + Default + PartialEq {
     fn encode<C: Channel>(c: C, a: C) -> C
         ensures { C.number result ≡ alpha_encoded mode C.max (C.number c) (C.number a) };
 
-    /// Returns the straight color channel that this mode stores as `c` at the alpha `a`
-    /// (unpremultiply).
+    /// Returns the straight color channel that this mode stores as `c` at the alpha `a`.
     fn decode<C: Channel>(c: C, a: C) -> C
         ensures { C.number result ≡ alpha_decoded mode C.max (C.number c) (C.number a) };
 
@@ -66,7 +65,7 @@ pub trait Gamma<C: Channel>: Clone + Copy + Debug + Default + PartialEq {
     /// A number that only this gamma mode has. It is the same for every channel type.
     const KIND: u8;
 
-    /// Returns the linear channel that this mode encodes as `c` (linearize).
+    /// Returns the linear channel that this mode encodes as `c`.
     fn to_linear(c: C) -> C
         ensures { C.number result ≡ to_linear mode (C.number c) };
 
