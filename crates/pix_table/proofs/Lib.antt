@@ -40,6 +40,7 @@ pub mod LaneEntries
 pub mod SmallBlocks
 pub mod ShortLists
 pub mod Words
+pub mod FoundColors
 pub mod PaletteMatches
 pub mod Settings
 pub mod CachedColors

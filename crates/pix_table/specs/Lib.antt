@@ -2,6 +2,7 @@ pub mod Nearest
 pub mod Seen
 pub mod SeenLanes
 pub mod InverseMap
+pub mod FoundColors
 pub mod LookUp
 pub mod Packing
 pub mod Places

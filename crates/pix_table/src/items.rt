@@ -129,9 +129,9 @@ fn put_out_all<C: Counted>(colors: &mut [C], items: Items, counts: &[ColorCount]
     all
 }
 
-/// Returns the place at which the color of a key is counted.
+/// Returns the place, one of 4,096, of the color of a key.
 #[inline(always)]
-fn place_of(key: u32) -> usize
+pub(crate) fn place_of(key: u32) -> usize
     ensures { result < 4096 }
 {
     (key.wrapping_mul(2654435769) / 1048576) as usize
@@ -241,4 +241,81 @@ fn write<C: Counted>(colors: &mut [C], at: usize, clr: C)
     ensures { map C.parts colors.new ≡ slice_set (map C.parts colors.old) at (C.parts clr) }
 {
     colors[at] = clr;
+}
+
+#[cfg(test)]
+mod tests {
+    use super::*;
+    use crate::color::Color;
+    use crate::quantization::quantize_refined;
+    use crate::rgba::color::{RgbaColor, Seen};
+    use crate::rgba::quantization::quantize_rgba;
+
+    const MANY: usize = 3000;
+
+    /// Returns colors of which most stand more than once, but not one after the other.
+    fn repeated_colors() -> [Color; MANY] {
+        let mut colors = [Color::default(); MANY];
+        let mut n: u32 = 7;
+        for i in 0..MANY {
+            n = n.wrapping_mul(1664525).wrapping_add(1013904223);
+            let [red, green, blue, _] = (n & 0xe0e0c000).to_be_bytes();
+            colors[i] = Color { red, green, blue };
+        }
+        colors
+    }
+
+    #[test]
+    fn counts_each_color(rt: HostRuntime) {
+        let colors = repeated_colors();
+        let mut items = colors;
+        let counted = count_colors(&mut items);
+        assert_eq!(rt; counted.pairs > 200, true);
+        assert_eq!(rt; counted.pairs + counted.singles < 400, true);
+        let mut before: [u32; 4] = [0; 4];
+        let mut after: [u32; 4] = [0; 4];
+        for i in 0..MANY {
+            add(&mut before, colors[i], 1);
+        }
+        for k in 0..counted.pairs + counted.singles {
+            let (clr, count) = counted.item(&items, k);
+            add(&mut after, clr, count);
+        }
+        assert_eq!(rt; before, after);
+    }
+
+    /// Adds a color to sums.
+    fn add(sums: &mut [u32; 4], clr: Color, count: u16) {
+        let n = u32::from(count);
+        sums[0] = sums[0].wrapping_add(n);
+        sums[1] = sums[1].wrapping_add(n.wrapping_mul(u32::from(clr.red)));
+        sums[2] = sums[2].wrapping_add(n.wrapping_mul(u32::from(clr.green)));
+        sums[3] = sums[3].wrapping_add(n.wrapping_mul(u32::from(clr.blue)));
+    }
+
+    /// Tables with an alpha are made without items.
+    #[test]
+    fn makes_same_table(rt: HostRuntime) {
+        let pixels = repeated_colors();
+        let mut work = [Seen::default(); MANY];
+        let mut entries = [RgbaColor::default(); 40];
+        let made = quantize_rgba(&pixels, 9, &mut work, &mut entries);
+        let mut plain_work = [Color::default(); MANY];
+        let mut plain = [Color::default(); 40];
+        let plain_made = quantize_refined(&pixels, 0, 9, &mut plain_work, &mut plain);
+        assert_eq!(rt; made, plain_made);
+        for i in 0..40 {
+            let clr = plain[i];
+            let RgbaColor {
+                red,
+                green,
+                blue,
+                alpha,
+            } = entries[i];
+            assert_eq!(rt;
+                [red, green, blue, alpha],
+                [clr.red, clr.green, clr.blue, 255]
+            );
+        }
+    }
 }

@@ -1,6 +1,7 @@
 //! The nearest entries of many colors, one after the other.
 ghost use Rattle.std.specs.Prelude.{◌≡◌, ◌<◌, ◌≤◌, ℕ, List, length, map, take};
-ghost use Rattle.pix_table.specs.Nearest.{IsMatched, AreMatched, numbers};
+ghost use Rattle.pix_table.specs.Nearest.{IsMatched, AreMatched, IsNearest, numbers};
+ghost use Rattle.pix_table.specs.FoundColors.{AreAnswers};
 ghost use Rattle.pix_table.specs.InverseMap.{AreWords};
 ghost use Rattle.pix_table.specs.EntryLanes.{AreLanes};
 
@@ -8,6 +9,7 @@ use crate::chosen::ENTRIES;
 use crate::color::{Color, TableColor, TablePixel};
 use crate::entry_lanes::EntryLanes;
 use crate::inverse_map::{CELLS, CREDIT, InverseMap, LISTS, NONE, RATE, nearest_of};
+use crate::items::place_of;
 use crate::nearest_search::{NearestSearch, SearchVisitor};
 use crate::word::word_of;
 use std::marker::Model;
@@ -18,6 +20,9 @@ const FEW_COLORS: usize = 4096;
 
 /// Tables of at most this many entries need no lists.
 const FEW_ENTRIES: usize = 32;
+
+/// The number of places for colors whose index was found.
+const ANSWERS: usize = 4096;
 
 /// Returns the numbers of the entries, followed by that of the first.
 // Out of line, as `colors_of` is: where they are inlined, LLVM puts a matcher together on the stack
@@ -199,24 +204,54 @@ struct Matching<'a, P> {
     transparent_index: u8,
 }
 
+/// Returns the index of the entry that is nearest to a color. It searches only where another color
+/// was found at its place since, or none. Each place has a color and its index, as one number.
+#[inline(always)]
+fn nearest_by<N: NearestSearch>(search: &mut N, answers: &mut [u32], clr: Color) -> u8
+    requires { length answers.old ≡ 4096 }
+    ensures nearest { (entries : List (List ℕ)) → N.finds search.old entries
+        → AreAnswers entries answers.old → IsNearest entries (numbers clr) result }
+    ensures same { (entries : List (List ℕ)) → N.finds search.old entries
+        → N.finds search.new entries }
+    ensures answers { (entries : List (List ℕ)) → N.finds search.old entries
+        → AreAnswers entries answers.old → AreAnswers entries answers.new }
+{
+    let key = word_of(clr, 0);
+    let place = place_of(key);
+    let answer = answers[place];
+    let is_known = answer / 256 == key / 256;
+    if is_known {
+        return (answer % 256) as u8;
+    }
+    let index = search.nearest_entry(clr);
+    let found = word_of(clr, index);
+    answers[place] = found;
+    index
+}
+
 /// Returns the index of a pixel: `transparent_index` where its alpha is below `alpha`, and else
 /// that of the nearest entry.
 #[inline(always)]
 fn matched<N: NearestSearch, P: TablePixel>(
     search: &mut N,
+    answers: &mut [u32],
     pixel: P,
     alpha: u8,
     transparent_index: u8,
 ) -> u8
+    requires { length answers.old ≡ 4096 }
     ensures matched { (entries : List (List ℕ)) → N.finds search.old entries
+        → AreAnswers entries answers.old
         → IsMatched entries alpha transparent_index (P.values pixel) result }
     ensures same { (entries : List (List ℕ)) → N.finds search.old entries
         → N.finds search.new entries }
+    ensures answers { (entries : List (List ℕ)) → N.finds search.old entries
+        → AreAnswers entries answers.old → AreAnswers entries answers.new }
 {
     if pixel.alpha() < alpha {
         return transparent_index;
     }
-    search.nearest_entry(pixel.rgb())
+    nearest_by(search, answers, pixel.rgb())
 }
 
 impl<P: TablePixel> SearchVisitor<u8> for Matching<'_, P> {
@@ -229,8 +264,17 @@ impl<P: TablePixel> SearchVisitor<u8> for Matching<'_, P> {
     // Out of line: where it is inlined, a matcher is put together on the stack beside its place.
     #[inline(never)]
     fn visit<N: NearestSearch>(&self, search: &mut N, items: &mut [u8], _work: &mut [Color]) {
+        let black = Color::default();
+        let index = search.nearest_entry(black);
+        let mut answers = [word_of(black, index); ANSWERS];
         for i in 0..items.len() {
-            items[i] = matched(search, self.pixels[i], self.alpha, self.transparent_index);
+            items[i] = matched(
+                search,
+                &mut answers,
+                self.pixels[i],
+                self.alpha,
+                self.transparent_index,
+            );
         }
     }
 }

@@ -4,5 +4,5 @@ use Rattle.pix_table.proofs.NearestEntries.{same_channels}
 use Rattle.pix_table.proofs.matcher.matched.Goals as goal
 
 pub returns-clause-matched : goal.returns-clause-matched
-returns-clause-matched g c = λ entries finds.
-    inr (omega (arith, c.alpha.ensures), same_channels _ _ _ _ c.rgb.ensures.red c.rgb.ensures.green c.rgb.ensures.blue (c.nearest_entry.ensures.nearest entries finds))
+returns-clause-matched g c = λ entries finds answers.
+    inr (omega (arith, c.alpha.ensures), same_channels _ _ _ _ c.rgb.ensures.red c.rgb.ensures.green c.rgb.ensures.blue (c.nearest_by.ensures.nearest entries finds answers))

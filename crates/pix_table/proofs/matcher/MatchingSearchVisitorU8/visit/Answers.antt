@@ -2,9 +2,19 @@
 -- all pixels are matched.
 use Rattle.std.proofs.Common.{◌≡◌, [], map, get_or, sym, subst, arith}
 use Rattle.std.proofs.lemmas.List.{length-map, get_or-map}
-use Rattle.pix_table.specs.Nearest.{IsMatched}
+use Rattle.pix_table.specs.Nearest.{IsMatched, numbers}
+use Rattle.pix_table.proofs.FoundColors.{answered_first}
 use Rattle.pix_table.proofs.Writes.{set_more}
 use Rattle.pix_table.proofs.matcher.MatchingSearchVisitorU8.visit.Goals as goal
+
+pub loop-i-init : goal.loop-i-init
+loop-i-init g c = record {
+  matched = λ entries finds k below. absurd (omega arith);
+  same = λ entries finds. c.nearest_entry-index.ensures.same entries finds;
+  answers = λ entries finds.
+      answered_first entries 4096 c.word_of-answers.result c.nearest_entry-index.result (numbers c.default-black.result) c.word_of-answers.ensures.color c.word_of-answers.ensures.index
+      (c.nearest_entry-index.ensures.nearest entries finds);
+}
 
 pub loop-i-preserved : goal.loop-i-preserved
 loop-i-preserved g c =
@@ -18,8 +28,9 @@ loop-i-preserved g c =
       matched = λ entries finds.
           set_more (λ k i. IsMatched entries m.alpha m.transparent_index (get_or (map values pixels) k []) i) c.loop-i.items c.loop-i.i c.matched.result (omega arith)
           (c.loop-i.invariant.matched entries finds)
-          (subst (λ p. IsMatched entries m.alpha m.transparent_index p c.matched.result) pixel (c.matched.ensures.matched entries (c.loop-i.invariant.same entries finds)));
+          (subst (λ p. IsMatched entries m.alpha m.transparent_index p c.matched.result) pixel (c.matched.ensures.matched entries (c.loop-i.invariant.same entries finds) (c.loop-i.invariant.answers entries finds)));
       same = λ entries finds. c.matched.ensures.same entries (c.loop-i.invariant.same entries finds);
+      answers = λ entries finds. c.matched.ensures.answers entries (c.loop-i.invariant.same entries finds) (c.loop-i.invariant.answers entries finds);
     }
 
 pub returns : goal.returns
