@@ -23,38 +23,42 @@ grouped_none entries items pairs n none e count red green blue = record {
 }
 
 -- one item more, whose color passes a test or doesn't
-module _ (items : List (List ℕ)) (pairs k n : ℕ) (c : Color) (often : item_count items pairs k ≡ n) (is : item_color items pairs k ≡ numbers c)
+module _ (items : List (List ℕ)) (pairs k n : ℕ) (x : List ℕ) (often : item_count items pairs k ≡ n) (is : item_color items pairs k ≡ x)
     (p : List ℕ → Bool) where
-  passed : (f : List ℕ → ℕ) → p (numbers c) ≡ true
-      → item_sum (λ x. cond (p x) (f x) 0) items pairs (k + 1) ≡ item_sum (λ x. cond (p x) (f x) 0) items pairs k + n * f (numbers c)
+  pub passed : (f : List ℕ → ℕ) → p x ≡ true
+      → item_sum (λ c. cond (p c) (f c) 0) items pairs (k + 1) ≡ item_sum (λ c. cond (p c) (f c) 0) items pairs k + n * f x
   passed f e =
-      item_next (λ x. cond (p x) (f x) 0) items pairs k n (numbers c) often is
-      ∙ ap (λ b. item_sum (λ x. cond (p x) (f x) 0) items pairs k + n * cond b (f (numbers c)) 0) e
+      item_next (λ c. cond (p c) (f c) 0) items pairs k n x often is
+      ∙ ap (λ b. item_sum (λ c. cond (p c) (f c) 0) items pairs k + n * cond b (f x) 0) e
 
-  left_out : (f : List ℕ → ℕ) → p (numbers c) ≡ false
-      → item_sum (λ x. cond (p x) (f x) 0) items pairs k ≡ item_sum (λ x. cond (p x) (f x) 0) items pairs (k + 1)
+  pub left_out : (f : List ℕ → ℕ) → p x ≡ false
+      → item_sum (λ c. cond (p c) (f c) 0) items pairs k ≡ item_sum (λ c. cond (p c) (f c) 0) items pairs (k + 1)
   left_out f e =
-      let more : item_sum (λ x. cond (p x) (f x) 0) items pairs (k + 1) ≡ item_sum (λ x. cond (p x) (f x) 0) items pairs k + n * 0 =
-      item_next (λ x. cond (p x) (f x) 0) items pairs k n (numbers c) often is
-      ∙ ap (λ b. item_sum (λ x. cond (p x) (f x) 0) items pairs k + n * cond b (f (numbers c)) 0) e in
+      let more : item_sum (λ c. cond (p c) (f c) 0) items pairs (k + 1) ≡ item_sum (λ c. cond (p c) (f c) 0) items pairs k + n * 0 =
+      item_next (λ c. cond (p c) (f c) 0) items pairs k n x often is
+      ∙ ap (λ b. item_sum (λ c. cond (p c) (f c) 0) items pairs k + n * cond b (f x) 0) e in
       omega (arith, more)
 
+module _ (items : List (List ℕ)) (pairs k n : ℕ) (c : Color) (often : item_count items pairs k ≡ n) (is : item_color items pairs k ≡ numbers c)
+    (p : List ℕ → Bool) where
   sums_with : (old new : Sums) → p (numbers c) ≡ true → AreItemSums p items pairs k old → new.count ≡ old.count + n → new.red ≡ old.red + n * c.red
       → new.green ≡ old.green + n * c.green → new.blue ≡ old.blue + n * c.blue → AreItemSums p items pairs (k + 1) new
-  sums_with old new e h count red green blue = record {
-    count = omega (arith, count, h.count, passed (λ x. 1) e);
-    red = red ∙ ap (λ m. m + n * c.red) h.red ∙ sym (passed (λ x. get_or x 0 0) e);
-    green = green ∙ ap (λ m. m + n * c.green) h.green ∙ sym (passed (λ x. get_or x 1 0) e);
-    blue = blue ∙ ap (λ m. m + n * c.blue) h.blue ∙ sym (passed (λ x. get_or x 2 0) e);
-  }
+  sums_with old new e h count red green blue =
+      let more = passed items pairs k n (numbers c) often is p in record {
+        count = omega (arith, count, h.count, passed items pairs k n (numbers c) often is p (λ x. 1) e);
+        red = red ∙ ap (λ m. m + n * c.red) h.red ∙ sym (more (λ x. get_or x 0 0) e);
+        green = green ∙ ap (λ m. m + n * c.green) h.green ∙ sym (more (λ x. get_or x 1 0) e);
+        blue = blue ∙ ap (λ m. m + n * c.blue) h.blue ∙ sym (more (λ x. get_or x 2 0) e);
+      }
 
   sums_without : (sums : Sums) → p (numbers c) ≡ false → AreItemSums p items pairs k sums → AreItemSums p items pairs (k + 1) sums
-  sums_without sums e h = record {
-    count = h.count ∙ left_out (λ x. 1) e;
-    red = h.red ∙ left_out (λ x. get_or x 0 0) e;
-    green = h.green ∙ left_out (λ x. get_or x 1 0) e;
-    blue = h.blue ∙ left_out (λ x. get_or x 2 0) e;
-  }
+  sums_without sums e h =
+      let same = left_out items pairs k n (numbers c) often is p in record {
+        count = h.count ∙ same (λ x. 1) e;
+        red = h.red ∙ same (λ x. get_or x 0 0) e;
+        green = h.green ∙ same (λ x. get_or x 1 0) e;
+        blue = h.blue ∙ same (λ x. get_or x 2 0) e;
+      }
 
 -- sums of bytes, with those of a color that stands so often
 bytes_more : (n : ℕ) (c : Color) (old new : Sums) → AreBytes (numbers c) → AreOfBytes old → new.count ≡ old.count + n → new.red ≡ old.red + n * c.red
@@ -101,18 +105,23 @@ at_most_one true = omega arith
 at_most_one false = omega arith
 
 -- there is room for the count of an item, where the counts of all items are below a number
-pub count_room : (entries items : List (List ℕ)) (pairs k all n v most : ℕ) (sums : List Sums) (d : Sums) → 0 < length entries → v < length entries → k < all
-    → item_count items pairs k ≡ n → item_sum (λ c. 1) items pairs all < most → AreItemGroups entries items pairs k sums → (get_or sums v d).count + n < most
-count_room entries items pairs k all n v most sums d some inside more often few h =
-    let at : List ℕ → ℕ = (λ c. (nearest_at distance entries some c).0) in
-    let nearest : (c : List ℕ) → IsNearest entries c (at c) = (λ c. (nearest_at distance entries some c).1) in
-    let own : item_sum (λ c. cond (nat_eq (at c) v) 1 0) items pairs k ≤ item_sum (λ c. 1) items pairs k =
-    item_sum_le (λ c. cond (nat_eq (at c) v) 1 0) (λ c. 1) items pairs k (λ c. at_most_one (nat_eq (at c) v)) in
+pub room_for : (q : List ℕ → Bool) (items : List (List ℕ)) (pairs k all n most count : ℕ) → k < all → item_count items pairs k ≡ n
+    → item_sum (λ c. 1) items pairs all < most → count ≡ item_sum (λ c. cond (q c) 1 0) items pairs k → count + n < most
+room_for q items pairs k all n most count more often few e =
+    let own : item_sum (λ c. cond (q c) 1 0) items pairs k ≤ item_sum (λ c. 1) items pairs k =
+    item_sum_le (λ c. cond (q c) 1 0) (λ c. 1) items pairs k (λ c. at_most_one (q c)) in
     omega (
       arith,
-      (h.parts at nearest v d inside).count,
+      e,
       own,
       item_next (λ c. 1) items pairs k n (item_color items pairs k) often refl,
       item_sum_grows (λ c. 1) items pairs (k + 1) all (omega arith),
       few,
     )
+
+pub count_room : (entries items : List (List ℕ)) (pairs k all n v most : ℕ) (sums : List Sums) (d : Sums) → 0 < length entries → v < length entries → k < all
+    → item_count items pairs k ≡ n → item_sum (λ c. 1) items pairs all < most → AreItemGroups entries items pairs k sums → (get_or sums v d).count + n < most
+count_room entries items pairs k all n v most sums d some inside more often few h =
+    let at : List ℕ → ℕ = (λ c. (nearest_at distance entries some c).0) in
+    let nearest : (c : List ℕ) → IsNearest entries c (at c) = (λ c. (nearest_at distance entries some c).1) in
+    room_for (λ c. nat_eq (at c) v) items pairs k all n most (get_or sums v d).count more often few (h.parts at nearest v d inside).count

@@ -57,4 +57,5 @@ pub mod SeenColors
 pub mod SeenLaneEntries
 pub mod SeenErrors
 pub mod SeenRounds
+pub mod SeenItemGroups
 pub mod SeenMade

@@ -160,7 +160,7 @@ groups_are apart entries colors at h = record {
 }
 
 -- an entry by the sums of its colors
-sum_kept : (p : List ℕ → Bool) (f : List ℕ → ℕ) (xs : List (List ℕ)) → sum_of p f xs ≡ sum_by f (filter p xs)
+pub sum_kept : (p : List ℕ → Bool) (f : List ℕ → ℕ) (xs : List (List ℕ)) → sum_of p f xs ≡ sum_by f (filter p xs)
 sum_kept p f [] = refl
 sum_kept p f (x ∷ xs) = elim (cases_Bool (p x)) [
   | inl e ↦

@@ -1,8 +1,10 @@
 -- The sums of the seen colors of each entry, as a round takes them. No clause of a public call cites this file.
-use Rattle.std.specs.Prelude.{◌≡◌, ℕ, ◌+◌, ◌*◌, ◌<◌, List, length, slice_index_or, filter, nat_eq, All}
+use Rattle.std.specs.Prelude.{◌≡◌, ℕ, ◌+◌, ◌*◌, ◌/◌, ◌%◌, ◌<◌, Bool, List, [], ◌∷◌, cond, length, slice_index, slice_index_or, filter, nat_eq, All}
+use Rattle.pix_table.specs.Items.{item_sum}
 use Rattle.pix_table.specs.Nearest.{IsNearestBy}
 use Rattle.pix_table.specs.Places.{sum_in}
 use Rattle.pix_table.specs.Seen.{AreSeen, seen_distance}
+use Rattle.pix_table.specs.SeenSums.{AreFew}
 use Rattle.pix_table.specs.declared.rgba.sums.SeenSums.{SeenSums}
 
 -- how many seen colors a group has, and the sums of their numbers
@@ -23,6 +25,25 @@ pub record AreSumsOf (at : List ℕ → ℕ) (count : ℕ) (colors : List (List 
 abbrev pub AreSeenGrouped : (entries colors : List (List ℕ)) (sums : List SeenSums) → Type 0
 AreSeenGrouped entries colors sums =
     (at : List ℕ → ℕ) → ((color : List ℕ) → IsNearestBy seen_distance entries color (at color)) → AreSumsOf at (length entries) colors sums
+
+-- the numbers of the seen color of a key
+abbrev pub seen_key_numbers : ℕ → List ℕ
+seen_key_numbers key = key / 16777216 ∷ key / 65536 % 256 ∷ key / 256 % 256 ∷ key % 256 ∷ []
+
+-- the sums of those colors of the first n items that pass a test
+pub record AreSeenItemSums (p : List ℕ → Bool) (items : List (List ℕ)) (pairs n : ℕ) (sums : SeenSums) : Type 0 where
+  pub few : AreFew sums
+  pub count : sums.count ≡ item_sum (λ color. cond (p color) 1 0) items pairs n
+  pub red : sums.red ≡ item_sum (λ color. cond (p color) (slice_index color 0) 0) items pairs n
+  pub green : sums.green ≡ item_sum (λ color. cond (p color) (slice_index color 1) 0) items pairs n
+  pub blue : sums.blue ≡ item_sum (λ color. cond (p color) (slice_index color 2) 0) items pairs n
+  pub alpha : sums.alpha ≡ item_sum (λ color. cond (p color) (slice_index color 3) 0) items pairs n
+
+-- for each entry the sums of those colors of the first n items to which it is the nearest, the first of equals
+pub record AreSeenItemGroups (entries items : List (List ℕ)) (pairs n : ℕ) (sums : List SeenSums) : Type 0 where
+  pub many : length sums ≡ length entries
+  pub parts : (at : List ℕ → ℕ) → ((color : List ℕ) → IsNearestBy seen_distance entries color (at color)) → (k : ℕ) (d : SeenSums) → k < length entries
+      → AreSeenItemSums (λ color. nat_eq (at color) k) items pairs n (slice_index_or sums k d)
 
 -- the products of the numbers of two colors over black and over white, added: of each red, green and blue, and what white adds to them
 abbrev pub product_by : (r g b w s t u v : ℕ) → ℕ

@@ -293,25 +293,34 @@ mod tests {
         sums[3] = sums[3].wrapping_add(n.wrapping_mul(u32::from(clr.blue)));
     }
 
-    /// Tables with an alpha are made without items.
+    /// Few colors are not counted, and three times as many are.
     #[test]
-    fn makes_same_table(rt: HostRuntime) {
-        let pixels = repeated_colors();
-        let mut work = [Seen::default(); MANY];
-        let mut entries = [RgbaColor::default(); 40];
-        let made = quantize_rgba(&pixels, 9, &mut work, &mut entries);
-        let mut plain_work = [Color::default(); MANY];
-        let mut plain = [Color::default(); 40];
-        let plain_made = quantize_refined(&pixels, 0, 9, &mut plain_work, &mut plain);
-        assert_eq!(rt; made, plain_made);
+    fn makes_same_table_of_colors_three_times(rt: HostRuntime) {
+        let colors = repeated_colors();
+        let mut pixels = [Color::default(); MANY];
+        for i in 0..MANY {
+            pixels[i] = colors[i % 1000];
+        }
+        let mut work = [Color::default(); MANY];
+        let mut once = [Color::default(); 40];
+        let mut thrice = [Color::default(); 40];
+        let made = quantize_refined(&pixels[..1000], 0, 9, &mut work, &mut once);
+        assert_eq!(rt;
+            made,
+            quantize_refined(&pixels, 0, 9, &mut work, &mut thrice)
+        );
+        assert_eq!(rt; once, thrice);
+        let mut seen_work = [Seen::default(); MANY];
+        let mut seen = [RgbaColor::default(); 40];
+        assert_eq!(rt; made, quantize_rgba(&pixels, 9, &mut seen_work, &mut seen));
         for i in 0..40 {
-            let clr = plain[i];
             let RgbaColor {
                 red,
                 green,
                 blue,
                 alpha,
-            } = entries[i];
+            } = seen[i];
+            let clr = once[i];
             assert_eq!(rt;
                 [red, green, blue, alpha],
                 [clr.red, clr.green, clr.blue, 255]

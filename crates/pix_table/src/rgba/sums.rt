@@ -56,6 +56,25 @@ impl SeenSums {
         }
     }
 
+    /// Returns the sums of a color that stands so often.
+    #[inline(always)]
+    pub(crate) fn of_times(clr: Seen, times: u16) -> SeenSums
+        ensures count { result.count ≡ times }
+        ensures red { result.red ≡ times * clr.red }
+        ensures green { result.green ≡ times * clr.green }
+        ensures blue { result.blue ≡ times * clr.blue }
+        ensures alpha { result.alpha ≡ times * clr.alpha }
+    {
+        let count = u32::from(times);
+        SeenSums {
+            count: usize::from(times),
+            red: u128::from(count * u32::from(clr.red)),
+            green: u128::from(count * u32::from(clr.green)),
+            blue: u128::from(count * u32::from(clr.blue)),
+            alpha: u128::from(count * u32::from(clr.alpha)),
+        }
+    }
+
     /// Returns the sums of these colors and of others.
     pub(crate) fn and(self, more: SeenSums) -> SeenSums
         requires count { self.count + more.count < 18446744073709551616 }

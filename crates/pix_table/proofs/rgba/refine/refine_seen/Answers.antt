@@ -1,71 +1,24 @@
--- Of `refine_seen`: that its rounds are as many as were asked for.
-use Rattle.std.proofs.Common.{◌≡◌, ◌+◌, ◌-◌, suc, drop, length, map, refl, rules, arith, sym, subst, length-append, length-drop, length-take}
-use Rattle.pix_table.specs.Refine.{AreRoundsBy, IsRoundBy}
+-- Of `refine_seen`: that the rounds of the items are those of the colors.
+use Rattle.std.proofs.Common.{map, arith}
+use Rattle.std.proofs.lemmas.List.{length-map}
 use Rattle.pix_table.specs.Seen.{seen_distance, seen_numbers}
 use Rattle.pix_table.specs.SeenTables.{seen_settled}
 use Rattle.pix_table.proofs.RefinedTables.{rounds_fall}
 use Rattle.pix_table.proofs.SeenErrors.{settled_falls}
-use Rattle.pix_table.proofs.TableRounds.{none_move}
+use Rattle.pix_table.proofs.SumLemmas.{length_sum}
 use Rattle.pix_table.proofs.rgba.refine.refine_seen.Goals as goal
 
-pub returns-then-not-is_moved-clause-rounds : goal.returns-then-not-is_moved-clause-rounds
-returns-then-not-is_moved-clause-rounds c =
-    let colors = map seen_numbers c.args.colors.now in
-    let new = map seen_numbers c.seen_round-is_moved.new.entries in
-    let same : map seen_numbers c.seen_round-is_moved.new.entries ≡ map seen_numbers c.loop-done.entries =
-    c.seen_round-is_moved.ensures.same c.if-not-is_moved.true in
-    let round : IsRoundBy seen_distance seen_settled colors new new =
-    subst (λ l. IsRoundBy seen_distance seen_settled colors l (map seen_numbers c.seen_round-is_moved.new.entries)) (sym same)
-    c.seen_round-is_moved.ensures.round in
-    c.loop-done.invariant.rounds new
-    (subst
-    (λ l. AreRoundsBy seen_distance seen_settled (c.args.rounds - c.loop-done.done) (map seen_numbers c.args.colors.now) l
-    (map seen_numbers c.seen_round-is_moved.new.entries))
-    same (none_move seen_distance seen_settled (c.args.rounds - c.loop-done.done) (map seen_numbers c.args.colors.now) new round))
+pub refine_seen_by-requires-clause-count : goal.refine_seen_by-requires-clause-count
+refine_seen_by-requires-clause-count c =
+    omega (arith, c.count_colors-items.ensures.items (λ q. 1), length_sum (map seen_numbers c.args.colors.now), length-map c.args.colors.now seen_numbers)
 
-pub returns-then-not-is_moved-clause-no_worse : goal.returns-then-not-is_moved-clause-no_worse
-returns-then-not-is_moved-clause-no_worse c =
-    rounds_fall seen_distance seen_settled settled_falls c.args.rounds (map seen_numbers c.args.colors.now) (map seen_numbers c.args.entries.now)
-    (map seen_numbers c.seen_round-is_moved.new.entries) (returns-then-not-is_moved-clause-rounds c)
+pub refine_seen_by-requires-clause-colors : goal.refine_seen_by-requires-clause-colors
+refine_seen_by-requires-clause-colors c = (map seen_numbers c.args.colors.now, c.count_colors-items.ensures.items, c.requires.colors)
 
 pub returns-clause-rounds : goal.returns-clause-rounds
-returns-clause-rounds c =
-    let e : 0 ≡ c.args.rounds - c.loop-done.done = omega arith in
-    c.loop-done.invariant.rounds (map seen_numbers c.loop-done.entries)
-    (subst (λ n. AreRoundsBy seen_distance seen_settled n (map seen_numbers c.args.colors.now) (map seen_numbers c.loop-done.entries) (map seen_numbers c.loop-done.entries)) e refl)
+returns-clause-rounds c = c.refine_seen_by.ensures.rounds (map seen_numbers c.args.colors.now) c.count_colors-items.ensures.items c.requires.colors
 
 pub returns-clause-no_worse : goal.returns-clause-no_worse
 returns-clause-no_worse c =
     rounds_fall seen_distance seen_settled settled_falls c.args.rounds (map seen_numbers c.args.colors.now) (map seen_numbers c.args.entries.now)
-    (map seen_numbers c.loop-done.entries) (returns-clause-rounds c)
-
-pub loop-done-init : goal.loop-done-init
-loop-done-init c =
-    let e : c.args.rounds - 0 ≡ c.args.rounds = omega arith in
-    record {
-      rounds = λ new h.
-          subst (λ n. AreRoundsBy seen_distance seen_settled n (map seen_numbers c.args.colors.now) (map seen_numbers c.args.entries.now) new) e h;
-      seen = c.requires.entries;
-      room = search rules;
-    }
-
-pub loop-done-preserved : goal.loop-done-preserved
-loop-done-preserved c =
-    let e : suc (c.args.rounds - (c.loop-done.done + 1)) ≡ c.args.rounds - c.loop-done.done = omega arith in
-    record {
-      rounds = λ new h.
-          c.loop-done.invariant.rounds new
-          (subst (λ n. AreRoundsBy seen_distance seen_settled n (map seen_numbers c.args.colors.now) (map seen_numbers c.loop-done.entries) new) e
-          (map seen_numbers c.seen_round-is_moved.new.entries, c.seen_round-is_moved.ensures.round, h));
-      seen = c.seen_round-is_moved.ensures.seen;
-      room = omega (
-        arith,
-        c.requires.few,
-        c.loop-done.invariant.room,
-        c.loop-done.auto.entries,
-        c.seen_round-is_moved.auto.sums,
-        length-append c.seen_round-is_moved.new.sums (drop (length c.args.entries.now) c.loop-done.sums),
-        length-drop (length c.args.entries.now) c.loop-done.sums,
-        length-take (length c.args.entries.now) c.loop-done.sums,
-      );
-    }
+    (map seen_numbers c.refine_seen_by.new.entries) (returns-clause-rounds c)

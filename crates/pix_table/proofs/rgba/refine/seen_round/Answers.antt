@@ -19,8 +19,9 @@ loop-i-init c = record {
 
 pub settled-next-requires-clause-sums : goal.settled-next-requires-clause-sums
 settled-next-requires-clause-sums c =
-    let h = group_of (map seen_numbers c.args.entries.now) (map seen_numbers c.args.colors.now) c.sum_groups.new.sums nothing c.loop-i.i
-    (omega (arith, length-map c.args.entries.now seen_numbers)) c.sum_groups.ensures in
+    let all = c.requires.colors in
+    let h = group_of (map seen_numbers c.args.entries.now) all.0 c.sum_groups.new.sums nothing c.loop-i.i
+    (omega (arith, length-map c.args.entries.now seen_numbers)) (c.sum_groups.ensures all.0 all.1 all.2) in
     (h.0, h.1)
 
 pub settled-next-requires-clause-entry : goal.settled-next-requires-clause-entry
@@ -38,7 +39,7 @@ loop-i-preserved c =
     }
 
 pub returns-clause-round : goal.returns-clause-round
-returns-clause-round c =
-    round_made (map seen_numbers c.args.entries.now) (map seen_numbers c.args.colors.now) (map seen_numbers c.loop-i.entries) c.loop-i.i c.sum_groups.new.sums
+returns-clause-round c = λ all are seen.
+    round_made (map seen_numbers c.args.entries.now) all (map seen_numbers c.loop-i.entries) c.loop-i.i c.sum_groups.new.sums
     nothing (omega (arith, c.requires.some, length-map c.args.entries.now seen_numbers)) (omega (arith, c.loop-i-test.false, length-map c.args.entries.now seen_numbers))
-    c.sum_groups.ensures c.loop-i.invariant.settled
+    (c.sum_groups.ensures all are seen) c.loop-i.invariant.settled
