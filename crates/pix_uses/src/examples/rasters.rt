@@ -123,7 +123,7 @@ pub fn faded(page: &mut Raster<Rgba8p>, sprite: &Raster<Rgba8p>) {
 }
 
 /// Runs a list of commands.
-pub fn constant_source(page: &mut Raster<Rgba8p>) {
+pub fn listed(page: &mut Raster<Rgba8p>) {
     let (reg, clr) = (Region::new(8, 8, 16, 16), Rgba8p::new(0, 0, 64, 64));
     let op = Op::SrcOver;
     let commands: [Command<'_, Rgba8p, Matte8>; 3] = [
