@@ -1,5 +1,5 @@
 //! Pixels from bytes and as text.
-ghost use Rattle.std.specs.Prelude.{◌≡◌, ℕ, List, [], ◌∷◌, ◌++◌, OnOk, map, take, length, ◌<◌, ◌≤◌};
+ghost use Rattle.std.specs.Prelude.{◌≡◌, ℕ, List, [], ◌∷◌, ◌++◌, ◌+◌, OnOk, map, take, length, ◌<◌, ◌≤◌};
 ghost use Rattle.std.specs.List.{flat_map};
 ghost use Rattle.pix_script.specs.Pixels.{color_numbers};
 ghost use Rattle.pix_script.specs.Text.{pixel_text};
@@ -63,6 +63,16 @@ fn after(column: usize, width: usize) -> (u8, usize)
     }
 }
 
+/// Returns the text of a pixel and the space after it. Condition: it isn't the last of its row.
+#[inline(always)]
+fn spaced_cell(pixel: &Rgba8p, column: usize, width: usize) -> [u8; 9]
+    requires { column + 1 < width }
+    ensures { (rest : List (List ℕ)) → text_from width column (color_numbers pixel.now ∷ rest)
+        ≡ result ++ text_from width (column + 1) rest }
+{
+    pixel_cell(pixel, b' ')
+}
+
 /// Writes the text of each pixel, and what comes after it, into a cell, from the first cell on. The
 /// first pixel is in the column `start`. Returns the column after the last one.
 fn write_cells(cells: &mut [[u8; 9]], pixels: &[Rgba8p], start: usize, width: usize) -> usize
@@ -74,10 +84,14 @@ fn write_cells(cells: &mut [[u8; 9]], pixels: &[Rgba8p], start: usize, width: us
         ++ text_from width result rest }
     ensures column { result < width }
 {
-    let mut column = start;
-    for (i, pixel) in pixels.iter().enumerate() {
+    let spaced = pixels.len().min(width - 1 - start);
+    for i in 0..spaced {
+        cells[i] = spaced_cell(&pixels[i], start + i, width);
+    }
+    let mut column = start + spaced;
+    for k in spaced..pixels.len() {
         let (byte, next) = after(column, width);
-        cells[i] = pixel_cell(pixel, byte);
+        cells[k] = pixel_cell(&pixels[k], byte);
         column = next;
     }
     column

@@ -206,7 +206,7 @@ best_match entries color n at least e h = record {
 }
 
 -- entries that are too far in a channel leave it as it is
-far_stays : (entries : List (List ℕ)) (color : List ℕ) (n at : ℕ) (least : List ℕ) → IsBest entries color n at least
+pub far_stays : (entries : List (List ℕ)) (color : List ℕ) (n at : ℕ) (least : List ℕ) → IsBest entries color n at least
     → is_within (difference_to entries color n) least ≡ false → IsBest entries color (n + 1) at least
 far_stays entries color n at least h far =
     best_stays entries color n at least (difference_to entries color n) h refl (ap (λ w. w && not (same_color (difference_to entries color n) least)) far)

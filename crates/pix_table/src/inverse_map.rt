@@ -41,7 +41,7 @@ const AT_ONCE: u16 = 4;
 const LONG: u16 = 24;
 
 /// The greatest length of a list that is sifted for a small cell.
-const SIFTED: u16 = 64;
+const SIFTED: u16 = 128;
 
 /// How many entries may be sifted at first.
 pub(crate) const CREDIT: u32 = 10000;

@@ -6,6 +6,7 @@
 
 mod block_bounds;
 mod box_sums;
+mod by_value;
 mod cell_place;
 mod chosen;
 mod color;

@@ -6,7 +6,8 @@ ghost use Rattle.pix_table.specs.BestPlaces.{AreBytes, AreSums, CanCut};
 ghost use Rattle.pix_table.specs.BestPlaces.{ArePart, IsBestUpTo, gain_at, weight_by};
 ghost use Rattle.pix_table.specs.BestPlaces.{CanCutBy, IsBestUpToBy};
 
-use crate::box_sums::{BLOCK, ByValue, Sums, add_blocks, add_words, total, total_of_words};
+use crate::box_sums::{BLOCK, Sums, add_blocks, add_words, total, total_of_words};
+use crate::by_value::ByValue;
 use crate::color::Color;
 
 /// A place of a box, and what a cut there gains.

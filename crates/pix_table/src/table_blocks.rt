@@ -15,7 +15,7 @@ use crate::in_blocks::standing_in;
 use crate::threshold::standing;
 
 /// The least number of entries with which blocks save more time than they take.
-const MANY: usize = 64;
+const MANY: usize = 48;
 
 /// The maximum number of blocks.
 const BLOCKS: usize = 16;

@@ -43,6 +43,17 @@ fn is_closer(difference: Color, least: Color) -> bool
     is_within(difference, least) && !same(difference, least)
 }
 
+/// Returns whether a color is no farther from another than a difference in any channel. It looks at
+/// green and blue only where the channels before them are near, which few entries are.
+#[inline(always)]
+fn is_near(color: Color, clr: Color, least: Color) -> bool
+    ensures { result ≡ is_within (color_difference (numbers color) (numbers clr)) (numbers least) }
+{
+    color.red.abs_diff(clr.red) <= least.red
+        && color.green.abs_diff(clr.green) <= least.green
+        && color.blue.abs_diff(clr.blue) <= least.blue
+}
+
 /// Returns entry 0, which is the first candidate, with its difference. Condition: there is one.
 pub(crate) fn closest_of_one<C: TableColor>(colors: &[C], clr: Color) -> (usize, Color)
     requires { 0 < length colors.now }
@@ -68,10 +79,13 @@ pub fn closest_between<C: TableColor>(
 {
     let (mut at, mut least) = (at, least);
     for i in start..end {
-        let difference = apart(colors[i].color(), clr);
-        if is_closer(difference, least) {
-            at = i;
-            least = difference;
+        let color = colors[i].color();
+        if is_near(color, clr, least) {
+            let difference = apart(color, clr);
+            if is_closer(difference, least) {
+                at = i;
+                least = difference;
+            }
         }
     }
     (at, least)
