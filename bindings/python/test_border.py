@@ -168,7 +168,7 @@ class ChangingMemory(unittest.TestCase):
         given = []
         with mock.patch.object(
             _indexed,
-            "_count_all",
+            "_count_indices",
             lambda count, source, address, length: given.append((address, length)),
         ):
             with mock.patch.object(_indexed, "_COUNTS", lambda: given.append(counts()) or given[0]):

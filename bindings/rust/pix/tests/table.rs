@@ -108,9 +108,9 @@ fn tables_of_pixels() {
     let many = [0, 0, 0, 1, 200, 201, 200, 201].map(gray);
     let made = quantize(&many, &mut work, &mut entries[..2]).unwrap();
     assert_eq!(made, [gray(0), gray(201)]);
-    // Cuts at 11 and at 21 gain the same, and the first is made.
+    // Of three boxes the first two cost as much to join as the last two, and the first two are joined.
     let made = quantize(&[10, 20, 30].map(gray), &mut work, &mut entries[..2]).unwrap();
-    assert_eq!(made, [gray(10), gray(25)]);
+    assert_eq!(made, [gray(15), gray(30)]);
     let clear = [Srgba8::new(1, 2, 3, 128), Srgba8::new(4, 5, 6, 127)];
     let made = quantize_alpha(&clear, 128, &mut work, &mut entries).unwrap();
     assert_eq!(made, [Srgb8::new(1, 2, 3)]);
