@@ -213,10 +213,15 @@ fn number_points<P: Pixel>(raster: &mut Raster<P>, reg: Region) -> usize {
         count = count.wrapping_add(1);
         for pixel in row.iter_mut() {
             number = number.wrapping_add(1);
-            for channel in pixel.channels_mut() {
-                *channel = P::Chan::from_ratio(i64::from(number), 1);
-            }
+            set_channels(pixel, number);
         }
     }
     count
+}
+
+/// Sets each channel of a pixel to a number of units, or to the maximum where that is less.
+fn set_channels<P: Pixel>(pixel: &mut P, number: u8) {
+    for channel in pixel.channels_mut() {
+        *channel = P::Chan::from_ratio(i64::from(number), 1);
+    }
 }
