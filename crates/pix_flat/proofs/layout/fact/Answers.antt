@@ -7,7 +7,7 @@ use Rattle.pix_flat.proofs.layout.fact.Goals as goal
 
 -- the sizes and the offsets as numbers
 abbrev numbers : List ℕ
-numbers = 1 ∷ 4 ∷ 8 ∷ 2 ∷ 16 ∷ 0 ∷ 4 ∷ 8 ∷ 12
+numbers = 2 ∷ 4 ∷ 8 ∷ 2 ∷ 16 ∷ 0 ∷ 4 ∷ 8 ∷ 12
     ∷ 128 ∷ 0 ∷ 4 ∷ 8 ∷ 24 ∷ 40 ∷ 48 ∷ 56 ∷ 64 ∷ 72 ∷ 80 ∷ 84 ∷ 88 ∷ 92 ∷ 108 ∷ 112 ∷ 116 ∷ 120
     ∷ 128 ∷ 0 ∷ 4 ∷ 8 ∷ 24 ∷ 40 ∷ 48 ∷ 56 ∷ 64 ∷ 72 ∷ 80 ∷ 84 ∷ 88 ∷ 92 ∷ 108 ∷ 112 ∷ 116 ∷ 120
     ∷ 128 ∷ 0 ∷ 4 ∷ 8 ∷ 24 ∷ 40 ∷ 48 ∷ 56 ∷ 64 ∷ 72 ∷ 80 ∷ 84 ∷ 88 ∷ 92 ∷ 108 ∷ 112 ∷ 116 ∷ 120 ∷ []
