@@ -301,10 +301,14 @@ mod tests {
         for i in 0..MANY {
             pixels[i] = colors[i % 1000];
         }
+        let mut few = [Color::default(); 1000];
+        for i in 0..1000 {
+            few[i] = colors[i];
+        }
         let mut work = [Color::default(); MANY];
         let mut once = [Color::default(); 40];
         let mut thrice = [Color::default(); 40];
-        let made = quantize_refined(&pixels[..1000], 0, 9, &mut work, &mut once);
+        let made = quantize_refined(&few, 0, 9, &mut work, &mut once);
         assert_eq!(rt;
             made,
             quantize_refined(&pixels, 0, 9, &mut work, &mut thrice)
