@@ -1,7 +1,7 @@
-/* pix 0.2.0: the program pixpaint, for aarch64 under Linux.
+/* pix 0.3.0: the program pixpaint, for aarch64 under Linux.
  * The code was proved before it was compiled; generated/README.md says what that means. Nobody edits this file: tools/generate makes it.
  *
- * sources: d52146372de9f6bcf90af110ca70813b8d47375609f757e6ab3544064c7f45e9, as tools/sources --sum pixpaint prints it
+ * sources: 2c546253f8028604fc3f683e1fbad194bc271e6b5483f775f4babc59150997f5, as tools/sources --sum pixpaint prints it
  * kit: rattle-kit-13f logic dac8208d650f15bf
  * verdict: logic=proved functions=1 axioms=6 target=aarch64-unknown-linux-gnu sum=dac8208d650f15bf native=nat,char,string logic-built=trusted libraries-built=trusted statements=trusted
  * made by: rattle build --target aarch64-unknown-linux-gnu of crates/pixpaint, with clang -S -fno-verbose-asm -fno-addrsig in the place of clang -c
@@ -1306,7 +1306,7 @@
 	str	x9, [sp, #208]
 	str	q0, [x30, #144]
 	add	x26, sp, #704
-	bl	"pix_raster::lent::masked::overlap_in"
+	bl	"pix_raster::view::masked::overlap_in"
 	ldp	x20, x8, [x26, #192]
 	sub	x0, x29, #176
 	ldp	x28, x19, [x26, #160]
@@ -1319,7 +1319,7 @@
 	mov	w5, w22
 	str	x8, [sp, #336]
 	str	q0, [x26, #144]
-	bl	"pix_raster::lent::masked::overlap_in"
+	bl	"pix_raster::view::masked::overlap_in"
 	add	x0, sp, #704
 	sub	x10, x19, x28
 	ldp	x9, x16, [x0, #160]
@@ -1999,7 +1999,7 @@
 	add	x20, sp, #704
 	str	q0, [x30, #144]
 	str	x4, [sp, #416]
-	bl	"pix_raster::lent::masked::overlap_in"
+	bl	"pix_raster::view::masked::overlap_in"
 	ldp	x26, x27, [x20, #160]
 	sub	x0, x29, #176
 	ldur	q0, [x25, #56]
@@ -2011,7 +2011,7 @@
 	mov	w4, w21
 	mov	w5, w22
 	str	q0, [x20, #144]
-	bl	"pix_raster::lent::masked::overlap_in"
+	bl	"pix_raster::view::masked::overlap_in"
 	add	x4, sp, #704
 	sub	x10, x27, x26
 	ldp	x9, x15, [x4, #160]
@@ -2678,7 +2678,7 @@
 	mov	x0, x28
 	mov	w3, wzr
 .LBB8_102:
-	bl	"pix_raster::lent::fill_window::<#c41203c8e548980e>"
+	bl	"pix_raster::view::fill_window::<#c41203c8e548980e>"
 	b	.LBB8_408
 .LBB8_103:
 	sub	w8, w11, #5
@@ -2708,7 +2708,7 @@
 	sub	x3, x29, #192
 	str	q0, [x30, #144]
 	add	x26, sp, #704
-	bl	"pix_raster::lent::masked::overlap_in"
+	bl	"pix_raster::view::masked::overlap_in"
 	ldur	q0, [x19, #56]
 	ldp	x22, x19, [x26, #160]
 	ldp	x23, x25, [x26, #184]
@@ -2719,7 +2719,7 @@
 	mov	w4, w20
 	mov	w5, w21
 	str	q0, [x26, #144]
-	bl	"pix_raster::lent::masked::overlap_in"
+	bl	"pix_raster::view::masked::overlap_in"
 	add	x12, sp, #704
 	ldr	x8, [x12, #160]
 	ldp	x9, x11, [x12, #184]
@@ -2803,7 +2803,7 @@
 	add	x28, sp, #704
 	str	q0, [x30, #144]
 	str	x4, [sp, #352]
-	bl	"pix_raster::lent::masked::overlap_in"
+	bl	"pix_raster::view::masked::overlap_in"
 	ldp	x24, x26, [x28, #160]
 	sub	x0, x29, #176
 	ldur	q0, [x25, #56]
@@ -2815,7 +2815,7 @@
 	mov	w4, w21
 	mov	w5, w22
 	str	q0, [x28, #144]
-	bl	"pix_raster::lent::masked::overlap_in"
+	bl	"pix_raster::view::masked::overlap_in"
 	add	x18, sp, #704
 	sub	x9, x26, x24
 	ldp	x8, x13, [x18, #160]
@@ -3280,7 +3280,7 @@
 	add	x28, sp, #704
 	str	q0, [x30, #64]
 	str	x4, [sp, #320]
-	bl	"pix_raster::lent::masked::overlap_in"
+	bl	"pix_raster::view::masked::overlap_in"
 	ldp	x24, x25, [x28, #160]
 	sub	x0, x29, #176
 	ldur	q0, [x19, #56]
@@ -3292,7 +3292,7 @@
 	mov	w4, w21
 	mov	w5, w22
 	str	q0, [x28, #64]
-	bl	"pix_raster::lent::masked::overlap_in"
+	bl	"pix_raster::view::masked::overlap_in"
 	add	x3, sp, #704
 	sub	x9, x25, x24
 	ldp	x8, x13, [x3, #160]
@@ -3968,7 +3968,7 @@
 	add	x28, sp, #704
 	str	q0, [x30, #96]
 	str	x4, [sp, #352]
-	bl	"pix_raster::lent::masked::overlap_in"
+	bl	"pix_raster::view::masked::overlap_in"
 	ldp	x24, x26, [x28, #160]
 	sub	x0, x29, #176
 	ldur	q0, [x25, #56]
@@ -3980,7 +3980,7 @@
 	mov	w4, w21
 	mov	w5, w22
 	str	q0, [x28, #96]
-	bl	"pix_raster::lent::masked::overlap_in"
+	bl	"pix_raster::view::masked::overlap_in"
 	add	x3, sp, #704
 	sub	x9, x26, x24
 	ldp	x8, x13, [x3, #160]
@@ -4565,7 +4565,7 @@
 	add	x28, sp, #704
 	str	q0, [x30, #64]
 	str	x4, [sp, #336]
-	bl	"pix_raster::lent::masked::overlap_in"
+	bl	"pix_raster::view::masked::overlap_in"
 	ldp	x24, x26, [x28, #160]
 	sub	x0, x29, #176
 	ldur	q0, [x25, #56]
@@ -4577,7 +4577,7 @@
 	mov	w4, w21
 	mov	w5, w22
 	str	q0, [x28, #64]
-	bl	"pix_raster::lent::masked::overlap_in"
+	bl	"pix_raster::view::masked::overlap_in"
 	add	x3, sp, #704
 	sub	x9, x26, x24
 	ldp	x8, x13, [x3, #160]
@@ -5075,7 +5075,7 @@
 	mov	x20, x24
 	add	x24, sp, #704
 	str	q0, [x30, #144]
-	bl	"pix_raster::lent::masked::overlap_in"
+	bl	"pix_raster::view::masked::overlap_in"
 	ldp	x25, x8, [x24, #192]
 	sub	x0, x29, #176
 	ldp	x26, x27, [x24, #160]
@@ -5089,7 +5089,7 @@
 	str	x8, [sp, #368]
 	str	q0, [x24, #144]
 	mov	x24, x20
-	bl	"pix_raster::lent::masked::overlap_in"
+	bl	"pix_raster::view::masked::overlap_in"
 	add	x4, sp, #704
 	sub	x10, x27, x26
 	ldp	x9, x14, [x4, #160]
@@ -5520,7 +5520,7 @@
 	str	q0, [x30, #144]
 	add	x24, sp, #704
 	str	x4, [sp, #480]
-	bl	"pix_raster::lent::masked::overlap_in"
+	bl	"pix_raster::view::masked::overlap_in"
 	ldp	x19, x8, [x24, #192]
 	sub	x0, x29, #176
 	ldp	x26, x27, [x24, #160]
@@ -5535,7 +5535,7 @@
 	str	q0, [x24, #144]
 	mov	x24, x20
 	mov	x20, x23
-	bl	"pix_raster::lent::masked::overlap_in"
+	bl	"pix_raster::view::masked::overlap_in"
 	add	x2, sp, #704
 	sub	x10, x27, x26
 	ldp	x9, x15, [x2, #160]
@@ -6009,7 +6009,7 @@
 	add	x27, sp, #704
 	str	q0, [x30, #64]
 	str	x4, [sp, #320]
-	bl	"pix_raster::lent::masked::overlap_in"
+	bl	"pix_raster::view::masked::overlap_in"
 	ldp	x23, x24, [x27, #160]
 	sub	x0, x29, #176
 	ldur	q0, [x20, #56]
@@ -6021,7 +6021,7 @@
 	mov	w4, w28
 	mov	w5, w22
 	str	q0, [x27, #64]
-	bl	"pix_raster::lent::masked::overlap_in"
+	bl	"pix_raster::view::masked::overlap_in"
 	add	x2, sp, #704
 	sub	x9, x24, x23
 	ldp	x8, x12, [x2, #160]
@@ -6649,7 +6649,7 @@
 	add	x20, sp, #704
 	str	x9, [sp, #272]
 	str	q0, [x30, #144]
-	bl	"pix_raster::lent::masked::overlap_in"
+	bl	"pix_raster::view::masked::overlap_in"
 	ldp	x26, x27, [x20, #160]
 	sub	x0, x29, #176
 	ldur	q0, [x25, #56]
@@ -6662,7 +6662,7 @@
 	mov	w5, w22
 	str	q0, [x20, #144]
 	mov	x20, x19
-	bl	"pix_raster::lent::masked::overlap_in"
+	bl	"pix_raster::view::masked::overlap_in"
 	add	x3, sp, #704
 	sub	x10, x27, x26
 	ldp	x9, x15, [x3, #160]
@@ -7343,7 +7343,7 @@
 	add	x28, sp, #704
 	str	q0, [x30, #64]
 	str	x4, [sp, #336]
-	bl	"pix_raster::lent::masked::overlap_in"
+	bl	"pix_raster::view::masked::overlap_in"
 	ldp	x24, x26, [x28, #160]
 	sub	x0, x29, #176
 	ldur	q0, [x25, #56]
@@ -7355,7 +7355,7 @@
 	mov	w4, w21
 	mov	w5, w22
 	str	q0, [x28, #64]
-	bl	"pix_raster::lent::masked::overlap_in"
+	bl	"pix_raster::view::masked::overlap_in"
 	add	x3, sp, #704
 	sub	x9, x26, x24
 	ldp	x8, x13, [x3, #160]
@@ -34321,10 +34321,10 @@
 	.hword	(.LBB8_5-.LBB8_1)>>2
 	.hword	(.LBB8_36-.LBB8_1)>>2
 
-	.section	".text.pix_raster::lent::fill_window::<#c41203c8e548980e>","ax",@progbits
+	.section	".text.pix_raster::view::fill_window::<#c41203c8e548980e>","ax",@progbits
 	.p2align	2
-	.type	"pix_raster::lent::fill_window::<#c41203c8e548980e>",@function
-"pix_raster::lent::fill_window::<#c41203c8e548980e>":
+	.type	"pix_raster::view::fill_window::<#c41203c8e548980e>",@function
+"pix_raster::view::fill_window::<#c41203c8e548980e>":
 	ldr	w12, [x1, #8]
 	cbz	w12, .LBB9_7
 	ldp	w11, w14, [x2]
@@ -34449,7 +34449,7 @@
 	b.lo	.LBB9_16
 	b	.LBB9_9
 .Lfunc_end9:
-	.size	"pix_raster::lent::fill_window::<#c41203c8e548980e>", .Lfunc_end9-"pix_raster::lent::fill_window::<#c41203c8e548980e>"
+	.size	"pix_raster::view::fill_window::<#c41203c8e548980e>", .Lfunc_end9-"pix_raster::view::fill_window::<#c41203c8e548980e>"
 
 	.section	".text.pix_raster::raster::window::blit_from::<#d0c343f678e302d3>","ax",@progbits
 	.p2align	2
@@ -34784,10 +34784,10 @@
 .Lfunc_end10:
 	.size	"pix_raster::raster::window::blit_from::<#d0c343f678e302d3>", .Lfunc_end10-"pix_raster::raster::window::blit_from::<#d0c343f678e302d3>"
 
-	.section	".text.pix_raster::lent::masked::overlap_in","ax",@progbits
+	.section	".text.pix_raster::view::masked::overlap_in","ax",@progbits
 	.p2align	2
-	.type	"pix_raster::lent::masked::overlap_in",@function
-"pix_raster::lent::masked::overlap_in":
+	.type	"pix_raster::view::masked::overlap_in",@function
+"pix_raster::view::masked::overlap_in":
 	ldr	w11, [x2]
 	ldr	w13, [x1, #8]
 	ldr	w10, [x2, #8]
@@ -34929,7 +34929,7 @@
 	stp	x8, x9, [x0, #32]
 	ret
 .Lfunc_end11:
-	.size	"pix_raster::lent::masked::overlap_in", .Lfunc_end11-"pix_raster::lent::masked::overlap_in"
+	.size	"pix_raster::view::masked::overlap_in", .Lfunc_end11-"pix_raster::view::masked::overlap_in"
 
 	.section	.rodata.cst16,"aM",@progbits,16
 	.p2align	4, 0x0
@@ -35400,13 +35400,13 @@ main:
 	str	xzr, [sp]
 	add	x28, x28, #128
 	movk	w21, #16, lsl #16
-	add	x20, sp, #128
 	bl	__sysv_signal
 	sub	x19, x29, #24
 	add	x0, sp, #128
 	mov	w1, wzr
 	mov	w2, #4096
 	stp	xzr, xzr, [x29, #-72]
+	add	x20, sp, #128
 	stur	x19, [x29, #-80]
 	bl	memset
 	mov	x23, xzr
@@ -35661,7 +35661,7 @@ main:
 	mov	w1, #1
 	add	x0, x0, #128
 	bl	"std_alloc::vec::Vec::grow_amortized::<#c573f30ac4e8249c>"
-	cbz	w0, .LBB19_405
+	cbz	w0, .LBB19_409
 	ldr	x9, [sp, #4232]
 	ldr	x15, [sp, #4240]
 	b	.LBB19_50
@@ -35678,12 +35678,12 @@ main:
 	stur	wzr, [x29, #-144]
 	str	x15, [sp, #112]
 	cbz	x9, .LBB19_245
-	str	w19, [sp, #108]
+	str	w19, [sp, #104]
 	ldrb	w19, [x23]
 	cmp	w19, #35
 	b.ne	.LBB19_62
 	ldr	x24, [sp, #4224]
-	ldr	w8, [sp, #108]
+	ldr	w8, [sp, #104]
 	tbz	w8, #0, .LBB19_73
 	add	x28, sp, #1, lsl #12
 	mov	w19, #1
@@ -35872,7 +35872,7 @@ main:
 	ldur	w10, [x29, #-160]
 	add	x28, sp, #1, lsl #12
 	ldr	x15, [sp, #112]
-	ldr	w16, [sp, #108]
+	ldr	w16, [sp, #104]
 	ldr	x17, [sp, #80]
 	str	w8, [sp, #28]
 	mov	w8, wzr
@@ -36249,7 +36249,7 @@ main:
 	stur	x9, [x29, #-152]
 	stur	w10, [x29, #-144]
 	b.ne	.LBB19_153
-	ldr	w16, [sp, #108]
+	ldr	w16, [sp, #104]
 	mov	w8, wzr
 	mov	w21, wzr
 	mov	w12, wzr
@@ -36386,9 +36386,9 @@ main:
 	str	w10, [sp, #72]
 	b	.LBB19_155
 .LBB19_184:
-	ldr	w16, [sp, #108]
+	ldr	w16, [sp, #104]
 	ldr	w19, [sp, #24]
-	tbnz	w23, #0, .LBB19_393
+	tbnz	w23, #0, .LBB19_397
 	ldr	x23, [sp, #16]
 	ldr	w12, [sp, #72]
 	mov	w8, #1
@@ -36546,7 +36546,7 @@ main:
 .LBB19_217:
 	add	x0, sp, #128
 	bl	"std_alloc::vec::Vec::grow_amortized::<#cdd50f0e5dac12a4>"
-	cbz	w0, .LBB19_404
+	cbz	w0, .LBB19_408
 	ldr	x8, [sp, #136]
 	ldrb	w21, [sp, #153]
 	ldrb	w16, [sp, #152]
@@ -37065,21 +37065,21 @@ main:
 .LBB19_308:
 	sub	x22, x29, #24
 .LBB19_309:
-	sub	x8, x27, #1
 	stp	xzr, x19, [x29, #-80]
+	sub	x19, x27, #1
 	stp	xzr, xzr, [x29, #-64]
-	str	x8, [sp, #112]
-	cbz	x8, .LBB19_370
+	cbz	x19, .LBB19_370
 	cmp	w23, #1
-	str	x25, [sp, #120]
-	and	x8, x25, #0x7ffffff8
-	ldr	x25, [sp, #112]
+	mov	x8, x25
 	str	x20, [sp, #80]
 	mov	w9, wzr
 	mov	w12, wzr
 	mov	x20, xzr
 	add	x27, sp, #128
-	csinc	w19, w23, wzr, hi
+	csinc	w25, w23, wzr, hi
+	str	x8, [sp, #120]
+	and	x8, x8, #0x7ffffff8
+	str	x19, [sp, #104]
 	str	x8, [sp, #64]
 	b	.LBB19_314
 .LBB19_311:
@@ -37091,7 +37091,7 @@ main:
 	mov	w9, #1
 .LBB19_313:
 	add	x20, x20, #1
-	cmp	x20, x25
+	cmp	x20, x19
 	b.eq	.LBB19_368
 .LBB19_314:
 	mov	w8, #36
@@ -37170,18 +37170,18 @@ main:
 	b	.LBB19_354
 .LBB19_332:
 	ldr	x8, [sp, #120]
-	str	w12, [sp, #108]
+	str	w12, [sp, #112]
 	cbz	x8, .LBB19_345
-	ldr	x25, [sp, #80]
+	ldr	x19, [sp, #80]
 	mov	w1, #1
-	mov	x0, x25
+	mov	x0, x19
 	bl	rattle_alloc
-	tbz	w0, #0, .LBB19_402
+	tbz	w0, #0, .LBB19_406
 	sub	x8, x1, x22
-	mov	x2, x25
+	mov	x2, x19
 	mov	x24, x1
-	cmp	x8, x25
-	ldr	x25, [sp, #112]
+	cmp	x8, x19
+	ldr	x19, [sp, #104]
 	b.hs	.LBB19_346
 	ldr	x8, [sp, #120]
 	cmp	x8, #8
@@ -37243,7 +37243,7 @@ main:
 	cbz	x8, .LBB19_349
 	bl	rattle_dealloc
 .LBB19_349:
-	ldr	w12, [sp, #108]
+	ldr	w12, [sp, #112]
 	b	.LBB19_312
 .LBB19_350:
 	ldur	q0, [x24, #4]
@@ -37284,7 +37284,7 @@ main:
 	stp	xzr, xzr, [x27, #56]
 	sturb	wzr, [x27, #72]
 	cbz	w23, .LBB19_367
-	mov	w25, wzr
+	mov	w19, wzr
 	b	.LBB19_358
 .LBB19_356:
 	ldrb	w0, [x8]
@@ -37293,22 +37293,22 @@ main:
 	add	x1, sp, #1, lsl #12
 	str	wzr, [sp, #4232]
 	str	x8, [sp, #4224]
-	umull	x8, w26, w25
+	umull	x8, w26, w19
 	add	x1, x1, #128
-	str	w25, [sp, #4236]
+	str	w19, [sp, #4236]
 	str	w26, [sp, #4240]
 	add	x2, x22, x8, lsl #2
 	str	w28, [sp, #4244]
 	str	x26, [sp, #4248]
 	bl	"pix_ops::ops::Op::visit_slice::<#ce14eb345aebabfd>"
-	add	w25, w28, w25
-	cmp	w25, w23
+	add	w19, w28, w19
+	cmp	w19, w23
 	b.hs	.LBB19_366
 .LBB19_358:
-	sub	w9, w23, w25
+	sub	w9, w23, w19
 	ldrb	w8, [sp, #128]
-	cmp	w9, w19
-	csel	w28, w9, w19, lo
+	cmp	w9, w25
+	csel	w28, w9, w25, lo
 	cmp	w8, #3
 	b.gt	.LBB19_361
 	add	x8, x27, #24
@@ -37332,7 +37332,7 @@ main:
 .LBB19_366:
 	ldrb	w8, [x24]
 	add	x28, sp, #1, lsl #12
-	ldr	x25, [sp, #112]
+	ldr	x19, [sp, #104]
 	add	x28, x28, #128
 .LBB19_367:
 	cmp	w8, #1
@@ -37353,7 +37353,7 @@ main:
 	mov	w1, #1
 	bl	rattle_alloc
 	tbnz	w0, #0, .LBB19_383
-	b	.LBB19_390
+	b	.LBB19_395
 .LBB19_373:
 	mov	w25, #3
 	mov	x24, xzr
@@ -37389,16 +37389,16 @@ main:
 	cbnz	x15, .LBB19_246
 	b	.LBB19_247
 .LBB19_378:
-	cbz	w23, .LBB19_396
+	cbz	w23, .LBB19_400
 	mov	x0, x23
 	mov	w1, #1
 	bl	rattle_alloc
-	tbz	w0, #0, .LBB19_390
+	tbz	w0, #0, .LBB19_395
 	mov	x24, x1
 	cmp	w23, #1
-	b.ne	.LBB19_397
+	b.ne	.LBB19_401
 	mov	x19, xzr
-	b	.LBB19_398
+	b	.LBB19_402
 .LBB19_382:
 	sub	x1, x29, #24
 .LBB19_383:
@@ -37420,38 +37420,8 @@ main:
 	stp	q0, q0, [sp, #320]
 	stp	q0, q0, [sp, #352]
 	stp	q0, q0, [sp, #384]
+	b	.LBB19_385
 .LBB19_384:
-	cbz	x23, .LBB19_392
-	cmp	x23, #32
-	mov	w8, #32
-	add	x9, x24, #3
-	csel	x2, x23, x8, lo
-	mov	x10, x20
-	mov	x11, x2
-.LBB19_386:
-	ldurb	w12, [x9, #-3]
-	adrp	x13, .Lstatic.28
-	add	x13, x13, :lo12:.Lstatic.28
-	ldurb	w14, [x9, #-2]
-	ldurb	w15, [x9, #-1]
-	add	x16, x19, #1
-	ldrh	w12, [x13, x12, lsl #1]
-	ldrb	w17, [x9], #4
-	ldrh	w14, [x13, x14, lsl #1]
-	ldrh	w15, [x13, x15, lsl #1]
-	cmp	x16, x26
-	sturh	w12, [x10, #-4]
-	mov	w12, #10
-	ldrh	w13, [x13, x17, lsl #1]
-	csel	w12, w8, w12, lo
-	sturh	w14, [x10, #-2]
-	csinc	x19, xzr, x19, hs
-	strh	w15, [x10]
-	subs	x11, x11, #1
-	strh	w13, [x10, #2]
-	strb	w12, [x10, #4]
-	add	x10, x10, #9
-	b.ne	.LBB19_386
 	add	x0, sp, #1, lsl #12
 	add	x1, sp, #128
 	add	x24, x24, x2, lsl #2
@@ -37459,69 +37429,136 @@ main:
 	sub	x23, x23, x2
 	bl	"pix_script::pixel::push_cells"
 	and	w8, w0, #0xff
-	tbz	w8, #0, .LBB19_384
+	tbnz	w8, #0, .LBB19_393
+.LBB19_385:
+	cbz	x23, .LBB19_392
+	cmp	x23, #32
+	mov	w8, #32
+	mvn	x9, x19
+	csel	x2, x23, x8, lo
+	add	x10, x9, x26
+	adrp	x8, .Lstatic.28
+	add	x8, x8, :lo12:.Lstatic.28
+	cmp	x10, x2
+	csel	x9, x10, x2, lo
+	cbz	x10, .LBB19_389
+	add	x11, x24, #3
+	mov	x12, x20
+	mov	x13, x9
+.LBB19_388:
+	ldurb	w14, [x11, #-3]
+	ldurb	w15, [x11, #-2]
+	subs	x13, x13, #1
+	ldurb	w16, [x11, #-1]
+	ldrb	w17, [x11], #4
+	ldrh	w14, [x8, x14, lsl #1]
+	ldrh	w15, [x8, x15, lsl #1]
+	ldrh	w16, [x8, x16, lsl #1]
+	sturh	w14, [x12, #-4]
+	ldrh	w14, [x8, x17, lsl #1]
+	sturh	w15, [x12, #-2]
+	mov	w15, #32
+	strh	w16, [x12]
+	strh	w14, [x12, #2]
+	strb	w15, [x12, #4]
+	add	x12, x12, #9
+	b.ne	.LBB19_388
+.LBB19_389:
+	cmp	x10, x2
+	add	x19, x9, x19
+	b.hs	.LBB19_384
+	add	x10, x24, x9, lsl #2
+	add	x11, x9, x9, lsl #3
+	sub	x9, x2, x9
+	add	x10, x10, #3
+	add	x11, x20, x11
+.LBB19_391:
+	ldurb	w12, [x10, #-3]
+	ldurb	w13, [x10, #-2]
+	add	x14, x19, #1
+	ldurb	w15, [x10, #-1]
+	ldrb	w16, [x10], #4
+	ldrh	w12, [x8, x12, lsl #1]
+	cmp	x14, x26
+	ldrh	w13, [x8, x13, lsl #1]
+	mov	w14, #10
+	ldrh	w15, [x8, x15, lsl #1]
+	ldrh	w16, [x8, x16, lsl #1]
+	sturh	w12, [x11, #-4]
+	mov	w12, #32
+	csinc	x19, xzr, x19, hs
+	csel	w12, w12, w14, lo
+	sturh	w13, [x11, #-2]
+	subs	x9, x9, #1
+	strh	w15, [x11]
+	strh	w16, [x11, #2]
+	strb	w12, [x11, #4]
+	add	x11, x11, #9
+	b.ne	.LBB19_391
+	b	.LBB19_384
+.LBB19_392:
+	ldr	x24, [sp, #4224]
+	ldr	x20, [sp, #4232]
+	ldr	x23, [sp, #4240]
+	b	.LBB19_403
+.LBB19_393:
 	ldr	x8, [sp, #4240]
-	cbz	x8, .LBB19_390
+	cbz	x8, .LBB19_395
 	ldr	x0, [sp, #4224]
 	bl	rattle_dealloc
-.LBB19_390:
-	cbz	x25, .LBB19_394
-.LBB19_391:
+.LBB19_395:
+	cbz	x25, .LBB19_398
+.LBB19_396:
 	mov	x0, x22
 	bl	rattle_dealloc
 	mov	w19, wzr
 	mov	x20, xzr
 	mov	x25, xzr
-	b	.LBB19_395
-.LBB19_392:
-	ldr	x24, [sp, #4224]
-	ldr	x20, [sp, #4232]
-	ldr	x23, [sp, #4240]
 	b	.LBB19_399
-.LBB19_393:
+.LBB19_397:
 	mov	w25, #2
 	mov	x24, xzr
 	ldp	x26, x23, [sp, #88]
 	cbnz	x15, .LBB19_246
 	b	.LBB19_247
-.LBB19_394:
+.LBB19_398:
 	mov	w19, wzr
 	mov	x20, xzr
-.LBB19_395:
+.LBB19_399:
 	ldr	x22, [sp, #72]
 	mov	w24, #1
 	b	.LBB19_225
-.LBB19_396:
+.LBB19_400:
 	mov	x20, xzr
 	mov	x23, xzr
 	sub	x24, x29, #24
-	b	.LBB19_399
-.LBB19_397:
+	b	.LBB19_403
+.LBB19_401:
 	sub	x2, x23, #1
 	mov	x0, x24
 	mov	w1, #10
 	sub	x19, x23, #1
 	bl	memset
-.LBB19_398:
+.LBB19_402:
 	mov	w8, #10
 	strb	w8, [x24, x19]
 	add	x20, x19, #1
-.LBB19_399:
-	cbz	x25, .LBB19_401
+.LBB19_403:
+	cbz	x25, .LBB19_405
 	mov	x0, x22
 	bl	rattle_dealloc
-.LBB19_401:
+.LBB19_405:
 	ldr	x22, [sp, #72]
 	mov	w19, #1
 	mov	x25, x23
 	b	.LBB19_225
-.LBB19_402:
+.LBB19_406:
 	ldur	x8, [x29, #-56]
-	cbz	x8, .LBB19_391
+	cbz	x8, .LBB19_396
 	ldur	x0, [x29, #-72]
 	bl	rattle_dealloc
-	b	.LBB19_391
-.LBB19_404:
+	b	.LBB19_396
+.LBB19_408:
 	ldp	x26, x23, [sp, #88]
 	mov	x20, xzr
 	ldr	x15, [sp, #112]
@@ -37529,7 +37566,7 @@ main:
 	mov	w24, #1
 	cbnz	x15, .LBB19_246
 	b	.LBB19_247
-.LBB19_405:
+.LBB19_409:
 	ldr	x15, [sp, #4240]
 	mov	x20, xzr
 	mov	x25, xzr

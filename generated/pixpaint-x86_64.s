@@ -1,7 +1,7 @@
-/* pix 0.2.0: the program pixpaint, for x86-64-v2 under Linux.
+/* pix 0.3.0: the program pixpaint, for x86-64-v2 under Linux.
  * The code was proved before it was compiled; generated/README.md says what that means. Nobody edits this file: tools/generate makes it.
  *
- * sources: d52146372de9f6bcf90af110ca70813b8d47375609f757e6ab3544064c7f45e9, as tools/sources --sum pixpaint prints it
+ * sources: 2c546253f8028604fc3f683e1fbad194bc271e6b5483f775f4babc59150997f5, as tools/sources --sum pixpaint prints it
  * kit: rattle-kit-13f logic dac8208d650f15bf
  * verdict: logic=proved functions=1 axioms=6 target=x86_64-unknown-linux-gnu cpu=x86-64-v2 sum=dac8208d650f15bf native=nat,char,string logic-built=trusted libraries-built=trusted statements=trusted
  * made by: rattle build of crates/pixpaint, with clang -S -fno-verbose-asm -fno-addrsig in the place of clang -c
@@ -222,7 +222,7 @@
 	movdqu	%xmm0, 328(%rsp)
 	xorl	%r11d, %r11d
 	xorl	%r10d, %r10d
-	movq	%r15, 200(%rsp)
+	movq	%r15, 176(%rsp)
 	movq	%r12, 216(%rsp)
 	jmp	.LBB0_33
 	.p2align	4
@@ -386,7 +386,7 @@
 	movl	$1, %esi
 	callq	"std_alloc::vec::Vec::grow_amortized::<#c573f30ac4e8249c>"
 	testb	%al, %al
-	je	.LBB0_404
+	je	.LBB0_408
 	movq	328(%rsp), %rcx
 	movq	336(%rsp), %r11
 	jmp	.LBB0_61
@@ -418,8 +418,8 @@
 	movq	%r8, 32(%rsp)
 	decq	%rsi
 	movq	%rsi, 48(%rsp)
-	movl	$0, 192(%rsp)
-	movq	$0, 184(%rsp)
+	movl	$0, 200(%rsp)
+	movq	$0, 192(%rsp)
 	cmpq	$5, %rax
 	je	.LBB0_77
 	cmpq	$4, %rax
@@ -476,11 +476,11 @@
 	jne	.LBB0_206
 	movq	80(%rbx), %rsi
 	movq	88(%rbx), %rdx
-	leaq	179(%rsp), %rdi
+	leaq	187(%rsp), %rdi
 	callq	"pix_script::number::color"
-	cmpb	$1, 179(%rsp)
+	cmpb	$1, 187(%rsp)
 	jne	.LBB0_211
-	movl	180(%rsp), %eax
+	movl	188(%rsp), %eax
 	movq	%rax, 88(%rsp)
 	movq	116(%rsp), %xmm0
 	movdqa	%xmm0, 304(%rsp)
@@ -708,11 +708,11 @@
 	jne	.LBB0_136
 	movq	96(%rbx), %rsi
 	movq	104(%rbx), %rdx
-	leaq	179(%rsp), %rdi
+	leaq	187(%rsp), %rdi
 	callq	"pix_script::number::color"
-	cmpb	$1, 179(%rsp)
+	cmpb	$1, 187(%rsp)
 	jne	.LBB0_136
-	movl	180(%rsp), %eax
+	movl	188(%rsp), %eax
 	movq	%rax, 88(%rsp)
 	movq	116(%rsp), %xmm0
 	movdqa	%xmm0, 304(%rsp)
@@ -864,9 +864,9 @@
 	movq	%rax, 88(%rsp)
 	leaq	120(%rsp), %rcx
 	movq	(%rcx), %rax
-	movq	%rax, 184(%rsp)
+	movq	%rax, 192(%rsp)
 	movl	8(%rcx), %eax
-	movl	%eax, 192(%rsp)
+	movl	%eax, 200(%rsp)
 	movb	$1, %al
 	movb	$6, %cl
 	movq	%rcx, 80(%rsp)
@@ -908,8 +908,8 @@
 	movzbl	72(%rsp), %r14d
 	jmp	.LBB0_138
 .LBB0_127:
-	movl	$0, 192(%rsp)
-	movq	$0, 184(%rsp)
+	movl	$0, 200(%rsp)
+	movq	$0, 192(%rsp)
 	movq	$0, 152(%rsp)
 	movq	$0, 80(%rsp)
 	movq	$0, 96(%rsp)
@@ -936,8 +936,8 @@
 	movq	32(%rsp), %r9
 	jmp	.LBB0_214
 .LBB0_130:
-	movl	$0, 192(%rsp)
-	movq	$0, 184(%rsp)
+	movl	$0, 200(%rsp)
+	movq	$0, 192(%rsp)
 	movq	$0, 152(%rsp)
 	movq	$0, 80(%rsp)
 	movq	$0, 96(%rsp)
@@ -950,9 +950,9 @@
 	movzbl	72(%rsp), %r14d
 	movq	48(%rsp), %rdx
 .LBB0_132:
-	movq	184(%rsp), %rcx
+	movq	192(%rsp), %rcx
 	movq	%rcx, 160(%rsp)
-	movl	192(%rsp), %ecx
+	movl	200(%rsp), %ecx
 	movl	%ecx, 168(%rsp)
 	movb	$1, %cl
 	movq	%rcx, 280(%rsp)
@@ -1371,7 +1371,7 @@
 	leaq	464(%rsp), %rdi
 	callq	"std_alloc::vec::Vec::grow_amortized::<#cdd50f0e5dac12a4>"
 	testb	%al, %al
-	je	.LBB0_403
+	je	.LBB0_407
 	movq	472(%rsp), %rax
 	movzbl	488(%rsp), %r9d
 	movzbl	489(%rsp), %ebp
@@ -1419,7 +1419,7 @@
 	callq	rattle_dealloc@PLT
 .LBB0_218:
 	testq	%r14, %r14
-	movq	200(%rsp), %r13
+	movq	176(%rsp), %r13
 	je	.LBB0_220
 	cmpb	$0, (%rbx)
 	je	.LBB0_234
@@ -1690,13 +1690,13 @@
 	movq	%r13, %rdi
 	callq	rattle_alloc@PLT
 	testb	$1, %al
-	je	.LBB0_400
+	je	.LBB0_404
 	movq	%rdx, %r15
 	movq	%rdx, %rax
 	subq	%rbx, %rax
 	movq	%r13, %rdx
 	cmpq	%r13, %rax
-	movq	200(%rsp), %r13
+	movq	176(%rsp), %r13
 	jae	.LBB0_282
 	xorl	%eax, %eax
 	movq	56(%rsp), %rdx
@@ -1880,7 +1880,7 @@
 .LBB0_309:
 	movq	40(%rsp), %rax
 	movzbl	(%rax), %eax
-	movq	200(%rsp), %r13
+	movq	176(%rsp), %r13
 	movq	72(%rsp), %r15
 .LBB0_310:
 	cmpb	$1, %al
@@ -1909,7 +1909,7 @@
 	callq	rattle_alloc@PLT
 	testb	$1, %al
 	jne	.LBB0_382
-	jmp	.LBB0_389
+	jmp	.LBB0_394
 .LBB0_317:
 	movl	$3, %eax
 	jmp	.LBB0_324
@@ -1921,7 +1921,7 @@
 	movl	$1, %ebp
 	xorl	%r10d, %r10d
 	movq	$0, 32(%rsp)
-	jmp	.LBB0_392
+	jmp	.LBB0_397
 .LBB0_320:
 	movl	$1, %eax
 	jmp	.LBB0_324
@@ -1937,7 +1937,7 @@
 	movq	%rax, 32(%rsp)
 .LBB0_325:
 	xorl	%ebp, %ebp
-	movq	200(%rsp), %r13
+	movq	176(%rsp), %r13
 .LBB0_326:
 	testq	%r11, %r11
 	je	.LBB0_328
@@ -2288,17 +2288,17 @@
 .LBB0_377:
 	movq	32(%rsp), %r14
 	testl	%r14d, %r14d
-	je	.LBB0_394
+	je	.LBB0_398
 	movl	$1, %esi
 	movq	%r14, %rdi
 	callq	rattle_alloc@PLT
 	testb	$1, %al
-	je	.LBB0_389
+	je	.LBB0_394
 	movq	%rdx, %rbp
 	cmpl	$1, %r14d
-	jne	.LBB0_395
+	jne	.LBB0_399
 	xorl	%r10d, %r10d
-	jmp	.LBB0_396
+	jmp	.LBB0_400
 .LBB0_381:
 	leaq	24(%rsp), %rdx
 .LBB0_382:
@@ -2311,115 +2311,154 @@
 	xorl	%esi, %esi
 	callq	memset@PLT
 	movq	56(%rsp), %rcx
-	movq	%rcx, %r15
-	movq	%rbx, %r12
+	movq	%rcx, %r12
+	movq	%rbx, %r13
+	jmp	.LBB0_384
 .LBB0_383:
-	testq	%r15, %r15
-	je	.LBB0_393
-	cmpq	$32, %r15
-	movl	$32, %edx
-	cmovbq	%r15, %rdx
-	leaq	(%rdx,%rdx,8), %rax
-	leaq	3(%r12), %rcx
-	xorl	%esi, %esi
-	.p2align	4
-.LBB0_385:
-	movq	%r14, %rdi
-	incq	%rdi
-	xorl	%r14d, %r14d
-	cmpq	%rbp, %rdi
-	movl	$32, %r8d
-	movl	$10, %r9d
-	cmovbl	%r8d, %r9d
-	cmovbq	%rdi, %r14
-	movzbl	-3(%rcx), %edi
-	leaq	.Lstatic.28(%rip), %r8
-	movzwl	(%r8,%rdi,2), %edi
-	movzbl	-2(%rcx), %r10d
-	movzwl	(%r8,%r10,2), %r10d
-	movzbl	-1(%rcx), %r11d
-	movzwl	(%r8,%r11,2), %r11d
-	movzbl	(%rcx), %r13d
-	movzwl	(%r8,%r13,2), %r8d
-	movw	%di, 464(%rsp,%rsi)
-	movw	%r10w, 466(%rsp,%rsi)
-	movw	%r11w, 468(%rsp,%rsi)
-	movw	%r8w, 470(%rsp,%rsi)
-	movb	%r9b, 472(%rsp,%rsi)
-	addq	$9, %rsi
-	addq	$4, %rcx
-	cmpq	%rsi, %rax
-	jne	.LBB0_385
-	leaq	(%r12,%rdx,4), %r12
-	subq	%rdx, %r15
+	movl	%edx, %eax
+	leaq	(%r13,%rax,4), %r13
+	subq	%rdx, %r12
 	leaq	320(%rsp), %rdi
 	leaq	464(%rsp), %rsi
 	callq	"pix_script::pixel::push_cells"
 	testb	%al, %al
-	movq	200(%rsp), %r13
 	movq	56(%rsp), %rcx
-	je	.LBB0_383
-	cmpq	$0, 336(%rsp)
-	movq	216(%rsp), %r12
-	je	.LBB0_389
-	movq	320(%rsp), %rdi
-	callq	rattle_dealloc@PLT
-.LBB0_389:
-	cmpq	$0, 56(%rsp)
+	jne	.LBB0_392
+.LBB0_384:
+	testq	%r12, %r12
 	je	.LBB0_391
-	movq	%rbx, %rdi
-	callq	rattle_dealloc@PLT
+	cmpq	$32, %r12
+	movl	$32, %edx
+	cmovbq	%r12, %rdx
+	movq	%r14, %rcx
+	notq	%rcx
+	addq	%rbp, %rcx
+	cmpq	%rdx, %rcx
+	movq	%rdx, %rax
+	cmovbq	%rcx, %rax
+	testq	%rcx, %rcx
+	je	.LBB0_388
+	xorl	%esi, %esi
+	leaq	472(%rsp), %rdi
+	.p2align	4
+.LBB0_387:
+	movzbl	(%r13,%rsi,4), %r8d
+	leaq	.Lstatic.28(%rip), %r9
+	movzwl	(%r9,%r8,2), %r8d
+	movzbl	1(%r13,%rsi,4), %r10d
+	movzwl	(%r9,%r10,2), %r10d
+	movzbl	2(%r13,%rsi,4), %r11d
+	movzwl	(%r9,%r11,2), %r11d
+	movzbl	3(%r13,%rsi,4), %r15d
+	movzwl	(%r9,%r15,2), %r9d
+	movw	%r8w, -8(%rdi)
+	movw	%r10w, -6(%rdi)
+	movw	%r11w, -4(%rdi)
+	movw	%r9w, -2(%rdi)
+	movb	$32, (%rdi)
+	incq	%rsi
+	addq	$9, %rdi
+	cmpq	%rsi, %rax
+	jne	.LBB0_387
+.LBB0_388:
+	addq	%rax, %r14
+	cmpq	%rdx, %rcx
+	jae	.LBB0_383
+	leaq	(%rax,%rax,8), %rcx
+	leaq	472(%rsp), %rsi
+	addq	%rsi, %rcx
+	.p2align	4
+.LBB0_390:
+	incq	%r14
+	xorl	%esi, %esi
+	cmpq	%rbp, %r14
+	movl	$32, %edi
+	movl	$10, %r8d
+	cmovbl	%edi, %r8d
+	cmovaeq	%rsi, %r14
+	movzbl	(%r13,%rax,4), %esi
+	leaq	.Lstatic.28(%rip), %rdi
+	movzwl	(%rdi,%rsi,2), %esi
+	movzbl	1(%r13,%rax,4), %r9d
+	movzwl	(%rdi,%r9,2), %r9d
+	movzbl	2(%r13,%rax,4), %r10d
+	movzwl	(%rdi,%r10,2), %r10d
+	movzbl	3(%r13,%rax,4), %r11d
+	movzwl	(%rdi,%r11,2), %edi
+	movw	%si, -8(%rcx)
+	movw	%r9w, -6(%rcx)
+	movw	%r10w, -4(%rcx)
+	movw	%di, -2(%rcx)
+	movb	%r8b, (%rcx)
+	incq	%rax
+	addq	$9, %rcx
+	cmpq	%rax, %rdx
+	jne	.LBB0_390
+	jmp	.LBB0_383
 .LBB0_391:
-	xorl	%r14d, %r14d
-	xorl	%r10d, %r10d
-	movq	$0, 32(%rsp)
-	movl	$1, %ebp
-.LBB0_392:
-	movq	240(%rsp), %rbx
-	movq	72(%rsp), %r15
-	jmp	.LBB0_221
-.LBB0_393:
 	movq	320(%rsp), %rbp
 	movq	328(%rsp), %r10
 	movq	336(%rsp), %rax
 	movq	%rax, 32(%rsp)
 	movq	216(%rsp), %r12
+	movq	176(%rsp), %r13
 	movq	72(%rsp), %r15
-	jmp	.LBB0_397
+	jmp	.LBB0_401
+.LBB0_392:
+	cmpq	$0, 336(%rsp)
+	movq	216(%rsp), %r12
+	movq	176(%rsp), %r13
+	je	.LBB0_394
+	movq	320(%rsp), %rdi
+	callq	rattle_dealloc@PLT
 .LBB0_394:
+	cmpq	$0, 56(%rsp)
+	je	.LBB0_396
+	movq	%rbx, %rdi
+	callq	rattle_dealloc@PLT
+.LBB0_396:
+	xorl	%r14d, %r14d
+	xorl	%r10d, %r10d
+	movq	$0, 32(%rsp)
+	movl	$1, %ebp
+.LBB0_397:
+	movq	240(%rsp), %rbx
+	movq	72(%rsp), %r15
+	jmp	.LBB0_221
+.LBB0_398:
 	leaq	24(%rsp), %rbp
 	xorl	%r10d, %r10d
 	movq	$0, 32(%rsp)
-	jmp	.LBB0_397
-.LBB0_395:
+	jmp	.LBB0_401
+.LBB0_399:
 	decq	%r14
 	movq	%rbp, %rdi
 	movl	$10, %esi
 	movq	%r14, %rdx
 	callq	memset@PLT
 	movq	%r14, %r10
-.LBB0_396:
+.LBB0_400:
 	movb	$10, (%rbp,%r10)
 	incq	%r10
 	movq	72(%rsp), %r15
 	movq	56(%rsp), %rcx
-.LBB0_397:
+.LBB0_401:
 	movb	$1, %r14b
 	testq	%rcx, %rcx
-	je	.LBB0_399
+	je	.LBB0_403
 	movq	%rbx, %rdi
 	movq	%r10, %rbx
 	callq	rattle_dealloc@PLT
 	movq	%rbx, %r10
-.LBB0_399:
+.LBB0_403:
 	movq	240(%rsp), %rbx
 	jmp	.LBB0_221
-.LBB0_400:
+.LBB0_404:
 	cmpq	$0, 136(%rsp)
-	je	.LBB0_402
+	je	.LBB0_406
 	movq	120(%rsp), %rdi
 	callq	rattle_dealloc@PLT
-.LBB0_402:
+.LBB0_406:
 	movq	%rbx, %rdi
 	callq	rattle_dealloc@PLT
 	movl	$1, %ebp
@@ -2429,24 +2468,24 @@
 	movq	216(%rsp), %r12
 	movq	240(%rsp), %rbx
 	movq	72(%rsp), %r15
-	movq	200(%rsp), %r13
+	movq	176(%rsp), %r13
 	jmp	.LBB0_221
-.LBB0_403:
+.LBB0_407:
 	movl	$1, %ebp
 	xorl	%r10d, %r10d
 	movq	$0, 32(%rsp)
-	movq	200(%rsp), %r13
+	movq	176(%rsp), %r13
 	movq	40(%rsp), %r11
 	jmp	.LBB0_326
-.LBB0_404:
+.LBB0_408:
 	movq	336(%rsp), %r11
 	xorl	%r10d, %r10d
 	movq	$0, 32(%rsp)
 	movq	216(%rsp), %r12
-	movq	200(%rsp), %r13
+	movq	176(%rsp), %r13
 	movl	$1, %ebp
 	jmp	.LBB0_326
-.LBB0_405:
+.LBB0_409:
 	ud2
 .Lfunc_end0:
 	.size	"pixpaint::main+start", .Lfunc_end0-"pixpaint::main+start"
@@ -2462,7 +2501,7 @@
 	.long	.LBB0_295-.LJTI0_1
 	.long	.LBB0_293-.LJTI0_1
 	.long	.LBB0_294-.LJTI0_1
-	.long	.LBB0_405-.LJTI0_1
+	.long	.LBB0_409-.LJTI0_1
 	.long	.LBB0_297-.LJTI0_1
 	.long	.LBB0_296-.LJTI0_1
 .LJTI0_2:
@@ -3876,7 +3915,7 @@
 	leaq	624(%rsp), %rdx
 	leaq	752(%rsp), %rcx
 	movq	%r8, 192(%rsp)
-	callq	"pix_raster::lent::masked::overlap_in"
+	callq	"pix_raster::view::masked::overlap_in"
 	movq	576(%rsp), %r15
 	movq	584(%rsp), %rbp
 	movq	592(%rsp), %rax
@@ -3894,7 +3933,7 @@
 	movq	%r14, 32(%rsp)
 	movl	%r14d, %r8d
 	movl	16(%rsp), %r9d
-	callq	"pix_raster::lent::masked::overlap_in"
+	callq	"pix_raster::view::masked::overlap_in"
 	movq	576(%rsp), %rsi
 	movq	584(%rsp), %rdx
 	movq	600(%rsp), %r8
@@ -4384,7 +4423,7 @@
 	leaq	640(%rsp), %rsi
 	leaq	624(%rsp), %rdx
 	leaq	752(%rsp), %rcx
-	callq	"pix_raster::lent::masked::overlap_in"
+	callq	"pix_raster::view::masked::overlap_in"
 	movq	576(%rsp), %r12
 	movq	584(%rsp), %r15
 	movq	600(%rsp), %rbx
@@ -4397,7 +4436,7 @@
 	leaq	752(%rsp), %rcx
 	movl	16(%rsp), %r8d
 	movl	%ebp, %r9d
-	callq	"pix_raster::lent::masked::overlap_in"
+	callq	"pix_raster::view::masked::overlap_in"
 	movq	%rbx, %r8
 	movq	%r12, %r11
 	movq	576(%rsp), %rax
@@ -4566,7 +4605,7 @@
 	leaq	624(%rsp), %rdx
 	leaq	752(%rsp), %rcx
 	movq	%r8, 96(%rsp)
-	callq	"pix_raster::lent::masked::overlap_in"
+	callq	"pix_raster::view::masked::overlap_in"
 	movq	576(%rsp), %r15
 	movq	584(%rsp), %rbp
 	movq	592(%rsp), %rax
@@ -4585,7 +4624,7 @@
 	movq	%rbx, 16(%rsp)
 	movl	%ebx, %r8d
 	movl	(%rsp), %r9d
-	callq	"pix_raster::lent::masked::overlap_in"
+	callq	"pix_raster::view::masked::overlap_in"
 	movq	576(%rsp), %rsi
 	movq	584(%rsp), %rdx
 	movq	600(%rsp), %r8
@@ -5163,7 +5202,7 @@
 	leaq	624(%rsp), %rdx
 	leaq	752(%rsp), %rcx
 	movq	%r8, 96(%rsp)
-	callq	"pix_raster::lent::masked::overlap_in"
+	callq	"pix_raster::view::masked::overlap_in"
 	movq	576(%rsp), %r12
 	movq	%r15, %rax
 	movq	584(%rsp), %r15
@@ -5181,7 +5220,7 @@
 	leaq	752(%rsp), %rcx
 	movl	%r13d, %r8d
 	movl	%ebx, %r9d
-	callq	"pix_raster::lent::masked::overlap_in"
+	callq	"pix_raster::view::masked::overlap_in"
 	movq	576(%rsp), %rsi
 	movq	584(%rsp), %rdx
 	movq	600(%rsp), %r8
@@ -5698,7 +5737,7 @@
 	leaq	784(%rsp), %rdx
 	leaq	720(%rsp), %rcx
 	movq	%r8, 224(%rsp)
-	callq	"pix_raster::lent::masked::overlap_in"
+	callq	"pix_raster::view::masked::overlap_in"
 	movq	576(%rsp), %r13
 	movq	584(%rsp), %r12
 	movq	592(%rsp), %rax
@@ -5715,7 +5754,7 @@
 	leaq	720(%rsp), %rcx
 	movl	%ebp, %r8d
 	movl	(%rsp), %r9d
-	callq	"pix_raster::lent::masked::overlap_in"
+	callq	"pix_raster::view::masked::overlap_in"
 	movq	32(%rsp), %r10
 	movq	576(%rsp), %rsi
 	movq	584(%rsp), %rdx
@@ -6402,7 +6441,7 @@
 	leaq	752(%rsp), %rdx
 	leaq	816(%rsp), %rcx
 	movq	%r8, 96(%rsp)
-	callq	"pix_raster::lent::masked::overlap_in"
+	callq	"pix_raster::view::masked::overlap_in"
 	movq	576(%rsp), %r13
 	movq	584(%rsp), %r12
 	movq	592(%rsp), %rax
@@ -6420,7 +6459,7 @@
 	leaq	816(%rsp), %rcx
 	movl	%ebp, %r8d
 	movl	16(%rsp), %r9d
-	callq	"pix_raster::lent::masked::overlap_in"
+	callq	"pix_raster::view::masked::overlap_in"
 	movq	(%rsp), %r10
 	movq	576(%rsp), %rsi
 	movq	584(%rsp), %rdx
@@ -7042,7 +7081,7 @@
 	leaq	624(%rsp), %rdx
 	leaq	752(%rsp), %rcx
 	movq	%r8, 144(%rsp)
-	callq	"pix_raster::lent::masked::overlap_in"
+	callq	"pix_raster::view::masked::overlap_in"
 	movq	576(%rsp), %r15
 	movq	584(%rsp), %rbp
 	movq	592(%rsp), %rax
@@ -7059,7 +7098,7 @@
 	leaq	752(%rsp), %rcx
 	movq	16(%rsp), %r8
 	movl	(%rsp), %r9d
-	callq	"pix_raster::lent::masked::overlap_in"
+	callq	"pix_raster::view::masked::overlap_in"
 	movq	576(%rsp), %rsi
 	movq	584(%rsp), %rdx
 	movq	600(%rsp), %r8
@@ -7659,7 +7698,7 @@
 	leaq	784(%rsp), %rdx
 	leaq	720(%rsp), %rcx
 	movq	%r8, 208(%rsp)
-	callq	"pix_raster::lent::masked::overlap_in"
+	callq	"pix_raster::view::masked::overlap_in"
 	movq	576(%rsp), %r13
 	movq	584(%rsp), %r12
 	movq	592(%rsp), %rax
@@ -7676,7 +7715,7 @@
 	leaq	720(%rsp), %rcx
 	movl	%ebp, %r8d
 	movl	16(%rsp), %r9d
-	callq	"pix_raster::lent::masked::overlap_in"
+	callq	"pix_raster::view::masked::overlap_in"
 	movq	32(%rsp), %r10
 	movq	576(%rsp), %rsi
 	movq	584(%rsp), %rdx
@@ -8263,7 +8302,7 @@
 	leaq	624(%rsp), %rdx
 	leaq	752(%rsp), %rcx
 	movq	%r8, 144(%rsp)
-	callq	"pix_raster::lent::masked::overlap_in"
+	callq	"pix_raster::view::masked::overlap_in"
 	movq	576(%rsp), %r15
 	movq	584(%rsp), %rbp
 	movq	592(%rsp), %rax
@@ -8280,7 +8319,7 @@
 	leaq	752(%rsp), %rcx
 	movq	272(%rsp), %r8
 	movl	(%rsp), %r9d
-	callq	"pix_raster::lent::masked::overlap_in"
+	callq	"pix_raster::view::masked::overlap_in"
 	movq	576(%rsp), %rsi
 	movq	584(%rsp), %rdx
 	movq	600(%rsp), %r8
@@ -8850,7 +8889,7 @@
 	leaq	784(%rsp), %rdx
 	leaq	720(%rsp), %rcx
 	movq	%r8, 208(%rsp)
-	callq	"pix_raster::lent::masked::overlap_in"
+	callq	"pix_raster::view::masked::overlap_in"
 	movq	576(%rsp), %r13
 	movq	584(%rsp), %r12
 	movq	592(%rsp), %rax
@@ -8868,7 +8907,7 @@
 	movq	%rbp, 16(%rsp)
 	movl	%ebp, %r8d
 	movl	(%rsp), %r9d
-	callq	"pix_raster::lent::masked::overlap_in"
+	callq	"pix_raster::view::masked::overlap_in"
 	movq	576(%rsp), %rsi
 	movq	584(%rsp), %rdx
 	movq	600(%rsp), %r8
@@ -9452,7 +9491,7 @@
 	leaq	784(%rsp), %rdx
 	leaq	720(%rsp), %rcx
 	movq	%r8, 224(%rsp)
-	callq	"pix_raster::lent::masked::overlap_in"
+	callq	"pix_raster::view::masked::overlap_in"
 	movq	576(%rsp), %r13
 	movq	584(%rsp), %r12
 	movq	592(%rsp), %rax
@@ -9469,7 +9508,7 @@
 	leaq	720(%rsp), %rcx
 	movl	%ebp, %r8d
 	movl	32(%rsp), %r9d
-	callq	"pix_raster::lent::masked::overlap_in"
+	callq	"pix_raster::view::masked::overlap_in"
 	movq	(%rsp), %rax
 	movq	576(%rsp), %rsi
 	movq	584(%rsp), %rdx
@@ -10167,7 +10206,7 @@
 	leaq	784(%rsp), %rdx
 	leaq	720(%rsp), %rcx
 	movq	%r8, 224(%rsp)
-	callq	"pix_raster::lent::masked::overlap_in"
+	callq	"pix_raster::view::masked::overlap_in"
 	movq	576(%rsp), %r13
 	movq	584(%rsp), %r12
 	movq	592(%rsp), %rax
@@ -10184,7 +10223,7 @@
 	leaq	720(%rsp), %rcx
 	movl	%ebp, %r8d
 	movl	(%rsp), %r9d
-	callq	"pix_raster::lent::masked::overlap_in"
+	callq	"pix_raster::view::masked::overlap_in"
 	movq	32(%rsp), %r10
 	movq	576(%rsp), %rsi
 	movq	584(%rsp), %rdx
@@ -11486,7 +11525,7 @@
 .LBB9_396:
 	movq	%r9, %rdi
 .LBB9_397:
-	callq	"pix_raster::lent::fill_window::<#c41203c8e548980e>"
+	callq	"pix_raster::view::fill_window::<#c41203c8e548980e>"
 .LBB9_398:
 	addq	$1000, %rsp
 	popq	%rbx
@@ -49492,10 +49531,10 @@
 	.long	.LBB9_2-.LJTI9_13
 	.long	.LBB9_2-.LJTI9_13
 
-	.section	".text.pix_raster::lent::fill_window::<#c41203c8e548980e>","ax",@progbits
+	.section	".text.pix_raster::view::fill_window::<#c41203c8e548980e>","ax",@progbits
 	.p2align	4
-	.type	"pix_raster::lent::fill_window::<#c41203c8e548980e>",@function
-"pix_raster::lent::fill_window::<#c41203c8e548980e>":
+	.type	"pix_raster::view::fill_window::<#c41203c8e548980e>",@function
+"pix_raster::view::fill_window::<#c41203c8e548980e>":
 	pushq	%rbp
 	pushq	%r15
 	pushq	%r14
@@ -49674,7 +49713,7 @@
 	jne	.LBB10_14
 	jmp	.LBB10_15
 .Lfunc_end10:
-	.size	"pix_raster::lent::fill_window::<#c41203c8e548980e>", .Lfunc_end10-"pix_raster::lent::fill_window::<#c41203c8e548980e>"
+	.size	"pix_raster::view::fill_window::<#c41203c8e548980e>", .Lfunc_end10-"pix_raster::view::fill_window::<#c41203c8e548980e>"
 
 	.section	".text.pix_raster::raster::window::blit_from::<#d0c343f678e302d3>","ax",@progbits
 	.p2align	4
@@ -50118,10 +50157,10 @@
 .Lfunc_end11:
 	.size	"pix_raster::raster::window::blit_from::<#d0c343f678e302d3>", .Lfunc_end11-"pix_raster::raster::window::blit_from::<#d0c343f678e302d3>"
 
-	.section	".text.pix_raster::lent::masked::overlap_in","ax",@progbits
+	.section	".text.pix_raster::view::masked::overlap_in","ax",@progbits
 	.p2align	4
-	.type	"pix_raster::lent::masked::overlap_in",@function
-"pix_raster::lent::masked::overlap_in":
+	.type	"pix_raster::view::masked::overlap_in",@function
+"pix_raster::view::masked::overlap_in":
 	pushq	%rbp
 	pushq	%r15
 	pushq	%r14
@@ -50304,7 +50343,7 @@
 	popq	%rbp
 	retq
 .Lfunc_end12:
-	.size	"pix_raster::lent::masked::overlap_in", .Lfunc_end12-"pix_raster::lent::masked::overlap_in"
+	.size	"pix_raster::view::masked::overlap_in", .Lfunc_end12-"pix_raster::view::masked::overlap_in"
 
 	.section	.rodata.cst16,"aM",@progbits,16
 	.p2align	4, 0x0
