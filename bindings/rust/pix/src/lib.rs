@@ -35,7 +35,7 @@
 //! be written. Both hold for each address of that memory.
 //!
 //! A call takes up to 256 KiB of stack to match pixels to a table ([`ColorTable::map_indexed`], [`ColorTable::diffuse_indexed`]),
-//! and for [`quantize_refined`]. It takes 96 KiB for [`quantize`] and [`quantize_rgba`], 32 for [`index_pixels`] and to match to
+//! and for [`quantize_refined`]. It takes 128 KiB for [`quantize`] and [`quantize_rgba`], 32 for [`index_pixels`] and to match to
 //! a [`RgbaTable`], and 16 for all else. Threads of `std` have 2 MiB.
 //!
 //! docs/PROMISES.md of the repository lists all calls in four languages, and what is proved of each.
