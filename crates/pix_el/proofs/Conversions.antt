@@ -1,11 +1,11 @@
 -- Pixels made of four channels, and how they are converted.
 use Rattle.std.proofs.Common.{◌≡◌, ℕ, ◌≤◌, ◌+◌, List, [], ◌∷◌, length, map, take, refl, sym, ap, ◌∙◌, arith}
-use Rattle.std.specs.Prelude.{nat_eq, true, false, ◌≢◌}
+use Rattle.std.specs.Prelude.{Bool, nat_eq, true, false, ◌≢◌, if◌then◌else◌}
 use Rattle.std.specs.List.{range_with_len}
 use Rattle.std.proofs.lemmas.List.FromFn.{take-map-range_with_len}
 use Rattle.pix_chan.specs.Runs.{over}
 use Rattle.pix_chan.specs.Modes.{AlphaMode, Straight, Premultiplied, alpha_kind, GammaMode, Linear, Srgb, gamma_kind, to_linear}
-use Rattle.pix_el.specs.Pixel.{Layout, channel}
+use Rattle.pix_el.specs.Pixel.{Layout, lies_in, channel, alpha_of}
 use Rattle.pix_el.specs.Color.{rgba_of, of_rgba}
 use Rattle.pix_el.specs.Conversion.{Format, at_depth, reencoded, of_depth, channel_reencoded, within_model, rgba_format, across_models, converted}
 use Rattle.pix_el.specs.Planes.{linear_four, premultiplied_four}
@@ -136,3 +136,50 @@ list_premultiplied convert linear premultiplied is [] (d ∷ dest) h = absurd (o
 list_premultiplied convert linear premultiplied is (s ∷ source) (d ∷ dest) h =
     ap (λ (p : List ℕ). p ∷ map premultiplied (map linear source)) (sym (is s))
     ∙ ap (λ (l : List (List ℕ)). convert s ∷ l) (list_premultiplied convert linear premultiplied is source dest (omega arith))
+
+-- lists made by functions that are alike
+pub map_alike : {X Y : Type 0} (f g : X → Y) → ((x : X) → f x ≡ g x) → (xs : List X) → map f xs ≡ map g xs
+map_alike f g same [] = refl
+map_alike {Y = Y} f g same (x ∷ xs) = ap (λ (y : Y). y ∷ map f xs) (same x) ∙ ap (λ (l : List Y). g x ∷ l) (map_alike f g same xs)
+
+-- a channel in the same modes
+mode_kept : (max : ℕ) (mode : AlphaMode) (gamma : GammaMode) (to_mode : AlphaMode) (to_gamma : GammaMode) (alpha x : ℕ)
+    → alpha_kind mode ≡ alpha_kind to_mode → gamma_kind gamma ≡ gamma_kind to_gamma → reencoded max mode gamma to_mode to_gamma alpha x ≡ x
+mode_kept max mode gamma to_mode to_gamma alpha x ea eg =
+    let t : nat_eq (alpha_kind mode) (alpha_kind to_mode) ≡ true = grind (arith, ea) in
+    let u : nat_eq (gamma_kind gamma) (gamma_kind to_gamma) ≡ true = grind (arith, eg) in
+    rw (t, u) refl
+
+either_kept : (b : Bool) (x y : ℕ) → x ≡ y → (if b then x else y) ≡ y
+either_kept true x y e = e
+either_kept false x y e = refl
+
+channel_kept : (format to : Format) (gamma to_gamma : GammaMode) (pixel : List ℕ) (ch : ℕ)
+    → alpha_kind format.alpha_mode ≡ alpha_kind to.alpha_mode → gamma_kind gamma ≡ gamma_kind to_gamma
+    → channel_reencoded format gamma to to_gamma pixel ch ≡ channel to.layout.max pixel ch
+channel_kept format to gamma to_gamma pixel ch ea eg =
+    let x = channel to.layout.max pixel ch in
+    let alpha = alpha_of to.layout pixel in
+    either_kept (lies_in to.colors ch) (reencoded to.layout.max format.alpha_mode gamma to.alpha_mode to_gamma alpha x) x
+    (mode_kept to.layout.max format.alpha_mode gamma to.alpha_mode to_gamma alpha x ea eg)
+
+-- four channels at another depth are what they are
+four_of_depth : (layout to : Layout) (pixel : List ℕ) → to.count ≡ 4
+    → map (channel to.max (of_depth layout to pixel)) (range_with_len 0 to.count) ≡ of_depth layout to pixel
+four_of_depth layout to pixel count = rw count refl
+
+-- a conversion to four channels within one model and in the same modes
+pub converted_of_depth : (format to stated to_stated : Format) (gamma to_gamma : GammaMode) (layout to_layout : Layout) (pixel : List ℕ)
+    → format ≡ stated → to ≡ to_stated → layout ≡ stated.layout → to_layout ≡ to_stated.layout → stated.kind ≡ to_stated.kind
+    → alpha_kind stated.alpha_mode ≡ alpha_kind to_stated.alpha_mode → gamma_kind gamma ≡ gamma_kind to_gamma → to_stated.layout.count ≡ 4
+    → converted format gamma to to_gamma pixel ≡ of_depth layout to_layout pixel
+converted_of_depth format to stated to_stated gamma to_gamma layout to_layout pixel ef et el em same ea eg count =
+    let made = of_depth stated.layout to_stated.layout pixel in
+    ap (λ (f : Format). converted f gamma to to_gamma pixel) ef
+    ∙ ap (λ (t : Format). converted stated gamma t to_gamma pixel) et
+    ∙ sym (converted_same stated to_stated stated to_stated gamma to_gamma pixel (within_model stated gamma to_stated to_gamma pixel) refl refl same refl)
+    ∙ map_alike (channel_reencoded stated gamma to_stated to_gamma made) (channel to_stated.layout.max made)
+    (λ ch. channel_kept stated to_stated gamma to_gamma made ch ea eg) (range_with_len 0 to_stated.layout.count)
+    ∙ four_of_depth stated.layout to_stated.layout pixel count
+    ∙ ap (λ (l : Layout). of_depth l to_stated.layout pixel) (sym el)
+    ∙ ap (λ (l : Layout). of_depth layout l pixel) (sym em)

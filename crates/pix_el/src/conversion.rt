@@ -8,6 +8,7 @@ use crate::model::ColorModel;
 use pix_chan::chan::{Alpha, Channel, Gamma};
 
 pub(crate) mod blocks;
+mod fours;
 
 /// Returns a channel at another depth.
 pub(crate) fn at_depth<C: Channel, D: Channel>(c: C) -> D

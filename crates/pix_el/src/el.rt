@@ -231,9 +231,7 @@ pub trait Pixel: Copy + Debug + Default + PartialEq {
         }
     }
 
-    /// Composites `src` with this pixel.
-    ///
-    /// Condition: the format has an alpha channel.
+    /// Composites `src` with this pixel. Condition: the format has an alpha channel.
     ///
     /// # Examples
     ///
@@ -278,7 +276,6 @@ pub trait Pixel: Copy + Debug + Default + PartialEq {
     }
 
     /// Composites `src`, multiplied by the matte value `alpha` but for its hue, with this pixel.
-    ///
     /// Condition: the format has an alpha channel.
     final fn composite_channels_alpha<O: Blend>(&mut self, src: &Self, op: O, alpha: &Self::Chan)
     where
@@ -316,9 +313,7 @@ pub trait Pixel: Copy + Debug + Default + PartialEq {
         self.composite_channels(&color, op);
     }
 
-    /// Composites `clr` with each pixel of `dst`.
-    ///
-    /// Condition: the format has an alpha channel.
+    /// Composites `clr` with each pixel of `dst`. Condition: the format has an alpha channel.
     final fn composite_color<O: Blend>(dst: &mut [Self], clr: &Self, op: O)
     where
         Self: Pixel<Alpha = Premultiplied, Gamma = Linear>,
@@ -333,7 +328,6 @@ pub trait Pixel: Copy + Debug + Default + PartialEq {
     }
 
     /// Composites each pixel of `src` with that of `dst` at its index, up to the shorter length.
-    ///
     /// Condition: the format has an alpha channel.
     ///
     /// # Examples
@@ -362,7 +356,6 @@ pub trait Pixel: Copy + Debug + Default + PartialEq {
     }
 
     /// Composites `clr` with pixels of `dst` through mattes of `src`, up to the shorter length.
-    ///
     /// Condition: the format has an alpha channel.
     ///
     /// # Examples
@@ -393,9 +386,7 @@ pub trait Pixel: Copy + Debug + Default + PartialEq {
     }
 
     /// Composites each pixel of `src` with that of `dst` at its index through the matte at that
-    /// index, up to the shortest length.
-    ///
-    /// Condition: the format has an alpha channel.
+    /// index, up to the shortest length. Condition: the format has an alpha channel.
     final fn composite_slice_matte<const N: usize, A: Alpha, O: Blend>(
         dst: &mut [Self],
         src: &[Self],
@@ -418,9 +409,7 @@ pub trait Pixel: Copy + Debug + Default + PartialEq {
     }
 
     /// Composites each pixel of `src` with that of `dst` at its index through the matte value
-    /// `alpha`, up to the shorter length.
-    ///
-    /// Condition: the format has an alpha channel.
+    /// `alpha`, up to the shorter length. Condition: the format has an alpha channel.
     final fn composite_slice_alpha<O: Blend>(
         dst: &mut [Self],
         src: &[Self],

@@ -2,15 +2,13 @@
 //!
 //! Colors are premultiplied, and the alpha is composited as any other channel. `sa` and `da` are
 //! the alphas of source and destination, products are channel products, and sums saturate.
-ghost use Rattle.std.specs.Prelude.{◌≡◌, ℕ, ◌-◌, ⊤, List, length, map, slice_get, Some, ◌↔◌};
-ghost use Rattle.std.specs.Prelude.{IsTrue, nat_eq, refl};
+ghost use Rattle.std.specs.Prelude.{◌≡◌, ℕ, ◌-◌, ⊤, List, length, map, slice_get, Some, ◌↔◌, IsTrue, nat_eq, refl};
 ghost use Rattle.pix_ops.specs.declared.ops.Op.{Op};
 ghost use Rattle.pix_ops.specs.Operators.{row};
 ghost use Rattle.pix_ops.specs.Seal.{Seal, seal};
 ghost use Rattle.pix_ops.specs.OperatorNames.{operators, op_number, op_name, operator_of};
-ghost use Rattle.pix_ops.specs.Composite.{channel_composite};
+ghost use Rattle.pix_ops.specs.Composite.{channel_composite, run_composite};
 ghost use Rattle.pix_chan.specs.Runs.{over, triples};
-ghost use Rattle.pix_ops.specs.Composite.{run_composite};
 
 use crate::ops::run::{Alpha, Factor, One, OneMinusAlpha, Zero};
 use pix_chan::chan::Channel;

@@ -95,7 +95,8 @@ fn reciprocals(bytes: &[u8]) -> u16x16
 fn scaled(x: u16x16, low: u16x16, middle: u16x16, high: u16x16) -> u16x16
     ensures { (ys : List ℕ) → length ys ≡ 16 → Each1 (λ y. y < 2 ^ 48) ys
         → low ≡ map (λ y. y % 65536) ys
-        → middle ≡ map (λ y. y / 65536 % 65536) ys → high ≡ map (λ y. y / 65536 / 65536 % 65536) ys
+        → middle ≡ map (λ y. y / 65536 % 65536) ys
+        → high ≡ map (λ y. y / 65536 / 65536 % 65536) ys
         → result ≡ zip2 (λ x y. x * y / 2 ^ 32 % 65536) x ys }
 {
     let lower = x * middle;

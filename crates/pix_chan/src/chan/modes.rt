@@ -29,11 +29,11 @@ pub trait Alpha: Clone + Copy + Debug + Default + PartialEq {
     /// A number that only this alpha mode has.
     const KIND: u8;
 
-    /// Returns the straight color channel `c` as this mode stores it at the alpha `a`.
+    /// Encodes: returns the straight color channel `c` as this mode stores it at the alpha `a`.
     fn encode<C: Channel>(c: C, a: C) -> C
         ensures { C.number result ≡ alpha_encoded mode C.max (C.number c) (C.number a) };
 
-    /// Returns the straight color channel that this mode stores as `c` at the alpha `a`.
+    /// Decodes: returns the straight color channel that this mode stores as `c` at the alpha `a`.
     fn decode<C: Channel>(c: C, a: C) -> C
         ensures { C.number result ≡ alpha_decoded mode C.max (C.number c) (C.number a) };
 
@@ -65,7 +65,7 @@ pub trait Gamma<C: Channel>: Clone + Copy + Debug + Default + PartialEq {
     /// A number that only this gamma mode has. It is the same for every channel type.
     const KIND: u8;
 
-    /// Returns the linear channel that this mode encodes as `c`.
+    /// Linearizes: returns the linear channel that this mode encodes as `c`.
     fn to_linear(c: C) -> C
         ensures { C.number result ≡ to_linear mode (C.number c) };
 
@@ -84,7 +84,7 @@ pub trait Gamma<C: Channel>: Clone + Copy + Debug + Default + PartialEq {
 #[derive(Clone, Copy, Debug, Default, PartialEq, Eq)]
 pub struct Straight;
 
-/// Premultiplied alpha: color channels are multiplied by the alpha.
+/// Premultiplied alpha: color channels are multiplied by the alpha. To decode is to unpremultiply.
 #[derive(Clone, Copy, Debug, Default, PartialEq, Eq)]
 pub struct Premultiplied;
 

@@ -1,5 +1,5 @@
-//! Conversions of straight pixels of four channels to premultiplied linear ones, by blocks of
-//! pixels.
+//! Conversions by blocks of pixels, and those of straight pixels of four channels to premultiplied
+//! linear ones.
 //!
 //! A block is walked twice. First each color is looked up, one pixel after the other. Then the
 //! products are made, four pixels at a time. A block is short enough to stay in the nearest cache
@@ -10,6 +10,7 @@ ghost use Rattle.pix_chan.specs.Runs.{over};
 ghost use Rattle.pix_el.specs.Planes.{linear_four, premultiplied_four};
 ghost use Rattle.pix_el.specs.Conversion.{at_depth, converted};
 
+use crate::conversion::fours::convert_fours;
 use crate::conversion::{at_depth, channel_at_depth};
 use crate::el::Pixel;
 use crate::model::ColorModel;
@@ -23,7 +24,7 @@ const BLOCK: usize = 64;
 
 /// Returns whether a format has four channels.
 #[inline(always)]
-fn has_four_channels<P: Pixel>() -> bool
+pub(super) fn has_four_channels<P: Pixel>() -> bool
     ensures { result ≡ true → P.layout.count ≡ 4 }
 {
     P::default().channels().len() == 4
@@ -152,13 +153,15 @@ where
 
 /// Converts as many of the first `count` pixels as go in blocks, and returns their number.
 ///
-/// Condition: both slices have `count` pixels.
+/// Condition: both slices have `count` pixels, and that format has no more channels than its model.
 #[inline(always)]
 pub(crate) fn convert_blocks<P, D>(dst: &mut [D], src: &[P], count: usize) -> usize
 where
     P: Pixel,
     D: Pixel,
+    D::Chan: From<P::Chan>,
     P::Gamma: Gamma<D::Chan>,
+    requires few { D.layout.count ≤ D.layout.alpha + 1 }
     requires dst_has { count ≤ length dst.old }
     requires src_has { count ≤ length src.now }
     ensures some { result ≤ count }
@@ -167,7 +170,7 @@ where
         (take result (map P.numbers src.now)) (map D.numbers dst.old) }
 {
     if !premultiplies::<P, D>() {
-        return 0;
+        return convert_fours::<P, D>(dst, src, count);
     }
     premultiply_blocks::<ByGamma<P::Gamma>, P, D>(dst, src, count)
 }

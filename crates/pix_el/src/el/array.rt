@@ -94,5 +94,6 @@ where
 
     ghost sealed = { seal };
 
-    ghost default_is_clear = { λ p h. numbers_of_replicate C.number C.MIN N p.channels h C.min_is_zero };
+    ghost default_is_clear = { λ p h.
+        numbers_of_replicate C.number C.MIN N p.channels h C.min_is_zero };
 }

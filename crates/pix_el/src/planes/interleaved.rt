@@ -89,7 +89,7 @@ pub(super) fn put_channels<P: Pixel>(p: &mut [P], c: &[P::Chan])
 
 /// Writes four pixels from their channels.
 #[inline(always)]
-pub(super) fn put_four_pixels<P: Pixel>(p: &mut [P], c: [P::Chan; 16])
+pub(crate) fn put_four_pixels<P: Pixel>(p: &mut [P], c: [P::Chan; 16])
     requires count { P.layout.count ≡ 4 }
     requires size { length p.old ≡ 4 }
     ensures size { length p.new ≡ 4 }

@@ -4,7 +4,6 @@ use Rattle.pix_chan.specs.Modes.{to_linear}
 use Rattle.pix_el.specs.Planes.{linear_four, premultiplied_four}
 use Rattle.pix_el.specs.Pixel.{Layout}
 use Rattle.pix_el.specs.Conversion.{at_depth, converted}
-use Rattle.pix_chan.proofs.Slices.{over-nil}
 use Rattle.pix_el.proofs.Written.{over_alike}
 use Rattle.pix_el.proofs.Models.{placed_by_row}
 use Rattle.pix_el.proofs.Conversions.{converted_premultiplied}
@@ -27,6 +26,3 @@ returns-clause-pixels g c =
     (has.count refl) alpha start (placed.alpha_last ∙ alpha)) in
     c.premultiply_blocks.ensures.pixels
     ∙ over_alike (λ (p : List ℕ). premultiplied_four top (linear p)) convert steps (take c.premultiply_blocks.result (map g.P.Pixel.numbers c.args.src.now)) (map g.D.Pixel.numbers c.args.dst.now)
-
-pub returns-then-not-premultiplies-clause-pixels : goal.returns-then-not-premultiplies-clause-pixels
-returns-then-not-premultiplies-clause-pixels g c = sym (over-nil _ (map g.D.Pixel.numbers c.args.dst.now))
