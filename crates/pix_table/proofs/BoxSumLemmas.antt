@@ -1,5 +1,5 @@
 -- The sums of a box, of its colors of each value of a channel, and of those below a value.
-use Rattle.std.proofs.Common.{◌≡◌, ℕ, ◌+◌, ◌-◌, ◌*◌, ◌<◌, ◌≤◌, Bool, true, cond, List, ◌++◌, length, get_or, sum_by, All, refl, arith, sym, ap, ap₂, ◌∙◌, subst, lt-ltb, le-ltb}
+use Rattle.std.proofs.Common.{◌≡◌, ℕ, ◌+◌, ◌-◌, ◌*◌, ◌<◌, ◌≤◌, Bool, true, false, cond, List, ◌++◌, length, get_or, sum_by, All, refl, arith, sym, ap, ap₂, ◌∙◌, subst, lt-ltb, le-ltb}
 use Rattle.std.proofs.lemmas.List.Sums.{sum_by-append}
 use Rattle.std.proofs.lemmas.Nat.{mul-le}
 use Rattle.std.proofs.Math.Nat.{div-le_of_le-mul}
@@ -8,7 +8,7 @@ use Rattle.pix_table.specs.BestPlaces.{AreBytes, ArePart, AreSums, CanCutBy, gai
 use Rattle.pix_table.specs.Cut.{mean}
 use Rattle.pix_table.specs.Groups.{mean_by}
 use Rattle.pix_table.specs.declared.box_sums.Sums.{Sums}
-use Rattle.pix_table.proofs.SumLemmas.{sum_next, sum_zero, sum_few, rest_few, sum_le, sum_all, length_sum, sum_parted, sum_both}
+use Rattle.pix_table.proofs.SumLemmas.{sum_next, sum_zero, sum_few, rest_few, sum_le, sum_all, sum_none, length_sum, sum_parted, sum_both}
 
 -- the numbers of a channel
 pub bytes_in : (box : List (List ℕ)) (k : ℕ) → All AreBytes box → All (λ c. get_or c k 0 ≤ 255) box
@@ -34,6 +34,18 @@ below_none k box none count red green blue = record {
   green = omega (arith, green, sum_zero k (λ x. get_or x 1 0) box);
   blue = omega (arith, blue, sum_zero k (λ x. get_or x 2 0) box);
 }
+
+-- where none is below it, the sums of none are those of the colors below
+pub below_first : (k first : ℕ) (box : List (List ℕ)) (none : Sums) → All (λ c. first ≤ get_or c k 0) box → none.count ≡ 0 → none.red ≡ 0
+    → none.green ≡ 0 → none.blue ≡ 0 → AreSums (is_below k first) box none
+below_first k first box none least count red green blue =
+    let each : All (λ c. is_below k first c ≡ false) box = (λ j d inside. le-ltb _ first (least j d inside)) in
+    record {
+      count = omega (arith, count, sum_none (is_below k first) (λ x. 1) box each);
+      red = omega (arith, red, sum_none (is_below k first) (λ x. get_or x 0 0) box each);
+      green = omega (arith, green, sum_none (is_below k first) (λ x. get_or x 1 0) box each);
+      blue = omega (arith, blue, sum_none (is_below k first) (λ x. get_or x 2 0) box each);
+    }
 
 pub below_more : (k v : ℕ) (box : List (List ℕ)) (low part new : Sums) → AreSums (is_below k v) box low → AreSums (is_at k v) box part
     → new.count ≡ low.count + part.count → new.red ≡ low.red + part.red → new.green ≡ low.green + part.green

@@ -1,10 +1,11 @@
 -- A box that is cut in two.
-use Rattle.std.proofs.Common.{◌≡◌, ℕ, ◌<◌, ◌≤◌, List, length, map, take, drop, get_or, All, IsPermutation, arith, sym, ap, ◌∙◌, subst, inl, inr, take-append-drop, length-drop, length-take, take_all, rules}
+use Rattle.std.proofs.Common.{◌≡◌, ℕ, ◌<◌, ◌≤◌, List, length, map, take, drop, get_or, All, IsPermutation, arith, sym, ap, ◌∙◌, subst, inl, inr, take-append-drop, length-drop, length-take, take_all, rules, sum_by, ◌+◌}
 use Rattle.std.proofs.lemmas.Bool.{cases_lt}
 use Rattle.std.specs.List.{drop-map}
 use Rattle.std.proofs.lemmas.List.{map-append, length-map, take-map}
 use Rattle.std.proofs.lemmas.List.Elements.{All-map, All-take, All-drop}
-use Rattle.std.proofs.lemmas.List.Sorted.{All-permutation, IsPermutation-map, sum_by-IsPermutation, length_permutation}
+use Rattle.std.proofs.lemmas.List.Sorted.{All-permutation, IsPermutation-map, IsPermutation-refl, sum_by-IsPermutation, length_permutation}
+use Rattle.std.proofs.lemmas.List.Sums.{sum_by-take-le, sum_by-take-drop}
 use Rattle.std.specs.Prelude.{cond, nat_lt}
 use Rattle.pix_table.specs.Places.{below, IsCutBy}
 use Rattle.pix_table.proofs.BoxSpans.{none_below, each_below_value}
@@ -80,3 +81,28 @@ module _ {X : Type 0} (numbers : X → List ℕ) where
   fit_piece P xs start n h =
       subst (All P) (take-map numbers n (drop start xs))
       (All-take P n (map numbers (drop start xs)) (subst (All P) (drop-map numbers start xs) (All-drop P start (map numbers xs) h)))
+
+  -- the colors of a part stand no more often than all
+  pub few_front : (times : List ℕ → ℕ) (xs ys : List X) (at most : ℕ) → IsPermutation xs ys → sum_by times (map numbers xs) < most
+      → sum_by times (map numbers (take at ys)) < most
+  few_front times xs ys at most moved h =
+      let same : sum_by times (map numbers ys) ≡ sum_by times (map numbers xs) =
+      sum_by-IsPermutation times (map numbers xs) (map numbers ys) (IsPermutation-map numbers xs ys moved) in
+      let part : sum_by times (map numbers (take at ys)) ≤ sum_by times (map numbers ys) =
+      subst (λ l. sum_by times l ≤ sum_by times (map numbers ys)) (take-map numbers at ys) (sum_by-take-le times (map numbers ys) at) in
+      omega (arith, same, part, h)
+
+  pub few_back : (times : List ℕ → ℕ) (xs ys : List X) (at most : ℕ) → IsPermutation xs ys → sum_by times (map numbers xs) < most
+      → sum_by times (map numbers (drop at ys)) < most
+  few_back times xs ys at most moved h =
+      let same : sum_by times (map numbers ys) ≡ sum_by times (map numbers xs) =
+      sum_by-IsPermutation times (map numbers xs) (map numbers ys) (IsPermutation-map numbers xs ys moved) in
+      let parts : sum_by times (take at (map numbers ys)) + sum_by times (drop at (map numbers ys)) ≡ sum_by times (map numbers ys) =
+      sum_by-take-drop times (map numbers ys) at in
+      subst (λ l. sum_by times l < most) (drop-map numbers at ys) (omega (arith, same, parts, h))
+
+  pub few_piece : (times : List ℕ → ℕ) (xs : List X) (start n most : ℕ) → sum_by times (map numbers xs) < most
+      → sum_by times (map numbers (take n (drop start xs))) < most
+  few_piece times xs start n most h =
+      few_front times (drop start xs) (drop start xs) n most (IsPermutation-refl (drop start xs))
+      (few_back times xs xs start most (IsPermutation-refl xs) h)

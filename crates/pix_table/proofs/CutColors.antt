@@ -1,9 +1,9 @@
 -- The boxes of a list of colors have all of its colors.
 use Rattle.std.specs.List.{flat_map}
-use Rattle.std.proofs.Common.{◌≡◌, All, ℕ, ◌+◌, List, [], ◌∷◌, ◌++◌, length, map, take, drop, IsPermutation, refl, arith, sym, ap, ◌∙◌, subst, append_assoc, append-nil, length-drop, take-append-drop}
+use Rattle.std.proofs.Common.{◌≡◌, All, ℕ, ◌+◌, List, [], ◌∷◌, ◌++◌, length, map, take, drop, IsPermutation, refl, arith, sym, ap, ◌∙◌, subst, append_assoc, append-nil, length-drop, take-append-drop, ◌<◌, sum_by}
 use Rattle.std.proofs.lemmas.List.{map-append}
 use Rattle.std.proofs.lemmas.List.Sums.{sum_by-cons}
-use Rattle.std.proofs.lemmas.List.Sorted.{All-permutation, IsPermutation-refl, IsPermutation-trans, IsPermutation-append_left, IsPermutation-append_right}
+use Rattle.std.proofs.lemmas.List.Sorted.{All-permutation, IsPermutation-refl, IsPermutation-trans, IsPermutation-append_left, IsPermutation-append_right, sum_by-IsPermutation}
 use Rattle.std.proofs.lemmas.Grind.{flat_map-append}
 use Rattle.pix_table.specs.Cut.{AreBoxesBy, one, cut}
 use Rattle.pix_table.specs.Pieces.{boxes_of, total}
@@ -42,3 +42,13 @@ pub boxes_fit : {X : Type 0} {channels : ℕ} {weigh : List (List ℕ) → ℕ} 
 boxes_fit P numbers start xs ps are whole h =
     All-permutation P start (map numbers xs)
     (subst (IsPermutation start) (boxes_whole numbers xs ps whole) (boxes_moved start (boxes_of numbers xs ps) are)) h
+
+-- and they stand as often
+pub boxes_few : {X : Type 0} {channels : ℕ} {weigh : List (List ℕ) → ℕ} (times : List ℕ → ℕ) (numbers : X → List ℕ) (start : List (List ℕ)) (xs : List X)
+    (ps : List Piece) (most : ℕ) → AreBoxesBy channels weigh start (boxes_of numbers xs ps) → total ps ≡ length xs → sum_by times start < most
+    → sum_by times (map numbers xs) < most
+boxes_few times numbers start xs ps most are whole h =
+    let same : sum_by times (map numbers xs) ≡ sum_by times start =
+    sum_by-IsPermutation times start (map numbers xs)
+    (subst (IsPermutation start) (boxes_whole numbers xs ps whole) (boxes_moved start (boxes_of numbers xs ps) are)) in
+    omega (arith, same, h)

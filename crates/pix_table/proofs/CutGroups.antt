@@ -1,10 +1,10 @@
 -- What is kept of the boxes of pieces.
 use Rattle.std.specs.Prelude.{min}
 use Rattle.std.specs.List.{flat_map}
-use Rattle.std.proofs.Common.{◌≡◌, ◌⊎◌, inl, inr, ℕ, ◌+◌, ◌<◌, ◌≤◌, List, [], ◌∷◌, ◌++◌, length, map, take, drop, set, get_or, All, arith, sym, ap, ap₂, ◌∙◌, subst, length-take}
+use Rattle.std.proofs.Common.{◌≡◌, ◌⊎◌, inl, inr, ℕ, ◌+◌, ◌<◌, ◌≤◌, List, [], ◌∷◌, ◌++◌, length, map, take, drop, set, get_or, All, arith, sym, ap, ap₂, ◌∙◌, subst, length-take, refl, sum_by}
 use Rattle.std.proofs.lemmas.Bool.{cases_eq}
-use Rattle.std.proofs.lemmas.List.{get_or_append_left, get_or_at, get_or-set_same, get_or-set_other, length-map, length-set}
-use Rattle.std.proofs.lemmas.List.Concat.{length-flat_map}
+use Rattle.std.proofs.lemmas.List.{get_or_append_left, get_or_at, get_or-set_same, get_or-set_other, length-set}
+use Rattle.std.proofs.lemmas.List.Sums.{sum_by-append, sum_by-cons}
 use Rattle.pix_table.specs.Places.{CannotBeCutBy}
 use Rattle.pix_table.specs.Cut.{AreBoxesBy, more_boxes}
 use Rattle.pix_table.specs.Pairs.{AreGroupsOf, all_colors}
@@ -40,21 +40,23 @@ groups_more is_group numbers xs ps groups i n start d g inside there begin wide 
     (one_more is_group (boxes_of numbers xs (take i ps)) (map numbers (take (get_or ps i d).len (drop (total (take i ps)) xs))) groups i g there
     (subst (λ b. is_group b g) (ap₂ (λ (m s : ℕ). map numbers (take m (drop s xs))) wide begin) fits) are)
 
--- the boxes of pieces have as many colors as there are
-pub all_counted : {X : Type 0} (numbers : X → List ℕ) (xs : List X) (ps : List Piece) → total ps ≡ length xs → all_colors (boxes_of numbers xs ps) ≡ length xs
-all_counted numbers xs ps e =
-    sym (length-flat_map (λ (b : List (List ℕ)). b) (boxes_of numbers xs ps)) ∙ ap length (boxes_whole numbers xs ps e) ∙ length-map xs numbers
+-- the colors of boxes stand as often as those of all of them
+all_counted : (times : List ℕ → ℕ) (boxes : List (List (List ℕ))) → all_colors times boxes ≡ sum_by times (flat_map (λ box. box) boxes)
+all_counted times [] = refl
+all_counted times (b ∷ boxes) =
+    sum_by-cons (λ (box : List (List ℕ)). sum_by times box) b boxes ∙ ap (λ n. sum_by times b + n) (all_counted times boxes)
+    ∙ sym (sum_by-append times b (flat_map (λ box. box) boxes))
 
 -- the boxes of the cut, and what is kept of them
-pub boxes_made : {X G : Type 0} (is_group : List (List ℕ) → G → Type 0) (numbers : X → List ℕ) (channels : ℕ) (weigh : List (List ℕ) → ℕ) (room count : ℕ)
+pub boxes_made : {X G : Type 0} (is_group : List (List ℕ) → G → Type 0) (times : List ℕ → ℕ) (numbers : X → List ℕ) (channels : ℕ) (weigh : List (List ℕ) → ℕ) (room count : ℕ)
     (start xs : List X) (ps all : List Piece) (groups : List G) → length ps ≡ more_boxes room → count ≤ length ps → take count all ≡ take count ps
     → ArePieces channels weigh numbers xs (take count ps) → AreBoxesBy channels weigh (map numbers start) (boxes_of numbers xs (take count ps))
     → (count ≡ length ps) ⊎ AreWhole (take count ps)
-    → AreGroupsOf is_group (boxes_of numbers xs (take count all)) groups (length (take count all)) → length xs < 18446744073709551616
+    → AreGroupsOf is_group (boxes_of numbers xs (take count all)) groups (length (take count all)) → sum_by times (map numbers xs) < 18446744073709551616
     → (boxes : List (List (List ℕ))) × AreBoxesBy channels weigh (map numbers start) boxes × (length boxes ≤ more_boxes room)
     × ((length boxes ≡ more_boxes room) ⊎ All (CannotBeCutBy channels) boxes) × AreGroupsOf is_group boxes groups count
-    × (all_colors boxes < 18446744073709551616)
-boxes_made is_group numbers channels weigh room count start xs ps all groups fits within same stand are is_full kept few =
+    × (all_colors times boxes < 18446744073709551616)
+boxes_made is_group times numbers channels weigh room count start xs ps all groups fits within same stand are is_full kept few =
     let many : length (boxes_of numbers xs (take count ps)) ≡ count = omega (arith, length-boxes numbers xs (take count ps), length-take count ps) in
     let long : length (take count all) ≡ count = ap length same ∙ (let e : length (take count ps) ≡ count = omega (arith, length-take count ps) in e) in (
       boxes_of numbers xs (take count ps),
@@ -66,5 +68,9 @@ boxes_made is_group numbers channels weigh room count start xs ps all groups fit
       ],
       subst (λ n. AreGroupsOf is_group (boxes_of numbers xs (take count ps)) groups n) long
           (subst (λ l. AreGroupsOf is_group (boxes_of numbers xs l) groups (length (take count all))) same kept),
-      omega (arith, all_counted numbers xs (take count ps) stand.all, few),
+      omega (
+        arith,
+        all_counted times (boxes_of numbers xs (take count ps)) ∙ ap (sum_by times) (boxes_whole numbers xs (take count ps) stand.all),
+        few,
+      ),
     )

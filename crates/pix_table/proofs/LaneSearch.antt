@@ -177,20 +177,29 @@ pub record AreLeastIn {B : Type 0} (apart : B → ℕ → ℕ) (blocks : List B)
   pub few : (i : ℕ) → i < 16 → get_or ats i 0 < 16
   pub each : (none : B) (i : ℕ) → i < 16 → IsLeastIn (lane_distance apart none blocks) i j (get_or least i 0) (get_or ats i 0)
 
--- no block yet
-pub none_in : {B : Type 0} (apart : B → ℕ → ℕ) (blocks : List B) → AreLeastIn apart blocks 0 (replicate 16 65535) (replicate 16 0)
-none_in apart blocks = record {
-  long_least = splat_long 65535;
-  long_at = splat_long 0;
-  few = λ i b. omega (arith, splat_at 0 i b);
-  each = λ d i b. record {
-    bound = omega (arith, splat_at 65535 i b);
-    few = omega (arith, splat_at 0 i b);
-    below = λ k c. absurd (omega arith);
-    first = λ k c. absurd (omega (arith, splat_at 0 i b));
-    is = λ less. absurd (omega (arith, splat_at 65535 i b));
-  };
-}
+-- the first block, whose distances are far, up to 65535
+pub first_in : {B : Type 0} (apart : B → ℕ → ℕ) (blocks : List B) (block : B) (far : List ℕ) → 0 < length blocks → block ≡ get_or blocks 0 block
+    → length far ≡ 16 → ((i : ℕ) → i < 16 → get_or far i 0 ≡ min 65535 (apart block i)) → AreLeastIn apart blocks 1 far (replicate 16 0)
+first_in {B = B} apart blocks block far some read long is =
+    let there : (none : B) (i : ℕ) → i < 16 → get_or far i 0 ≡ min 65535 (lane_distance apart none blocks (16 * 0 + i)) =
+    (λ none i b. is i b ∙ ap (λ c. min 65535 (apart c i)) read ∙ ap (min 65535) (lane_distance_is apart none blocks 0 i block some b)) in
+    record {
+      long_least = long;
+      long_at = splat_long 0;
+      few = λ i b. omega (arith, splat_at 0 i b);
+      each = λ none i b. record {
+        bound = omega (arith, there none i b);
+        few = omega (arith, splat_at 0 i b);
+        below = λ k c.
+            let e : 0 ≡ k = omega arith in
+            subst (λ j. get_or far i 0 ≤ lane_distance apart none blocks (16 * j + i)) e (omega (arith, there none i b));
+        first = λ k c. absurd (omega (arith, c, splat_at 0 i b));
+        is = λ less. (
+          omega (arith, splat_at 0 i b),
+          subst (λ j. get_or far i 0 ≡ lane_distance apart none blocks (16 * j + i)) (sym (splat_at 0 i b)) (omega (arith, less, there none i b)),
+        );
+      };
+    }
 
 -- one block more, whose distances are far, up to 65535
 pub lanes_more : {B : Type 0} (apart : B → ℕ → ℕ) (blocks : List B) (j : ℕ) (block : B) (least ats far now next : List ℕ) → j < 16 → j < length blocks

@@ -11,6 +11,7 @@ pub mod SumLemmas
 pub mod BoxSumLemmas
 pub mod PartedSums
 pub mod WordLemmas
+pub mod PairItems
 pub mod ItemSums
 pub mod ItemGroups
 pub mod Rounds
@@ -20,12 +21,20 @@ pub mod PlaceSteps
 pub mod SeenSumLemmas
 pub mod SeenWeights
 pub mod GroupLemmas
+pub mod MovedBoxes
+pub mod NearBlocks
+pub mod SeenItems
 pub mod Gains
 pub mod PieceBoxes
 pub mod PairLemmas
 pub mod CutColors
 pub mod CutGroups
 pub mod SeenTable
+pub mod Moved
+pub mod ItemLists
+pub mod ItemCuts
+pub mod ItemTables
+pub mod ColorItems
 pub mod Splits
 pub mod Distinct
 pub mod Rows
@@ -59,3 +68,4 @@ pub mod SeenErrors
 pub mod SeenRounds
 pub mod SeenItemGroups
 pub mod SeenMade
+pub mod BlockGaps

@@ -46,26 +46,35 @@ sums_same p box c sums e h = record {
   blue = h.blue ∙ push_false p (λ x. get_or x 2 0) box (numbers c) e;
 }
 
--- what is known of each part, with one color more: of the part that has it, and of the others
-pub parted_by_more : {S : Type 0} (are : (List ℕ → Bool) → List (List ℕ) → S → Type 0) (at : List ℕ → ℕ) (count v : ℕ) (box more : List (List ℕ))
-    (parts : List S) (c : List ℕ) (old new : S) → more ≡ box ++ c ∷ [] → ArePartedBy are at count box parts → v ≡ at c → v < count
-    → old ≡ get_or parts v old → ((p : List ℕ → Bool) → p c ≡ true → are p box old → are p (box ++ c ∷ []) new)
-    → ((p : List ℕ → Bool) (s : S) → p c ≡ false → are p box s → are p (box ++ c ∷ []) s) → ArePartedBy are at count more (set parts v new)
-parted_by_more are at count v box more parts c old new grown h e small read longer same_still = record {
+-- what is known of each part of a list that grows: of the part that grows with it, and of the others
+pub parted_by_grown : {S : Type 0} (are : (List ℕ → Bool) → List (List ℕ) → S → Type 0) (at : List ℕ → ℕ) (count v : ℕ) (box more : List (List ℕ))
+    (parts : List S) (c : List ℕ) (old new : S) → ArePartedBy are at count box parts → v ≡ at c → v < count
+    → old ≡ get_or parts v old → ((p : List ℕ → Bool) → p c ≡ true → are p box old → are p more new)
+    → ((p : List ℕ → Bool) (s : S) → p c ≡ false → are p box s → are p more s) → ArePartedBy are at count more (set parts v new)
+parted_by_grown are at count v box more parts c old new h e small read longer same_still = record {
   many = length-set parts v new ∙ h.many;
-  each = λ w d inside. subst (λ l. are (λ x. nat_eq (at x) w) l (get_or (set parts v new) w d)) (sym grown) (elim (cases_eq w v) [
+  each = λ w d inside. elim (cases_eq w v) [
     | inl same ↦
         let here : nat_eq (at c) w ≡ true = eq-eqb (at c) w (omega (arith, e, same)) in
         let before : are (λ x. nat_eq (at x) w) box old = subst (λ j. are (λ x. nat_eq (at x) j) box old) (sym same)
         (subst (are (λ x. nat_eq (at x) v) box) (sym read) (h.each v old small)) in
         let there : get_or (set parts v new) w d ≡ new = ap (λ j. get_or (set parts v new) j d) same ∙ get_or-set_same parts v new d (omega (arith, h.many, small)) in
-        subst (are (λ x. nat_eq (at x) w) (box ++ c ∷ [])) (sym there) (longer (λ x. nat_eq (at x) w) here before)
+        subst (are (λ x. nat_eq (at x) w) more) (sym there) (longer (λ x. nat_eq (at x) w) here before)
     | inr apart ↦
         let other : nat_eq (at c) w ≡ false = ne_eqb (at c) w (λ eq. apart (omega (arith, e, eq))) in
-        subst (are (λ x. nat_eq (at x) w) (box ++ c ∷ [])) (sym (get_or-set_other parts v w new d apart))
+        subst (are (λ x. nat_eq (at x) w) more) (sym (get_or-set_other parts v w new d apart))
         (same_still (λ x. nat_eq (at x) w) (get_or parts w d) other (h.each w d inside))
-  ]);
+  ];
 }
+
+-- the same with one color more
+pub parted_by_more : {S : Type 0} (are : (List ℕ → Bool) → List (List ℕ) → S → Type 0) (at : List ℕ → ℕ) (count v : ℕ) (box more : List (List ℕ))
+    (parts : List S) (c : List ℕ) (old new : S) → more ≡ box ++ c ∷ [] → ArePartedBy are at count box parts → v ≡ at c → v < count
+    → old ≡ get_or parts v old → ((p : List ℕ → Bool) → p c ≡ true → are p box old → are p (box ++ c ∷ []) new)
+    → ((p : List ℕ → Bool) (s : S) → p c ≡ false → are p box s → are p (box ++ c ∷ []) s) → ArePartedBy are at count more (set parts v new)
+parted_by_more are at count v box more parts c old new grown h e small read longer same_still =
+    subst (λ l. ArePartedBy are at count l (set parts v new)) (sym grown)
+    (parted_by_grown are at count v box (box ++ c ∷ []) parts c old new h e small read longer same_still)
 
 -- the sums of each part, with one color more
 pub parted_more : (at : List ℕ → ℕ) (count v : ℕ) (box more : List (List ℕ)) (parts : List Sums) (c : Color) (old new : Sums) → more ≡ box ++ numbers c ∷ []

@@ -59,7 +59,7 @@ zip_back R [] cs (p ∷ ps) qs e h = absurd (omega arith)
 zip_back R (b ∷ bs) cs [] qs e h = absurd (omega arith)
 zip_back R (b ∷ bs) cs (p ∷ ps) qs e h = zip_back R bs cs ps qs (omega arith) h.1
 
-zip-append : {X Y : Type 0} (R : X → Y → Type 0) (bs cs : List X) (ps qs : List Y) → AllZip R bs ps → AllZip R cs qs → AllZip R (bs ++ cs) (ps ++ qs)
+pub zip-append : {X Y : Type 0} (R : X → Y → Type 0) (bs cs : List X) (ps qs : List Y) → AllZip R bs ps → AllZip R cs qs → AllZip R (bs ++ cs) (ps ++ qs)
 zip-append R [] cs [] qs h g = g
 zip-append R [] cs (p ∷ ps) qs h g = absurd h
 zip-append R (b ∷ bs) cs [] qs h g = absurd h

@@ -1,5 +1,5 @@
 -- The steps of a search for the best place of a box.
-use Rattle.std.proofs.Common.{◌≡◌, ◌≢◌, ℕ, ◌+◌, ◌<◌, ◌≤◌, Bool, true, List, ◌++◌, length, map, All, Option, Some, None, MatchOption, length-append, refl, arith, sym, ◌∙◌, subst, inl, inr, lt-ltb}
+use Rattle.std.proofs.Common.{◌≡◌, ◌≢◌, ℕ, zero, suc, get_or, ◌+◌, ◌<◌, ◌≤◌, Bool, true, List, ◌++◌, length, map, All, Option, Some, None, MatchOption, length-append, refl, arith, sym, ◌∙◌, subst, inl, inr, lt-ltb}
 use Rattle.std.proofs.lemmas.List.{length-map}
 use Rattle.std.proofs.lemmas.List.Sorted.{length_permutation}
 use Rattle.pix_table.specs.Nearest.{numbers}
@@ -10,6 +10,7 @@ use Rattle.pix_table.specs.declared.color.Color.{Color}
 use Rattle.pix_table.specs.declared.place.Place.{Place}
 use Rattle.pix_table.proofs.SumLemmas.{sum_zero, sum_grows, sum_all, length_sum}
 use Rattle.pix_table.proofs.BoxSumLemmas.{below_more, are_few, count_few, gain_same, cut_can, cut_gain}
+use Rattle.pix_table.proofs.BoxSpans.{none_below}
 use Rattle.pix_table.proofs.PlacesBy.{passing}
 
 -- at 0 there is no cut
@@ -17,6 +18,17 @@ pub begun_by : (n : ℕ) (gains_at : ℕ → ℕ → List (List ℕ) → ℕ) (b
     → IsBestUpToBy n gains_at box k 0 best → IsBestUpToBy n gains_at box k 1 best
 begun_by n gains_at box k best h =
     passing n gains_at box k 0 best h (λ can. absurd (omega (arith, can.some_below, sum_zero k (λ c. 1) box)))
+
+-- up to a number that none is below there is none either
+pub begun_at : (n : ℕ) (gains_at : ℕ → ℕ → List (List ℕ) → ℕ) (box : List (List ℕ)) (k first v : ℕ) (best : Option Place)
+    → All (λ c. first ≤ get_or c k 0) box → v ≤ first → IsBestUpToBy n gains_at box k 0 best → IsBestUpToBy n gains_at box k (v + 1) best
+begun_at n gains_at box k first zero best least small h = begun_by n gains_at box k best h
+begun_at n gains_at box k first (suc v) best least small h =
+    let e : v + 1 ≡ suc v = omega arith in
+    let before : IsBestUpToBy n gains_at box k (suc v) best =
+    subst (λ m. IsBestUpToBy n gains_at box k m best) e (begun_at n gains_at box k first v best least (omega arith) h) in
+    passing n gains_at box k (suc v) best before
+    (λ can. absurd (omega (arith, can.some_below, none_below k (suc v) box (λ j d inside. omega (arith, least j d inside, small)))))
 
 pub begun : (box : List (List ℕ)) (k : ℕ) (best : Option Place) → IsBestUpTo box k 0 best → IsBestUpTo box k 1 best
 begun = begun_by 3 gain_at

@@ -1,6 +1,6 @@
 -- The sums of the seen colors of a box, of those of each value of a channel, and of those below a value.
-use Rattle.std.proofs.Common.{◌≡◌, ℕ, zero, suc, ◌+◌, ◌<◌, ◌≤◌, Bool, true, false, List, [], ◌∷◌, ◌++◌, length, map, take, replicate, get_or, sum_by, set, All, arith, sym, ◌∙◌, subst}
-use Rattle.std.proofs.lemmas.List.{get_or_past, get_or-replicate, length-replicate, take-map}
+use Rattle.std.proofs.Common.{◌≡◌, ℕ, zero, suc, ◌+◌, ◌<◌, ◌≤◌, Bool, true, false, List, [], ◌∷◌, ◌++◌, length, map, take, replicate, get_or, sum_by, set, All, arith, sym, ap, ◌∙◌, subst}
+use Rattle.std.proofs.lemmas.List.{get_or_past, get_or-map, get_or-replicate, length-map, length-replicate, take-map}
 use Rattle.std.proofs.lemmas.List.Elements.{All-take}
 use Rattle.pix_table.specs.BestPlaces.{AreBytes, CanCutBy, is_at, is_below}
 use Rattle.pix_table.specs.Seen.{AreSeen, seen_numbers}
@@ -93,17 +93,14 @@ below_more k v box low part new h g count red green blue alpha = record {
   alpha = omega (arith, alpha, h.alpha, g.alpha, sum_next k v (λ x. get_or x 3 0) box);
 }
 
--- the same, where the sums of the value stand at its place
-pub part_at : (k v j : ℕ) (box : List (List ℕ)) (parts : List SeenSums) (d : SeenSums) → AreSeenByValue k box parts → j ≡ v → v < 256
-    → AreSeenSums (is_at k v) box (get_or parts j d)
-part_at k v j box parts d h e small = subst (λ i. AreSeenSums (is_at k v) box (get_or parts i d)) (sym e) (h.each v d small)
-
-pub below_next : (k v j : ℕ) (box : List (List ℕ)) (parts : List SeenSums) (d low new : SeenSums) → AreSeenByValue k box parts → j ≡ v → v < 256
-    → AreSeenSums (is_below k v) box low → new.count ≡ low.count + (get_or parts j d).count → new.red ≡ low.red + (get_or parts j d).red
-    → new.green ≡ low.green + (get_or parts j d).green → new.blue ≡ low.blue + (get_or parts j d).blue
-    → new.alpha ≡ low.alpha + (get_or parts j d).alpha → AreSeenSums (is_below k (v + 1)) box new
-below_next k v j box parts d low new h e small before count red green blue alpha =
-    below_more k v box low (get_or parts j d) new before (part_at k v j box parts d h e small) count red green blue alpha
+-- the sums of a value, where those of each value are kept in some other form
+pub value_sums : {S : Type 0} (whole : S → SeenSums) (k v j : ℕ) (box : List (List ℕ)) (parts : List S) (x : S) (part : SeenSums)
+    → AreSeenByValue k box (map whole parts) → j ≡ v → v < 256 → x ≡ get_or parts j x → part ≡ whole x → AreSeenSums (is_at k v) box part
+value_sums whole k v j box parts x part h e small read is =
+    let same : get_or (map whole parts) v (whole x) ≡ part =
+    get_or-map whole parts v x (whole x) (omega (arith, small, h.many, length-map parts whole)) ∙ ap (λ i. whole (get_or parts i x)) (sym e) ∙ ap whole (sym read)
+    ∙ sym is in
+    subst (AreSeenSums (is_at k v) box) same (h.each v (whole x) small)
 
 -- sums are few
 pub are_few : (p : List ℕ → Bool) (box : List (List ℕ)) (sums : SeenSums) → All AreSeen box → AreSeenSums p box sums → AreFew sums

@@ -61,7 +61,7 @@ both_little s few x y e f =
     (omega (arith, few.red, few.alpha)) (omega (arith, few.green, few.alpha)) (omega (arith, few.blue, few.alpha)))
 
 -- equal sums weigh as much
-same_sums : (n r g b a m x y z w : ℕ) → n ≡ m → r ≡ x → g ≡ y → b ≡ z → a ≡ w → seen_weight_by n r g b a ≡ seen_weight_by m x y z w
+pub same_sums : (n r g b a m x y z w : ℕ) → n ≡ m → r ≡ x → g ≡ y → b ≡ z → a ≡ w → seen_weight_by n r g b a ≡ seen_weight_by m x y z w
 same_sums n r g b a m x y z w e f h i j = rw (e, f, h, i, j) refl
 
 pub whole_weight : (box : List (List ℕ)) (all : SeenSums) → All AreSeen box → AreSeenSums (λ c. true) box all

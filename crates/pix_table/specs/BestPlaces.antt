@@ -1,5 +1,5 @@
 -- Sums of the colors of a box, and the best of the places up to one. No clause of a public call cites this file.
-use Rattle.std.specs.Prelude.{◌≡◌, ℕ, ◌+◌, ◌-◌, ◌*◌, ◌/◌, ◌<◌, ◌≤◌, Bool, List, cond, length, slice_index, slice_index_or, nat_eq, nat_lt, sum_by, count_by, Option, Some, None}
+use Rattle.std.specs.Prelude.{◌≡◌, ℕ, ◌+◌, ◌-◌, ◌*◌, ◌/◌, ◌<◌, ◌≤◌, All, Bool, true, List, cond, length, slice_index, slice_index_or, nat_eq, nat_lt, sum_by, count_by, Option, Some, None}
 use Rattle.pix_table.specs.Places.{IsBefore, below, sum_in, weight}
 use Rattle.pix_table.specs.declared.box_sums.Sums.{Sums}
 use Rattle.pix_table.specs.declared.place.Place.{Place}
@@ -55,6 +55,20 @@ word_of channel color = 281474976710656 + slice_index color (other channel) * 16
 pub record AreWords (channel : ℕ) (box : List (List ℕ)) (words : List ℕ) : Type 0 where
   pub many : length words ≡ 256
   pub each : (value : ℕ) → value < 256 → slice_index words value ≡ sum_of (is_at channel value) (word_of channel) box
+
+-- such numbers of at most so many colors that their parts fit
+abbrev pub AreBlockWords : (words : List ℕ) (channel : ℕ) → List (List ℕ) → Type 0
+AreBlockWords words channel box = (length box ≤ 65535) × All AreBytes box × AreWords channel box words
+
+-- what a search for the best place in a channel knows of a box that has a color: a number that none is below, the sums of the colors of
+-- each value, and of all
+pub record HasSums {P : Type 0} (sums : P → ℕ → List (List ℕ) → Type 0) (parts : P) (channel first : ℕ) (all : Sums) (box : List (List ℕ))
+    : Type 0 where
+  pub some : 0 < length box
+  pub least : All (λ color. first ≤ slice_index color channel) box
+  pub each : sums parts channel box
+  pub whole : AreSums (λ color. true) box all
+  pub bytes : All AreBytes box
 
 -- what a count and three sums weigh
 abbrev pub weight_by : (count red green blue : ℕ) → ℕ

@@ -5,14 +5,14 @@ use Rattle.pix_table.specs.ColorBlocks.{IsFar, Lies, channels_in}
 use Rattle.pix_table.specs.declared.block_bounds.BlockBounds.{BlockBounds}
 use Rattle.pix_table.specs.declared.color_block.ColorBlock.{ColorBlock}
 
--- the least numbers of one of sixteen blocks, and the greatest
+-- the lower bounds of one of sixteen blocks, and the upper ones
 abbrev pub least_at : BlockBounds → ℕ → List ℕ
 least_at spans j = slice_index spans.least_red j ∷ slice_index spans.least_green j ∷ slice_index spans.least_blue j ∷ []
 
 abbrev pub greatest_at : BlockBounds → ℕ → List ℕ
 greatest_at spans j = slice_index spans.greatest_red j ∷ slice_index spans.greatest_green j ∷ slice_index spans.greatest_blue j ∷ []
 
--- all colors of a block lie within one of sixteen bounds, and the greatest numbers are bytes
+-- all colors of a block lie within one of sixteen bounds, and the upper bounds are bytes
 pub record Covers (spans : BlockBounds) (j : ℕ) (block : ColorBlock) : Type 0 where
   pub colors : (i : ℕ) → i < 16 → Lies (least_at spans j) (greatest_at spans j) (channels_in block i)
   pub red : slice_index spans.greatest_red j ≤ 255

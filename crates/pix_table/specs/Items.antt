@@ -1,5 +1,6 @@
 -- Colors that are counted: items, each a color and how often it stands. No clause of a public call cites this file.
-use Rattle.std.specs.Prelude.{◌≡◌, ℕ, zero, suc, ◌+◌, ◌*◌, List, [], cond, nat_lt, slice_index, slice_index_or, sum_by}
+use Rattle.std.specs.Prelude.{◌≡◌, ℕ, zero, suc, ◌+◌, ◌*◌, ◌<◌, List, [], ◌∷◌, ◌++◌, cond, length, map, nat_lt, replicate, slice_index, slice_index_or, sum_by, take}
+use Rattle.std.specs.List.{flat_map}
 use Rattle.pix_table.specs.declared.items.ColorCount.{ColorCount}
 
 -- the count that a color stands for, by its first two numbers
@@ -26,3 +27,35 @@ AreItemsOf colors items pairs singles = (f : List ℕ → ℕ) → sum_by f colo
 -- what a function makes of colors that are counted, added for each time that they were met, where another one says which color a key has
 abbrev pub counted_sum : (key_color : ℕ → List ℕ) (f : List ℕ → ℕ) → List ColorCount → ℕ
 counted_sum key_color f counts = sum_by (λ c. c.count * f (key_color c.key)) counts
+
+-- Items in which each color stands beside its count: pairs of colors, the second of which stands for a count.
+-- As numbers: those of the color, one a channel, and behind them how often it stands
+
+-- the numbers of a pair
+abbrev pub item_of : List (List ℕ) → List ℕ
+item_of pair = slice_index_or pair 0 [] ++ count_of (slice_index_or pair 1 []) ∷ []
+
+-- the numbers of pairs, by those of a color
+abbrev pub pair_items : {X : Type 0} (numbers : X → List ℕ) → List (List X) → List (List ℕ)
+pair_items numbers pairs = map (λ pair. item_of (map numbers pair)) pairs
+
+-- how often an item stands, whose color has so many channels
+abbrev pub times_of : (channels : ℕ) → List ℕ → ℕ
+times_of channels item = slice_index item channels
+
+-- the colors of some items, each as often as it stands
+abbrev pub spread : (channels : ℕ) → List (List ℕ) → List (List ℕ)
+spread channels items = flat_map (λ item. replicate (times_of channels item) (take channels item)) items
+
+-- what some items weigh
+abbrev pub weigh_items : (channels : ℕ) (weigh : List (List ℕ) → ℕ) → List (List ℕ) → ℕ
+weigh_items channels weigh items = weigh (spread channels items)
+
+-- their mean, as an item that stands once
+abbrev pub item_mean : (channels : ℕ) (middle : List (List ℕ) → List ℕ) → List (List ℕ) → List ℕ
+item_mean channels middle items = middle (spread channels items) ++ 1 ∷ []
+
+-- an item has a number for each channel, and stands at least once
+pub record IsItem (channels : ℕ) (item : List ℕ) : Type 0 where
+  pub long : length item ≡ channels + 1
+  pub some : 0 < times_of channels item

@@ -10,15 +10,18 @@ pub mod Joins
 pub mod Cut
 pub mod Pairs
 pub mod BestPlaces
+pub mod BlockGaps
 pub mod Pieces
 pub mod SeenCut
 pub mod SeenSums
+pub mod PartSums
 pub mod ColorGroups
 pub mod BlockBounds
 pub mod Quantization
 pub mod Refine
 pub mod Groups
 pub mod Items
+pub mod SeenItems
 pub mod Diffusion
 pub mod Done
 pub mod PaletteMatch
@@ -31,5 +34,7 @@ pub mod EntryLanes
 pub mod SrgbColor
 pub mod ColorBlocks
 pub mod SeenGroups
+pub mod SeenMatches
+pub mod NearBlocks
 pub mod SeenTables
 pub mod SeenDiffusion

@@ -1,7 +1,8 @@
 -- Sums of the seen colors of a box. No clause of a public call cites this file.
-use Rattle.std.specs.Prelude.{◌≡◌, ℕ, ◌+◌, ◌-◌, ◌*◌, ◌<◌, ◌≤◌, Bool, List, length, slice_index, count_by}
+use Rattle.std.specs.Prelude.{◌≡◌, ℕ, ◌+◌, ◌-◌, ◌*◌, ◌<◌, ◌≤◌, Bool, List, All, length, slice_index, count_by, true}
 use Rattle.pix_table.specs.Places.{below, sum_in}
 use Rattle.pix_table.specs.BestPlaces.{ArePartedBy, sum_below, sum_of, weight_by}
+use Rattle.pix_table.specs.Seen.{AreSeen}
 use Rattle.pix_table.specs.SeenCut.{seen_weight}
 use Rattle.pix_table.specs.declared.rgba.sums.SeenSums.{SeenSums}
 
@@ -23,6 +24,14 @@ pub record AreFew (sums : SeenSums) : Type 0 where
 -- the sums of the colors of each value of a channel
 abbrev pub AreSeenByValue : (channel : ℕ) → List (List ℕ) → List SeenSums → Type 0
 AreSeenByValue channel box parts = ArePartedBy AreSeenSums (λ color. slice_index color channel) 256 box parts
+
+-- the sums of a box of seen colors: of all of them, and of those of each value of a channel
+pub record IsSummed (channel : ℕ) (box : List (List ℕ)) (parts : List SeenSums) (all : SeenSums) : Type 0 where
+  pub some : 0 < length box
+  pub few : length box < 18446744073709551616
+  pub seen : All AreSeen box
+  pub values : AreSeenByValue channel box parts
+  pub whole : AreSeenSums (λ color. true) box all
 
 -- what a count and four sums weigh, over black and over white
 abbrev pub seen_weight_by : (count red green blue alpha : ℕ) → ℕ

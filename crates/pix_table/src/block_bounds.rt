@@ -12,7 +12,7 @@ use crate::color::Color;
 use crate::color_block::{ColorBlock, SIZE};
 use std::simd::prelude::*;
 
-/// The least and the greatest number of each channel, of each of sixteen blocks.
+/// The lower and the upper bound of each channel, of each of sixteen blocks.
 #[derive(Clone, Copy)]
 pub struct BlockBounds {
     least_red: [u8; SIZE],
@@ -94,7 +94,7 @@ impl BlockBounds {
     }
 }
 
-/// Returns the least and the greatest numbers that are no farther from a color than a difference.
+/// Returns the bounds of the colors that are no farther from a color than a difference.
 pub(crate) fn reach(clr: Color, difference: Color) -> (Color, Color)
     ensures { IsReach (numbers clr) (numbers difference) (numbers result.0) (numbers result.1) }
 {

@@ -1,7 +1,7 @@
 //! Sums of colors: of a box, and of its colors of each value of a channel.
-ghost use Rattle.std.specs.Prelude.{◌≡◌, ℕ, ◌+◌, ◌-◌, ◌*◌, ◌/◌, ◌<◌, ◌≤◌, All, List, [], ◌++◌, length, map, true};
+ghost use Rattle.std.specs.Prelude.{◌≡◌, ℕ, ◌+◌, ◌-◌, ◌*◌, ◌/◌, ◌^◌, ◌<◌, ◌≤◌, All, List, [], ◌++◌, length, map, true};
 ghost use Rattle.pix_table.specs.Nearest.{numbers};
-ghost use Rattle.pix_table.specs.BestPlaces.{AreByValue, AreBytes, ArePart, AreSums, AreWords};
+ghost use Rattle.pix_table.specs.BestPlaces.{AreBlockWords, AreByValue, AreBytes, ArePart, AreSums, AreWords};
 ghost use Rattle.pix_table.specs.BestPlaces.{is_at, sum_of, weight_by, word_of};
 
 use crate::color::Color;
@@ -338,15 +338,14 @@ pub(crate) fn add_words(
 }
 
 /// Returns the sums of a block of colors, of the words of the values of two channels.
-pub(crate) fn total_of_words(colors: &[Color], reds: &[u64; 256], greens: &[u64; 256]) -> Sums
-    requires few { length colors.now ≤ 65535 }
-    requires reds { AreWords 0 (map numbers colors.now) reds.now }
-    requires greens { AreWords 1 (map numbers colors.now) greens.now }
-    requires bytes { All AreBytes (map numbers colors.now) }
-    ensures { AreSums (λ color. true) (map numbers colors.now) result }
+pub(crate) fn total_of_words(reds: &[u64; 256], greens: &[u64; 256]) -> Sums
+    requires { (box : List (List ℕ)) × AreBlockWords reds.now 0 box
+        × AreBlockWords greens.now 1 box }
+    ensures { (box : List (List ℕ)) → AreBlockWords reds.now 0 box
+        → AreBlockWords greens.now 1 box → AreSums (λ color. true) box result }
 {
-    let beside_red = word_sum(colors, 0, reds);
-    let beside_green = word_sum(colors, 1, greens);
+    let beside_red = word_sum(0, reds);
+    let beside_green = word_sum(1, greens);
     Sums {
         count: (beside_red / ONE) as usize,
         red: u128::from(beside_green / HIGH % HIGH),
@@ -356,11 +355,10 @@ pub(crate) fn total_of_words(colors: &[Color], reds: &[u64; 256], greens: &[u64;
 }
 
 /// Returns the sum of the words of a block of colors for one channel.
-fn word_sum(colors: &[Color], k: usize, words: &[u64; 256]) -> u64
-    requires few { length colors.now ≤ 65535 }
-    requires words { AreWords k (map numbers colors.now) words.now }
-    requires bytes { All AreBytes (map numbers colors.now) }
-    ensures { result ≡ sum_of (λ color. true) (word_of k) (map numbers colors.now) }
+fn word_sum(k: usize, words: &[u64; 256]) -> u64
+    requires { (box : List (List ℕ)) × AreBlockWords words.now k box }
+    ensures { (box : List (List ℕ)) → AreBlockWords words.now k box
+        → result ≡ sum_of (λ color. true) (word_of k) box }
 {
     let mut sum = 0;
     for value in 0..256 {
@@ -387,31 +385,23 @@ pub(crate) fn add_blocks(
     for i in 0..colors.len() / BLOCK + 1 {
         let start = i * BLOCK;
         let end = colors.len().min(start + BLOCK);
-        let (before, block) = (&colors[..start], &colors[start..end]);
+        let block = &colors[start..end];
         let (mut red_words, mut green_words, mut blue_words) = ([0; 256], [0; 256], [0; 256]);
         add_words(block, &mut red_words, &mut green_words, &mut blue_words);
-        add_block(before, block, 0, &red_words, reds);
-        add_block(before, block, 1, &green_words, greens);
-        add_block(before, block, 2, &blue_words, blues);
+        add_block(0, &red_words, reds);
+        add_block(1, &green_words, greens);
+        add_block(2, &blue_words, blues);
     }
 }
 
 /// Adds a block of colors to the sums of those before it, by its words.
-fn add_block(
-    before: &[Color],
-    block: &[Color],
-    k: usize,
-    words: &[u64; 256],
-    parts: &mut [Sums; 256],
-)
+pub(crate) fn add_block(k: usize, words: &[u64; 256], parts: &mut [Sums; 256])
     requires channel { k < 3 }
-    requires few { length block.now ≤ 65535 }
-    requires all { length before.now + length block.now < 18446744073709551616 }
-    requires words { AreWords k (map numbers block.now) words.now }
-    requires bytes { All AreBytes (map numbers block.now) }
-    requires sums { AreByValue k (map numbers before.now) parts.old }
-    requires bytes_before { All AreBytes (map numbers before.now) }
-    ensures { AreByValue k (map numbers before.now ++ map numbers block.now) parts.new }
+    requires boxes { (before block : List (List ℕ)) × AreBlockWords words.now k block
+        × AreByValue k before parts.old × All AreBytes before
+        × (length before + length block < 2 ^ 64) }
+    ensures { (before block : List (List ℕ)) → AreBlockWords words.now k block
+        → AreByValue k before parts.old → AreByValue k (before ++ block) parts.new }
 {
     for value in 0..256 {
         if words[value] == 0 {
@@ -433,16 +423,14 @@ pub(crate) fn word(clr: Color, k: usize) -> u64
 }
 
 /// Returns the sums of a box, of those of its colors of each value of a channel.
-pub(crate) fn total(colors: &[Color], k: usize, parts: &[Sums; 256]) -> Sums
-    requires sums { AreByValue k (map numbers colors.now) parts.now }
-    requires bytes { All AreBytes (map numbers colors.now) }
-    ensures { AreSums (λ color. true) (map numbers colors.now) result }
+pub(crate) fn total(k: usize, parts: &[Sums; 256]) -> Sums
+    requires { (box : List (List ℕ)) × AreByValue k box parts.now × All AreBytes box
+        × (length box < 2 ^ 64) }
+    ensures { (box : List (List ℕ)) → AreByValue k box parts.now → All AreBytes box
+        → AreSums (λ color. true) box result }
 {
     let mut sums = Sums::none();
     for value in 0..256 {
-        if sums.count == colors.len() {
-            return sums;
-        }
         sums = sums.and(parts[value]);
     }
     sums

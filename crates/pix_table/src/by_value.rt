@@ -1,7 +1,7 @@
 //! What place searches read of a box: the sums of its colors of each value of a channel, or words
 //! of them.
-ghost use Rattle.std.specs.Prelude.{◌≡◌, ℕ, ◌+◌, ◌-◌, ◌*◌, ◌<◌, ◌≤◌, All, List, length, true};
-ghost use Rattle.pix_table.specs.BestPlaces.{AreByValue, AreBytes, ArePart, AreSums, AreWords};
+ghost use Rattle.std.specs.Prelude.{◌≡◌, ℕ, ◌+◌, ◌-◌, ◌*◌, ◌<◌, ◌≤◌, List, true};
+ghost use Rattle.pix_table.specs.BestPlaces.{AreBlockWords, AreByValue, ArePart, AreSums};
 ghost use Rattle.pix_table.specs.BestPlaces.{is_at, weight_by};
 
 use crate::box_sums::Sums;
@@ -62,7 +62,7 @@ impl ByValue for [Sums; 256] {
 
 /// Words of at most a block of colors.
 impl ByValue for [u64; 256] {
-    ghost sums = { λ words k box. (length box ≤ 65535) × All AreBytes box × AreWords k box words };
+    ghost sums = { AreBlockWords };
 
     #[inline(always)]
     fn at(&self, k: usize, value: usize) -> Sums {

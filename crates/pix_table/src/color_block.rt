@@ -43,7 +43,7 @@ impl ColorBlock {
         block
     }
 
-    /// Returns the least and the greatest number of each channel.
+    /// Returns the lower and the upper bound of each channel.
     pub(crate) fn ends(&self) -> (Color, Color)
         ensures { (i : ℕ) → i < 16
             → Lies (numbers result.0) (numbers result.1) (channels_in self.now i) }

@@ -1,6 +1,6 @@
 //! A table of the means of boxes of colors, which are cut where the squared error falls most, and
 //! then joined.
-ghost use Rattle.std.specs.Prelude.{◌≡◌, ◌⊎◌, ℕ, ◌+◌, ◌^◌, ◌<◌, ◌≤◌, List, ◌∷◌, [], All, length, map, take, drop, slice_index, IsPermutation, ⊤, true, false};
+ghost use Rattle.std.specs.Prelude.{◌≡◌, ◌⊎◌, ℕ, ◌+◌, ◌^◌, ◌<◌, ◌≤◌, List, ◌∷◌, [], All, length, map, take, drop, slice_index, sum_by, IsPermutation, ⊤, true, false};
 ghost use Rattle.pix_table.specs.Nearest.{numbers};
 ghost use Rattle.pix_table.specs.Places.{CannotBeCutBy, HasBestBy, IsCutBy, weight};
 ghost use Rattle.pix_table.specs.Cut.{AreBoxesBy, IsCutTable, IsCutTableBy, mean, more_boxes};
@@ -40,6 +40,8 @@ impl Cutting for Color {
     ghost channels = { 3 };
 
     ghost weigh = { weight };
+
+    ghost times = { λ color. 1 };
 
     ghost middle = { mean };
 
@@ -106,6 +108,7 @@ pub(crate) fn cut_colors<C: Cutting>(
 ) -> usize
     requires some { 0 < length colors.old }
     requires fit { All C.fits (map C.parts colors.old) }
+    requires few_colors { sum_by C.times (map C.parts colors.old) < 2 ^ 64 }
     requires room { 0 < length entries.old }
     requires few { length entries.old ≤ 256 }
     requires groups { length groups.old ≡ 320 }
@@ -129,6 +132,7 @@ pub(crate) fn cut_colors<C: Cutting>(
 fn cut_groups<C: Cutting>(colors: &mut [C], groups: &mut [C::Group], room: usize) -> usize
     requires some { 0 < length colors.old }
     requires fit { All C.fits (map C.parts colors.old) }
+    requires few_colors { sum_by C.times (map C.parts colors.old) < 2 ^ 64 }
     requires room { 0 < room }
     requires few { room ≤ 256 }
     requires groups { length groups.old ≡ 320 }
@@ -138,7 +142,7 @@ fn cut_groups<C: Cutting>(colors: &mut [C], groups: &mut [C::Group], room: usize
         × AreBoxesBy C.channels C.weigh (map C.parts colors.old) boxes
         × (length boxes ≤ more_boxes room)
         × ((length boxes ≡ more_boxes room) ⊎ All (CannotBeCutBy C.channels) boxes)
-        × AreGroupsOf C.is_group boxes groups.new result × (all_colors boxes < 2 ^ 64) }
+        × AreGroupsOf C.is_group boxes groups.new result × (all_colors C.times boxes < 2 ^ 64) }
 {
     let mut pieces = [Piece::none(); BOXES];
     let more = (2 * room).min(room + MORE);
@@ -152,6 +156,7 @@ fn cut_groups<C: Cutting>(colors: &mut [C], groups: &mut [C::Group], room: usize
 fn cut_boxes<C: Cutting>(colors: &mut [C], pieces: &mut [Piece]) -> usize
     requires some { 0 < length colors.old }
     requires fit { All C.fits (map C.parts colors.old) }
+    requires few_colors { sum_by C.times (map C.parts colors.old) < 2 ^ 64 }
     requires room { 0 < length pieces.old }
     ensures some { 0 < result }
     ensures within { result ≤ length pieces.new }
@@ -175,6 +180,7 @@ fn cut_boxes<C: Cutting>(colors: &mut [C], pieces: &mut [Piece]) -> usize
 /// Returns whether there is one that can be cut.
 fn cut_next<C: Cutting>(colors: &mut [C], pieces: &mut [Piece], count: usize) -> bool
     requires fit { All C.fits (map C.parts colors.old) }
+    requires few_colors { sum_by C.times (map C.parts colors.old) < 2 ^ 64 }
     requires room { count < length pieces.old }
     requires stand { ArePieces C.channels C.weigh C.parts colors.old (take count pieces.old) }
     ensures whole { result ≡ false → (colors.new ≡ colors.old) × (pieces.new ≡ pieces.old)
@@ -198,6 +204,7 @@ fn cut_next<C: Cutting>(colors: &mut [C], pieces: &mut [Piece], count: usize) ->
 /// Cuts the box that is next of the first `count`.
 fn cut_at<C: Cutting>(colors: &mut [C], pieces: &mut [Piece], count: usize, next: Next)
     requires fit { All C.fits (map C.parts colors.old) }
+    requires few_colors { sum_by C.times (map C.parts colors.old) < 2 ^ 64 }
     requires room { count < length pieces.old }
     requires stand { ArePieces C.channels C.weigh C.parts colors.old (take count pieces.old) }
     requires next { IsNext (take count pieces.old) next }
@@ -215,6 +222,7 @@ fn cut_at<C: Cutting>(colors: &mut [C], pieces: &mut [Piece], count: usize, next
 /// Cuts a box at its best place, and returns its two pieces.
 fn cut_piece<C: Cutting>(colors: &mut [C], place: Place) -> (Piece, Piece)
     requires fit { All C.fits (map C.parts colors.old) }
+    requires few_colors { sum_by C.times (map C.parts colors.old) < 2 ^ 64 }
     requires best { HasBestBy C.channels C.weigh (map C.parts colors.old) place.channel
         place.value place.gain }
     ensures all { result.0.len + result.1.len ≡ length colors.new }
@@ -234,6 +242,7 @@ fn cut_piece<C: Cutting>(colors: &mut [C], place: Place) -> (Piece, Piece)
 /// Sets what is kept of the boxes of some pieces.
 fn set_groups<C: Cutting>(colors: &[C], pieces: &[Piece], groups: &mut [C::Group])
     requires fit { All C.fits (map C.parts colors.now) }
+    requires few_colors { sum_by C.times (map C.parts colors.now) < 2 ^ 64 }
     requires stand { ArePieces C.channels C.weigh C.parts colors.now pieces.now }
     requires room { length pieces.now ≤ length groups.old }
     ensures { AreGroupsOf C.is_group (boxes_of C.parts colors.now pieces.now) groups.new
@@ -263,6 +272,7 @@ fn write_means<C: Cutting>(groups: &[C::Group], count: usize, entries: &mut [C])
 /// Moves the colors whose number in a channel is below `value` to the front, and returns how many
 /// they are. Each channel has a loop of its own.
 fn partition<C: Cutting>(colors: &mut [C], k: usize, value: u8) -> usize
+    requires { k < C.channels }
     ensures within { result ≤ length colors.new }
     ensures moved { IsPermutation colors.old colors.new }
     ensures front { All (λ c. slice_index (C.parts c) k < value) (take result colors.new) }
@@ -280,6 +290,7 @@ fn partition<C: Cutting>(colors: &mut [C], k: usize, value: u8) -> usize
 /// Does what [`partition`] does.
 #[inline(always)]
 fn partition_in<C: Cutting>(colors: &mut [C], k: usize, value: u8) -> usize
+    requires { k < C.channels }
     ensures within { result ≤ length colors.new }
     ensures moved { IsPermutation colors.old colors.new }
     ensures front { All (λ c. slice_index (C.parts c) k < value) (take result colors.new) }

@@ -7,7 +7,7 @@ ghost use Rattle.pix_table.specs.Joins.{cost_by};
 ghost use Rattle.pix_table.specs.Cut.{mean};
 ghost use Rattle.pix_table.specs.ColorGroups.{IsGroup};
 
-use crate::box_sums::{Sums, sums_of};
+use crate::box_sums::{FEW, Sums, sums_of};
 use crate::color::Color;
 
 /// The sums of a box, and what it weighs.
@@ -31,7 +31,16 @@ impl Group {
         requires { 0 < length colors.now }
         ensures { IsGroup (map numbers colors.now) result }
     {
-        let sums = sums_of(colors);
+        Group::of_sums(sums_of(colors))
+    }
+
+    /// Returns that of a box by its sums. Condition: it has a color.
+    pub(crate) fn of_sums(sums: Sums) -> Group
+        requires { (box : List (List ℕ)) × (0 < length box) × All AreBytes box
+            × AreSums (λ color. true) box sums }
+        ensures { (box : List (List ℕ)) → 0 < length box → All AreBytes box
+            → AreSums (λ color. true) box sums → IsGroup box result }
+    {
         Group {
             sums,
             weight: sums.weight(),
@@ -70,6 +79,8 @@ impl Group {
     }
 
     /// Returns by how much the squared error rises where two boxes become one.
+    // Out of line, so that most pairs, which cost too much, take no sums of 128 bits.
+    #[inline(never)]
     pub(crate) fn cost(self, other: Group) -> u128
         requires { (a b : List (List ℕ)) × IsGroup a self × IsGroup b other
             × (length a + length b < 2 ^ 64) }
@@ -89,8 +100,11 @@ impl Group {
             → most < cost_by weight a b }
     {
         let both = self.both(other);
-        let apart = self.weight + other.weight;
-        most < apart && both.weighs_at_most(apart - most - 1)
+        if both.count >= FEW {
+            return false;
+        }
+        let apart = self.weight as u64 + other.weight as u64;
+        most < u128::from(apart) && both.weighs_at_most(u128::from(apart - most as u64 - 1))
     }
 
     /// Returns the mean of the box.

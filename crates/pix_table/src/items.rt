@@ -4,11 +4,12 @@
 //! and, after it, its count; behind them stand colors that count one. The same color may be in
 //! several items. Which items a color comes into decides only how many there are. No sum of what
 //! is made of the colors depends on it.
-ghost use Rattle.std.specs.Prelude.{◌≡◌, ℕ, ◌+◌, ◌*◌, ◌<◌, ◌≤◌, List, [], length, map, slice_index_or, slice_set, sum_by};
-ghost use Rattle.pix_table.specs.Items.{AreItemsOf, count_of, counted_sum, item_color, item_count, item_sum};
+ghost use Rattle.std.specs.Prelude.{◌≡◌, ℕ, ◌+◌, ◌*◌, ◌<◌, ◌≤◌, All, IsPermutation, List, MatchOption, [], length, map, slice_index_or, slice_set, sum_by, ⊤};
+ghost use Rattle.std.specs.Simd.{first_chunks};
+ghost use Rattle.pix_table.specs.Items.{AreItemsOf, IsItem, count_of, counted_sum, item_color, item_count, item_sum, pair_items, spread};
 
 /// The number of places at which colors are counted.
-const PLACES: usize = 4096;
+pub(crate) const PLACES: usize = 4096;
 
 /// The greatest count of a place.
 const MOST: u16 = 65535;
@@ -16,10 +17,20 @@ const MOST: u16 = 65535;
 /// Fewer colors take less time than their places.
 const FEW: usize = 1024;
 
+/// With more pairs than one for so many colors, the cut takes no less time than without.
+const SHARE: usize = 6;
+
+/// What a key is multiplied by for its place. It was found by trial: of some thousand numbers that
+/// which parts the colors of pictures best.
+const SPREAD: u32 = 1752068787;
+
 /// A type of color that can be counted.
 pub(crate) trait Counted: Copy {
     /// The numbers of a color.
     ghost parts: { Self → List ℕ };
+
+    /// How many of them a color has.
+    ghost channels: { ℕ };
 
     /// The numbers of the color of a key.
     ghost key_parts: { ℕ → List ℕ };
@@ -30,7 +41,8 @@ pub(crate) trait Counted: Copy {
 
     /// Returns the color of such a number.
     fn of_key(key: u32) -> Self
-        ensures { parts result ≡ key_parts key };
+        ensures color { parts result ≡ key_parts key }
+        ensures long { length (parts result) ≡ channels };
 
     /// Returns a color that stands for a count.
     fn of_count(count: u16) -> Self
@@ -129,12 +141,111 @@ fn put_out_all<C: Counted>(colors: &mut [C], items: Items, counts: &[ColorCount]
     all
 }
 
+/// Makes pairs of some colors, in their place: each of a color, and of one that stands for how
+/// often it was met. A color may be in several pairs. Returns how many there are.
+///
+/// It is `None` where the colors repeat too little. Then any colors may stand there.
+// Out of line, so that its stack and that of the cut do not add up.
+#[inline(never)]
+pub(crate) fn count_pairs<C: Counted>(colors: &mut [C]) -> Option<usize>
+    ensures { MatchOption result ⊤ (λ pairs. (2 * pairs ≤ length colors.new)
+        × All (IsItem C.channels) (pair_items C.parts (first_chunks 2 pairs colors.new))
+        × IsPermutation (map C.parts colors.old)
+        (spread C.channels (pair_items C.parts (first_chunks 2 pairs colors.new)))) }
+{
+    if colors.len() < FEW {
+        return None;
+    }
+    let mut counts = [ColorCount { key: 0, count: 0 }; PLACES];
+    match pairs_of_old(colors, &mut counts) {
+        Some(pairs) => pairs_of_all(colors, pairs, &counts),
+        None => None,
+    }
+}
+
+/// Counts each color at its place. A color that was counted there before becomes a pair.
+fn pairs_of_old<C: Counted>(colors: &mut [C], counts: &mut [ColorCount]) -> Option<usize>
+    requires places { length counts.old ≡ 4096 }
+    requires none { (f : List ℕ → ℕ) → counted_sum C.key_parts f counts.old ≡ 0 }
+    ensures { MatchOption result ⊤ (λ pairs. (2 * pairs ≤ length colors.new)
+        × All (IsItem C.channels) (pair_items C.parts (first_chunks 2 pairs colors.new))
+        × ((f : List ℕ → ℕ) → sum_by f (map C.parts colors.old)
+        ≡ sum_by f (spread C.channels (pair_items C.parts (first_chunks 2 pairs colors.new)))
+        + counted_sum C.key_parts f counts.new)) }
+{
+    let mut pairs = 0;
+    for i in 0..colors.len() {
+        let out = count(counts, colors[i].key());
+        match add_pair(colors, pairs, i + 1, out) {
+            Some(more) => pairs = more,
+            None => return None,
+        }
+    }
+    Some(pairs)
+}
+
+/// Makes pairs of all colors that are counted.
+fn pairs_of_all<C: Counted>(colors: &mut [C], pairs: usize, counts: &[ColorCount]) -> Option<usize>
+    requires room { 2 * pairs ≤ length colors.old }
+    requires items { All (IsItem C.channels)
+        (pair_items C.parts (first_chunks 2 pairs colors.old)) }
+    ensures { MatchOption result ⊤ (λ all. (2 * all ≤ length colors.new)
+        × All (IsItem C.channels) (pair_items C.parts (first_chunks 2 all colors.new))
+        × ((f : List ℕ → ℕ)
+        → sum_by f (spread C.channels (pair_items C.parts (first_chunks 2 all colors.new)))
+        ≡ sum_by f (spread C.channels (pair_items C.parts (first_chunks 2 pairs colors.old)))
+        + counted_sum C.key_parts f counts.now)) }
+{
+    let mut all = pairs;
+    for i in 0..counts.len() {
+        match add_pair(colors, all, colors.len(), counts[i]) {
+            Some(more) => all = more,
+            None => return None,
+        }
+    }
+    Some(all)
+}
+
+/// Makes a pair of a color with its count, behind others, and returns how many there are then.
+/// There is none for a count of 0.
+///
+/// It is `None` where there are too many before the place `end`.
+#[inline(always)]
+fn add_pair<C: Counted>(
+    colors: &mut [C],
+    pairs: usize,
+    end: usize,
+    out: ColorCount,
+) -> Option<usize>
+    requires inside { end ≤ length colors.old }
+    requires room { 2 * pairs ≤ end }
+    ensures rest { (k : ℕ) → end ≤ k → slice_index_or (map C.parts colors.new) k []
+        ≡ slice_index_or (map C.parts colors.old) k [] }
+    ensures items { MatchOption result ⊤ (λ more. (2 * more ≤ end)
+        × (All (IsItem C.channels) (pair_items C.parts (first_chunks 2 pairs colors.old))
+        → All (IsItem C.channels) (pair_items C.parts (first_chunks 2 more colors.new)))
+        × ((f : List ℕ → ℕ)
+        → sum_by f (spread C.channels (pair_items C.parts (first_chunks 2 more colors.new)))
+        ≡ sum_by f (spread C.channels (pair_items C.parts (first_chunks 2 pairs colors.old)))
+        + out.count * f (C.key_parts out.key))) }
+{
+    if out.count == 0 {
+        return Some(pairs);
+    }
+    if end / SHARE <= pairs {
+        return None;
+    }
+    colors[2 * pairs] = C::of_key(out.key);
+    colors[2 * pairs + 1] = C::of_count(out.count);
+    Some(pairs + 1)
+}
+
 /// Returns the place, one of 4,096, of the color of a key.
 #[inline(always)]
 pub(crate) fn place_of(key: u32) -> usize
     ensures { result < 4096 }
 {
-    (key.wrapping_mul(2654435769) / 1048576) as usize
+    (key.wrapping_mul(SPREAD) / 1048576) as usize
 }
 
 /// Counts the color of a key at its place. Returns the color and the count that it takes the place
@@ -241,94 +352,4 @@ fn write<C: Counted>(colors: &mut [C], at: usize, clr: C)
     ensures { map C.parts colors.new ≡ slice_set (map C.parts colors.old) at (C.parts clr) }
 {
     colors[at] = clr;
-}
-
-#[cfg(test)]
-mod tests {
-    use super::*;
-    use crate::color::Color;
-    use crate::quantization::quantize_refined;
-    use crate::rgba::color::{RgbaColor, Seen};
-    use crate::rgba::quantization::quantize_rgba;
-
-    const MANY: usize = 3000;
-
-    /// Returns colors of which most stand more than once, but not one after the other.
-    fn repeated_colors() -> [Color; MANY] {
-        let mut colors = [Color::default(); MANY];
-        let mut n: u32 = 7;
-        for i in 0..MANY {
-            n = n.wrapping_mul(1664525).wrapping_add(1013904223);
-            let [red, green, blue, _] = (n & 0xe0e0c000).to_be_bytes();
-            colors[i] = Color { red, green, blue };
-        }
-        colors
-    }
-
-    #[test]
-    fn counts_each_color(rt: HostRuntime) {
-        let colors = repeated_colors();
-        let mut items = colors;
-        let counted = count_colors(&mut items);
-        assert_eq!(rt; counted.pairs > 200, true);
-        assert_eq!(rt; counted.pairs + counted.singles < 400, true);
-        let mut before: [u32; 4] = [0; 4];
-        let mut after: [u32; 4] = [0; 4];
-        for i in 0..MANY {
-            add(&mut before, colors[i], 1);
-        }
-        for k in 0..counted.pairs + counted.singles {
-            let (clr, count) = counted.item(&items, k);
-            add(&mut after, clr, count);
-        }
-        assert_eq!(rt; before, after);
-    }
-
-    /// Adds a color to sums.
-    fn add(sums: &mut [u32; 4], clr: Color, count: u16) {
-        let n = u32::from(count);
-        sums[0] = sums[0].wrapping_add(n);
-        sums[1] = sums[1].wrapping_add(n.wrapping_mul(u32::from(clr.red)));
-        sums[2] = sums[2].wrapping_add(n.wrapping_mul(u32::from(clr.green)));
-        sums[3] = sums[3].wrapping_add(n.wrapping_mul(u32::from(clr.blue)));
-    }
-
-    /// Few colors are not counted, and three times as many are.
-    #[test]
-    fn makes_same_table_of_colors_three_times(rt: HostRuntime) {
-        let colors = repeated_colors();
-        let mut pixels = [Color::default(); MANY];
-        for i in 0..MANY {
-            pixels[i] = colors[i % 1000];
-        }
-        let mut few = [Color::default(); 1000];
-        for i in 0..1000 {
-            few[i] = colors[i];
-        }
-        let mut work = [Color::default(); MANY];
-        let mut once = [Color::default(); 40];
-        let mut thrice = [Color::default(); 40];
-        let made = quantize_refined(&few, 0, 9, &mut work, &mut once);
-        assert_eq!(rt;
-            made,
-            quantize_refined(&pixels, 0, 9, &mut work, &mut thrice)
-        );
-        assert_eq!(rt; once, thrice);
-        let mut seen_work = [Seen::default(); MANY];
-        let mut seen = [RgbaColor::default(); 40];
-        assert_eq!(rt; made, quantize_rgba(&pixels, 9, &mut seen_work, &mut seen));
-        for i in 0..40 {
-            let RgbaColor {
-                red,
-                green,
-                blue,
-                alpha,
-            } = seen[i];
-            let clr = once[i];
-            assert_eq!(rt;
-                [red, green, blue, alpha],
-                [clr.red, clr.green, clr.blue, 255]
-            );
-        }
-    }
 }

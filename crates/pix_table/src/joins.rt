@@ -1,5 +1,5 @@
 //! Boxes of colors are joined, each time two of them where the squared error rises least.
-ghost use Rattle.std.specs.Prelude.{◌≡◌, ◌+◌, ◌-◌, ◌^◌, ◌<◌, ◌≤◌, ℕ, List, length, min, slice_index_or};
+ghost use Rattle.std.specs.Prelude.{◌≡◌, ◌+◌, ◌-◌, ◌^◌, ◌<◌, ◌≤◌, ℕ, List, length, min, slice_index_or, sum_by};
 ghost use Rattle.pix_table.specs.Joins.{AreJoinedBy, IsNextPairBy, cost_by};
 ghost use Rattle.pix_table.specs.Pairs.{AreGroupsOf, ArePairs, ArePairsWithout};
 ghost use Rattle.pix_table.specs.Pairs.{IsBetter, IsEarlier, IsJoinOf, IsPairOf, all_colors, join_at, skip};
@@ -27,10 +27,10 @@ pub(crate) fn join_boxes<C: Cutting>(groups: &mut [C::Group], count: usize, room
     requires few { count ≤ 320 }
     requires room { 0 < room }
     requires boxes { (boxes : List (List (List ℕ)))
-        × AreGroupsOf C.is_group boxes groups.old count × (all_colors boxes < 2 ^ 64) }
+        × AreGroupsOf C.is_group boxes groups.old count × (all_colors C.times boxes < 2 ^ 64) }
     ensures many { result ≡ min room count }
     ensures joined { (boxes : List (List (List ℕ)))
-        → AreGroupsOf C.is_group boxes groups.old count → all_colors boxes < 2 ^ 64
+        → AreGroupsOf C.is_group boxes groups.old count → all_colors C.times boxes < 2 ^ 64
         → (joined : List (List (List ℕ))) × AreJoinedBy C.weigh boxes joined
         × AreGroupsOf C.is_group joined groups.new result }
 {
@@ -50,7 +50,7 @@ fn find_pairs<C: Cutting>(groups: &[C::Group], pairs: &mut [Pair], count: usize)
     requires some { 0 < count }
     requires room { count ≤ length pairs.old }
     requires boxes { (boxes : List (List (List ℕ)))
-        × AreGroupsOf C.is_group boxes groups.now count × (all_colors boxes < 2 ^ 64) }
+        × AreGroupsOf C.is_group boxes groups.now count × (all_colors C.times boxes < 2 ^ 64) }
     ensures { (boxes : List (List (List ℕ))) → AreGroupsOf C.is_group boxes groups.now count
         → ArePairs C.weigh boxes pairs.new }
 {
@@ -63,33 +63,33 @@ fn find_pairs<C: Cutting>(groups: &[C::Group], pairs: &mut [Pair], count: usize)
 fn find_pair<C: Cutting>(groups: &[C::Group], k: usize, count: usize) -> Pair
     requires later { k + 1 < count }
     requires boxes { (boxes : List (List (List ℕ)))
-        × AreGroupsOf C.is_group boxes groups.now count × (all_colors boxes < 2 ^ 64) }
+        × AreGroupsOf C.is_group boxes groups.now count × (all_colors C.times boxes < 2 ^ 64) }
     ensures { (boxes : List (List (List ℕ))) → AreGroupsOf C.is_group boxes groups.now count
         → IsPairOf C.weigh boxes k result }
 {
-    let first = groups[k];
+    let first = &groups[k];
     let mut best = Pair {
-        cost: C::cost(first, groups[k + 1]),
+        cost: cost_of::<C>(first, &groups[k + 1]),
         with: k + 1,
     };
     for with in k + 2..count {
-        best = better::<C>(best, first, groups[with], with);
+        best = better::<C>(best, first, &groups[with], with);
     }
     best
 }
 
 /// Returns the better of the best pair so far and one with a later box, the first of equals.
 #[inline(always)]
-fn better<C: Cutting>(best: Pair, p: C::Group, q: C::Group, with: usize) -> Pair
-    requires { (a b : List (List ℕ)) × C.is_group a p × C.is_group b q
-        × (length a + length b < 2 ^ 64) }
-    ensures { (a b : List (List ℕ)) → C.is_group a p → C.is_group b q
+fn better<C: Cutting>(best: Pair, p: &C::Group, q: &C::Group, with: usize) -> Pair
+    requires { (a b : List (List ℕ)) × C.is_group a p.now × C.is_group b q.now
+        × (sum_by C.times a + sum_by C.times b < 2 ^ 64) }
+    ensures { (a b : List (List ℕ)) → C.is_group a p.now → C.is_group b q.now
         → IsBetter best (cost_by C.weigh a b) with result }
 {
-    if C::costs_more(p, q, best.cost) {
+    if C::costs_more(*p, *q, best.cost) {
         return best;
     }
-    let cost = C::cost(p, q);
+    let cost = cost_of::<C>(p, q);
     if cost < best.cost {
         Pair { cost, with }
     } else {
@@ -97,12 +97,24 @@ fn better<C: Cutting>(best: Pair, p: C::Group, q: C::Group, with: usize) -> Pair
     }
 }
 
+/// Returns by how much the squared error rises where two boxes become one.
+// Out of line, so that of most boxes, which cost too much, only a part is read.
+#[inline(never)]
+fn cost_of<C: Cutting>(p: &C::Group, q: &C::Group) -> u128
+    requires { (a b : List (List ℕ)) × C.is_group a p.now × C.is_group b q.now
+        × (sum_by C.times a + sum_by C.times b < 2 ^ 64) }
+    ensures { (a b : List (List ℕ)) → C.is_group a p.now → C.is_group b q.now
+        → result ≡ cost_by C.weigh a b }
+{
+    C::cost(*p, *q)
+}
+
 /// Joins the two of the first `count` boxes that are joined next. The pairs are set as before.
 fn join_next<C: Cutting>(groups: &mut [C::Group], pairs: &mut [Pair], count: usize)
     requires two { 1 < count }
     requires room { count ≤ length pairs.old }
     requires boxes { (boxes : List (List (List ℕ)))
-        × AreGroupsOf C.is_group boxes groups.old count × (all_colors boxes < 2 ^ 64)
+        × AreGroupsOf C.is_group boxes groups.old count × (all_colors C.times boxes < 2 ^ 64)
         × ArePairs C.weigh boxes pairs.old }
     ensures { (boxes : List (List (List ℕ))) → AreGroupsOf C.is_group boxes groups.old count
         → ArePairs C.weigh boxes pairs.old → (i : ℕ) × (j : ℕ)
@@ -160,7 +172,7 @@ fn update_pairs<C: Cutting>(
     requires some { 0 < count }
     requires room { count ≤ length pairs.old }
     requires boxes { (old new : List (List (List ℕ))) × IsJoinOf old new i j
-        × AreGroupsOf C.is_group new groups.now count × (all_colors new < 2 ^ 64)
+        × AreGroupsOf C.is_group new groups.now count × (all_colors C.times new < 2 ^ 64)
         × ArePairsWithout C.weigh old j pairs.old }
     ensures { (old new : List (List (List ℕ))) → IsJoinOf old new i j
         → AreGroupsOf C.is_group new groups.now count → ArePairsWithout C.weigh old j pairs.old
@@ -183,7 +195,7 @@ fn updated_pair<C: Cutting>(
 ) -> Pair
     requires later { k + 1 < count }
     requires boxes { (old new : List (List (List ℕ))) × IsJoinOf old new i j
-        × AreGroupsOf C.is_group new groups.now count × (all_colors new < 2 ^ 64) }
+        × AreGroupsOf C.is_group new groups.now count × (all_colors C.times new < 2 ^ 64) }
     ensures { (old new : List (List (List ℕ))) → IsJoinOf old new i j
         → AreGroupsOf C.is_group new groups.now count → IsPairOf C.weigh old (skip j k) pair
         → IsPairOf C.weigh new k result }
@@ -199,22 +211,22 @@ fn updated_pair<C: Cutting>(
     if i < k {
         return kept;
     }
-    earlier::<C>(kept, groups[k], groups[i], i)
+    earlier::<C>(kept, &groups[k], &groups[i], i)
 }
 
 /// Returns the better of a pair and one with the box at `i`. Of equals it is the one with the
 /// earlier box.
 #[inline(always)]
-fn earlier<C: Cutting>(best: Pair, p: C::Group, q: C::Group, i: usize) -> Pair
-    requires { (a b : List (List ℕ)) × C.is_group a p × C.is_group b q
-        × (length a + length b < 2 ^ 64) }
-    ensures { (a b : List (List ℕ)) → C.is_group a p → C.is_group b q
+fn earlier<C: Cutting>(best: Pair, p: &C::Group, q: &C::Group, i: usize) -> Pair
+    requires { (a b : List (List ℕ)) × C.is_group a p.now × C.is_group b q.now
+        × (sum_by C.times a + sum_by C.times b < 2 ^ 64) }
+    ensures { (a b : List (List ℕ)) → C.is_group a p.now → C.is_group b q.now
         → IsEarlier best (cost_by C.weigh a b) i result }
 {
-    if C::costs_more(p, q, best.cost) {
+    if C::costs_more(*p, *q, best.cost) {
         return best;
     }
-    let cost = C::cost(p, q);
+    let cost = cost_of::<C>(p, q);
     if cost < best.cost || cost == best.cost && i < best.with {
         Pair { cost, with: i }
     } else {

@@ -142,16 +142,16 @@ fn least_of(keys: [u32; SIZE]) -> u32
 }
 
 /// Returns the lane of the color that is nearest to another one, the first of equals.
-#[inline]
+#[inline(always)]
 pub(crate) fn nearest_lane<B: LaneBlock>(blocks: &[B], sought: B::Sought) -> u8
     requires some { 0 < length blocks.now }
     requires few { length blocks.now ≤ 16 }
     ensures { (none : B) → IsNearestLane (lane_distance (λ block. B.apart block sought) none
         blocks.now) (16 * length blocks.now) result }
 {
-    let mut least = u16x16::splat(65535);
+    let mut least = blocks[0].distances(sought);
     let mut at = u16x16::splat(0);
-    for j in 0..blocks.len() {
+    for j in 1..blocks.len() {
         let now = lesser(least, blocks[j].distances(sought));
         at = blocks_of(now, least, at, j as u16);
         least = now;
@@ -180,7 +180,8 @@ pub(crate) fn added(xs: u32x16, ys: u32x16) -> u32x16
     requires first { (i : ℕ) → i < 16 → slice_index xs i < 196608 }
     requires second { (i : ℕ) → i < 16 → slice_index ys i < 196608 }
     ensures long { length result ≡ 16 }
-    ensures each { (i : ℕ) → i < 16 → slice_index result i ≡ slice_index xs i + slice_index ys i }
+    ensures each { (i : ℕ) → i < 16
+        → slice_index result i ≡ slice_index xs i + slice_index ys i }
 {
     xs + ys
 }

@@ -12,6 +12,7 @@ mod chosen;
 mod color;
 mod color_block;
 mod color_cache;
+mod color_items;
 mod cut;
 mod cutting;
 mod diffuse;

@@ -21,8 +21,15 @@ const FEW_COLORS: usize = 4096;
 /// Tables of at most this many entries need no lists.
 const FEW_ENTRIES: usize = 32;
 
-/// The number of places for colors whose index was found.
-const ANSWERS: usize = 4096;
+/// Fewer pixels than this have few places for colors whose index was found, since it takes time to
+/// clear places.
+const FEW_PIXELS: usize = 512;
+
+/// The number of places for few pixels.
+const FEW_PLACES: usize = 256;
+
+/// The number of places for many pixels.
+const PLACES: usize = 4096;
 
 /// Returns the numbers of the entries, followed by that of the first.
 // Out of line, as `colors_of` is: where they are inlined, LLVM puts a matcher together on the stack
@@ -208,7 +215,7 @@ struct Matching<'a, P> {
 /// was found at its place since, or none. Each place has a color and its index, as one number.
 #[inline(always)]
 fn nearest_by<N: NearestSearch>(search: &mut N, answers: &mut [u32], clr: Color) -> u8
-    requires { length answers.old ≡ 4096 }
+    requires { 0 < length answers.old }
     ensures nearest { (entries : List (List ℕ)) → N.finds search.old entries
         → AreAnswers entries answers.old → IsNearest entries (numbers clr) result }
     ensures same { (entries : List (List ℕ)) → N.finds search.old entries
@@ -217,7 +224,7 @@ fn nearest_by<N: NearestSearch>(search: &mut N, answers: &mut [u32], clr: Color)
         → AreAnswers entries answers.old → AreAnswers entries answers.new }
 {
     let key = word_of(clr, 0);
-    let place = place_of(key);
+    let place = place_of(key) % answers.len();
     let answer = answers[place];
     let is_known = answer / 256 == key / 256;
     if is_known {
@@ -239,7 +246,7 @@ fn matched<N: NearestSearch, P: TablePixel>(
     alpha: u8,
     transparent_index: u8,
 ) -> u8
-    requires { length answers.old ≡ 4096 }
+    requires { 0 < length answers.old }
     ensures matched { (entries : List (List ℕ)) → N.finds search.old entries
         → AreAnswers entries answers.old
         → IsMatched entries alpha transparent_index (P.values pixel) result }
@@ -254,6 +261,37 @@ fn matched<N: NearestSearch, P: TablePixel>(
     nearest_by(search, answers, pixel.rgb())
 }
 
+impl<P: TablePixel> Matching<'_, P> {
+    ghost use Rattle.std.specs.Prelude.{◌≡◌, ◌<◌, ◌≤◌, List, ℕ, length, map};
+    ghost use Rattle.pix_table.specs.Nearest.{AreMatched};
+
+    /// Sets the index of each pixel, with this many places for colors whose index was found.
+    // Out of line: where it is inlined, a matcher is put together on the stack beside its place.
+    #[inline(never)]
+    fn set_indices<N: NearestSearch, const COUNT: usize>(&self, search: &mut N, indices: &mut [u8])
+        requires some { 0 < COUNT }
+        requires room { COUNT ≤ 4096 }
+        requires many { length indices.old ≡ length self.now.pixels.now }
+        requires finds { (entries : List (List ℕ)) × N.finds search.old entries }
+        ensures { (entries : List (List ℕ)) → N.finds search.old entries
+            → AreMatched entries self.now.alpha self.now.transparent_index
+            (map P.values self.now.pixels.now) indices.new }
+    {
+        let black = Color::default();
+        let index = search.nearest_entry(black);
+        let mut answers = [word_of(black, index); COUNT];
+        for i in 0..indices.len() {
+            indices[i] = matched(
+                search,
+                &mut answers,
+                self.pixels[i],
+                self.alpha,
+                self.transparent_index,
+            );
+        }
+    }
+}
+
 impl<P: TablePixel> SearchVisitor<u8> for Matching<'_, P> {
     ghost can_visit = { λ matching entries count work. count ≡ length matching.pixels.now };
 
@@ -261,20 +299,11 @@ impl<P: TablePixel> SearchVisitor<u8> for Matching<'_, P> {
         AreMatched entries matching.alpha matching.transparent_index
         (map P.values matching.pixels.now) new };
 
-    // Out of line: where it is inlined, a matcher is put together on the stack beside its place.
-    #[inline(never)]
     fn visit<N: NearestSearch>(&self, search: &mut N, items: &mut [u8], _work: &mut [Color]) {
-        let black = Color::default();
-        let index = search.nearest_entry(black);
-        let mut answers = [word_of(black, index); ANSWERS];
-        for i in 0..items.len() {
-            items[i] = matched(
-                search,
-                &mut answers,
-                self.pixels[i],
-                self.alpha,
-                self.transparent_index,
-            );
+        if items.len() < FEW_PIXELS {
+            self.set_indices::<N, FEW_PLACES>(search, items);
+        } else {
+            self.set_indices::<N, PLACES>(search, items);
         }
     }
 }

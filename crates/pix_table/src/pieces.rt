@@ -1,5 +1,5 @@
 //! The boxes of a cut: pieces of one slice of colors, one after the other.
-ghost use Rattle.std.specs.Prelude.{◌≡◌, ℕ, ◌+◌, ◌<◌, ◌≤◌, ◌^◌, All, List, [], ◌∷◌, ◌++◌, length, map, take, drop};
+ghost use Rattle.std.specs.Prelude.{◌≡◌, ℕ, ◌+◌, ◌<◌, ◌≤◌, ◌^◌, All, List, [], ◌∷◌, ◌++◌, length, map, take, drop, sum_by};
 ghost use Rattle.pix_table.specs.Pieces.{IsKnown, IsNextOrNone, total};
 
 use crate::cutting::Cutting;
@@ -32,7 +32,8 @@ impl Piece {
 
     /// Returns the piece of some colors.
     pub(crate) fn of<C: Cutting>(colors: &[C]) -> Piece
-        requires { All C.fits (map C.parts colors.now) }
+        requires fit { All C.fits (map C.parts colors.now) }
+        requires few { sum_by C.times (map C.parts colors.now) < 2 ^ 64 }
         ensures all { result.len ≡ length colors.now }
         ensures known { IsKnown C.channels C.weigh (map C.parts colors.now) result }
     {

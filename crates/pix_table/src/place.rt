@@ -1,8 +1,8 @@
 //! The place at which a cut of a box of colors lowers the squared error most.
-ghost use Rattle.std.specs.Prelude.{◌≡◌, ℕ, ◌+◌, ◌-◌, ◌*◌, ◌<◌, ◌≤◌, All, List, length, map, MatchOption, true};
+ghost use Rattle.std.specs.Prelude.{◌≡◌, ℕ, ◌+◌, ◌-◌, ◌*◌, ◌<◌, ◌≤◌, List, length, map, MatchOption, true};
 ghost use Rattle.pix_table.specs.Nearest.{numbers};
 ghost use Rattle.pix_table.specs.Places.{CannotBeCut, HasBest};
-ghost use Rattle.pix_table.specs.BestPlaces.{AreBytes, AreSums, CanCut};
+ghost use Rattle.pix_table.specs.BestPlaces.{AreSums, CanCut, HasSums};
 ghost use Rattle.pix_table.specs.BestPlaces.{ArePart, IsBestUpTo, gain_at, weight_by};
 ghost use Rattle.pix_table.specs.BestPlaces.{CanCutBy, IsBestUpToBy};
 
@@ -47,10 +47,10 @@ fn best_of_block(colors: &[Color]) -> Option<Place>
 {
     let (mut reds, mut greens, mut blues) = ([0; 256], [0; 256], [0; 256]);
     add_words(colors, &mut reds, &mut greens, &mut blues);
-    let all = total_of_words(colors, &reds, &greens);
-    let best = best_in(colors, 0, &reds, all, None);
-    let best = best_in(colors, 1, &greens, all, best);
-    best_in(colors, 2, &blues, all, best)
+    let all = total_of_words(&reds, &greens);
+    let best = best_in(0, &reds, 0, all, None);
+    let best = best_in(1, &greens, 0, all, best);
+    best_in(2, &blues, 0, all, best)
 }
 
 /// Does what [`best_place`] does for more colors than a block.
@@ -62,32 +62,30 @@ fn best_of_blocks(colors: &[Color]) -> Option<Place>
     let mut reds = [Sums::none(); 256];
     let (mut greens, mut blues) = (reds, reds);
     add_blocks(colors, &mut reds, &mut greens, &mut blues);
-    let all = total(colors, 0, &reds);
-    let best = best_in(colors, 0, &reds, all, None);
-    let best = best_in(colors, 1, &greens, all, best);
-    best_in(colors, 2, &blues, all, best)
+    let all = total(0, &reds);
+    let best = best_in(0, &reds, 0, all, None);
+    let best = best_in(1, &greens, 0, all, best);
+    best_in(2, &blues, 0, all, best)
 }
 
-/// Returns the best place up to the end of a channel, where `best` is the best before it.
-fn best_in<P: ByValue>(
-    colors: &[Color],
+/// Returns the best place up to the end of a channel, where `best` is the best before it. No number
+/// of the box in the channel is below `first`.
+pub(crate) fn best_in<P: ByValue>(
     k: usize,
     parts: &P,
+    first: u8,
     all: Sums,
     best: Option<Place>,
 ) -> Option<Place>
-    requires some { 0 < length colors.now }
     requires channel { k < 3 }
-    requires sums { P.sums parts.now k (map numbers colors.now) }
-    requires all { AreSums (λ color. true) (map numbers colors.now) all }
-    requires bytes { All AreBytes (map numbers colors.now) }
-    requires before { IsBestUpTo (map numbers colors.now) k 0 best }
-    ensures { IsBestUpTo (map numbers colors.now) (k + 1) 0 result }
+    requires sums { (box : List (List ℕ)) × HasSums P.sums parts.now k first all box }
+    ensures { (box : List (List ℕ)) → HasSums P.sums parts.now k first all box
+        → IsBestUpTo box k 0 best → IsBestUpTo box (k + 1) 0 result }
 {
     let whole = all.weight();
     let mut best = best;
     let mut low = Sums::none();
-    for value in 0..255 {
+    for value in first..255 {
         let part = parts.at(k, usize::from(value));
         if part.count == 0 {
             continue;
@@ -143,7 +141,8 @@ fn better_at<P: ByValue>(
 
 /// Returns the better of the best place so far and the next one, the first of equals.
 pub(crate) fn better(best: Option<Place>, place: Place) -> Option<Place>
-    ensures { (channels : ℕ) → (gains_at : ℕ → ℕ → List (List ℕ) → ℕ) → (box : List (List ℕ))
+    ensures { (channels : ℕ) → (gains_at : ℕ → ℕ → List (List ℕ) → ℕ)
+        → (box : List (List ℕ))
         → IsBestUpToBy channels gains_at box place.channel place.value best
         → CanCutBy channels box place.channel place.value
         → gains_at place.channel place.value box ≡ place.gain

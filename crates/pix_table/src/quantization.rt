@@ -1,15 +1,19 @@
 //! A table made from the pixels of a picture.
-ghost use Rattle.std.specs.Prelude.{◌≡◌, ◌⊎◌, ◌<◌, ◌≤◌, ℕ, List, length, map, take};
-ghost use Rattle.std.specs.Prelude.{MatchOption, IfNone};
+ghost use Rattle.std.specs.Prelude.{◌≡◌, ◌⊎◌, ◌<◌, ◌≤◌, ◌*◌, ◌^◌, ℕ, All, List, [], length, map, sum_by, take};
+ghost use Rattle.std.specs.Prelude.{MatchOption, IfNone, IsPermutation, false, slice_index_or, true};
 ghost use Rattle.std.specs.List.{list_any};
+ghost use Rattle.std.specs.Simd.{first_chunks};
+ghost use Rattle.pix_table.specs.Items.{IsItem, pair_items, spread, times_of};
 ghost use Rattle.pix_table.specs.Nearest.{numbers};
 ghost use Rattle.pix_table.specs.Quantization.{shown, same_color, distinct, IsQuantized};
 ghost use Rattle.pix_table.specs.Cut.{IsCutTable};
 ghost use Rattle.pix_table.specs.Refine.{AreRounds, IsQuantizedRefined, squared_error};
 
 use crate::color::{Color, TablePixel};
+use crate::color_items::cut_items;
 use crate::cut::cut_table;
-use crate::refine::refine;
+use crate::items::{Counted, PLACES, count_pairs, place_of};
+use crate::refine::{refine, refine_items};
 
 /// Returns how many colors of work memory [`quantize`] takes for this many pixels, which is the
 /// same number.
@@ -47,8 +51,9 @@ pub fn quantize<P: TablePixel>(
 }
 
 /// Does what [`quantize`] does. Then `rounds` rounds, from 0 to 255, make the table fit
-/// better. It returns `None`, and changes nothing, where [`quantize`] does. A round takes about
-/// as long as the pixels take to be matched.
+/// better. It returns `None`, and changes nothing, where [`quantize`] does. A round takes
+/// about as long as matching each distinct color, so less than matching the pixels where colors
+/// come again.
 ///
 /// In a round each color goes to its nearest entry, the first of equals. Then each entry goes to
 /// the mean of its colors, to the nearest whole number in each channel, ties up. An entry without
@@ -76,8 +81,30 @@ pub fn quantize_refined<P: TablePixel>(
     if entries.is_empty() || entries.len() > 256 || work.len() < quantize_work(pixels.len()) {
         return None;
     }
+    Some(quantize_shown(pixels, alpha, rounds, work, entries))
+}
+
+/// Writes the table of the pixels whose alpha is not below `alpha` into the first of the entries,
+/// and returns their number.
+fn quantize_shown<P: TablePixel>(
+    pixels: &[P],
+    alpha: u8,
+    rounds: u8,
+    work: &mut [Color],
+    entries: &mut [Color],
+) -> usize
+    requires work { length pixels.now ≤ length work.old }
+    requires room { 0 < length entries.old }
+    requires few { length entries.old ≤ 256 }
+    ensures within { result ≤ length entries.new }
+    ensures table { IsQuantizedRefined rounds (length entries.old)
+        (shown alpha (map P.values pixels.now)) (map numbers (take result entries.new)) }
+{
     let count = gather(pixels, alpha, work);
-    Some(quantize_colors(&mut work[..count], rounds, entries))
+    match distinct(&work[..count], entries) {
+        Some(made) => made,
+        None => cut_and_refine(pixels, alpha, rounds, work, count, entries),
+    }
 }
 
 /// Writes the colors of the pixels whose alpha is not below `alpha` into the first places of
@@ -97,26 +124,70 @@ fn gather<P: TablePixel>(pixels: &[P], alpha: u8, work: &mut [Color]) -> usize
     count
 }
 
-/// Writes the table of some colors into the first of the entries, and returns their number. The
-/// order of the colors changes.
-fn quantize_colors(colors: &mut [Color], rounds: u8, entries: &mut [Color]) -> usize
+/// Writes the table of the cut into the first of the entries, moves them by `rounds` rounds, and
+/// returns their number. The first `count` of `work` are the colors of the pixels whose alpha is
+/// not below `alpha`. They are counted first. Where they repeat too little, they are gathered
+/// again.
+///
+/// Condition: there is a color, and there are 1 to 256 entries.
+fn cut_and_refine<P: TablePixel>(
+    pixels: &[P],
+    alpha: u8,
+    rounds: u8,
+    work: &mut [Color],
+    count: usize,
+    entries: &mut [Color],
+) -> usize
+    requires work { length pixels.now ≤ length work.old }
+    requires inside { count ≤ length work.old }
+    requires some { 0 < count }
+    requires gathered { map numbers (take count work.old) ≡ shown alpha (map P.values pixels.now) }
     requires room { 0 < length entries.old }
     requires few { length entries.old ≤ 256 }
     ensures within { result ≤ length entries.new }
-    ensures table { IsQuantizedRefined rounds (length entries.old) (map numbers colors.old)
-        (map numbers (take result entries.new)) }
+    ensures table { (first : List (List ℕ))
+        × IsCutTable (length entries.old) (shown alpha (map P.values pixels.now)) first
+        × AreRounds rounds (shown alpha (map P.values pixels.now)) first
+        (map numbers (take result entries.new))
+        × (squared_error (map numbers (take result entries.new))
+        (shown alpha (map P.values pixels.now))
+        ≤ squared_error first (shown alpha (map P.values pixels.now))) }
 {
-    match distinct(colors, entries) {
-        Some(count) => count,
-        None => cut_and_refine(colors, rounds, entries),
+    match count_pairs(&mut work[..count]) {
+        Some(pairs) => refined_of_pairs(&mut work[..count], pairs, rounds, entries),
+        None => {
+            let again = gather(pixels, alpha, work);
+            refined_of_colors(&mut work[..again], rounds, entries)
+        }
     }
 }
 
-/// Writes the table of the cut into the first of the entries, moves them by `rounds` rounds, and
-/// returns their number. The order of the colors changes.
-///
-/// Condition: there is a color, and there are 1 to 256 entries.
-fn cut_and_refine(colors: &mut [Color], rounds: u8, entries: &mut [Color]) -> usize
+/// Makes the table by pairs of a color and its count, which are the first of the colors.
+fn refined_of_pairs(colors: &mut [Color], pairs: usize, rounds: u8, entries: &mut [Color]) -> usize
+    requires inside { 2 * pairs ≤ length colors.old }
+    requires some { 0 < pairs }
+    requires items { All (IsItem 3) (pair_items numbers (first_chunks 2 pairs colors.old)) }
+    requires count { sum_by (times_of 3) (pair_items numbers (first_chunks 2 pairs colors.old))
+        < 2 ^ 64 }
+    requires room { 0 < length entries.old }
+    requires few { length entries.old ≤ 256 }
+    ensures within { result ≤ length entries.new }
+    ensures table { (all : List (List ℕ)) → IsPermutation all
+        (spread 3 (pair_items numbers (first_chunks 2 pairs colors.old)))
+        → (first : List (List ℕ)) × IsCutTable (length entries.old) all first
+        × AreRounds rounds all first (map numbers (take result entries.new))
+        × (squared_error (map numbers (take result entries.new)) all
+        ≤ squared_error first all) }
+{
+    let (chunks, _) = colors.as_chunks_mut::<2>();
+    let items = &mut chunks[..pairs];
+    let count = cut_items(items, entries);
+    refine_items(items, rounds, &mut entries[..count]);
+    count
+}
+
+/// Makes the table by colors, each of which counts one. Their order changes.
+fn refined_of_colors(colors: &mut [Color], rounds: u8, entries: &mut [Color]) -> usize
     requires some { 0 < length colors.old }
     requires room { 0 < length entries.old }
     requires few { length entries.old ≤ 256 }
@@ -134,37 +205,52 @@ fn cut_and_refine(colors: &mut [Color], rounds: u8, entries: &mut [Color]) -> us
 
 /// Writes the distinct colors into the first of the entries, in order of first place, and returns
 /// their number. Returns `None` where there are more of them than entries.
+// Out of line, so that its stack and that of the cut do not add up.
+#[inline(never)]
 fn distinct(colors: &[Color], entries: &mut [Color]) -> Option<usize>
+    requires { length entries.old ≤ 256 }
     ensures { MatchOption result
         (length entries.old < length (distinct (map numbers colors.now)))
         (λ count. (count ≤ length entries.new)
         × (map numbers (take count entries.new) ≡ distinct (map numbers colors.now))) }
 {
+    let mut hints = [0; PLACES];
     let mut count = 0;
     for i in 0..colors.len() {
-        let known = has(&entries[..count], colors[i]);
-        if !known {
-            if count == entries.len() {
-                return None;
+        let clr = colors[i];
+        let place = place_of(clr.key());
+        match entry_of(&entries[..count], clr, usize::from(hints[place])) {
+            Some(at) => hints[place] = at as u8,
+            None => {
+                if count == entries.len() {
+                    return None;
+                }
+                entries[count] = clr;
+                hints[place] = count as u8;
+                count += 1;
             }
-            entries[count] = colors[i];
-            count += 1;
         }
     }
     Some(count)
 }
 
-/// Returns whether a color is among the entries.
-fn has(entries: &[Color], clr: Color) -> bool
-    ensures { result ≡ list_any (λ c. same_color c (numbers clr)) (map numbers entries.now) }
+/// Returns the place of a color among the entries. It looks at one place first.
+#[inline(always)]
+fn entry_of(entries: &[Color], clr: Color, first: usize) -> Option<usize>
+    ensures { MatchOption result
+        (list_any (λ c. same_color c (numbers clr)) (map numbers entries.now) ≡ false)
+        (λ at. (at < length entries.now) × (same_color
+        (slice_index_or (map numbers entries.now) at []) (numbers clr) ≡ true)) }
 {
+    if first < entries.len() && same(entries[first], clr) {
+        return Some(first);
+    }
     for i in 0..entries.len() {
-        let found = same(entries[i], clr);
-        if found {
-            return true;
+        if same(entries[i], clr) {
+            return Some(i);
         }
     }
-    false
+    None
 }
 
 /// Returns whether two colors are the same.

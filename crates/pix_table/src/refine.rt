@@ -1,10 +1,10 @@
 //! Rounds by which a table fits a list of colors better.
-ghost use Rattle.std.specs.Prelude.{◌≡◌, ◌<◌, ◌≤◌, ◌+◌, ◌*◌, ◌^◌, ℕ, List, false, length, map, take};
+ghost use Rattle.std.specs.Prelude.{◌≡◌, ◌<◌, ◌≤◌, ◌+◌, ◌*◌, ◌^◌, ℕ, All, IsPermutation, List, false, length, map, sum_by, take};
 ghost use Rattle.pix_table.specs.InverseMap.{word_color};
 ghost use Rattle.pix_table.specs.Nearest.{numbers};
 ghost use Rattle.pix_table.specs.Refine.{AreRounds, IsRound, squared_error};
 ghost use Rattle.pix_table.specs.Groups.{AreItemGroups};
-ghost use Rattle.pix_table.specs.Items.{AreItemsOf, item_sum};
+ghost use Rattle.pix_table.specs.Items.{AreItemsOf, IsItem, item_sum, pair_items, spread, times_of};
 
 use crate::box_sums::Sums;
 use crate::chosen::ENTRIES;
@@ -17,6 +17,8 @@ use crate::word::{color_of, word_of};
 
 impl Counted for Color {
     ghost parts = { numbers };
+
+    ghost channels = { 3 };
 
     ghost key_parts = { word_color };
 
@@ -65,6 +67,29 @@ pub(crate) fn refine(colors: &mut [Color], rounds: u8, entries: &mut [Color])
     }
     let items = count_colors(colors);
     refine_by(colors, items, rounds, entries);
+}
+
+/// Does the same by pairs, each of a color and its count.
+// Out of line, as above.
+#[inline(never)]
+pub(crate) fn refine_items(items: &[[Color; 2]], rounds: u8, entries: &mut [Color])
+    requires some { 0 < length entries.old }
+    requires few { length entries.old ≤ 256 }
+    requires items { All (IsItem 3) (pair_items numbers items.now) }
+    requires count { sum_by (times_of 3) (pair_items numbers items.now) < 2 ^ 64 }
+    ensures rounds { (all : List (List ℕ))
+        → IsPermutation all (spread 3 (pair_items numbers items.now))
+        → AreRounds rounds all (map numbers entries.old) (map numbers entries.new) }
+    ensures no_worse { (all : List (List ℕ))
+        → IsPermutation all (spread 3 (pair_items numbers items.now))
+        → squared_error (map numbers entries.new) all
+        ≤ squared_error (map numbers entries.old) all }
+{
+    let counted = Items {
+        pairs: items.len(),
+        singles: 0,
+    };
+    refine_by(items.as_flattened(), counted, rounds, entries);
 }
 
 /// Does the same by the items of the colors.

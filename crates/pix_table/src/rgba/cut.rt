@@ -23,6 +23,8 @@ impl Cutting for Seen {
 
     ghost weigh = { seen_weight };
 
+    ghost times = { λ color. 1 };
+
     ghost middle = { seen_mean };
 
     ghost fits = { AreSeen };

@@ -6,6 +6,7 @@ ghost use Rattle.pix_table.specs.SeenSums.{AreFew, AreSeenSums};
 ghost use Rattle.pix_table.specs.Joins.{cost_by};
 ghost use Rattle.pix_table.specs.ColorGroups.{IsSeenGroup};
 
+use crate::box_sums::FEW;
 use crate::rgba::color::Seen;
 use crate::rgba::sums::{SeenSums, seen_sums_of};
 
@@ -31,7 +32,16 @@ impl SeenGroup {
         requires seen { All AreSeen (map seen_numbers colors.now) }
         ensures { IsSeenGroup (map seen_numbers colors.now) result }
     {
-        let sums = seen_sums_of(colors);
+        SeenGroup::by_sums(seen_sums_of(colors))
+    }
+
+    /// Returns that of a box by its sums. Condition: it has a color.
+    pub(crate) fn by_sums(sums: SeenSums) -> SeenGroup
+        requires { (box : List (List ℕ)) × (0 < length box) × All AreSeen box
+            × AreSeenSums (λ color. true) box sums }
+        ensures { (box : List (List ℕ)) → 0 < length box → All AreSeen box
+            → AreSeenSums (λ color. true) box sums → IsSeenGroup box result }
+    {
         SeenGroup {
             sums,
             weight: sums.weight(),
@@ -68,6 +78,8 @@ impl SeenGroup {
     }
 
     /// Returns by how much the squared error rises where two boxes become one.
+    // Out of line, so that most pairs, which cost too much, take no sums of 128 bits.
+    #[inline(never)]
     pub(crate) fn cost(self, other: SeenGroup) -> u128
         requires { (a b : List (List ℕ)) × IsSeenGroup a self × IsSeenGroup b other
             × (length a + length b < 2 ^ 64) }
@@ -87,8 +99,11 @@ impl SeenGroup {
             → IsSeenGroup b other → most < cost_by seen_weight a b }
     {
         let both = self.both(other);
-        let apart = self.weight + other.weight;
-        most < apart && both.weighs_at_most(apart - most - 1)
+        if both.count >= FEW {
+            return false;
+        }
+        let apart = self.weight as u64 + other.weight as u64;
+        most < u128::from(apart) && both.weighs_at_most(u128::from(apart - most as u64 - 1))
     }
 
     /// Returns the mean of the box.

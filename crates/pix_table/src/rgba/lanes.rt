@@ -4,10 +4,14 @@ ghost use Rattle.std.specs.Prelude.{◌≡◌, ◌<◌, ◌≤◌, length};
 use crate::color_block::{ColorBlock, SIZE};
 use crate::lanes::nearest_lane;
 use crate::rgba::color::Seen;
+use crate::rgba::near_blocks::{BlockEnds, nearest_near};
 use crate::rgba::views::{SeenBlock, both_views, views_of};
 
 /// The number of blocks of sixteen entries.
 const BLOCKS: usize = 16;
+
+/// Fewer entries are searched no faster where blocks are passed by.
+const MANY: usize = 112;
 
 /// A copy of some colors that are seen, at least one and at most 256, in blocks of lanes.
 #[derive(Clone, Copy)]
@@ -24,6 +28,7 @@ impl SeenLanes {
     ghost use Rattle.pix_table.specs.Nearest.{IsNearestBy};
     ghost use Rattle.pix_table.specs.Seen.{AreSeen, seen_distance, seen_numbers};
     ghost use Rattle.pix_table.specs.SeenLanes.{AreSeenLanes};
+    ghost use Rattle.pix_table.specs.NearBlocks.{AreEnds};
 
     /// Makes a copy of some colors. The lanes behind them have the last one.
     pub(crate) fn of(entries: &[Seen]) -> SeenLanes
@@ -58,5 +63,28 @@ impl SeenLanes {
             → IsNearestBy seen_distance entries (seen_numbers clr) result }
     {
         nearest_lane(&self.blocks[..(self.len + 15) / SIZE], both_views(clr))
+    }
+
+    /// Returns the ends of its blocks, for [`SeenLanes::nearest_from`].
+    pub(crate) fn ends(&self) -> BlockEnds
+        ensures { AreEnds self.now.blocks result }
+    {
+        BlockEnds::of(&self.blocks)
+    }
+
+    /// Returns what [`SeenLanes::nearest`] does. Of many entries those are passed by whose blocks
+    /// are farther than the entry of an index.
+    pub(crate) fn nearest_from(&self, ends: &BlockEnds, clr: Seen, near: u8) -> u8
+        requires seen { AreSeen (seen_numbers clr) }
+        requires near { near < self.now.len }
+        requires ends { AreEnds self.now.blocks ends.now }
+        ensures { (entries : List (List ℕ)) → AreSeenLanes entries self.now
+            → IsNearestBy seen_distance entries (seen_numbers clr) result }
+    {
+        if self.len < MANY {
+            return self.nearest(clr);
+        }
+        let blocks = &self.blocks[..(self.len + 15) / SIZE];
+        nearest_near(blocks, ends, both_views(clr), near)
     }
 }

@@ -1,10 +1,16 @@
 //! The entries that are seen nearest to pixels.
-ghost use Rattle.std.specs.Prelude.{◌≡◌, ◌<◌, ◌≤◌, All, length, map, take};
-ghost use Rattle.pix_table.specs.Seen.{AreSeen, AreSeenMatched, seen, seen_numbers};
+ghost use Rattle.std.specs.Prelude.{◌≡◌, ◌<◌, ◌≤◌, ℕ, All, List, length, map, take};
+ghost use Rattle.pix_table.specs.Nearest.{IsNearestBy};
+ghost use Rattle.pix_table.specs.Seen.{AreSeen, AreSeenMatched, seen, seen_distance, seen_numbers};
+ghost use Rattle.pix_table.specs.SeenLanes.{AreSeenLanes};
+ghost use Rattle.pix_table.specs.SeenMatches.{AreMatchedPixels};
+ghost use Rattle.pix_table.specs.SeenGroups.{seen_key_numbers};
+ghost use Rattle.pix_table.specs.SeenTables.{four_of};
 
 use crate::chosen::ENTRIES;
 use crate::color::TablePixel;
-use crate::rgba::color::{Seen, same, seen_of};
+use crate::items::place_of;
+use crate::rgba::color::{RgbaColor, Seen, seen_of};
 use crate::rgba::lanes::SeenLanes;
 
 /// Returns how the entries of a table are seen, followed by others.
@@ -20,6 +26,17 @@ pub(crate) fn seen_entries<E: TablePixel>(entries: &[E]) -> [Seen; ENTRIES]
         colors[i] = seen_of(entries[i]);
     }
     colors
+}
+
+/// The number of places for pixels that were matched.
+const PLACES: usize = 1024;
+
+/// A pixel, by the key of its color and alpha, and the index of the entry that is seen nearest to
+/// it.
+#[derive(Clone, Copy)]
+pub(crate) struct MatchedPixel {
+    key: u32,
+    index: u8,
 }
 
 /// Sets the index of each pixel to that of the entry that is seen nearest to it, the first of
@@ -38,59 +55,52 @@ pub fn map_indexed_rgba<E: TablePixel, P: TablePixel>(
 {
     let colors = seen_entries(entries);
     let lanes = SeenLanes::of(&colors[..entries.len()]);
-    let mut last = Seen::default();
-    let mut index = lanes.nearest(last);
+    let clear = RgbaColor {
+        red: 0,
+        green: 0,
+        blue: 0,
+        alpha: 0,
+    };
+    let first = MatchedPixel {
+        key: 0,
+        index: lanes.nearest(seen_of(clear)),
+    };
+    let mut places = [first; PLACES];
     for k in 0..pixels.len() {
-        let color = seen_of(pixels[k]);
-        if !same(color, last) {
-            index = lanes.nearest(color);
-            last = color;
-        }
-        indices[k] = index;
+        indices[k] = index_of(&lanes, &mut places, pixels[k]);
     }
 }
 
-#[cfg(test)]
-mod tests {
-    use super::*;
-    use crate::rgba::color::RgbaColor;
-
-    /// Returns a color with an alpha.
-    fn rgba(red: u8, green: u8, blue: u8, alpha: u8) -> RgbaColor {
-        RgbaColor {
-            red,
-            green,
-            blue,
-            alpha,
-        }
+/// Returns the index of the entry that is seen nearest to a pixel, the first of equals. It is
+/// searched for where the place of the pixel has another one.
+#[inline(always)]
+fn index_of<P: TablePixel>(lanes: &SeenLanes, places: &mut [MatchedPixel], pixel: P) -> u8
+    requires { length places.old ≡ 1024 }
+    ensures nearest { (entries : List (List ℕ)) → AreSeenLanes entries lanes.now
+        → AreMatchedPixels entries places.old
+        → IsNearestBy seen_distance entries (seen (P.values pixel)) result }
+    ensures places { (entries : List (List ℕ)) → AreSeenLanes entries lanes.now
+        → AreMatchedPixels entries places.old → AreMatchedPixels entries places.new }
+{
+    let key = key_of(pixel);
+    let at = place_of(key) / 4;
+    let place = places[at];
+    if place.key == key {
+        return place.index;
     }
+    let index = lanes.nearest(seen_of(pixel));
+    places[at] = MatchedPixel { key, index };
+    index
+}
 
-    #[test]
-    fn matches_by_alpha_and_color(rt: HostRuntime) {
-        let entries = [
-            rgba(0, 0, 0, 0),
-            rgba(255, 0, 0, 255),
-            rgba(255, 0, 0, 128),
-            rgba(255, 0, 0, 128),
-        ];
-        let pixels = [
-            rgba(250, 9, 9, 140),
-            rgba(90, 80, 70, 0),
-            rgba(240, 0, 0, 255),
-            rgba(240, 0, 0, 255),
-        ];
-        let mut indices = [9; 4];
-        map_indexed_rgba(&entries, &pixels, &mut indices);
-        assert_eq!(rt; indices, [2, 0, 1, 1]);
-    }
-
-    /// Each entry is farther than 16 bits can count.
-    #[test]
-    fn matches_far_colors(rt: HostRuntime) {
-        let entries = [rgba(0, 0, 255, 255), rgba(0, 0, 0, 255)];
-        let pixels = [rgba(255, 255, 0, 255)];
-        let mut indices = [9; 1];
-        map_indexed_rgba(&entries, &pixels, &mut indices);
-        assert_eq!(rt; indices, [1]);
-    }
+/// Returns a number that tells the color and the alpha of a pixel from all others.
+#[inline(always)]
+fn key_of<P: TablePixel>(pixel: P) -> u32
+    ensures { seen_key_numbers result ≡ four_of (P.values pixel) }
+{
+    let clr = pixel.rgb();
+    u32::from(clr.red) * 16777216
+        + u32::from(clr.green) * 65536
+        + u32::from(clr.blue) * 256
+        + u32::from(pixel.alpha())
 }

@@ -1,13 +1,14 @@
 //! The place at which a cut of a box of seen colors lowers the squared error most.
-ghost use Rattle.std.specs.Prelude.{◌+◌, ◌<◌, ◌≤◌, All, length, map, MatchOption, true};
+ghost use Rattle.std.specs.Prelude.{◌≡◌, ◌+◌, ◌-◌, ◌<◌, ◌≤◌, ℕ, All, List, length, map, MatchOption, true};
 ghost use Rattle.pix_table.specs.Places.{CannotBeCutBy, HasBestBy};
-ghost use Rattle.pix_table.specs.BestPlaces.{IsBestUpToBy};
+ghost use Rattle.pix_table.specs.BestPlaces.{CanCutBy, IsBestUpToBy};
 ghost use Rattle.pix_table.specs.Seen.{AreSeen, seen_numbers};
 ghost use Rattle.pix_table.specs.SeenCut.{seen_weight};
-ghost use Rattle.pix_table.specs.SeenSums.{AreSeenByValue, AreSeenSums, seen_gain_at};
+ghost use Rattle.pix_table.specs.SeenSums.{AreFew, AreSeenPart, IsSummed, seen_gain_at, seen_weight_by};
 
 use crate::place::{Place, better};
 use crate::rgba::color::Seen;
+use crate::rgba::part_sums::PartSums;
 use crate::rgba::sums::{SeenSums, seen_sums_of, sum_values};
 
 /// Returns the place at which a cut of a box gains most, the first of equals.
@@ -27,32 +28,31 @@ pub(crate) fn best_seen_place(colors: &[Seen]) -> Option<Place>
     let mut best = None;
     for k in 0..4 {
         sum_values(&mut parts, colors, k);
-        best = best_in(colors, k, &parts, all, best);
+        best = best_in(k, &parts, all, best);
     }
     best
 }
 
-/// Returns the best place up to the end of a channel, where `best` is the best before it.
-fn best_in(
-    colors: &[Seen],
+/// Returns the best place of a box up to the end of a channel, where `best` is the best before it.
+pub(crate) fn best_in<S: PartSums>(
     k: usize,
-    parts: &[SeenSums; 256],
+    parts: &[S],
     all: SeenSums,
     best: Option<Place>,
 ) -> Option<Place>
-    requires some { 0 < length colors.now }
-    requires seen { All AreSeen (map seen_numbers colors.now) }
     requires channel { k < 4 }
-    requires sums { AreSeenByValue k (map seen_numbers colors.now) parts.now }
-    requires all { AreSeenSums (λ color. true) (map seen_numbers colors.now) all }
-    requires before { IsBestUpToBy 4 seen_gain_at (map seen_numbers colors.now) k 0 best }
-    ensures { IsBestUpToBy 4 seen_gain_at (map seen_numbers colors.now) (k + 1) 0 result }
+    requires many { length parts.now ≡ 256 }
+    requires before { (box : List (List ℕ)) × IsSummed k box (map S.whole parts.now) all
+        × IsBestUpToBy 4 seen_gain_at box k 0 best }
+    ensures { (box : List (List ℕ)) → IsSummed k box (map S.whole parts.now) all
+        → IsBestUpToBy 4 seen_gain_at box k 0 best
+        → IsBestUpToBy 4 seen_gain_at box (k + 1) 0 result }
 {
     let whole = all.weight();
     let mut best = best;
     let mut low = SeenSums::none();
     for value in 0..255 {
-        let part = parts[usize::from(value)];
+        let part = parts[usize::from(value)].sums();
         if part.count == 0 {
             continue;
         }
@@ -60,12 +60,62 @@ fn best_in(
         if low.count == all.count {
             return best;
         }
-        let place = Place {
-            channel: k,
-            value: value + 1,
-            gain: all.gain(low, whole),
-        };
-        best = better(best, place);
+        best = better_at(all, low, whole, best, k, value + 1);
     }
     best
+}
+
+/// Returns the better of the best place so far and the next one, the first of equals.
+///
+/// `low` are the sums of the colors below the next one, and all colors weigh `whole`.
+#[inline(always)]
+fn better_at(
+    all: SeenSums,
+    low: SeenSums,
+    whole: u128,
+    best: Option<Place>,
+    k: usize,
+    value: u8,
+) -> Option<Place>
+    requires { AreSeenPart low all }
+    ensures { (box : List (List ℕ)) → IsBestUpToBy 4 seen_gain_at box k value best
+        → CanCutBy 4 box k value
+        → seen_gain_at k value box ≡ seen_weight_by low.count low.red low.green low.blue low.alpha
+        + seen_weight_by (all.count - low.count) (all.red - low.red) (all.green - low.green)
+        (all.blue - low.blue) (all.alpha - low.alpha)
+        - whole
+        → IsBestUpToBy 4 seen_gain_at box k (value + 1) result }
+{
+    let high = all.without(low);
+    let below = low.weight();
+    if let Some(old) = best {
+        if gains_little(high, below, whole, old.gain) {
+            return best;
+        }
+    }
+    let gain = (below + high.weight()).saturating_sub(whole);
+    better(
+        best,
+        Place {
+            channel: k,
+            value,
+            gain,
+        },
+    )
+}
+
+/// Returns whether it tells that a cut gains at most `most`, without a division for the colors
+/// above it.
+///
+/// Those have the sums `high`, the ones below weigh `below`, and all weigh `whole`.
+#[inline(always)]
+fn gains_little(high: SeenSums, below: u128, whole: u128, most: u128) -> bool
+    requires some { 0 < high.count }
+    requires few { AreFew high }
+    ensures { result ≡ true
+        → below + seen_weight_by high.count high.red high.green high.blue high.alpha - whole
+        ≤ most }
+{
+    let room = whole.saturating_add(most);
+    below <= room && high.weighs_at_most(room - below)
 }

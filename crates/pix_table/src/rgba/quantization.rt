@@ -1,16 +1,20 @@
 //! A table of colors with an alpha, made from the pixels of a picture.
-ghost use Rattle.std.specs.Prelude.{◌≡◌, ◌⊎◌, ◌<◌, ◌≤◌, ℕ, All, List, length, map, take};
-ghost use Rattle.std.specs.Prelude.{MatchOption, IfNone, [], false, slice_index_or, true};
+ghost use Rattle.std.specs.Prelude.{◌≡◌, ◌⊎◌, ◌<◌, ◌≤◌, ◌*◌, ◌^◌, ℕ, All, List, length, map, sum_by, take};
+ghost use Rattle.std.specs.Prelude.{MatchOption, IfNone, IsPermutation, [], false, slice_index_or, true};
 ghost use Rattle.std.specs.List.{list_any};
+ghost use Rattle.std.specs.Simd.{first_chunks};
+ghost use Rattle.pix_table.specs.Items.{IsItem, pair_items, spread, times_of};
 ghost use Rattle.pix_table.specs.Seen.{AreSeen, rgba_numbers, seen, seen_numbers, straight};
 ghost use Rattle.pix_table.specs.SeenTables.{IsQuantizedRgba, IsSeenTable, distinct_pixels};
 ghost use Rattle.pix_table.specs.SeenTables.{four_of, same_seen};
 
 use crate::chosen::ENTRIES;
 use crate::color::TablePixel;
+use crate::items::{Counted, PLACES, count_pairs, place_of};
 use crate::rgba::color::{RgbaColor, Seen, same, seen_of, straight};
 use crate::rgba::cut::cut_seen_table;
-use crate::rgba::refine::refine_seen;
+use crate::rgba::items::cut_seen_items;
+use crate::rgba::refine::{refine_seen, refine_seen_items};
 
 /// Writes a table of the colors of `pixels`, each with its alpha, into the first of the entries,
 /// and returns their number. It returns `None`, and changes nothing, where there is no entry or
@@ -61,15 +65,14 @@ fn quantize_seen<P: TablePixel>(
 {
     match distinct(pixels, entries) {
         Some(count) => count,
-        None => {
-            gather(pixels, work);
-            made_table(work, rounds, entries)
-        }
+        None => made_table(pixels, rounds, work, entries),
     }
 }
 
 /// Writes the pixels that are seen as none before them into the first of the entries, and returns
 /// their number. Returns `None` where there are more of them than entries.
+// Out of line, so that its stack and that of the cut do not add up.
+#[inline(never)]
 fn distinct<P: TablePixel>(pixels: &[P], entries: &mut [RgbaColor]) -> Option<usize>
     requires { length entries.old ≤ 256 }
     ensures { MatchOption result
@@ -79,20 +82,21 @@ fn distinct<P: TablePixel>(pixels: &[P], entries: &mut [RgbaColor]) -> Option<us
         ≡ distinct_pixels (map P.values pixels.now))) }
 {
     let mut table = [Seen::default(); ENTRIES];
+    let mut hints = [0; PLACES];
     let mut count = 0;
-    let mut place = 0;
     for i in 0..pixels.len() {
         let pixel = pixels[i];
         let clr = seen_of(pixel);
-        match place_of(&table[..count], clr, place) {
-            Some(at) => place = at,
+        let place = place_of(clr.key());
+        match entry_of(&table[..count], clr, usize::from(hints[place])) {
+            Some(at) => hints[place] = at as u8,
             None => {
                 if count == entries.len() {
                     return None;
                 }
                 table[count] = clr;
                 entries[count] = rgba_of(pixel);
-                place = count;
+                hints[place] = count as u8;
                 count += 1;
             }
         }
@@ -113,9 +117,9 @@ fn rgba_of<P: TablePixel>(pixel: P) -> RgbaColor
     }
 }
 
-/// Returns the place of a color among the entries. It looks at one place first: the pixels of a
-/// picture are often seen as the ones before them.
-fn place_of(entries: &[Seen], clr: Seen, first: usize) -> Option<usize>
+/// Returns the place of a color among the entries. It looks at one place first.
+#[inline(always)]
+fn entry_of(entries: &[Seen], clr: Seen, first: usize) -> Option<usize>
     ensures { MatchOption result
         (list_any (λ c. same_seen c (seen_numbers clr)) (map seen_numbers entries.now) ≡ false)
         (λ at. (at < length entries.now) × (same_seen
@@ -143,31 +147,88 @@ fn gather<P: TablePixel>(pixels: &[P], colors: &mut [Seen])
     }
 }
 
-/// Writes the pixels that are seen as the table of some colors into the first of the entries, and
-/// returns their number. The order of the colors changes.
+/// Writes the pixels that are seen as the table of the cut into the first of the entries, and
+/// returns their number. Anything may stand in `work` then.
 ///
-/// Condition: there is a color, and there are 1 to 256 entries.
-fn made_table(colors: &mut [Seen], rounds: u8, entries: &mut [RgbaColor]) -> usize
-    requires some { 0 < length colors.old }
+/// Condition: there is a pixel, and there are 1 to 256 entries.
+fn made_table<P: TablePixel>(
+    pixels: &[P],
+    rounds: u8,
+    work: &mut [Seen],
+    entries: &mut [RgbaColor],
+) -> usize
+    requires some { 0 < length pixels.now }
+    requires work { length work.old ≡ length pixels.now }
     requires room { 0 < length entries.old }
     requires few { length entries.old ≤ 256 }
-    requires seen { All AreSeen (map seen_numbers colors.old) }
     ensures within { result ≤ length entries.new }
     ensures table { (table : List (List ℕ))
-        × IsSeenTable rounds (length entries.old) (map seen_numbers colors.old) table
+        × IsSeenTable rounds (length entries.old) (map seen (map P.values pixels.now)) table
         × (map rgba_numbers (take result entries.new) ≡ map straight table) }
 {
     let mut table = [Seen::default(); ENTRIES];
-    let count = cut_and_refine(colors, rounds, &mut table[..entries.len()]);
+    let count = cut_and_refine(pixels, rounds, work, &mut table[..entries.len()]);
     write_straight(&table[..count], entries);
     count
 }
 
 /// Writes the table of the cut into the first of the entries, moves them by `rounds` rounds, and
-/// returns their number. The order of the colors changes.
+/// returns their number. The colors are counted first. Where they repeat too little, they are
+/// gathered again.
 ///
-/// Condition: there is a color, and there are 1 to 256 entries.
-fn cut_and_refine(colors: &mut [Seen], rounds: u8, entries: &mut [Seen]) -> usize
+/// Condition: there is a pixel, and there are 1 to 256 entries.
+fn cut_and_refine<P: TablePixel>(
+    pixels: &[P],
+    rounds: u8,
+    work: &mut [Seen],
+    entries: &mut [Seen],
+) -> usize
+    requires some { 0 < length pixels.now }
+    requires work { length work.old ≡ length pixels.now }
+    requires room { 0 < length entries.old }
+    requires few { length entries.old ≤ 256 }
+    ensures within { result ≤ length entries.new }
+    ensures table { IsSeenTable rounds (length entries.old) (map seen (map P.values pixels.now))
+        (map seen_numbers (take result entries.new)) }
+    ensures seen { All AreSeen (map seen_numbers (take result entries.new)) }
+{
+    gather(pixels, work);
+    match count_pairs(work) {
+        Some(pairs) => refined_of_pairs(work, pairs, rounds, entries),
+        None => {
+            gather(pixels, work);
+            refined_of_colors(work, rounds, entries)
+        }
+    }
+}
+
+/// Makes the table by pairs of a color and its count, which are the first of the colors.
+fn refined_of_pairs(colors: &mut [Seen], pairs: usize, rounds: u8, entries: &mut [Seen]) -> usize
+    requires inside { 2 * pairs ≤ length colors.old }
+    requires some { 0 < pairs }
+    requires items { All (IsItem 4) (pair_items seen_numbers (first_chunks 2 pairs colors.old)) }
+    requires colors { All AreSeen
+        (spread 4 (pair_items seen_numbers (first_chunks 2 pairs colors.old))) }
+    requires count { sum_by (times_of 4)
+        (pair_items seen_numbers (first_chunks 2 pairs colors.old)) < 2 ^ 64 }
+    requires room { 0 < length entries.old }
+    requires few { length entries.old ≤ 256 }
+    ensures within { result ≤ length entries.new }
+    ensures table { (all : List (List ℕ)) → IsPermutation all
+        (spread 4 (pair_items seen_numbers (first_chunks 2 pairs colors.old)))
+        → IsSeenTable rounds (length entries.old) all
+        (map seen_numbers (take result entries.new)) }
+    ensures seen { All AreSeen (map seen_numbers (take result entries.new)) }
+{
+    let (chunks, _) = colors.as_chunks_mut::<2>();
+    let items = &mut chunks[..pairs];
+    let count = cut_seen_items(items, entries);
+    refine_seen_items(items, rounds, &mut entries[..count]);
+    count
+}
+
+/// Makes the table by colors, each of which counts one. Their order changes.
+fn refined_of_colors(colors: &mut [Seen], rounds: u8, entries: &mut [Seen]) -> usize
     requires some { 0 < length colors.old }
     requires room { 0 < length entries.old }
     requires few { length entries.old ≤ 256 }
@@ -192,128 +253,5 @@ fn write_straight(table: &[Seen], entries: &mut [RgbaColor])
 {
     for i in 0..table.len() {
         entries[i] = straight(table[i]);
-    }
-}
-
-#[cfg(test)]
-mod tests {
-    use super::*;
-    use crate::color::Color;
-    use crate::quantization::quantize_refined;
-
-    /// Returns a color with an alpha.
-    fn rgba(red: u8, green: u8, blue: u8, alpha: u8) -> RgbaColor {
-        RgbaColor {
-            red,
-            green,
-            blue,
-            alpha,
-        }
-    }
-
-    #[test]
-    fn keeps_few_pixels_as_they_are(rt: HostRuntime) {
-        let pixels = [
-            rgba(1, 2, 3, 4),
-            rgba(9, 8, 7, 0),
-            rgba(1, 2, 3, 4),
-            rgba(5, 5, 5, 0),
-            rgba(200, 100, 0, 255),
-            rgba(200, 100, 0, 254),
-        ];
-        let mut work = [Seen::default(); 6];
-        let mut entries = [RgbaColor::default(); 5];
-        let made = quantize_rgba(&pixels, 9, &mut work, &mut entries);
-        assert_eq!(rt; made, Some(4));
-        let kept = [
-            rgba(1, 2, 3, 4),
-            rgba(9, 8, 7, 0),
-            rgba(200, 100, 0, 255),
-            rgba(200, 100, 0, 254),
-        ];
-        for i in 0..4 {
-            assert_eq!(rt; entries[i], kept[i]);
-        }
-    }
-
-    #[test]
-    fn refuses_no_room(rt: HostRuntime) {
-        let pixels = [rgba(1, 2, 3, 4); 2];
-        let mut work = [Seen::default(); 1];
-        let mut entries = [RgbaColor::default(); 257];
-        assert_eq!(rt; quantize_rgba(&pixels, 0, &mut work, &mut entries), None);
-        let few = &mut entries[..4];
-        assert_eq!(rt; quantize_rgba(&pixels, 0, &mut work, few), None);
-        assert_eq!(rt; quantize_rgba(&pixels[..1], 0, &mut work, &mut []), None);
-    }
-
-    #[test]
-    fn makes_table_of_opaque_pixels(rt: HostRuntime) {
-        let mut pixels = [Color::default(); 400];
-        let mut n: u32 = 7;
-        for i in 0..400 {
-            n = n.wrapping_mul(1664525).wrapping_add(1013904223);
-            let [red, green, blue, _] = n.to_be_bytes();
-            pixels[i] = Color { red, green, blue };
-        }
-        let mut work = [Seen::default(); 400];
-        let mut entries = [RgbaColor::default(); 20];
-        let made = quantize_rgba(&pixels, 3, &mut work, &mut entries);
-        let mut plain_work = [Color::default(); 400];
-        let mut plain = [Color::default(); 20];
-        let plain_made = quantize_refined(&pixels, 0, 3, &mut plain_work, &mut plain);
-        assert_eq!(rt; made, plain_made);
-        for i in 0..20 {
-            let clr = plain[i];
-            assert_eq!(rt; entries[i], rgba(clr.red, clr.green, clr.blue, 255));
-        }
-    }
-
-    /// Returns black with an alpha.
-    fn black(alpha: u8) -> RgbaColor {
-        rgba(0, 0, 0, alpha)
-    }
-
-    #[test]
-    fn cuts_by_alpha(rt: HostRuntime) {
-        let pixels = [black(0), black(255), black(1), black(254)];
-        let mut work = [Seen::default(); 4];
-        let mut two = [RgbaColor::default(); 2];
-        let mut three = [RgbaColor::default(); 3];
-        assert_eq!(rt; quantize_rgba(&pixels, 0, &mut work, &mut two), Some(2));
-        assert_eq!(rt; two, [black(1), black(255)]);
-        assert_eq!(rt; quantize_rgba(&pixels, 0, &mut work, &mut three), Some(3));
-        assert_eq!(rt; three, [black(1), black(254), black(255)]);
-    }
-
-    /// White and black at half are as far apart over black as over white.
-    #[test]
-    fn cuts_red_before_alpha(rt: HostRuntime) {
-        let white = rgba(255, 255, 255, 128);
-        let pixels = [black(128), white, black(127)];
-        let mut work = [Seen::default(); 3];
-        let mut entries = [RgbaColor::default(); 2];
-        assert_eq!(rt; quantize_rgba(&pixels, 0, &mut work, &mut entries), Some(2));
-        assert_eq!(rt; entries, [black(128), white]);
-    }
-
-    /// The joined boxes have the means of 60 to 130, and of 160 and 170. 130 is nearer to 165.
-    #[test]
-    fn moves_entries_to_means(rt: HostRuntime) {
-        let pixels = [
-            black(130),
-            black(100),
-            black(160),
-            black(60),
-            black(170),
-            black(70),
-        ];
-        let mut work = [Seen::default(); 6];
-        let mut cut = [RgbaColor::default(); 2];
-        let mut entries = [RgbaColor::default(); 2];
-        assert_eq!(rt; quantize_rgba(&pixels, 0, &mut work, &mut cut), Some(2));
-        assert_eq!(rt; cut, [black(90), black(165)]);
-        assert_eq!(rt; quantize_rgba(&pixels, 1, &mut work, &mut entries), Some(2));
-        assert_eq!(rt; entries, [black(77), black(153)]);
     }
 }

@@ -1,6 +1,6 @@
 //! Rounds by which a table of seen colors fits a list of them better.
-ghost use Rattle.std.specs.Prelude.{◌≡◌, ◌<◌, ◌≤◌, ◌+◌, ◌*◌, ◌/◌, ◌%◌, ◌^◌, [], ◌∷◌, ℕ, All, List, false, length, map};
-ghost use Rattle.pix_table.specs.Items.{AreItemsOf, item_sum};
+ghost use Rattle.std.specs.Prelude.{◌≡◌, ◌<◌, ◌≤◌, ◌+◌, ◌*◌, ◌/◌, ◌%◌, ◌^◌, [], ◌∷◌, ℕ, All, IsPermutation, List, false, length, map, sum_by};
+ghost use Rattle.pix_table.specs.Items.{AreItemsOf, IsItem, item_sum, pair_items, spread, times_of};
 ghost use Rattle.pix_table.specs.Refine.{AreRoundsBy, IsRoundBy, squared_error_by};
 ghost use Rattle.pix_table.specs.Seen.{AreSeen, seen_distance, seen_numbers};
 ghost use Rattle.pix_table.specs.SeenGroups.{AreSeenGrouped, seen_key_numbers};
@@ -15,6 +15,8 @@ use crate::rgba::sums::SeenSums;
 
 impl Counted for Seen {
     ghost parts = { seen_numbers };
+
+    ghost channels = { 4 };
 
     ghost key_parts = { seen_key_numbers };
 
@@ -77,6 +79,33 @@ pub(crate) fn refine_seen(colors: &mut [Seen], rounds: u8, entries: &mut [Seen])
     }
     let items = count_colors(colors);
     refine_seen_by(colors, items, rounds, entries);
+}
+
+/// Does the same by pairs, each of a color and its count.
+// Out of line, as above.
+#[inline(never)]
+pub(crate) fn refine_seen_items(items: &[[Seen; 2]], rounds: u8, entries: &mut [Seen])
+    requires some { 0 < length entries.old }
+    requires few { length entries.old ≤ 256 }
+    requires items { All (IsItem 4) (pair_items seen_numbers items.now) }
+    requires colors { All AreSeen (spread 4 (pair_items seen_numbers items.now)) }
+    requires count { sum_by (times_of 4) (pair_items seen_numbers items.now) < 2 ^ 64 }
+    requires entries { All AreSeen (map seen_numbers entries.old) }
+    ensures rounds { (all : List (List ℕ))
+        → IsPermutation all (spread 4 (pair_items seen_numbers items.now))
+        → AreRoundsBy seen_distance seen_settled rounds all (map seen_numbers entries.old)
+        (map seen_numbers entries.new) }
+    ensures no_worse { (all : List (List ℕ))
+        → IsPermutation all (spread 4 (pair_items seen_numbers items.now))
+        → squared_error_by seen_distance (map seen_numbers entries.new) all
+        ≤ squared_error_by seen_distance (map seen_numbers entries.old) all }
+    ensures seen { All AreSeen (map seen_numbers entries.new) }
+{
+    let counted = Items {
+        pairs: items.len(),
+        singles: 0,
+    };
+    refine_seen_by(items.as_flattened(), counted, rounds, entries);
 }
 
 /// Does the same by the items of the colors.
@@ -159,11 +188,14 @@ fn sum_groups(colors: &[Seen], items: Items, entries: &[Seen], sums: &mut [SeenS
         → AreSeenGrouped (map seen_numbers entries.now) all sums.new }
 {
     let lanes = SeenLanes::of(entries);
+    let ends = lanes.ends();
     sums.fill(SeenSums::none());
+    let mut near = 0;
     for k in 0..items.pairs + items.singles {
         let (clr, count) = items.item(colors, k);
         if 0 < count {
-            let entry = usize::from(lanes.nearest(clr));
+            near = lanes.nearest_from(&ends, clr, near);
+            let entry = usize::from(near);
             sums[entry] = sums[entry].and(SeenSums::of_times(clr, count));
         }
     }

@@ -96,7 +96,7 @@ impl SeenSums {
     }
 
     /// Returns the sums of these colors without some of them.
-    fn without(self, part: SeenSums) -> SeenSums
+    pub(crate) fn without(self, part: SeenSums) -> SeenSums
         requires { AreSeenPart part self }
         ensures count { result.count ≡ self.count - part.count }
         ensures red { result.red ≡ self.red - part.red }
@@ -163,19 +163,6 @@ impl SeenSums {
             blue: quotient(2 * self.blue + count, 2 * count),
             alpha: quotient(2 * self.alpha + count, 2 * count),
         }
-    }
-
-    /// Returns what a cut gains, where `low` are the sums of the colors below it.
-    ///
-    /// All colors weigh `whole`.
-    pub(crate) fn gain(self, low: SeenSums, whole: u128) -> u128
-        requires { AreSeenPart low self }
-        ensures { result ≡ seen_weight_by low.count low.red low.green low.blue low.alpha
-            + seen_weight_by (self.count - low.count) (self.red - low.red)
-            (self.green - low.green) (self.blue - low.blue) (self.alpha - low.alpha)
-            - whole }
-    {
-        (low.weight() + self.without(low).weight()).saturating_sub(whole)
     }
 }
 

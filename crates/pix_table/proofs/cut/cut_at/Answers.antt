@@ -4,7 +4,7 @@ use Rattle.std.proofs.lemmas.List.{get_or-take, take-take}
 use Rattle.pix_table.specs.Cut.{AreBoxesBy}
 use Rattle.pix_table.specs.Pieces.{ArePieces, boxes_of}
 use Rattle.pix_table.specs.declared.pieces.Piece.{Piece}
-use Rattle.pix_table.proofs.CutBoxes.{fit_piece}
+use Rattle.pix_table.proofs.CutBoxes.{few_piece, fit_piece}
 use Rattle.pix_table.proofs.PieceBoxes.{next_known, boxes_stand, pieces_stand}
 use borrow.Rule.Slice.PartMut.{put_mid}
 use Rattle.pix_table.proofs.cut.cut_at.Given as given
@@ -33,6 +33,9 @@ pieces_are g c =
 
 pub cut_piece-requires-clause-fit : goal.cut_piece-requires-clause-fit
 cut_piece-requires-clause-fit g c = fit_piece g.C.Cutting.parts g.C.Cutting.fits c.args.colors.now c.args.next.start _ c.requires.fit
+
+pub cut_piece-requires-clause-few_colors : goal.cut_piece-requires-clause-few_colors
+cut_piece-requires-clause-few_colors g c = few_piece g.C.Cutting.parts g.C.Cutting.times c.args.colors.now c.args.next.start _ _ c.requires.few_colors
 
 pub cut_piece-requires-clause-best : goal.cut_piece-requires-clause-best
 cut_piece-requires-clause-best g c =

@@ -3,7 +3,7 @@ use Rattle.std.proofs.Common.{map, take, sym, subst}
 use Rattle.std.proofs.lemmas.List.{take_more_set}
 use Rattle.pix_table.specs.Cut.{AreBoxesBy}
 use Rattle.pix_table.specs.Pieces.{ArePieces, boxes_of}
-use Rattle.pix_table.proofs.CutColors.{boxes_fit}
+use Rattle.pix_table.proofs.CutColors.{boxes_few, boxes_fit}
 use Rattle.pix_table.proofs.PieceBoxes.{one_stands, one_box}
 use Rattle.pix_table.proofs.cut.cut_boxes.Goals as goal
 
@@ -22,3 +22,8 @@ pub cut_next-is_cut-requires-clause-fit : goal.cut_next-is_cut-requires-clause-f
 cut_next-is_cut-requires-clause-fit g c =
     boxes_fit g.C.Cutting.fits g.C.Cutting.parts (map g.C.Cutting.parts c.args.colors.now) c.loop-count.colors (take c.loop-count.count c.loop-count.pieces)
     c.loop-count.invariant.boxes c.loop-count.invariant.stand.all c.requires.fit
+
+pub cut_next-is_cut-requires-clause-few_colors : goal.cut_next-is_cut-requires-clause-few_colors
+cut_next-is_cut-requires-clause-few_colors g c =
+    boxes_few g.C.Cutting.times g.C.Cutting.parts (map g.C.Cutting.parts c.args.colors.now) c.loop-count.colors
+    (take c.loop-count.count c.loop-count.pieces) _ c.loop-count.invariant.boxes c.loop-count.invariant.stand.all c.requires.few_colors

@@ -1,8 +1,8 @@
 -- Of `cut_piece`: what is known of its two pieces, and that they are a cut of the box.
-use Rattle.std.proofs.Common.{◌≡◌, map, take, drop, All, arith, sym, ap, ◌∙◌, subst, length-take}
+use Rattle.std.proofs.Common.{◌≡◌, ◌<◌, sum_by, map, take, drop, All, arith, sym, ap, ◌∙◌, subst, length-take}
 use Rattle.pix_table.specs.Pieces.{IsKnown}
 use Rattle.pix_table.specs.Places.{IsCutBy}
-use Rattle.pix_table.proofs.CutBoxes.{cut_stands, fit_front, fit_back}
+use Rattle.pix_table.proofs.CutBoxes.{cut_stands, few_back, few_front, fit_back, fit_front}
 use Rattle.pix_table.proofs.cut.cut_piece.Given as given
 use Rattle.pix_table.proofs.cut.cut_piece.Goals as goal
 use Rattle.pix_table.proofs.cut.cut_piece.Goals.{After-of-2}
@@ -17,15 +17,27 @@ at_is g c =
       c.partition-at.ensures.within,
     )
 
-pub of-requires : goal.of-requires
-of-requires g c =
+pub of-requires-clause-fit : goal.of-requires-clause-fit
+of-requires-clause-fit g c =
     subst (λ l. All g.C.Cutting.fits (map g.C.Cutting.parts l)) (sym c.split_at.ensures.front)
     (fit_front g.C.Cutting.parts g.C.Cutting.fits c.args.colors.now c.partition-at.new.colors c.partition-at.result c.partition-at.ensures.moved c.requires.fit)
 
-pub of-requires-2 : goal.of-requires-2
-of-requires-2 g c =
+pub of-requires-2-clause-fit : goal.of-requires-2-clause-fit
+of-requires-2-clause-fit g c =
     subst (λ l. All g.C.Cutting.fits (map g.C.Cutting.parts l)) (sym c.split_at.ensures.back)
     (fit_back g.C.Cutting.parts g.C.Cutting.fits c.args.colors.now c.partition-at.new.colors c.partition-at.result c.partition-at.ensures.moved c.requires.fit)
+
+pub of-requires-clause-few : goal.of-requires-clause-few
+of-requires-clause-few g c =
+    subst (λ l. sum_by g.C.Cutting.times (map g.C.Cutting.parts l) < 18446744073709551616) (sym c.split_at.ensures.front)
+    (few_front g.C.Cutting.parts g.C.Cutting.times c.args.colors.now c.partition-at.new.colors c.partition-at.result _ c.partition-at.ensures.moved
+    c.requires.few_colors)
+
+pub of-requires-2-clause-few : goal.of-requires-2-clause-few
+of-requires-2-clause-few g c =
+    subst (λ l. sum_by g.C.Cutting.times (map g.C.Cutting.parts l) < 18446744073709551616) (sym c.split_at.ensures.back)
+    (few_back g.C.Cutting.parts g.C.Cutting.times c.args.colors.now c.partition-at.new.colors c.partition-at.result _ c.partition-at.ensures.moved
+    c.requires.few_colors)
 
 pub returns-clause-low : goal.returns-clause-low
 returns-clause-low g c =

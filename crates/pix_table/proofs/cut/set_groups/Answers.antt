@@ -2,7 +2,7 @@
 use Rattle.std.proofs.Common.{None, arith}
 use Rattle.std.proofs.lemmas.List.Sums.{sum_by_more}
 use Rattle.pix_table.specs.declared.pieces.Piece.{Piece}
-use Rattle.pix_table.proofs.CutBoxes.{fit_piece}
+use Rattle.pix_table.proofs.CutBoxes.{few_piece, fit_piece}
 use Rattle.pix_table.proofs.CutGroups.{groups_more}
 use Rattle.pix_table.proofs.cut.set_groups.Goals as goal
 
@@ -11,6 +11,9 @@ none = record { len = 0; place = None }
 
 pub group_of-requires-clause-fit : goal.group_of-requires-clause-fit
 group_of-requires-clause-fit g c = fit_piece g.C.Cutting.parts g.C.Cutting.fits c.args.colors.now c.loop-i.start _ c.requires.fit
+
+pub group_of-requires-clause-few : goal.group_of-requires-clause-few
+group_of-requires-clause-few g c = few_piece g.C.Cutting.parts g.C.Cutting.times c.args.colors.now c.loop-i.start _ _ c.requires.few_colors
 
 pub loop-i-preserved : goal.loop-i-preserved
 loop-i-preserved g c = record {

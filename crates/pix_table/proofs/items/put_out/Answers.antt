@@ -15,6 +15,6 @@ returns-then-out-eq1-clause-items g c = λ f.
     let more : item_sum f ys p (p + (s + 1)) ≡ item_sum f xs p (p + s) + f (g.C.Counted.parts c.of_key.result) =
     single_put f xs ys p s (g.C.Counted.parts c.of_key.result) (omega (arith, length-map c.args.colors.now g.C.Counted.parts)) c.put_single.ensures.written in
     let once : f (g.C.Counted.parts c.of_key.result) ≡ c.args.out.count * f color =
-    ap f c.of_key.ensures ∙ (let one : f color ≡ 1 * f color = omega arith in one) ∙ ap (λ n. n * f color) (sym c.if-out-eq1.true) in
+    ap f c.of_key.ensures.color ∙ (let one : f color ≡ 1 * f color = omega arith in one) ∙ ap (λ n. n * f color) (sym c.if-out-eq1.true) in
     ap (λ q. item_sum f ys q (q + c.put_single.result.singles)) c.put_single.ensures.pairs ∙ ap (λ n. item_sum f ys p (p + n)) c.put_single.ensures.singles
     ∙ more ∙ ap (λ n. item_sum f xs p (p + s) + n) once

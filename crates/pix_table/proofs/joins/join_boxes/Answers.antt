@@ -1,5 +1,5 @@
 -- Of `join_boxes`: that the boxes are joined so far.
-use Rattle.std.proofs.Common.{◌≡◌, ◌-◌, ◌+◌, ℕ, refl, arith, ◌∙◌, subst}
+use Rattle.std.proofs.Common.{◌≡◌, ◌-◌, ◌+◌, refl, arith, ◌∙◌, subst}
 use Rattle.pix_table.specs.Joins.{none}
 use Rattle.pix_table.specs.Pairs.{AreGroupsOf, join_at}
 use Rattle.pix_table.proofs.PairLemmas.{join_colors, join_more}
@@ -27,5 +27,5 @@ loop-done-preserved g c = λ boxes are few.
       join_more old.0 step.0 step.1 step.2.order step.2.within g.C.Cutting.weigh boxes old.1 step.2,
       subst (λ n. AreGroupsOf g.C.Cutting.is_group (join_at old.0 step.0 step.1) c.join_next.new.groups n) e step.3,
       step.4,
-      join_colors old.0 step.0 step.1 step.2.order step.2.within ∙ old.4,
+      join_colors old.0 step.0 step.1 step.2.order step.2.within g.C.Cutting.times ∙ old.4,
     )

@@ -7,6 +7,6 @@ use Rattle.pix_table.proofs.joins.join_boxes.Given as goal
 -- so many of the boxes are joined, and have the pairs
 abbrev pub invariant-loop-done : goal.invariant-loop-done
 invariant-loop-done g l =
-    (boxes : List (List (List ℕ))) → AreGroupsOf g.C.Cutting.is_group boxes l.fn.groups l.count → all_colors boxes < 18446744073709551616
+    (boxes : List (List (List ℕ))) → AreGroupsOf g.C.Cutting.is_group boxes l.fn.groups l.count → all_colors g.C.Cutting.times boxes < 18446744073709551616
     → (joined : List (List (List ℕ))) × AreJoinedBy g.C.Cutting.weigh boxes joined × AreGroupsOf g.C.Cutting.is_group joined l.groups (l.count - l.done)
-    × ArePairs g.C.Cutting.weigh joined l.pairs × (all_colors joined ≡ all_colors boxes)
+    × ArePairs g.C.Cutting.weigh joined l.pairs × (all_colors g.C.Cutting.times joined ≡ all_colors g.C.Cutting.times boxes)

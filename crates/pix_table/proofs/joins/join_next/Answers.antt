@@ -14,7 +14,7 @@ join-requires g c =
     let found = c.next_pair-i.ensures in
     let pair = next_in g.C.Cutting.weigh h.0 c.args.pairs.now c.next_pair-i.result c.args.count first c.requires.two c.requires.room h.1.many h.3 found.within
     found.least found.first in
-    may_join g.C.Cutting.is_group h.0 c.args.groups.now c.args.count c.next_pair-i.result (get_or c.args.pairs.now c.next_pair-i.result first).with
+    may_join g.C.Cutting.is_group g.C.Cutting.times h.0 c.args.groups.now c.args.count c.next_pair-i.result (get_or c.args.pairs.now c.next_pair-i.result first).with
     c.index-groups-i.result c.index-groups-j.result h.1 h.2 pair.order (omega (arith, pair.within, h.1.many)) c.index-groups-i.is c.index-groups-j.is
 
 pub update_pairs-requires-clause-boxes : goal.update_pairs-requires-clause-boxes
@@ -30,7 +30,7 @@ update_pairs-requires-clause-boxes g c =
       join_is h.0 i j pair.order pair.within,
       groups_after g.C.Cutting.is_group g.C.Cutting.weigh h.0 c.args.groups.now c.take_away.new.items i j c.args.count c.index-groups-i.result
           c.index-groups-j.result c.join.result pair h.1 c.index-groups-i.is c.index-groups-j.is c.join.ensures c.take_away.auto.items c.take_away.ensures,
-      omega (arith, join_colors h.0 i j pair.order pair.within, h.2),
+      omega (arith, join_colors h.0 i j pair.order pair.within g.C.Cutting.times, h.2),
       pairs_without g.C.Cutting.weigh h.0 c.args.pairs.now c.take_away-2.new.items j c.args.count h.1.many h.3 c.take_away-2.ensures,
     )
 

@@ -2,11 +2,13 @@
 -- the nearest.
 use Rattle.std.proofs.Common.{arith, length, subst, ℕ, ◌*◌, ◌%◌, ◌≡◌}
 use Rattle.pix_table.specs.Lanes.{IsNearestLane, lane_distance}
-use Rattle.pix_table.proofs.LaneSearch.{lanes_more, nearest_of_lanes, none_in}
+use Rattle.pix_table.proofs.LaneSearch.{first_in, lanes_more, nearest_of_lanes}
 use Rattle.pix_table.proofs.lanes.nearest_lane.Goals as goal
 
 pub loop-j-init : goal.loop-j-init
-loop-j-init g c = none_in (λ block. g.B.LaneBlock.apart block c.args.sought) c.args.blocks.now
+loop-j-init g c =
+    first_in (λ block. g.B.LaneBlock.apart block c.args.sought) c.args.blocks.now c.index-blocks-0.result c.distances-least.result c.requires.some
+    c.index-blocks-0.is c.distances-least.ensures.long c.distances-least.ensures.each
 
 pub loop-j-preserved : goal.loop-j-preserved
 loop-j-preserved g c =

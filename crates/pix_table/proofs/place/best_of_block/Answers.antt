@@ -1,4 +1,4 @@
--- Of `best_of_block`: that words of 0 are those of no colors.
+-- Of `best_of_block`: that words of 0 are those of no colors, and that the words are those of a block.
 use Rattle.pix_table.proofs.WordLemmas.{words_none}
 use Rattle.pix_table.proofs.place.best_of_block.Goals as goal
 

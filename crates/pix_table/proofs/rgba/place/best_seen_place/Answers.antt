@@ -1,5 +1,5 @@
 -- Of `best_seen_place`: that there is no place before the first, and its clause at each return.
-use Rattle.std.proofs.Common.{arith, length, map, inl, inr}
+use Rattle.std.proofs.Common.{arith, map}
 use Rattle.std.proofs.lemmas.List.{length-map}
 use Rattle.pix_table.specs.BestPlaces.{IsBestUpToBy}
 use Rattle.pix_table.specs.Seen.{seen_numbers}

@@ -1,25 +1,28 @@
--- Of `cut_and_refine`: that the order of the colors does not matter.
-use Rattle.std.proofs.Common.{◌++◌, map, take, drop, length, arith, ap, ◌∙◌, take_all, length-take}
-use Rattle.std.proofs.lemmas.List.{take-append-le}
-use Rattle.std.proofs.lemmas.List.Sorted.{All-permutation, IsPermutation-sym}
+-- Of `cut_and_refine`: that there is a pair, that the colors of the pairs are seen ones, and that all counts make no more than the pixels.
+use Rattle.std.proofs.Common.{map, arith}
+use Rattle.std.specs.Simd.{first_chunks}
+use Rattle.std.proofs.lemmas.List.{length-map}
+use Rattle.std.proofs.lemmas.List.Sorted.{All-permutation}
+use Rattle.pix_table.specs.Items.{pair_items, spread}
 use Rattle.pix_table.specs.Seen.{AreSeen, seen_numbers}
-use Rattle.pix_table.proofs.SeenMade.{seen_moved}
+use Rattle.pix_table.proofs.PairItems.{some_pairs, times_in_all}
 use Rattle.pix_table.proofs.rgba.quantization.cut_and_refine.Goals as goal
 
-pub refine_seen-requires-clause-colors : goal.refine_seen-requires-clause-colors
-refine_seen-requires-clause-colors c =
-    All-permutation AreSeen (map seen_numbers c.args.colors.now) (map seen_numbers c.cut_seen_table-count.new.colors) c.cut_seen_table-count.ensures.moved
-    c.requires.seen
+pub refined_of_pairs-requires-clause-some : goal.refined_of_pairs-requires-clause-some
+refined_of_pairs-requires-clause-some g c =
+    some_pairs seen_numbers 4 c.in-Some.pairs c.count_pairs.new.colors (map seen_numbers c.gather.new.colors) c.in-Some.ensures.2
+    (omega (arith, c.requires.some, c.requires.work, c.gather.auto.colors, length-map c.gather.new.colors seen_numbers))
 
-pub returns-clause-table : goal.returns-clause-table
-returns-clause-table c =
-    let count = c.cut_seen_table-count.result in
-    let entries = c.cut_seen_table-count.new.entries in
-    seen_moved c.args.rounds (length c.args.entries.now) (map seen_numbers c.cut_seen_table-count.new.colors) (map seen_numbers c.args.colors.now)
-    (map seen_numbers (take count entries)) (map seen_numbers c.refine_seen.new.entries) (map seen_numbers (take count (c.refine_seen.new.entries ++ drop count entries)))
-    (IsPermutation-sym (map seen_numbers c.args.colors.now) (map seen_numbers c.cut_seen_table-count.new.colors) c.cut_seen_table-count.ensures.moved)
-    c.cut_seen_table-count.ensures.table c.refine_seen.ensures.rounds c.refine_seen.ensures.no_worse
-    (ap (map seen_numbers)
-    (take-append-le count c.refine_seen.new.entries (drop count entries)
-    (omega (arith, c.refine_seen.auto.entries, length-take count entries, c.cut_seen_table-count.ensures.within))
-    ∙ take_all count c.refine_seen.new.entries (omega (arith, c.refine_seen.auto.entries, length-take count entries))))
+pub refined_of_pairs-requires-clause-colors : goal.refined_of_pairs-requires-clause-colors
+refined_of_pairs-requires-clause-colors g c =
+    All-permutation AreSeen (map seen_numbers c.gather.new.colors)
+    (spread 4 (pair_items seen_numbers (first_chunks 2 c.in-Some.pairs c.count_pairs.new.colors))) c.in-Some.ensures.2 c.gather.ensures.seen
+
+pub refined_of_pairs-requires-clause-count : goal.refined_of_pairs-requires-clause-count
+refined_of_pairs-requires-clause-count g c =
+    omega (
+      arith,
+      times_in_all 4 (map seen_numbers c.gather.new.colors) (pair_items seen_numbers (first_chunks 2 c.in-Some.pairs c.count_pairs.new.colors))
+          c.in-Some.ensures.2,
+      length-map c.gather.new.colors seen_numbers,
+    )

@@ -33,7 +33,7 @@ returns-clause-few c =
 pub returns-clause-sums : goal.returns-clause-sums
 returns-clause-sums c = λ a b p q.
     let e = c.and.ensures in
-    seen_joined a b c.args.self.sums c.args.other.sums c.and.result p.sums q.sums e.count e.red e.green e.blue e.alpha
+    seen_joined (λ color. true) a b c.args.self.sums c.args.other.sums c.and.result p.sums q.sums e.count e.red e.green e.blue e.alpha
 
 pub returns-clause-seen : goal.returns-clause-seen
 returns-clause-seen c = λ a b p q. All-append AreSeen a b p.seen q.seen

@@ -1,0 +1,59 @@
+-- Of `best_of_few`: that the sums at first are those of no colors, and that they are those of the items.
+use Rattle.pix_table.specs.Items.{pair_items, spread}
+use Rattle.pix_table.specs.PartSums.{few_sums}
+use Rattle.pix_table.specs.Seen.{seen_numbers}
+use Rattle.pix_table.specs.SeenCut.{seen_weight}
+use Rattle.pix_table.specs.SeenSums.{seen_gain_at}
+use Rattle.pix_table.proofs.PlaceSteps.{best_found, none_first}
+use Rattle.pix_table.proofs.SeenItems.{few_summed, items_seen, none_of_values, place_of_items}
+use Rattle.pix_table.proofs.SeenWeights.{cut_gain}
+use Rattle.pix_table.proofs.rgba.items.best_of_few.Goals as goal
+
+pub add_items-requires-clause-red_none : goal.add_items-requires-clause-red_none
+add_items-requires-clause-red_none c = none_of_values few_sums 0 c.no_colors-reds.result c.no_colors-reds.ensures
+
+pub add_items-requires-clause-green_none : goal.add_items-requires-clause-green_none
+add_items-requires-clause-green_none c = none_of_values few_sums 1 c.no_colors-reds.result c.no_colors-reds.ensures
+
+pub add_items-requires-clause-blue_none : goal.add_items-requires-clause-blue_none
+add_items-requires-clause-blue_none c = none_of_values few_sums 2 c.no_colors-reds.result c.no_colors-reds.ensures
+
+pub add_items-requires-clause-alpha_none : goal.add_items-requires-clause-alpha_none
+add_items-requires-clause-alpha_none c = none_of_values few_sums 3 c.no_colors-reds.result c.no_colors-reds.ensures
+
+pub best_in-best-requires-clause-before : goal.best_in-best-requires-clause-before
+best_in-best-requires-clause-before c =
+    let box = spread 4 (pair_items seen_numbers c.args.items.now) in
+    let summed = few_summed c.args.items.now c.args.all c.requires.some c.requires.few c.requires.fit c.requires.all in
+    let found = c.add_items.ensures in
+    (box, summed 0 _ found.reds, none_first 4 box)
+
+pub best_in-best-requires-2-clause-before : goal.best_in-best-requires-2-clause-before
+best_in-best-requires-2-clause-before c =
+    let box = spread 4 (pair_items seen_numbers c.args.items.now) in
+    let summed = few_summed c.args.items.now c.args.all c.requires.some c.requires.few c.requires.fit c.requires.all in
+    let found = c.add_items.ensures in
+    (box, summed 1 _ found.greens, c.best_in-best.ensures box (summed 0 _ found.reds) (none_first 4 box))
+
+pub best_in-best-requires-3-clause-before : goal.best_in-best-requires-3-clause-before
+best_in-best-requires-3-clause-before c =
+    let box = spread 4 (pair_items seen_numbers c.args.items.now) in
+    let summed = few_summed c.args.items.now c.args.all c.requires.some c.requires.few c.requires.fit c.requires.all in
+    let found = c.add_items.ensures in
+    (box, summed 2 _ found.blues, c.best_in-best-2.ensures box (summed 1 _ found.greens) (c.best_in-best.ensures box (summed 0 _ found.reds) (none_first 4 box)))
+
+pub best_in-requires-clause-before : goal.best_in-requires-clause-before
+best_in-requires-clause-before c =
+    let box = spread 4 (pair_items seen_numbers c.args.items.now) in
+    let summed = few_summed c.args.items.now c.args.all c.requires.some c.requires.few c.requires.fit c.requires.all in
+    let found = c.add_items.ensures in
+    (box, summed 3 _ found.alphas, c.best_in-best-3.ensures box (summed 2 _ found.blues) (c.best_in-best-2.ensures box (summed 1 _ found.greens) (c.best_in-best.ensures box (summed 0 _ found.reds) (none_first 4 box))))
+
+pub returns : goal.returns
+returns c =
+    let items = pair_items seen_numbers c.args.items.now in
+    let box = spread 4 (pair_items seen_numbers c.args.items.now) in
+    let summed = few_summed c.args.items.now c.args.all c.requires.some c.requires.few c.requires.fit c.requires.all in
+    let found = c.add_items.ensures in
+    place_of_items items c.best_in.result c.requires.fit
+    (best_found 4 seen_gain_at seen_weight box c.best_in.result (cut_gain box (items_seen items c.requires.fit)) (c.best_in.ensures box (summed 3 _ found.alphas) (c.best_in-best-3.ensures box (summed 2 _ found.blues) (c.best_in-best-2.ensures box (summed 1 _ found.greens) (c.best_in-best.ensures box (summed 0 _ found.reds) (none_first 4 box))))))

@@ -1,0 +1,26 @@
+-- Of `better_at`: its clause at each return.
+use Rattle.std.proofs.Common.{arith, subst}
+use Rattle.pix_table.specs.BestPlaces.{IsBestBeforeBy, IsBestUpToBy}
+use Rattle.pix_table.specs.SeenSums.{seen_gain_at}
+use Rattle.pix_table.proofs.PlacesBy.{kept_by}
+use Rattle.pix_table.proofs.SeenWeights.{same_sums}
+use Rattle.pix_table.proofs.rgba.place.better_at.Goals.{in-Some+else-gains_little, in_default}
+use Rattle.pix_table.proofs.rgba.place.better_at.Goals as goal
+
+pub returns-then-gains_little : goal.returns-then-gains_little
+returns-then-gains_little c = λ box h can gains.
+    let before : IsBestBeforeBy 4 seen_gain_at box c.args.k c.args.value c.in-Some.old =
+    subst (λ b. IsBestUpToBy 4 seen_gain_at box c.args.k c.args.value b) c.in-Some.is h in
+    let e = c.without-high.ensures in
+    let high = same_sums _ _ _ _ _ _ _ _ _ _ e.count e.red e.green e.blue e.alpha in
+    kept_by 4 seen_gain_at box c.args.k c.args.value c.in-Some.old before
+    (λ again. omega (arith, gains, high, c.weight-below.ensures.weight, c.gains_little.ensures c.if-gains_little.true))
+
+pub returns : goal.returns
+returns c = λ box h can gains.
+    let e = c.without-high.ensures in
+    let high = same_sums _ _ _ _ _ _ _ _ _ _ e.count e.red e.green e.blue e.alpha in
+    c.better.ensures 4 seen_gain_at box (elim c.match-best.branch [
+      | in-Some+else-gains_little w ↦ rw w.best-is (subst (λ b. IsBestUpToBy 4 seen_gain_at box c.args.k c.args.value b) w.in-Some.is h)
+      | in_default w ↦ rw w.best-is h
+    ]) can (omega (arith, gains, high, c.weight-below.ensures.weight, c.weight.ensures.weight, c.saturating_sub-gain.ensures))

@@ -1,0 +1,263 @@
+//! Items of seen colors, each a color and one that stands for its count: their boxes and their
+//! cut.
+ghost use Rattle.std.specs.Prelude.{◌≡◌, ◌^◌, ◌<◌, ◌≤◌, ◌∷◌, ◌++◌, ◌+◌, [], ℕ, All, Bool, IsPermutation, List, length, map, MatchOption, sum_by, take, true};
+ghost use Rattle.pix_table.specs.Items.{IsItem, count_of, item_mean, item_of, pair_items, spread, times_of, weigh_items};
+ghost use Rattle.pix_table.specs.Places.{CannotBeCutBy, HasBestBy};
+ghost use Rattle.pix_table.specs.Seen.{AreSeen, seen_numbers};
+ghost use Rattle.pix_table.specs.SeenCut.{IsSeenCutTable, seen_mean, seen_weight};
+ghost use Rattle.pix_table.specs.SeenItems.{IsSeenItem};
+ghost use Rattle.pix_table.specs.SeenSums.{AreFew, AreSeenByValue, AreSeenSums};
+ghost use Rattle.pix_table.specs.ColorGroups.{IsSeenGroup};
+
+use crate::chosen::ENTRIES;
+use crate::cut::cut_colors;
+use crate::cutting::Cutting;
+use crate::items::Counted;
+use crate::joins::BOXES;
+use crate::place::Place;
+use crate::rgba::color::Seen;
+use crate::rgba::group::SeenGroup;
+use crate::rgba::part_sums::{FEW_COLORS, FewSums, PartSums, clear};
+use crate::rgba::place::best_in;
+use crate::rgba::sums::{SeenSums, seen_channel};
+
+impl Cutting for [Seen; 2] {
+    type Group = SeenGroup;
+
+    ghost parts = { λ pair. item_of (map seen_numbers pair) };
+
+    ghost channels = { 4 };
+
+    ghost weigh = { weigh_items 4 seen_weight };
+
+    ghost times = { times_of 4 };
+
+    ghost middle = { item_mean 4 seen_mean };
+
+    ghost fits = { IsSeenItem };
+
+    ghost is_group = { λ items group. IsSeenGroup (spread 4 items) group };
+
+    #[inline(always)]
+    fn channel(self, k: usize) -> u8 {
+        seen_channel(self[0], k)
+    }
+
+    fn best_place(items: &[[Seen; 2]]) -> Option<Place> {
+        best_item_place(items)
+    }
+
+    fn group_of(items: &[[Seen; 2]]) -> SeenGroup {
+        SeenGroup::by_sums(item_sums_of(items))
+    }
+
+    fn join(p: SeenGroup, q: SeenGroup) -> SeenGroup {
+        p.join(q)
+    }
+
+    fn cost(p: SeenGroup, q: SeenGroup) -> u128 {
+        p.cost(q)
+    }
+
+    #[inline(always)]
+    fn costs_more(p: SeenGroup, q: SeenGroup, most: u128) -> bool {
+        p.costs_more(q, most)
+    }
+
+    fn mean_color(group: SeenGroup) -> [Seen; 2] {
+        [group.mean(), Seen::of_count(1)]
+    }
+}
+
+/// Writes the table of the colors of some items into the first of the entries, and returns how many
+/// they are. The items come into another order.
+///
+/// Condition: there is an item, and there are 1 to 256 entries.
+// Out of line, so that its stack and that of the rounds do not add up.
+#[inline(never)]
+pub(crate) fn cut_seen_items(items: &mut [[Seen; 2]], entries: &mut [Seen]) -> usize
+    requires some { 0 < length items.old }
+    requires fit { All (IsItem 4) (pair_items seen_numbers items.old) }
+    requires colors { All AreSeen (spread 4 (pair_items seen_numbers items.old)) }
+    requires few { sum_by (times_of 4) (pair_items seen_numbers items.old) < 2 ^ 64 }
+    requires room { 0 < length entries.old }
+    requires few_entries { length entries.old ≤ 256 }
+    ensures some { 0 < result }
+    ensures within { result ≤ length entries.new }
+    ensures moved { IsPermutation (pair_items seen_numbers items.old)
+        (pair_items seen_numbers items.new) }
+    ensures table { (colors : List (List ℕ))
+        → IsPermutation colors (spread 4 (pair_items seen_numbers items.old))
+        → IsSeenCutTable (length entries.old) colors (map seen_numbers (take result entries.new)) }
+    ensures seen { All AreSeen (map seen_numbers (take result entries.new)) }
+{
+    let mut groups = [SeenGroup::none(); BOXES];
+    let mut table = [[Seen::default(); 2]; ENTRIES];
+    let room = entries.len();
+    let count = cut_colors(items, &mut groups, &mut table[..room]);
+    take_colors(&table[..count], entries);
+    count
+}
+
+/// Writes the colors of some items into the first of the entries.
+fn take_colors(items: &[[Seen; 2]], entries: &mut [Seen])
+    requires { length items.now ≤ length entries.old }
+    ensures { map seen_numbers (take (length items.now) entries.new)
+        ≡ map (take 4) (pair_items seen_numbers items.now) }
+{
+    for i in 0..items.len() {
+        entries[i] = items[i][0];
+    }
+}
+
+/// Returns the place at which a cut of a box gains most, the first of equals.
+///
+/// It is `None` where all its colors are the same.
+fn best_item_place(items: &[[Seen; 2]]) -> Option<Place>
+    requires fit { All IsSeenItem (pair_items seen_numbers items.now) }
+    requires few { sum_by (times_of 4) (pair_items seen_numbers items.now) < 2 ^ 64 }
+    ensures { MatchOption result (CannotBeCutBy 4 (pair_items seen_numbers items.now))
+        (λ place. HasBestBy 4 (weigh_items 4 seen_weight) (pair_items seen_numbers items.now)
+        place.channel place.value place.gain) }
+{
+    if items.len() < 2 {
+        return None;
+    }
+    let all = item_sums_of(items);
+    if all.count < FEW_COLORS {
+        best_of_few(items, all)
+    } else {
+        best_of_many(items, all)
+    }
+}
+
+/// Does what [`best_item_place`] does for items of few colors, in one turn over them.
+// Out of line, so that the two ways don't add up on the stack.
+#[inline(never)]
+fn best_of_few(items: &[[Seen; 2]], all: SeenSums) -> Option<Place>
+    requires some { 0 < length items.now }
+    requires fit { All IsSeenItem (pair_items seen_numbers items.now) }
+    requires few { sum_by (times_of 4) (pair_items seen_numbers items.now) < 16777216 }
+    requires all { AreSeenSums (λ color. true)
+        (spread 4 (pair_items seen_numbers items.now)) all }
+    ensures { MatchOption result (CannotBeCutBy 4 (pair_items seen_numbers items.now))
+        (λ place. HasBestBy 4 (weigh_items 4 seen_weight) (pair_items seen_numbers items.now)
+        place.channel place.value place.gain) }
+{
+    let mut reds = [FewSums::no_colors(); 256];
+    let (mut greens, mut blues, mut alphas) = (reds, reds, reds);
+    add_items(items, &mut reds, &mut greens, &mut blues, &mut alphas);
+    let best = best_in(0, &reds, all, None);
+    let best = best_in(1, &greens, all, best);
+    let best = best_in(2, &blues, all, best);
+    best_in(3, &alphas, all, best)
+}
+
+/// Does what [`best_item_place`] does for items of any number of colors.
+#[inline(never)]
+fn best_of_many(items: &[[Seen; 2]], all: SeenSums) -> Option<Place>
+    requires some { 0 < length items.now }
+    requires fit { All IsSeenItem (pair_items seen_numbers items.now) }
+    requires few { sum_by (times_of 4) (pair_items seen_numbers items.now) < 2 ^ 64 }
+    requires all { AreSeenSums (λ color. true)
+        (spread 4 (pair_items seen_numbers items.now)) all }
+    ensures { MatchOption result (CannotBeCutBy 4 (pair_items seen_numbers items.now))
+        (λ place. HasBestBy 4 (weigh_items 4 seen_weight) (pair_items seen_numbers items.now)
+        place.channel place.value place.gain) }
+{
+    let mut parts = [SeenSums::none(); 256];
+    let mut best = None;
+    for k in 0..4 {
+        sum_by_value(&mut parts, items, k);
+        best = best_in(k, &parts, all, best);
+    }
+    best
+}
+
+/// Returns the sums of the colors of some items.
+fn item_sums_of(items: &[[Seen; 2]]) -> SeenSums
+    requires fit { All IsSeenItem (pair_items seen_numbers items.now) }
+    requires few { sum_by (times_of 4) (pair_items seen_numbers items.now) < 2 ^ 64 }
+    ensures { AreSeenSums (λ color. true) (spread 4 (pair_items seen_numbers items.now)) result }
+{
+    let mut sums = SeenSums::none();
+    for i in 0..items.len() {
+        sums = sums.and(item_sums(items[i]));
+    }
+    sums
+}
+
+/// Returns the sums of the colors of an item.
+#[inline(always)]
+fn item_sums<S: PartSums>(item: [Seen; 2]) -> S
+    requires { IsSeenItem (item_of (map seen_numbers item)) }
+    ensures { (p : List ℕ → Bool) → p (take 4 (item_of (map seen_numbers item))) ≡ true
+        → AreSeenSums p (spread 4 (item_of (map seen_numbers item) ∷ [])) (S.whole result) }
+{
+    let [clr, count] = item;
+    S::of_color(clr, count.count())
+}
+
+/// Sets the sums of the colors of each value of a channel.
+fn sum_by_value<S: PartSums>(parts: &mut [S], items: &[[Seen; 2]], k: usize)
+    requires channel { k < 4 }
+    requires many { length parts.old ≡ 256 }
+    requires fit { All IsSeenItem (pair_items seen_numbers items.now) }
+    requires few { sum_by (times_of 4) (pair_items seen_numbers items.now) < S.limit }
+    ensures many { length parts.new ≡ 256 }
+    ensures sums { AreSeenByValue k (spread 4 (pair_items seen_numbers items.now))
+        (map S.whole parts.new) }
+{
+    clear(parts);
+    for i in 0..items.len() {
+        add_item(parts, k, items[i]);
+    }
+}
+
+/// Adds some items to the sums of no colors, in one turn.
+fn add_items<S: PartSums>(
+    items: &[[Seen; 2]],
+    reds: &mut [S],
+    greens: &mut [S],
+    blues: &mut [S],
+    alphas: &mut [S],
+)
+    requires fit { All IsSeenItem (pair_items seen_numbers items.now) }
+    requires few { sum_by (times_of 4) (pair_items seen_numbers items.now) < S.limit }
+    requires red_none { AreSeenByValue 0 [] (map S.whole reds.old) }
+    requires green_none { AreSeenByValue 1 [] (map S.whole greens.old) }
+    requires blue_none { AreSeenByValue 2 [] (map S.whole blues.old) }
+    requires alpha_none { AreSeenByValue 3 [] (map S.whole alphas.old) }
+    ensures reds { AreSeenByValue 0 (spread 4 (pair_items seen_numbers items.now))
+        (map S.whole reds.new) }
+    ensures greens { AreSeenByValue 1 (spread 4 (pair_items seen_numbers items.now))
+        (map S.whole greens.new) }
+    ensures blues { AreSeenByValue 2 (spread 4 (pair_items seen_numbers items.now))
+        (map S.whole blues.new) }
+    ensures alphas { AreSeenByValue 3 (spread 4 (pair_items seen_numbers items.now))
+        (map S.whole alphas.new) }
+{
+    for i in 0..items.len() {
+        let item = items[i];
+        add_item(reds, 0, item);
+        add_item(greens, 1, item);
+        add_item(blues, 2, item);
+        add_item(alphas, 3, item);
+    }
+}
+
+/// Adds an item to the sums of the colors of its value in a channel.
+#[inline(always)]
+fn add_item<S: PartSums>(parts: &mut [S], k: usize, item: [Seen; 2])
+    requires channel { k < 4 }
+    requires item { IsSeenItem (item_of (map seen_numbers item)) }
+    requires sums { (box : List (List ℕ)) × All AreSeen box
+        × AreSeenByValue k box (map S.whole parts.old)
+        × (length box + length (spread 4 (item_of (map seen_numbers item) ∷ [])) < S.limit) }
+    ensures { (box : List (List ℕ)) → AreSeenByValue k box (map S.whole parts.old)
+        → AreSeenByValue k (box ++ spread 4 (item_of (map seen_numbers item) ∷ []))
+        (map S.whole parts.new) }
+{
+    let value = usize::from(item.channel(k));
+    parts[value] = parts[value].joined(item_sums(item));
+}

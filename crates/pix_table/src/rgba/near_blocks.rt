@@ -1,0 +1,143 @@
+//! Blocks of entries that are seen, of which those are skipped that are too far.
+ghost use Rattle.std.specs.Prelude.{◌≡◌, ◌+◌, ◌*◌, ◌<◌, ◌≤◌, ℕ, length, slice_index};
+ghost use Rattle.pix_table.specs.Lanes.{IsNearestLane};
+ghost use Rattle.pix_table.specs.NearBlocks.{AreColorEnds, AreEnds, bound_of, far_lane, gap};
+
+use crate::color::Color;
+use crate::color_block::{ColorBlock, SIZE};
+use crate::lanes::nearest_lane;
+use crate::rgba::views::{SeenBlock, Views};
+use crate::search::distance;
+
+/// The least and the greatest numbers of each of sixteen blocks.
+#[derive(Clone, Copy)]
+pub(crate) struct BlockEnds {
+    pub(crate) least: SeenBlock,
+    pub(crate) greatest: SeenBlock,
+}
+
+impl BlockEnds {
+    /// Returns those of sixteen blocks.
+    pub(crate) fn of(blocks: &[SeenBlock]) -> BlockEnds
+        requires { length blocks.now ≡ 16 }
+        ensures { AreEnds blocks.now result }
+    {
+        let (mut blacks, mut whites) = ([ColorBlock::black(); SIZE], [ColorBlock::black(); SIZE]);
+        for j in 0..SIZE {
+            blacks[j] = blocks[j].black;
+            whites[j] = blocks[j].white;
+        }
+        let (least_black, greatest_black) = color_ends(&blacks);
+        let (least_white, greatest_white) = color_ends(&whites);
+        BlockEnds {
+            least: SeenBlock {
+                black: least_black,
+                white: least_white,
+            },
+            greatest: SeenBlock {
+                black: greatest_black,
+                white: greatest_white,
+            },
+        }
+    }
+
+    /// Returns for each block a distance that none of its colors is nearer than.
+    #[inline(always)]
+    fn bounds(&self, sought: Views) -> [u16; SIZE]
+        ensures long { length result ≡ 16 }
+        ensures each { (j : ℕ) → j < 16 → slice_index result j ≤ bound_of self.now sought j }
+    {
+        let (low, high) = (&self.least, &self.greatest);
+        let mut bounds = [0; SIZE];
+        for j in 0..SIZE {
+            let black = gaps(&low.black, &high.black, j, sought.black);
+            bounds[j] = black.saturating_add(gaps(&low.white, &high.white, j, sought.white));
+        }
+        bounds
+    }
+}
+
+/// Returns the least and the greatest numbers of each of sixteen blocks.
+fn color_ends(blocks: &[ColorBlock]) -> (ColorBlock, ColorBlock)
+    requires { length blocks.now ≡ 16 }
+    ensures { AreColorEnds blocks.now result.0 result.1 }
+{
+    let (mut least, mut greatest) = ([Color::default(); SIZE], [Color::default(); SIZE]);
+    for j in 0..SIZE {
+        let (low, high) = blocks[j].ends();
+        least[j] = low;
+        greatest[j] = high;
+    }
+    (ColorBlock::new(&least, 0), ColorBlock::new(&greatest, 0))
+}
+
+/// Returns a distance that a color is no nearer than to all that lie between two, or 65535 where
+/// it is greater.
+#[inline(always)]
+fn gaps(least: &ColorBlock, greatest: &ColorBlock, j: usize, clr: Color) -> u16
+    requires { j < 16 }
+    ensures { result ≤ gap (slice_index least.now.red j) (slice_index greatest.now.red j) clr.red
+        + gap (slice_index least.now.green j) (slice_index greatest.now.green j) clr.green
+        + gap (slice_index least.now.blue j) (slice_index greatest.now.blue j) clr.blue }
+{
+    let red = gap(least.red[j], greatest.red[j], clr.red);
+    let green = gap(least.green[j], greatest.green[j], clr.green);
+    let blue = gap(least.blue[j], greatest.blue[j], clr.blue);
+    red.saturating_add(green).saturating_add(blue)
+}
+
+/// Returns the square of how far a number is from those between two.
+#[inline(always)]
+fn gap(least: u8, greatest: u8, number: u8) -> u16
+    ensures { result ≡ gap least greatest number }
+{
+    let apart = u16::from(least.saturating_sub(number) + number.saturating_sub(greatest));
+    apart * apart
+}
+
+/// Returns how far the color in a lane is seen from another one.
+#[inline(always)]
+fn lane_distance(blocks: &[SeenBlock], lane: usize, sought: Views) -> u32
+    requires { lane < 16 * length blocks.now }
+    ensures far { result ≡ far_lane blocks.now sought lane }
+    ensures few { result ≤ 390150 }
+{
+    let block = &blocks[lane / SIZE];
+    let (black, white) = (&block.black, &block.white);
+    let i = lane % SIZE;
+    let on_black = Color {
+        red: black.red[i],
+        green: black.green[i],
+        blue: black.blue[i],
+    };
+    let on_white = Color {
+        red: white.red[i],
+        green: white.green[i],
+        blue: white.blue[i],
+    };
+    distance(on_black, sought.black) + distance(on_white, sought.white)
+}
+
+/// Returns the lane of the color that is seen nearest to another one, the first of equals, as
+/// [`nearest_lane`] does. Blocks are skipped that are farther than the color in some lane.
+pub(crate) fn nearest_near(blocks: &[SeenBlock], ends: &BlockEnds, sought: Views, near: u8) -> u8
+    requires few { length blocks.now ≤ 16 }
+    requires near { near < 16 * length blocks.now }
+    requires ends { AreEnds blocks.now ends.now }
+    ensures { IsNearestLane (far_lane blocks.now sought) (16 * length blocks.now) result }
+{
+    let bounds = ends.bounds(sought);
+    let mut least = lane_distance(blocks, usize::from(near), sought) + 1;
+    let mut best = near;
+    for j in 0..blocks.len() {
+        if u32::from(bounds[j]) < least {
+            let lane = 16 * j + usize::from(nearest_lane(&blocks[j..j + 1], sought));
+            let apart = lane_distance(blocks, lane, sought);
+            if apart < least {
+                least = apart;
+                best = lane as u8;
+            }
+        }
+    }
+    best
+}
