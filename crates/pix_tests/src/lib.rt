@@ -1,5 +1,5 @@
-//! Tests that cross the library's crates, of the callers in `pix_uses`, and of scripts that are
-//! read from one device and painted on another.
+//! Tests that cross the library's crates, of tables in slices, of the callers in `pix_uses`, and of
+//! scripts that are read from one device and painted on another.
 #![tactic(auto)]
 
 #[cfg(test)]
@@ -62,5 +62,7 @@ mod sixteen_bits;
 mod sizes;
 #[cfg(test)]
 mod slices;
+#[cfg(test)]
+mod tables;
 #[cfg(test)]
 mod transparent;
