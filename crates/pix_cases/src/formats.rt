@@ -223,45 +223,10 @@ pub(crate) fn described(words: &[&str], alloc: Global) -> Result<String, Flaw> {
 fn description<P: Pixel>(alloc: Global) -> Result<String, Flaw> {
     let count = P::default().channels().len();
     let max = P::Chan::MAX.to_u32();
-    let model = model_name(<P::Model as ColorModel>::KIND, alloc)?;
-    let alpha = alpha_name(<P::Alpha as Alpha>::KIND, alloc)?;
-    let gamma = gamma_name(<P::Gamma as Gamma<P::Chan>>::KIND, alloc)?;
+    let model = name::<P::Model>(alloc)?;
+    let alpha = name::<P::Alpha>(alloc)?;
+    let gamma = name::<P::Gamma>(alloc)?;
     Ok(format!(in alloc; "{count} {max} {model} {alpha} {gamma}")?)
-}
-
-/// The name that the color model of a number prints.
-fn model_name(kind: u8, alloc: Global) -> Result<String, Flaw> {
-    match kind {
-        k if k == Rgb::KIND => name::<Rgb>(alloc),
-        k if k == Bgr::KIND => name::<Bgr>(alloc),
-        k if k == Cmy::KIND => name::<Cmy>(alloc),
-        k if k == Gray::KIND => name::<Gray>(alloc),
-        k if k == Hsv::KIND => name::<Hsv>(alloc),
-        k if k == Hsl::KIND => name::<Hsl>(alloc),
-        k if k == Hwb::KIND => name::<Hwb>(alloc),
-        k if k == YCbCr::KIND => name::<YCbCr>(alloc),
-        k if k == Xyz::KIND => name::<Xyz>(alloc),
-        k if k == Matte::KIND => name::<Matte>(alloc),
-        _ => Err(Flaw::Name),
-    }
-}
-
-/// The name that the alpha mode of a number prints.
-fn alpha_name(kind: u8, alloc: Global) -> Result<String, Flaw> {
-    match kind {
-        k if k == Straight::KIND => name::<Straight>(alloc),
-        k if k == Premultiplied::KIND => name::<Premultiplied>(alloc),
-        _ => Err(Flaw::Name),
-    }
-}
-
-/// The name that the gamma mode of a number prints.
-fn gamma_name(kind: u8, alloc: Global) -> Result<String, Flaw> {
-    match kind {
-        k if k == <Linear as Gamma<Ch8>>::KIND => name::<Linear>(alloc),
-        k if k == <Srgb as Gamma<Ch8>>::KIND => name::<Srgb>(alloc),
-        _ => Err(Flaw::Name),
-    }
 }
 
 /// The name that a model or a mode prints.

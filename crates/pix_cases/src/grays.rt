@@ -3,11 +3,11 @@ use crate::flaw::Flaw;
 use crate::images::{all, image, picture, pixel, pixel_at, put, text};
 use crate::regions::{coordinate, region};
 use crate::words::{hexadecimal, number};
-use pix::chan::Channel;
-use pix::el::Pixel;
+use pix::chan::{Alpha, Ch8, Channel, Gamma};
+use pix::el::{Pix, Pixel};
 use pix::gray::Gray8;
 use pix::matte::Matte8;
-use pix::{Raster, Region};
+use pix::{ColorModel, Raster, Region};
 use std::alloc::Global;
 use std::mem;
 
@@ -140,15 +140,12 @@ trait Bytes {
     fn bytes(&self, alloc: Global) -> Result<(Vec<u8>, Vec<u8>), Flaw>;
 }
 
-impl Bytes for Raster<Gray8> {
-    fn bytes(&self, alloc: Global) -> Result<(Vec<u8>, Vec<u8>), Flaw> {
-        let copied = self.to_u8_vec(alloc).map_err(|_| Flaw::Memory)?;
-        let copy = self.try_clone(alloc).map_err(|_| Flaw::Memory)?;
-        Ok((copied, copy.into_u8_vec(alloc).map_err(|_| Flaw::Memory)?))
-    }
-}
-
-impl Bytes for Raster<Matte8> {
+impl<const N: usize, M, A, G> Bytes for Raster<Pix<N, Ch8, M, A, G>>
+where
+    M: ColorModel,
+    A: Alpha,
+    G: Gamma<Ch8>,
+{
     fn bytes(&self, alloc: Global) -> Result<(Vec<u8>, Vec<u8>), Flaw> {
         let copied = self.to_u8_vec(alloc).map_err(|_| Flaw::Memory)?;
         let copy = self.try_clone(alloc).map_err(|_| Flaw::Memory)?;

@@ -5,15 +5,15 @@ use crate::digest::Digest;
 use crate::pictures;
 use crate::random::Random;
 use crate::size::Size;
-use pix::bgr::Bgra8;
-use pix::chan::{Ch8, Ch16, Linear, Straight};
+use pix::bgr::Bgr;
+use pix::chan::{Alpha, Ch8, Ch16, Gamma, Linear, Premultiplied, Srgb, Straight};
 use pix::cmy::Cmy;
-use pix::el::Pix;
-use pix::gray::Gray8;
+use pix::el::{Pix, Pixel};
+use pix::gray::Gray;
 use pix::hsl::Hsl;
 use pix::hsv::Hsv;
 use pix::hwb::Hwb;
-use pix::rgb::{Rgb, Rgb8, Rgb16, Rgba8, Rgba8p, Rgba16, Rgba16p, SRgb8, SRgba8};
+use pix::rgb::{Rgb, Rgb8, Rgb16, Rgba8, SRgb8, SRgba8};
 use pix::xyz::Xyz;
 use pix::ycc::YCbCr;
 use pix::{ColorModel, Raster};
@@ -44,16 +44,56 @@ fn picture(
     random: &mut Random,
     digest: &mut Digest,
 ) -> Option<()> {
-    let linear = Raster::<Rgb8>::with_raster(alloc, photo).ok()?;
-    digest.add_raster(alloc, &linear)?;
+    let linear = eight::<3, Rgb, Straight, Linear, _>(alloc, photo, digest)?;
     models(alloc, &linear, digest)?;
-    let gray = Raster::<Gray8>::with_raster(alloc, &linear).ok()?;
-    digest.add_raster(alloc, &gray)?;
-    let again = Raster::<SRgb8>::with_raster(alloc, &linear).ok()?;
-    digest.add_raster(alloc, &again)?;
+    eight::<1, Gray, Straight, Linear, _>(alloc, &linear, digest)?;
+    eight::<3, Rgb, Straight, Srgb, _>(alloc, &linear, digest)?;
     words(alloc, &linear, digest)?;
     let shade = pictures::with_alpha(alloc, photo, false, random)?;
     alphas(alloc, &shade, digest)
+}
+
+/// Converts a picture to the format of eight bits of these parts, and adds its channels.
+///
+/// Condition: the format has no more channels than its model.
+fn eight<const N: usize, M, A, G, S>(
+    alloc: Global,
+    src: &Raster<S>,
+    digest: &mut Digest,
+) -> Option<Raster<Pix<N, Ch8, M, A, G>>>
+where
+    M: ColorModel,
+    A: Alpha,
+    G: Gamma<Ch8>,
+    S: Pixel,
+    Ch8: From<S::Chan>,
+    S::Gamma: Gamma<Ch8>,
+    requires few { N ≤ M.ALPHA + 1 }
+{
+    let made = Raster::with_raster(alloc, src).ok()?;
+    digest.add_raster(alloc, &made)?;
+    Some(made)
+}
+
+/// Converts a picture to the linear format of sixteen bits of these parts, and adds its channels.
+///
+/// Condition: the format has no more channels than its model.
+fn sixteen<const N: usize, M, A, S>(
+    alloc: Global,
+    src: &Raster<S>,
+    digest: &mut Digest,
+) -> Option<Raster<Pix<N, Ch16, M, A, Linear>>>
+where
+    M: ColorModel,
+    A: Alpha,
+    S: Pixel,
+    Ch16: From<S::Chan>,
+    S::Gamma: Gamma<Ch16>,
+    requires few { N ≤ M.ALPHA + 1 }
+{
+    let made = Raster::with_raster(alloc, src).ok()?;
+    digest.add_wide_raster(&made);
+    Some(made)
 }
 
 /// Converts a picture to other color models and back.
@@ -72,10 +112,9 @@ fn models(alloc: Global, linear: &Raster<Rgb8>, digest: &mut Digest) -> Option<(
 fn through<M: ColorModel>(alloc: Global, linear: &Raster<Rgb8>, digest: &mut Digest) -> Option<()>
     requires few { 3 ≤ M.ALPHA + 1 }
 {
-    let made: Raster<Pix<3, Ch8, M, Straight, Linear>> = Raster::with_raster(alloc, linear).ok()?;
-    digest.add_raster(alloc, &made)?;
-    let back: Raster<Pix<3, Ch8, Rgb, Straight, Linear>> = Raster::with_raster(alloc, &made).ok()?;
-    digest.add_raster(alloc, &back)
+    let made = eight::<3, M, Straight, Linear, _>(alloc, linear, digest)?;
+    eight::<3, Rgb, Straight, Linear, _>(alloc, &made, digest)?;
+    Some(())
 }
 
 /// Converts a picture to 16 bits and back, by way of a buffer of words, and there to another color
@@ -88,12 +127,10 @@ fn words(alloc: Global, linear: &Raster<Rgb8>, digest: &mut Digest) -> Option<()
     };
     let fine = Raster::<Rgb16>::with_u16_buffer(alloc, width, height, words).ok()?;
     digest.add_wide_raster(&fine);
-    let hues: Raster<Pix<3, Ch16, Hsv, Straight, Linear>> = Raster::with_raster(alloc, &fine).ok()?;
-    digest.add_wide_raster(&hues);
-    let coarse = Raster::<Rgb8>::with_raster(alloc, &hues).ok()?;
-    digest.add_raster(alloc, &coarse)?;
-    let coarse = Raster::<Rgb8>::with_raster(alloc, &fine).ok()?;
-    digest.add_raster(alloc, &coarse)
+    let hues = sixteen::<3, Hsv, Straight, _>(alloc, &fine, digest)?;
+    eight::<3, Rgb, Straight, Linear, _>(alloc, &hues, digest)?;
+    eight::<3, Rgb, Straight, Linear, _>(alloc, &fine, digest)?;
+    Some(())
 }
 
 /// Converts a picture with an alpha to premultiplied pixels and back, of 8 and of 16 bits, and by
@@ -102,14 +139,10 @@ fn alphas(alloc: Global, shade: &Raster<SRgba8>, digest: &mut Digest) -> Option<
     let (width, height) = (shade.width(), shade.height());
     let bytes = shade.to_u8_vec(alloc).ok()?;
     let straight = Raster::<Rgba8>::with_u8_buffer(alloc, width, height, bytes).ok()?;
-    let product = Raster::<Rgba8p>::with_raster(alloc, &straight).ok()?;
-    digest.add_raster(alloc, &product)?;
-    let quotient = Raster::<Rgba8>::with_raster(alloc, &product).ok()?;
-    digest.add_raster(alloc, &quotient)?;
-    let fine = Raster::<Rgba16p>::with_raster(alloc, &straight).ok()?;
-    digest.add_wide_raster(&fine);
-    let quotient = Raster::<Rgba16>::with_raster(alloc, &fine).ok()?;
-    digest.add_wide_raster(&quotient);
-    let swapped = Raster::<Bgra8>::with_raster(alloc, &quotient).ok()?;
-    digest.add_raster(alloc, &swapped)
+    let product = eight::<4, Rgb, Premultiplied, Linear, _>(alloc, &straight, digest)?;
+    eight::<4, Rgb, Straight, Linear, _>(alloc, &product, digest)?;
+    let fine = sixteen::<4, Rgb, Premultiplied, _>(alloc, &straight, digest)?;
+    let quotient = sixteen::<4, Rgb, Straight, _>(alloc, &fine, digest)?;
+    eight::<4, Bgr, Straight, Linear, _>(alloc, &quotient, digest)?;
+    Some(())
 }
