@@ -506,7 +506,8 @@ static inline pix_status pix_quantize_alpha(const pix_srgba8 *pixels, size_t cou
  * `len`, so many rounds then refine the table. In a round each color goes to its nearest entry, the
  * first of equals. Each entry goes to the mean of its colors, rounded, and stays where it has none.
  * No round makes the sum of the squared errors greater. A round takes about as long as
- * pix_map_indexed, and six are enough for most pictures. */
+ * pix_map_indexed of the distinct colors, so less than that of the pixels where colors come again.
+ * Six are enough for most pictures. */
 static inline pix_status pix_quantize_refined(const pix_srgb8 *pixels, size_t count, uint8_t rounds, pix_srgb8 *work,
                                               pix_srgb8 *entries, size_t len, size_t *made);
 static inline pix_status pix_quantize_refined_alpha(const pix_srgba8 *pixels, size_t count, uint8_t alpha, uint8_t rounds,

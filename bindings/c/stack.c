@@ -17,6 +17,10 @@ static uint8_t mattes[COUNT], indices[COUNT], packed[COUNT], bytes[COUNT * 8], m
 static uint16_t mattes16[COUNT];
 static pix_srgb8 colors[COUNT], noise[ENTRIES], grays[ENTRIES], equals[ENTRIES], work[4 * COUNT];
 static pix_srgba8 shades[COUNT], shade_work[4 * COUNT];
+/* The first of these again and again: their colors are counted before a table is made of them. */
+enum { REPEATED = 700 };
+static pix_srgb8 repeated[COUNT];
+static pix_srgba8 repeated_shades[COUNT];
 static size_t counts[ENTRIES];
 
 /* Any colors, so that each asks for a list of its own; and tables of any colors, of grays, and of few that differ. */
@@ -27,6 +31,8 @@ static void fill(void) {
         const uint8_t r = (uint8_t)(random >> 24), g = (uint8_t)(random >> 16), b = (uint8_t)(random >> 8);
         colors[i] = (pix_srgb8){r, g, b};
         shades[i] = (pix_srgba8){r, g, b, (uint8_t)(r ^ b)};
+        repeated[i] = colors[i % REPEATED];
+        repeated_shades[i] = shades[i % REPEATED];
         source[i] = pix_rgba8_of(r / 2, g / 2, b / 2, 128);
         source_rgba16[i] = pix_rgba16_of(r, g, b, 30000);
         source_graya8[i] = pix_graya8_of(r / 2, 128);
@@ -157,14 +163,17 @@ static pix_status look_up_rgba(void) {
 static pix_status make(void) {
     static pix_srgb8 made[ENTRIES];
     size_t len = 0;
-    const pix_status status = pix_quantize(grays, ENTRIES, work, made, ENTRIES, &len);
+    pix_status status = pix_quantize(grays, ENTRIES, work, made, ENTRIES, &len);
+    if (status == PIX_OK)
+        status = pix_quantize(repeated, COUNT, work, made, ENTRIES, &len);
     return status == PIX_OK ? pix_quantize(colors, COUNT, work, made, ENTRIES, &len) : status;
 }
 
 static pix_status make_alpha(void) {
     static pix_srgb8 made[ENTRIES];
     size_t len = 0;
-    return pix_quantize_alpha(shades, COUNT, 128, work, made, ENTRIES, &len);
+    const pix_status status = pix_quantize_alpha(repeated_shades, COUNT, 128, work, made, ENTRIES, &len);
+    return status == PIX_OK ? pix_quantize_alpha(shades, COUNT, 128, work, made, ENTRIES, &len) : status;
 }
 
 static pix_status refine(void) {
@@ -173,6 +182,8 @@ static pix_status refine(void) {
     pix_status status = pix_quantize_refined(grays, ENTRIES, 2, work, made, ENTRIES, &len);
     for (size_t room = 1; room <= ENTRIES && status == PIX_OK; room *= 16)
         status = pix_quantize_refined(colors, COUNT, 2, work, made, room, &len);
+    for (size_t room = 1; room <= ENTRIES && status == PIX_OK; room *= 16)
+        status = pix_quantize_refined(repeated, COUNT, 2, work, made, room, &len);
     return status;
 }
 
@@ -188,6 +199,8 @@ static pix_status make_rgba(void) {
     pix_status status = pix_quantize_rgba(shades, ENTRIES, 2, shade_work, made, ENTRIES, &len);
     for (size_t room = 1; room <= ENTRIES && status == PIX_OK; room *= 16)
         status = pix_quantize_rgba(shades, COUNT, 2, shade_work, made, room, &len);
+    for (size_t room = 1; room <= ENTRIES && status == PIX_OK; room *= 16)
+        status = pix_quantize_rgba(repeated_shades, COUNT, 2, shade_work, made, room, &len);
     return status;
 }
 

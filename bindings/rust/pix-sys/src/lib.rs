@@ -21,7 +21,7 @@
 //! | KiB | calls |
 //! |--:|---|
 //! | 256 | `pix_raw_quantize_refined`, `pix_raw_map_indexed`, `pix_raw_diffuse_indexed`, `pix_raw_diffuse_indexed_by`, and all four with `_alpha` |
-//! | 96 | `pix_raw_quantize`, `pix_raw_quantize_alpha`, `pix_raw_quantize_rgba` |
+//! | 128 | `pix_raw_quantize`, `pix_raw_quantize_alpha`, `pix_raw_quantize_rgba` |
 //! | 32 | `pix_raw_index_pixels`, `pix_raw_map_indexed_rgba`, `pix_raw_diffuse_indexed_rgba` |
 //! | 16 | all others |
 //!
