@@ -1,7 +1,7 @@
 /* pix 0.3.0: the program pixpaint, for x86-64-v2 under Linux.
  * The code was proved before it was compiled; generated/README.md says what that means. Nobody edits this file: tools/generate makes it.
  *
- * sources: 2c546253f8028604fc3f683e1fbad194bc271e6b5483f775f4babc59150997f5, as tools/sources --sum pixpaint prints it
+ * sources: 19e9956fe5c9b0ebdb75502e55234cc8345ce1f08c8bddcd04f5ea00be132f78, as tools/sources --sum pixpaint prints it
  * kit: rattle-kit-13f logic dac8208d650f15bf
  * verdict: logic=proved functions=1 axioms=6 target=x86_64-unknown-linux-gnu cpu=x86-64-v2 sum=dac8208d650f15bf native=nat,char,string logic-built=trusted libraries-built=trusted statements=trusted
  * made by: rattle build of crates/pixpaint, with clang -S -fno-verbose-asm -fno-addrsig in the place of clang -c
