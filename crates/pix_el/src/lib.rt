@@ -13,3 +13,4 @@ pub mod matte;
 pub mod model;
 mod planes;
 pub mod rgb;
+pub mod stored;
