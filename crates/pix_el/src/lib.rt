@@ -13,4 +13,6 @@ pub mod matte;
 pub mod model;
 mod planes;
 pub mod rgb;
+pub mod rows;
+mod rows_stub;
 pub mod stored;
