@@ -25,13 +25,16 @@ in_pixels_same : {A : Type 0} (count i : ℕ) (xs ys : List A) → take (count *
 in_pixels_same count i xs ys e = sym (in_pixels_within count i xs) ∙ ap (in_pixels count i) e ∙ in_pixels_within count i ys
 
 -- one pixel more
-in_pixels_more : {A : Type 0} (count i : ℕ) (xs : List A) → in_pixels count (i + 1) xs ≡ in_pixels count i xs ++ (take count (drop (count * i) xs) ∷ [])
-in_pixels_more count zero xs = let e : count * 0 ≡ 0 = omega arith in rw e refl
-in_pixels_more {A = A} count (suc i) xs =
+in_pixels_suc : {A : Type 0} (count i : ℕ) (xs : List A) → in_pixels count (suc i) xs ≡ in_pixels count i xs ++ (take count (drop (count * i) xs) ∷ [])
+in_pixels_suc count zero xs = let e : count * 0 ≡ 0 = omega arith in rw e refl
+in_pixels_suc {A = A} count (suc i) xs =
     let e : count + count * i ≡ count * suc i = omega arith in
     ap (λ (l : List (List A)). take count xs ∷ l)
-    (in_pixels_more count i (drop count xs)
+    (in_pixels_suc count i (drop count xs)
     ∙ ap (λ (l : List A). in_pixels count i (drop count xs) ++ (take count l ∷ [])) (drop-drop (count * i) count xs ∙ ap (λ (k : ℕ). drop k xs) e))
+
+in_pixels_more : {A : Type 0} (count i : ℕ) (xs : List A) → in_pixels count (i + 1) xs ≡ in_pixels count i xs ++ (take count (drop (count * i) xs) ∷ [])
+in_pixels_more count i xs = let e : i + 1 ≡ suc i = omega arith in ap (λ (k : ℕ). in_pixels count k xs) e ∙ in_pixels_suc count i xs
 
 -- a pixel's channels end within those of all
 pub pixel_ends : (n count long i : ℕ) → n ≡ count → i < long → n * i + n ≤ count * long
@@ -81,7 +84,7 @@ module _ {X C : Type 0} (v : C → ℕ) (r : X → List ℕ) (count : ℕ) where
       ∙ same_pair so_far (ap (λ (l : List ℕ). l ∷ []) mine) ∙ sym (in_pixels_more count i (map v c))
 
 -- pixels of four, of two and of one channel
-pub fours_in : (n : ℕ) (cs : List ℕ) → length cs ≡ four_times n → in_pixels 4 n cs ≡ by_fours cs
+fours_in : (n : ℕ) (cs : List ℕ) → length cs ≡ four_times n → in_pixels 4 n cs ≡ by_fours cs
 fours_in zero [] h = refl
 fours_in zero (c ∷ cs) h = absurd (omega arith)
 fours_in (suc n) [] h = absurd (omega arith)
@@ -90,15 +93,38 @@ fours_in (suc n) (w ∷ x ∷ []) h = absurd (omega arith)
 fours_in (suc n) (w ∷ x ∷ y ∷ []) h = absurd (omega arith)
 fours_in (suc n) (w ∷ x ∷ y ∷ z ∷ cs) h = ap (λ (l : List (List ℕ)). (w ∷ x ∷ y ∷ z ∷ []) ∷ l) (fours_in n cs (omega arith))
 
-pub twos_in : (n : ℕ) (cs : List ℕ) → length cs ≡ n + n → in_pixels 2 n cs ≡ by_twos cs
+twos_in : (n : ℕ) (cs : List ℕ) → length cs ≡ n + n → in_pixels 2 n cs ≡ by_twos cs
 twos_in zero [] h = refl
 twos_in zero (c ∷ cs) h = absurd (omega arith)
 twos_in (suc n) [] h = absurd (omega arith)
 twos_in (suc n) (w ∷ []) h = absurd (omega arith)
 twos_in (suc n) (w ∷ x ∷ cs) h = ap (λ (l : List (List ℕ)). (w ∷ x ∷ []) ∷ l) (twos_in n cs (omega arith))
 
-pub ones_in : (n : ℕ) (cs : List ℕ) → length cs ≡ n → in_pixels 1 n cs ≡ by_ones cs
+ones_in : (n : ℕ) (cs : List ℕ) → length cs ≡ n → in_pixels 1 n cs ≡ by_ones cs
 ones_in zero [] h = refl
 ones_in zero (c ∷ cs) h = absurd (omega arith)
 ones_in (suc n) [] h = absurd (omega arith)
 ones_in (suc n) (w ∷ cs) h = ap (λ (l : List (List ℕ)). (w ∷ []) ∷ l) (ones_in n cs (omega arith))
+
+-- what is read and written of n pixels
+module _ (count n long : ℕ) (cs : List ℕ) (pixels : List (List ℕ)) where
+  in_all : (width : ℕ) → count ≡ width → long ≡ n → in_pixels count long cs ≡ in_pixels width n cs
+  in_all width e h = ap (λ (k : ℕ). in_pixels k long cs) e ∙ ap (λ (k : ℕ). in_pixels width k cs) h
+
+  pub fours_read : count ≡ 4 → long ≡ n → length cs ≡ four_times n → in_pixels count long cs ≡ pixels → by_fours cs ≡ pixels
+  fours_read e h l is = sym (in_all 4 e h ∙ fours_in n cs l) ∙ is
+
+  pub fours_written : count ≡ 4 → long ≡ n → length cs ≡ four_times n → pixels ≡ in_pixels count long cs → pixels ≡ by_fours cs
+  fours_written e h l is = is ∙ in_all 4 e h ∙ fours_in n cs l
+
+  pub twos_read : count ≡ 2 → long ≡ n → length cs ≡ n + n → in_pixels count long cs ≡ pixels → by_twos cs ≡ pixels
+  twos_read e h l is = sym (in_all 2 e h ∙ twos_in n cs l) ∙ is
+
+  pub twos_written : count ≡ 2 → long ≡ n → length cs ≡ n + n → pixels ≡ in_pixels count long cs → pixels ≡ by_twos cs
+  twos_written e h l is = is ∙ in_all 2 e h ∙ twos_in n cs l
+
+  pub ones_read : count ≡ 1 → long ≡ n → length cs ≡ n → in_pixels count long cs ≡ pixels → by_ones cs ≡ pixels
+  ones_read e h l is = sym (in_all 1 e h ∙ ones_in n cs l) ∙ is
+
+  pub ones_written : count ≡ 1 → long ≡ n → length cs ≡ n → pixels ≡ in_pixels count long cs → pixels ≡ by_ones cs
+  ones_written e h l is = is ∙ in_all 1 e h ∙ ones_in n cs l

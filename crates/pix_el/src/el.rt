@@ -321,7 +321,7 @@ pub trait Pixel: Copy + Debug + Default + PartialEq {
         ensures { map numbers dst.new ≡
             map (pixel_composite layout O.op (numbers clr.now)) (map numbers dst.old) }
     {
-        let start = color_runs::<O, Self>(dst, clr);
+        let start = color_runs::<O, Self, Self>(dst, clr);
         for i in start..dst.len() {
             dst[i].composite_channels(clr, op);
         }
@@ -349,7 +349,7 @@ pub trait Pixel: Copy + Debug + Default + PartialEq {
             over (pixel_composite layout O.op) (map numbers src.now) (map numbers dst.old) }
     {
         let count = dst.len().min(src.len());
-        let start = composite_runs::<O, Self>(dst, src, count);
+        let start = composite_runs::<O, Self, Self, Self>(dst, src, count);
         for i in start..count {
             dst[i].composite_channels(&src[i], op);
         }
@@ -424,7 +424,7 @@ pub trait Pixel: Copy + Debug + Default + PartialEq {
             (map numbers src.now) (map numbers dst.old) }
     {
         let count = dst.len().min(src.len());
-        let start = faded_runs::<O, Self>(dst, src, *alpha, count);
+        let start = faded_runs::<O, Self, Self, Self>(dst, src, *alpha, count);
         for i in start..count {
             dst[i].composite_channels_alpha(&src[i], op, alpha);
         }
