@@ -9,6 +9,7 @@ pub mod LightBlocks
 pub mod FourPlanes
 pub mod TwoPlanes
 pub mod Halves
+pub mod InPixels
 pub mod OnePlane
 pub mod MattePlanes
 pub mod FourPixels

@@ -14,5 +14,4 @@ pub mod model;
 mod planes;
 pub mod rgb;
 pub mod rows;
-mod rows_stub;
 pub mod stored;

@@ -10,21 +10,20 @@
 //! file and its folder.
 ghost use Rattle.std.specs.Prelude.{◌≡◌, ◌≤◌, ◌+◌, ◌-◌, length, map, take, true, replicate};
 ghost use Rattle.pix_chan.specs.Runs.{over, triples};
-ghost use Rattle.pix_el.specs.Planes.{run_hue, run_first, matted_first};
-ghost use Rattle.pix_el.specs.PixelComposite.{pixel_composite, matted_composite, matte_numbers, matte_value};
+ghost use Rattle.pix_el.specs.Planes.{coverage_of, run_hue, run_first, matted_first};
+ghost use Rattle.pix_el.specs.PixelComposite.{pixel_composite, matted_composite};
 
-use crate::el::{Pix, Pixel};
+use crate::el::Pixel;
 use crate::hue::composite_hue;
-use crate::matte::Matte;
 use crate::model::{ColorModel, is_hue};
 use crate::planes::block::{color_blocks, composite_blocks, matte_blocks};
-use crate::planes::coverage::Coverage;
 use crate::planes::eight::Eight;
 use crate::planes::four::Four;
 use crate::planes::interleaved::Interleaved;
 use crate::planes::one::One;
 use crate::planes::two::Two;
-use pix_chan::chan::{Alpha, Channel, Linear};
+use crate::stored::{Coverage, Stored};
+use pix_chan::chan::Channel;
 use pix_ops::ops::Blend;
 
 mod block;
@@ -118,24 +117,28 @@ fn has_one<P: Pixel>() -> bool
 ///
 /// Condition: the format has an alpha channel, and both slices have `count` pixels.
 #[inline(always)]
-pub(crate) fn composite_runs<O: Blend, P: Pixel>(dst: &mut [P], src: &[P], count: usize) -> usize
+pub(crate) fn composite_runs<O: Blend, P: Pixel, D: Stored<P>, S: Stored<P>>(
+    dst: &mut [D],
+    src: &[S],
+    count: usize,
+) -> usize
     requires has_alpha { P.layout.count ≡ P.layout.alpha + 1 }
     requires dst_has { count ≤ length dst.old }
     requires src_has { count ≤ length src.now }
     ensures some { result ≤ count }
-    ensures composite { map P.numbers dst.new ≡ over (pixel_composite P.layout O.op)
-        (take result (map P.numbers src.now)) (map P.numbers dst.old) }
+    ensures composite { map D.reads dst.new ≡ over (pixel_composite P.layout O.op)
+        (take result (map S.reads src.now)) (map D.reads dst.old) }
 {
     if is_interleaved::<P>() {
-        let start = composite_blocks::<O, P, Eight>(dst, src, count);
+        let start = composite_blocks::<O, P, D, S, Eight>(dst, src, count);
         let (rest, sources) = (&mut dst[start..], &src[start..]);
-        start + composite_blocks::<O, P, Interleaved>(rest, sources, count - start)
+        start + composite_blocks::<O, P, D, S, Interleaved>(rest, sources, count - start)
     } else if has_four::<P>() {
-        composite_blocks::<O, P, Four>(dst, src, count)
+        composite_blocks::<O, P, D, S, Four>(dst, src, count)
     } else if has_two::<P>() {
-        composite_blocks::<O, P, Two>(dst, src, count)
+        composite_blocks::<O, P, D, S, Two>(dst, src, count)
     } else if has_one::<P>() {
-        composite_blocks::<O, P, One>(dst, src, count)
+        composite_blocks::<O, P, D, S, One>(dst, src, count)
     } else {
         0
     }
@@ -145,21 +148,21 @@ pub(crate) fn composite_runs<O: Blend, P: Pixel>(dst: &mut [P], src: &[P], count
 ///
 /// Condition: the format has an alpha channel.
 #[inline(always)]
-pub(crate) fn color_runs<O: Blend, P: Pixel>(dst: &mut [P], clr: &P) -> usize
+pub(crate) fn color_runs<O: Blend, P: Pixel, D: Stored<P>>(dst: &mut [D], clr: &P) -> usize
     requires has_alpha { P.layout.count ≡ P.layout.alpha + 1 }
     ensures some { result ≤ length dst.old }
-    ensures composite { map P.numbers dst.new ≡ over (pixel_composite P.layout O.op)
-        (take result (replicate (length dst.old) (P.numbers clr.now))) (map P.numbers dst.old) }
+    ensures composite { map D.reads dst.new ≡ over (pixel_composite P.layout O.op)
+        (take result (replicate (length dst.old) (P.numbers clr.now))) (map D.reads dst.old) }
 {
     if is_interleaved::<P>() {
-        let start = color_blocks::<O, P, Eight>(dst, clr);
-        start + color_blocks::<O, P, Interleaved>(&mut dst[start..], clr)
+        let start = color_blocks::<O, P, D, Eight>(dst, clr);
+        start + color_blocks::<O, P, D, Interleaved>(&mut dst[start..], clr)
     } else if has_four::<P>() {
-        color_blocks::<O, P, Four>(dst, clr)
+        color_blocks::<O, P, D, Four>(dst, clr)
     } else if has_two::<P>() {
-        color_blocks::<O, P, Two>(dst, clr)
+        color_blocks::<O, P, D, Two>(dst, clr)
     } else if has_one::<P>() {
-        color_blocks::<O, P, One>(dst, clr)
+        color_blocks::<O, P, D, One>(dst, clr)
     } else {
         0
     }
@@ -189,9 +192,9 @@ fn is_wide<C: Channel>() -> bool {
 /// Condition: the alpha is the last of four channels, none is a hue, and both slices have `count`
 /// elements.
 #[inline(always)]
-fn largest_coverage<O: Blend, P: Pixel, S: Coverage<P::Chan>>(
-    dst: &mut [P],
-    src: &[S],
+fn largest_coverage<O: Blend, P: Pixel, D: Stored<P>, M: Coverage<P::Chan>>(
+    dst: &mut [D],
+    src: &[M],
     clr: &P,
     count: usize,
 ) -> usize
@@ -201,14 +204,14 @@ fn largest_coverage<O: Blend, P: Pixel, S: Coverage<P::Chan>>(
     requires dst_has { count ≤ length dst.old }
     requires src_has { count ≤ length src.now }
     ensures some { result ≤ count }
-    ensures composite { map P.numbers dst.new ≡
+    ensures composite { map D.reads dst.new ≡
         over (λ m. matted_composite P.layout O.op m (P.numbers clr.now))
-        (take result (map S.value src.now)) (map P.numbers dst.old) }
+        (take result (map (coverage_of P.Chan.max M.numbers) src.now)) (map D.reads dst.old) }
 {
     if is_wide::<P::Chan>() {
-        matte_blocks::<O, P, S, Eight>(dst, src, clr, count)
+        matte_blocks::<O, P, D, M, Eight>(dst, src, clr, count)
     } else {
-        matte_blocks::<O, P, S, Four>(dst, src, clr, count)
+        matte_blocks::<O, P, D, M, Four>(dst, src, clr, count)
     }
 }
 
@@ -217,9 +220,9 @@ fn largest_coverage<O: Blend, P: Pixel, S: Coverage<P::Chan>>(
 ///
 /// Condition: the format has an alpha channel, and both slices have `count` elements.
 #[inline(always)]
-fn coverage_runs<O: Blend, P: Pixel, S: Coverage<P::Chan>>(
-    dst: &mut [P],
-    src: &[S],
+pub(crate) fn coverage_runs<O: Blend, P: Pixel, D: Stored<P>, M: Coverage<P::Chan>>(
+    dst: &mut [D],
+    src: &[M],
     clr: &P,
     count: usize,
 ) -> usize
@@ -227,43 +230,21 @@ fn coverage_runs<O: Blend, P: Pixel, S: Coverage<P::Chan>>(
     requires dst_has { count ≤ length dst.old }
     requires src_has { count ≤ length src.now }
     ensures some { result ≤ count }
-    ensures composite { map P.numbers dst.new ≡
+    ensures composite { map D.reads dst.new ≡
         over (λ m. matted_composite P.layout O.op m (P.numbers clr.now))
-        (take result (map S.value src.now)) (map P.numbers dst.old) }
+        (take result (map (coverage_of P.Chan.max M.numbers) src.now)) (map D.reads dst.old) }
 {
     if is_interleaved::<P>() {
-        let start = largest_coverage::<O, P, S>(dst, src, clr, count);
+        let start = largest_coverage::<O, P, D, M>(dst, src, clr, count);
         let (rest, mattes) = (&mut dst[start..], &src[start..]);
-        start + matte_blocks::<O, P, S, Interleaved>(rest, mattes, clr, count - start)
+        start + matte_blocks::<O, P, D, M, Interleaved>(rest, mattes, clr, count - start)
     } else if has_four::<P>() {
-        matte_blocks::<O, P, S, Four>(dst, src, clr, count)
+        matte_blocks::<O, P, D, M, Four>(dst, src, clr, count)
     } else if has_two::<P>() {
-        matte_blocks::<O, P, S, Two>(dst, src, clr, count)
+        matte_blocks::<O, P, D, M, Two>(dst, src, clr, count)
     } else if has_one::<P>() {
-        matte_blocks::<O, P, S, One>(dst, src, clr, count)
+        matte_blocks::<O, P, D, M, One>(dst, src, clr, count)
     } else {
         0
     }
-}
-
-/// Composites `clr` through mattes with as many of the first `count` pixels as go in blocks, and
-/// returns their number.
-///
-/// Condition: the format has an alpha channel, and both slices have `count` elements.
-#[inline(always)]
-pub(crate) fn matte_runs<const N: usize, A: Alpha, O: Blend, P: Pixel>(
-    dst: &mut [P],
-    src: &[Pix<N, P::Chan, Matte, A, Linear>],
-    clr: &P,
-    count: usize,
-) -> usize
-    requires has_alpha { P.layout.count ≡ P.layout.alpha + 1 }
-    requires dst_has { count ≤ length dst.old }
-    requires src_has { count ≤ length src.now }
-    ensures some { result ≤ count }
-    ensures composite { map P.numbers dst.new ≡ over (λ matte. matted_composite P.layout O.op
-        (matte_value P.layout matte) (P.numbers clr.now))
-        (take result (map (matte_numbers P.Chan.number) src.now)) (map P.numbers dst.old) }
-{
-    coverage_runs::<O, P, Pix<N, P::Chan, Matte, A, Linear>>(dst, src, clr, count)
 }

@@ -9,7 +9,8 @@ ghost use Rattle.pix_chan.specs.Runs.{over};
 ghost use Rattle.pix_el.specs.PixelComposite.{pixel_composite, matted_composite, matte_value};
 
 use crate::el::Pixel;
-use crate::rows_stub::{color_runs, composite_runs, coverage_runs, covered_runs, faded_runs};
+use crate::planes::masked::{covered_runs, faded_runs};
+use crate::planes::{color_runs, composite_runs, coverage_runs};
 use crate::stored::{Coverage, Stored};
 use pix_chan::chan::{Linear, Premultiplied};
 use pix_ops::ops::Blend;
