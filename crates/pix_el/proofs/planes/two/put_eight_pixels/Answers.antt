@@ -1,11 +1,11 @@
 -- Of `put_eight_pixels`: that there is a channel for each place, and that the pixels are those of the channels.
-use Rattle.std.proofs.Common.{arith, map, refl}
+use Rattle.std.proofs.Common.{arith, map}
 use Rattle.std.proofs.lemmas.List.{length-map}
 use Rattle.pix_el.proofs.InPixels.{twos_written}
 use Rattle.pix_el.proofs.planes.two.put_eight_pixels.Goals as goal
 
 pub store_channels-requires : goal.store_channels-requires
-store_channels-requires g c = rw (c.requires.count, c.requires.size) refl
+store_channels-requires g c = rw (c.requires.count, c.requires.size) (omega arith)
 
 pub returns-clause-pixels : goal.returns-clause-pixels
 returns-clause-pixels g c =
