@@ -9,8 +9,14 @@ ghost use Rattle.pix_chan.specs.Runs.{over};
 ghost use Rattle.pix_el.specs.PixelComposite.{pixel_composite, matted_composite, matte_value};
 
 use crate::el::Pixel;
+use crate::planes::block::{color_blocks, composite_blocks};
+use crate::planes::eight::Eight;
+use crate::planes::four::Four;
+use crate::planes::interleaved::Interleaved;
 use crate::planes::masked::{covered_runs, faded_runs};
-use crate::planes::{color_runs, composite_runs, coverage_runs};
+use crate::planes::one::One;
+use crate::planes::two::Two;
+use crate::planes::{coverage_runs, has_four, has_one, has_two, is_interleaved};
 use crate::stored::{Coverage, Stored};
 use pix_chan::chan::{Linear, Premultiplied};
 use pix_ops::ops::Blend;
@@ -165,9 +171,21 @@ impl<P: Pixel<Alpha = Premultiplied, Gamma = Linear>, D: Stored<P>, O: Blend> Fi
     ghost makes = { λ it. pixel_composite P.layout O.op (P.numbers it.clr) };
 
     fn fill(&self, row: &mut [D]) {
-        let start = color_runs::<O, P, D>(row, &self.clr);
+        let clr = &self.clr;
+        let start = if is_interleaved::<P>() {
+            let start = color_blocks::<O, P, D, Eight>(row, clr);
+            start + color_blocks::<O, P, D, Interleaved>(&mut row[start..], clr)
+        } else if has_four::<P>() {
+            color_blocks::<O, P, D, Four>(row, clr)
+        } else if has_two::<P>() {
+            color_blocks::<O, P, D, Two>(row, clr)
+        } else if has_one::<P>() {
+            color_blocks::<O, P, D, One>(row, clr)
+        } else {
+            0
+        };
         for i in start..row.len() {
-            composite_pixel::<O, P, D>(&mut row[i], &self.clr, self.op);
+            composite_pixel::<O, P, D>(&mut row[i], clr, self.op);
         }
     }
 }
@@ -217,7 +235,19 @@ impl<P: Pixel<Alpha = Premultiplied, Gamma = Linear>, D: Stored<P>, S: Stored<P>
 
     fn blit(&self, row: &mut [D], src: &[S]) {
         let count = row.len().min(src.len());
-        let start = composite_runs::<O, P, D, S>(row, src, count);
+        let start = if is_interleaved::<P>() {
+            let start = composite_blocks::<O, P, D, S, Eight>(row, src, count);
+            let (rest, sources) = (&mut row[start..], &src[start..]);
+            start + composite_blocks::<O, P, D, S, Interleaved>(rest, sources, count - start)
+        } else if has_four::<P>() {
+            composite_blocks::<O, P, D, S, Four>(row, src, count)
+        } else if has_two::<P>() {
+            composite_blocks::<O, P, D, S, Two>(row, src, count)
+        } else if has_one::<P>() {
+            composite_blocks::<O, P, D, S, One>(row, src, count)
+        } else {
+            0
+        };
         for i in start..count {
             composite_pixel::<O, P, D>(&mut row[i], &src[i].load(), self.op);
         }

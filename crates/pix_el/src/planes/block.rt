@@ -12,7 +12,7 @@ use crate::stored::{Coverage, Stored, see_channels};
 use pix_ops::ops::Blend;
 
 /// A way to composite the pixels of a format by blocks of one size.
-pub(super) trait Block<P: Pixel> {
+pub(crate) trait Block<P: Pixel> {
     /// The format is one for this way.
     ghost suits: { Type 0 };
 
@@ -81,7 +81,7 @@ pub(super) trait Block<P: Pixel> {
 ///
 /// Condition: both slices have `count` pixels.
 #[inline(always)]
-pub(super) fn composite_blocks<O: Blend, P: Pixel, D: Stored<P>, S: Stored<P>, B: Block<P>>(
+pub(crate) fn composite_blocks<O: Blend, P: Pixel, D: Stored<P>, S: Stored<P>, B: Block<P>>(
     dst: &mut [D],
     src: &[S],
     count: usize,
@@ -104,7 +104,7 @@ pub(super) fn composite_blocks<O: Blend, P: Pixel, D: Stored<P>, S: Stored<P>, B
 /// Composites `clr` with as many of the first pixels as go in whole blocks, and returns their
 /// number.
 #[inline(always)]
-pub(super) fn color_blocks<O: Blend, P: Pixel, D: Stored<P>, B: Block<P>>(
+pub(crate) fn color_blocks<O: Blend, P: Pixel, D: Stored<P>, B: Block<P>>(
     dst: &mut [D],
     clr: &P,
 ) -> usize

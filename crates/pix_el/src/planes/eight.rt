@@ -125,7 +125,7 @@ pub(super) fn composite_eight<O: Blend, P: Pixel, D: Stored<P>, const CALLER: us
 }
 
 /// Pixels of four channels without a hue, eight at a time.
-pub(super) struct Eight {}
+pub(crate) struct Eight {}
 
 impl<P: Pixel> Block<P> for Eight {
     ghost suits = { (P.layout.count ≡ 4) × (P.layout.alpha ≡ 3) × (P.layout.hues.end ≡ 0) };

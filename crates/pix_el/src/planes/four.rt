@@ -143,7 +143,7 @@ fn composite_masked<O: Blend, P: Pixel, D: Stored<P>, S: Stored<P>, const CALLER
 }
 
 /// Pixels of four channels of which only the first may be a hue, sixteen at a time.
-pub(super) struct Four {}
+pub(crate) struct Four {}
 
 impl<P: Pixel> Block<P> for Four {
     ghost suits = { (P.layout.count ≡ 4) × (P.layout.alpha ≡ 3) × (P.layout.hues.end ≤ 1) };

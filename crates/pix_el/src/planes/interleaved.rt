@@ -121,7 +121,7 @@ fn composite_matted<O: Blend, P: Pixel, D: Stored<P>, M: Coverage<P::Chan>>(
 }
 
 /// Pixels of four channels without a hue, four at a time.
-pub(super) struct Interleaved {}
+pub(crate) struct Interleaved {}
 
 impl<P: Pixel> Block<P> for Interleaved {
     ghost suits = { (P.layout.count ≡ 4) × (P.layout.alpha ≡ 3) × (P.layout.hues.end ≡ 0) };

@@ -88,7 +88,7 @@ fn composite_masked<O: Blend, P: Pixel, D: Stored<P>, S: Stored<P>>(
 }
 
 /// Pixels of an alpha alone, sixteen at a time.
-pub(super) struct One {}
+pub(crate) struct One {}
 
 impl<P: Pixel> Block<P> for One {
     ghost suits = { (P.layout.count ≡ 1) × (P.layout.alpha ≡ 0) × (P.layout.hues.end ≡ 0) };

@@ -153,7 +153,7 @@ fn composite_masked<O: Blend, P: Pixel, D: Stored<P>, S: Stored<P>, const CALLER
 }
 
 /// Pixels of two channels without a hue, sixteen at a time.
-pub(super) struct Two {}
+pub(crate) struct Two {}
 
 impl<P: Pixel> Block<P> for Two {
     ghost suits = { (P.layout.count ≡ 2) × (P.layout.alpha ≡ 1) × (P.layout.hues.end ≡ 0) };
