@@ -18,3 +18,6 @@ pub mod Seen
 pub mod Windows
 pub mod Points
 pub mod Samples
+pub mod ViewImages
+pub mod ViewEffects
+pub mod Draws
