@@ -194,6 +194,33 @@ impl<P: Pixel<Alpha = Premultiplied, Gamma = Linear>> Raster<P> {
     {
         there.visit(&mut self.pixels, op);
     }
+
+    /// Composites a region of another raster at one opacity.
+    // A call of its own: the borrow checker does not cover the loan of a value whose type has
+    // `P::Chan` in it beside another loan.
+    fn composite_faded<M: Coverage<P::Chan>, O: Blend>(
+        &mut self,
+        to: Region,
+        src: &Raster<P>,
+        from: Region,
+        alpha: &M,
+        op: O,
+    )
+        requires has_alpha { P.layout.count ≡ P.layout.alpha + 1 }
+        ensures { Changed P.numbers self.old self.new (run_at P.layout P.numbers M.numbers
+            (region_of self.old) (Command.RasterAlpha to src.entry from alpha.now O.op ∷ [])) }
+    {
+        let there = OnWindow::<P, P, M> {
+            draw: Draw::ImageAlpha {
+                to,
+                src: src.source(from),
+                alpha,
+            },
+            window: self.window(),
+            format: PhantomData,
+        };
+        self.draw(&there, op);
+    }
 }
 
 impl<P: Pixel<Alpha = Premultiplied, Gamma = Linear>> Raster<P> {
@@ -376,16 +403,7 @@ impl<P: Pixel<Alpha = Premultiplied, Gamma = Linear>> Raster<P> {
             → IsUnchanged P.layout (point P.numbers self.old x y)
             (point P.numbers self.new x y) }
     {
-        let there = OnWindow::<P, P, Pix<N, P::Chan, Matte, A, Linear>> {
-            draw: Draw::ImageAlpha {
-                to,
-                src: src.source(from),
-                alpha: &alpha,
-            },
-            window: self.window(),
-            format: PhantomData,
-        };
-        self.draw(&there, op);
+        self.composite_faded(to, src, from, &alpha, op);
     }
 
     /// Runs `commands` in order. At each point those that reach it run one after the other. No

@@ -28,7 +28,7 @@ returns g c =
     let numbered = g.met.P.Chan.Channel.numbered in
     let matte : List ℕ = matte_numbers number c.args.alpha in
     let old = c.args.self.now in
-    let new = c.draw.new.self in
+    let new = c.composite_faded.new.self in
     let src = c.args.src.now in
     let layout' : Layout = record { max = top; count = layout.count; hues = g.P.Model.ColorModel.CIRCULAR; alpha = g.P.Model.ColorModel.ALPHA } in
     let laid_out : layout ≡ layout' = g.met.P.Pixel.laid_out in
@@ -41,8 +41,7 @@ returns g c =
       fit = λ p. subst (λ (l : Layout). Fits l.max (n p)) (sym laid_out) (rw (g.met.P.Pixel.numbered p) (channels_fit top number (g.P.Pixel.channel_list p) numbered));
       mattes_fit = λ m. subst (λ (l : Layout). Fits l.max (mattes m)) (sym laid_out) (channels_fit top number m.channels numbered);
     } in
-    let ran : Changed n old new (run_at layout n mattes (region_of old) (commands.RasterAlpha c.args.to c.args.src c.args.from c.args.alpha op ∷ [])) =
-    rw (c.source.ensures.image, c.source.ensures.region) at c.draw.ensures in
+    let ran : Changed n old new (run_at layout n mattes (region_of old) (commands.RasterAlpha c.args.to c.args.src c.args.from c.args.alpha op ∷ [])) = c.composite_faded.ensures in
     let value : ℕ = matte_value layout matte in
     let changed = faded_change layout n mattes old new c.args.to c.args.from c.args.src c.args.alpha op ran in
     record {
