@@ -13,6 +13,7 @@ mod draw;
 mod masked;
 mod run;
 
+pub(crate) use draw::NoMattes;
 pub use draw::{Draw, ReadCommand};
 pub use masked::{Source, blit_masked};
 pub use pix_el::rows::{Blit, Fill, MaskedBlit};

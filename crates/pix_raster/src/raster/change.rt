@@ -17,7 +17,7 @@ use super::Raster;
 use crate::command::Command;
 use crate::region::Region;
 use crate::view::{
-    self, Blit, Commands, Draw, Fill, OnWindow, Shape, Source, Window, paint_by_bands,
+    self, Blit, Commands, Draw, Fill, NoMattes, OnWindow, Shape, Source, Window, paint_by_bands,
 };
 use pix_chan::chan::{Alpha, Linear, Premultiplied};
 use pix_el::el::{Pix, Pixel};
@@ -240,7 +240,7 @@ impl<P: Pixel<Alpha = Premultiplied, Gamma = Linear>> Raster<P> {
         ensures { Changed P.numbers self.old self.new (done_at P.layout P.numbers
             (region_of self.old) (Command.Color reg clr O.op)) }
     {
-        let there = OnWindow::<P, P, Pix<1, P::Chan, Matte, Premultiplied, Linear>> {
+        let there = OnWindow::<P, P, NoMattes> {
             draw: Draw::Color { reg, clr: &clr },
             window: self.window(),
             format: PhantomData,
@@ -265,7 +265,7 @@ impl<P: Pixel<Alpha = Premultiplied, Gamma = Linear>> Raster<P> {
         ensures { Changed P.numbers self.old self.new (done_at P.layout P.numbers
             (region_of self.old) (Command.Raster to src.entry from O.op)) }
     {
-        let there = OnWindow::<P, P, Pix<1, P::Chan, Matte, Premultiplied, Linear>> {
+        let there = OnWindow::<P, P, NoMattes> {
             draw: Draw::Image {
                 to,
                 src: src.source(from),

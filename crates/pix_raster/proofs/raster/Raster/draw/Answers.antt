@@ -18,8 +18,8 @@ returns g c =
     let inside = c.self.inside in
     let cs : List (Command g.row.P.Denot g.row.M.Denot) = command_in g.O.Blend.op c.args.there.now.draw ∷ [] in
     let shape : Shape = record { width = inside.width; height = inside.height; stride = inside.width } in
-    let painted : ChangedIn n shape inside.pixels.items (with_items inside.pixels c.visit.new.items).items
+    let painted : ChangedIn n shape inside.pixels.items (with_items inside.pixels c.visit.new.pixels).items
     (λ x y. run_at layout n m (whole (0 + inside.width) (0 + inside.height)) cs (0 + x) (0 + y)) =
-    rw (with_items_is inside.pixels c.visit.new.items (search rules)) (rw (c.requires.window, c.deref_mut.ensures.value, ← c.self.view_is) at c.visit.ensures) in
-    rw (← c.self.view_is) (changed_rows n inside.width inside.height inside.pixels.items (with_items inside.pixels c.visit.new.items).items
+    rw (with_items_is inside.pixels c.visit.new.pixels (search rules)) (rw (c.requires.window, c.deref_mut.ensures.value, ← c.self.view_is) at c.visit.ensures) in
+    rw (← c.self.view_is) (changed_rows n inside.width inside.height inside.pixels.items (with_items inside.pixels c.visit.new.pixels).items
     (λ w h x y. run_at layout n m (whole w h) cs x y) painted)
