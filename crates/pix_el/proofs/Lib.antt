@@ -1,6 +1,7 @@
 -- The files of lemmas. Answers, invariants and proofs of a function are found by its path.
 pub mod Models
 pub mod Written
+pub mod Copies
 pub mod Composited
 pub mod Conversions
 pub mod InLight
@@ -8,6 +9,7 @@ pub mod LightBlocks
 pub mod FourPlanes
 pub mod TwoPlanes
 pub mod Halves
+pub mod InPixels
 pub mod OnePlane
 pub mod MattePlanes
 pub mod FourPixels

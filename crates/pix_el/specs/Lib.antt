@@ -19,6 +19,7 @@ pub mod Conversion
 pub mod Light
 pub mod LightBlocks
 pub mod PixelComposite
+pub mod Stored
 pub mod Planes
 pub mod Premultiplied
 pub mod Transparent

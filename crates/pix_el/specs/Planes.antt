@@ -30,6 +30,10 @@ by_ones channels = map (λ c. c ∷ []) channels
 abbrev pub plane_of : ℕ → List (List ℕ) → ℕ → List ℕ
 plane_of max pixels ch = map (λ p. channel max p ch) pixels
 
+-- the value of a matte, by its numbers
+abbrev pub coverage_of : {M : Type 0} → ℕ → (M → List ℕ) → M → ℕ
+coverage_of max numbers matte = channel max (numbers matte) 0
+
 -- the lists are the planes of pixels of four channels
 pub record ArePlanes (max : ℕ) (pixels : List (List ℕ)) (one two three four : List ℕ) : Type 0 where
   pub first : one ≡ plane_of max pixels 0

@@ -5,7 +5,6 @@ pub mod Bands
 pub mod Places
 pub mod Clear
 pub mod Steps
-pub mod Copies
 pub mod Shaped
 pub mod Overlaps
 pub mod Masked

@@ -123,7 +123,7 @@ fn deepen_four<P: Pixel, D: Pixel>(dst: &mut [D], src: &[P])
     ensures { map D.numbers dst.new ≡
         map (of_depth P.layout D.layout) (map P.numbers src.now) }
 {
-    put_four_pixels(dst, four_at_depth::<P, D>(src));
+    put_four_pixels::<D, D>(dst, four_at_depth::<P, D>(src));
 }
 
 /// Returns four pixels in another format.

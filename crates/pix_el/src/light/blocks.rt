@@ -210,7 +210,7 @@ fn four_in_mode<P: Pixel, D: Pixel>(p: &[P]) -> [P::Chan; 16]
         map (λ p. changed_four P.Chan.max P.Alpha.mode D.Alpha.mode (P.numbers p)) p.now }
 {
     if are_kept::<P, D>(p) {
-        four_pixels(p)
+        four_pixels::<P, P>(p)
     } else {
         four_changed::<P, D>(p)
     }

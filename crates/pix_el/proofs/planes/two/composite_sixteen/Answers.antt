@@ -13,7 +13,7 @@ returns g c = λ pixels are.
     let max = g.P.Chan.Channel.max in
     let op = g.O.Blend.op in
     let v = g.P.Chan.Channel.number in
-    let n = g.P.Pixel.numbers in
+    let n = g.D.Stored.reads in
     let laws = g.met.P.Chan.Channel in
     let two = is_two_of g.P.Pixel.layout max g.P.Model.ColorModel.CIRCULAR g.P.Model.ColorModel.ALPHA g.met.P.Pixel.laid_out
     c.requires.count c.requires.alpha c.requires.no_hue (placed_by_row g.P.Model.ColorModel.model _ g.met.P.Model.ColorModel.stands).hue_first in

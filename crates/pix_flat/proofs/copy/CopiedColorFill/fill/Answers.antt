@@ -1,6 +1,6 @@
 use Rattle.std.proofs.Common.{arith, refl, map, ap, ◌∙◌}
 use Rattle.pix_el.proofs.Written.{written_none, written_more, written_same}
-use Rattle.pix_raster.proofs.Copies.{map_color}
+use Rattle.pix_el.proofs.Copies.{map_color}
 use Rattle.pix_flat.proofs.copy.CopiedColorFill.fill.Goals as goal
 
 pub loop-pixel-init : goal.loop-pixel-init

@@ -1,6 +1,6 @@
 use Rattle.std.proofs.Common.{drop, map, ◌++◌, ap, ◌∙◌, List}
 use Rattle.pix_el.proofs.Written.{over_copied}
-use Rattle.pix_raster.proofs.Copies.{map_over}
+use Rattle.pix_el.proofs.Copies.{map_over}
 use Rattle.pix_flat.proofs.copy.CopiedPixelsBlit.blit.Goals as goal
 
 pub returns : goal.returns

@@ -1,5 +1,5 @@
 use Rattle.std.proofs.Common.{map, ap, ◌∙◌}
-use Rattle.pix_raster.proofs.Copies.{map_over}
+use Rattle.pix_el.proofs.Copies.{map_over}
 use Rattle.pix_raster.proofs.raster.row_change.CopiedPixelsBlit.blit.Goals as goal
 
 pub returns : goal.returns
