@@ -120,7 +120,7 @@ pub(super) fn composite_eight<O: Blend, P: Pixel, D: Stored<P>, const CALLER: us
     let mut to = eight_pixels::<P, D>(dst);
     let da1 = P::Chan::less32(P::Chan::alphas8(to));
     let sa1 = P::Chan::less32(P::Chan::alphas8(src));
-    O::composite_run(&mut to, &da1, &src, &sa1);
+    O::composite_block(&mut to, &da1, &src, &sa1);
     put_eight_pixels::<P, D>(dst, to);
 }
 

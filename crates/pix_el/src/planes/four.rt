@@ -77,9 +77,9 @@ fn composite_sixteen<O: Blend, P: Pixel, D: Stored<P>, const CALLER: usize>(
     let da1 = P::Chan::less16(to_four);
     let sa1 = P::Chan::less16(four);
     composite_first::<O, P::Model, P::Chan>(&mut to_one, &da1, &one, &sa1);
-    O::composite_run(&mut to_two, &da1, &two, &sa1);
-    O::composite_run(&mut to_three, &da1, &three, &sa1);
-    O::composite_run(&mut to_four, &da1, &four, &sa1);
+    O::composite_block(&mut to_two, &da1, &two, &sa1);
+    O::composite_block(&mut to_three, &da1, &three, &sa1);
+    O::composite_block(&mut to_four, &da1, &four, &sa1);
     put_planes::<P, D>(dst, to_one, to_two, to_three, to_four);
 }
 

@@ -70,7 +70,7 @@ fn composited<O: Blend, P: Pixel>(mut to: [P::Chan; 16], src: [P::Chan; 16]) -> 
 {
     let da1 = P::Chan::less16(P::Chan::alphas4(to));
     let sa1 = P::Chan::less16(P::Chan::alphas4(src));
-    O::composite_run(&mut to, &da1, &src, &sa1);
+    O::composite_block(&mut to, &da1, &src, &sa1);
     to
 }
 

@@ -60,7 +60,7 @@ fn composite_sixteen<O: Blend, P: Pixel, D: Stored<P>>(dst: &mut [D], src: [P::C
     let mut to = sixteen_pixels::<P, D>(dst);
     let da1 = P::Chan::less16(to);
     let sa1 = P::Chan::less16(src);
-    O::composite_run(&mut to, &da1, &src, &sa1);
+    O::composite_block(&mut to, &da1, &src, &sa1);
     put_sixteen_pixels::<P, D>(dst, to);
 }
 

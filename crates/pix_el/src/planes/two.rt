@@ -96,8 +96,8 @@ fn composite_sixteen<O: Blend, P: Pixel, D: Stored<P>, const CALLER: usize>(
     let (mut to_one, mut to_two) = planes::<P, D, CALLER>(dst);
     let da1 = P::Chan::less16(to_two);
     let sa1 = P::Chan::less16(two);
-    O::composite_run(&mut to_one, &da1, &one, &sa1);
-    O::composite_run(&mut to_two, &da1, &two, &sa1);
+    O::composite_block(&mut to_one, &da1, &one, &sa1);
+    O::composite_block(&mut to_two, &da1, &two, &sa1);
     put_planes::<P, D>(dst, to_one, to_two);
 }
 
