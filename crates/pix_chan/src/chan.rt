@@ -1,6 +1,7 @@
 //! Channels: whole numbers of units from 0 to the maximum of their width.
 ghost use Rattle.std.specs.Prelude.{◌≡◌, ℕ, ◌+◌, ◌-◌, ◌*◌, ◌^◌, ◌<◌, ◌≤◌, nat_eq, pos, ◌+ℤ◌, ◌*ℤ◌, ◌<ℤ◌, map, ◌++◌};
 ghost use Rattle.std.specs.Ordering.{nat_cmp};
+ghost use Rattle.std.specs.Simd.Lanes.{zip2};
 ghost use prog.Memory.{size};
 ghost use denote.Memory.{lone};
 ghost use Rattle.pix_chan.specs.Number.{saturating_sum, saturating_difference, wrapping_sum, wrapping_difference};
@@ -197,6 +198,12 @@ pub trait Channel: Copy
     #[doc(hidden)]
     fn alphas4(pixels: [Self; 16]) -> [Self; 16]
         ensures { map number result ≡ last_of_four (map number pixels) };
+
+    /// Returns four pixels of four channels, each channel divided by the last one of its pixel.
+    #[doc(hidden)]
+    fn over_alphas4(pixels: [Self; 16]) -> [Self; 16]
+        ensures { map number result ≡ zip2 (channel_quotient max)
+            (map number pixels) (last_of_four (map number pixels)) };
 
     /// Returns, for eight pixels of four channels, at each index the last channel of its pixel.
     #[doc(hidden)]

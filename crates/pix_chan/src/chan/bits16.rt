@@ -2,6 +2,7 @@
 //!
 //! `bits8.rt` is the twin of this file. A change here belongs there too.
 ghost use Rattle.std.specs.Prelude.{◌≡◌, ◌+◌, ◌-◌, ◌*◌, ◌/◌, ◌<◌, ◌++◌, map};
+ghost use Rattle.std.specs.Simd.Lanes.{zip2};
 ghost use Rattle.pix_chan.specs.Number.{saturating_sum, saturating_difference};
 ghost use Rattle.pix_chan.specs.Product.{channel_product, channel_quotient};
 ghost use Rattle.pix_chan.specs.Channel.{AnswersFrom};
@@ -10,7 +11,7 @@ ghost use Rattle.pix_chan.specs.Planes.{in_turn, both_in_turn, last_of_four};
 ghost use Rattle.pix_chan.specs.Seal.{seal};
 
 use crate::chan::{Ch8, Channel, whole};
-use crate::quotients::quotient;
+use crate::quotients::{over_alphas, quotient};
 use std::ops::{Add, Div, Mul, Sub};
 
 mod lanes;
@@ -289,6 +290,14 @@ impl Channel for Ch16 {
         ensures { map (λ x. x.value) result ≡ last_of_four (map (λ x. x.value) pixels) }
     {
         lanes::channels(lanes::spread(lanes::units(&pixels)))
+    }
+
+    #[inline(always)]
+    fn over_alphas4(pixels: [Ch16; 16]) -> [Ch16; 16]
+        ensures { map (λ x. x.value) result ≡ zip2 (channel_quotient 65535)
+            (map (λ x. x.value) pixels) (last_of_four (map (λ x. x.value) pixels)) }
+    {
+        lanes::channels(over_alphas(lanes::units(&pixels)))
     }
 
     #[inline(always)]
