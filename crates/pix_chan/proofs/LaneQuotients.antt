@@ -1,20 +1,21 @@
 -- Four pixels of four channels of sixteen bits divided by their alphas, on lanes.
-use Rattle.std.proofs.Common.{◌≡◌, ℕ, zero, suc, ◌≤◌, ◌<◌, ◌+◌, ◌-◌, ◌*◌, ◌/◌, ◌%◌, ◌^◌, List, [], ◌∷◌, ◌++◌, length, map, get_or, refl, sym, ap, ◌∙◌, arith, inl, inr, replicate, Fits, Bool, true, false, cond, ltb, leb, drop, min}
+use Rattle.std.proofs.Common.{◌≡◌, ℕ, zero, suc, ◌≤◌, ◌<◌, ◌+◌, ◌-◌, ◌*◌, ◌/◌, ◌%◌, ◌^◌, List, [], ◌∷◌, ◌++◌, length, map, get_or, refl, sym, ap, ◌∙◌, arith, inl, inr, replicate, Fits, Bool, true, false, cond, ltb, leb, min, bit_or, bit_and}
 use mir.Syntax.{w16, w64}
 use mir.Val.{hbits, bits}
 use lib.Lanes.{zip2, Each1, number_l, digits_l, sel_l, top, pick_l}
 use Rattle.std.proofs.lemmas.Bool.{cases_lt}
 use Rattle.std.proofs.lemmas.Bool.Decides.{nat_tests}
-use Rattle.std.proofs.lemmas.List.{length-map, map-id}
-use Rattle.std.proofs.lemmas.Simd.{tops_compared, zip2_of_maps, splat_is_map, map-map}
+use Rattle.std.proofs.lemmas.List.{length-map}
+use Rattle.std.proofs.lemmas.Simd.{tops_compared, zip2_of_maps, map-map, length-zip2, get_or-zip2}
 use Rattle.std.proofs.Math.Nat.{mul-le-mul, div-add-mod', mod-lt}
-use Rattle.std.proofs.lemmas.Nat.{mul-le}
+use Rattle.std.proofs.lemmas.Nat.{mul-le, and_mask}
 use Rattle.pix_chan.specs.Product.{channel_quotient}
-use Rattle.pix_chan.specs.Planes.{last_of_four}
+use Rattle.pix_chan.specs.Planes.{last_of_four, with_alphas}
 use Rattle.pix_chan.specs.LaneQuotients.{alphas_in, for_each_channel, reciprocal_of, parts}
 use Rattle.pix_chan.specs.declared.quotients.TheConstants.{RECIPROCALS}
 use Rattle.pix_chan.proofs.Lanes.{add, mul, shr, pairs, firsts, seconds, length-pairs, map_pairs}
 use Rattle.pix_chan.proofs.LaneProducts.{one_if, ones, zeros, chosen}
+use Rattle.pix_chan.proofs.LaneTests.{lane_is}
 use Rattle.pix_chan.proofs.Planes.{cons}
 use Rattle.pix_chan.proofs.Reciprocals16.{entry_is, entry_fits, by_byte, cut, quotient_is}
 use Rattle.pix_chan.proofs.Sixteen.{is_sixteen}
@@ -238,22 +239,59 @@ reciprocals_fit (a ∷ bs) =
     let fits = entry_fits (a % 256) (omega arith) in
     (omega (arith, fits), reciprocals_fit bs)
 
--- ---- alphas that come from eight bits
-abbrev beside : ℕ → ℕ
-beside a = (a + (65536 - a / 2 ^ 8 * 257 % 2 ^ 16)) % 65536
+-- ---- tests of the alphas
+abbrev colors : List ℕ
+colors = 65535 ∷ 65535 ∷ 65535 ∷ 0 ∷ 65535 ∷ 65535 ∷ 65535 ∷ 0 ∷ 65535 ∷ 65535 ∷ 65535 ∷ 0 ∷ 65535 ∷ 65535 ∷ 65535 ∷ 0 ∷ []
 
-pub beside_are : (xs : List ℕ) → length xs ≡ 16
-    → zip2 (λ x y. (x + (65536 - y)) % 65536) xs (zip2 (mul (2 ^ 16)) (zip2 shr xs (replicate 16 8)) (replicate 16 257)) ≡ map beside xs
-beside_are xs l =
-    let lane = sym (map-id xs) in
-    let uppers = zip2_of_maps shr _ _ xs lane (splat_is_map xs 16 8 l) in
-    zip2_of_maps (λ x y. (x + (65536 - y)) % 65536) _ _ xs lane (zip2_of_maps (mul (2 ^ 16)) _ _ xs uppers (splat_is_map xs 16 257 l))
+-- an alpha, where all channels are 65535 with the colors set
+pub opaque_at : (xs : List ℕ) (k : ℕ) → length xs ≡ 16 → k < 16 → get_or colors k 0 ≡ 0 → get_or {A = ℕ} (replicate 16 65535) k 0 ≡ 65535
+    → zip2 bit_or xs colors ≡ replicate 16 65535 → get_or xs k 0 ≡ 65535
+opaque_at xs k long h zero_there here all = lane_is xs colors k 65535 long refl h zero_there all here
 
-repeated_lane : (a : ℕ) → a < 65536 → beside a ≡ 0 → a ≡ 257 * (a % 256)
-repeated_lane a h e = omega (arith, h, e)
+pub opaque_alphas : (a b c d : ℕ) → a ≡ 65535 → b ≡ 65535 → c ≡ 65535 → d ≡ 65535 → replicate 16 65535 ≡ for_each_channel a b c d
+opaque_alphas a b c d e f g h = rw (e, f, g, h) refl
 
-pub each_repeated : (n : ℕ) (xs : List ℕ) → Each1 (Fits w16) xs → map beside xs ≡ replicate n 0 → Each1 (λ a. a ≡ 257 * (a % 256)) xs
-each_repeated n [] f e = tt
-each_repeated zero (x ∷ xs) f e = absurd (let l = ap length e in omega (arith, l))
-each_repeated (suc n) (x ∷ xs) f e =
-    (repeated_lane x f.0.fits (ap (λ (l : List ℕ). get_or l 0 0) e), each_repeated n xs f.1 (ap (drop 1) e))
+abbrev lowers_of_alphas : List ℕ
+lowers_of_alphas = 0 ∷ 0 ∷ 0 ∷ 255 ∷ 0 ∷ 0 ∷ 0 ∷ 255 ∷ 0 ∷ 0 ∷ 0 ∷ 255 ∷ 0 ∷ 0 ∷ 0 ∷ 255 ∷ []
+
+abbrev less : ℕ → ℕ → ℕ
+less x y = (x + (65536 - y)) % 65536
+
+repeated : (a : ℕ) → a < 65536 → bit_and (less (a / 2 ^ 8) a) 255 ≡ 0 → a ≡ 257 * (a % 256)
+repeated a h e =
+    let m : bit_and (less (a / 2 ^ 8) a) 255 ≡ less (a / 2 ^ 8) a % 256 = and_mask (less (a / 2 ^ 8) a) 8 in
+    let none : less (a / 2 ^ 8) a % 256 ≡ 0 = sym m ∙ e in
+    omega (arith, h, none)
+
+fits_at : (xs : List ℕ) (k : ℕ) → Each1 (Fits w16) xs → get_or xs k 0 < 65536
+fits_at [] k f = omega arith
+fits_at (x ∷ xs) zero f = f.0.fits
+fits_at (x ∷ xs) (suc k) f = fits_at xs k f.1
+
+pub repeated_at : (xs : List ℕ) (k : ℕ) → length xs ≡ 16 → Each1 (Fits w16) xs → k < 16
+    → get_or lowers_of_alphas k 0 ≡ 255 → get_or {A = ℕ} (replicate 16 8) k 0 ≡ 8 → get_or {A = ℕ} (replicate 16 0) k 0 ≡ 0
+    → zip2 bit_and (zip2 less (zip2 shr xs (replicate 16 8)) xs) lowers_of_alphas ≡ replicate 16 0
+    → get_or xs k 0 ≡ 257 * (get_or xs k 0 % 256)
+repeated_at xs k long fits h lower eight zero_there all =
+    let uppers : List ℕ = zip2 shr xs (replicate 16 8) in
+    let a : ℕ = get_or xs k 0 in
+    let long_uppers : length uppers ≡ 16 = length-zip2 shr xs (replicate 16 8) long ∙ long in
+    let long_less : length (zip2 less uppers xs) ≡ 16 = length-zip2 less uppers xs (long_uppers ∙ sym long) ∙ long_uppers in
+    let upper : get_or uppers k 0 ≡ a / 2 ^ 8 = get_or-zip2 shr xs (replicate 16 8) k 0 0 0 (omega arith) h ∙ ap (λ (n : ℕ). a / 2 ^ n) eight in
+    let rest : get_or (zip2 less uppers xs) k 0 ≡ less (a / 2 ^ 8) a = get_or-zip2 less uppers xs k 0 0 0 (omega arith) (omega arith) ∙ ap (λ (n : ℕ). less n a) upper in
+    let both : get_or (zip2 bit_and (zip2 less uppers xs) lowers_of_alphas) k 0 ≡ bit_and (less (a / 2 ^ 8) a) 255 =
+    get_or-zip2 bit_and (zip2 less uppers xs) lowers_of_alphas k 0 0 0 (omega arith) h ∙ ap (λ (n : ℕ). bit_and n (get_or lowers_of_alphas k 0)) rest
+    ∙ ap (bit_and (less (a / 2 ^ 8) a)) lower in
+    repeated a (fits_at xs k fits) (sym both ∙ ap (λ (l : List ℕ). get_or l k 0) all ∙ zero_there)
+
+pub repeated_alphas : (a b c d : ℕ) → a ≡ 257 * (a % 256) → b ≡ 257 * (b % 256) → c ≡ 257 * (c % 256) → d ≡ 257 * (d % 256)
+    → Each1 (λ x. x ≡ 257 * (x % 256)) (for_each_channel a b c d)
+repeated_alphas a b c d e f g h = (e, (e, (e, (e, (f, (f, (f, (f, (g, (g, (g, (g, (h, (h, (h, (h, tt))))))))))))))))
+
+-- ---- colors and alphas put together
+pub alphas_put : (u v : List ℕ) → length u ≡ 16 → length v ≡ 16
+    → pick_l 0 (u ++ v) (0 ∷ 1 ∷ 2 ∷ 19 ∷ 4 ∷ 5 ∷ 6 ∷ 23 ∷ 8 ∷ 9 ∷ 10 ∷ 27 ∷ 12 ∷ 13 ∷ 14 ∷ 31 ∷ []) ≡ with_alphas u v
+alphas_put u v h k = rw (← (is_sixteen u h).1, ← (is_sixteen v k).1) refl
+
+pub alphas_stay : (u : List ℕ) → length u ≡ 16 → with_alphas u u ≡ u
+alphas_stay u h = rw (← (is_sixteen u h).1) refl

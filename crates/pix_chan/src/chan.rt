@@ -13,7 +13,7 @@ ghost use Rattle.pix_chan.specs.Laws.{ChannelLaws};
 ghost use Rattle.pix_chan.specs.Channel.{IsNumbered, IsTotal, Answers};
 ghost use Rattle.pix_chan.specs.Runs.{over};
 ghost use Rattle.pix_chan.specs.Seal.{Seal};
-ghost use Rattle.pix_chan.specs.Planes.{in_turn, both_in_turn, last_of_four};
+ghost use Rattle.pix_chan.specs.Planes.{in_turn, both_in_turn, last_of_four, with_alphas};
 
 use std::fmt::Debug;
 use std::ops::{Add, Div, Mul, Sub};
@@ -199,11 +199,16 @@ pub trait Channel: Copy
     fn alphas4(pixels: [Self; 16]) -> [Self; 16]
         ensures { map number result ≡ last_of_four (map number pixels) };
 
-    /// Returns four pixels of four channels, each channel divided by the last one of its pixel.
+    /// Returns four pixels of four channels, each color divided by the alpha, the last channel.
     #[doc(hidden)]
-    fn over_alphas4(pixels: [Self; 16]) -> [Self; 16]
-        ensures { map number result ≡ zip2 (channel_quotient max)
-            (map number pixels) (last_of_four (map number pixels)) };
+    fn unmultiplied4(pixels: [Self; 16]) -> [Self; 16]
+        ensures { map number result ≡ with_alphas
+            (zip2 (channel_quotient max) (map number pixels) (last_of_four (map number pixels)))
+            (map number pixels) };
+
+    /// Returns whether [`unmultiplied4`](Channel::unmultiplied4) divides all colors at once.
+    #[doc(hidden)]
+    fn divides_at_once4(pixels: [Self; 16]) -> bool;
 
     /// Returns, for eight pixels of four channels, at each index the last channel of its pixel.
     #[doc(hidden)]

@@ -4,9 +4,7 @@ ghost use Rattle.std.specs.Prelude.{◌≡◌, ◌<◌, ◌^◌, slice_index_or}
 ghost use Rattle.pix_chan.specs.Product.{channel_quotient};
 ghost use Rattle.pix_chan.specs.declared.quotients.TheConstants.{RECIPROCALS};
 
-mod lanes;
-
-pub use lanes::{high_products, over_alphas};
+pub mod lanes;
 
 /// 2^48 / 257 `b` rounded down, plus one, for each number `b` of eight bits. For 0 it is 0.
 ///

@@ -7,11 +7,12 @@ ghost use Rattle.pix_chan.specs.Number.{saturating_sum, saturating_difference};
 ghost use Rattle.pix_chan.specs.Product.{channel_product, channel_quotient};
 ghost use Rattle.pix_chan.specs.Channel.{AnswersFrom};
 ghost use Rattle.pix_chan.specs.Depth.{to_16_bit, from_16_bit};
-ghost use Rattle.pix_chan.specs.Planes.{in_turn, both_in_turn, last_of_four};
+ghost use Rattle.pix_chan.specs.Planes.{in_turn, both_in_turn, last_of_four, with_alphas};
 ghost use Rattle.pix_chan.specs.Seal.{seal};
 
 use crate::chan::{Ch8, Channel, whole};
-use crate::quotients::{over_alphas, quotient};
+use crate::quotients::lanes::{are_opaque, are_repeated, unmultiplied};
+use crate::quotients::quotient;
 use std::ops::{Add, Div, Mul, Sub};
 
 mod lanes;
@@ -293,11 +294,18 @@ impl Channel for Ch16 {
     }
 
     #[inline(always)]
-    fn over_alphas4(pixels: [Ch16; 16]) -> [Ch16; 16]
-        ensures { map (λ x. x.value) result ≡ zip2 (channel_quotient 65535)
-            (map (λ x. x.value) pixels) (last_of_four (map (λ x. x.value) pixels)) }
+    fn unmultiplied4(pixels: [Ch16; 16]) -> [Ch16; 16]
+        ensures { map (λ x. x.value) result ≡ with_alphas
+            (zip2 (channel_quotient 65535) (map (λ x. x.value) pixels)
+            (last_of_four (map (λ x. x.value) pixels))) (map (λ x. x.value) pixels) }
     {
-        lanes::channels(over_alphas(lanes::units(&pixels)))
+        lanes::channels(unmultiplied(lanes::units(&pixels)))
+    }
+
+    #[inline(always)]
+    fn divides_at_once4(pixels: [Ch16; 16]) -> bool {
+        let x = lanes::units(&pixels);
+        are_opaque(x) || are_repeated(x)
     }
 
     #[inline(always)]

@@ -7,10 +7,10 @@ ghost use Rattle.pix_chan.specs.Number.{saturating_sum, saturating_difference};
 ghost use Rattle.pix_chan.specs.Product.{channel_product, channel_quotient};
 ghost use Rattle.pix_chan.specs.Channel.{AnswersFrom};
 ghost use Rattle.pix_chan.specs.Depth.{to_16_bit, from_16_bit};
-ghost use Rattle.pix_chan.specs.Planes.{in_turn, both_in_turn, last_of_four};
+ghost use Rattle.pix_chan.specs.Planes.{in_turn, both_in_turn, last_of_four, with_alphas};
 ghost use Rattle.pix_chan.specs.Seal.{seal};
 
-use crate::chan::bits8::lanes::{channels, over_alphas, units};
+use crate::chan::bits8::lanes::{channels, units, unmultiplied};
 use crate::chan::{Ch16, Channel, whole};
 use crate::reciprocals::quotient;
 use std::ops::{Add, Div, Mul, Sub};
@@ -264,11 +264,17 @@ impl Channel for Ch8 {
     }
 
     #[inline(always)]
-    fn over_alphas4(pixels: [Ch8; 16]) -> [Ch8; 16]
-        ensures { map (λ x. x.value) result ≡ zip2 (channel_quotient 255)
-            (map (λ x. x.value) pixels) (last_of_four (map (λ x. x.value) pixels)) }
+    fn unmultiplied4(pixels: [Ch8; 16]) -> [Ch8; 16]
+        ensures { map (λ x. x.value) result ≡ with_alphas
+            (zip2 (channel_quotient 255) (map (λ x. x.value) pixels)
+            (last_of_four (map (λ x. x.value) pixels))) (map (λ x. x.value) pixels) }
     {
-        channels(over_alphas(units(&pixels)))
+        channels(unmultiplied(units(&pixels)))
+    }
+
+    #[inline(always)]
+    fn divides_at_once4(_pixels: [Ch8; 16]) -> bool {
+        false
     }
 
     #[inline(always)]

@@ -5,6 +5,7 @@
 ghost use Rattle.std.specs.Prelude.{◌≡◌, ◌<◌, ◌*◌, ◌/◌, ◌%◌, ◌^◌, ◌++◌, ℕ, List, map, length, replicate, slice_index_or, true};
 ghost use Rattle.std.specs.Simd.Lanes.{zip2, Each1, number_l, digits_l};
 ghost use Rattle.pix_chan.specs.Product.{channel_quotient};
+ghost use Rattle.pix_chan.specs.Planes.{with_alphas};
 ghost use Rattle.pix_chan.specs.LaneQuotients.{alphas_in, reciprocal_of, parts};
 
 use crate::quotients::{quotient, reciprocal};
@@ -26,13 +27,31 @@ fn are_all(lanes: u16x16, value: u16) -> bool
     lanes.simd_eq(u16x16::splat(value)).to_bitmask() == 65535
 }
 
-/// Returns whether all alphas come from eight bits.
+/// Returns whether the alphas of four pixels are all 65535.
+///
+/// The colors are set to 65535, so one test of all lanes is one of the alphas.
 #[inline(always)]
-fn are_repeated(alphas: u16x16) -> bool
-    ensures { result ≡ true → Each1 (λ a. a ≡ 257 * (a % 256)) alphas }
+pub fn are_opaque(x: u16x16) -> bool
+    ensures three { result ≡ true → slice_index_or x 3 0 ≡ 65535 }
+    ensures seven { result ≡ true → slice_index_or x 7 0 ≡ 65535 }
+    ensures eleven { result ≡ true → slice_index_or x 11 0 ≡ 65535 }
+    ensures fifteen { result ≡ true → slice_index_or x 15 0 ≡ 65535 }
 {
-    let uppers = alphas >> u16x16::splat(8);
-    are_all(alphas - uppers * u16x16::splat(257), 0)
+    let colors = u16x16::from_array([
+        65535, 65535, 65535, 0, 65535, 65535, 65535, 0, 65535, 65535, 65535, 0, 65535, 65535, 65535,
+        0,
+    ]);
+    are_all(x | colors, 65535)
+}
+
+/// Returns whether the alphas of four pixels come from eight bits.
+#[inline(always)]
+pub fn are_repeated(x: u16x16) -> bool
+    ensures { result ≡ true → Each1 (λ a. a ≡ 257 * (a % 256)) (alphas_in x) }
+{
+    // The upper byte less the number, modulo 256, is 0 where both bytes are the same.
+    let lower = u16x16::from_array([0, 0, 0, 255, 0, 0, 0, 255, 0, 0, 0, 255, 0, 0, 0, 255]);
+    are_all(((x >> u16x16::splat(8)) - x) & lower, 0)
 }
 
 /// Returns four words, each in four parts.
@@ -86,9 +105,10 @@ fn scaled(x: u16x16, low: u16x16, middle: u16x16, high: u16x16) -> u16x16
     x * high + high_products(x, middle) + carry
 }
 
-/// Returns four pixels divided by their alphas. Condition: these come from eight bits.
+/// Returns four pixels of four channels, each channel divided by the alpha of its pixel. Condition:
+/// the alphas come from eight bits.
 #[inline(always)]
-fn divided(x: u16x16) -> u16x16
+pub fn divided(x: u16x16) -> u16x16
     requires { Each1 (λ a. a ≡ 257 * (a % 256)) (alphas_in x) }
     ensures { result ≡ zip2 (channel_quotient 65535) x (alphas_in x) }
 {
@@ -102,7 +122,7 @@ fn divided(x: u16x16) -> u16x16
 
 /// Does what [`divided`] does, for any alphas.
 #[inline(never)]
-fn divided_one_by_one(x: u16x16) -> u16x16
+pub fn divided_one_by_one(x: u16x16) -> u16x16
     ensures { result ≡ zip2 (channel_quotient 65535) x (alphas_in x) }
 {
     let p = x.to_array();
@@ -126,17 +146,29 @@ fn divided_one_by_one(x: u16x16) -> u16x16
     ])
 }
 
-/// Returns four pixels of four channels, each channel divided by the last one of its pixel.
+/// Returns the colors of the first lanes, pixel by pixel, and the alphas of the others.
 #[inline(always)]
-pub fn over_alphas(x: u16x16) -> u16x16
-    ensures { result ≡ zip2 (channel_quotient 65535) x (alphas_in x) }
+fn with_alphas_of(colors: u16x16, x: u16x16) -> u16x16
+    ensures { result ≡ with_alphas colors x }
 {
-    let a = alphas(x);
-    if are_all(a, 65535) {
+    colors.shuffle(
+        x,
+        [0, 1, 2, 19, 4, 5, 6, 23, 8, 9, 10, 27, 12, 13, 14, 31],
+    )
+}
+
+/// Returns four pixels of four channels, each color divided by the alpha of its pixel.
+///
+/// Each branch puts the alphas back, so that the three meet in whole vectors.
+#[inline(always)]
+pub(crate) fn unmultiplied(x: u16x16) -> u16x16
+    ensures { result ≡ with_alphas (zip2 (channel_quotient 65535) x (alphas_in x)) x }
+{
+    if are_opaque(x) {
         x
-    } else if are_repeated(a) {
-        divided(x)
+    } else if are_repeated(x) {
+        with_alphas_of(divided(x), x)
     } else {
-        divided_one_by_one(x)
+        with_alphas_of(divided_one_by_one(x), x)
     }
 }

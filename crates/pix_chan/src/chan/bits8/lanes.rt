@@ -3,6 +3,7 @@ ghost use Rattle.std.specs.Prelude.{◌≡◌, map, length};
 ghost use Rattle.std.specs.Simd.Lanes.{zip2};
 ghost use Rattle.pix_chan.specs.Number.{saturating_sum};
 ghost use Rattle.pix_chan.specs.Product.{channel_product, channel_quotient};
+ghost use Rattle.pix_chan.specs.Planes.{with_alphas};
 ghost use Rattle.pix_chan.specs.LaneQuotients.{alphas_in};
 
 use crate::chan::bits8::Ch8;
@@ -32,7 +33,7 @@ fn sum_lanes(x: u8x16, y: u8x16) -> u8x16
 
 /// Returns four pixels of four channels, each channel divided by the last one of its pixel.
 #[inline(always)]
-pub(super) fn over_alphas(x: u8x16) -> u8x16
+fn over_alphas(x: u8x16) -> u8x16
     ensures { result ≡ zip2 (channel_quotient 255) x (alphas_in x) }
 {
     let p = x.to_array();
@@ -54,6 +55,17 @@ pub(super) fn over_alphas(x: u8x16) -> u8x16
         quotient(p[14], p[15]),
         quotient(p[15], p[15]),
     ])
+}
+
+/// Returns four pixels of four channels, each color divided by the alpha of its pixel.
+#[inline(always)]
+pub(super) fn unmultiplied(x: u8x16) -> u8x16
+    ensures { result ≡ with_alphas (zip2 (channel_quotient 255) x (alphas_in x)) x }
+{
+    over_alphas(x).shuffle(
+        x,
+        [0, 1, 2, 19, 4, 5, 6, 23, 8, 9, 10, 27, 12, 13, 14, 31],
+    )
 }
 
 /// Returns the numbers of sixteen channels.
