@@ -24,3 +24,4 @@ pub mod Premultiplied
 pub mod Transparent
 pub mod ExactPixel
 pub mod PixelLaws
+pub mod Unmultiplied
