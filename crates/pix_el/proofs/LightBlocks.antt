@@ -2,6 +2,7 @@
 use Rattle.std.proofs.Common.{◌≡◌, ℕ, ◌≤◌, List, [], ◌∷◌, length, map, drop, refl, ap, sym, subst, ◌∙◌, get_or, set, zero, suc, Fits, true, false, arith}
 use mir.Syntax.{w8, w16}
 use lib.Lanes.{Each1, zip2}
+use Rattle.std.specs.List.{range_with_len}
 use Rattle.pix_chan.specs.Modes.{AlphaMode, Straight, Premultiplied, alpha_kind}
 use Rattle.pix_chan.specs.Planes.{last_of_four, with_alphas}
 use Rattle.pix_chan.specs.Product.{channel_quotient}
@@ -15,7 +16,7 @@ use Rattle.std.proofs.lemmas.Simd.{map-map}
 use Rattle.pix_el.specs.Pixel.{channel, lies_in}
 use Rattle.pix_el.specs.Planes.{by_fours}
 use Rattle.pix_el.specs.Conversion.{Format, at_depth}
-use Rattle.pix_el.specs.Light.{mode_changed, channel_as_srgb}
+use Rattle.pix_el.specs.Light.{mode_changed, channel_as_srgb, as_srgb}
 use Rattle.pix_el.specs.LightBlocks.{IsSameInBothModes, AreSameInBothModes, AreLevels, changed_four}
 
 -- what is made of each of sixteen
@@ -171,6 +172,25 @@ fours_shown at changed made is (suc n) (a ∷ b ∷ c ∷ d ∷ xs) (w ∷ x ∷
 fours_shown at changed made is (suc n) (a ∷ b ∷ c ∷ d ∷ xs) (w ∷ x ∷ y ∷ z ∷ cs) h k same =
     cons (ap (λ (l : List (List ℕ)). shown_by at (get_or l 0 []) z) same ∙ is w x y z)
     (fours_shown at changed made is n xs cs (omega (arith, h)) (omega (arith, k)) (ap (drop 1) same))
+
+-- pixels as sRGB, by their channels in the other alpha mode
+pub all_shown : (format to : Format) (max to_max : ℕ) (mode to_mode : AlphaMode) (n : ℕ) (xs cs : List ℕ)
+    → format.layout.max ≡ max → format.alpha_mode ≡ mode → to.layout.max ≡ to_max → to.alpha_mode ≡ to_mode
+    → to.layout.alpha ≡ 3 → to.colors.start ≡ 0 → to.colors.end ≡ 3 → to.layout.count ≡ 4
+    → length xs ≡ four_times n → length cs ≡ four_times n → by_fours xs ≡ map (changed_four max mode to_mode) (by_fours cs)
+    → by_fours (with_alphas (map srgb_encoded8 xs) (map (at_depth max to_max) cs)) ≡ map (as_srgb format to) (by_fours cs)
+all_shown format to max to_max mode to_mode n xs cs em ef en et ea start end count lx lc same =
+    fours_shown (at_depth max to_max) (changed_four max mode to_mode) (as_srgb format to) (λ w x y z. pixel (w ∷ x ∷ y ∷ z ∷ [])) n xs cs lx lc same
+  where
+    level : List ℕ → ℕ → ℕ
+    level p ch = srgb_encoded8 (mode_changed max mode to_mode (channel max p 3) (channel max p ch))
+    pixel : (p : List ℕ) → level p 0 ∷ level p 1 ∷ level p 2 ∷ at_depth max to_max (channel max p 3) ∷ [] ≡ as_srgb format to p
+    pixel p =
+        cons (shown_color format to p 0 max 3 (level p 0) mode to_mode em ef et ea (rw (start, end) refl) refl)
+        (cons (shown_color format to p 1 max 3 (level p 1) mode to_mode em ef et ea (rw (start, end) refl) refl)
+        (cons (shown_color format to p 2 max 3 (level p 2) mode to_mode em ef et ea (rw (start, end) refl) refl)
+        (cons (shown_rest format to p 3 max to_max (at_depth max to_max (channel max p 3)) em en (rw (start, end) refl) refl) refl)))
+        ∙ ap (λ (k : ℕ). map (channel_as_srgb format to p) (range_with_len 0 k)) (sym count)
 
 -- pixels that are made from each one's four channels
 pub fours_made : (made : List ℕ → List ℕ) (from : ℕ → ℕ → ℕ) → ((w x y z : ℕ) → from w z ∷ from x z ∷ from y z ∷ z ∷ [] ≡ made (w ∷ x ∷ y ∷ z ∷ []))

@@ -251,28 +251,21 @@ fn put_alphas<C: Channel, D: Channel>(colors: [D; 16], c: [C; 16]) -> [D; 16]
     to
 }
 
-/// Writes four linear pixels of the channels `c` as sRGB, by `x`, the same pixels with their colors
-/// in the alpha mode of `D`.
-///
-/// Condition: there are three colors and then an alpha.
+/// Writes four sRGB pixels of the linear colors of `x` and the alphas of `c`. Both are of four
+/// pixels of four channels, pixel by pixel.
 #[inline(always)]
-fn put_encoded<P, D>(dst: &mut [D], x: [P::Chan; 16], c: [P::Chan; 16])
+fn put_encoded<C, D>(dst: &mut [D], x: [C; 16], c: [C; 16])
 where
-    P: Pixel,
-    D: Pixel<Model = P::Model>,
-    D::Gamma: Transfer<D::Chan, P::Chan>,
-    requires to_count { D.layout.count ≡ 4 }
-    requires start { P.Model.LINEAR.start ≡ 0 }
-    requires end { P.Model.LINEAR.end ≡ 3 }
-    requires alpha { P.Model.ALPHA ≡ 3 }
+    C: Channel,
+    D: Pixel,
+    D::Gamma: Transfer<D::Chan, C>,
+    requires count { D.layout.count ≡ 4 }
     requires size { length dst.old ≡ 4 }
-    requires colors { by_fours (map P.Chan.number x) ≡
-        map (changed_four P.Chan.max P.Alpha.mode D.Alpha.mode) (by_fours (map P.Chan.number c)) }
-    ensures { map D.numbers dst.new ≡
-        map (as_srgb P.format D.format) (by_fours (map P.Chan.number c)) }
+    ensures { map D.numbers dst.new ≡ by_fours (with_alphas
+        (map srgb_encoded8 (map C.number x)) (map (at_depth C.max D.Chan.max) (map C.number c))) }
 {
-    let levels = <D::Gamma as Transfer<D::Chan, P::Chan>>::from_light16(x);
-    put_four_pixels(dst, put_alphas::<P::Chan, D::Chan>(levels, c));
+    let levels = <D::Gamma as Transfer<D::Chan, C>>::from_light16(x);
+    put_four_pixels(dst, put_alphas::<C, D::Chan>(levels, c));
 }
 
 /// Encodes four linear pixels whose alpha mode stays.
@@ -296,7 +289,7 @@ where
         map (as_srgb P.format D.format) (map P.numbers src.now) }
 {
     let c = four_pixels(src);
-    put_encoded::<P, D>(dst, c, c);
+    put_encoded::<P::Chan, D>(dst, c, c);
 }
 
 /// Encodes four premultiplied linear pixels as straight ones.
@@ -321,7 +314,7 @@ where
         map (as_srgb P.format D.format) (map P.numbers src.now) }
 {
     let c = four_pixels(src);
-    put_encoded::<P, D>(dst, P::Chan::unmultiplied4(c), c);
+    put_encoded::<P::Chan, D>(dst, P::Chan::unmultiplied4(c), c);
 }
 
 /// Returns whether premultiplied pixels become straight ones of four channels, and the colors of
