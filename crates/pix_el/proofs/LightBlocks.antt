@@ -184,6 +184,7 @@ all_shown format to max to_max mode to_mode n xs cs em ef en et ea start end cou
   where
     level : List ℕ → ℕ → ℕ
     level p ch = srgb_encoded8 (mode_changed max mode to_mode (channel max p 3) (channel max p ch))
+
     pixel : (p : List ℕ) → level p 0 ∷ level p 1 ∷ level p 2 ∷ at_depth max to_max (channel max p 3) ∷ [] ≡ as_srgb format to p
     pixel p =
         cons (shown_color format to p 0 max 3 (level p 0) mode to_mode em ef et ea (rw (start, end) refl) refl)

@@ -38,8 +38,8 @@ pub fn are_opaque(x: u16x16) -> bool
     ensures fifteen { result ≡ true → slice_index_or x 15 0 ≡ 65535 }
 {
     let colors = u16x16::from_array([
-        65535, 65535, 65535, 0, 65535, 65535, 65535, 0, 65535, 65535, 65535, 0, 65535, 65535, 65535,
-        0,
+        65535, 65535, 65535, 0, 65535, 65535, 65535, 0, 65535, 65535, 65535, 0, 65535, 65535,
+        65535, 0,
     ]);
     are_all(x | colors, 65535)
 }
@@ -151,10 +151,7 @@ pub fn divided_one_by_one(x: u16x16) -> u16x16
 fn with_alphas_of(colors: u16x16, x: u16x16) -> u16x16
     ensures { result ≡ with_alphas colors x }
 {
-    colors.shuffle(
-        x,
-        [0, 1, 2, 19, 4, 5, 6, 23, 8, 9, 10, 27, 12, 13, 14, 31],
-    )
+    colors.shuffle(x, [0, 1, 2, 19, 4, 5, 6, 23, 8, 9, 10, 27, 12, 13, 14, 31])
 }
 
 /// Returns four pixels of four channels, each color divided by the alpha of its pixel.

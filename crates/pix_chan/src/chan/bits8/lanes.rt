@@ -62,10 +62,7 @@ fn over_alphas(x: u8x16) -> u8x16
 pub(super) fn unmultiplied(x: u8x16) -> u8x16
     ensures { result ≡ with_alphas (zip2 (channel_quotient 255) x (alphas_in x)) x }
 {
-    over_alphas(x).shuffle(
-        x,
-        [0, 1, 2, 19, 4, 5, 6, 23, 8, 9, 10, 27, 12, 13, 14, 31],
-    )
+    over_alphas(x).shuffle(x, [0, 1, 2, 19, 4, 5, 6, 23, 8, 9, 10, 27, 12, 13, 14, 31])
 }
 
 /// Returns the numbers of sixteen channels.
