@@ -1,4 +1,4 @@
-use Rattle.std.proofs.Common.{◌≡◌, ◌∙◌, ◌++◌, ◌/◌, List, ℕ, map, replicate, ap, refl, get_or}
+use Rattle.std.proofs.Common.{◌≡◌, ◌∙◌, ◌++◌, ◌/◌, List, ℕ, map, replicate, ap, refl, sym, get_or}
 use Rattle.std.specs.List.{range_with_len}
 use lib.Lanes.{zip2, pick_l}
 use Rattle.pix_chan.specs.Product.{channel_quotient}
@@ -7,6 +7,7 @@ use Rattle.pix_chan.specs.Srgb16.{srgb_encoded8}
 use Rattle.pix_chan.proofs.LaneQuotients.{opaque_are, opaque_alphas}
 use Rattle.pix_bytes.specs.Shown.{shown_bytes, shown_places}
 use Rattle.pix_bytes.specs.BitmapFormats.{samples}
+use Rattle.pix_bytes.proofs.ShownFours.{samples_fit}
 use Rattle.pix_bytes.proofs.bitmap.levels.shown.Goals as goal
 use Rattle.pix_bytes.proofs.bitmap.levels.shown.Goals.{then-are_opaque, else-are_opaque, then-are_repeated, else-are_repeated}
 
@@ -24,7 +25,11 @@ returns c =
           let is = c.are_opaque.ensures in
           let whole : replicate 16 65535 ≡ alphas_in x =
           opaque_alphas (get_or x 3 0) (get_or x 7 0) (get_or x 11 0) (get_or x 15 0) (is.three yes) (is.seven yes) (is.eleven yes) (is.fifteen yes) in
-          w.result-is ∙ w.encoded.ensures ∙ made x (opaque_are 16 x c.channels-x.type_inv.0 c.channels-x.type_inv.1 ∙ ap (zip2 (channel_quotient 65535) x) whole)
+          let xs : List ℕ = samples 65535 16 bytes in
+          let opaque : x ≡ zip2 (channel_quotient 65535) x (replicate 16 65535) =
+          c.channels-x.ensures ∙ opaque_are 16 xs refl (samples_fit bytes (range_with_len 0 16) c.type_inv.bytes)
+          ∙ ap (λ (l : List ℕ). zip2 (channel_quotient 65535) l (replicate 16 65535)) (sym c.channels-x.ensures) in
+          w.result-is ∙ w.encoded.ensures ∙ made x (opaque ∙ ap (zip2 (channel_quotient 65535) x) whole)
       | else-are_opaque w ↦ w.result-is ∙ elim w.if-are_repeated.branch [
         | then-are_repeated v ↦ v.result-is ∙ v.encoded-then-are_repeated.ensures ∙ made v.divided.result v.divided.ensures
         | else-are_repeated v ↦ v.result-is ∙ v.encoded-else-are_repeated.ensures ∙ made v.divided_one_by_one.result v.divided_one_by_one.ensures
