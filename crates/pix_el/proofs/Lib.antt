@@ -18,3 +18,4 @@ pub mod Blocks
 pub mod Unchanged
 pub mod Masked
 pub mod MaskedPlanes
+pub mod Unmultiplied

@@ -25,3 +25,4 @@ pub mod Premultiplied
 pub mod Transparent
 pub mod ExactPixel
 pub mod PixelLaws
+pub mod Unmultiplied

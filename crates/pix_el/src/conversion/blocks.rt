@@ -24,7 +24,7 @@ const BLOCK: usize = 64;
 
 /// Returns whether a format has four channels.
 #[inline(always)]
-pub(super) fn has_four_channels<P: Pixel>() -> bool
+pub(crate) fn has_four_channels<P: Pixel>() -> bool
     ensures { result ≡ true → P.layout.count ≡ 4 }
 {
     P::default().channels().len() == 4
