@@ -69,3 +69,4 @@ pub mod SeenRounds
 pub mod SeenItemGroups
 pub mod SeenMade
 pub mod BlockGaps
+pub mod FewGroups
