@@ -70,3 +70,4 @@ pub mod SeenItemGroups
 pub mod SeenMade
 pub mod BlockGaps
 pub mod FewGroups
+pub mod BlockKeys

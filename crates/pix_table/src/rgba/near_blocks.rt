@@ -1,13 +1,15 @@
 //! Blocks of entries that are seen, of which those are skipped that are too far.
-ghost use Rattle.std.specs.Prelude.{◌≡◌, ◌+◌, ◌*◌, ◌<◌, ◌≤◌, ℕ, length, slice_index};
-ghost use Rattle.pix_table.specs.Lanes.{IsNearestLane};
-ghost use Rattle.pix_table.specs.NearBlocks.{AreColorEnds, AreEnds, bound_of, far_lane, gap};
+ghost use Rattle.std.specs.Prelude.{◌≡◌, ◌+◌, ◌*◌, ◌<◌, ◌≤◌, ℕ, length, min, slice_index};
+ghost use Rattle.std.specs.Int.{bit_at};
+ghost use Rattle.pix_table.specs.BlockGaps.{gap};
+ghost use Rattle.pix_table.specs.Lanes.{IsLaneKey, IsNearestLane, key_of};
+ghost use Rattle.pix_table.specs.NearBlocks.{AreColorEnds, AreEnds, bound_of, far_lane};
 
 use crate::color::Color;
 use crate::color_block::{ColorBlock, SIZE};
-use crate::lanes::nearest_lane;
+use crate::lanes::least_key;
 use crate::rgba::views::{SeenBlock, Views};
-use crate::search::distance;
+use std::simd::prelude::*;
 
 /// The least and the greatest numbers of each of sixteen blocks.
 #[derive(Clone, Copy)]
@@ -45,7 +47,8 @@ impl BlockEnds {
     #[inline(always)]
     fn bounds(&self, sought: Views) -> [u16; SIZE]
         ensures long { length result ≡ 16 }
-        ensures each { (j : ℕ) → j < 16 → slice_index result j ≤ bound_of self.now sought j }
+        ensures each { (j : ℕ) → j < 16
+            → slice_index result j ≤ min 65535 (bound_of self.now sought j) }
     {
         let (low, high) = (&self.least, &self.greatest);
         let mut bounds = [0; SIZE];
@@ -54,6 +57,17 @@ impl BlockEnds {
             bounds[j] = black.saturating_add(gaps(&low.white, &high.white, j, sought.white));
         }
         bounds
+    }
+
+    /// Returns a bit for each block. It is clear only where all its colors are farther than a
+    /// distance.
+    #[inline(always)]
+    fn near_bits(&self, sought: Views, far: u32) -> u64
+        ensures { (j : ℕ) → j < 16 → bit_at result j ≡ 0 → far < bound_of self.now sought j }
+    {
+        let bounds = u16x16::from_array(self.bounds(sought));
+        let most = u16x16::splat(far.min(65535) as u16);
+        bounds.simd_le(most).to_bitmask()
     }
 }
 
@@ -95,49 +109,43 @@ fn gap(least: u8, greatest: u8, number: u8) -> u16
     apart * apart
 }
 
-/// Returns how far the color in a lane is seen from another one.
+/// Returns the least of a key and those of the blocks whose bit is set.
 #[inline(always)]
-fn lane_distance(blocks: &[SeenBlock], lane: usize, sought: Views) -> u32
-    requires { lane < 16 * length blocks.now }
-    ensures far { result ≡ far_lane blocks.now sought lane }
-    ensures few { result ≤ 390150 }
+fn least_of_bits(blocks: &[SeenBlock], bits: u64, sought: Views, first: u32) -> u32
+    requires few { length blocks.now ≤ 16 }
+    requires first { IsLaneKey (far_lane blocks.now sought) (16 * length blocks.now) first }
+    ensures is { IsLaneKey (far_lane blocks.now sought) (16 * length blocks.now) result }
+    ensures least { result ≤ first }
+    ensures each { (j i : ℕ) → j < length blocks.now → i < 16 → bit_at bits j ≡ 1
+        → result ≤ key_of (far_lane blocks.now sought) (16 * j + i) }
 {
-    let block = &blocks[lane / SIZE];
-    let (black, white) = (&block.black, &block.white);
-    let i = lane % SIZE;
-    let on_black = Color {
-        red: black.red[i],
-        green: black.green[i],
-        blue: black.blue[i],
-    };
-    let on_white = Color {
-        red: white.red[i],
-        green: white.green[i],
-        blue: white.blue[i],
-    };
-    distance(on_black, sought.black) + distance(on_white, sought.white)
+    let mut key = first;
+    let mut k = 0;
+    let mut rest = bits;
+    while rest != 0 {
+        let clear = rest.trailing_zeros();
+        k += clear as usize;
+        if k >= blocks.len() {
+            return key;
+        }
+        key = key.min(least_key(blocks, k, sought));
+        k += 1;
+        rest = rest >> clear >> 1;
+    }
+    key
 }
 
 /// Returns the lane of the color that is seen nearest to another one, the first of equals, as
-/// [`nearest_lane`] does. Blocks are skipped that are farther than the color in some lane.
+/// [`nearest_lane`](crate::lanes::nearest_lane) does. Blocks are skipped that are farther than the
+/// nearest color of the block of some lane.
 pub(crate) fn nearest_near(blocks: &[SeenBlock], ends: &BlockEnds, sought: Views, near: u8) -> u8
     requires few { length blocks.now ≤ 16 }
     requires near { near < 16 * length blocks.now }
     requires ends { AreEnds blocks.now ends.now }
     ensures { IsNearestLane (far_lane blocks.now sought) (16 * length blocks.now) result }
 {
-    let bounds = ends.bounds(sought);
-    let mut least = lane_distance(blocks, usize::from(near), sought) + 1;
-    let mut best = near;
-    for j in 0..blocks.len() {
-        if u32::from(bounds[j]) < least {
-            let lane = 16 * j + usize::from(nearest_lane(&blocks[j..j + 1], sought));
-            let apart = lane_distance(blocks, lane, sought);
-            if apart < least {
-                least = apart;
-                best = lane as u8;
-            }
-        }
-    }
-    best
+    let own = usize::from(near) / SIZE;
+    let first = least_key(blocks, own, sought);
+    let others = ends.near_bits(sought, first / 256) & !(1 << own);
+    (least_of_bits(blocks, others, sought, first) % 256) as u8
 }

@@ -24,6 +24,14 @@ loop-k-init g c =
       matched = λ j below. absurd (omega (arith, below));
     }
 
+pub index_of-requires-clause-places : goal.index_of-requires-clause-places
+index_of-requires-clause-places g c =
+    let entries : List (List ℕ) = map seen (map g.E.TablePixel.values c.args.entries.now) in (
+      entries,
+      subst (λ l. AreSeenLanes l c.of-lanes.result) c.seen_entries-colors.ensures.numbers c.of-lanes.ensures,
+      c.loop-k.invariant.places,
+    )
+
 pub loop-k-preserved : goal.loop-k-preserved
 loop-k-preserved g c =
     let entries : List (List ℕ) = map seen (map g.E.TablePixel.values c.args.entries.now) in

@@ -1,5 +1,5 @@
 -- Of `BlockEnds::bounds`: that one bound more is there after each turn.
-use Rattle.std.proofs.Common.{◌≤◌, length-set, arith, ◌∙◌}
+use Rattle.std.proofs.Common.{◌≤◌, length-set, min, arith, ◌∙◌}
 use Rattle.pix_table.specs.NearBlocks.{bound_of}
 use Rattle.pix_table.proofs.Writes.{set_more}
 use Rattle.pix_table.proofs.rgba.near_blocks.BlockEnds.bounds.Goals as goal
@@ -7,7 +7,7 @@ use Rattle.pix_table.proofs.rgba.near_blocks.BlockEnds.bounds.Goals as goal
 pub loop-j-preserved : goal.loop-j-preserved
 loop-j-preserved c = record {
   long = length-set _ _ _ ∙ c.loop-j.invariant.long;
-  each = set_more (λ k bound. bound ≤ bound_of c.args.self.now c.args.sought k) c.loop-j.bounds c.loop-j.j c.saturating_add.result
+  each = set_more (λ k bound. bound ≤ min 65535 (bound_of c.args.self.now c.args.sought k)) c.loop-j.bounds c.loop-j.j c.saturating_add.result
       (omega (arith, c.loop-j.invariant.long, c.loop-j-test.true)) c.loop-j.invariant.each
       (omega (arith, c.saturating_add.ensures, c.gaps-black.ensures, c.gaps.ensures));
 }
