@@ -69,24 +69,26 @@ pub fn map_indexed_rgba<E: TablePixel, P: TablePixel>(
         index: lanes.nearest(seen_of(clear)),
     };
     let mut places = [first; PLACES];
+    let mut near = first.index;
     for k in 0..pixels.len() {
-        indices[k] = index_of(&lanes, &ends, &mut places, pixels[k]);
+        near = index_of(&lanes, &ends, &mut places, near, pixels[k]);
+        indices[k] = near;
     }
 }
 
 /// Returns the index of the entry that is seen nearest to a pixel, the first of equals. It is
-/// searched for where the place of the pixel has another one.
+/// searched for where the place of the pixel has another one, beginning near some entry.
 #[inline(always)]
 fn index_of<P: TablePixel>(
     lanes: &SeenLanes,
     ends: &BlockEnds,
     places: &mut [MatchedPixel],
+    near: u8,
     pixel: P,
 ) -> u8
     requires many { length places.old ≡ 1024 }
     requires ends { AreEnds lanes.now.blocks ends.now }
-    requires places { (entries : List (List ℕ)) × AreSeenLanes entries lanes.now
-        × AreMatchedPixels entries places.old }
+    requires near { near < lanes.now.len }
     ensures nearest { (entries : List (List ℕ)) → AreSeenLanes entries lanes.now
         → AreMatchedPixels entries places.old
         → IsNearestBy seen_distance entries (seen (P.values pixel)) result }
@@ -99,7 +101,7 @@ fn index_of<P: TablePixel>(
     if place.key == key {
         return place.index;
     }
-    let index = lanes.nearest_from(ends, seen_of(pixel), place.index);
+    let index = lanes.nearest_from(ends, seen_of(pixel), near);
     places[at] = MatchedPixel { key, index };
     index
 }

@@ -11,13 +11,6 @@ use Rattle.pix_table.proofs.rgba.matched.index_of.Goals as goal
 abbrev clear : MatchedPixel
 clear = record { key = 0; index = 0 }
 
-pub nearest_from-index-requires-clause-near : goal.nearest_from-index-requires-clause-near
-nearest_from-index-requires-clause-near g c =
-    let small : c.place_of-at.result / 4 < length c.args.places.now =
-    omega (arith, c.requires.many, div-mul-le_self c.place_of-at.result 4, c.place_of-at.ensures) in
-    let kept = c.requires.places.2 (c.place_of-at.result / 4) clear small in
-    omega (arith, kept.stands, c.requires.places.1.len)
-
 pub returns-then-place-key-clause-nearest : goal.returns-then-place-key-clause-nearest
 returns-then-place-key-clause-nearest g c = λ entries are places.
     let place : MatchedPixel = get_or c.args.places.now (c.place_of-at.result / 4) clear in
