@@ -71,3 +71,4 @@ pub mod SeenMade
 pub mod BlockGaps
 pub mod FewGroups
 pub mod BlockKeys
+pub mod GapLanes

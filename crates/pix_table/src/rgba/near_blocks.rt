@@ -1,5 +1,5 @@
 //! Blocks of entries that are seen, of which those are skipped that are too far.
-ghost use Rattle.std.specs.Prelude.{◌≡◌, ◌+◌, ◌*◌, ◌<◌, ◌≤◌, ℕ, length, min, slice_index};
+ghost use Rattle.std.specs.Prelude.{◌≡◌, ◌+◌, ◌-◌, ◌*◌, ◌<◌, ◌≤◌, ℕ, length, min, slice_index};
 ghost use Rattle.std.specs.Int.{bit_at};
 ghost use Rattle.pix_table.specs.BlockGaps.{gap};
 ghost use Rattle.pix_table.specs.Lanes.{IsLaneKey, IsNearestLane, key_of};
@@ -7,7 +7,7 @@ ghost use Rattle.pix_table.specs.NearBlocks.{AreColorEnds, AreEnds, bound_of, fa
 
 use crate::color::Color;
 use crate::color_block::{ColorBlock, SIZE};
-use crate::lanes::least_key;
+use crate::lanes::{least_key, sums};
 use crate::rgba::views::{SeenBlock, Views};
 use std::simd::prelude::*;
 
@@ -45,18 +45,16 @@ impl BlockEnds {
 
     /// Returns for each block a distance that none of its colors is nearer than.
     #[inline(always)]
-    fn bounds(&self, sought: Views) -> [u16; SIZE]
+    fn bounds(&self, sought: Views) -> u16x16
         ensures long { length result ≡ 16 }
         ensures each { (j : ℕ) → j < 16
             → slice_index result j ≤ min 65535 (bound_of self.now sought j) }
     {
-        let (low, high) = (&self.least, &self.greatest);
-        let mut bounds = [0; SIZE];
-        for j in 0..SIZE {
-            let black = gaps(&low.black, &high.black, j, sought.black);
-            bounds[j] = black.saturating_add(gaps(&low.white, &high.white, j, sought.white));
-        }
-        bounds
+        let black = gaps(&self.least.black, &self.greatest.black, sought.black);
+        sums(
+            black,
+            gaps(&self.least.white, &self.greatest.white, sought.white),
+        )
     }
 
     /// Returns a bit for each block. It is clear only where all its colors are farther than a
@@ -65,7 +63,7 @@ impl BlockEnds {
     fn near_bits(&self, sought: Views, far: u32) -> u64
         ensures { (j : ℕ) → j < 16 → bit_at result j ≡ 0 → far < bound_of self.now sought j }
     {
-        let bounds = u16x16::from_array(self.bounds(sought));
+        let bounds = self.bounds(sought);
         let most = u16x16::splat(far.min(65535) as u16);
         bounds.simd_le(most).to_bitmask()
     }
@@ -85,28 +83,55 @@ fn color_ends(blocks: &[ColorBlock]) -> (ColorBlock, ColorBlock)
     (ColorBlock::new(&least, 0), ColorBlock::new(&greatest, 0))
 }
 
-/// Returns a distance that a color is no nearer than to all that lie between two, or 65535 where
-/// it is greater.
+/// Returns for each block a distance that a color is no nearer than to all that lie between two, or
+/// 65535 where it is greater.
 #[inline(always)]
-fn gaps(least: &ColorBlock, greatest: &ColorBlock, j: usize, clr: Color) -> u16
-    requires { j < 16 }
-    ensures { result ≤ gap (slice_index least.now.red j) (slice_index greatest.now.red j) clr.red
+fn gaps(least: &ColorBlock, greatest: &ColorBlock, clr: Color) -> u16x16
+    ensures long { length result ≡ 16 }
+    ensures each { (j : ℕ) → j < 16 → slice_index result j
+        ≤ min 65535 (gap (slice_index least.now.red j) (slice_index greatest.now.red j) clr.red
         + gap (slice_index least.now.green j) (slice_index greatest.now.green j) clr.green
-        + gap (slice_index least.now.blue j) (slice_index greatest.now.blue j) clr.blue }
+        + gap (slice_index least.now.blue j) (slice_index greatest.now.blue j) clr.blue) }
 {
-    let red = gap(least.red[j], greatest.red[j], clr.red);
-    let green = gap(least.green[j], greatest.green[j], clr.green);
-    let blue = gap(least.blue[j], greatest.blue[j], clr.blue);
-    red.saturating_add(green).saturating_add(blue)
+    let red = gap(
+        u8x16::from_array(least.red),
+        u8x16::from_array(greatest.red),
+        clr.red,
+    );
+    let green = gap(
+        u8x16::from_array(least.green),
+        u8x16::from_array(greatest.green),
+        clr.green,
+    );
+    let blue = gap(
+        u8x16::from_array(least.blue),
+        u8x16::from_array(greatest.blue),
+        clr.blue,
+    );
+    sums(sums(red, green), blue)
 }
 
-/// Returns the square of how far a number is from those between two.
+/// Returns for each block at most the square of how far a number is from those between two.
 #[inline(always)]
-fn gap(least: u8, greatest: u8, number: u8) -> u16
-    ensures { result ≡ gap least greatest number }
+fn gap(least: u8x16, greatest: u8x16, number: u8) -> u16x16
+    ensures long { length result ≡ 16 }
+    ensures each { (j : ℕ) → j < 16
+        → slice_index result j ≤ gap (slice_index least j) (slice_index greatest j) number }
 {
-    let apart = u16::from(least.saturating_sub(number) + number.saturating_sub(greatest));
-    apart * apart
+    let numbers = u8x16::splat(number);
+    let apart = above(least, numbers) + above(numbers, greatest);
+    let wide = apart.cast::<u16>();
+    wide * wide
+}
+
+/// Returns how much each number is above another one, or 0.
+#[inline(always)]
+fn above(xs: u8x16, ys: u8x16) -> u8x16
+    ensures long { length result ≡ 16 }
+    ensures each { (j : ℕ) → j < 16
+        → slice_index result j ≡ slice_index xs j - slice_index ys j }
+{
+    xs.saturating_sub(ys)
 }
 
 /// Returns the least of a key and those of the blocks whose bit is set.
