@@ -1,5 +1,5 @@
 -- Of `add_items`: that both sums are together those of one item more after each turn, and that they fit.
-use Rattle.std.proofs.Common.{◌≡◌, ◌+◌, ◌-◌, ◌*◌, ◌<◌, ◌≤◌, length, map, set, get_or, refl, arith, sym, ◌∙◌, subst, length-set}
+use Rattle.std.proofs.Common.{◌≡◌, ◌+◌, ◌-◌, ◌*◌, ◌<◌, length, map, set, get_or, refl, arith, sym, ◌∙◌, subst, length-set}
 use Rattle.std.proofs.lemmas.List.{get_or_default, length-replicate}
 use Rattle.std.proofs.lemmas.Nat.{mul-le}
 use Rattle.pix_table.specs.Groups.{AreItemGroups}
