@@ -101,7 +101,7 @@ fn index_of<P: TablePixel>(
     if place.key == key {
         return place.index;
     }
-    let index = lanes.nearest_from(ends, seen_of(pixel), near);
+    let index = lanes.nearest_if_close(ends, seen_of(pixel), near);
     places[at] = MatchedPixel { key, index };
     index
 }
