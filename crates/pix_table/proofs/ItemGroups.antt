@@ -119,9 +119,12 @@ room_for q items pairs k all n most count more often few e =
       few,
     )
 
-pub count_room : (entries items : List (List ℕ)) (pairs k all n v most : ℕ) (sums : List Sums) (d : Sums) → 0 < length entries → v < length entries → k < all
-    → item_count items pairs k ≡ n → item_sum (λ c. 1) items pairs all < most → AreItemGroups entries items pairs k sums → (get_or sums v d).count + n < most
-count_room entries items pairs k all n v most sums d some inside more often few h =
-    let at : List ℕ → ℕ = (λ c. (nearest_at distance entries some c).0) in
-    let nearest : (c : List ℕ) → IsNearest entries c (at c) = (λ c. (nearest_at distance entries some c).1) in
-    room_for (λ c. nat_eq (at c) v) items pairs k all n most (get_or sums v d).count more often few (h.parts at nearest v d inside).count
+-- the count of an entry is below a number, where the counts of all items are
+pub count_below : (entries items : List (List ℕ)) (pairs n all k most : ℕ) (sums : List Sums) (d : Sums) → k < length entries → n ≤ all
+    → item_sum (λ c. 1) items pairs all < most → AreItemGroups entries items pairs n sums → (get_or sums k d).count < most
+count_below entries items pairs n all k most sums d inside more few h =
+    let at : List ℕ → ℕ = (λ c. (nearest_at distance entries (omega (arith, inside)) c).0) in
+    let nearest : (c : List ℕ) → IsNearest entries c (at c) = (λ c. (nearest_at distance entries (omega (arith, inside)) c).1) in
+    let own : item_sum (λ c. cond (nat_eq (at c) k) 1 0) items pairs n ≤ item_sum (λ c. 1) items pairs n =
+    item_sum_le (λ c. cond (nat_eq (at c) k) 1 0) (λ c. 1) items pairs n (λ c. at_most_one (nat_eq (at c) k)) in
+    omega (arith, (h.parts at nearest k d inside).count, own, item_sum_grows (λ c. 1) items pairs n all more, few)

@@ -69,3 +69,6 @@ pub mod SeenRounds
 pub mod SeenItemGroups
 pub mod SeenMade
 pub mod BlockGaps
+pub mod FewGroups
+pub mod BlockKeys
+pub mod GapLanes

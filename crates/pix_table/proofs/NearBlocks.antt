@@ -1,18 +1,18 @@
 -- Blocks that are skipped, since all their colors are too far.
-use Rattle.std.proofs.Common.{◌≡◌, ℕ, ◌+◌, ◌-◌, ◌*◌, ◌/◌, ◌%◌, ◌<◌, ◌≤◌, List, [], ◌∷◌, length, length-take, length-drop, map, set, take, drop, get_or, arith, sym, ap, ap₂, ◌∙◌, subst, inl, inr}
+use Rattle.std.proofs.Common.{◌≡◌, ℕ, ◌+◌, ◌-◌, ◌*◌, ◌/◌, ◌%◌, ◌<◌, ◌≤◌, List, [], ◌∷◌, length, map, set, take, get_or, arith, sym, ap, ap₂, ◌∙◌, subst, inl, inr}
 use Rattle.std.proofs.lemmas.Bool.{cases_lt}
-use Rattle.std.proofs.lemmas.List.{get_or-drop, get_or-map, get_or-take, length-take-le}
-use Rattle.std.proofs.lemmas.Nat.{mul-le}
+use Rattle.std.proofs.lemmas.List.{get_or-map, get_or-take, length-take-le}
 use Rattle.pix_table.specs.ColorBlocks.{IsBlock, Lies, channels_at, channels_in}
-use Rattle.pix_table.specs.Lanes.{IsNearestLane, no_block}
-use Rattle.pix_table.specs.NearBlocks.{AreEnds, IsLeastNear, bound_of, color_gap, far_lane, gap}
-use Rattle.pix_table.specs.Nearest.{distance, numbers, squared_difference}
+use Rattle.pix_table.specs.Lanes.{no_block}
+use Rattle.pix_table.specs.NearBlocks.{AreEnds, bound_of, far_lane}
+use Rattle.pix_table.specs.Nearest.{distance, numbers}
 use Rattle.pix_table.specs.SeenLanes.{no_views}
 use Rattle.pix_table.specs.declared.color.Color.{Color}
 use Rattle.pix_table.specs.declared.color_block.ColorBlock.{ColorBlock}
 use Rattle.pix_table.specs.declared.rgba.near_blocks.BlockEnds.{BlockEnds}
 use Rattle.pix_table.specs.declared.rgba.views.SeenBlock.{SeenBlock}
 use Rattle.pix_table.specs.declared.rgba.views.Views.{Views}
+use Rattle.pix_table.proofs.BlockGaps.{gap_least}
 use Rattle.pix_table.proofs.LaneEntries.{set_below, set_there}
 
 -- a color of a block that was made of colors
@@ -52,21 +52,6 @@ ends_more blocks least greatest j low high room space before here k d below i sm
       (subst (λ n. Lies (numbers low) (numbers high) (channels_in (get_or blocks n no_block) i)) e (here i small)))
 ]
 
--- no number between two is nearer than the gap
-gap_least : (least greatest x y : ℕ) → least ≤ x → x ≤ greatest → gap least greatest y ≤ squared_difference x y
-gap_least least greatest x y low high =
-    let less : (least - y) + (y - greatest) ≤ (x - y) + (y - x) = omega (arith, low, high) in
-    mul-le ((least - y) + (y - greatest)) ((least - y) + (y - greatest)) ((x - y) + (y - x)) ((x - y) + (y - x)) less less
-
-color_gap_least : (least greatest q c : List ℕ) → Lies least greatest q → color_gap least greatest c ≤ distance q c
-color_gap_least least greatest q c h =
-    omega (
-      arith,
-      gap_least (get_or least 0 0) (get_or greatest 0 0) (get_or q 0 0) (get_or c 0 0) h.red_low h.red_high,
-      gap_least (get_or least 1 0) (get_or greatest 1 0) (get_or q 1 0) (get_or c 1 0) h.green_low h.green_high,
-      gap_least (get_or least 2 0) (get_or greatest 2 0) (get_or q 2 0) (get_or c 2 0) h.blue_low h.blue_high,
-    )
-
 -- the color in a lane of a block
 lane_at : (blocks : List SeenBlock) (sought : Views) (j i : ℕ) → i < 16
     → far_lane blocks sought (16 * j + i)
@@ -88,86 +73,9 @@ lane_least blocks ends sought j i h inside small =
     omega (
       arith,
       far,
-      color_gap_least (channels_in ends.least.black j) (channels_in ends.greatest.black j) (channels_in block.black i) (numbers sought.black) (h.black j i inside small),
-      color_gap_least (channels_in ends.least.white j) (channels_in ends.greatest.white j) (channels_in block.white i) (numbers sought.white) (h.white j i inside small),
+      gap_least (channels_in ends.least.black j) (channels_in ends.greatest.black j) (channels_in block.black i) (numbers sought.black) (h.black j i inside small),
+      gap_least (channels_in ends.least.white j) (channels_in ends.greatest.white j) (channels_in block.white i) (numbers sought.white) (h.white j i inside small),
     )
-
--- the nearest lane of one block alone
-pub one_block : (blocks : List SeenBlock) (sought : Views) (j n p : ℕ) → n ≡ 1 → j < length blocks
-    → IsNearestLane (far_lane (take n (drop j blocks)) sought) (16 * length (take n (drop j blocks))) p
-    → IsNearestLane (λ i. far_lane blocks sought (16 * j + i)) 16 p
-one_block blocks sought j n p one inside near =
-    let slice : List SeenBlock = take n (drop j blocks) in
-    let long : length (take n (drop j blocks)) ≡ 1 = omega (arith, length-take n (drop j blocks), length-drop j blocks, one, inside) in
-    let place : j + 0 ≡ j = omega arith in
-    let same : get_or (take n (drop j blocks)) 0 no_views ≡ get_or blocks j no_views =
-    get_or-take n (drop j blocks) 0 no_views (omega (arith, one)) ∙ get_or-drop j blocks 0 no_views ∙ ap (λ k. get_or blocks k no_views) place in
-    let moved : (i : ℕ) → i < 16 → far_lane slice sought i ≡ far_lane blocks sought (16 * j + i) = (λ i small.
-    let zero : 16 * 0 + i ≡ i = omega arith in
-    ap (far_lane slice sought) (sym zero) ∙ lane_at slice sought 0 i small
-    ∙ ap (λ (b : SeenBlock). distance (channels_in b.black i) (numbers sought.black) + distance (channels_in b.white i) (numbers sought.white)) same
-    ∙ sym (lane_at blocks sought j i small)) in
-    let stands : p < 16 = omega (arith, near.stands, long) in
-    record {
-      stands = stands;
-      least = λ q b. omega (arith, moved p stands, moved q b, near.least q (omega (arith, b, long)));
-      first = λ q b. omega (arith, moved p stands, moved q (omega (arith, b, stands)), near.first q b);
-    }
-
--- before the first block
-pub near_none : (far : ℕ → ℕ) (start least best : ℕ) → least ≡ start → IsLeastNear far start 0 least best
-near_none far start least best e = record {
-  below = λ q b. absurd (omega (arith, b));
-  stands = λ found. absurd (omega (arith, e, found));
-  is = λ found. absurd (omega (arith, e, found));
-  first = λ found. absurd (omega (arith, e, found));
-}
-
--- a block that is skipped, or none of whose colors is nearer
-pub near_same : (far : ℕ → ℕ) (start j least best : ℕ) → ((i : ℕ) → i < 16 → least ≤ far (16 * j + i)) → IsLeastNear far start j least best
-    → IsLeastNear far start (j + 1) least best
-near_same far start j least best past h = record {
-  below = λ q b. elim (cases_lt q (16 * j)) [
-    | inl before ↦ h.below q before
-    | inr here ↦
-        let e : 16 * j + (q - 16 * j) ≡ q = omega (arith, here) in
-        subst (λ p. least ≤ far p) e (past (q - 16 * j) (omega (arith, b, here)))
-  ];
-  stands = λ found. omega (arith, h.stands found);
-  is = h.is;
-  first = h.first;
-}
-
--- a block with a color that is nearer, the first of its nearest
-pub near_found : (far : ℕ → ℕ) (start j least best p new : ℕ) → IsNearestLane (λ i. far (16 * j + i)) 16 p → new ≡ far (16 * j + p) → new < least
-    → IsLeastNear far start j least best → IsLeastNear far start (j + 1) new (16 * j + p)
-near_found far start j least best p new near e less h = record {
-  below = λ q b. elim (cases_lt q (16 * j)) [
-    | inl before ↦ omega (arith, h.below q before, less)
-    | inr here ↦
-        let s : 16 * j + (q - 16 * j) ≡ q = omega (arith, here) in
-        subst (λ k. new ≤ far k) s (omega (arith, e, near.least (q - 16 * j) (omega (arith, b, here))))
-  ];
-  stands = λ found. omega (arith, near.stands);
-  is = λ found. sym e;
-  first = λ found q b. elim (cases_lt q (16 * j)) [
-    | inl before ↦ omega (arith, h.below q before, less)
-    | inr here ↦
-        let s : 16 * j + (q - 16 * j) ≡ q = omega (arith, here) in
-        subst (λ k. new < far k) s (omega (arith, e, near.first (q - 16 * j) (omega (arith, b, here))))
-  ];
-}
-
--- after all blocks it is the nearest, where some lane is nearer than the start
-pub near_all : (far : ℕ → ℕ) (start n least best z : ℕ) → IsLeastNear far start n least best → z < 16 * n → far z < start
-    → IsNearestLane far (16 * n) best
-near_all far start n least best z h inside less =
-    let found : least < start = omega (arith, h.below z inside, less) in
-    record {
-      stands = h.stands found;
-      least = λ q b. omega (arith, h.is found, h.below q b);
-      first = λ q b. omega (arith, h.is found, h.first found q b);
-    }
 
 -- the ends of the first blocks
 pub first_ends : (blocks : List SeenBlock) (ends : BlockEnds) (n : ℕ) → n ≤ length blocks → AreEnds blocks ends → AreEnds (take n blocks) ends

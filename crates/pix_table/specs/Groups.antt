@@ -3,6 +3,7 @@ use Rattle.std.specs.Prelude.{◌≡◌, ℕ, ◌+◌, ◌*◌, ◌/◌, ◌<◌
 use Rattle.pix_table.specs.Nearest.{IsNearest}
 use Rattle.pix_table.specs.Items.{item_sum}
 use Rattle.pix_table.specs.declared.box_sums.Sums.{Sums}
+use Rattle.pix_table.specs.declared.few_sums.FewSums.{FewSums}
 
 -- the sums of those colors of the first n items that pass a test
 pub record AreItemSums (p : List ℕ → Bool) (items : List (List ℕ)) (pairs n : ℕ) (sums : Sums) : Type 0 where
@@ -16,6 +17,19 @@ pub record AreOfBytes (sums : Sums) : Type 0 where
   pub red : sums.red ≤ 255 * sums.count
   pub green : sums.green ≤ 255 * sums.count
   pub blue : sums.blue ≤ 255 * sums.count
+
+-- the same of sums of 64 bits
+pub record AreOfFewBytes (few : FewSums) : Type 0 where
+  pub red : few.red ≤ 255 * few.count
+  pub green : few.green ≤ 255 * few.count
+  pub blue : few.blue ≤ 255 * few.count
+
+-- sums of any number of colors, and such of 64 bits, are together some others
+pub record IsTogether (sums : Sums) (few : FewSums) (all : Sums) : Type 0 where
+  pub count : all.count ≡ sums.count + few.count
+  pub red : all.red ≡ sums.red + few.red
+  pub green : all.green ≡ sums.green + few.green
+  pub blue : all.blue ≡ sums.blue + few.blue
 
 -- for each entry the sums of those colors of the first n items to which it is the nearest, the first of equals
 pub record AreItemGroups (entries items : List (List ℕ)) (pairs n : ℕ) (sums : List Sums) : Type 0 where

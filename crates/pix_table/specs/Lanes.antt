@@ -37,3 +37,20 @@ pub record IsLeastOf (keys : List ℕ) (n least : ℕ) : Type 0 where
   pub stands : at < n
   pub is : least ≡ slice_index keys at
   pub below : (i : ℕ) → i < n → least ≤ slice_index keys i
+
+-- the key of a lane: the greater of two is that of the farther lane, or of the later one of equals
+abbrev pub key_of : (far : ℕ → ℕ) → ℕ → ℕ
+key_of far p = far p * 256 + p
+
+-- a key of the first n lanes
+pub record IsLaneKey (far : ℕ → ℕ) (n key : ℕ) : Type 0 where
+  pub lane : ℕ
+  pub stands : lane < n
+  pub is : key ≡ key_of far lane
+
+-- the least key of the lanes of block j
+pub record IsBlockKey (far : ℕ → ℕ) (j key : ℕ) : Type 0 where
+  pub at : ℕ
+  pub stands : at < 16
+  pub is : key ≡ key_of far (16 * j + at)
+  pub below : (i : ℕ) → i < 16 → key ≤ key_of far (16 * j + i)

@@ -1,5 +1,6 @@
 -- Blocks of entries that are too far. No clause of a public call cites this file.
-use Rattle.std.specs.Prelude.{◌≡◌, ℕ, ◌+◌, ◌-◌, ◌*◌, ◌<◌, ◌≤◌, List, length, slice_index, slice_index_or}
+use Rattle.std.specs.Prelude.{ℕ, ◌+◌, ◌<◌, List, length, slice_index_or}
+use Rattle.pix_table.specs.BlockGaps.{block_gap}
 use Rattle.pix_table.specs.ColorBlocks.{Lies, channels_in}
 use Rattle.pix_table.specs.Lanes.{lane_distance, no_block}
 use Rattle.pix_table.specs.Nearest.{distance, numbers}
@@ -8,16 +9,6 @@ use Rattle.pix_table.specs.declared.color_block.ColorBlock.{ColorBlock}
 use Rattle.pix_table.specs.declared.rgba.near_blocks.BlockEnds.{BlockEnds}
 use Rattle.pix_table.specs.declared.rgba.views.SeenBlock.{SeenBlock}
 use Rattle.pix_table.specs.declared.rgba.views.Views.{Views}
-
--- the square of how far a number is from those between two
-abbrev pub gap : (least greatest number : ℕ) → ℕ
-gap least greatest number = ((least - number) + (number - greatest)) * ((least - number) + (number - greatest))
-
--- a distance that a color is no nearer than to all that lie between two
-abbrev pub color_gap : (least greatest color : List ℕ) → ℕ
-color_gap least greatest color =
-    gap (slice_index least 0) (slice_index greatest 0) (slice_index color 0) + gap (slice_index least 1) (slice_index greatest 1) (slice_index color 1)
-    + gap (slice_index least 2) (slice_index greatest 2) (slice_index color 2)
 
 -- between which two each color of sixteen blocks lies
 abbrev pub AreColorEnds : (blocks : List ColorBlock) (least greatest : ColorBlock) → Type 0
@@ -34,18 +25,11 @@ pub record AreEnds (blocks : List SeenBlock) (ends : BlockEnds) : Type 0 where
 -- a distance that none of the colors of a block is nearer than
 abbrev pub bound_of : (ends : BlockEnds) (sought : Views) (j : ℕ) → ℕ
 bound_of ends sought j =
-    color_gap (channels_in ends.least.black j) (channels_in ends.greatest.black j) (numbers sought.black)
-    + color_gap (channels_in ends.least.white j) (channels_in ends.greatest.white j) (numbers sought.white)
+    block_gap (channels_in ends.least.black j) (channels_in ends.greatest.black j) (numbers sought.black)
+    + block_gap (channels_in ends.least.white j) (channels_in ends.greatest.white j) (numbers sought.white)
 
 -- how far the color in a lane is seen from another one
 abbrev pub far_lane : (blocks : List SeenBlock) (sought : Views) → ℕ → ℕ
 far_lane blocks sought =
     lane_distance (λ block i. distance (channels_in block.black i) (numbers sought.black) + distance (channels_in block.white i) (numbers sought.white)) no_views
     blocks
-
--- the least distance of the lanes of the first j blocks, up to a start that some are nearer than, and the first lane that has it
-pub record IsLeastNear (far : ℕ → ℕ) (start j least best : ℕ) : Type 0 where
-  pub below : (q : ℕ) → q < 16 * j → least ≤ far q
-  pub stands : least < start → best < 16 * j
-  pub is : least < start → far best ≡ least
-  pub first : least < start → (q : ℕ) → q < best → least < far q

@@ -5,6 +5,7 @@ use Rattle.std.specs.List.{AllZip}
 use Rattle.pix_table.specs.Places.{CannotBeCutBy, HasBestBy}
 use Rattle.pix_table.specs.declared.place.Place.{Place}
 use Rattle.pix_table.specs.declared.pieces.Piece.{Piece}
+use Rattle.pix_table.specs.declared.pieces.Most.{Most}
 use Rattle.pix_table.specs.declared.pieces.Next.{Next}
 
 -- the best place of a box, or none where it cannot be cut
@@ -48,3 +49,16 @@ pub record IsNext (pieces : List Piece) (next : Next) : Type 0 where
 -- the same, or none where no piece can be cut
 abbrev pub IsNextOrNone : List Piece → Option Next → Type 0
 IsNextOrNone pieces next = MatchOption next (AreWhole pieces) (IsNext pieces)
+
+-- what is kept of that piece while the pieces are gone through: its index, how many colors come before it,
+-- and what its cut gains
+pub record IsMost (pieces : List Piece) (most : Most) : Type 0 where
+  pub stands : most.at < length pieces
+  pub start : most.start ≡ total (take most.at pieces)
+  pub gain : HoldsAt (λ p. MatchOption p.place ⊥ (λ place. place.gain ≡ most.gain)) pieces most.at
+  pub best : All (λ p. IfSome p.place (λ place. place.gain ≤ most.gain)) pieces
+  pub first : All (λ p. IfSome p.place (λ place. place.gain < most.gain)) (take most.at pieces)
+
+-- the same, or none where no piece can be cut
+abbrev pub IsMostOrNone : List Piece → Option Most → Type 0
+IsMostOrNone pieces most = MatchOption most (AreWhole pieces) (IsMost pieces)

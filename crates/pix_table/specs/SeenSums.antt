@@ -39,6 +39,13 @@ seen_weight_by count red green blue alpha =
     weight_by count red green blue
     + weight_by count (red + (255 * count - alpha)) (green + (255 * count - alpha)) (blue + (255 * count - alpha))
 
+-- the squares of such sums, over black and over white, added
+abbrev pub seen_squares : (count red green blue alpha : ℕ) → ℕ
+seen_squares count red green blue alpha =
+    red * red + green * green + blue * blue
+    + ((red + (255 * count - alpha)) * (red + (255 * count - alpha)) + (green + (255 * count - alpha)) * (green + (255 * count - alpha))
+    + (blue + (255 * count - alpha)) * (blue + (255 * count - alpha)))
+
 -- whether the one are sums of a part of the colors of the other, but not of all
 pub record AreSeenPart (low all : SeenSums) : Type 0 where
   pub some : 0 < low.count

@@ -33,9 +33,9 @@ const MANY: u128 = 1 << 54;
 #[derive(Clone, Copy)]
 pub(crate) struct Sums {
     pub(crate) count: usize,
-    red: u128,
-    green: u128,
-    blue: u128,
+    pub(crate) red: u128,
+    pub(crate) green: u128,
+    pub(crate) blue: u128,
 }
 
 impl Sums {

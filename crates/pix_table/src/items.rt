@@ -260,10 +260,7 @@ fn count(counts: &mut [ColorCount], key: u32) -> ColorCount
     let at = place_of(key);
     let found = counts[at];
     if found.key == key && found.count < MOST {
-        counts[at] = ColorCount {
-            key,
-            count: found.count + 1,
-        };
+        counts[at].count = found.count + 1;
         return ColorCount { key, count: 0 };
     }
     counts[at] = ColorCount { key, count: 1 };

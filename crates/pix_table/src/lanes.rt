@@ -4,7 +4,7 @@ ghost use Rattle.std.specs.Simd.Lanes.{zip2};
 ghost use Rattle.pix_chan.specs.Number.{saturating_sum};
 ghost use Rattle.pix_table.specs.Nearest.{distance, numbers, squared_difference};
 ghost use Rattle.pix_table.specs.ColorBlocks.{channels_in};
-ghost use Rattle.pix_table.specs.Lanes.{IsNearestLane, IsLeastOf, lane_distance};
+ghost use Rattle.pix_table.specs.Lanes.{IsBlockKey, IsNearestLane, IsLeastOf, lane_distance};
 
 use crate::color::Color;
 use crate::color_block::{ColorBlock, SIZE};
@@ -222,4 +222,32 @@ fn nearest_far_lane<B: LaneBlock>(blocks: &[B], sought: B::Sought) -> u8
         least = lesser_wide(least, wide_keys(blocks[j].wide_distances(sought), j));
     }
     (least_of(least.to_array()) % 256) as u8
+}
+
+/// Returns the least key of the colors of a block: the distance of a color, 256 times, and its lane
+/// among those of all blocks.
+#[inline(always)]
+pub(crate) fn least_key<B: LaneBlock>(blocks: &[B], j: usize, sought: B::Sought) -> u32
+    requires inside { j < length blocks.now }
+    requires few { length blocks.now ≤ 16 }
+    ensures { (none : B) → IsBlockKey (lane_distance (λ block. B.apart block sought) none
+        blocks.now) j result }
+{
+    let key = least_of(keys(blocks[j].distances(sought), u16x16::splat(0)));
+    if key >= FAR {
+        return far_key(blocks, j, sought);
+    }
+    key / 65536 * 256 + 16 * j as u32 + key % 256
+}
+
+/// Returns the least key as [`least_key`] does, also where each color is farther than 16 bits can
+/// count.
+#[inline(never)]
+fn far_key<B: LaneBlock>(blocks: &[B], j: usize, sought: B::Sought) -> u32
+    requires inside { j < length blocks.now }
+    requires few { length blocks.now ≤ 16 }
+    ensures { (none : B) → IsBlockKey (lane_distance (λ block. B.apart block sought) none
+        blocks.now) j result }
+{
+    least_of(wide_keys(blocks[j].wide_distances(sought), j).to_array())
 }

@@ -19,6 +19,7 @@ mod diffuse;
 mod diffused_color;
 mod entry_lanes;
 mod exchange;
+mod few_sums;
 mod group;
 mod in_blocks;
 mod index;

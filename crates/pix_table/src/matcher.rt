@@ -280,14 +280,10 @@ impl<P: TablePixel> Matching<'_, P> {
         let black = Color::default();
         let index = search.nearest_entry(black);
         let mut answers = [word_of(black, index); COUNT];
+        // Read here, these stay in registers.
+        let (pixels, alpha, transparent_index) = (self.pixels, self.alpha, self.transparent_index);
         for i in 0..indices.len() {
-            indices[i] = matched(
-                search,
-                &mut answers,
-                self.pixels[i],
-                self.alpha,
-                self.transparent_index,
-            );
+            indices[i] = matched(search, &mut answers, pixels[i], alpha, transparent_index);
         }
     }
 }

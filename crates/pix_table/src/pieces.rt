@@ -1,6 +1,6 @@
 //! The boxes of a cut: pieces of one slice of colors, one after the other.
 ghost use Rattle.std.specs.Prelude.{◌≡◌, ℕ, ◌+◌, ◌<◌, ◌≤◌, ◌^◌, All, List, [], ◌∷◌, ◌++◌, length, map, take, drop, sum_by};
-ghost use Rattle.pix_table.specs.Pieces.{IsKnown, IsNextOrNone, total};
+ghost use Rattle.pix_table.specs.Pieces.{IsKnown, IsMostOrNone, IsNextOrNone, total};
 
 use crate::cutting::Cutting;
 use crate::place::Place;
@@ -19,6 +19,16 @@ pub(crate) struct Next {
     pub(crate) at: usize,
     pub(crate) start: usize,
     pub(crate) place: Place,
+}
+
+/// The piece whose cut gains most of those so far: its index, how many colors come before it, and
+/// what the cut gains.
+// The place stays in the piece. To carry it along would take longer than to compare what it gains.
+#[derive(Clone, Copy)]
+pub(crate) struct Most {
+    pub(crate) at: usize,
+    pub(crate) start: usize,
+    pub(crate) gain: u128,
 }
 
 impl Piece {
@@ -52,23 +62,42 @@ pub(crate) fn next_cut(pieces: &[Piece]) -> Option<Next>
     let mut best = None;
     let mut start = 0;
     for i in 0..pieces.len() {
-        best = better(best, pieces[i], i, start);
+        best = better(best, &pieces[i], i, start);
         start += pieces[i].len;
     }
-    best
+    next_of(pieces, best)
 }
 
 /// Returns the better of the best piece so far and the next one, the first of equals. The next one
 /// is at an index and has so many colors before it.
-fn better(best: Option<Next>, piece: Piece, at: usize, start: usize) -> Option<Next>
+#[inline(always)]
+fn better(best: Option<Most>, piece: &Piece, at: usize, start: usize) -> Option<Most>
     ensures { (pieces : List Piece) → length pieces ≡ at → total pieces ≡ start
-        → IsNextOrNone pieces best → IsNextOrNone (pieces ++ piece ∷ []) result }
+        → IsMostOrNone pieces best → IsMostOrNone (pieces ++ piece.now ∷ []) result }
 {
     match (best, piece.place) {
         (_, None) => best,
-        (Some(next), Some(place)) if place.gain <= next.place.gain => best,
-        (_, Some(place)) => Some(Next { at, start, place }),
+        (Some(most), Some(place)) if place.gain <= most.gain => best,
+        (_, Some(place)) => Some(Most {
+            at,
+            start,
+            gain: place.gain,
+        }),
     }
+}
+
+/// Returns the piece that gains most, with its place.
+fn next_of(pieces: &[Piece], best: Option<Most>) -> Option<Next>
+    requires { IsMostOrNone pieces.now best }
+    ensures { IsNextOrNone pieces.now result }
+{
+    let most = best?;
+    let place = pieces[most.at].place?;
+    Some(Next {
+        at: most.at,
+        start: most.start,
+        place,
+    })
 }
 
 /// Puts two pieces in the place of one of the first `count`. The piece behind these is free.

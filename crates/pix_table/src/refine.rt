@@ -1,14 +1,15 @@
 //! Rounds by which a table fits a list of colors better.
-ghost use Rattle.std.specs.Prelude.{◌≡◌, ◌<◌, ◌≤◌, ◌+◌, ◌*◌, ◌^◌, ℕ, All, IsPermutation, List, false, length, map, sum_by, take};
+ghost use Rattle.std.specs.Prelude.{◌≡◌, ◌<◌, ◌≤◌, ◌+◌, ◌*◌, ◌^◌, ℕ, All, IsPermutation, List, false, length, map, slice_index_or, sum_by, take};
 ghost use Rattle.pix_table.specs.InverseMap.{word_color};
 ghost use Rattle.pix_table.specs.Nearest.{numbers};
 ghost use Rattle.pix_table.specs.Refine.{AreRounds, IsRound, squared_error};
-ghost use Rattle.pix_table.specs.Groups.{AreItemGroups};
+ghost use Rattle.pix_table.specs.Groups.{AreItemGroups, AreOfBytes, AreOfFewBytes, IsTogether};
 ghost use Rattle.pix_table.specs.Items.{AreItemsOf, IsItem, item_sum, pair_items, spread, times_of};
 
 use crate::box_sums::Sums;
 use crate::chosen::ENTRIES;
 use crate::color::Color;
+use crate::few_sums::{FIT, FewSums};
 use crate::items::{Counted, Items, count_colors};
 use crate::matcher::visit_nearest;
 use crate::nearest_search::{NearestSearch, SearchVisitor};
@@ -166,6 +167,7 @@ struct Grouping<'a> {
 
 impl SearchVisitor<Sums> for Grouping<'_> {
     ghost can_visit = { λ grouping entries count work. (count ≡ length entries)
+        × (length entries ≤ 256)
         × (2 * grouping.items.pairs + grouping.items.singles ≤ length grouping.colors.now)
         × (item_sum (λ color. 1) (map numbers grouping.colors.now) grouping.items.pairs
         (grouping.items.pairs + grouping.items.singles) < 2 ^ 64) };
@@ -178,10 +180,66 @@ impl SearchVisitor<Sums> for Grouping<'_> {
     #[inline(never)]
     fn visit<N: NearestSearch>(&self, search: &mut N, items: &mut [Sums], _work: &mut [Color]) {
         items.fill(Sums::none());
-        for k in 0..self.items.pairs + self.items.singles {
-            let (clr, count) = self.items.item(self.colors, k);
-            let entry = usize::from(search.nearest_entry(clr));
-            items[entry] = items[entry].and(Sums::of_times(clr, count));
+        let all = self.items.pairs + self.items.singles;
+        let mut start = 0;
+        while start < all {
+            let end = start + FIT.min(all - start);
+            add_items(search, self.colors, self.items, start, end, items);
+            start = end;
         }
+    }
+}
+
+/// Adds the items of some places, which are no more than fit, to the sums of their nearest entries.
+fn add_items<N: NearestSearch>(
+    search: &mut N,
+    colors: &[Color],
+    items: Items,
+    start: usize,
+    end: usize,
+    sums: &mut [Sums],
+)
+    requires order { start ≤ end }
+    requires fit { end ≤ start + 1099511627776 }
+    requires inside { end ≤ items.pairs + items.singles }
+    requires room { 2 * items.pairs + items.singles ≤ length colors.now }
+    requires count { item_sum (λ color. 1) (map numbers colors.now) items.pairs
+        (items.pairs + items.singles) < 2 ^ 64 }
+    requires grouped { (entries : List (List ℕ)) × N.finds search.old entries
+        × (length sums.old ≡ length entries) × (length entries ≤ 256)
+        × AreItemGroups entries (map numbers colors.now) items.pairs start sums.old }
+    ensures long { length sums.new ≡ length sums.old }
+    ensures grouped { (entries : List (List ℕ)) → N.finds search.old entries
+        → length sums.old ≡ length entries
+        → AreItemGroups entries (map numbers colors.now) items.pairs start sums.old
+        → AreItemGroups entries (map numbers colors.now) items.pairs end sums.new }
+    ensures same { (entries : List (List ℕ)) → N.finds search.old entries
+        → N.finds search.new entries }
+{
+    let mut few = [FewSums::none(); ENTRIES];
+    for k in start..end {
+        let (clr, count) = items.item(colors, k);
+        let entry = usize::from(search.nearest_entry(clr));
+        few[entry] = few[entry].with(clr, count);
+    }
+    add_few(&few, sums);
+}
+
+/// Adds to each of some sums one of 64 bits.
+fn add_few(few: &[FewSums; ENTRIES], sums: &mut [Sums])
+    requires many { length sums.old ≤ 256 }
+    requires count { (k : ℕ) (d : Sums) (e : FewSums) → k < length sums.old
+        → (slice_index_or sums.old k d).count + (slice_index_or few.now k e).count < 2 ^ 64 }
+    requires bytes { (k : ℕ) (d : Sums) → k < length sums.old
+        → AreOfBytes (slice_index_or sums.old k d) }
+    requires few_bytes { (k : ℕ) (e : FewSums) → k < length sums.old
+        → AreOfFewBytes (slice_index_or few.now k e) }
+    ensures long { length sums.new ≡ length sums.old }
+    ensures together { (k : ℕ) (d : Sums) (e : FewSums) → k < length sums.old
+        → IsTogether (slice_index_or sums.old k d) (slice_index_or few.now k e)
+        (slice_index_or sums.new k d) }
+{
+    for k in 0..sums.len() {
+        sums[k] = sums[k].and(few[k].sums());
     }
 }

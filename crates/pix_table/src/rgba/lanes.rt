@@ -13,6 +13,9 @@ const BLOCKS: usize = 16;
 /// Fewer entries are searched no faster where blocks are passed by.
 const MANY: usize = 112;
 
+/// An entry is close to a color where their numbers over black differ by less than this in all.
+const CLOSE: u16 = 64;
+
 /// A copy of some colors that are seen, at least one and at most 256, in blocks of lanes.
 #[derive(Clone, Copy)]
 pub(crate) struct SeenLanes {
@@ -73,7 +76,7 @@ impl SeenLanes {
     }
 
     /// Returns what [`SeenLanes::nearest`] does. Of many entries those are passed by whose blocks
-    /// are farther than the entry of an index.
+    /// are farther than the nearest entry of the block of an index.
     pub(crate) fn nearest_from(&self, ends: &BlockEnds, clr: Seen, near: u8) -> u8
         requires seen { AreSeen (seen_numbers clr) }
         requires near { near < self.now.len }
@@ -86,5 +89,32 @@ impl SeenLanes {
         }
         let blocks = &self.blocks[..(self.len + 15) / SIZE];
         nearest_near(blocks, ends, both_views(clr), near)
+    }
+
+    /// Returns whether the entry of an index is close to a color.
+    #[inline(always)]
+    fn is_close(&self, clr: Seen, near: u8) -> bool {
+        let block = &self.blocks[usize::from(near) / SIZE].black;
+        let i = usize::from(near) % SIZE;
+        let red = u16::from(block.red[i].abs_diff(clr.red));
+        let green = u16::from(block.green[i].abs_diff(clr.green));
+        let blue = u16::from(block.blue[i].abs_diff(clr.blue));
+        red + green + blue < CLOSE
+    }
+
+    /// Returns what [`SeenLanes::nearest`] does. Blocks are passed by where the entry of an index is
+    /// close to the color, since few are near then.
+    #[inline(always)]
+    pub(crate) fn nearest_if_close(&self, ends: &BlockEnds, clr: Seen, near: u8) -> u8
+        requires seen { AreSeen (seen_numbers clr) }
+        requires near { near < self.now.len }
+        requires ends { AreEnds self.now.blocks ends.now }
+        ensures { (entries : List (List ℕ)) → AreSeenLanes entries self.now
+            → IsNearestBy seen_distance entries (seen_numbers clr) result }
+    {
+        if self.is_close(clr, near) {
+            return self.nearest_from(ends, clr, near);
+        }
+        self.nearest(clr)
     }
 }

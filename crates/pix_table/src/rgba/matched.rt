@@ -2,6 +2,7 @@
 ghost use Rattle.std.specs.Prelude.{◌≡◌, ◌<◌, ◌≤◌, ℕ, All, List, length, map, take};
 ghost use Rattle.pix_table.specs.Nearest.{IsNearestBy};
 ghost use Rattle.pix_table.specs.Seen.{AreSeen, AreSeenMatched, seen, seen_distance, seen_numbers};
+ghost use Rattle.pix_table.specs.NearBlocks.{AreEnds};
 ghost use Rattle.pix_table.specs.SeenLanes.{AreSeenLanes};
 ghost use Rattle.pix_table.specs.SeenMatches.{AreMatchedPixels};
 ghost use Rattle.pix_table.specs.SeenGroups.{seen_key_numbers};
@@ -12,6 +13,7 @@ use crate::color::TablePixel;
 use crate::items::place_of;
 use crate::rgba::color::{RgbaColor, Seen, seen_of};
 use crate::rgba::lanes::SeenLanes;
+use crate::rgba::near_blocks::BlockEnds;
 
 /// Returns how the entries of a table are seen, followed by others.
 pub(crate) fn seen_entries<E: TablePixel>(entries: &[E]) -> [Seen; ENTRIES]
@@ -55,6 +57,7 @@ pub fn map_indexed_rgba<E: TablePixel, P: TablePixel>(
 {
     let colors = seen_entries(entries);
     let lanes = SeenLanes::of(&colors[..entries.len()]);
+    let ends = lanes.ends();
     let clear = RgbaColor {
         red: 0,
         green: 0,
@@ -66,16 +69,26 @@ pub fn map_indexed_rgba<E: TablePixel, P: TablePixel>(
         index: lanes.nearest(seen_of(clear)),
     };
     let mut places = [first; PLACES];
+    let mut near = first.index;
     for k in 0..pixels.len() {
-        indices[k] = index_of(&lanes, &mut places, pixels[k]);
+        near = index_of(&lanes, &ends, &mut places, near, pixels[k]);
+        indices[k] = near;
     }
 }
 
 /// Returns the index of the entry that is seen nearest to a pixel, the first of equals. It is
-/// searched for where the place of the pixel has another one.
+/// searched for where the place of the pixel has another one, beginning near some entry.
 #[inline(always)]
-fn index_of<P: TablePixel>(lanes: &SeenLanes, places: &mut [MatchedPixel], pixel: P) -> u8
-    requires { length places.old ≡ 1024 }
+fn index_of<P: TablePixel>(
+    lanes: &SeenLanes,
+    ends: &BlockEnds,
+    places: &mut [MatchedPixel],
+    near: u8,
+    pixel: P,
+) -> u8
+    requires many { length places.old ≡ 1024 }
+    requires ends { AreEnds lanes.now.blocks ends.now }
+    requires near { near < lanes.now.len }
     ensures nearest { (entries : List (List ℕ)) → AreSeenLanes entries lanes.now
         → AreMatchedPixels entries places.old
         → IsNearestBy seen_distance entries (seen (P.values pixel)) result }
@@ -88,7 +101,7 @@ fn index_of<P: TablePixel>(lanes: &SeenLanes, places: &mut [MatchedPixel], pixel
     if place.key == key {
         return place.index;
     }
-    let index = lanes.nearest(seen_of(pixel));
+    let index = lanes.nearest_if_close(ends, seen_of(pixel), near);
     places[at] = MatchedPixel { key, index };
     index
 }

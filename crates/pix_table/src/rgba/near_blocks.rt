@@ -1,13 +1,15 @@
 //! Blocks of entries that are seen, of which those are skipped that are too far.
-ghost use Rattle.std.specs.Prelude.{◌≡◌, ◌+◌, ◌*◌, ◌<◌, ◌≤◌, ℕ, length, slice_index};
-ghost use Rattle.pix_table.specs.Lanes.{IsNearestLane};
-ghost use Rattle.pix_table.specs.NearBlocks.{AreColorEnds, AreEnds, bound_of, far_lane, gap};
+ghost use Rattle.std.specs.Prelude.{◌≡◌, ◌+◌, ◌-◌, ◌*◌, ◌<◌, ◌≤◌, ℕ, length, min, slice_index};
+ghost use Rattle.std.specs.Int.{bit_at};
+ghost use Rattle.pix_table.specs.BlockGaps.{gap};
+ghost use Rattle.pix_table.specs.Lanes.{IsLaneKey, IsNearestLane, key_of};
+ghost use Rattle.pix_table.specs.NearBlocks.{AreColorEnds, AreEnds, bound_of, far_lane};
 
 use crate::color::Color;
 use crate::color_block::{ColorBlock, SIZE};
-use crate::lanes::nearest_lane;
+use crate::lanes::{least_key, sums};
 use crate::rgba::views::{SeenBlock, Views};
-use crate::search::distance;
+use std::simd::prelude::*;
 
 /// The least and the greatest numbers of each of sixteen blocks.
 #[derive(Clone, Copy)]
@@ -43,17 +45,27 @@ impl BlockEnds {
 
     /// Returns for each block a distance that none of its colors is nearer than.
     #[inline(always)]
-    fn bounds(&self, sought: Views) -> [u16; SIZE]
+    fn bounds(&self, sought: Views) -> u16x16
         ensures long { length result ≡ 16 }
-        ensures each { (j : ℕ) → j < 16 → slice_index result j ≤ bound_of self.now sought j }
+        ensures each { (j : ℕ) → j < 16
+            → slice_index result j ≤ min 65535 (bound_of self.now sought j) }
     {
-        let (low, high) = (&self.least, &self.greatest);
-        let mut bounds = [0; SIZE];
-        for j in 0..SIZE {
-            let black = gaps(&low.black, &high.black, j, sought.black);
-            bounds[j] = black.saturating_add(gaps(&low.white, &high.white, j, sought.white));
-        }
-        bounds
+        let black = gaps(&self.least.black, &self.greatest.black, sought.black);
+        sums(
+            black,
+            gaps(&self.least.white, &self.greatest.white, sought.white),
+        )
+    }
+
+    /// Returns a bit for each block. It is clear only where all its colors are farther than a
+    /// distance.
+    #[inline(always)]
+    fn near_bits(&self, sought: Views, far: u32) -> u64
+        ensures { (j : ℕ) → j < 16 → bit_at result j ≡ 0 → far < bound_of self.now sought j }
+    {
+        let bounds = self.bounds(sought);
+        let most = u16x16::splat(far.min(65535) as u16);
+        bounds.simd_le(most).to_bitmask()
     }
 }
 
@@ -71,73 +83,94 @@ fn color_ends(blocks: &[ColorBlock]) -> (ColorBlock, ColorBlock)
     (ColorBlock::new(&least, 0), ColorBlock::new(&greatest, 0))
 }
 
-/// Returns a distance that a color is no nearer than to all that lie between two, or 65535 where
-/// it is greater.
+/// Returns for each block a distance that a color is no nearer than to all that lie between two, or
+/// 65535 where it is greater.
 #[inline(always)]
-fn gaps(least: &ColorBlock, greatest: &ColorBlock, j: usize, clr: Color) -> u16
-    requires { j < 16 }
-    ensures { result ≤ gap (slice_index least.now.red j) (slice_index greatest.now.red j) clr.red
+fn gaps(least: &ColorBlock, greatest: &ColorBlock, clr: Color) -> u16x16
+    ensures long { length result ≡ 16 }
+    ensures each { (j : ℕ) → j < 16 → slice_index result j
+        ≤ min 65535 (gap (slice_index least.now.red j) (slice_index greatest.now.red j) clr.red
         + gap (slice_index least.now.green j) (slice_index greatest.now.green j) clr.green
-        + gap (slice_index least.now.blue j) (slice_index greatest.now.blue j) clr.blue }
+        + gap (slice_index least.now.blue j) (slice_index greatest.now.blue j) clr.blue) }
 {
-    let red = gap(least.red[j], greatest.red[j], clr.red);
-    let green = gap(least.green[j], greatest.green[j], clr.green);
-    let blue = gap(least.blue[j], greatest.blue[j], clr.blue);
-    red.saturating_add(green).saturating_add(blue)
+    let red = gap(
+        u8x16::from_array(least.red),
+        u8x16::from_array(greatest.red),
+        clr.red,
+    );
+    let green = gap(
+        u8x16::from_array(least.green),
+        u8x16::from_array(greatest.green),
+        clr.green,
+    );
+    let blue = gap(
+        u8x16::from_array(least.blue),
+        u8x16::from_array(greatest.blue),
+        clr.blue,
+    );
+    sums(sums(red, green), blue)
 }
 
-/// Returns the square of how far a number is from those between two.
+/// Returns for each block at most the square of how far a number is from those between two.
 #[inline(always)]
-fn gap(least: u8, greatest: u8, number: u8) -> u16
-    ensures { result ≡ gap least greatest number }
+fn gap(least: u8x16, greatest: u8x16, number: u8) -> u16x16
+    ensures long { length result ≡ 16 }
+    ensures each { (j : ℕ) → j < 16
+        → slice_index result j ≤ gap (slice_index least j) (slice_index greatest j) number }
 {
-    let apart = u16::from(least.saturating_sub(number) + number.saturating_sub(greatest));
-    apart * apart
+    let numbers = u8x16::splat(number);
+    let apart = above(least, numbers) + above(numbers, greatest);
+    let wide = apart.cast::<u16>();
+    wide * wide
 }
 
-/// Returns how far the color in a lane is seen from another one.
+/// Returns how much each number is above another one, or 0.
 #[inline(always)]
-fn lane_distance(blocks: &[SeenBlock], lane: usize, sought: Views) -> u32
-    requires { lane < 16 * length blocks.now }
-    ensures far { result ≡ far_lane blocks.now sought lane }
-    ensures few { result ≤ 390150 }
+fn above(xs: u8x16, ys: u8x16) -> u8x16
+    ensures long { length result ≡ 16 }
+    ensures each { (j : ℕ) → j < 16
+        → slice_index result j ≡ slice_index xs j - slice_index ys j }
 {
-    let block = &blocks[lane / SIZE];
-    let (black, white) = (&block.black, &block.white);
-    let i = lane % SIZE;
-    let on_black = Color {
-        red: black.red[i],
-        green: black.green[i],
-        blue: black.blue[i],
-    };
-    let on_white = Color {
-        red: white.red[i],
-        green: white.green[i],
-        blue: white.blue[i],
-    };
-    distance(on_black, sought.black) + distance(on_white, sought.white)
+    xs.saturating_sub(ys)
+}
+
+/// Returns the least of a key and those of the blocks whose bit is set.
+#[inline(always)]
+fn least_of_bits(blocks: &[SeenBlock], bits: u64, sought: Views, first: u32) -> u32
+    requires few { length blocks.now ≤ 16 }
+    requires first { IsLaneKey (far_lane blocks.now sought) (16 * length blocks.now) first }
+    ensures is { IsLaneKey (far_lane blocks.now sought) (16 * length blocks.now) result }
+    ensures least { result ≤ first }
+    ensures each { (j i : ℕ) → j < length blocks.now → i < 16 → bit_at bits j ≡ 1
+        → result ≤ key_of (far_lane blocks.now sought) (16 * j + i) }
+{
+    let mut key = first;
+    let mut k = 0;
+    let mut rest = bits;
+    while rest != 0 {
+        let clear = rest.trailing_zeros();
+        k += clear as usize;
+        if k >= blocks.len() {
+            return key;
+        }
+        key = key.min(least_key(blocks, k, sought));
+        k += 1;
+        rest = rest >> clear >> 1;
+    }
+    key
 }
 
 /// Returns the lane of the color that is seen nearest to another one, the first of equals, as
-/// [`nearest_lane`] does. Blocks are skipped that are farther than the color in some lane.
+/// [`nearest_lane`](crate::lanes::nearest_lane) does. Blocks are skipped that are farther than the
+/// nearest color of the block of some lane.
 pub(crate) fn nearest_near(blocks: &[SeenBlock], ends: &BlockEnds, sought: Views, near: u8) -> u8
     requires few { length blocks.now ≤ 16 }
     requires near { near < 16 * length blocks.now }
     requires ends { AreEnds blocks.now ends.now }
     ensures { IsNearestLane (far_lane blocks.now sought) (16 * length blocks.now) result }
 {
-    let bounds = ends.bounds(sought);
-    let mut least = lane_distance(blocks, usize::from(near), sought) + 1;
-    let mut best = near;
-    for j in 0..blocks.len() {
-        if u32::from(bounds[j]) < least {
-            let lane = 16 * j + usize::from(nearest_lane(&blocks[j..j + 1], sought));
-            let apart = lane_distance(blocks, lane, sought);
-            if apart < least {
-                least = apart;
-                best = lane as u8;
-            }
-        }
-    }
-    best
+    let own = usize::from(near) / SIZE;
+    let first = least_key(blocks, own, sought);
+    let others = ends.near_bits(sought, first / 256) & !(1 << own);
+    (least_of_bits(blocks, others, sought, first) % 256) as u8
 }

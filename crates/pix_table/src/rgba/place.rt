@@ -1,10 +1,10 @@
 //! The place at which a cut of a box of seen colors lowers the squared error most.
-ghost use Rattle.std.specs.Prelude.{◌≡◌, ◌+◌, ◌-◌, ◌<◌, ◌≤◌, ℕ, All, List, length, map, MatchOption, true};
+ghost use Rattle.std.specs.Prelude.{◌≡◌, ◌+◌, ◌-◌, ◌<◌, ℕ, All, List, length, map, MatchOption};
 ghost use Rattle.pix_table.specs.Places.{CannotBeCutBy, HasBestBy};
 ghost use Rattle.pix_table.specs.BestPlaces.{CanCutBy, IsBestUpToBy};
 ghost use Rattle.pix_table.specs.Seen.{AreSeen, seen_numbers};
 ghost use Rattle.pix_table.specs.SeenCut.{seen_weight};
-ghost use Rattle.pix_table.specs.SeenSums.{AreFew, AreSeenPart, IsSummed, seen_gain_at, seen_weight_by};
+ghost use Rattle.pix_table.specs.SeenSums.{AreSeenPart, IsSummed, seen_gain_at, seen_weight_by};
 
 use crate::place::{Place, better};
 use crate::rgba::color::Seen;
@@ -87,13 +87,12 @@ fn better_at(
         → IsBestUpToBy 4 seen_gain_at box k (value + 1) result }
 {
     let high = all.without(low);
-    let below = low.weight();
     if let Some(old) = best {
-        if gains_little(high, below, whole, old.gain) {
+        if low.both_weigh_at_most(high, whole.saturating_add(old.gain)) {
             return best;
         }
     }
-    let gain = (below + high.weight()).saturating_sub(whole);
+    let gain = (low.weight() + high.weight()).saturating_sub(whole);
     better(
         best,
         Place {
@@ -102,20 +101,4 @@ fn better_at(
             gain,
         },
     )
-}
-
-/// Returns whether it tells that a cut gains at most `most`, without a division for the colors
-/// above it.
-///
-/// Those have the sums `high`, the ones below weigh `below`, and all weigh `whole`.
-#[inline(always)]
-fn gains_little(high: SeenSums, below: u128, whole: u128, most: u128) -> bool
-    requires some { 0 < high.count }
-    requires few { AreFew high }
-    ensures { result ≡ true
-        → below + seen_weight_by high.count high.red high.green high.blue high.alpha - whole
-        ≤ most }
-{
-    let room = whole.saturating_add(most);
-    below <= room && high.weighs_at_most(room - below)
 }

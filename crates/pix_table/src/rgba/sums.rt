@@ -2,7 +2,7 @@
 ghost use Rattle.std.specs.Prelude.{◌≡◌, ℕ, ◌+◌, ◌-◌, ◌*◌, ◌/◌, ◌<◌, ◌≤◌, All, List, length, map, slice_index, true};
 ghost use Rattle.pix_table.specs.Seen.{AreSeen, seen_numbers};
 ghost use Rattle.pix_table.specs.SeenSums.{AreFew, AreSeenByValue, AreSeenPart, AreSeenSums};
-ghost use Rattle.pix_table.specs.SeenSums.{seen_weight_by};
+ghost use Rattle.pix_table.specs.SeenSums.{seen_squares, seen_weight_by};
 
 use crate::box_sums::{FEW, LITTLE, quotient};
 use crate::rgba::color::Seen;
@@ -127,6 +127,19 @@ impl SeenSums {
         black + weight(self.count, white)
     }
 
+    /// Returns the squares of the sums of few colors, over black and over white, added.
+    #[inline(always)]
+    fn squares(self) -> u64
+        requires count { self.count < 4194304 }
+        requires few { AreFew self }
+        ensures { result ≡ seen_squares self.count self.red self.green self.blue self.alpha }
+    {
+        let clear = 255 * self.count as u64 - self.alpha as u64;
+        let (red, green, blue) = (self.red as u64, self.green as u64, self.blue as u64);
+        let black = square(red) + square(green) + square(blue);
+        black + (square(red + clear) + square(green + clear) + square(blue + clear))
+    }
+
     /// Returns whether it tells, without a division, that they weigh at most so much.
     #[inline(always)]
     pub(crate) fn weighs_at_most(self, most: u128) -> bool
@@ -138,11 +151,28 @@ impl SeenSums {
         if self.count >= FEW || most >= LITTLE {
             return false;
         }
-        let clear = 255 * self.count as u64 - self.alpha as u64;
-        let (red, green, blue) = (self.red as u64, self.green as u64, self.blue as u64);
-        let black = square(red) + square(green) + square(blue);
-        let white = square(red + clear) + square(green + clear) + square(blue + clear);
-        black + white < (most as u64 + 1) * self.count as u64
+        self.squares() < (most as u64 + 1) * self.count as u64
+    }
+
+    /// Returns whether it tells, without a division, that they and others weigh at most so much.
+    #[inline(always)]
+    pub(crate) fn both_weigh_at_most(self, others: SeenSums, most: u128) -> bool
+        requires some { 0 < self.count }
+        requires some_others { 0 < others.count }
+        requires few { AreFew self }
+        requires few_others { AreFew others }
+        ensures { result ≡ true → seen_weight_by self.count self.red self.green self.blue
+            self.alpha
+            + seen_weight_by others.count others.red others.green others.blue others.alpha
+            ≤ most }
+    {
+        if self.count >= FEW || others.count >= FEW || most >= LITTLE {
+            return false;
+        }
+        let (one, other) = (self.count as u64, others.count as u64);
+        let squares = u128::from(self.squares()) * u128::from(other)
+            + u128::from(others.squares()) * u128::from(one);
+        squares < u128::from(most as u64 + 1) * u128::from(one * other)
     }
 
     /// Returns the mean of the colors, to the nearest whole number in each channel, ties up.

@@ -1,6 +1,6 @@
 -- Of `set_indices` of `Matching`: that the invariant of its loop over `i` holds after each turn, and that
 -- all pixels are matched.
-use Rattle.std.proofs.Common.{◌≡◌, [], map, get_or, sym, subst, arith}
+use Rattle.std.proofs.Common.{◌≡◌, ◌∙◌, [], map, get_or, sym, ap, subst, arith}
 use Rattle.std.proofs.lemmas.List.{length-map, get_or-map}
 use Rattle.pix_table.specs.Nearest.{IsMatched, numbers}
 use Rattle.pix_table.proofs.FoundColors.{answered_first}
@@ -21,9 +21,9 @@ loop-i-preserved g c =
     let m = c.args.self.now in
     let values = g.P.TablePixel.values in
     let pixels = c.args.self.now.pixels.now in
-    let item = c.index-self-i.result in
-    let pixel : values (get_or pixels c.loop-i.i item) ≡ get_or (map values pixels) c.loop-i.i [] =
-    sym (get_or-map values pixels c.loop-i.i item [] (omega (arith, c.requires.many))) in
+    let item = c.index-pixels-i.result in
+    let pixel : values c.index-pixels-i.result ≡ get_or (map values pixels) c.loop-i.i [] =
+    ap values c.index-pixels-i.is ∙ sym (get_or-map values pixels c.loop-i.i item [] (omega (arith, c.requires.many))) in
     record {
       matched = λ entries finds.
           set_more (λ k i. IsMatched entries m.alpha m.transparent_index (get_or (map values pixels) k []) i) c.loop-i.indices c.loop-i.i c.matched.result (omega arith)

@@ -15,17 +15,17 @@ pub returns-then-place-key-clause-nearest : goal.returns-then-place-key-clause-n
 returns-then-place-key-clause-nearest g c = λ entries are places.
     let place : MatchedPixel = get_or c.args.places.now (c.place_of-at.result / 4) clear in
     let small : c.place_of-at.result / 4 < length c.args.places.now =
-    omega (arith, c.requires, div-mul-le_self c.place_of-at.result 4, c.place_of-at.ensures) in
+    omega (arith, c.requires.many, div-mul-le_self c.place_of-at.result 4, c.place_of-at.ensures) in
     let pixel : seen (seen_key_numbers place.key) ≡ seen (g.P.TablePixel.values c.args.pixel) =
     ap (λ k. seen (seen_key_numbers k)) c.if-place-key.true ∙ ap seen c.key_of-key.ensures in
     subst (λ l. IsNearestBy seen_distance entries l place.index) pixel (places (c.place_of-at.result / 4) clear small)
 
 pub returns-clause-nearest : goal.returns-clause-nearest
 returns-clause-nearest g c = λ entries are places.
-    subst (λ l. IsNearestBy seen_distance entries l c.nearest-index.result) c.seen_of.ensures.numbers (c.nearest-index.ensures entries are)
+    subst (λ l. IsNearestBy seen_distance entries l c.nearest_if_close-index.result) c.seen_of.ensures.numbers (c.nearest_if_close-index.ensures entries are)
 
 pub returns-clause-places : goal.returns-clause-places
 returns-clause-places g c = λ entries are places.
     let pixel : seen_numbers c.seen_of.result ≡ seen (seen_key_numbers c.key_of-key.result) = c.seen_of.ensures.numbers ∙ ap seen (sym c.key_of-key.ensures) in
     All-set (λ p. IsNearestBy seen_distance entries (seen (seen_key_numbers p.key)) p.index) _ _ _
-    (subst (λ l. IsNearestBy seen_distance entries l c.nearest-index.result) pixel (c.nearest-index.ensures entries are)) places
+    (subst (λ l. IsNearestBy seen_distance entries l c.nearest_if_close-index.result) pixel (c.nearest_if_close-index.ensures entries are)) places

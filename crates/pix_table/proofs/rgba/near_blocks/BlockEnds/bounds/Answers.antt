@@ -1,16 +1,13 @@
--- Of `BlockEnds::bounds`: that one bound more is there after each turn.
-use Rattle.std.proofs.Common.{◌≤◌, length-set, arith, ◌∙◌}
-use Rattle.pix_table.specs.NearBlocks.{bound_of}
-use Rattle.pix_table.proofs.Writes.{set_more}
+-- Of `BlockEnds::bounds`: that those over black and over white are added.
+use Rattle.std.proofs.Common.{◌≡◌, get_or, ap, ◌∙◌, arith}
+use Rattle.pix_chan.specs.Number.{saturating_sum}
+use Rattle.pix_table.proofs.LaneNumbers.{lane_of}
 use Rattle.pix_table.proofs.rgba.near_blocks.BlockEnds.bounds.Goals as goal
 
-pub loop-j-preserved : goal.loop-j-preserved
-loop-j-preserved c = record {
-  long = length-set _ _ _ ∙ c.loop-j.invariant.long;
-  each = set_more (λ k bound. bound ≤ bound_of c.args.self.now c.args.sought k) c.loop-j.bounds c.loop-j.j c.saturating_add.result
-      (omega (arith, c.loop-j.invariant.long, c.loop-j-test.true)) c.loop-j.invariant.each
-      (omega (arith, c.saturating_add.ensures, c.gaps-black.ensures, c.gaps.ensures));
-}
-
 pub returns-clause-each : goal.returns-clause-each
-returns-clause-each c = λ j inside. c.loop-j.invariant.each j (omega (arith, inside))
+returns-clause-each c = λ j below.
+    let black = c.gaps-black.ensures in
+    let white = c.gaps.ensures in
+    let both : get_or c.sums.result j 0 ≡ saturating_sum 65535 (get_or c.gaps-black.result j 0) (get_or c.gaps.result j 0) =
+    ap (λ xs. get_or xs j 0) c.sums.ensures ∙ lane_of (saturating_sum 65535) c.gaps-black.result c.gaps.result j black.long white.long below in
+    omega (arith, both, black.each j below, white.each j below)

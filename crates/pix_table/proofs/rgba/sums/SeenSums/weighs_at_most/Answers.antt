@@ -10,13 +10,4 @@ returns c = λ h.
     let clear : ℕ = 255 * c.args.self.count - c.args.self.alpha in
     quotients_most (s.red * s.red + s.green * s.green + s.blue * s.blue)
     ((s.red + clear) * (s.red + clear) + (s.green + clear) * (s.green + clear) + (s.blue + clear) * (s.blue + clear)) s.count c.args.most
-    (omega (
-      arith,
-      ltb-true _ _ h,
-      c.square.ensures.square,
-      c.square-2.ensures.square,
-      c.square-3.ensures.square,
-      c.square-4.ensures.square,
-      c.square-5.ensures.square,
-      c.square-6.ensures.square,
-    ))
+    (omega (arith, ltb-true _ _ h, c.squares.ensures))
