@@ -1,5 +1,6 @@
 //! Colors on a picture.
-ghost use Rattle.std.specs.Prelude.{◌≡◌, ◌<◌, ◌≤◌, ◌+◌, ℕ, pos, true, false, IfOk, IfErr};
+ghost use Rattle.std.specs.Prelude.{◌≡◌, ◌<◌, ◌≤◌, ◌+◌, ℕ, pos};
+ghost use Rattle.std.specs.Prelude.{true, false, IfOk, IfErr};
 ghost use Rattle.pix_ops.specs.declared.ops.Op.{Op};
 ghost use Rattle.pix_el.specs.PixelComposite.{pixel_composite};
 ghost use Rattle.pix.specs.Image.{point};

@@ -1,6 +1,6 @@
 //! An encoder of indexed images that has one table of colors for all of them.
-ghost use Rattle.std.specs.Prelude.{◌≡◌, ◌<◌, ℕ, [], ◌∷◌, length, map, slice_index_or, IfOk, IfErr};
-ghost use Rattle.std.specs.Prelude.{IfSome};
+ghost use Rattle.std.specs.Prelude.{◌≡◌, ◌<◌, ℕ, [], ◌∷◌, length, map, slice_index_or};
+ghost use Rattle.std.specs.Prelude.{IfOk, IfErr, IfSome};
 ghost use Rattle.pix.specs.ColorTable.{entries_of, IsMadeOf};
 ghost use Rattle.pix.specs.Diffusion.{AreDiffused};
 ghost use Rattle.pix.specs.Quantization.{shown};

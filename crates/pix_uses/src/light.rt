@@ -1,5 +1,6 @@
 //! What comes back from linear light.
-ghost use Rattle.std.specs.Prelude.{◌≡◌, ◌≤◌, ◌<◌, ◌+◌, ◌*◌, ℕ, [], length, map, All, IfOk, IfErr};
+ghost use Rattle.std.specs.Prelude.{◌≡◌, ◌≤◌, ◌<◌, ◌+◌, ◌*◌, ℕ};
+ghost use Rattle.std.specs.Prelude.{[], length, map, All, IfOk, IfErr};
 ghost use Rattle.pix.specs.Image.{point, region_of};
 ghost use Rattle.pix.specs.Run.{effects_at};
 ghost use Rattle.pix_raster.specs.declared.fault.RasterFault.{RasterFault};

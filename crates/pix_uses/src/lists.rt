@@ -1,5 +1,6 @@
 //! Lists of commands.
-ghost use Rattle.std.specs.Prelude.{◌≡◌, ◌+◌, ◌<◌, ◌≤◌, ℕ, pos, true, [], ◌∷◌, length, All};
+ghost use Rattle.std.specs.Prelude.{◌≡◌, ◌+◌, ◌<◌, ◌≤◌, ℕ, pos, true};
+ghost use Rattle.std.specs.Prelude.{[], ◌∷◌, length, All};
 ghost use Rattle.pix_ops.specs.declared.ops.Op.{Op};
 ghost use Rattle.pix_ops.specs.ExactRun.{exact_run, AreWithin, IsUnmatted, HasConstantSource};
 ghost use Rattle.pix.specs.Image.{point};
