@@ -1,6 +1,7 @@
 //! Channels by name and by number, and what is written through them.
 ghost use Rattle.std.specs.Prelude.{◌≤◌, ◌<◌};
 
+use crate::pictures::matte;
 use pix::bgr::{Bgr, Bgr8, Bgra8};
 use pix::chan::{Ch8, Channel};
 use pix::cmy::{Cmy, Cmya16};
@@ -196,20 +197,32 @@ fn channels_by_name(rt: HostRuntime) {
     assert_xyz::<Xyza8>(&rt);
 }
 
+/// A pixel of red, green, blue and alpha.
+fn rgba([red, green, blue, alpha]: [u8; 4]) -> Rgba8 {
+    Rgba8::new(red, green, blue, alpha)
+}
+
+/// Asserts that a pixel is the one of these numbers.
+fn assert_rgba(rt: &impl Abort, p: Rgba8, want: [u8; 4]) {
+    assert_eq!(rt; p, rgba(want));
+}
+
+/// Asserts that a pixel is the one of this number.
+fn assert_matte(rt: &impl Abort, p: Matte8, want: u8) {
+    assert_eq!(rt; p, matte(want));
+}
+
 #[test]
 fn channels_by_number(rt: HostRuntime) {
-    let mut p = Rgba8::new::<u8>(1, 2, 3, 4);
+    let mut p = rgba([1, 2, 3, 4]);
     *p.get_mut(2) = Ch8::new(9);
     *p.alpha_mut() = Ch8::new(8);
-    assert_eq!(rt; p, Rgba8::new::<u8>(1, 2, 9, 8));
-    let mut p = Matte8::new::<u8>(1);
+    assert_rgba(&rt, p, [1, 2, 9, 8]);
+    let mut p = matte(1);
     *p.alpha_mut() = Ch8::new(8);
-    assert_eq!(rt; p, Matte8::new::<u8>(8));
+    assert_matte(&rt, p, 8);
     let channels = [1, 2, 3, 4, 5].map(Ch8::new);
     assert_eq!(rt; Rgb8::from_channels(&channels), Rgb8::new::<u8>(1, 2, 3));
-    assert_eq!(rt;
-        Rgba8::from_channels(&channels),
-        Rgba8::new::<u8>(1, 2, 3, 4)
-    );
-    assert_eq!(rt; Matte8::from_channels(&channels), Matte8::new::<u8>(1));
+    assert_rgba(&rt, Rgba8::from_channels(&channels), [1, 2, 3, 4]);
+    assert_matte(&rt, Matte8::from_channels(&channels), 1);
 }

@@ -1,4 +1,6 @@
 //! Conversions that lose nothing, at formats of each kind.
+use crate::pictures::rgba;
+use crate::rgbas;
 use pix::Raster;
 use pix::bgr::{Bgra16, SBgra8};
 use pix::el::Pixel;
@@ -10,31 +12,31 @@ use pix_uses::conversions::{
     gray_to_rgb_and_back, opaque_to_premultiplied_and_back, still_premultiplied, to_bgr_and_back,
     to_cmy_and_back, to_its_own, to_sixteen_bits_and_back,
 };
+use std::fmt::Debug;
+use std::process::Abort;
 use std::test::Fail;
+
+/// Asserts that a pixel is this one.
+fn assert_same<P: Pixel + Debug>(rt: &impl Abort, pixel: P, want: P) {
+    assert!(rt; pixel == want, "{pixel:?} for {want:?}");
+}
 
 #[test]
 fn nothing_is_lost(rt: HostRuntime) {
-    let light = Rgba8p::new(10, 20, 30, 40);
-    assert_eq!(rt; to_its_own(light), light);
-    assert_eq!(rt; to_its_own(Hwba8::new(1, 2, 3, 4)), Hwba8::new(1, 2, 3, 4));
-    assert_eq!(rt; to_sixteen_bits_and_back(light), light);
-    assert_eq!(rt;
-        to_bgr_and_back(SRgba8::new(1, 128, 255, 7)),
-        SRgba8::new(1, 128, 255, 7)
-    );
-    assert_eq!(rt;
-        to_bgr_and_back(Rgb16::new(1, 300, 65535)),
-        Rgb16::new(1, 300, 65535)
-    );
-    assert_eq!(rt; to_cmy_and_back(light), light);
-    assert_eq!(rt;
-        gray_to_rgb_and_back(Graya8::new(77, 3)).1,
-        Graya8::new(77, 3)
-    );
-    assert_eq!(rt;
-        gray_to_rgb_and_back(Graya16::new(301, 3)).1,
-        Graya16::new(301, 3)
-    );
+    let light = rgba([10, 20, 30, 40]);
+    rgbas::assert_pixel(&rt, to_its_own(light), light);
+    rgbas::assert_pixel(&rt, to_sixteen_bits_and_back(light), light);
+    rgbas::assert_pixel(&rt, to_cmy_and_back(light), light);
+    let hue = Hwba8::new(1, 2, 3, 4);
+    assert_same(&rt, to_its_own(hue), hue);
+    let shown = SRgba8::new(1, 128, 255, 7);
+    assert_same(&rt, to_bgr_and_back(shown), shown);
+    let deep = Rgb16::new(1, 300, 65535);
+    assert_same(&rt, to_bgr_and_back(deep), deep);
+    let gray = Graya8::new(77, 3);
+    assert_same(&rt, gray_to_rgb_and_back(gray).1, gray);
+    let gray = Graya16::new(301, 3);
+    assert_same(&rt, gray_to_rgb_and_back(gray).1, gray);
 }
 
 #[test]

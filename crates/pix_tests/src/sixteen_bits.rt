@@ -1,9 +1,15 @@
 //! A raster of sixteen bit channels: copies, composites and mattes.
+ghost use Rattle.std.specs.Prelude.{◌≡◌, ◌+◌};
+
 use crate::pictures::picture;
+use pix::chan::{Linear, Premultiplied};
+use pix::el::Pixel;
 use pix::gray::Graya16p;
 use pix::matte::Matte16;
 use pix::ops::{Op, SrcAtop, SrcOver, Xor};
-use pix::{Command, Raster, Region};
+use pix::{Command, Raster, RasterFault, Region};
+use std::alloc::Global;
+use std::process::Abort;
 use std::test::Fail;
 
 /// A pixel of a gray value and an alpha.
@@ -32,6 +38,26 @@ const SOURCE: [(u16, u16); 2] = [(0x6000, 0xA000), (0x8000, 0x8000)];
 /// The matte values, three columns.
 const MATTES: [u16; 3] = [0xC800, 0x0100, 0x8000];
 
+/// The pixels after the copies.
+const COPIED: [(u16, u16); 6] = [
+    (1, 2),
+    (0x6000, 0xA000),
+    (0x8000, 0x8000),
+    (50000, 50000),
+    (65535, 65535),
+    (0x1234, 0xFFFF),
+];
+
+/// The pixels after the copies and the composites without mattes.
+const COMPOSITED: [(u16, u16); 6] = [
+    (8193, 16385),
+    (0x6000, 0xA000),
+    (0x8000, 0x8000),
+    (45692, 53884),
+    (49151, 65535),
+    (35098, 65535),
+];
+
 /// The pixels after all commands.
 const AFTER: [(u16, u16); 6] = [
     (26746, 35916),
@@ -42,42 +68,62 @@ const AFTER: [(u16, u16); 6] = [
     (35098, 65535),
 ];
 
+/// The pixels of gray values and alphas.
+fn grayas(pixels: [(u16, u16); 6]) -> [Graya16p; 6] {
+    pixels.map(graya)
+}
+
+/// The raster before any command.
+fn raster_before(alloc: Global) -> Result<Raster<Graya16p>, RasterFault> {
+    picture(alloc, 3, 2, &grayas(BEFORE))
+}
+
+/// The raster of the source.
+fn raster_source(alloc: Global) -> Result<Raster<Graya16p>, RasterFault> {
+    picture(alloc, 2, 1, &SOURCE.map(graya))
+}
+
+/// The raster of the mattes.
+fn raster_mattes(alloc: Global) -> Result<Raster<Matte16>, RasterFault> {
+    picture(alloc, 3, 1, &MATTES.map(matte))
+}
+
+/// Asserts that these are the pixels of a raster.
+fn assert_pixels(rt: &impl Abort, raster: &Raster<Graya16p>, want: &[(u16, u16); 6]) {
+    assert_eq!(rt; raster.pixels(), grayas(*want).as_slice());
+}
+
+/// Copies a color and a raster.
+fn copy<P: Pixel>(raster: &mut Raster<P>, clr: P, src: &Raster<P>) {
+    raster.copy_color(Region::new(2, 1, 9, 9), clr);
+    raster.copy_raster(Region::new(1, 0, 2, 1), src, Region::from(()));
+}
+
+/// Composites a color and a raster.
+fn composite<P>(raster: &mut Raster<P>, clr: P, src: &Raster<P>)
+where
+    P: Pixel<Alpha = Premultiplied, Gamma = Linear>,
+    requires has_alpha { P.layout.count ≡ P.layout.alpha + 1 }
+{
+    raster.composite_color(Region::new(0, 0, 1, 2), clr, SrcOver);
+    raster.composite_raster(Region::new(1, 1, 2, 1), src, Region::from(()), SrcAtop);
+}
+
 #[test]
 fn calls_one_by_one(rt: HostRuntime) -> Result<(), Fail> {
+    let source = raster_source(rt.alloc())?;
+    let mattes = raster_mattes(rt.alloc())?;
+    let mut raster = raster_before(rt.alloc())?;
+
+    copy(&mut raster, graya((0x1234, 0xFFFF)), &source);
+    assert_pixels(&rt, &raster, &COPIED);
+    composite(&mut raster, graya((0x2000, 0x4000)), &source);
+    assert_pixels(&rt, &raster, &COMPOSITED);
     let all = Region::from(());
-    let source = picture(rt.alloc(), 2, 1, &SOURCE.map(graya))?;
-    let mattes = picture(rt.alloc(), 3, 1, &MATTES.map(matte))?;
-    let mut raster = picture(rt.alloc(), 3, 2, &BEFORE.map(graya))?;
-
-    raster.copy_color(Region::new(2, 1, 9, 9), graya((0x1234, 0xFFFF)));
-    raster.copy_raster(Region::new(1, 0, 2, 1), &source, all);
-    let copied = [
-        (1, 2),
-        (0x6000, 0xA000),
-        (0x8000, 0x8000),
-        (50000, 50000),
-        (65535, 65535),
-        (0x1234, 0xFFFF),
-    ];
-    assert_eq!(rt; raster.pixels(), copied.map(graya).as_slice());
-
-    raster.composite_color(Region::new(0, 0, 1, 2), graya((0x2000, 0x4000)), SrcOver);
-    raster.composite_raster(Region::new(1, 1, 2, 1), &source, all, SrcAtop);
-    let composited = [
-        (8193, 16385),
-        (0x6000, 0xA000),
-        (0x8000, 0x8000),
-        (45692, 53884),
-        (49151, 65535),
-        (35098, 65535),
-    ];
-    assert_eq!(rt; raster.pixels(), composited.map(graya).as_slice());
-
     raster.composite_matte(all, &mattes, all, graya((40000, 50000)), Xor);
-    assert_eq!(rt; raster.pixels(), AFTER.map(graya).as_slice());
-
+    assert_pixels(&rt, &raster, &AFTER);
     raster.clear();
-    assert_eq!(rt; raster.pixels(), [graya((0, 0)); 6].as_slice());
+    assert_pixels(&rt, &raster, &[(0, 0); 6]);
     Ok(())
 }
 
@@ -127,10 +173,10 @@ fn list<'a>(
 /// (24561, 40911).
 #[test]
 fn all_calls_as_a_list(rt: HostRuntime) -> Result<(), Fail> {
-    let source = picture(rt.alloc(), 2, 1, &SOURCE.map(graya))?;
-    let mattes = picture(rt.alloc(), 3, 1, &MATTES.map(matte))?;
-    let mut raster = picture(rt.alloc(), 3, 2, &BEFORE.map(graya))?;
+    let source = raster_source(rt.alloc())?;
+    let mattes = raster_mattes(rt.alloc())?;
+    let mut raster = raster_before(rt.alloc())?;
     raster.run(&list(&source, &mattes));
-    assert_eq!(rt; raster.pixels(), AFTER.map(graya).as_slice());
+    assert_pixels(&rt, &raster, &AFTER);
     Ok(())
 }
