@@ -12,6 +12,7 @@ pub mod InPixels
 pub mod OnePlane
 pub mod MattePlanes
 pub mod FourPixels
+pub mod Pair
 pub mod EightPixels
 pub mod Blocks
 pub mod Unchanged

@@ -1,6 +1,6 @@
 //! Composites of pixels by runs of sixteen or thirty-two channels.
 //!
-//! Each way is a `Block`. Pixels of four channels without a hue go eight at a time and then four,
+//! Each way is a `Block`. Pixels of four channels without a hue go sixteen at a time and then four,
 //! interleaved as they are in memory. Pixels of four channels whose first is a hue go by planes:
 //! arrays of the same channel of sixteen pixels. So do pixels of two channels without a hue, and a
 //! color of 8 bits through sixteen mattes. A pixel of one channel is its own alpha, so mattes go as
@@ -18,10 +18,10 @@ use crate::hue::composite_hue;
 use crate::matte::Matte;
 use crate::model::{ColorModel, is_hue};
 use crate::planes::block::{color_blocks, composite_blocks, matte_blocks};
-use crate::planes::eight::Eight;
 use crate::planes::four::Four;
 use crate::planes::interleaved::Interleaved;
 use crate::planes::one::One;
+use crate::planes::pair::Pair;
 use crate::planes::two::Two;
 use crate::stored::{Coverage, Stored};
 use pix_chan::chan::{Alpha, Channel, Linear};
@@ -35,6 +35,7 @@ mod fours;
 pub(crate) mod interleaved;
 pub(crate) mod masked;
 mod one;
+mod pair;
 mod two;
 mod unchanged;
 
@@ -131,7 +132,7 @@ pub(crate) fn composite_runs<O: Blend, P: Pixel, D: Stored<P>, S: Stored<P>>(
         (take result (map S.reads src.now)) (map D.reads dst.old) }
 {
     if is_interleaved::<P>() {
-        let start = composite_blocks::<O, P, D, S, Eight>(dst, src, count);
+        let start = composite_blocks::<O, P, D, S, Pair>(dst, src, count);
         let (rest, sources) = (&mut dst[start..], &src[start..]);
         start + composite_blocks::<O, P, D, S, Interleaved>(rest, sources, count - start)
     } else if has_four::<P>() {
@@ -156,7 +157,7 @@ pub(crate) fn color_runs<O: Blend, P: Pixel, D: Stored<P>>(dst: &mut [D], clr: &
         (take result (replicate (length dst.old) (P.numbers clr.now))) (map D.reads dst.old) }
 {
     if is_interleaved::<P>() {
-        let start = color_blocks::<O, P, D, Eight>(dst, clr);
+        let start = color_blocks::<O, P, D, Pair>(dst, clr);
         start + color_blocks::<O, P, D, Interleaved>(&mut dst[start..], clr)
     } else if has_four::<P>() {
         color_blocks::<O, P, D, Four>(dst, clr)
@@ -210,7 +211,7 @@ fn largest_coverage<O: Blend, P: Pixel, D: Stored<P>, M: Coverage<P::Chan>>(
         (take result (map (coverage_of P.Chan.max M.numbers) src.now)) (map D.reads dst.old) }
 {
     if is_wide::<P::Chan>() {
-        matte_blocks::<O, P, D, M, Eight>(dst, src, clr, count)
+        matte_blocks::<O, P, D, M, Pair>(dst, src, clr, count)
     } else {
         matte_blocks::<O, P, D, M, Four>(dst, src, clr, count)
     }

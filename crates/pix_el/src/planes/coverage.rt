@@ -30,21 +30,3 @@ pub(super) fn matte_values<C: Channel, M: Coverage<C>>(src: &[M]) -> [C; 16]
         src[15].coverage(),
     ]
 }
-
-/// Returns the values of eight mattes.
-#[inline(always)]
-pub(super) fn eight_values<C: Channel, M: Coverage<C>>(src: &[M]) -> [C; 8]
-    requires { length src.now ≡ 8 }
-    ensures { map C.number result ≡ map (coverage_of C.max M.numbers) src.now }
-{
-    [
-        src[0].coverage(),
-        src[1].coverage(),
-        src[2].coverage(),
-        src[3].coverage(),
-        src[4].coverage(),
-        src[5].coverage(),
-        src[6].coverage(),
-        src[7].coverage(),
-    ]
-}

@@ -1,17 +1,13 @@
 //! Eight pixels of four channels without a hue, as they are in memory: thirty-two channels, pixel
 //! by pixel.
-ghost use Rattle.std.specs.Prelude.{◌≡◌, ◌++◌, length, map, refl, replicate};
-ghost use Rattle.pix_chan.specs.Planes.{in_turn};
+ghost use Rattle.std.specs.Prelude.{◌≡◌, ◌++◌, length, map, replicate};
 ghost use Rattle.pix_chan.specs.Runs.{over};
 ghost use Rattle.pix_el.specs.Planes.{by_fours};
-ghost use Rattle.pix_el.specs.PixelComposite.{pixel_composite, matted_color, matted_composite};
+ghost use Rattle.pix_el.specs.PixelComposite.{pixel_composite};
 
 use crate::el::Pixel;
-use crate::planes::block::Block;
-use crate::planes::coverage::eight_values;
-use crate::planes::interleaved::four_channels;
-use crate::planes::masked::{composite_eight_covered, composite_eight_faded};
-use crate::stored::{Coverage, Stored};
+use crate::planes::interleaved::four_times;
+use crate::stored::Stored;
 use pix_chan::chan::Channel;
 use pix_ops::ops::Blend;
 
@@ -27,32 +23,20 @@ pub(super) fn eight_pixels<P: Pixel, D: Stored<P>>(p: &[D]) -> [P::Chan; 32]
     own
 }
 
-/// Returns the channels of eight pixels of one color, pixel by pixel.
-#[inline(always)]
-fn eight_times<P: Pixel>(clr: &P) -> [P::Chan; 32]
-    requires { P.layout.count ≡ 4 }
-    ensures { by_fours (map P.Chan.number result) ≡ replicate 8 (P.numbers clr.now) }
-{
-    let (a, b, c, d) = four_channels(clr);
-    [
-        a, b, c, d, a, b, c, d, a, b, c, d, a, b, c, d, a, b, c, d, a, b, c, d, a, b, c, d, a, b,
-        c, d,
-    ]
-}
-
 /// Writes eight pixels from their channels, pixel by pixel.
 #[inline(always)]
-fn put_eight_pixels<P: Pixel, D: Stored<P>>(p: &mut [D], c: [P::Chan; 32])
+pub(super) fn put_eight_pixels<P: Pixel, D: Stored<P>>(p: &mut [D], c: [P::Chan; 32])
     requires count { P.layout.count ≡ 4 }
     requires size { length p.old ≡ 8 }
-    ensures { map D.reads p.new ≡ by_fours (map P.Chan.number c) }
+    ensures size { length p.new ≡ 8 }
+    ensures pixels { map D.reads p.new ≡ by_fours (map P.Chan.number c) }
 {
     D::store_channels(p, &c);
 }
 
 /// Returns both arrays, one after the other.
 #[inline(always)]
-fn joined<C: Channel>(a: [C; 16], b: [C; 16]) -> [C; 32]
+pub(super) fn joined<C: Channel>(a: [C; 16], b: [C; 16]) -> [C; 32]
     ensures { map C.number result ≡ map C.number a ++ map C.number b }
 {
     let mut both = [C::MIN; 32];
@@ -63,108 +47,34 @@ fn joined<C: Channel>(a: [C; 16], b: [C; 16]) -> [C; 32]
     both
 }
 
-/// Returns eight values, each at the four places of its pixel. Equal planes are put together, which
-/// uses lanes. For an array that names each value four times, LLVM writes each element by itself.
+/// Returns the channels of eight pixels of one color, pixel by pixel.
 #[inline(always)]
-fn spread<C: Channel>(values: &[C]) -> [C; 32]
-    requires { length values.now ≡ 8 }
-    ensures { map C.number result ≡ in_turn (map C.number values.now) (map C.number values.now)
-        (map C.number values.now) (map C.number values.now) }
+pub(super) fn eight_times<P: Pixel>(clr: &P) -> [P::Chan; 32]
+    requires { P.layout.count ≡ 4 }
+    ensures { by_fours (map P.Chan.number result) ≡ replicate 8 (P.numbers clr.now) }
 {
-    let none = C::MIN;
-    let plane = [
-        values[0], values[1], values[2], values[3], values[4], values[5], values[6], values[7],
-        none, none, none, none, none, none, none, none,
-    ];
-    let (a, b, _, _) = C::join4(plane, plane, plane, plane);
-    joined(a, b)
+    let four = four_times(clr);
+    joined(four, four)
 }
 
-/// Returns the channels of eight pixels, each pixel multiplied by the matte value of the same
-/// index. Each `CALLER` has a copy of its own, since LLVM inlines a function that is called once.
+/// Returns eight pixels after those of `src` are composited with them. At each index the alphas are
+/// those of its own pixel. Each `CALLER` has a copy of its own for each `HALF` of its block, since
+/// LLVM inlines a function that is called once.
 ///
 /// Condition: the alpha is the last channel, and none is a hue.
 #[inline(always)]
-pub(super) fn covered<P: Pixel, const CALLER: usize>(
+pub(super) fn composited<O: Blend, P: Pixel, const CALLER: usize, const HALF: usize>(
     mut to: [P::Chan; 32],
-    values: &[P::Chan],
+    src: [P::Chan; 32],
 ) -> [P::Chan; 32]
     requires count { P.layout.count ≡ 4 }
     requires alpha { P.layout.alpha ≡ 3 }
     requires no_hue { P.layout.hues.end ≡ 0 }
-    requires whole { length values.now ≡ 8 }
-    ensures { by_fours (map P.Chan.number result) ≡ over (matted_color P.layout)
-        (map P.Chan.number values.now) (by_fours (map P.Chan.number to)) }
+    ensures { by_fours (map P.Chan.number result) ≡ over (pixel_composite P.layout O.op)
+        (by_fours (map P.Chan.number src)) (by_fours (map P.Chan.number to)) }
 {
-    let by = spread(values);
-    P::Chan::mul_run(&mut to, &by);
-    to
-}
-
-/// Composites the eight pixels of these channels with those of `dst`. At each index the alphas are
-/// those of its own pixel. Each `CALLER` has a copy of its own.
-///
-/// Condition: the alpha is the last channel, and none is a hue.
-#[inline(always)]
-pub(super) fn composite_eight<O: Blend, P: Pixel, D: Stored<P>, const CALLER: usize>(
-    dst: &mut [D],
-    src: [P::Chan; 32],
-)
-    requires count { P.layout.count ≡ 4 }
-    requires alpha { P.layout.alpha ≡ 3 }
-    requires no_hue { P.layout.hues.end ≡ 0 }
-    requires size { length dst.old ≡ 8 }
-    ensures { map D.reads dst.new ≡ over (pixel_composite P.layout O.op)
-        (by_fours (map P.Chan.number src)) (map D.reads dst.old) }
-{
-    let mut to = eight_pixels::<P, D>(dst);
     let da1 = P::Chan::less32(P::Chan::alphas8(to));
     let sa1 = P::Chan::less32(P::Chan::alphas8(src));
     O::composite_run(&mut to, &da1, &src, &sa1);
-    put_eight_pixels::<P, D>(dst, to);
-}
-
-/// Pixels of four channels without a hue, eight at a time.
-pub(super) struct Eight {}
-
-impl<P: Pixel> Block<P> for Eight {
-    ghost suits = { (P.layout.count ≡ 4) × (P.layout.alpha ≡ 3) × (P.layout.hues.end ≡ 0) };
-
-    ghost SIZE = { 8 };
-
-    const SIZE: usize = 8;
-
-    ghost more = { 7 };
-
-    ghost some = { refl };
-
-    #[inline(always)]
-    fn composite<O: Blend, D: Stored<P>, S: Stored<P>>(dst: &mut [D], src: &[S]) {
-        composite_eight::<O, P, D, 0>(dst, eight_pixels::<P, S>(src));
-    }
-
-    #[inline(always)]
-    fn color<O: Blend, D: Stored<P>>(dst: &mut [D], clr: &P) {
-        composite_eight::<O, P, D, 1>(dst, eight_times(clr));
-    }
-
-    #[inline(always)]
-    fn matted<O: Blend, D: Stored<P>, M: Coverage<P::Chan>>(dst: &mut [D], src: &[M], clr: &P) {
-        let colors = covered::<P, 2>(eight_times(clr), &eight_values(src));
-        composite_eight::<O, P, D, 2>(dst, colors);
-    }
-
-    #[inline(always)]
-    fn masked<O: Blend, D: Stored<P>, S: Stored<P>, M: Coverage<P::Chan>>(
-        dst: &mut [D],
-        src: &[S],
-        mattes: &[M],
-    ) {
-        composite_eight_covered::<O, P, D, S, M>(dst, src, mattes);
-    }
-
-    #[inline(always)]
-    fn faded<O: Blend, D: Stored<P>, S: Stored<P>>(dst: &mut [D], src: &[S], alpha: P::Chan) {
-        composite_eight_faded::<O, P, D, S>(dst, src, alpha);
-    }
+    to
 }

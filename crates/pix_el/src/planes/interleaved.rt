@@ -37,7 +37,7 @@ pub(crate) fn four_pixels<P: Pixel, D: Stored<P>>(p: &[D]) -> [P::Chan; 16]
 
 /// Returns the channels of four pixels of one color, pixel by pixel.
 #[inline(always)]
-fn four_times<P: Pixel>(clr: &P) -> [P::Chan; 16]
+pub(super) fn four_times<P: Pixel>(clr: &P) -> [P::Chan; 16]
     requires { P.layout.count ≡ 4 }
     ensures { by_fours (map P.Chan.number result) ≡ replicate 4 (P.numbers clr.now) }
 {

@@ -10,11 +10,10 @@ ghost use Rattle.pix_el.specs.PixelComposite.{matted_composite, matte_numbers, m
 use crate::el::{Pix, Pixel};
 use crate::matte::Matte;
 use crate::planes::block::{faded_blocks, masked_blocks};
-use crate::planes::coverage::eight_values;
-use crate::planes::eight::{Eight, composite_eight, covered, eight_pixels};
 use crate::planes::four::Four;
 use crate::planes::interleaved::{Interleaved, composite_four, four_pixels};
 use crate::planes::one::One;
+use crate::planes::pair::Pair;
 use crate::planes::two::Two;
 use crate::planes::{has_four, has_one, has_two, is_interleaved};
 use crate::stored::{Coverage, Stored};
@@ -73,52 +72,6 @@ pub(super) fn composite_covered<
     composite_masked::<O, P, D, S>(dst, src, a, b, c, d);
 }
 
-/// Composites eight pixels with those of `dst`, each through the matte of the same index.
-///
-/// Condition: the alpha is the last channel, and none is a hue.
-#[inline(always)]
-pub(super) fn composite_eight_covered<
-    O: Blend,
-    P: Pixel,
-    D: Stored<P>,
-    S: Stored<P>,
-    M: Coverage<P::Chan>,
->(dst: &mut [D], src: &[S], mattes: &[M])
-    requires count { P.layout.count ≡ 4 }
-    requires alpha { P.layout.alpha ≡ 3 }
-    requires no_hue { P.layout.hues.end ≡ 0 }
-    requires size { length dst.old ≡ 8 }
-    requires src_size { length src.now ≡ 8 }
-    requires whole { length mattes.now ≡ 8 }
-    ensures { map D.reads dst.new ≡ over (λ t. matted_composite P.layout O.op t.0 t.1)
-        (zip (map (coverage_of P.Chan.max M.numbers) mattes.now) (map S.reads src.now)) (map D.reads dst.old) }
-{
-    let colors = covered::<P, 4>(eight_pixels::<P, S>(src), &eight_values(mattes));
-    composite_eight::<O, P, D, 4>(dst, colors);
-}
-
-/// Composites eight pixels with those of `dst`, each through the same matte value.
-///
-/// Condition: the alpha is the last channel, and none is a hue.
-#[inline(always)]
-pub(super) fn composite_eight_faded<O: Blend, P: Pixel, D: Stored<P>, S: Stored<P>>(
-    dst: &mut [D],
-    src: &[S],
-    alpha: P::Chan,
-)
-    requires count { P.layout.count ≡ 4 }
-    requires last { P.layout.alpha ≡ 3 }
-    requires no_hue { P.layout.hues.end ≡ 0 }
-    requires size { length dst.old ≡ 8 }
-    requires src_size { length src.now ≡ 8 }
-    ensures { map D.reads dst.new ≡ over (matted_composite P.layout O.op (P.Chan.number alpha))
-        (map S.reads src.now) (map D.reads dst.old) }
-{
-    let mut colors = eight_pixels::<P, S>(src);
-    P::Chan::mul_run(&mut colors, &[alpha; 32]);
-    composite_eight::<O, P, D, 3>(dst, colors);
-}
-
 /// Composites as many of the first `count` pixels as go in blocks, each through the matte of the
 /// same index, and returns their number.
 ///
@@ -140,7 +93,7 @@ pub(crate) fn covered_runs<O: Blend, P: Pixel, D: Stored<P>, S: Stored<P>, M: Co
         (map D.reads dst.old) }
 {
     if is_interleaved::<P>() {
-        let start = masked_blocks::<O, P, D, S, M, Eight>(dst, src, mattes, count);
+        let start = masked_blocks::<O, P, D, S, M, Pair>(dst, src, mattes, count);
         let (rest, sources) = (&mut dst[start..], &src[start..]);
         start
             + masked_blocks::<O, P, D, S, M, Interleaved>(
@@ -204,7 +157,7 @@ pub(crate) fn faded_runs<O: Blend, P: Pixel, D: Stored<P>, S: Stored<P>>(
         (take result (map S.reads src.now)) (map D.reads dst.old) }
 {
     if is_interleaved::<P>() {
-        let start = faded_blocks::<O, P, D, S, Eight>(dst, src, alpha, count);
+        let start = faded_blocks::<O, P, D, S, Pair>(dst, src, alpha, count);
         let (rest, sources) = (&mut dst[start..], &src[start..]);
         start + faded_blocks::<O, P, D, S, Interleaved>(rest, sources, alpha, count - start)
     } else if has_four::<P>() {

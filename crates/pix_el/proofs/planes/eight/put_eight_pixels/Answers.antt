@@ -7,7 +7,7 @@ use Rattle.pix_el.proofs.planes.eight.put_eight_pixels.Goals as goal
 pub store_channels-requires : goal.store_channels-requires
 store_channels-requires g c = rw (c.requires.count, c.requires.size) (omega arith)
 
-pub returns : goal.returns
-returns g c =
+pub returns-clause-pixels : goal.returns-clause-pixels
+returns-clause-pixels g c =
     let v = g.P.Chan.Channel.number in
     fours_written g.P.Pixel.layout.count 8 _ (map v c.args.c) _ c.requires.count c.requires.size (omega (arith, length-map c.args.c v)) c.store_channels.ensures

@@ -8,7 +8,7 @@ use Rattle.pix_el.specs.PixelComposite.{pixel_composite}
 use Rattle.pix_el.proofs.Models.{placed_by_row}
 use Rattle.pix_el.proofs.FourPlanes.{numbers_fit, is_four_of, four_of}
 use Rattle.pix_el.proofs.FourPixels.{fours_composited, rests}
-use Rattle.pix_el.proofs.planes.eight.composite_eight.Goals as goal
+use Rattle.pix_el.proofs.planes.eight.composited.Goals as goal
 
 pub returns : goal.returns
 returns g c =
@@ -17,16 +17,14 @@ returns g c =
     let v = g.P.Chan.Channel.number in
     let laws = g.met.P.Chan.Channel in
     let ss = map v c.args.src in
-    let ds = map v c.eight_pixels-to.result in
+    let ds = map v c.args.to in
     let four : g.P.Pixel.layout ≡ four_of max 0 = is_four_of g.P.Pixel.layout max g.P.Model.ColorModel.CIRCULAR g.P.Model.ColorModel.ALPHA g.met.P.Pixel.laid_out
     c.requires.count c.requires.alpha (placed_by_row g.P.Model.ColorModel.model _ g.met.P.Model.ColorModel.stands).hue_first ∙ ap (four_of max) c.requires.no_hue in
     let da1 : map v c.less32-da1.result ≡ rests max op ds = c.less32-da1.ensures ∙ ap (map (λ x. max - x)) c.alphas8.ensures in
     let sa1 : map v c.less32-sa1.result ≡ rests max op ss = c.less32-sa1.ensures ∙ ap (map (λ x. max - x)) c.alphas8-2.ensures in
-    c.put_eight_pixels.ensures
-    ∙ ap by_fours (c.composite_run.ensures
+    ap by_fours (c.composite_run.ensures
     ∙ ap (λ (r : List ℕ). over (run_composite max op) (triples r ss (map v c.less32-sa1.result)) ds) da1
     ∙ ap (λ (r : List ℕ). over (run_composite max op) (triples (rests max op ds) ss r) ds) sa1)
-    ∙ fours_composited max op 8 ss ds (omega (arith, length-map c.args.src v)) (omega (arith, length-map c.eight_pixels-to.result v))
-    (numbers_fit max v laws.numbered c.args.src) (numbers_fit max v laws.numbered c.eight_pixels-to.result)
+    ∙ fours_composited max op 8 ss ds (omega (arith, length-map c.args.src v)) (omega (arith, length-map c.args.to v))
+    (numbers_fit max v laws.numbered c.args.src) (numbers_fit max v laws.numbered c.args.to)
     ∙ ap (λ (l : Layout). over (pixel_composite l op) (by_fours ss) (by_fours ds)) (sym four)
-    ∙ ap (λ (l : List (List ℕ)). over (pixel_composite g.P.Pixel.layout op) (by_fours ss) l) c.eight_pixels-to.ensures

@@ -1,11 +1,11 @@
-use Rattle.std.proofs.Common.{◌≡◌, ◌∙◌, ap, arith, map, List, ℕ}
+use Rattle.std.proofs.Common.{◌≡◌, ◌∙◌, ◌++◌, ap, arith, map, List, ℕ}
 use Rattle.std.proofs.lemmas.List.{length-map}
 use Rattle.pix_chan.specs.Runs.{over}
 use Rattle.pix_el.specs.Planes.{by_fours}
 use Rattle.pix_el.specs.PixelComposite.{pixel_composite, matted_color, matted_composite}
 use Rattle.pix_el.proofs.MattePlanes.{over-mapped}
 use Rattle.pix_el.proofs.EightPixels.{over-replicate}
-use Rattle.pix_el.proofs.planes.eight.EightBlock.matted.Goals as goal
+use Rattle.pix_el.proofs.planes.pair.PairBlock.matted.Goals as goal
 
 pub returns : goal.returns
 returns g c =
@@ -15,11 +15,13 @@ returns g c =
     let made = pixel_composite layout g.O.Blend.op in
     let ds = map g.D.Stored.reads c.args.dst.now in
     let color = g.P.Pixel.numbers c.args.clr.now in
-    let values = c.eight_values.result in
+    let values = c.matte_values.result in
     let ms = map v values in
-    let colors : by_fours (map v c.covered-colors.result) ≡ map (λ (m : ℕ). f m color) ms = c.covered-colors.ensures ∙ ap (over f ms) c.eight_times.ensures
-    ∙ over-replicate f 8 ms color (omega (arith, length-map values v)) in
-    c.composite_eight.ensures
+    let covered = c.covered-a.result in
+    let colors : by_fours (map v covered.0) ++ by_fours (map v covered.1) ≡ map (λ (m : ℕ). f m color) ms = c.covered-a.ensures
+    ∙ ap (λ (l : List (List ℕ)). over f ms (l ++ l)) c.eight_times-color.ensures
+    ∙ over-replicate f 16 ms color (omega (arith, length-map values v)) in
+    c.composite_pair.ensures
     ∙ ap (λ (l : List (List ℕ)). over made l ds) colors
     ∙ over-mapped made (λ (m : ℕ). f m color) ms ds
-    ∙ ap (λ (l : List ℕ). over (λ m. matted_composite layout g.O.Blend.op m color) l ds) c.eight_values.ensures
+    ∙ ap (λ (l : List ℕ). over (λ m. matted_composite layout g.O.Blend.op m color) l ds) c.matte_values.ensures
