@@ -65,7 +65,8 @@ pub(super) fn composite_covered<
     requires src_size { length src.now ≡ 4 }
     requires whole { length mattes.now ≡ 4 }
     ensures { map D.reads dst.new ≡ over (λ t. matted_composite P.layout O.op t.0 t.1)
-        (zip (map (coverage_of P.Chan.max M.numbers) mattes.now) (map S.reads src.now)) (map D.reads dst.old) }
+        (zip (map (coverage_of P.Chan.max M.numbers) mattes.now) (map S.reads src.now))
+        (map D.reads dst.old) }
 {
     let (a, b) = (mattes[0].coverage(), mattes[1].coverage());
     let (c, d) = (mattes[2].coverage(), mattes[3].coverage());
@@ -89,7 +90,8 @@ pub(crate) fn covered_runs<O: Blend, P: Pixel, D: Stored<P>, S: Stored<P>, M: Co
     requires mattes_have { count ≤ length mattes.now }
     ensures some { result ≤ count }
     ensures composite { map D.reads dst.new ≡ over (λ t. matted_composite P.layout O.op t.0 t.1)
-        (take result (zip (map (coverage_of P.Chan.max M.numbers) mattes.now) (map S.reads src.now)))
+        (take result (zip (map (coverage_of P.Chan.max M.numbers) mattes.now)
+        (map S.reads src.now)))
         (map D.reads dst.old) }
 {
     if is_interleaved::<P>() {
