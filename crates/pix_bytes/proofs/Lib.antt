@@ -6,12 +6,9 @@ pub mod Parts
 pub mod Table
 pub mod Bitmaps
 pub mod RowConversions
-pub mod LaneProducts
-pub mod LaneTests
 pub mod LitFours
 pub mod Recolorings
 pub mod RecoloredRows
-pub mod Reciprocals16
 pub mod ConvertedPixels
 pub mod ConvertedAhead
 pub mod ShownFours

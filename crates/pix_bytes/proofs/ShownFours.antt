@@ -1,33 +1,23 @@
 -- Four pixels of light, in one vector and in bytes.
-use Rattle.std.proofs.Common.{◌≡◌, ℕ, zero, suc, ◌≤◌, ◌<◌, ◌+◌, ◌-◌, ◌*◌, ◌/◌, ◌%◌, ◌^◌, List, [], ◌∷◌, ◌++◌, length, map, get_or, slice_range, refl, sym, ap, ◌∙◌, arith, inl, inr, replicate, Fits, Bool, true, false, cond, ltb, leb, drop, min}
-use mir.Syntax.{w8, w16, w64}
-use mir.Val.{hbits, bits}
-use lib.Lanes.{zip2, Each1, chunk, number_l, digits_l, sel_l, top, pick_l}
+use Rattle.std.proofs.Common.{◌≡◌, ℕ, zero, suc, ◌<◌, ◌≤◌, ◌+◌, ◌*◌, ◌/◌, List, [], ◌∷◌, ◌++◌, length, map, get_or, slice_range, refl, sym, ap, ◌∙◌, arith, Fits, Bool, true, false}
+use mir.Syntax.{w8, w16}
+use lib.Lanes.{Each1, chunk, number_l, digits_l, pick_l}
 use Rattle.std.proofs.lemmas.Grind.{same_number_lists}
-use Rattle.std.proofs.lemmas.Bool.{cases_lt}
-use Rattle.std.proofs.lemmas.Bool.Decides.{nat_tests}
-use Rattle.std.proofs.lemmas.List.{length-map, map-id}
 use Rattle.std.proofs.lemmas.List.FromFn.{length-map-range_with_len, get_or-map-range_with_len}
-use Rattle.std.proofs.lemmas.Simd.{get_or_wider, get_or-chunk, length-chunk, tops_compared, zip2_of_maps, splat_is_map, map-map, below_from_Fits}
-use Rattle.std.proofs.Math.Nat.{mul-le-mul, div-add-mod', mod-lt}
-use Rattle.std.proofs.lemmas.Nat.{mul-le}
+use Rattle.std.proofs.lemmas.Simd.{get_or_wider, get_or-chunk, length-chunk, below_from_Fits}
 use Rattle.pix_chan.specs.Product.{channel_quotient}
 use Rattle.pix_chan.specs.Srgb16.{srgb_encoded8}
-use Rattle.pix_chan.proofs.Lanes.{add, mul, shr, pairs, firsts, seconds, length-pairs, map_pairs}
 use Rattle.pix_chan.proofs.Planes.{cons}
 use Rattle.pix_chan.proofs.Srgb16.{curve}
-use Rattle.pix_bytes.specs.Shown.{shown, reciprocal_of, parts, shown_bytes}
+use Rattle.pix_bytes.specs.Shown.{shown, shown_bytes}
 use Rattle.pix_chan.specs.Modes.{Straight, Premultiplied}
 use Rattle.pix_el.specs.Conversion.{at_depth}
 use Rattle.pix_el.specs.Model.{Rgb, Bgr}
 use Rattle.pix_el.specs.Pixel.{channel}
 use Rattle.pix_bytes.specs.Bitmap.{out_of_light}
 use Rattle.pix_bytes.specs.BitmapFormats.{sample_at, samples, padded, format_with}
-use Rattle.pix_bytes.specs.declared.bitmap.quotient.TheConstants.{RECIPROCALS}
 use Rattle.pix_bytes.specs.Rows.{IsEach}
 use Rattle.pix_bytes.proofs.Parts.{range_at}
-use Rattle.pix_bytes.proofs.LaneProducts.{one_if, ones, zeros, chosen}
-use Rattle.pix_bytes.proofs.Reciprocals16.{entry_is, entry_fits, by_byte, cut, quotient_is}
 
 -- ---- bytes as channels
 two_of : (xs : List ℕ) (i : ℕ) → i + 2 ≤ length xs → chunk i 2 xs ≡ get_or xs i 0 ∷ get_or xs (i + 1) 0 ∷ []
@@ -56,244 +46,13 @@ channels_are bytes n long fits =
     sum_of : (x y : ℕ) → x + 256 * (y + 256 * 0) ≡ x + 256 * y
     sum_of x y = omega arith
 
--- ---- numbers in four parts
-bytes_again : (n x : ℕ) → x < 256 ^ n → number_l 256 (digits_l 256 n x) ≡ x
-bytes_again zero x h = omega (arith, h)
-bytes_again (suc n) x h =
-    let k : ℕ = 256 ^ n in
-    let p : 256 ^ suc n ≡ 256 * k = grind arith in
-    let whole : x % 256 + 256 * (x / 256) ≡ x = omega arith in
-    ap (λ (r : ℕ). x % 256 + 256 * r) (bytes_again n (x / 256) (omega (arith, h, p))) ∙ whole
-
-four_below : (a b c d : ℕ) → a < 2 ^ 64 → b < 2 ^ 64 → c < 2 ^ 64 → d < 2 ^ 64 → number_l (2 ^ 64) (a ∷ b ∷ c ∷ d ∷ []) < 256 ^ 32
-four_below a b c d ha hb hc hd = omega (arith, ha, hb, hc, hd)
-
-pub words_again : (ws : List ℕ) → length ws ≡ 4 → Each1 (Fits w64) ws → number_l 256 (digits_l 256 32 (number_l (2 ^ 64) ws)) ≡ number_l (2 ^ 64) ws
-words_again [] l f = absurd (omega (arith, l))
-words_again (a ∷ []) l f = absurd (omega (arith, l))
-words_again (a ∷ b ∷ []) l f = absurd (omega (arith, l))
-words_again (a ∷ b ∷ c ∷ []) l f = absurd (omega (arith, l))
-words_again (a ∷ b ∷ c ∷ d ∷ []) l f =
-    bytes_again 32 (number_l (2 ^ 64) (a ∷ b ∷ c ∷ d ∷ [])) (four_below a b c d f.0.fits f.1.0.fits f.1.1.0.fits f.1.1.1.0.fits)
-words_again (a ∷ b ∷ c ∷ d ∷ e ∷ ws) l f = absurd (omega (arith, l))
-
-first_part : (x r : ℕ) → (x + 2 ^ 64 * r) % 65536 ≡ x % 65536
-first_part x r = omega arith
-
-second_part : (x r : ℕ) → (x + 2 ^ 64 * r) / 65536 % 65536 ≡ x / 65536 % 65536
-second_part x r = omega arith
-
-third_part : (x r : ℕ) → (x + 2 ^ 64 * r) / 65536 / 65536 % 65536 ≡ x / 65536 / 65536 % 65536
-third_part x r = omega arith
-
-last_part : (x r : ℕ) → (x + 2 ^ 64 * r) / 65536 / 65536 / 65536 % 65536 ≡ x / 65536 / 65536 / 65536 % 65536
-last_part x r = omega arith
-
-other_parts : (x r : ℕ) → x < 2 ^ 64 → (x + 2 ^ 64 * r) / 65536 / 65536 / 65536 / 65536 ≡ r
-other_parts x r h = omega (arith, h)
-
-parts_of : (n x r : ℕ) (xs : List ℕ) → x < 2 ^ 64 → digits_l 65536 n r ≡ xs → digits_l 65536 (suc (suc (suc (suc n)))) (x + 2 ^ 64 * r) ≡ parts x ++ xs
-parts_of n x r xs h e =
-    cons (first_part x r) (cons (second_part x r) (cons (third_part x r) (cons (last_part x r) (ap (digits_l 65536 n) (other_parts x r h) ∙ e))))
-
-pub parts_are : (a b c d : ℕ) → a < 2 ^ 64 → b < 2 ^ 64 → c < 2 ^ 64 → d < 2 ^ 64
-    → digits_l 65536 16 (number_l (2 ^ 64) (a ∷ b ∷ c ∷ d ∷ [])) ≡ parts a ++ (parts b ++ (parts c ++ parts d))
-parts_are a b c d ha hb hc hd =
-    parts_of 12 a (number_l (2 ^ 64) (b ∷ c ∷ d ∷ [])) _ ha (parts_of 8 b (number_l (2 ^ 64) (c ∷ d ∷ [])) _ hb (parts_of 4 c (number_l (2 ^ 64) (d ∷ [])) _ hc (parts_of 0 d 0 [] hd refl)))
-
--- ---- products with numbers of three parts
-carried : (p q r z : ℕ) → p < 2 ^ 32 → q < 2 ^ 32 → z ≡ p + 65536 * q + 2 ^ 32 * r
-    → let lower = q % 2 ^ 16 in let sum = (lower + p / 65536) % 2 ^ 16 in
-    ((r % 2 ^ 16 + q / 65536) % 2 ^ 16 + one_if (ltb sum lower)) % 2 ^ 16 ≡ z / 2 ^ 32 % 65536
-carried p q r z hp hq e =
-    let lower : ℕ = q % 2 ^ 16 in
-    let sum : ℕ = (lower + p / 65536) % 2 ^ 16 in
-    elim (cases_lt sum lower) [
-      | inl lt ↦
-          let c : one_if (ltb sum lower) ≡ 1 = grind (arith, nat_tests, lt) in
-          rw c (omega (arith, hp, hq, e, lt))
-      | inr past ↦
-          let c : one_if (ltb sum lower) ≡ 0 = grind (arith, nat_tests, past) in
-          rw c (omega (arith, hp, hq, e, past))
-    ]
-
-small : (x y : ℕ) → x < 65536 → y < 65536 → x * y < 2 ^ 32
-small x y a b = let k : x * y ≤ 65535 * 65535 = mul-le-mul {n₁ = x} {m₁ = y} {n₂ = 65535} {m₂ = 65535} (omega arith) (omega arith) in omega arith
-
-split : (x u v w : ℕ) → x * (u + 65536 * v + 2 ^ 32 * w) ≡ x * u + 65536 * (x * v) + 2 ^ 32 * (x * w)
-split x u v w = grind arith
-
-abbrev pub scaled_lane : ℕ → ℕ → ℕ
-scaled_lane x y =
-    let lower = x * (y / 65536 % 65536) % 2 ^ 16 in
-    ((x * (y / 65536 / 65536 % 65536) % 2 ^ 16 + x * (y / 65536 % 65536) / 65536) % 2 ^ 16 + one_if (ltb ((lower + x * (y % 65536) / 65536) % 2 ^ 16) lower)) % 2 ^ 16
-
-scaled_is : (x y : ℕ) → x < 65536 → y < 2 ^ 48 → scaled_lane x y ≡ x * y / 2 ^ 32 % 65536
-scaled_is x y hx hy =
-    let u : ℕ = y % 65536 in
-    let v : ℕ = y / 65536 % 65536 in
-    let w : ℕ = y / 65536 / 65536 % 65536 in
-    let whole : y ≡ u + 65536 * v + 2 ^ 32 * w = omega (arith, hy) in
-    let z : x * y ≡ x * u + 65536 * (x * v) + 2 ^ 32 * (x * w) = ap (λ (n : ℕ). x * n) whole ∙ split x u v w in
-    carried (x * u) (x * v) (x * w) (x * y) (small x u hx (omega arith)) (small x v hx (omega arith)) z
-
-module _ (xs ys : List ℕ) (lx : length xs ≡ 16) (ly : length ys ≡ 16) where
-  abbrev low : List ℕ
-  low = map (λ y. y % 65536) ys
-
-  abbrev middle : List ℕ
-  middle = map (λ y. y / 65536 % 65536) ys
-
-  abbrev high : List ℕ
-  high = map (λ y. y / 65536 / 65536 % 65536) ys
-
-  abbrev lowers : List ℕ
-  lowers = zip2 (mul (2 ^ 16)) xs middle
-
-  abbrev sums : List ℕ
-  sums = zip2 (add (2 ^ 16)) lowers (zip2 (λ x y. x * y / 65536) xs low)
-
-  abbrev carries : List ℕ
-  carries = sel_l (map (top (hbits w16)) (zip2 (λ x y. cond (ltb x y) (2 ^ bits w16 - 1) 0) sums lowers)) (ones 16) (zeros 16)
-
-  part_is : (f : ℕ → ℕ) → map f ys ≡ map (λ v. f v.1) (pairs xs ys)
-  part_is f = ap (map f) (seconds xs ys (lx ∙ sym ly)) ∙ map-map f (λ (v : ℕ × ℕ). v.1) (pairs xs ys)
-
-  lane : xs ≡ map (λ v. v.0) (pairs xs ys)
-  lane = firsts xs ys (lx ∙ sym ly)
-
-  lowers_are : lowers ≡ map (λ v. v.0 * (v.1 / 65536 % 65536) % 2 ^ 16) (pairs xs ys)
-  lowers_are = zip2_of_maps (mul (2 ^ 16)) _ _ (pairs xs ys) lane (part_is (λ y. y / 65536 % 65536))
-
-  sums_are : sums ≡ map (λ v. (v.0 * (v.1 / 65536 % 65536) % 2 ^ 16 + v.0 * (v.1 % 65536) / 65536) % 2 ^ 16) (pairs xs ys)
-  sums_are = zip2_of_maps (add (2 ^ 16)) _ _ (pairs xs ys) lowers_are (zip2_of_maps (λ x y. x * y / 65536) _ _ (pairs xs ys) lane (part_is (λ y. y % 65536)))
-
-  carries_are : carries ≡ map (λ v. one_if (ltb ((v.0 * (v.1 / 65536 % 65536) % 2 ^ 16 + v.0 * (v.1 % 65536) / 65536) % 2 ^ 16) (v.0 * (v.1 / 65536 % 65536) % 2 ^ 16))) (pairs xs ys)
-  carries_are =
-      ap (λ ms. sel_l ms (ones 16) (zeros 16)) (tops_compared w16 ltb sums lowers)
-      ∙ chosen ltb 16 sums lowers (ap length sums_are ∙ length-map (pairs xs ys) (λ (v : ℕ × ℕ). (v.0 * (v.1 / 65536 % 65536) % 2 ^ 16 + v.0 * (v.1 % 65536) / 65536) % 2 ^ 16) ∙ length-pairs xs ys 16 lx ly)
-      ∙ zip2_of_maps (λ x y. one_if (ltb x y)) _ _ (pairs xs ys) sums_are lowers_are
-
-  pub scaled_are : Each1 (Fits w16) xs → Each1 (λ y. y < 2 ^ 48) ys
-      → zip2 (add (2 ^ 16)) (zip2 (add (2 ^ 16)) (zip2 (mul (2 ^ 16)) xs high) (zip2 (λ x y. x * y / 65536) xs middle)) carries ≡ zip2 (λ x y. x * y / 2 ^ 32 % 65536) xs ys
-  scaled_are fx fy =
-      let tops = zip2_of_maps (mul (2 ^ 16)) _ _ (pairs xs ys) lane (part_is (λ y. y / 65536 / 65536 % 65536)) in
-      let whole = zip2_of_maps (add (2 ^ 16)) _ _ (pairs xs ys) tops (zip2_of_maps (λ x y. x * y / 65536) _ _ (pairs xs ys) lane (part_is (λ y. y / 65536 % 65536))) in
-      zip2_of_maps (add (2 ^ 16)) _ _ (pairs xs ys) whole carries_are
-      ∙ map_pairs (Fits w16) (λ y. y < 2 ^ 48) (λ v. scaled_lane v.0 v.1) (λ x y. x * y / 2 ^ 32 % 65536) (λ i j u k. scaled_is i j u.fits k) xs ys (lx ∙ sym ly) fx fy
-
--- ---- quotients
-abbrev pub minus : ℕ → ℕ
-minus a = (a + 65535) % 65536
-
-at_least : (x a : ℕ) → 0 < a → a ≤ x → 65535 ≡ min (65536 * x / a) 65535
-at_least x a some le =
-    let n : ℕ = 65536 * x in
-    let whole : n ≡ n / a * a + n % a = sym (div-add-mod' n a) in
-    let rest : n % a < a = mod-lt n (omega (arith, some)) in
-    elim (cases_lt (n / a) 65536) [
-      | inl less ↦
-          let most : n / a * a ≤ 65535 * a = mul-le (n / a) a 65535 a (omega (arith, less)) (omega arith) in
-          absurd (omega (arith, whole, rest, most, le))
-      | inr past ↦ omega (arith, past)
-    ]
-
-less_than : (x a : ℕ) → 0 < a → x < a → x * 65536 / a < 65536
-less_than x a some lt =
-    let n : ℕ = x * 65536 in
-    let whole : n ≡ n / a * a + n % a = sym (div-add-mod' n a) in
-    elim (cases_lt (n / a) 65536) [
-      | inl less ↦ less
-      | inr past ↦
-          let least : 65536 * a ≤ n / a * a = mul-le 65536 a (n / a) a past (omega arith) in
-          absurd (omega (arith, whole, least, lt))
-    ]
-
-none : (x r : ℕ) → r ≡ 0 → x * r / 4294967296 ≡ 0
-none x r e = rw e (let z : x * 0 / 4294967296 ≡ 0 = omega arith in z)
-
-fits_below : (x b : ℕ) → x < 65536 → b < 256 → x ≤ minus (257 * b) → x * get_or RECIPROCALS b 0 / 4294967296 < 65536
-fits_below x zero hx hb le = let e = none x (get_or RECIPROCALS 0 0) refl in omega (arith, e)
-fits_below x (suc b) hx hb le =
-    let d : ℕ = 257 * suc b in
-    let e = ap (λ (r : ℕ). x * r / 4294967296) (entry_is (suc b) (omega arith) hb) ∙ by_byte x (suc b) hx (omega arith) hb in
-    let less = less_than x d (omega arith) (omega (arith, le, hb)) in
-    omega (arith, e, less)
-
-divided_lane : (x a : ℕ) → x < 65536 → a ≡ 257 * (a % 256) → cond (leb x (minus a)) (x * reciprocal_of a / 2 ^ 32 % 65536) 65535 ≡ channel_quotient 65535 x a
-divided_lane x a hx e =
-    let b : ℕ = a % 256 in
-    let hb : b < 256 = omega arith in
-    let r : ℕ = reciprocal_of a in
-    let v : ℕ = x * r / 4294967296 in
-    let is : min v 65535 ≡ channel_quotient 65535 x a = quotient_is x b r hx hb refl ∙ ap (channel_quotient 65535 x) (sym e) in
-    elim (cases_lt (minus a) x) [
-      | inl more ↦
-          let t : cond (leb x (minus a)) (v % 65536) 65535 ≡ 65535 = grind (arith, nat_tests, more) in
-          t ∙ at_least x a (omega (arith, more, hx)) (omega (arith, more, hx, hb, e)) ∙ cut x a (omega (arith, more, hx))
-      | inr le ↦
-          let fits : v < 65536 = fits_below x b hx hb (let same : minus (257 * b) ≡ minus a = ap minus (sym e) in omega (arith, le, same)) in
-          let t : cond (leb x (minus a)) (v % 65536) 65535 ≡ v % 65536 = grind (arith, nat_tests, le) in
-          t ∙ (let m : v % 65536 ≡ min v 65535 = omega (arith, fits) in m) ∙ is
-    ]
-
-divided_all : (n : ℕ) (xs bs : List ℕ) → length xs ≡ n → Each1 (Fits w16) xs → Each1 (λ a. a ≡ 257 * (a % 256)) bs
-    → sel_l (zip2 leb xs (map minus bs)) (zip2 (λ x y. x * y / 2 ^ 32 % 65536) xs (map reciprocal_of bs)) (replicate n 65535) ≡ zip2 (channel_quotient 65535) xs bs
-divided_all zero [] bs l f r = refl
-divided_all zero (x ∷ xs) bs l f r = absurd (omega (arith, l))
-divided_all (suc n) [] bs l f r = absurd (omega (arith, l))
-divided_all (suc n) (x ∷ xs) [] l f r = refl
-divided_all (suc n) (x ∷ xs) (a ∷ bs) l f r = cons (divided_lane x a f.0.fits r.0) (divided_all n xs bs (omega (arith, l)) f.1 r.1)
-
-pub divided_are : (xs bs qs : List ℕ) → length xs ≡ 16 → Each1 (Fits w16) xs → Each1 (λ a. a ≡ 257 * (a % 256)) bs → qs ≡ zip2 (λ x y. x * y / 2 ^ 32 % 65536) xs (map reciprocal_of bs)
-    → sel_l (map (top (hbits w16)) (zip2 (λ x y. cond (leb x y) (2 ^ bits w16 - 1) 0) xs (map minus bs))) qs (replicate 16 65535) ≡ zip2 (channel_quotient 65535) xs bs
-divided_are xs bs qs l f r e =
-    ap (λ ms. sel_l ms qs (replicate 16 65535)) (tops_compared w16 leb xs (map minus bs))
-    ∙ ap (λ (q : List ℕ). sel_l (zip2 leb xs (map minus bs)) q (replicate 16 65535)) e
-    ∙ divided_all 16 xs bs l f r
-
--- ---- channels in bytes fit, and those of opaque pixels stay
+-- ---- channels in bytes fit
 pub samples_fit : (bytes ks : List ℕ) → ((i : ℕ) → Fits w8 (get_or bytes i 0)) → Each1 (Fits w16) (map (sample_at 65535 bytes) ks)
 samples_fit bytes [] f = tt
 samples_fit bytes (k ∷ ks) f =
     let a : get_or bytes (2 * k) 0 < 256 = (f (2 * k)).fits in
     let b : get_or bytes (2 * k + 1) 0 < 256 = (f (2 * k + 1)).fits in
     (record { fits = omega (arith, a, b) }, samples_fit bytes ks f)
-
-whole_lane : (x : ℕ) → x < 65536 → x ≡ channel_quotient 65535 x 65535
-whole_lane x h = omega (arith, h)
-
-pub opaque_are : (n : ℕ) (xs : List ℕ) → length xs ≡ n → Each1 (Fits w16) xs → xs ≡ zip2 (channel_quotient 65535) xs (replicate n 65535)
-opaque_are zero [] l f = refl
-opaque_are zero (x ∷ xs) l f = absurd (omega (arith, l))
-opaque_are (suc n) [] l f = absurd (omega (arith, l))
-opaque_are (suc n) (x ∷ xs) l f = cons (whole_lane x f.0.fits) (opaque_are n xs (omega (arith, l)) f.1)
-
-pub reciprocals_fit : (bs : List ℕ) → Each1 (λ y. y < 2 ^ 48) (map reciprocal_of bs)
-reciprocals_fit [] = tt
-reciprocals_fit (a ∷ bs) =
-    let fits = entry_fits (a % 256) (omega arith) in
-    (omega (arith, fits), reciprocals_fit bs)
-
--- ---- alphas that come from eight bits
-abbrev beside : ℕ → ℕ
-beside a = (a + (65536 - a / 2 ^ 8 * 257 % 2 ^ 16)) % 65536
-
-pub beside_are : (xs : List ℕ) → length xs ≡ 16
-    → zip2 (λ x y. (x + (65536 - y)) % 65536) xs (zip2 (mul (2 ^ 16)) (zip2 shr xs (replicate 16 8)) (replicate 16 257)) ≡ map beside xs
-beside_are xs l =
-    let lane = sym (map-id xs) in
-    let uppers = zip2_of_maps shr _ _ xs lane (splat_is_map xs 16 8 l) in
-    zip2_of_maps (λ x y. (x + (65536 - y)) % 65536) _ _ xs lane (zip2_of_maps (mul (2 ^ 16)) _ _ xs uppers (splat_is_map xs 16 257 l))
-
-repeated_lane : (a : ℕ) → a < 65536 → beside a ≡ 0 → a ≡ 257 * (a % 256)
-repeated_lane a h e = omega (arith, h, e)
-
-pub each_repeated : (n : ℕ) (xs : List ℕ) → Each1 (Fits w16) xs → map beside xs ≡ replicate n 0 → Each1 (λ a. a ≡ 257 * (a % 256)) xs
-each_repeated n [] f e = tt
-each_repeated zero (x ∷ xs) f e = absurd (let l = ap length e in omega (arith, l))
-each_repeated (suc n) (x ∷ xs) f e =
-    (repeated_lane x f.0.fits (ap (λ (l : List ℕ). get_or l 0 0) e), each_repeated n xs f.1 (ap (drop 1) e))
 
 -- ---- levels and alphas fit eight bits
 levels_fit : (xs : List ℕ) → Each1 (Fits w16) xs → Each1 (Fits w8) (map srgb_encoded8 xs)

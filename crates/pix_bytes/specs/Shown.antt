@@ -1,13 +1,13 @@
 -- Four pixels of light of three colors and an alpha as sRGB, by their bytes. No clause of a public
 -- call cites this file.
-use Rattle.std.specs.Prelude.{ℕ, ◌+◌, ◌*◌, ◌/◌, ◌%◌, List, [], ◌∷◌, ◌++◌, map, slice_index_or, Bool, if◌then◌else◌}
+use Rattle.std.specs.Prelude.{ℕ, ◌+◌, ◌*◌, ◌/◌, ◌%◌, List, [], ◌∷◌, ◌++◌, map, Bool, if◌then◌else◌}
 use Rattle.std.specs.Simd.Lanes.{zip2, pick_l}
 use Rattle.pix_chan.specs.Product.{channel_quotient}
+use Rattle.pix_chan.specs.LaneQuotients.{for_each_channel}
 use Rattle.pix_chan.specs.Srgb16.{srgb_encoded8}
 use Rattle.pix_el.specs.Pixel.{channel}
 use Rattle.pix_bytes.specs.Lit.{first_place, last_place}
 use Rattle.pix_bytes.specs.BitmapFormats.{sample_at, samples}
-use Rattle.pix_bytes.specs.declared.bitmap.quotient.TheConstants.{RECIPROCALS}
 
 -- a pixel as sRGB: each color is divided by the alpha and encoded, and the alpha keeps its upper
 -- eight bits
@@ -23,10 +23,6 @@ shown is_reversed pixel =
 abbrev pub light_alpha : List ℕ → ℕ → ℕ
 light_alpha bytes number = sample_at 65535 bytes (4 * number + 3)
 
--- four numbers, each once for each channel of its pixel
-abbrev pub for_each_channel : ℕ → ℕ → ℕ → ℕ → List ℕ
-for_each_channel a b c d = a ∷ a ∷ a ∷ a ∷ b ∷ b ∷ b ∷ b ∷ c ∷ c ∷ c ∷ c ∷ d ∷ d ∷ d ∷ d ∷ []
-
 -- the alphas of four pixels, each once for each channel of its pixel
 abbrev pub light_alphas : List ℕ → List ℕ
 light_alphas bytes = for_each_channel (light_alpha bytes 0) (light_alpha bytes 1) (light_alpha bytes 2) (light_alpha bytes 3)
@@ -34,14 +30,6 @@ light_alphas bytes = for_each_channel (light_alpha bytes 0) (light_alpha bytes 1
 -- the channels of four pixels divided by the alphas
 abbrev pub straight_light : List ℕ → List ℕ
 straight_light bytes = zip2 (channel_quotient 65535) (samples 65535 16 bytes) (light_alphas bytes)
-
--- the reciprocal of an alpha that comes from eight bits
-abbrev pub reciprocal_of : ℕ → ℕ
-reciprocal_of alpha = slice_index_or RECIPROCALS (alpha % 256) 0
-
--- a number in four parts of sixteen bits, the lowest first
-abbrev pub parts : ℕ → List ℕ
-parts x = x % 65536 ∷ x / 65536 % 65536 ∷ x / 65536 / 65536 % 65536 ∷ x / 65536 / 65536 / 65536 % 65536 ∷ []
 
 -- in four pixels' levels, followed by their upper bytes, the places of three levels and an alpha of
 -- each pixel

@@ -15,7 +15,6 @@ mod fours;
 mod levels;
 mod model;
 mod pixel_conversion;
-mod quotient;
 mod recoloring;
 pub(crate) mod row_conversion;
 mod rows;

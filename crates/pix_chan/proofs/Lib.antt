@@ -13,6 +13,9 @@ pub mod Words
 pub mod ByTable
 pub mod Quotient
 pub mod Reciprocals16
+pub mod LaneProducts
+pub mod LaneTests
+pub mod LaneQuotients
 pub mod Entries
 pub mod SrgbTables
 pub mod SrgbOnce

@@ -87,12 +87,49 @@ scaled m = omega arith
 raised : (c k : ℕ) → c * 65536 * k ≡ 65536 * (c * k)
 raised c k = grind arith
 
+-- the quotient of a channel and any alpha
+pub by_alpha : (c d : ℕ) → c < 65536 → 0 < d → d < 65536 → c * (whole / d + 1) / 4294967296 ≡ c * 65536 / d
+by_alpha c d hc some hd =
+    let k : ℕ = whole / d + 1 in
+    sym (scaled (c * k)) ∙ ap (λ (n : ℕ). n / whole) (sym (raised c k)) ∙ by_reciprocal (c * 65536) d (omega (arith, hc)) some hd
+
 -- the quotient of a channel and an alpha of eight bits
 pub by_byte : (c b : ℕ) → c < 65536 → 0 < b → b < 256 → c * (whole / (257 * b) + 1) / 4294967296 ≡ c * 65536 / (257 * b)
-by_byte c b hc some hb =
-    let d : ℕ = 257 * b in
-    let k : ℕ = whole / d + 1 in
-    sym (scaled (c * k)) ∙ ap (λ (n : ℕ). n / whole) (sym (raised c k)) ∙ by_reciprocal (c * 65536) d (omega (arith, hc)) (omega (arith, some)) (omega (arith, hb))
+by_byte c b hc some hb = by_alpha c (257 * b) hc (omega (arith, some)) (omega (arith, hb))
+
+-- a reciprocal of 48 bits by two divisions of 32 bits
+in_two : (d : ℕ) → 0 < d → 4294967295 / d * 65536 + (4294967295 % d + 1) * 65536 / d ≡ whole / d
+in_two d some =
+    let u : ℕ = 4294967295 / d in
+    let n : ℕ = (4294967295 % d + 1) * 65536 in
+    let v : ℕ = n / d in
+    let s : ℕ = n % d in
+    let upper : 4294967295 ≡ u * d + 4294967295 % d = sym (div-add-mod' 4294967295 d) in
+    let lower : n ≡ v * d + s = sym (div-add-mod' n d) in
+    let rest : s < d = mod-lt n (omega (arith, some)) in
+    let by_d : (u * 65536 + v) * d + s ≡ u * d * 65536 + v * d + s = grind arith in
+    let all : whole ≡ (u * 65536 + v) * d + s = omega (arith, upper, lower, by_d) in
+    sym (ap (λ (n : ℕ). n / d) all ∙ div-mul-add (u * 65536 + v) d s rest)
+
+-- the same in numbers of 32 and of 64 bits
+pub in_words : (d u l : ℕ) → 0 < d → d < 65536 → u ≡ 4294967295 / d → l ≡ (4294967295 % d + 1) * 65536 % 4294967296 / d
+    → u * 65536 % 18446744073709551616 + l + 1 ≡ whole / d + 1
+in_words d u l some hd eu el =
+    let all : 4294967295 ≡ 4294967295 / d * d + 4294967295 % d = sym (div-add-mod' 4294967295 d) in
+    let rest : 4294967295 % d < d = mod-lt 4294967295 (omega (arith, some)) in
+    let least : 4294967295 / d * 1 ≤ 4294967295 / d * d = mul-le (4294967295 / d) 1 (4294967295 / d) d (omega arith) some in
+    let upper : u * 65536 % 18446744073709551616 ≡ 4294967295 / d * 65536 = omega (arith, eu, all, least) in
+    let fits : (4294967295 % d + 1) * 65536 % 4294967296 ≡ (4294967295 % d + 1) * 65536 = omega (arith, rest, hd) in
+    let lower : l ≡ (4294967295 % d + 1) * 65536 / d = el ∙ ap (λ (n : ℕ). n / d) fits in
+    rw (upper, lower) (ap (λ (n : ℕ). n + 1) (in_two d some))
+
+-- that of two or more fits in 48 bits
+pub reciprocal_fits : (d : ℕ) → 1 < d → whole / d + 1 < whole
+reciprocal_fits d some =
+    let k : ℕ = whole / d in
+    let all : whole ≡ k * d + whole % d = sym (div-add-mod' whole d) in
+    let twice : k * 2 ≤ k * d = mul-le k 2 k d (omega arith) (omega (arith, some)) in
+    omega (arith, all, twice)
 
 pub cut : (x y : ℕ) → 0 < y → min (65536 * x / y) 65535 ≡ channel_quotient 65535 x y
 cut x zero some = absurd (omega (arith, some))

@@ -13,6 +13,7 @@ pub mod Modes
 pub mod Runs
 pub mod Planes
 pub mod Lanes
+pub mod LaneQuotients
 pub mod ProductLaws
 pub mod QuotientLaws
 pub mod DepthLaws

@@ -22,3 +22,16 @@ last_of_four (w ∷ []) = []
 last_of_four (w ∷ x ∷ []) = []
 last_of_four (w ∷ x ∷ y ∷ []) = []
 last_of_four (w ∷ x ∷ y ∷ z ∷ r) = z ∷ z ∷ z ∷ z ∷ last_of_four r
+
+-- of pixels of four channels, pixel by pixel: the colors of the first list and the alphas of the
+-- second one
+abbrev pub with_alphas : {A : Type 0} → List A → List A → List A
+with_alphas [] xs = []
+with_alphas (s ∷ []) xs = []
+with_alphas (s ∷ t ∷ []) xs = []
+with_alphas (s ∷ t ∷ u ∷ []) xs = []
+with_alphas (s ∷ t ∷ u ∷ v ∷ r) [] = []
+with_alphas (s ∷ t ∷ u ∷ v ∷ r) (w ∷ []) = []
+with_alphas (s ∷ t ∷ u ∷ v ∷ r) (w ∷ x ∷ []) = []
+with_alphas (s ∷ t ∷ u ∷ v ∷ r) (w ∷ x ∷ y ∷ []) = []
+with_alphas (s ∷ t ∷ u ∷ v ∷ r) (w ∷ x ∷ y ∷ z ∷ q) = s ∷ t ∷ u ∷ z ∷ with_alphas r q

@@ -1,6 +1,7 @@
 //! Channels: whole numbers of units from 0 to the maximum of their width.
 ghost use Rattle.std.specs.Prelude.{◌≡◌, ℕ, ◌+◌, ◌-◌, ◌*◌, ◌^◌, ◌<◌, ◌≤◌, nat_eq, pos, ◌+ℤ◌, ◌*ℤ◌, ◌<ℤ◌, map, ◌++◌};
 ghost use Rattle.std.specs.Ordering.{nat_cmp};
+ghost use Rattle.std.specs.Simd.Lanes.{zip2};
 ghost use prog.Memory.{size};
 ghost use denote.Memory.{lone};
 ghost use Rattle.pix_chan.specs.Number.{saturating_sum, saturating_difference, wrapping_sum, wrapping_difference};
@@ -12,7 +13,7 @@ ghost use Rattle.pix_chan.specs.Laws.{ChannelLaws};
 ghost use Rattle.pix_chan.specs.Channel.{IsNumbered, IsTotal, Answers};
 ghost use Rattle.pix_chan.specs.Runs.{over};
 ghost use Rattle.pix_chan.specs.Seal.{Seal};
-ghost use Rattle.pix_chan.specs.Planes.{in_turn, both_in_turn, last_of_four};
+ghost use Rattle.pix_chan.specs.Planes.{in_turn, both_in_turn, last_of_four, with_alphas};
 
 use std::fmt::Debug;
 use std::ops::{Add, Div, Mul, Sub};
@@ -197,6 +198,13 @@ pub trait Channel: Copy
     #[doc(hidden)]
     fn alphas4(pixels: [Self; 16]) -> [Self; 16]
         ensures { map number result ≡ last_of_four (map number pixels) };
+
+    /// Returns four pixels of four channels, each color divided by the alpha, the last channel.
+    #[doc(hidden)]
+    fn unmultiplied4(pixels: [Self; 16]) -> [Self; 16]
+        ensures { map number result ≡ with_alphas
+            (zip2 (channel_quotient max) (map number pixels) (last_of_four (map number pixels)))
+            (map number pixels) };
 
     /// Returns, for eight pixels of four channels, at each index the last channel of its pixel.
     #[doc(hidden)]

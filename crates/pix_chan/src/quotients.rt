@@ -4,6 +4,8 @@ ghost use Rattle.std.specs.Prelude.{◌≡◌, ◌<◌, ◌^◌, slice_index_or}
 ghost use Rattle.pix_chan.specs.Product.{channel_quotient};
 ghost use Rattle.pix_chan.specs.declared.quotients.TheConstants.{RECIPROCALS};
 
+pub mod lanes;
+
 /// 2^48 / 257 `b` rounded down, plus one, for each number `b` of eight bits. For 0 it is 0.
 ///
 /// A channel that comes from eight bits is 257 times its number there.

@@ -1,5 +1,6 @@
 //! Quotients by numbers of eight bits, computed with a multiplication.
 ghost use Rattle.std.specs.Prelude.{◌≡◌, ◌+◌, ◌/◌, ◌<◌, ◌≤◌, ◌^◌};
+ghost use Rattle.pix_chan.specs.Product.{channel_quotient};
 
 /// 2^25 / `d` rounded down, plus one, for each number `d` of eight bits. A quotient by 0 counts as
 /// 0 here.
@@ -46,4 +47,13 @@ pub fn quotient_by_byte(n: u64, d: u64) -> u64
     ensures { result ≡ n / d }
 {
     (n * reciprocal(d)) >> 25
+}
+
+/// Returns the channel quotient of two numbers of 8 bits.
+#[inline(always)]
+pub(crate) fn quotient(x: u8, y: u8) -> u8
+    ensures { result ≡ channel_quotient 255 x y }
+{
+    let ratio = quotient_by_byte(u64::from(x) << 8, u64::from(y));
+    ratio.min(255) as u8
 }

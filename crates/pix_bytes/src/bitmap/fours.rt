@@ -12,16 +12,8 @@ ghost use Rattle.pix_bytes.specs.Lit.{four_alphas, bytes_of};
 ghost use Rattle.pix_bytes.specs.Rows.{IsEach};
 
 use pix_chan::chan::Ch8;
+use pix_chan::quotients::lanes::high_products;
 use std::simd::prelude::*;
-
-/// Returns the upper halves of the products of the lanes.
-#[inline(always)]
-pub(super) fn high_products(x: u16x16, y: u16x16) -> u16x16
-    ensures { result ≡ zip2 (λ x y. x * y / 65536) x y }
-{
-    let whole = x.cast::<u32>() * y.cast::<u32>();
-    (whole >> u32x16::splat(16)).cast::<u16>()
-}
 
 /// Returns the channel products of the lanes.
 ///

@@ -2,14 +2,16 @@
 //!
 //! `bits8.rt` is the twin of this file. A change here belongs there too.
 ghost use Rattle.std.specs.Prelude.{◌≡◌, ◌+◌, ◌-◌, ◌*◌, ◌/◌, ◌<◌, ◌++◌, map};
+ghost use Rattle.std.specs.Simd.Lanes.{zip2};
 ghost use Rattle.pix_chan.specs.Number.{saturating_sum, saturating_difference};
 ghost use Rattle.pix_chan.specs.Product.{channel_product, channel_quotient};
 ghost use Rattle.pix_chan.specs.Channel.{AnswersFrom};
 ghost use Rattle.pix_chan.specs.Depth.{to_16_bit, from_16_bit};
-ghost use Rattle.pix_chan.specs.Planes.{in_turn, both_in_turn, last_of_four};
+ghost use Rattle.pix_chan.specs.Planes.{in_turn, both_in_turn, last_of_four, with_alphas};
 ghost use Rattle.pix_chan.specs.Seal.{seal};
 
 use crate::chan::{Ch8, Channel, whole};
+use crate::quotients::lanes::unmultiplied;
 use crate::quotients::quotient;
 use std::ops::{Add, Div, Mul, Sub};
 
@@ -289,6 +291,15 @@ impl Channel for Ch16 {
         ensures { map (λ x. x.value) result ≡ last_of_four (map (λ x. x.value) pixels) }
     {
         lanes::channels(lanes::spread(lanes::units(&pixels)))
+    }
+
+    #[inline(always)]
+    fn unmultiplied4(pixels: [Ch16; 16]) -> [Ch16; 16]
+        ensures { map (λ x. x.value) result ≡ with_alphas
+            (zip2 (channel_quotient 65535) (map (λ x. x.value) pixels)
+            (last_of_four (map (λ x. x.value) pixels))) (map (λ x. x.value) pixels) }
+    {
+        lanes::channels(unmultiplied(lanes::units(&pixels)))
     }
 
     #[inline(always)]

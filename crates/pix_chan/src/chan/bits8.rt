@@ -2,16 +2,17 @@
 //!
 //! `bits16.rt` is the twin of this file. A change here belongs there too.
 ghost use Rattle.std.specs.Prelude.{◌≡◌, ◌+◌, ◌-◌, ◌*◌, ◌/◌, ◌<◌, ◌++◌, map};
+ghost use Rattle.std.specs.Simd.Lanes.{zip2};
 ghost use Rattle.pix_chan.specs.Number.{saturating_sum, saturating_difference};
 ghost use Rattle.pix_chan.specs.Product.{channel_product, channel_quotient};
 ghost use Rattle.pix_chan.specs.Channel.{AnswersFrom};
 ghost use Rattle.pix_chan.specs.Depth.{to_16_bit, from_16_bit};
-ghost use Rattle.pix_chan.specs.Planes.{in_turn, both_in_turn, last_of_four};
+ghost use Rattle.pix_chan.specs.Planes.{in_turn, both_in_turn, last_of_four, with_alphas};
 ghost use Rattle.pix_chan.specs.Seal.{seal};
 
-use crate::chan::bits8::lanes::{channels, units};
+use crate::chan::bits8::lanes::{channels, units, unmultiplied};
 use crate::chan::{Ch16, Channel, whole};
-use crate::reciprocals::quotient_by_byte;
+use crate::reciprocals::quotient;
 use std::ops::{Add, Div, Mul, Sub};
 
 mod lanes;
@@ -140,9 +141,8 @@ where
 
     fn div(self, rhs: R) -> Ch8 {
         let rhs = Ch8::from(rhs);
-        let ratio = quotient_by_byte(u64::from(self.value) << 8, u64::from(rhs.value));
         Ch8 {
-            value: ratio.min(255) as u8,
+            value: quotient(self.value, rhs.value),
         }
     }
 }
@@ -261,6 +261,15 @@ impl Channel for Ch8 {
         ensures { map (λ x. x.value) result ≡ last_of_four (map (λ x. x.value) pixels) }
     {
         channels(planes::spread(units(&pixels)))
+    }
+
+    #[inline(always)]
+    fn unmultiplied4(pixels: [Ch8; 16]) -> [Ch8; 16]
+        ensures { map (λ x. x.value) result ≡ with_alphas
+            (zip2 (channel_quotient 255) (map (λ x. x.value) pixels)
+            (last_of_four (map (λ x. x.value) pixels))) (map (λ x. x.value) pixels) }
+    {
+        channels(unmultiplied(units(&pixels)))
     }
 
     #[inline(always)]

@@ -2,9 +2,12 @@
 ghost use Rattle.std.specs.Prelude.{◌≡◌, map, length};
 ghost use Rattle.std.specs.Simd.Lanes.{zip2};
 ghost use Rattle.pix_chan.specs.Number.{saturating_sum};
-ghost use Rattle.pix_chan.specs.Product.{channel_product};
+ghost use Rattle.pix_chan.specs.Product.{channel_product, channel_quotient};
+ghost use Rattle.pix_chan.specs.Planes.{with_alphas};
+ghost use Rattle.pix_chan.specs.LaneQuotients.{alphas_in};
 
 use crate::chan::bits8::Ch8;
+use crate::reciprocals::quotient;
 use std::simd::prelude::*;
 
 /// Returns the channel product of the bytes of each lane.
@@ -26,6 +29,40 @@ fn sum_lanes(x: u8x16, y: u8x16) -> u8x16
     ensures { result ≡ zip2 (saturating_sum 255) x y }
 {
     x.saturating_add(y)
+}
+
+/// Returns four pixels of four channels, each channel divided by the last one of its pixel.
+#[inline(always)]
+fn over_alphas(x: u8x16) -> u8x16
+    ensures { result ≡ zip2 (channel_quotient 255) x (alphas_in x) }
+{
+    let p = x.to_array();
+    u8x16::from_array([
+        quotient(p[0], p[3]),
+        quotient(p[1], p[3]),
+        quotient(p[2], p[3]),
+        quotient(p[3], p[3]),
+        quotient(p[4], p[7]),
+        quotient(p[5], p[7]),
+        quotient(p[6], p[7]),
+        quotient(p[7], p[7]),
+        quotient(p[8], p[11]),
+        quotient(p[9], p[11]),
+        quotient(p[10], p[11]),
+        quotient(p[11], p[11]),
+        quotient(p[12], p[15]),
+        quotient(p[13], p[15]),
+        quotient(p[14], p[15]),
+        quotient(p[15], p[15]),
+    ])
+}
+
+/// Returns four pixels of four channels, each color divided by the alpha of its pixel.
+#[inline(always)]
+pub(super) fn unmultiplied(x: u8x16) -> u8x16
+    ensures { result ≡ with_alphas (zip2 (channel_quotient 255) x (alphas_in x)) x }
+{
+    over_alphas(x).shuffle(x, [0, 1, 2, 19, 4, 5, 6, 23, 8, 9, 10, 27, 12, 13, 14, 31])
 }
 
 /// Returns the numbers of sixteen channels.

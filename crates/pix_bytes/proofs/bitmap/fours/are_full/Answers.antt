@@ -1,6 +1,6 @@
 use Rattle.std.proofs.Common.{eqb-true}
 use mir.Syntax.{w8}
-use Rattle.pix_bytes.proofs.LaneTests.{all_are}
+use Rattle.pix_chan.proofs.LaneTests.{all_are}
 use Rattle.pix_bytes.proofs.bitmap.fours.are_full.Goals as goal
 
 pub returns : goal.returns

@@ -1,7 +1,7 @@
 use Rattle.std.proofs.Common.{◌≡◌, ◌<◌, ◌∙◌, ℕ, List, [], ◌∷◌, length, take, get_or, replicate, bit_or, ap, refl, sym, arith}
 use lib.Lanes.{zip2}
 use Rattle.std.proofs.lemmas.List.{take_all}
-use Rattle.pix_bytes.proofs.LaneTests.{lane_is}
+use Rattle.pix_chan.proofs.LaneTests.{lane_is}
 use Rattle.pix_bytes.proofs.bitmap.fours.are_opaque.Goals as goal
 
 abbrev full : List ℕ

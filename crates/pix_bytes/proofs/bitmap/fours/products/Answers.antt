@@ -1,4 +1,4 @@
-use Rattle.pix_bytes.proofs.LaneProducts.{products_are}
+use Rattle.pix_chan.proofs.LaneProducts.{products_are}
 use Rattle.pix_bytes.proofs.bitmap.fours.products.Goals as goal
 
 pub returns : goal.returns

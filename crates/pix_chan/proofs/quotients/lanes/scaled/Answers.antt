@@ -1,5 +1,5 @@
-use Rattle.pix_bytes.proofs.ShownFours.{scaled_are}
-use Rattle.pix_bytes.proofs.bitmap.levels.scaled.Goals as goal
+use Rattle.pix_chan.proofs.LaneQuotients.{scaled_are}
+use Rattle.pix_chan.proofs.quotients.lanes.scaled.Goals as goal
 
 pub returns : goal.returns
 returns c = λ ys long fits low middle high.

@@ -2,8 +2,8 @@ use Rattle.std.proofs.Common.{subst, sym, Fits}
 use mir.Syntax.{w16}
 use lib.Lanes.{Each1}
 use Rattle.pix_chan.proofs.Lanes.{pairs}
-use Rattle.pix_bytes.proofs.LaneProducts.{high_halves_are, Each1-halves, highs_are}
-use Rattle.pix_bytes.proofs.bitmap.fours.high_products.Goals as goal
+use Rattle.pix_chan.proofs.LaneProducts.{high_halves_are, Each1-halves, highs_are}
+use Rattle.pix_chan.proofs.quotients.lanes.high_products.Goals as goal
 
 pub overflow_cast-result : goal.overflow_cast-result
 overflow_cast-result c =
