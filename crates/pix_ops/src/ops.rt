@@ -2,7 +2,7 @@
 //!
 //! Colors are premultiplied, and the alpha is composited as any other channel. `sa` and `da` are
 //! the alphas of source and destination, products are channel products, and sums saturate.
-ghost use Rattle.std.specs.Prelude.{◌≡◌, ℕ, ◌-◌, ⊤, List, length, map, slice_get, Some, ◌↔◌, IsTrue, nat_eq, refl};
+ghost use Rattle.std.specs.Prelude.{◌≡◌, ℕ, ◌-◌, ◌≤◌, List, length, map, slice_get, Some, ◌↔◌, IsTrue, nat_eq, refl};
 ghost use Rattle.pix_ops.specs.declared.ops.Op.{Op};
 ghost use Rattle.pix_ops.specs.Operators.{row};
 ghost use Rattle.pix_ops.specs.Seal.{Seal, seal};
@@ -11,10 +11,14 @@ ghost use Rattle.pix_ops.specs.Composite.{channel_composite, run_composite};
 ghost use Rattle.pix_chan.specs.Runs.{over, triples};
 
 use crate::ops::run::{Alpha, Factor, One, OneMinusAlpha, Zero};
+use crate::ops::visitor::OneChannel;
 use pix_chan::chan::Channel;
 
 #[doc(hidden)]
 pub mod run;
+mod visitor;
+
+pub use visitor::{OpVisitor, SliceVisitor};
 
 /// An operator as a value. A [`Blend`] is an operator as a type.
 ///
@@ -111,7 +115,46 @@ pub trait Blend: Copy {
             (triples (map C.number da1.now) (map C.number src.now) (map C.number sa1.now))
             (map C.number dst.old) }
     {
-        run::composite::<Self::Source, Self::Dest, C>(dst, da1, src, sa1);
+        let count = dst.len().min(da1.len()).min(src.len()).min(sa1.len());
+        for k in 0..count.div_ceil(32) {
+            let start = 32 * k;
+            let end = if count - start < 32 {
+                count
+            } else {
+                start + 32
+            };
+            Self::composite_block(
+                &mut dst[start..end],
+                &da1[start..end],
+                &src[start..end],
+                &sa1[start..end],
+            );
+        }
+    }
+
+    /// Composites at most thirty-two channels as [`composite_run`](Blend::composite_run) does. It
+    /// takes less time, since no length is tried.
+    ///
+    /// Condition: all four have one length.
+    #[doc(hidden)]
+    #[inline(always)]
+    final fn composite_block<C: Channel>(dst: &mut [C], da1: &[C], src: &[C], sa1: &[C])
+        requires few { length dst.old ≤ 32 }
+        requires da1_same { length da1.now ≡ length dst.old }
+        requires src_same { length src.now ≡ length dst.old }
+        requires sa1_same { length sa1.now ≡ length dst.old }
+        ensures { map C.number dst.new ≡ over (run_composite C.max op)
+            (triples (map C.number da1.now) (map C.number src.now) (map C.number sa1.now))
+            (map C.number dst.old) }
+    {
+        let count = dst.len();
+        let mut array = [C::MIN; 32];
+        let whole = &mut array[..];
+        let terms = &mut whole[..count];
+        terms.copy_from_slice(src);
+        <Self::Source as Factor>::scale(terms, da1);
+        <Self::Dest as Factor>::scale(dst, sa1);
+        C::add_run(dst, terms);
     }
 
     /// Both are those in the operator's row of the table.
@@ -120,34 +163,6 @@ pub trait Blend: Copy {
 
     /// Seals the trait.
     ghost sealed: { Seal Self };
-}
-
-/// An action on a `T` with its operator as a type. [`Op::visit`] runs it for a value.
-pub trait OpVisitor<T> {
-    /// The condition under which the action may run with an operator.
-    ghost can_visit: { Self → Op → Type 0 };
-
-    /// The relation of the target before and after the action with an operator.
-    ghost visits: { Self → Op → T → T → Type 0 };
-
-    /// Runs the action on `target` with the operator `O`.
-    fn visit<O: Blend>(&self, target: &mut T, op: O)
-        requires { can_visit self.now O.op }
-        ensures { visits self.now O.op target.old target.new };
-}
-
-/// An action on a slice with its operator as a type. [`Op::visit_slice`] runs it for a value.
-pub trait SliceVisitor<T> {
-    /// The condition under which the action may run with an operator on this many items.
-    ghost can_visit: { Self → Op → ℕ → Type 0 };
-
-    /// The relation of the items before and after the action with an operator.
-    ghost visits: { Self → Op → List T → List T → Type 0 };
-
-    /// Runs the action on `items` with the operator `O`.
-    fn visit<O: Blend>(&self, items: &mut [T], op: O)
-        requires { can_visit self.now O.op (length items.old) }
-        ensures { visits self.now O.op items.old items.new };
 }
 
 /// Runs the action of a visitor on its target with the operator type of a value.
@@ -268,25 +283,6 @@ impl Op {
     {
         let src = *src;
         self.visit(&OneChannel { da1, src, sa1 }, dst);
-    }
-}
-
-/// The composite of one channel, as an action on the destination.
-#[derive(Clone, Copy)]
-struct OneChannel<C> {
-    da1: C,
-    src: C,
-    sa1: C,
-}
-
-impl<C: Channel> OpVisitor<C> for OneChannel<C> {
-    ghost can_visit = { λ _ _. ⊤ };
-
-    ghost visits = { λ it op old new. C.number new ≡ channel_composite C.max op
-        (C.number it.src) (C.max - C.number it.sa1) (C.number old) (C.max - C.number it.da1) };
-
-    fn visit<O: Blend>(&self, dst: &mut C, _op: O) {
-        O::composite(dst, self.da1, &self.src, self.sa1);
     }
 }
 

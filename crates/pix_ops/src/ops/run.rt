@@ -1,10 +1,9 @@
-//! Composites of runs of channels, as runs of products and sums.
-ghost use Rattle.std.specs.Prelude.{◌≡◌, ℕ, ◌-◌, ◌≤◌, length, map, min};
+//! What the two sides of a composite are multiplied by.
+ghost use Rattle.std.specs.Prelude.{◌≡◌, ◌-◌, ◌≤◌, length, map};
 ghost use Rattle.pix_ops.specs.Operators as operators;
 ghost use Rattle.pix_ops.specs.Operators.{Coefficient};
 ghost use Rattle.pix_ops.specs.Composite.{term};
-ghost use Rattle.pix_chan.specs.Runs.{over, triples};
-ghost use Rattle.pix_ops.specs.Composite.{run_terms};
+ghost use Rattle.pix_chan.specs.Runs.{over};
 
 use pix_chan::chan::Channel;
 
@@ -93,56 +92,5 @@ impl Factor for OneMinusAlpha {
     #[inline(always)]
     fn scale<C: Channel>(channels: &mut [C], alpha1: &[C]) {
         C::mul_run(channels, alpha1);
-    }
-}
-
-/// Composites at most thirty-two channels. The source's products go into an array.
-#[inline(always)]
-fn composite_block<A: Factor, B: Factor, C: Channel>(dst: &mut [C], da1: &[C], src: &[C], sa1: &[C])
-    requires few { length dst.old ≤ 32 }
-    requires da1_same { length da1.now ≡ length dst.old }
-    requires src_same { length src.now ≡ length dst.old }
-    requires sa1_same { length sa1.now ≡ length dst.old }
-    ensures { map C.number dst.new ≡ over (run_terms C.max A.coefficient B.coefficient)
-        (triples (map C.number da1.now) (map C.number src.now) (map C.number sa1.now))
-        (map C.number dst.old) }
-{
-    let count = dst.len();
-    let mut array = [C::MIN; 32];
-    let whole = &mut array[..];
-    let terms = &mut whole[..count];
-    terms.copy_from_slice(src);
-    A::scale(terms, da1);
-    B::scale(dst, sa1);
-    C::add_run(dst, terms);
-}
-
-/// Composites the channels at the same index of all four slices with the coefficients of source and
-/// destination. The shortest length decides, and the rest of `dst` stays as it is.
-#[inline(always)]
-pub(super) fn composite<A: Factor, B: Factor, C: Channel>(
-    dst: &mut [C],
-    da1: &[C],
-    src: &[C],
-    sa1: &[C],
-)
-    ensures { map C.number dst.new ≡ over (run_terms C.max A.coefficient B.coefficient)
-        (triples (map C.number da1.now) (map C.number src.now) (map C.number sa1.now))
-        (map C.number dst.old) }
-{
-    let count = dst.len().min(da1.len()).min(src.len()).min(sa1.len());
-    for k in 0..count.div_ceil(32) {
-        let start = 32 * k;
-        let end = if count - start < 32 {
-            count
-        } else {
-            start + 32
-        };
-        composite_block::<A, B, C>(
-            &mut dst[start..end],
-            &da1[start..end],
-            &src[start..end],
-            &sa1[start..end],
-        );
     }
 }

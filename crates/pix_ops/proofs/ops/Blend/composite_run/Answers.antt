@@ -1,10 +1,10 @@
 use Rattle.std.proofs.Common.{◌≡◌, ◌+◌, ◌-◌, ◌*◌, ◌∙◌, sym, ap, arith, length, map, take, drop, min, ℕ, List}
 use Rattle.std.proofs.lemmas.List.{length-map}
 use Rattle.pix_chan.specs.Runs.{triples}
-use Rattle.pix_ops.specs.Composite.{run_terms}
+use Rattle.pix_ops.specs.Composite.{run_composite}
 use Rattle.pix_chan.proofs.Slices.{run, over-nil, mapped_run_step, over_both, length-triples, part-triples, part_of}
-use Rattle.pix_ops.proofs.ops.run.composite.Goals as goal
-use Rattle.pix_ops.proofs.ops.run.composite.Goals.{then-count-start-lt32, else-count-start-lt32}
+use Rattle.pix_ops.proofs.ops.Blend.composite_run.Goals as goal
+use Rattle.pix_ops.proofs.ops.Blend.composite_run.Goals.{then-count-start-lt32, else-count-start-lt32}
 
 same_triples : {a b c d e f : List ℕ} → a ≡ d → b ≡ e → c ≡ f → triples a b c ≡ triples d e f
 same_triples {a} {b} {c} {d} {e} {f} p q r =
@@ -13,7 +13,7 @@ same_triples {a} {b} {c} {d} {e} {f} p q r =
 pub loop-k-init : goal.loop-k-init
 loop-k-init g c =
     let v = g.C.Channel.number in
-    let f = λ (x : ℕ) (t : ℕ × ℕ × ℕ). run_terms g.C.Channel.max g.A.Factor.coefficient g.B.Factor.coefficient t x in
+    let f = λ (x : ℕ) (t : ℕ × ℕ × ℕ). run_composite g.C.Channel.max g.Self.Blend.op t x in
     let ts = triples (map v c.args.da1.now) (map v c.args.src.now) (map v c.args.sa1.now) in
     let z : 0 ≡ min (32 * 0) c.min-count.result = omega arith in
     sym (over-nil f (map v c.args.dst.now)) ∙ ap (λ k. run f (map v c.args.dst.now) (take k ts)) z
@@ -21,7 +21,7 @@ loop-k-init g c =
 pub loop-k-preserved : goal.loop-k-preserved
 loop-k-preserved g c =
     let v = g.C.Channel.number in
-    let f = λ (x : ℕ) (t : ℕ × ℕ × ℕ). run_terms g.C.Channel.max g.A.Factor.coefficient g.B.Factor.coefficient t x in
+    let f = λ (x : ℕ) (t : ℕ × ℕ × ℕ). run_composite g.C.Channel.max g.Self.Blend.op t x in
     let ds = c.args.dst.now in
     let ms = c.args.da1.now in
     let ss = c.args.src.now in
@@ -44,7 +44,7 @@ loop-k-preserved g c =
 pub returns : goal.returns
 returns g c =
     let v = g.C.Channel.number in
-    let f = λ (x : ℕ) (t : ℕ × ℕ × ℕ). run_terms g.C.Channel.max g.A.Factor.coefficient g.B.Factor.coefficient t x in
+    let f = λ (x : ℕ) (t : ℕ × ℕ × ℕ). run_composite g.C.Channel.max g.Self.Blend.op t x in
     let ds = c.args.dst.now in
     let ms = c.args.da1.now in
     let ss = c.args.src.now in
