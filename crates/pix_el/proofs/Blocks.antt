@@ -42,3 +42,8 @@ module _ {C D A B : Type 0} (number : C → A) (other : D → B) (f : A → B �
   pub whole_run : (i : ℕ) (ws : List C) → map number ws ≡ run f (map number xs) (take i (map other ys)) → i ≡ min (length xs) (length ys)
       → map number ws ≡ run f (map number xs) (map other ys)
   whole_run i ws e h = e ∙ over_both f i (map number xs) (map other ys) (omega (arith, length-map xs number, length-map ys other))
+
+-- a row and a count that were made in one of several ways
+pub made_so : {C A B : Type 0} (number : C → A) (f : A → B → A) (xs : List A) (ys : List B) (row made : List C) (start n : ℕ) → row ≡ made → start ≡ n
+    → map number made ≡ run f xs (take n ys) → map number row ≡ run f xs (take start ys)
+made_so number f xs ys row made start n e h is = rw (e, h) is

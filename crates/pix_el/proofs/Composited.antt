@@ -19,6 +19,7 @@ use Rattle.pix_ops.proofs.WithinAlpha.{composite_grows, sums_fit}
 use Rattle.pix_ops.proofs.Transparent.{over_channel, over_hue}
 use Rattle.pix_el.proofs.Models.{IsModel}
 use Rattle.pix_el.specs.Pixel.{Layout, lies_in, is_hue, channel, alpha_of}
+use Rattle.pix_el.specs.PixelLaws.{fit_at}
 use Rattle.pix_el.specs.PixelComposite.{composite_at, pixel_composite, matted_at, matted_color, matted_composite}
 use Rattle.pix_el.specs.ExactPixel.{IsNearExact, IsNearExactMatted}
 use Rattle.pix_el.specs.Premultiplied.{IsBounded, IsPremultiplied, IsUncut}
@@ -27,11 +28,6 @@ use Rattle.pix_el.specs.Transparent.{IsTransparent, IsUnchanged}
 -- no channel passes the top
 pub record Fits (max : ℕ) (numbers : List ℕ) : Type 0 where
   pub at : (ch : ℕ) → channel max numbers ch ≤ max
-
-fit_at : {C : Type 0} (max : ℕ) (number : C → ℕ) (channels : List C) (ch : ℕ) → IsNumbered max number → channel max (map number channels) ch ≤ max
-fit_at max number [] ch numbered = le_refl max
-fit_at max number (c ∷ channels) zero numbered = numbered.fits c
-fit_at max number (c ∷ channels) (suc ch) numbered = fit_at max number channels ch numbered
 
 -- the numbers of channels do not
 pub channels_fit : {C : Type 0} (max : ℕ) (number : C → ℕ) (channels : List C) → IsNumbered max number → Fits max (map number channels)

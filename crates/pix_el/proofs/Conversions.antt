@@ -2,7 +2,7 @@
 use Rattle.std.proofs.Common.{◌≡◌, ℕ, ◌≤◌, ◌+◌, List, [], ◌∷◌, length, map, take, refl, sym, ap, ◌∙◌, arith}
 use Rattle.std.specs.Prelude.{Bool, nat_eq, true, false, ◌≢◌, if◌then◌else◌}
 use Rattle.std.specs.List.{range_with_len}
-use Rattle.std.proofs.lemmas.List.FromFn.{take-map-range_with_len}
+use Rattle.std.proofs.lemmas.List.FromFn.{take-map-range_with_len, fill_by_all, length-map-range_with_len}
 use Rattle.pix_chan.specs.Runs.{over}
 use Rattle.pix_chan.specs.Modes.{AlphaMode, Straight, Premultiplied, alpha_kind, GammaMode, Linear, Srgb, gamma_kind, to_linear}
 use Rattle.pix_el.specs.Pixel.{Layout, lies_in, channel, alpha_of}
@@ -163,23 +163,24 @@ channel_kept format to gamma to_gamma pixel ch ea eg =
     either_kept (lies_in to.colors ch) (reencoded to.layout.max format.alpha_mode gamma to.alpha_mode to_gamma alpha x) x
     (mode_kept to.layout.max format.alpha_mode gamma to.alpha_mode to_gamma alpha x ea eg)
 
--- four channels at another depth are what they are
-four_of_depth : (layout to : Layout) (pixel : List ℕ) → to.count ≡ 4
-    → map (channel to.max (of_depth layout to pixel)) (range_with_len 0 to.count) ≡ of_depth layout to pixel
-four_of_depth layout to pixel count = rw count refl
+-- channels at another depth are what they are
+same_of_depth : (layout to : Layout) (pixel : List ℕ) → map (channel to.max (of_depth layout to pixel)) (range_with_len 0 to.count) ≡ of_depth layout to pixel
+same_of_depth layout to pixel =
+    let made = of_depth layout to pixel in
+    sym (fill_by_all (channel to.max made) made to.count to.max (length-map-range_with_len (λ ch. at_depth layout.max to.max (channel layout.max pixel ch)) 0 to.count) (λ k h. refl))
 
--- a conversion to four channels within one model and in the same modes
+-- a conversion within one model and in the same modes
 pub converted_of_depth : (format to stated to_stated : Format) (gamma to_gamma : GammaMode) (layout to_layout : Layout) (pixel : List ℕ)
     → format ≡ stated → to ≡ to_stated → layout ≡ stated.layout → to_layout ≡ to_stated.layout → stated.kind ≡ to_stated.kind
-    → alpha_kind stated.alpha_mode ≡ alpha_kind to_stated.alpha_mode → gamma_kind gamma ≡ gamma_kind to_gamma → to_stated.layout.count ≡ 4
+    → alpha_kind stated.alpha_mode ≡ alpha_kind to_stated.alpha_mode → gamma_kind gamma ≡ gamma_kind to_gamma
     → converted format gamma to to_gamma pixel ≡ of_depth layout to_layout pixel
-converted_of_depth format to stated to_stated gamma to_gamma layout to_layout pixel ef et el em same ea eg count =
+converted_of_depth format to stated to_stated gamma to_gamma layout to_layout pixel ef et el em same ea eg =
     let made = of_depth stated.layout to_stated.layout pixel in
     ap (λ (f : Format). converted f gamma to to_gamma pixel) ef
     ∙ ap (λ (t : Format). converted stated gamma t to_gamma pixel) et
     ∙ sym (converted_same stated to_stated stated to_stated gamma to_gamma pixel (within_model stated gamma to_stated to_gamma pixel) refl refl same refl)
     ∙ map_alike (channel_reencoded stated gamma to_stated to_gamma made) (channel to_stated.layout.max made)
     (λ ch. channel_kept stated to_stated gamma to_gamma made ch ea eg) (range_with_len 0 to_stated.layout.count)
-    ∙ four_of_depth stated.layout to_stated.layout pixel count
+    ∙ same_of_depth stated.layout to_stated.layout pixel
     ∙ ap (λ (l : Layout). of_depth l to_stated.layout pixel) (sym el)
     ∙ ap (λ (l : Layout). of_depth layout l pixel) (sym em)

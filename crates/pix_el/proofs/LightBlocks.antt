@@ -1,8 +1,13 @@
 -- Linear pixels as sRGB, four at a time.
-use Rattle.std.proofs.Common.{◌≡◌, ℕ, ◌≤◌, List, [], ◌∷◌, length, map, refl, ap, sym, subst, ◌∙◌, get_or, set, zero, suc, Fits, true, false}
+use Rattle.std.proofs.Common.{◌≡◌, ℕ, ◌≤◌, List, [], ◌∷◌, length, map, drop, refl, ap, sym, subst, ◌∙◌, get_or, set, zero, suc, Fits, true, false, arith}
 use mir.Syntax.{w8, w16}
-use lib.Lanes.{Each1}
-use Rattle.pix_chan.specs.Modes.{AlphaMode}
+use lib.Lanes.{Each1, zip2}
+use Rattle.std.specs.List.{range_with_len}
+use Rattle.pix_chan.specs.Modes.{AlphaMode, Straight, Premultiplied, alpha_kind}
+use Rattle.pix_chan.specs.Planes.{last_of_four, with_alphas}
+use Rattle.pix_chan.specs.Product.{channel_quotient}
+use Rattle.pix_chan.proofs.Planes.{cons, four_times}
+use Rattle.pix_el.proofs.Conversions.{straight_is, premultiplied_is}
 use Rattle.pix_chan.specs.Srgb16.{srgb_encoded8}
 use Rattle.pix_chan.proofs.Sixteen.{is_four, is_sixteen, whole16}
 use Rattle.pix_chan.proofs.Srgb16.{curve}
@@ -11,7 +16,7 @@ use Rattle.std.proofs.lemmas.Simd.{map-map}
 use Rattle.pix_el.specs.Pixel.{channel, lies_in}
 use Rattle.pix_el.specs.Planes.{by_fours}
 use Rattle.pix_el.specs.Conversion.{Format, at_depth}
-use Rattle.pix_el.specs.Light.{mode_changed, channel_as_srgb}
+use Rattle.pix_el.specs.Light.{mode_changed, channel_as_srgb, as_srgb}
 use Rattle.pix_el.specs.LightBlocks.{IsSameInBothModes, AreSameInBothModes, AreLevels, changed_four}
 
 -- what is made of each of sixteen
@@ -143,3 +148,110 @@ module _ {C P : Type 0} (max : ℕ) (mode to_mode : AlphaMode) (v : C → ℕ) (
       → Same cs ((is_four ps k).0.0 ∷ (is_four ps k).0.1 ∷ (is_four ps k).0.2 ∷ (is_four ps k).0.3 ∷ [])
       → Changed cs ((is_four ps k).0.0 ∷ (is_four ps k).0.1 ∷ (is_four ps k).0.2 ∷ (is_four ps k).0.3 ∷ [])) (is_sixteen cs h).1
       (kept_of _ _ _ _ _ _ _ _ _ _ _ _ _ _ _ _ _ _ _ _))
+
+-- ---- four pixels, by their channels in a row
+-- the levels of a pixel's colors and its alpha
+abbrev pub shown_by : (ℕ → ℕ) → List ℕ → ℕ → List ℕ
+shown_by at pixel alpha = srgb_encoded8 (get_or pixel 0 0) ∷ srgb_encoded8 (get_or pixel 1 0) ∷ srgb_encoded8 (get_or pixel 2 0) ∷ at alpha ∷ []
+
+-- pixels as sRGB, by what one becomes
+pub fours_shown : (at : ℕ → ℕ) (changed made : List ℕ → List ℕ) → ((w x y z : ℕ) → shown_by at (changed (w ∷ x ∷ y ∷ z ∷ [])) z ≡ made (w ∷ x ∷ y ∷ z ∷ []))
+    → (n : ℕ) (xs cs : List ℕ) → length xs ≡ four_times n → length cs ≡ four_times n
+    → by_fours xs ≡ map changed (by_fours cs) → by_fours (with_alphas (map srgb_encoded8 xs) (map at cs)) ≡ map made (by_fours cs)
+fours_shown at changed made is zero [] [] h k same = refl
+fours_shown at changed made is zero [] (w ∷ cs) h k same = absurd (omega (arith, k))
+fours_shown at changed made is zero (a ∷ xs) cs h k same = absurd (omega (arith, h))
+fours_shown at changed made is (suc n) [] cs h k same = absurd (omega (arith, h))
+fours_shown at changed made is (suc n) (a ∷ []) cs h k same = absurd (omega (arith, h))
+fours_shown at changed made is (suc n) (a ∷ b ∷ []) cs h k same = absurd (omega (arith, h))
+fours_shown at changed made is (suc n) (a ∷ b ∷ c ∷ []) cs h k same = absurd (omega (arith, h))
+fours_shown at changed made is (suc n) (a ∷ b ∷ c ∷ d ∷ xs) [] h k same = absurd (omega (arith, k))
+fours_shown at changed made is (suc n) (a ∷ b ∷ c ∷ d ∷ xs) (w ∷ []) h k same = absurd (omega (arith, k))
+fours_shown at changed made is (suc n) (a ∷ b ∷ c ∷ d ∷ xs) (w ∷ x ∷ []) h k same = absurd (omega (arith, k))
+fours_shown at changed made is (suc n) (a ∷ b ∷ c ∷ d ∷ xs) (w ∷ x ∷ y ∷ []) h k same = absurd (omega (arith, k))
+fours_shown at changed made is (suc n) (a ∷ b ∷ c ∷ d ∷ xs) (w ∷ x ∷ y ∷ z ∷ cs) h k same =
+    cons (ap (λ (l : List (List ℕ)). shown_by at (get_or l 0 []) z) same ∙ is w x y z)
+    (fours_shown at changed made is n xs cs (omega (arith, h)) (omega (arith, k)) (ap (drop 1) same))
+
+-- pixels as sRGB, by their channels in the other alpha mode
+pub all_shown : (format to : Format) (max to_max : ℕ) (mode to_mode : AlphaMode) (n : ℕ) (xs cs : List ℕ)
+    → format.layout.max ≡ max → format.alpha_mode ≡ mode → to.layout.max ≡ to_max → to.alpha_mode ≡ to_mode
+    → to.layout.alpha ≡ 3 → to.colors.start ≡ 0 → to.colors.end ≡ 3 → to.layout.count ≡ 4
+    → length xs ≡ four_times n → length cs ≡ four_times n → by_fours xs ≡ map (changed_four max mode to_mode) (by_fours cs)
+    → by_fours (with_alphas (map srgb_encoded8 xs) (map (at_depth max to_max) cs)) ≡ map (as_srgb format to) (by_fours cs)
+all_shown format to max to_max mode to_mode n xs cs em ef en et ea start end count lx lc same =
+    fours_shown (at_depth max to_max) (changed_four max mode to_mode) (as_srgb format to) (λ w x y z. pixel (w ∷ x ∷ y ∷ z ∷ [])) n xs cs lx lc same
+  where
+    level : List ℕ → ℕ → ℕ
+    level p ch = srgb_encoded8 (mode_changed max mode to_mode (channel max p 3) (channel max p ch))
+
+    pixel : (p : List ℕ) → level p 0 ∷ level p 1 ∷ level p 2 ∷ at_depth max to_max (channel max p 3) ∷ [] ≡ as_srgb format to p
+    pixel p =
+        cons (shown_color format to p 0 max 3 (level p 0) mode to_mode em ef et ea (rw (start, end) refl) refl)
+        (cons (shown_color format to p 1 max 3 (level p 1) mode to_mode em ef et ea (rw (start, end) refl) refl)
+        (cons (shown_color format to p 2 max 3 (level p 2) mode to_mode em ef et ea (rw (start, end) refl) refl)
+        (cons (shown_rest format to p 3 max to_max (at_depth max to_max (channel max p 3)) em en (rw (start, end) refl) refl) refl)))
+        ∙ ap (λ (k : ℕ). map (channel_as_srgb format to p) (range_with_len 0 k)) (sym count)
+
+-- pixels that are made from each one's four channels
+pub fours_made : (made : List ℕ → List ℕ) (from : ℕ → ℕ → ℕ) → ((w x y z : ℕ) → from w z ∷ from x z ∷ from y z ∷ z ∷ [] ≡ made (w ∷ x ∷ y ∷ z ∷ []))
+    → (n : ℕ) (cs : List ℕ) → length cs ≡ four_times n
+    → by_fours (with_alphas (zip2 from cs (last_of_four cs)) cs) ≡ map made (by_fours cs)
+fours_made made from is zero [] h = refl
+fours_made made from is zero (w ∷ cs) h = absurd (omega (arith, h))
+fours_made made from is (suc n) [] h = absurd (omega (arith, h))
+fours_made made from is (suc n) (w ∷ []) h = absurd (omega (arith, h))
+fours_made made from is (suc n) (w ∷ x ∷ []) h = absurd (omega (arith, h))
+fours_made made from is (suc n) (w ∷ x ∷ y ∷ []) h = absurd (omega (arith, h))
+fours_made made from is (suc n) (w ∷ x ∷ y ∷ z ∷ cs) h = cons (is w x y z) (fours_made made from is n cs (omega (arith, h)))
+
+-- pixels that stay
+pub fours_kept : (made : List ℕ → List ℕ) → ((w x y z : ℕ) → w ∷ x ∷ y ∷ z ∷ [] ≡ made (w ∷ x ∷ y ∷ z ∷ []))
+    → (n : ℕ) (cs : List ℕ) → length cs ≡ four_times n → by_fours cs ≡ map made (by_fours cs)
+fours_kept made is zero [] h = refl
+fours_kept made is zero (w ∷ cs) h = absurd (omega (arith, h))
+fours_kept made is (suc n) [] h = absurd (omega (arith, h))
+fours_kept made is (suc n) (w ∷ []) h = absurd (omega (arith, h))
+fours_kept made is (suc n) (w ∷ x ∷ []) h = absurd (omega (arith, h))
+fours_kept made is (suc n) (w ∷ x ∷ y ∷ []) h = absurd (omega (arith, h))
+fours_kept made is (suc n) (w ∷ x ∷ y ∷ z ∷ cs) h = cons (is w x y z) (fours_kept made is n cs (omega (arith, h)))
+
+-- in the same alpha mode a color stays
+pub same_mode : (max : ℕ) (mode to_mode : AlphaMode) (alpha x : ℕ) → alpha_kind mode ≡ alpha_kind to_mode → x ≡ mode_changed max mode to_mode alpha x
+same_mode max Straight Straight alpha x e = refl
+same_mode max Straight Premultiplied alpha x e = absurd (omega (arith, e))
+same_mode max Premultiplied Straight alpha x e = absurd (omega (arith, e))
+same_mode max Premultiplied Premultiplied alpha x e = refl
+
+-- a pixel of four channels in the same alpha mode
+pub kept_four : (max : ℕ) (mode to_mode : AlphaMode) (w x y z : ℕ) → alpha_kind mode ≡ alpha_kind to_mode
+    → w ∷ x ∷ y ∷ z ∷ [] ≡ changed_four max mode to_mode (w ∷ x ∷ y ∷ z ∷ [])
+kept_four max mode to_mode w x y z e =
+    cons (same_mode max mode to_mode z w e) (cons (same_mode max mode to_mode z x e) (cons (same_mode max mode to_mode z y e) refl))
+
+-- a premultiplied pixel of four channels as a straight one
+pub straight_four : (max : ℕ) (mode to_mode : AlphaMode) (w x y z : ℕ) → alpha_kind mode ≡ 1 → alpha_kind to_mode ≡ 0
+    → channel_quotient max w z ∷ channel_quotient max x z ∷ channel_quotient max y z ∷ z ∷ [] ≡ changed_four max mode to_mode (w ∷ x ∷ y ∷ z ∷ [])
+straight_four max mode to_mode w x y z p s = rw (premultiplied_is mode p, straight_is to_mode s) refl
+
+-- four channels that are written to sixteen
+module _ {C D : Type 0} (v : D → ℕ) (n : C → ℕ) (at : ℕ → ℕ) where
+  places_set : (ls : List D) (a b c d : D) → length ls ≡ 16
+      → map v (set (set (set (set ls 3 a) 7 b) 11 c) 15 d) ≡ with_alphas (map v ls) (v a ∷ v a ∷ v a ∷ v a ∷ v b ∷ v b ∷ v b ∷ v b ∷ v c ∷ v c ∷ v c ∷ v c ∷ v d ∷ v d ∷ v d ∷ v d ∷ [])
+  places_set ls a b c d h = rw (← (is_sixteen ls h).1) refl
+
+  alphas_by : (ls : List D) (cs : List C) (w x y z : C) → length ls ≡ 16 → length cs ≡ 16
+      → let e = at (n (get_or cs 3 w)) in let f = at (n (get_or cs 7 x)) in let g = at (n (get_or cs 11 y)) in let h = at (n (get_or cs 15 z)) in
+      with_alphas (map v ls) (e ∷ e ∷ e ∷ e ∷ f ∷ f ∷ f ∷ f ∷ g ∷ g ∷ g ∷ g ∷ h ∷ h ∷ h ∷ h ∷ []) ≡ with_alphas (map v ls) (map at (map n cs))
+  alphas_by ls cs w x y z h k = rw (← (is_sixteen ls h).1, ← (is_sixteen cs k).1) refl
+
+  pub alphas_set : (ls : List D) (cs : List C) (a b c d : D) (w x y z : C) → length ls ≡ 16 → length cs ≡ 16
+      → v a ≡ at (n (get_or cs 3 w)) → v b ≡ at (n (get_or cs 7 x)) → v c ≡ at (n (get_or cs 11 y)) → v d ≡ at (n (get_or cs 15 z))
+      → map v (set (set (set (set ls 3 a) 7 b) 11 c) 15 d) ≡ with_alphas (map v ls) (map at (map n cs))
+  alphas_set ls cs a b c d w x y z h k ea eb ec ed =
+      places_set ls a b c d h
+      ∙ ap (λ (m : ℕ). with_alphas (map v ls) (m ∷ m ∷ m ∷ m ∷ v b ∷ v b ∷ v b ∷ v b ∷ v c ∷ v c ∷ v c ∷ v c ∷ v d ∷ v d ∷ v d ∷ v d ∷ [])) ea
+      ∙ ap (λ (m : ℕ). with_alphas (map v ls) (at (n (get_or cs 3 w)) ∷ at (n (get_or cs 3 w)) ∷ at (n (get_or cs 3 w)) ∷ at (n (get_or cs 3 w)) ∷ m ∷ m ∷ m ∷ m ∷ v c ∷ v c ∷ v c ∷ v c ∷ v d ∷ v d ∷ v d ∷ v d ∷ [])) eb
+      ∙ ap (λ (m : ℕ). with_alphas (map v ls) (at (n (get_or cs 3 w)) ∷ at (n (get_or cs 3 w)) ∷ at (n (get_or cs 3 w)) ∷ at (n (get_or cs 3 w)) ∷ at (n (get_or cs 7 x)) ∷ at (n (get_or cs 7 x)) ∷ at (n (get_or cs 7 x)) ∷ at (n (get_or cs 7 x)) ∷ m ∷ m ∷ m ∷ m ∷ v d ∷ v d ∷ v d ∷ v d ∷ [])) ec
+      ∙ ap (λ (m : ℕ). with_alphas (map v ls) (at (n (get_or cs 3 w)) ∷ at (n (get_or cs 3 w)) ∷ at (n (get_or cs 3 w)) ∷ at (n (get_or cs 3 w)) ∷ at (n (get_or cs 7 x)) ∷ at (n (get_or cs 7 x)) ∷ at (n (get_or cs 7 x)) ∷ at (n (get_or cs 7 x)) ∷ at (n (get_or cs 11 y)) ∷ at (n (get_or cs 11 y)) ∷ at (n (get_or cs 11 y)) ∷ at (n (get_or cs 11 y)) ∷ m ∷ m ∷ m ∷ m ∷ [])) ed
+      ∙ alphas_by ls cs w x y z h k

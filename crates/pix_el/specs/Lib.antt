@@ -19,8 +19,11 @@ pub mod Conversion
 pub mod Light
 pub mod LightBlocks
 pub mod PixelComposite
+pub mod Stored
 pub mod Planes
 pub mod Premultiplied
 pub mod Transparent
 pub mod ExactPixel
+pub mod Gray
 pub mod PixelLaws
+pub mod Unmultiplied

@@ -1,8 +1,10 @@
 -- Proofs of the laws of `Pixel`, which an impl takes from `specs/` alone. No public clause cites
 -- this file.
-use Rattle.std.specs.Prelude.{◌≡◌, ℕ, zero, suc, Bool, nat_eq, List, [], ◌∷◌, map, replicate, refl}
+use Rattle.std.specs.Prelude.{◌≡◌, ◌≤◌, ℕ, zero, suc, Bool, nat_eq, List, [], ◌∷◌, map, min, replicate, refl}
 use Rattle.std.specs.Cmp.Lexicographic.{pointwise}
-use Rattle.std.proofs.Common.{ap, ◌∙◌, arith, length}
+use Rattle.std.proofs.Common.{ap, ◌∙◌, arith, length, le_refl}
+use Rattle.pix_chan.specs.Channel.{IsNumbered}
+use Rattle.pix_el.specs.Pixel.{Layout, channel}
 
 pub map_replicate : {X Y : Type 0} (f : X → Y) (x : X) (y : Y) (n : ℕ) → f x ≡ y → map f (replicate n x) ≡ replicate n y
 map_replicate f x y zero e = refl
@@ -36,3 +38,19 @@ equal_by_numbers number injective [] (y ∷ b) e = absurd (let z : 0 ≡ suc (le
 equal_by_numbers number injective (x ∷ a) [] e = absurd (let z : suc (length (map number a)) ≡ 0 = ap length e in omega arith)
 equal_by_numbers {C = C} number injective (x ∷ a) (y ∷ b) e =
     ap (λ (c : C). c ∷ a) (injective x y (ap head_or_zero e)) ∙ ap (λ (cs : List C). y ∷ cs) (equal_by_numbers number injective a b (ap tail_of e))
+
+-- no number of a list of channels is above the maximum
+pub fit_at : {C : Type 0} (max : ℕ) (number : C → ℕ) (channels : List C) (ch : ℕ) → IsNumbered max number → channel max (map number channels) ch ≤ max
+fit_at max number [] ch numbered = le_refl max
+fit_at max number (c ∷ channels) zero numbered = numbered.fits c
+fit_at max number (c ∷ channels) (suc ch) numbered = fit_at max number channels ch numbered
+
+-- no number of a pixel
+pub numbers_fit : {P C : Type 0} (l : Layout) (max : ℕ) (number : C → ℕ) (numbers : P → List ℕ) (list : P → List C) → IsNumbered max number → l.max ≡ max
+    → ((p : P) → numbers p ≡ map number (list p)) → (p : P) (ch : ℕ) → channel l.max (numbers p) ch ≤ l.max
+numbers_fit l max number numbers list numbered e n p ch = rw (e, n p) (fit_at max number (list p) ch numbered)
+
+-- no number of one value that is cut to the maximum
+pub cut_fits : (max value ch : ℕ) → channel max (min value max ∷ []) ch ≤ max
+cut_fits max value zero = omega arith
+cut_fits max value (suc ch) = le_refl max

@@ -1,11 +1,12 @@
 -- Pixels by planes: a plane holds the channels of one number. No public clause cites this file.
-use Rattle.std.specs.Prelude.{◌≡◌, ◌≤◌, ℕ, ◌-◌, List, [], ◌∷◌, map, if◌then◌else◌}
+use Rattle.std.specs.Prelude.{◌≡◌, ◌≤◌, ℕ, ◌-◌, List, [], ◌∷◌, length, map, replicate, if◌then◌else◌}
 use Rattle.std.specs.declared.ops.Range.{Range}
 use Rattle.pix_ops.specs.declared.ops.Op.{Op}
 use Rattle.pix_chan.specs.Product.{channel_product}
 use Rattle.pix_ops.specs.Hue.{hue_composite, hue_weight}
 use Rattle.pix_ops.specs.Composite.{channel_composite, run_composite}
-use Rattle.pix_el.specs.Pixel.{lies_in, channel}
+use Rattle.pix_el.specs.Pixel.{Layout, lies_in, channel}
+use Rattle.pix_el.specs.PixelComposite.{pixel_composite}
 use Rattle.pix_el.specs.Conversion.{at_depth}
 
 -- the channels of pixels of four channels, pixel by pixel
@@ -29,6 +30,10 @@ by_ones channels = map (λ c. c ∷ []) channels
 -- the plane of a channel number
 abbrev pub plane_of : ℕ → List (List ℕ) → ℕ → List ℕ
 plane_of max pixels ch = map (λ p. channel max p ch) pixels
+
+-- the value of a matte, by its numbers
+abbrev pub coverage_of : {M : Type 0} → ℕ → (M → List ℕ) → M → ℕ
+coverage_of max numbers matte = channel max (numbers matte) 0
 
 -- the lists are the planes of pixels of four channels
 pub record ArePlanes (max : ℕ) (pixels : List (List ℕ)) (one two three four : List ℕ) : Type 0 where
@@ -63,6 +68,15 @@ Keeps max op s sa = (d da : ℕ) → d ≤ max → da ≤ max → (channel_compo
 -- any source does
 abbrev pub KeepsAll : ℕ → Op → Type 0
 KeepsAll max op = (s sa : ℕ) → Keeps max op s sa
+
+-- each pixel is replaced with the source
+abbrev pub Replaces : Layout → Op → Type 0
+Replaces layout op = (source dest : List ℕ) → length source ≡ layout.count → ((ch : ℕ) → channel layout.max source ch ≤ layout.max)
+    → source ≡ pixel_composite layout op source dest
+
+-- each pixel is made clear
+abbrev pub Clears : Layout → Op → Type 0
+Clears layout op = (source dest : List ℕ) → replicate layout.count 0 ≡ pixel_composite layout op source dest
 
 -- a straight pixel of four channels, premultiplied
 abbrev pub premultiplied_four : ℕ → List ℕ → List ℕ

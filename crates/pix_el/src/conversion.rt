@@ -8,7 +8,9 @@ use crate::model::ColorModel;
 use pix_chan::chan::{Alpha, Channel, Gamma};
 
 pub(crate) mod blocks;
+mod depth;
 mod fours;
+mod gray;
 
 /// Returns a channel at another depth.
 pub(crate) fn at_depth<C: Channel, D: Channel>(c: C) -> D

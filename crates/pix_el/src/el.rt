@@ -19,9 +19,11 @@ use crate::conversion::{at_depth, channel_at_depth, converted_within, reencoded_
 use crate::each::{composite_each, scale_each};
 use crate::matte::Matte;
 use crate::model::ColorModel;
-use crate::planes::masked::{faded_runs, masked_runs};
-use crate::planes::{color_runs, composite_runs, matte_runs};
 use crate::rgb::Rgb;
+use crate::rows::{
+    Blit, CompositedColor, CompositedPixels, FadedPixels, Fill, MaskedBlit, MattedColor,
+    MattedPixels,
+};
 use pix_chan::chan::{Alpha, Channel, Gamma, Linear, Premultiplied};
 use pix_ops::ops::Blend;
 use std::fmt::Debug;
@@ -321,10 +323,7 @@ pub trait Pixel: Copy + Debug + Default + PartialEq {
         ensures { map numbers dst.new ≡
             map (pixel_composite layout O.op (numbers clr.now)) (map numbers dst.old) }
     {
-        let start = color_runs::<O, Self>(dst, clr);
-        for i in start..dst.len() {
-            dst[i].composite_channels(clr, op);
-        }
+        CompositedColor { clr: *clr, op }.fill(dst);
     }
 
     /// Composites each pixel of `src` with that of `dst` at its index, up to the shorter length.
@@ -348,11 +347,8 @@ pub trait Pixel: Copy + Debug + Default + PartialEq {
         ensures { map numbers dst.new ≡
             over (pixel_composite layout O.op) (map numbers src.now) (map numbers dst.old) }
     {
-        let count = dst.len().min(src.len());
-        let start = composite_runs::<O, Self>(dst, src, count);
-        for i in start..count {
-            dst[i].composite_channels(&src[i], op);
-        }
+        let format = PhantomData;
+        CompositedPixels::<Self, O> { op, format }.blit(dst, src);
     }
 
     /// Composites `clr` with pixels of `dst` through mattes of `src`, up to the shorter length.
@@ -378,11 +374,7 @@ pub trait Pixel: Copy + Debug + Default + PartialEq {
             (matte_value layout matte) (numbers clr.now))
             (map (matte_numbers Self.Chan.number) src.now) (map numbers dst.old) }
     {
-        let count = src.len().min(dst.len());
-        let start = matte_runs::<N, A, O, Self>(dst, src, clr, count);
-        for i in start..count {
-            dst[i].composite_channels_alpha(clr, op, &src[i].alpha());
-        }
+        MattedColor { clr: *clr, op }.blit(dst, src);
     }
 
     /// Composites each pixel of `src` with that of `dst` at its index through the matte at that
@@ -401,11 +393,8 @@ pub trait Pixel: Copy + Debug + Default + PartialEq {
             (zip (map (matte_numbers Self.Chan.number) mattes.now) (map numbers src.now))
             (map numbers dst.old) }
     {
-        let count = dst.len().min(src.len()).min(mattes.len());
-        let start = masked_runs::<N, A, O, Self>(dst, src, mattes, count);
-        for i in start..count {
-            dst[i].composite_channels_alpha(&src[i], op, &mattes[i].alpha());
-        }
+        let format = PhantomData;
+        MattedPixels::<Self, O> { op, format }.blit(dst, src, mattes);
     }
 
     /// Composites each pixel of `src` with that of `dst` at its index through the matte value
@@ -423,11 +412,8 @@ pub trait Pixel: Copy + Debug + Default + PartialEq {
             over (matted_composite layout O.op (Self.Chan.number alpha.now))
             (map numbers src.now) (map numbers dst.old) }
     {
-        let count = dst.len().min(src.len());
-        let start = faded_runs::<O, Self>(dst, src, *alpha, count);
-        for i in start..count {
-            dst[i].composite_channels_alpha(&src[i], op, alpha);
-        }
+        let (alpha, format) = (*alpha, PhantomData);
+        FadedPixels::<Self, Self::Chan, O> { alpha, op, format }.blit(dst, src);
     }
 
     /// Copies `clr` to each pixel of `dst`.

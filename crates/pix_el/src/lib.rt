@@ -13,3 +13,5 @@ pub mod matte;
 pub mod model;
 mod planes;
 pub mod rgb;
+pub mod rows;
+pub mod stored;

@@ -6,37 +6,36 @@
 //! color of 8 bits through sixteen mattes. A pixel of one channel is its own alpha, so mattes go as
 //! they are in memory. Pixels through mattes use the same blocks (`masked.rt`).
 //!
-//! No contract above depends on it, so another way to cut a slice into blocks changes only this
-//! file and its folder.
-ghost use Rattle.std.specs.Prelude.{◌≡◌, ◌≤◌, ◌+◌, ◌-◌, length, map, take, true, replicate};
+//! The changes of rows choose a block by the model (`rows.rt`). No contract there depends on it.
+ghost use Rattle.std.specs.Prelude.{◌≡◌, ◌≤◌, ◌+◌, ◌-◌, length, map, take, true};
 ghost use Rattle.pix_chan.specs.Runs.{over, triples};
-ghost use Rattle.pix_el.specs.Planes.{run_hue, run_first, matted_first};
-ghost use Rattle.pix_el.specs.PixelComposite.{pixel_composite, matted_composite, matte_numbers, matte_value};
+ghost use Rattle.pix_el.specs.Planes.{coverage_of, run_hue, run_first, matted_first};
+ghost use Rattle.pix_el.specs.PixelComposite.{matted_composite};
 
-use crate::el::{Pix, Pixel};
+use crate::el::Pixel;
 use crate::hue::composite_hue;
-use crate::matte::Matte;
 use crate::model::{ColorModel, is_hue};
-use crate::planes::block::{color_blocks, composite_blocks, matte_blocks};
-use crate::planes::coverage::Coverage;
+use crate::planes::block::matte_blocks;
 use crate::planes::eight::Eight;
 use crate::planes::four::Four;
 use crate::planes::interleaved::Interleaved;
 use crate::planes::one::One;
 use crate::planes::two::Two;
-use pix_chan::chan::{Alpha, Channel, Linear};
+use crate::stored::{Coverage, Stored};
+use pix_chan::chan::Channel;
 use pix_ops::ops::Blend;
 
-mod block;
+pub(crate) mod block;
 mod coverage;
-mod eight;
-mod four;
+pub(crate) mod eight;
+pub(crate) mod four;
 mod fours;
+pub(crate) mod half;
 pub(crate) mod interleaved;
 pub(crate) mod masked;
-mod one;
-mod two;
-mod unchanged;
+pub(crate) mod one;
+pub(crate) mod two;
+pub(crate) mod unchanged;
 
 /// Composites the hues at the same index of all four slices, one after the other. The shortest
 /// length decides.
@@ -86,7 +85,7 @@ pub(crate) fn is_interleaved<P: Pixel>() -> bool
 
 /// Returns whether a model has four channels, of which only the first may be a hue.
 #[inline(always)]
-fn has_four<P: Pixel>() -> bool
+pub(crate) fn has_four<P: Pixel>() -> bool
     ensures alpha { result ≡ true → P.layout.alpha ≡ 3 }
     ensures hue { result ≡ true → P.layout.hues.end ≤ 1 }
 {
@@ -96,7 +95,7 @@ fn has_four<P: Pixel>() -> bool
 
 /// Returns whether a model has two channels, of which none is a hue.
 #[inline(always)]
-fn has_two<P: Pixel>() -> bool
+pub(crate) fn has_two<P: Pixel>() -> bool
     ensures alpha { result ≡ true → P.layout.alpha ≡ 1 }
     ensures no_hue { result ≡ true → P.layout.hues.end ≡ 0 }
 {
@@ -106,63 +105,12 @@ fn has_two<P: Pixel>() -> bool
 
 /// Returns whether a model has one channel, the alpha.
 #[inline(always)]
-fn has_one<P: Pixel>() -> bool
+pub(crate) fn has_one<P: Pixel>() -> bool
     ensures alpha { result ≡ true → P.layout.alpha ≡ 0 }
     ensures no_hue { result ≡ true → P.layout.hues.end ≡ 0 }
 {
     let hues = P::Model::CIRCULAR;
     P::Model::ALPHA == 0 && hues.end == 0
-}
-
-/// Composites as many of the first `count` pixels as go in blocks, and returns their number.
-///
-/// Condition: the format has an alpha channel, and both slices have `count` pixels.
-#[inline(always)]
-pub(crate) fn composite_runs<O: Blend, P: Pixel>(dst: &mut [P], src: &[P], count: usize) -> usize
-    requires has_alpha { P.layout.count ≡ P.layout.alpha + 1 }
-    requires dst_has { count ≤ length dst.old }
-    requires src_has { count ≤ length src.now }
-    ensures some { result ≤ count }
-    ensures composite { map P.numbers dst.new ≡ over (pixel_composite P.layout O.op)
-        (take result (map P.numbers src.now)) (map P.numbers dst.old) }
-{
-    if is_interleaved::<P>() {
-        let start = composite_blocks::<O, P, Eight>(dst, src, count);
-        let (rest, sources) = (&mut dst[start..], &src[start..]);
-        start + composite_blocks::<O, P, Interleaved>(rest, sources, count - start)
-    } else if has_four::<P>() {
-        composite_blocks::<O, P, Four>(dst, src, count)
-    } else if has_two::<P>() {
-        composite_blocks::<O, P, Two>(dst, src, count)
-    } else if has_one::<P>() {
-        composite_blocks::<O, P, One>(dst, src, count)
-    } else {
-        0
-    }
-}
-
-/// Composites `clr` with as many of the first pixels as go in blocks, and returns their number.
-///
-/// Condition: the format has an alpha channel.
-#[inline(always)]
-pub(crate) fn color_runs<O: Blend, P: Pixel>(dst: &mut [P], clr: &P) -> usize
-    requires has_alpha { P.layout.count ≡ P.layout.alpha + 1 }
-    ensures some { result ≤ length dst.old }
-    ensures composite { map P.numbers dst.new ≡ over (pixel_composite P.layout O.op)
-        (take result (replicate (length dst.old) (P.numbers clr.now))) (map P.numbers dst.old) }
-{
-    if is_interleaved::<P>() {
-        let start = color_blocks::<O, P, Eight>(dst, clr);
-        start + color_blocks::<O, P, Interleaved>(&mut dst[start..], clr)
-    } else if has_four::<P>() {
-        color_blocks::<O, P, Four>(dst, clr)
-    } else if has_two::<P>() {
-        color_blocks::<O, P, Two>(dst, clr)
-    } else if has_one::<P>() {
-        color_blocks::<O, P, One>(dst, clr)
-    } else {
-        0
-    }
 }
 
 /// Multiplies the first channels by the mattes of the same index. Hues stay as they are.
@@ -189,9 +137,9 @@ fn is_wide<C: Channel>() -> bool {
 /// Condition: the alpha is the last of four channels, none is a hue, and both slices have `count`
 /// elements.
 #[inline(always)]
-fn largest_coverage<O: Blend, P: Pixel, S: Coverage<P::Chan>>(
-    dst: &mut [P],
-    src: &[S],
+fn largest_coverage<O: Blend, P: Pixel, D: Stored<P>, M: Coverage<P::Chan>>(
+    dst: &mut [D],
+    src: &[M],
     clr: &P,
     count: usize,
 ) -> usize
@@ -201,14 +149,14 @@ fn largest_coverage<O: Blend, P: Pixel, S: Coverage<P::Chan>>(
     requires dst_has { count ≤ length dst.old }
     requires src_has { count ≤ length src.now }
     ensures some { result ≤ count }
-    ensures composite { map P.numbers dst.new ≡
+    ensures composite { map D.reads dst.new ≡
         over (λ m. matted_composite P.layout O.op m (P.numbers clr.now))
-        (take result (map S.value src.now)) (map P.numbers dst.old) }
+        (take result (map (coverage_of P.Chan.max M.numbers) src.now)) (map D.reads dst.old) }
 {
     if is_wide::<P::Chan>() {
-        matte_blocks::<O, P, S, Eight>(dst, src, clr, count)
+        matte_blocks::<O, P, D, M, Eight>(dst, src, clr, count)
     } else {
-        matte_blocks::<O, P, S, Four>(dst, src, clr, count)
+        matte_blocks::<O, P, D, M, Four>(dst, src, clr, count)
     }
 }
 
@@ -217,9 +165,9 @@ fn largest_coverage<O: Blend, P: Pixel, S: Coverage<P::Chan>>(
 ///
 /// Condition: the format has an alpha channel, and both slices have `count` elements.
 #[inline(always)]
-fn coverage_runs<O: Blend, P: Pixel, S: Coverage<P::Chan>>(
-    dst: &mut [P],
-    src: &[S],
+pub(crate) fn coverage_runs<O: Blend, P: Pixel, D: Stored<P>, M: Coverage<P::Chan>>(
+    dst: &mut [D],
+    src: &[M],
     clr: &P,
     count: usize,
 ) -> usize
@@ -227,43 +175,21 @@ fn coverage_runs<O: Blend, P: Pixel, S: Coverage<P::Chan>>(
     requires dst_has { count ≤ length dst.old }
     requires src_has { count ≤ length src.now }
     ensures some { result ≤ count }
-    ensures composite { map P.numbers dst.new ≡
+    ensures composite { map D.reads dst.new ≡
         over (λ m. matted_composite P.layout O.op m (P.numbers clr.now))
-        (take result (map S.value src.now)) (map P.numbers dst.old) }
+        (take result (map (coverage_of P.Chan.max M.numbers) src.now)) (map D.reads dst.old) }
 {
     if is_interleaved::<P>() {
-        let start = largest_coverage::<O, P, S>(dst, src, clr, count);
+        let start = largest_coverage::<O, P, D, M>(dst, src, clr, count);
         let (rest, mattes) = (&mut dst[start..], &src[start..]);
-        start + matte_blocks::<O, P, S, Interleaved>(rest, mattes, clr, count - start)
+        start + matte_blocks::<O, P, D, M, Interleaved>(rest, mattes, clr, count - start)
     } else if has_four::<P>() {
-        matte_blocks::<O, P, S, Four>(dst, src, clr, count)
+        matte_blocks::<O, P, D, M, Four>(dst, src, clr, count)
     } else if has_two::<P>() {
-        matte_blocks::<O, P, S, Two>(dst, src, clr, count)
+        matte_blocks::<O, P, D, M, Two>(dst, src, clr, count)
     } else if has_one::<P>() {
-        matte_blocks::<O, P, S, One>(dst, src, clr, count)
+        matte_blocks::<O, P, D, M, One>(dst, src, clr, count)
     } else {
         0
     }
-}
-
-/// Composites `clr` through mattes with as many of the first `count` pixels as go in blocks, and
-/// returns their number.
-///
-/// Condition: the format has an alpha channel, and both slices have `count` elements.
-#[inline(always)]
-pub(crate) fn matte_runs<const N: usize, A: Alpha, O: Blend, P: Pixel>(
-    dst: &mut [P],
-    src: &[Pix<N, P::Chan, Matte, A, Linear>],
-    clr: &P,
-    count: usize,
-) -> usize
-    requires has_alpha { P.layout.count ≡ P.layout.alpha + 1 }
-    requires dst_has { count ≤ length dst.old }
-    requires src_has { count ≤ length src.now }
-    ensures some { result ≤ count }
-    ensures composite { map P.numbers dst.new ≡ over (λ matte. matted_composite P.layout O.op
-        (matte_value P.layout matte) (P.numbers clr.now))
-        (take result (map (matte_numbers P.Chan.number) src.now)) (map P.numbers dst.old) }
-{
-    coverage_runs::<O, P, Pix<N, P::Chan, Matte, A, Linear>>(dst, src, clr, count)
 }

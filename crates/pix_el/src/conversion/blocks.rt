@@ -10,7 +10,9 @@ ghost use Rattle.pix_chan.specs.Runs.{over};
 ghost use Rattle.pix_el.specs.Planes.{linear_four, premultiplied_four};
 ghost use Rattle.pix_el.specs.Conversion.{at_depth, converted};
 
+use crate::conversion::depth::{deepen_blocks, deepens};
 use crate::conversion::fours::convert_fours;
+use crate::conversion::gray::{convert_grays, makes_gray};
 use crate::conversion::{at_depth, channel_at_depth};
 use crate::el::Pixel;
 use crate::model::ColorModel;
@@ -24,7 +26,7 @@ const BLOCK: usize = 64;
 
 /// Returns whether a format has four channels.
 #[inline(always)]
-pub(super) fn has_four_channels<P: Pixel>() -> bool
+pub(crate) fn has_four_channels<P: Pixel>() -> bool
     ensures { result ≡ true → P.layout.count ≡ 4 }
 {
     P::default().channels().len() == 4
@@ -169,6 +171,14 @@ where
         ⟦<P::Gamma as Gamma<D::Chan>>⟧.mode D.format D.Gamma.mode p)
         (take result (map P.numbers src.now)) (map D.numbers dst.old) }
 {
+    if deepens::<P, D>() {
+        let start = deepen_blocks::<P, D>(dst, src, count);
+        let (rest, pixels) = (&mut dst[start..], &src[start..]);
+        return start + convert_fours::<P, D>(rest, pixels, count - start);
+    }
+    if makes_gray::<P, D>() {
+        return convert_grays::<P, D>(dst, src, count);
+    }
     if !premultiplies::<P, D>() {
         return convert_fours::<P, D>(dst, src, count);
     }

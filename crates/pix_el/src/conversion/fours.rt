@@ -1,25 +1,28 @@
-//! Conversions that make each channel by itself, four pixels at a time.
+//! Conversions that make each channel by itself, or divide the colors by the alpha, four pixels at
+//! a time.
 //!
 //! Four pixels are read before one is written, so LLVM makes lanes of their channels. Where there
 //! are four channels they are not made into a pixel in between: LLVM would keep it in one number.
-ghost use Rattle.std.specs.Prelude.{◌≡◌, ◌≤◌, ◌+◌, [], ◌∷◌, length, map, take, true};
+ghost use Rattle.std.specs.Prelude.{◌≡◌, ◌≤◌, ◌+◌, ℕ, List, [], ◌∷◌, length, map, take, true};
 ghost use Rattle.pix_chan.specs.Runs.{over};
 ghost use Rattle.pix_el.specs.Conversion.{converted, of_depth};
 ghost use Rattle.pix_el.specs.Planes.{by_fours};
+ghost use Rattle.pix_el.specs.Unmultiplied.{unmultiplied_four};
 
 use crate::conversion::blocks::has_four_channels;
 use crate::conversion::channel_at_depth;
 use crate::el::Pixel;
 use crate::model::ColorModel;
 use crate::planes::interleaved::put_four_pixels;
-use pix_chan::chan::{Alpha, Channel, Gamma};
+use crate::planes::is_interleaved;
+use pix_chan::chan::{Alpha, Channel, Gamma, Linear, Premultiplied, Straight};
 
 /// How many pixels a block has.
 const BLOCK: usize = 4;
 
 /// Returns whether two formats have the same alpha mode and the same gamma mode.
 #[inline(always)]
-fn keeps_modes<P, D>() -> bool
+pub(super) fn keeps_modes<P, D>() -> bool
 where
     P: Pixel,
     D: Pixel,
@@ -51,7 +54,7 @@ where
 /// Returns whether the colors of a model are red, green and blue, or one minus each: `Rgb`, `Bgr`
 /// and `Cmy`.
 #[inline(always)]
-fn is_plain<M: ColorModel>() -> bool {
+pub(super) fn is_plain<M: ColorModel>() -> bool {
     M::KIND == 0 || M::KIND == 6 || M::KIND == 7
 }
 
@@ -73,7 +76,49 @@ where
         && D::default().channels().len() == 3
 }
 
-/// Returns whether a conversion makes each channel by itself.
+/// Returns whether a conversion divides linear colors of 16 bits by the alpha, and changes nothing
+/// else but the depth. The pixels have three colors and then an alpha.
+#[inline(always)]
+fn divides_alone<P, D>() -> bool
+where
+    P: Pixel,
+    D: Pixel,
+    P::Gamma: Gamma<D::Chan>,
+    ensures model { result ≡ true → P.Model.KIND ≡ D.Model.KIND }
+    ensures premultiplied { result ≡ true → P.Alpha.KIND ≡ 1 }
+    ensures straight { result ≡ true → D.Alpha.KIND ≡ 0 }
+    ensures from_linear { result ≡ true → ⟦<P::Gamma as Gamma<D::Chan>>⟧.KIND ≡ 0 }
+    ensures linear { result ≡ true → D.Gamma.KIND ≡ 0 }
+    ensures alpha { result ≡ true → D.layout.alpha ≡ 3 }
+    ensures no_hue { result ≡ true → D.layout.hues.end ≡ 0 }
+    ensures count { result ≡ true → D.layout.count ≡ 4 }
+{
+    <P::Model as ColorModel>::KIND == <D::Model as ColorModel>::KIND
+        && P::Alpha::KIND == Premultiplied::KIND
+        && D::Alpha::KIND == Straight::KIND
+        && <P::Gamma as Gamma<D::Chan>>::KIND == <Linear as Gamma<D::Chan>>::KIND
+        && <D::Gamma as Gamma<D::Chan>>::KIND == <Linear as Gamma<D::Chan>>::KIND
+        && is_interleaved::<D>()
+        && has_four_channels::<D>()
+        && D::Chan::MAX.to_u32() > 255
+}
+
+/// Does what [`divides_alone`] does, and says what the conversion is then.
+#[inline(always)]
+fn unmultiplies<P, D>() -> bool
+where
+    P: Pixel,
+    D: Pixel,
+    P::Gamma: Gamma<D::Chan>,
+    ensures count { result ≡ true → D.layout.count ≡ 4 }
+    ensures steps { result ≡ true → (p : List ℕ) → converted P.format
+        ⟦<P::Gamma as Gamma<D::Chan>>⟧.mode D.format D.Gamma.mode p
+        ≡ unmultiplied_four D.Chan.max (of_depth P.layout D.layout p) }
+{
+    divides_alone::<P, D>()
+}
+
+/// Returns whether a conversion makes each channel by itself, or divides the colors by the alpha.
 #[inline(always)]
 fn goes_by_fours<P, D>() -> bool
 where
@@ -81,7 +126,7 @@ where
     D: Pixel,
     P::Gamma: Gamma<D::Chan>,
 {
-    changes_depth::<P, D>() || makes_three::<P, D>()
+    changes_depth::<P, D>() || unmultiplies::<P, D>() || makes_three::<P, D>()
 }
 
 /// Returns the first four channels of a pixel at the depth of `D`, `MAX` where one is absent.
@@ -123,7 +168,7 @@ fn deepen_four<P: Pixel, D: Pixel>(dst: &mut [D], src: &[P])
     ensures { map D.numbers dst.new ≡
         map (of_depth P.layout D.layout) (map P.numbers src.now) }
 {
-    put_four_pixels(dst, four_at_depth::<P, D>(src));
+    put_four_pixels::<D, D>(dst, four_at_depth::<P, D>(src));
 }
 
 /// Returns four pixels in another format.
@@ -184,7 +229,29 @@ where
     put_four(dst, a, b, c, d);
 }
 
-/// Converts four pixels, by their depth alone where nothing else changes.
+/// Converts four pixels whose colors are divided by the alpha.
+///
+/// Condition: that is what the conversion is.
+#[inline(always)]
+fn unmultiply_four<P, D>(dst: &mut [D], src: &[P])
+where
+    P: Pixel,
+    D: Pixel,
+    P::Gamma: Gamma<D::Chan>,
+    requires count { D.layout.count ≡ 4 }
+    requires steps { (p : List ℕ) → converted P.format
+        ⟦<P::Gamma as Gamma<D::Chan>>⟧.mode D.format D.Gamma.mode p
+        ≡ unmultiplied_four D.Chan.max (of_depth P.layout D.layout p) }
+    requires dst_size { length dst.old ≡ 4 }
+    requires src_size { length src.now ≡ 4 }
+    ensures { map D.numbers dst.new ≡
+        map (converted P.format ⟦<P::Gamma as Gamma<D::Chan>>⟧.mode D.format D.Gamma.mode)
+        (map P.numbers src.now) }
+{
+    put_four_pixels(dst, D::Chan::unmultiplied4(four_at_depth::<P, D>(src)));
+}
+
+/// Converts four pixels, by their depth alone where nothing else changes, or by a division alone.
 ///
 /// Condition: that format has no more channels than its model.
 #[inline(always)]
@@ -203,6 +270,8 @@ where
 {
     if changes_depth::<P, D>() {
         deepen_four::<P, D>(dst, src);
+    } else if unmultiplies::<P, D>() {
+        unmultiply_four::<P, D>(dst, src);
     } else {
         convert_whole_four::<P, D>(dst, src);
     }

@@ -4,6 +4,7 @@
 //! one call encodes their sixteen channels.
 ghost use Rattle.std.specs.Prelude.{◌≡◌, ◌≤◌, ◌+◌, [], ◌∷◌, length, map, take, true};
 ghost use Rattle.pix_chan.specs.Runs.{over};
+ghost use Rattle.pix_chan.specs.Planes.{with_alphas};
 ghost use Rattle.pix_chan.specs.Srgb16.{srgb_decoded16, srgb_encoded8};
 ghost use Rattle.pix_el.specs.Pixel.{channel};
 ghost use Rattle.pix_el.specs.Conversion.{at_depth};
@@ -11,13 +12,13 @@ ghost use Rattle.pix_el.specs.Light.{in_light, as_srgb};
 ghost use Rattle.pix_el.specs.LightBlocks.{IsSameInBothModes, AreSameInBothModes, AreLevels, changed_four};
 ghost use Rattle.pix_el.specs.Planes.{by_fours};
 
-use crate::conversion::blocks::{Curve, premultiplies, premultiply_blocks};
-use crate::conversion::channel_at_depth;
+use crate::conversion::blocks::{Curve, has_four_channels, premultiplies, premultiply_blocks};
+use crate::conversion::{at_depth, channel_at_depth};
 use crate::el::Pixel;
 use crate::light::{Transfer, mode_changed};
 use crate::model::ColorModel;
-use crate::planes::interleaved::four_pixels;
-use pix_chan::chan::{Alpha, Ch8, Ch16, Channel, Linear};
+use crate::planes::interleaved::{four_pixels, put_four_pixels};
+use pix_chan::chan::{Alpha, Ch8, Ch16, Channel, Linear, Premultiplied, Straight};
 use std::marker::PhantomData;
 use std::simd::prelude::*;
 
@@ -210,7 +211,7 @@ fn four_in_mode<P: Pixel, D: Pixel>(p: &[P]) -> [P::Chan; 16]
         map (λ p. changed_four P.Chan.max P.Alpha.mode D.Alpha.mode (P.numbers p)) p.now }
 {
     if are_kept::<P, D>(p) {
-        four_pixels(p)
+        four_pixels::<P, P>(p)
     } else {
         four_changed::<P, D>(p)
     }
@@ -235,6 +236,99 @@ where
     <D::Gamma as Transfer<D::Chan, P::Chan>>::from_light16(four_in_mode::<P, D>(src))
 }
 
+/// Returns the first channels with the alphas of the second ones, at another depth. Both are of
+/// four pixels of four channels, pixel by pixel.
+#[inline(always)]
+fn put_alphas<C: Channel, D: Channel>(colors: [D; 16], c: [C; 16]) -> [D; 16]
+    ensures { map D.number result ≡
+        with_alphas (map D.number colors) (map (at_depth C.max D.max) (map C.number c)) }
+{
+    let mut to = colors;
+    to[3] = at_depth::<C, D>(c[3]);
+    to[7] = at_depth::<C, D>(c[7]);
+    to[11] = at_depth::<C, D>(c[11]);
+    to[15] = at_depth::<C, D>(c[15]);
+    to
+}
+
+/// Writes four sRGB pixels of the linear colors of `x` and the alphas of `c`. Both are of four
+/// pixels of four channels, pixel by pixel.
+#[inline(always)]
+fn put_encoded<C, D>(dst: &mut [D], x: [C; 16], c: [C; 16])
+where
+    C: Channel,
+    D: Pixel,
+    D::Gamma: Transfer<D::Chan, C>,
+    requires count { D.layout.count ≡ 4 }
+    requires size { length dst.old ≡ 4 }
+    ensures { map D.numbers dst.new ≡ by_fours (with_alphas
+        (map srgb_encoded8 (map C.number x)) (map (at_depth C.max D.Chan.max) (map C.number c))) }
+{
+    let levels = <D::Gamma as Transfer<D::Chan, C>>::from_light16(x);
+    put_four_pixels(dst, put_alphas::<C, D::Chan>(levels, c));
+}
+
+/// Encodes four linear pixels whose alpha mode stays.
+///
+/// Condition: there are three colors and then an alpha.
+#[inline(always)]
+fn encode_kept<P, D>(dst: &mut [D], src: &[P])
+where
+    P: Pixel,
+    D: Pixel<Model = P::Model>,
+    D::Gamma: Transfer<D::Chan, P::Chan>,
+    requires count { P.layout.count ≡ 4 }
+    requires to_count { D.layout.count ≡ 4 }
+    requires start { P.Model.LINEAR.start ≡ 0 }
+    requires end { P.Model.LINEAR.end ≡ 3 }
+    requires alpha { P.Model.ALPHA ≡ 3 }
+    requires size { length dst.old ≡ 4 }
+    requires src_size { length src.now ≡ 4 }
+    requires kinds { P.Alpha.KIND ≡ D.Alpha.KIND }
+    ensures { map D.numbers dst.new ≡
+        map (as_srgb P.format D.format) (map P.numbers src.now) }
+{
+    let c = four_pixels(src);
+    put_encoded::<P::Chan, D>(dst, c, c);
+}
+
+/// Encodes four premultiplied linear pixels as straight ones.
+///
+/// Condition: there are three colors and then an alpha.
+#[inline(always)]
+fn encode_unmultiplied<P, D>(dst: &mut [D], src: &[P])
+where
+    P: Pixel,
+    D: Pixel<Model = P::Model>,
+    D::Gamma: Transfer<D::Chan, P::Chan>,
+    requires count { P.layout.count ≡ 4 }
+    requires to_count { D.layout.count ≡ 4 }
+    requires start { P.Model.LINEAR.start ≡ 0 }
+    requires end { P.Model.LINEAR.end ≡ 3 }
+    requires alpha { P.Model.ALPHA ≡ 3 }
+    requires size { length dst.old ≡ 4 }
+    requires src_size { length src.now ≡ 4 }
+    requires premultiplied { P.Alpha.KIND ≡ 1 }
+    requires straight { D.Alpha.KIND ≡ 0 }
+    ensures { map D.numbers dst.new ≡
+        map (as_srgb P.format D.format) (map P.numbers src.now) }
+{
+    let c = four_pixels(src);
+    put_encoded::<P::Chan, D>(dst, P::Chan::unmultiplied4(c), c);
+}
+
+/// Returns whether premultiplied pixels become straight ones of four channels.
+#[inline(always)]
+fn unmultiplies<P: Pixel, D: Pixel>() -> bool
+    ensures premultiplied { result ≡ true → P.Alpha.KIND ≡ 1 }
+    ensures straight { result ≡ true → D.Alpha.KIND ≡ 0 }
+    ensures count { result ≡ true → D.layout.count ≡ 4 }
+{
+    P::Alpha::KIND == Premultiplied::KIND
+        && D::Alpha::KIND == Straight::KIND
+        && has_four_channels::<D>()
+}
+
 /// Encodes four linear pixels.
 ///
 /// Condition: there are three colors and then an alpha, and `D` has no more channels than its
@@ -255,7 +349,13 @@ where
     ensures { map D.numbers dst.new ≡
         map (as_srgb P.format D.format) (map P.numbers src.now) }
 {
-    put_shown::<P, D>(dst, src, four_levels::<P, D>(src));
+    if P::Alpha::KIND == D::Alpha::KIND && has_four_channels::<D>() {
+        encode_kept::<P, D>(dst, src);
+    } else if unmultiplies::<P, D>() {
+        encode_unmultiplied::<P, D>(dst, src);
+    } else {
+        put_shown::<P, D>(dst, src, four_levels::<P, D>(src));
+    }
 }
 
 /// Encodes as many of the first `count` pixels as go in fours, and returns their number.

@@ -3,15 +3,16 @@
 ghost use Rattle.std.specs.Prelude.{◌≡◌, ◌≤◌, ◌+◌, ℕ, length, map, take, replicate};
 ghost use Rattle.std.specs.List.{zip};
 ghost use Rattle.pix_chan.specs.Runs.{over};
+ghost use Rattle.pix_el.specs.Planes.{coverage_of};
 ghost use Rattle.pix_el.specs.PixelComposite.{pixel_composite, matted_composite};
 
 use crate::el::Pixel;
-use crate::planes::coverage::Coverage;
-use crate::planes::unchanged::{are_clear, keeps_all, keeps_under_clear, see_channels};
+use crate::planes::unchanged::{are_clear, keeps_all, keeps_under_clear};
+use crate::stored::{Coverage, Stored, see_channels};
 use pix_ops::ops::Blend;
 
 /// A way to composite the pixels of a format by blocks of one size.
-pub(super) trait Block<P: Pixel> {
+pub(crate) trait Block<P: Pixel> {
     /// The format is one for this way.
     ghost suits: { Type 0 };
 
@@ -28,70 +29,74 @@ pub(super) trait Block<P: Pixel> {
     ghost some: { SIZE ≡ more + 1 };
 
     /// Composites the pixels of a block with those of another.
-    fn composite<O: Blend>(dst: &mut [P], src: &[P])
+    fn composite<O: Blend, D: Stored<P>, S: Stored<P>>(dst: &mut [D], src: &[S])
         requires suits { suits }
         requires size { length dst.old ≡ SIZE }
         requires src_size { length src.now ≡ SIZE }
-        ensures { map P.numbers dst.new ≡ over (pixel_composite P.layout O.op)
-            (map P.numbers src.now) (map P.numbers dst.old) };
+        ensures { map D.reads dst.new ≡ over (pixel_composite P.layout O.op)
+            (map S.reads src.now) (map D.reads dst.old) };
 
     /// Composites `clr` with each pixel of a block.
-    fn color<O: Blend>(dst: &mut [P], clr: &P)
+    fn color<O: Blend, D: Stored<P>>(dst: &mut [D], clr: &P)
         requires suits { suits }
         requires size { length dst.old ≡ SIZE }
-        ensures { map P.numbers dst.new ≡ over (pixel_composite P.layout O.op)
-            (replicate SIZE (P.numbers clr.now)) (map P.numbers dst.old) };
+        ensures { map D.reads dst.new ≡ over (pixel_composite P.layout O.op)
+            (replicate SIZE (P.numbers clr.now)) (map D.reads dst.old) };
 
     /// Composites `clr` with each pixel of a block through the matte of the same index.
-    fn matted<O: Blend, S: Coverage<P::Chan>>(dst: &mut [P], src: &[S], clr: &P)
+    fn matted<O: Blend, D: Stored<P>, M: Coverage<P::Chan>>(dst: &mut [D], src: &[M], clr: &P)
         requires suits { suits }
         requires size { length dst.old ≡ SIZE }
         requires src_size { length src.now ≡ SIZE }
-        ensures { map P.numbers dst.new ≡
+        ensures { map D.reads dst.new ≡
             over (λ m. matted_composite P.layout O.op m (P.numbers clr.now))
-            (map S.value src.now) (map P.numbers dst.old) };
+            (map (coverage_of P.Chan.max M.numbers) src.now) (map D.reads dst.old) };
 
     /// Composites the pixels of a block with those of another, each through the matte of the same
     /// index.
-    fn masked<O: Blend, S: Coverage<P::Chan>>(dst: &mut [P], src: &[P], mattes: &[S])
+    fn masked<O: Blend, D: Stored<P>, S: Stored<P>, M: Coverage<P::Chan>>(
+        dst: &mut [D],
+        src: &[S],
+        mattes: &[M],
+    )
         requires suits { suits }
         requires size { length dst.old ≡ SIZE }
         requires src_size { length src.now ≡ SIZE }
         requires mattes_size { length mattes.now ≡ SIZE }
-        ensures { map P.numbers dst.new ≡
+        ensures { map D.reads dst.new ≡
             over (λ t. matted_composite P.layout O.op t.0 t.1)
-            (zip (map S.value mattes.now) (map P.numbers src.now)) (map P.numbers dst.old) };
+            (zip (map (coverage_of P.Chan.max M.numbers) mattes.now) (map S.reads src.now)) (map D.reads dst.old) };
 
     /// Composites the pixels of a block with those of another, each through the same matte value.
-    fn faded<O: Blend>(dst: &mut [P], src: &[P], alpha: P::Chan)
+    fn faded<O: Blend, D: Stored<P>, S: Stored<P>>(dst: &mut [D], src: &[S], alpha: P::Chan)
         requires suits { suits }
         requires size { length dst.old ≡ SIZE }
         requires src_size { length src.now ≡ SIZE }
-        ensures { map P.numbers dst.new ≡
+        ensures { map D.reads dst.new ≡
             over (matted_composite P.layout O.op (P.Chan.number alpha))
-            (map P.numbers src.now) (map P.numbers dst.old) };
+            (map S.reads src.now) (map D.reads dst.old) };
 }
 
 /// Composites as many of the first `count` pixels as go in whole blocks, and returns their number.
 ///
 /// Condition: both slices have `count` pixels.
 #[inline(always)]
-pub(super) fn composite_blocks<O: Blend, P: Pixel, B: Block<P>>(
-    dst: &mut [P],
-    src: &[P],
+pub(crate) fn composite_blocks<O: Blend, P: Pixel, D: Stored<P>, S: Stored<P>, B: Block<P>>(
+    dst: &mut [D],
+    src: &[S],
     count: usize,
 ) -> usize
     requires suits { B.suits }
     requires dst_has { count ≤ length dst.old }
     requires src_has { count ≤ length src.now }
     ensures some { result ≤ count }
-    ensures composite { map P.numbers dst.new ≡ over (pixel_composite P.layout O.op)
-        (take result (map P.numbers src.now)) (map P.numbers dst.old) }
+    ensures composite { map D.reads dst.new ≡ over (pixel_composite P.layout O.op)
+        (take result (map S.reads src.now)) (map D.reads dst.old) }
 {
     let size = B::SIZE;
     for i in 0..count / size {
         let at = size * i;
-        B::composite::<O>(&mut dst[at..at + size], &src[at..at + size]);
+        B::composite::<O, D, S>(&mut dst[at..at + size], &src[at..at + size]);
     }
     count / size * size
 }
@@ -99,18 +104,21 @@ pub(super) fn composite_blocks<O: Blend, P: Pixel, B: Block<P>>(
 /// Composites `clr` with as many of the first pixels as go in whole blocks, and returns their
 /// number.
 #[inline(always)]
-pub(super) fn color_blocks<O: Blend, P: Pixel, B: Block<P>>(dst: &mut [P], clr: &P) -> usize
+pub(crate) fn color_blocks<O: Blend, P: Pixel, D: Stored<P>, B: Block<P>>(
+    dst: &mut [D],
+    clr: &P,
+) -> usize
     requires suits { B.suits }
     ensures some { result ≤ length dst.old }
-    ensures composite { map P.numbers dst.new ≡ over (pixel_composite P.layout O.op)
-        (take result (replicate (length dst.old) (P.numbers clr.now))) (map P.numbers dst.old) }
+    ensures composite { map D.reads dst.new ≡ over (pixel_composite P.layout O.op)
+        (take result (replicate (length dst.old) (P.numbers clr.now))) (map D.reads dst.old) }
 {
     let color = *clr;
     let size = B::SIZE;
     let count = dst.len();
     for i in 0..count / size {
         let at = size * i;
-        B::color::<O>(&mut dst[at..at + size], &color);
+        B::color::<O, D>(&mut dst[at..at + size], &color);
     }
     count / size * size
 }
@@ -121,25 +129,25 @@ pub(super) fn color_blocks<O: Blend, P: Pixel, B: Block<P>>(dst: &mut [P], clr: 
 ///
 /// Condition: the format has an alpha channel.
 #[inline(always)]
-fn matted_block<O: Blend, P: Pixel, S: Coverage<P::Chan>, B: Block<P>>(
-    dst: &mut [P],
-    src: &[S],
+fn matted_block<O: Blend, P: Pixel, D: Stored<P>, M: Coverage<P::Chan>, B: Block<P>>(
+    dst: &mut [D],
+    src: &[M],
     clr: &P,
 )
     requires has_alpha { P.layout.count ≡ P.layout.alpha + 1 }
     requires suits { B.suits }
     requires size { length dst.old ≡ B.SIZE }
     requires src_size { length src.now ≡ B.SIZE }
-    ensures { map P.numbers dst.new ≡
+    ensures { map D.reads dst.new ≡
         over (λ m. matted_composite P.layout O.op m (P.numbers clr.now))
-        (map S.value src.now) (map P.numbers dst.old) }
+        (map (coverage_of P.Chan.max M.numbers) src.now) (map D.reads dst.old) }
 {
     if keeps_all::<O, P::Chan>() {
-        see_channels(dst);
-    } else if keeps_under_clear::<O, P::Chan>() && are_clear::<P::Chan, S>(src) {
-        see_channels(dst);
+        see_channels::<P, D>(dst);
+    } else if keeps_under_clear::<O, P::Chan>() && are_clear::<P::Chan, M>(src) {
+        see_channels::<P, D>(dst);
     } else {
-        B::matted::<O, S>(dst, src, clr);
+        B::matted::<O, D, M>(dst, src, clr);
     }
 }
 
@@ -148,9 +156,9 @@ fn matted_block<O: Blend, P: Pixel, S: Coverage<P::Chan>, B: Block<P>>(
 ///
 /// Condition: the format has an alpha channel, and both slices have `count` elements.
 #[inline(always)]
-pub(super) fn matte_blocks<O: Blend, P: Pixel, S: Coverage<P::Chan>, B: Block<P>>(
-    dst: &mut [P],
-    src: &[S],
+pub(super) fn matte_blocks<O: Blend, P: Pixel, D: Stored<P>, M: Coverage<P::Chan>, B: Block<P>>(
+    dst: &mut [D],
+    src: &[M],
     clr: &P,
     count: usize,
 ) -> usize
@@ -159,15 +167,15 @@ pub(super) fn matte_blocks<O: Blend, P: Pixel, S: Coverage<P::Chan>, B: Block<P>
     requires dst_has { count ≤ length dst.old }
     requires src_has { count ≤ length src.now }
     ensures some { result ≤ count }
-    ensures composite { map P.numbers dst.new ≡
+    ensures composite { map D.reads dst.new ≡
         over (λ m. matted_composite P.layout O.op m (P.numbers clr.now))
-        (take result (map S.value src.now)) (map P.numbers dst.old) }
+        (take result (map (coverage_of P.Chan.max M.numbers) src.now)) (map D.reads dst.old) }
 {
     let color = *clr;
     let size = B::SIZE;
     for i in 0..count / size {
         let at = size * i;
-        matted_block::<O, P, S, B>(&mut dst[at..at + size], &src[at..at + size], &color);
+        matted_block::<O, P, D, M, B>(&mut dst[at..at + size], &src[at..at + size], &color);
     }
     count / size * size
 }
@@ -177,26 +185,28 @@ pub(super) fn matte_blocks<O: Blend, P: Pixel, S: Coverage<P::Chan>, B: Block<P>
 ///
 /// Condition: all three slices have `count` elements.
 #[inline(always)]
-pub(super) fn masked_blocks<O: Blend, P: Pixel, S: Coverage<P::Chan>, B: Block<P>>(
-    dst: &mut [P],
-    src: &[P],
-    mattes: &[S],
-    count: usize,
-) -> usize
+pub(super) fn masked_blocks<
+    O: Blend,
+    P: Pixel,
+    D: Stored<P>,
+    S: Stored<P>,
+    M: Coverage<P::Chan>,
+    B: Block<P>,
+>(dst: &mut [D], src: &[S], mattes: &[M], count: usize) -> usize
     requires suits { B.suits }
     requires dst_has { count ≤ length dst.old }
     requires src_has { count ≤ length src.now }
     requires mattes_have { count ≤ length mattes.now }
     ensures some { result ≤ count }
-    ensures composite { map P.numbers dst.new ≡ over (λ t. matted_composite P.layout O.op t.0 t.1)
-        (take result (zip (map S.value mattes.now) (map P.numbers src.now)))
-        (map P.numbers dst.old) }
+    ensures composite { map D.reads dst.new ≡ over (λ t. matted_composite P.layout O.op t.0 t.1)
+        (take result (zip (map (coverage_of P.Chan.max M.numbers) mattes.now) (map S.reads src.now)))
+        (map D.reads dst.old) }
 {
     let size = B::SIZE;
     for i in 0..count / size {
         let at = size * i;
         let end = at + size;
-        B::masked::<O, S>(&mut dst[at..end], &src[at..end], &mattes[at..end]);
+        B::masked::<O, D, S, M>(&mut dst[at..end], &src[at..end], &mattes[at..end]);
     }
     count / size * size
 }
@@ -206,9 +216,9 @@ pub(super) fn masked_blocks<O: Blend, P: Pixel, S: Coverage<P::Chan>, B: Block<P
 ///
 /// Condition: both slices have `count` pixels.
 #[inline(always)]
-pub(super) fn faded_blocks<O: Blend, P: Pixel, B: Block<P>>(
-    dst: &mut [P],
-    src: &[P],
+pub(super) fn faded_blocks<O: Blend, P: Pixel, D: Stored<P>, S: Stored<P>, B: Block<P>>(
+    dst: &mut [D],
+    src: &[S],
     alpha: P::Chan,
     count: usize,
 ) -> usize
@@ -216,14 +226,14 @@ pub(super) fn faded_blocks<O: Blend, P: Pixel, B: Block<P>>(
     requires dst_has { count ≤ length dst.old }
     requires src_has { count ≤ length src.now }
     ensures some { result ≤ count }
-    ensures composite { map P.numbers dst.new ≡
+    ensures composite { map D.reads dst.new ≡
         over (matted_composite P.layout O.op (P.Chan.number alpha))
-        (take result (map P.numbers src.now)) (map P.numbers dst.old) }
+        (take result (map S.reads src.now)) (map D.reads dst.old) }
 {
     let size = B::SIZE;
     for i in 0..count / size {
         let at = size * i;
-        B::faded::<O>(&mut dst[at..at + size], &src[at..at + size], alpha);
+        B::faded::<O, D, S>(&mut dst[at..at + size], &src[at..at + size], alpha);
     }
     count / size * size
 }

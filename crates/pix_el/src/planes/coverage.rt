@@ -1,35 +1,15 @@
-//! Mattes by their values alone.
-ghost use Rattle.std.specs.Prelude.{◌≡◌, ℕ, length, map};
-ghost use Rattle.pix_el.specs.Pixel.{channel};
+//! The values of several mattes.
+ghost use Rattle.std.specs.Prelude.{◌≡◌, length, map};
+ghost use Rattle.pix_el.specs.Planes.{coverage_of};
 
-use crate::el::{Pix, Pixel};
-use crate::matte::Matte;
-use pix_chan::chan::{Alpha, Channel, Linear};
-
-/// A matte: how much of a color a pixel takes.
-pub(super) trait Coverage<C: Channel> {
-    /// The number of its value.
-    ghost value: { Self → ℕ };
-
-    /// Returns its value.
-    fn coverage(&self) -> C
-        ensures { C.number result ≡ value self.now };
-}
-
-impl<const N: usize, C: Channel, A: Alpha> Coverage<C> for Pix<N, C, Matte, A, Linear> {
-    ghost value = { λ matte. channel C.max (map C.number matte.channels) 0 };
-
-    #[inline(always)]
-    fn coverage(&self) -> C {
-        self.alpha()
-    }
-}
+use crate::stored::Coverage;
+use pix_chan::chan::Channel;
 
 /// Returns the values of sixteen mattes.
 #[inline(always)]
-pub(super) fn matte_values<C: Channel, S: Coverage<C>>(src: &[S]) -> [C; 16]
+pub(super) fn matte_values<C: Channel, M: Coverage<C>>(src: &[M]) -> [C; 16]
     requires { length src.now ≡ 16 }
-    ensures { map C.number result ≡ map S.value src.now }
+    ensures { map C.number result ≡ map (coverage_of C.max M.numbers) src.now }
 {
     [
         src[0].coverage(),
@@ -53,9 +33,9 @@ pub(super) fn matte_values<C: Channel, S: Coverage<C>>(src: &[S]) -> [C; 16]
 
 /// Returns the values of eight mattes.
 #[inline(always)]
-pub(super) fn eight_values<C: Channel, S: Coverage<C>>(src: &[S]) -> [C; 8]
+pub(super) fn eight_values<C: Channel, M: Coverage<C>>(src: &[M]) -> [C; 8]
     requires { length src.now ≡ 8 }
-    ensures { map C.number result ≡ map S.value src.now }
+    ensures { map C.number result ≡ map (coverage_of C.max M.numbers) src.now }
 {
     [
         src[0].coverage(),

@@ -8,31 +8,23 @@ ghost use Rattle.pix_el.specs.PixelComposite.{pixel_composite, matted_color, mat
 
 use crate::el::Pixel;
 use crate::planes::block::Block;
-use crate::planes::coverage::{Coverage, eight_values};
-use crate::planes::interleaved::{four_channels, put_channels};
+use crate::planes::coverage::eight_values;
+use crate::planes::interleaved::four_channels;
 use crate::planes::masked::{composite_eight_covered, composite_eight_faded};
+use crate::stored::{Coverage, Stored};
 use pix_chan::chan::Channel;
 use pix_ops::ops::Blend;
 
 /// Returns the channels of eight pixels, pixel by pixel.
 #[inline(always)]
-pub(super) fn eight_pixels<P: Pixel>(p: &[P]) -> [P::Chan; 32]
+pub(super) fn eight_pixels<P: Pixel, D: Stored<P>>(p: &[D]) -> [P::Chan; 32]
     requires count { P.layout.count ≡ 4 }
     requires size { length p.now ≡ 8 }
-    ensures { by_fours (map P.Chan.number result) ≡ map P.numbers p.now }
+    ensures { by_fours (map P.Chan.number result) ≡ map D.reads p.now }
 {
-    let (a0, b0, c0, d0) = four_channels(&p[0]);
-    let (a1, b1, c1, d1) = four_channels(&p[1]);
-    let (a2, b2, c2, d2) = four_channels(&p[2]);
-    let (a3, b3, c3, d3) = four_channels(&p[3]);
-    let (a4, b4, c4, d4) = four_channels(&p[4]);
-    let (a5, b5, c5, d5) = four_channels(&p[5]);
-    let (a6, b6, c6, d6) = four_channels(&p[6]);
-    let (a7, b7, c7, d7) = four_channels(&p[7]);
-    [
-        a0, b0, c0, d0, a1, b1, c1, d1, a2, b2, c2, d2, a3, b3, c3, d3, a4, b4, c4, d4, a5, b5, c5,
-        d5, a6, b6, c6, d6, a7, b7, c7, d7,
-    ]
+    let mut own = [P::Chan::MIN; 32];
+    D::load_channels(p, &mut own);
+    own
 }
 
 /// Returns the channels of eight pixels of one color, pixel by pixel.
@@ -50,14 +42,12 @@ fn eight_times<P: Pixel>(clr: &P) -> [P::Chan; 32]
 
 /// Writes eight pixels from their channels, pixel by pixel.
 #[inline(always)]
-fn put_eight_pixels<P: Pixel>(p: &mut [P], c: [P::Chan; 32])
+fn put_eight_pixels<P: Pixel, D: Stored<P>>(p: &mut [D], c: [P::Chan; 32])
     requires count { P.layout.count ≡ 4 }
     requires size { length p.old ≡ 8 }
-    ensures { map P.numbers p.new ≡ by_fours (map P.Chan.number c) }
+    ensures { map D.reads p.new ≡ by_fours (map P.Chan.number c) }
 {
-    let c = &c[..];
-    put_channels(&mut p[..4], &c[..16]);
-    put_channels(&mut p[4..8], &c[16..32]);
+    D::store_channels(p, &c);
 }
 
 /// Returns both arrays, one after the other.
@@ -116,26 +106,26 @@ pub(super) fn covered<P: Pixel, const CALLER: usize>(
 ///
 /// Condition: the alpha is the last channel, and none is a hue.
 #[inline(always)]
-pub(super) fn composite_eight<O: Blend, P: Pixel, const CALLER: usize>(
-    dst: &mut [P],
+pub(super) fn composite_eight<O: Blend, P: Pixel, D: Stored<P>, const CALLER: usize>(
+    dst: &mut [D],
     src: [P::Chan; 32],
 )
     requires count { P.layout.count ≡ 4 }
     requires alpha { P.layout.alpha ≡ 3 }
     requires no_hue { P.layout.hues.end ≡ 0 }
     requires size { length dst.old ≡ 8 }
-    ensures { map P.numbers dst.new ≡ over (pixel_composite P.layout O.op)
-        (by_fours (map P.Chan.number src)) (map P.numbers dst.old) }
+    ensures { map D.reads dst.new ≡ over (pixel_composite P.layout O.op)
+        (by_fours (map P.Chan.number src)) (map D.reads dst.old) }
 {
-    let mut to = eight_pixels(dst);
+    let mut to = eight_pixels::<P, D>(dst);
     let da1 = P::Chan::less32(P::Chan::alphas8(to));
     let sa1 = P::Chan::less32(P::Chan::alphas8(src));
-    O::composite_run(&mut to, &da1, &src, &sa1);
-    put_eight_pixels(dst, to);
+    O::composite_block(&mut to, &da1, &src, &sa1);
+    put_eight_pixels::<P, D>(dst, to);
 }
 
 /// Pixels of four channels without a hue, eight at a time.
-pub(super) struct Eight {}
+pub(crate) struct Eight {}
 
 impl<P: Pixel> Block<P> for Eight {
     ghost suits = { (P.layout.count ≡ 4) × (P.layout.alpha ≡ 3) × (P.layout.hues.end ≡ 0) };
@@ -149,28 +139,32 @@ impl<P: Pixel> Block<P> for Eight {
     ghost some = { refl };
 
     #[inline(always)]
-    fn composite<O: Blend>(dst: &mut [P], src: &[P]) {
-        composite_eight::<O, P, 0>(dst, eight_pixels(src));
+    fn composite<O: Blend, D: Stored<P>, S: Stored<P>>(dst: &mut [D], src: &[S]) {
+        composite_eight::<O, P, D, 0>(dst, eight_pixels::<P, S>(src));
     }
 
     #[inline(always)]
-    fn color<O: Blend>(dst: &mut [P], clr: &P) {
-        composite_eight::<O, P, 1>(dst, eight_times(clr));
+    fn color<O: Blend, D: Stored<P>>(dst: &mut [D], clr: &P) {
+        composite_eight::<O, P, D, 1>(dst, eight_times(clr));
     }
 
     #[inline(always)]
-    fn matted<O: Blend, S: Coverage<P::Chan>>(dst: &mut [P], src: &[S], clr: &P) {
+    fn matted<O: Blend, D: Stored<P>, M: Coverage<P::Chan>>(dst: &mut [D], src: &[M], clr: &P) {
         let colors = covered::<P, 2>(eight_times(clr), &eight_values(src));
-        composite_eight::<O, P, 2>(dst, colors);
+        composite_eight::<O, P, D, 2>(dst, colors);
     }
 
     #[inline(always)]
-    fn masked<O: Blend, S: Coverage<P::Chan>>(dst: &mut [P], src: &[P], mattes: &[S]) {
-        composite_eight_covered::<O, P, S>(dst, src, mattes);
+    fn masked<O: Blend, D: Stored<P>, S: Stored<P>, M: Coverage<P::Chan>>(
+        dst: &mut [D],
+        src: &[S],
+        mattes: &[M],
+    ) {
+        composite_eight_covered::<O, P, D, S, M>(dst, src, mattes);
     }
 
     #[inline(always)]
-    fn faded<O: Blend>(dst: &mut [P], src: &[P], alpha: P::Chan) {
-        composite_eight_faded::<O, P>(dst, src, alpha);
+    fn faded<O: Blend, D: Stored<P>, S: Stored<P>>(dst: &mut [D], src: &[S], alpha: P::Chan) {
+        composite_eight_faded::<O, P, D, S>(dst, src, alpha);
     }
 }

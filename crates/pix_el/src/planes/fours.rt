@@ -4,30 +4,31 @@ ghost use Rattle.pix_el.specs.Planes.{by_fours};
 
 use crate::el::Pixel;
 use crate::planes::interleaved::{four_pixels, put_four_pixels};
+use crate::stored::Stored;
 
 /// Returns the channels of sixteen pixels, those of four pixels in each array. Each `CALLER` has a
 /// copy of its own, since LLVM inlines a function that is called once.
 #[inline(always)]
-pub(super) fn fours<P: Pixel, const CALLER: usize>(
-    p: &[P],
+pub(super) fn fours<P: Pixel, D: Stored<P>, const CALLER: usize>(
+    p: &[D],
 ) -> ([P::Chan; 16], [P::Chan; 16], [P::Chan; 16], [P::Chan; 16])
     requires count { P.layout.count ≡ 4 }
     requires size { length p.now ≡ 16 }
     ensures { by_fours ((map P.Chan.number result.0 ++ map P.Chan.number result.1)
-        ++ (map P.Chan.number result.2 ++ map P.Chan.number result.3)) ≡ map P.numbers p.now }
+        ++ (map P.Chan.number result.2 ++ map P.Chan.number result.3)) ≡ map D.reads p.now }
 {
     (
-        four_pixels(&p[..4]),
-        four_pixels(&p[4..8]),
-        four_pixels(&p[8..12]),
-        four_pixels(&p[12..16]),
+        four_pixels::<P, D>(&p[..4]),
+        four_pixels::<P, D>(&p[4..8]),
+        four_pixels::<P, D>(&p[8..12]),
+        four_pixels::<P, D>(&p[12..16]),
     )
 }
 
 /// Writes sixteen pixels from their channels, those of four pixels in each array.
 #[inline(always)]
-pub(super) fn put_fours<P: Pixel>(
-    p: &mut [P],
+pub(super) fn put_fours<P: Pixel, D: Stored<P>>(
+    p: &mut [D],
     a: [P::Chan; 16],
     b: [P::Chan; 16],
     c: [P::Chan; 16],
@@ -35,11 +36,11 @@ pub(super) fn put_fours<P: Pixel>(
 )
     requires count { P.layout.count ≡ 4 }
     requires size { length p.old ≡ 16 }
-    ensures { map P.numbers p.new ≡ by_fours ((map P.Chan.number a ++ map P.Chan.number b)
+    ensures { map D.reads p.new ≡ by_fours ((map P.Chan.number a ++ map P.Chan.number b)
         ++ (map P.Chan.number c ++ map P.Chan.number d)) }
 {
-    put_four_pixels(&mut p[..4], a);
-    put_four_pixels(&mut p[4..8], b);
-    put_four_pixels(&mut p[8..12], c);
-    put_four_pixels(&mut p[12..16], d);
+    put_four_pixels::<P, D>(&mut p[..4], a);
+    put_four_pixels::<P, D>(&mut p[4..8], b);
+    put_four_pixels::<P, D>(&mut p[8..12], c);
+    put_four_pixels::<P, D>(&mut p[12..16], d);
 }

@@ -2,13 +2,13 @@
 //! pixel by pixel.
 ghost use Rattle.std.specs.Prelude.{◌≡◌, [], ◌∷◌, length, map, replicate, refl};
 ghost use Rattle.pix_chan.specs.Runs.{over};
-ghost use Rattle.pix_el.specs.Planes.{by_fours, premultiplied_four};
+ghost use Rattle.pix_el.specs.Planes.{by_fours, coverage_of, premultiplied_four};
 ghost use Rattle.pix_el.specs.PixelComposite.{pixel_composite, matted_composite};
 
 use crate::el::Pixel;
 use crate::planes::block::Block;
-use crate::planes::coverage::Coverage;
 use crate::planes::masked::{composite_covered, composite_masked};
+use crate::stored::{Coverage, Stored};
 use pix_chan::chan::Channel;
 use pix_ops::ops::Blend;
 
@@ -25,16 +25,14 @@ pub(super) fn four_channels<P: Pixel>(p: &P) -> (P::Chan, P::Chan, P::Chan, P::C
 
 /// Returns the channels of four pixels, pixel by pixel.
 #[inline(always)]
-pub(crate) fn four_pixels<P: Pixel>(p: &[P]) -> [P::Chan; 16]
+pub(crate) fn four_pixels<P: Pixel, D: Stored<P>>(p: &[D]) -> [P::Chan; 16]
     requires count { P.layout.count ≡ 4 }
     requires size { length p.now ≡ 4 }
-    ensures { by_fours (map P.Chan.number result) ≡ map P.numbers p.now }
+    ensures { by_fours (map P.Chan.number result) ≡ map D.reads p.now }
 {
-    let (a, b, c, d) = four_channels(&p[0]);
-    let (e, f, g, h) = four_channels(&p[1]);
-    let (i, j, k, l) = four_channels(&p[2]);
-    let (m, n, o, q) = four_channels(&p[3]);
-    [a, b, c, d, e, f, g, h, i, j, k, l, m, n, o, q]
+    let mut own = [P::Chan::MIN; 16];
+    D::load_channels(p, &mut own);
+    own
 }
 
 /// Returns the channels of four pixels of one color, pixel by pixel.
@@ -47,55 +45,15 @@ fn four_times<P: Pixel>(clr: &P) -> [P::Chan; 16]
     [a, b, c, d, a, b, c, d, a, b, c, d, a, b, c, d]
 }
 
-/// Writes the four channels of a pixel.
-#[inline(always)]
-fn put_pixel<P: Pixel>(p: &mut P, one: P::Chan, two: P::Chan, three: P::Chan, four: P::Chan)
-    requires { P.layout.count ≡ 4 }
-    ensures { P.numbers p.new ≡ P.Chan.number one ∷ P.Chan.number two
-        ∷ P.Chan.number three ∷ P.Chan.number four ∷ [] }
-{
-    let to = p.channels_mut();
-    to[0] = one;
-    to[1] = two;
-    to[2] = three;
-    to[3] = four;
-}
-
-/// Writes two pixels from their channels, pixel by pixel.
-#[inline(always)]
-fn put_two_pixels<P: Pixel>(p: &mut [P], c: &[P::Chan])
-    requires count { P.layout.count ≡ 4 }
-    requires size { length p.old ≡ 2 }
-    requires whole { length c.now ≡ 8 }
-    ensures size { length p.new ≡ 2 }
-    ensures pixels { map P.numbers p.new ≡ by_fours (map P.Chan.number c.now) }
-{
-    put_pixel(&mut p[0], c[0], c[1], c[2], c[3]);
-    put_pixel(&mut p[1], c[4], c[5], c[6], c[7]);
-}
-
-/// Writes four pixels from a slice of their channels.
-#[inline(always)]
-pub(super) fn put_channels<P: Pixel>(p: &mut [P], c: &[P::Chan])
-    requires count { P.layout.count ≡ 4 }
-    requires size { length p.old ≡ 4 }
-    requires whole { length c.now ≡ 16 }
-    ensures size { length p.new ≡ 4 }
-    ensures pixels { map P.numbers p.new ≡ by_fours (map P.Chan.number c.now) }
-{
-    put_two_pixels(&mut p[..2], &c[..8]);
-    put_two_pixels(&mut p[2..4], &c[8..16]);
-}
-
 /// Writes four pixels from their channels.
 #[inline(always)]
-pub(crate) fn put_four_pixels<P: Pixel>(p: &mut [P], c: [P::Chan; 16])
+pub(crate) fn put_four_pixels<P: Pixel, D: Stored<P>>(p: &mut [D], c: [P::Chan; 16])
     requires count { P.layout.count ≡ 4 }
     requires size { length p.old ≡ 4 }
     ensures size { length p.new ≡ 4 }
-    ensures pixels { map P.numbers p.new ≡ by_fours (map P.Chan.number c) }
+    ensures pixels { map D.reads p.new ≡ by_fours (map P.Chan.number c) }
 {
-    put_channels(p, &c);
+    D::store_channels(p, &c);
 }
 
 /// Returns four pixels after those of `src` are composited with them. At each index the alphas are
@@ -112,7 +70,7 @@ fn composited<O: Blend, P: Pixel>(mut to: [P::Chan; 16], src: [P::Chan; 16]) -> 
 {
     let da1 = P::Chan::less16(P::Chan::alphas4(to));
     let sa1 = P::Chan::less16(P::Chan::alphas4(src));
-    O::composite_run(&mut to, &da1, &src, &sa1);
+    O::composite_block(&mut to, &da1, &src, &sa1);
     to
 }
 
@@ -120,31 +78,35 @@ fn composited<O: Blend, P: Pixel>(mut to: [P::Chan; 16], src: [P::Chan; 16]) -> 
 ///
 /// Condition: the alpha is the last channel, and none is a hue.
 #[inline(always)]
-pub(super) fn composite_four<O: Blend, P: Pixel>(dst: &mut [P], src: [P::Chan; 16])
+pub(super) fn composite_four<O: Blend, P: Pixel, D: Stored<P>>(dst: &mut [D], src: [P::Chan; 16])
     requires count { P.layout.count ≡ 4 }
     requires alpha { P.layout.alpha ≡ 3 }
     requires no_hue { P.layout.hues.end ≡ 0 }
     requires size { length dst.old ≡ 4 }
-    ensures { map P.numbers dst.new ≡ over (pixel_composite P.layout O.op)
-        (by_fours (map P.Chan.number src)) (map P.numbers dst.old) }
+    ensures { map D.reads dst.new ≡ over (pixel_composite P.layout O.op)
+        (by_fours (map P.Chan.number src)) (map D.reads dst.old) }
 {
-    let to = composited::<O, P>(four_pixels(dst), src);
-    put_four_pixels(dst, to);
+    let to = composited::<O, P>(four_pixels::<P, D>(dst), src);
+    put_four_pixels::<P, D>(dst, to);
 }
 
 /// Composites `clr` with four pixels, each through the matte of the same index.
 ///
 /// Condition: the alpha is the last channel, and none is a hue.
 #[inline(always)]
-fn composite_matted<O: Blend, P: Pixel, S: Coverage<P::Chan>>(dst: &mut [P], src: &[S], clr: &P)
+fn composite_matted<O: Blend, P: Pixel, D: Stored<P>, M: Coverage<P::Chan>>(
+    dst: &mut [D],
+    src: &[M],
+    clr: &P,
+)
     requires count { P.layout.count ≡ 4 }
     requires alpha { P.layout.alpha ≡ 3 }
     requires no_hue { P.layout.hues.end ≡ 0 }
     requires size { length dst.old ≡ 4 }
     requires whole { length src.now ≡ 4 }
-    ensures { map P.numbers dst.new ≡
+    ensures { map D.reads dst.new ≡
         over (λ m. matted_composite P.layout O.op m (P.numbers clr.now))
-        (map S.value src.now) (map P.numbers dst.old) }
+        (map (coverage_of P.Chan.max M.numbers) src.now) (map D.reads dst.old) }
 {
     let (a, b, c, d) = (
         src[0].coverage(),
@@ -155,11 +117,11 @@ fn composite_matted<O: Blend, P: Pixel, S: Coverage<P::Chan>>(dst: &mut [P], src
     let mattes = [a, a, a, a, b, b, b, b, c, c, c, c, d, d, d, d];
     let mut color = four_times(clr);
     P::Chan::mul_run(&mut color, &mattes);
-    composite_four::<O, P>(dst, color);
+    composite_four::<O, P, D>(dst, color);
 }
 
 /// Pixels of four channels without a hue, four at a time.
-pub(super) struct Interleaved {}
+pub(crate) struct Interleaved {}
 
 impl<P: Pixel> Block<P> for Interleaved {
     ghost suits = { (P.layout.count ≡ 4) × (P.layout.alpha ≡ 3) × (P.layout.hues.end ≡ 0) };
@@ -173,28 +135,32 @@ impl<P: Pixel> Block<P> for Interleaved {
     ghost some = { refl };
 
     #[inline(always)]
-    fn composite<O: Blend>(dst: &mut [P], src: &[P]) {
-        composite_four::<O, P>(dst, four_pixels(src));
+    fn composite<O: Blend, D: Stored<P>, S: Stored<P>>(dst: &mut [D], src: &[S]) {
+        composite_four::<O, P, D>(dst, four_pixels::<P, S>(src));
     }
 
     #[inline(always)]
-    fn color<O: Blend>(dst: &mut [P], clr: &P) {
-        composite_four::<O, P>(dst, four_times(clr));
+    fn color<O: Blend, D: Stored<P>>(dst: &mut [D], clr: &P) {
+        composite_four::<O, P, D>(dst, four_times(clr));
     }
 
     #[inline(always)]
-    fn matted<O: Blend, S: Coverage<P::Chan>>(dst: &mut [P], src: &[S], clr: &P) {
-        composite_matted::<O, P, S>(dst, src, clr);
+    fn matted<O: Blend, D: Stored<P>, M: Coverage<P::Chan>>(dst: &mut [D], src: &[M], clr: &P) {
+        composite_matted::<O, P, D, M>(dst, src, clr);
     }
 
     #[inline(always)]
-    fn masked<O: Blend, S: Coverage<P::Chan>>(dst: &mut [P], src: &[P], mattes: &[S]) {
-        composite_covered::<O, P, S>(dst, src, mattes);
+    fn masked<O: Blend, D: Stored<P>, S: Stored<P>, M: Coverage<P::Chan>>(
+        dst: &mut [D],
+        src: &[S],
+        mattes: &[M],
+    ) {
+        composite_covered::<O, P, D, S, M>(dst, src, mattes);
     }
 
     #[inline(always)]
-    fn faded<O: Blend>(dst: &mut [P], src: &[P], alpha: P::Chan) {
-        composite_masked::<O, P>(dst, src, alpha, alpha, alpha, alpha);
+    fn faded<O: Blend, D: Stored<P>, S: Stored<P>>(dst: &mut [D], src: &[S], alpha: P::Chan) {
+        composite_masked::<O, P, D, S>(dst, src, alpha, alpha, alpha, alpha);
     }
 }
 
@@ -206,7 +172,7 @@ pub(crate) fn premultiply_four<P: Pixel>(p: &mut [P])
     ensures { map P.numbers p.new ≡
         map (premultiplied_four P.Chan.max) (map P.numbers p.old) }
 {
-    let mut to = four_pixels(p);
+    let mut to = four_pixels::<P, P>(p);
     let mut by = P::Chan::alphas4(to);
     let (min, max) = (P::Chan::MIN, P::Chan::MAX);
     // The alphas themselves are multiplied by one.
@@ -215,5 +181,5 @@ pub(crate) fn premultiply_four<P: Pixel>(p: &mut [P])
     ];
     P::Chan::add_run(&mut by, &ones);
     P::Chan::mul_run(&mut to, &by);
-    put_four_pixels(p, to);
+    put_four_pixels::<P, P>(p, to);
 }

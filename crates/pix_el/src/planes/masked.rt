@@ -4,28 +4,30 @@
 ghost use Rattle.std.specs.Prelude.{◌≡◌, ◌≤◌, ◌+◌, [], ◌∷◌, length, map, take};
 ghost use Rattle.std.specs.List.{zip};
 ghost use Rattle.pix_chan.specs.Runs.{over};
-ghost use Rattle.pix_el.specs.PixelComposite.{matted_composite, matte_numbers, matte_value};
+ghost use Rattle.pix_el.specs.Planes.{coverage_of};
+ghost use Rattle.pix_el.specs.PixelComposite.{matted_composite};
 
-use crate::el::{Pix, Pixel};
-use crate::matte::Matte;
+use crate::el::Pixel;
 use crate::planes::block::{faded_blocks, masked_blocks};
-use crate::planes::coverage::{Coverage, eight_values};
+use crate::planes::coverage::eight_values;
 use crate::planes::eight::{Eight, composite_eight, covered, eight_pixels};
 use crate::planes::four::Four;
+use crate::planes::half::HalfTwo;
 use crate::planes::interleaved::{Interleaved, composite_four, four_pixels};
 use crate::planes::one::One;
 use crate::planes::two::Two;
 use crate::planes::{has_four, has_one, has_two, is_interleaved};
-use pix_chan::chan::{Alpha, Channel, Linear};
+use crate::stored::{Coverage, Stored};
+use pix_chan::chan::Channel;
 use pix_ops::ops::Blend;
 
 /// Composites four pixels with those of `dst`, each through one of these matte values.
 ///
 /// Condition: the alpha is the last channel, and none is a hue.
 #[inline(always)]
-pub(super) fn composite_masked<O: Blend, P: Pixel>(
-    dst: &mut [P],
-    src: &[P],
+pub(super) fn composite_masked<O: Blend, P: Pixel, D: Stored<P>, S: Stored<P>>(
+    dst: &mut [D],
+    src: &[S],
     a: P::Chan,
     b: P::Chan,
     c: P::Chan,
@@ -36,77 +38,85 @@ pub(super) fn composite_masked<O: Blend, P: Pixel>(
     requires no_hue { P.layout.hues.end ≡ 0 }
     requires size { length dst.old ≡ 4 }
     requires src_size { length src.now ≡ 4 }
-    ensures { map P.numbers dst.new ≡ over (λ t. matted_composite P.layout O.op t.0 t.1)
+    ensures { map D.reads dst.new ≡ over (λ t. matted_composite P.layout O.op t.0 t.1)
         (zip (P.Chan.number a ∷ P.Chan.number b ∷ P.Chan.number c ∷ P.Chan.number d ∷ [])
-        (map P.numbers src.now)) (map P.numbers dst.old) }
+        (map S.reads src.now)) (map D.reads dst.old) }
 {
     let mattes = [a, a, a, a, b, b, b, b, c, c, c, c, d, d, d, d];
-    let mut colors = four_pixels(src);
+    let mut colors = four_pixels::<P, S>(src);
     P::Chan::mul_run(&mut colors, &mattes);
-    composite_four::<O, P>(dst, colors);
+    composite_four::<O, P, D>(dst, colors);
 }
 
 /// Composites four pixels with those of `dst`, each through the matte of the same index.
 ///
 /// Condition: the alpha is the last channel, and none is a hue.
 #[inline(always)]
-pub(super) fn composite_covered<O: Blend, P: Pixel, S: Coverage<P::Chan>>(
-    dst: &mut [P],
-    src: &[P],
-    mattes: &[S],
-)
+pub(super) fn composite_covered<
+    O: Blend,
+    P: Pixel,
+    D: Stored<P>,
+    S: Stored<P>,
+    M: Coverage<P::Chan>,
+>(dst: &mut [D], src: &[S], mattes: &[M])
     requires count { P.layout.count ≡ 4 }
     requires alpha { P.layout.alpha ≡ 3 }
     requires no_hue { P.layout.hues.end ≡ 0 }
     requires size { length dst.old ≡ 4 }
     requires src_size { length src.now ≡ 4 }
     requires whole { length mattes.now ≡ 4 }
-    ensures { map P.numbers dst.new ≡ over (λ t. matted_composite P.layout O.op t.0 t.1)
-        (zip (map S.value mattes.now) (map P.numbers src.now)) (map P.numbers dst.old) }
+    ensures { map D.reads dst.new ≡ over (λ t. matted_composite P.layout O.op t.0 t.1)
+        (zip (map (coverage_of P.Chan.max M.numbers) mattes.now) (map S.reads src.now)) (map D.reads dst.old) }
 {
     let (a, b) = (mattes[0].coverage(), mattes[1].coverage());
     let (c, d) = (mattes[2].coverage(), mattes[3].coverage());
-    composite_masked::<O, P>(dst, src, a, b, c, d);
+    composite_masked::<O, P, D, S>(dst, src, a, b, c, d);
 }
 
 /// Composites eight pixels with those of `dst`, each through the matte of the same index.
 ///
 /// Condition: the alpha is the last channel, and none is a hue.
 #[inline(always)]
-pub(super) fn composite_eight_covered<O: Blend, P: Pixel, S: Coverage<P::Chan>>(
-    dst: &mut [P],
-    src: &[P],
-    mattes: &[S],
-)
+pub(super) fn composite_eight_covered<
+    O: Blend,
+    P: Pixel,
+    D: Stored<P>,
+    S: Stored<P>,
+    M: Coverage<P::Chan>,
+>(dst: &mut [D], src: &[S], mattes: &[M])
     requires count { P.layout.count ≡ 4 }
     requires alpha { P.layout.alpha ≡ 3 }
     requires no_hue { P.layout.hues.end ≡ 0 }
     requires size { length dst.old ≡ 8 }
     requires src_size { length src.now ≡ 8 }
     requires whole { length mattes.now ≡ 8 }
-    ensures { map P.numbers dst.new ≡ over (λ t. matted_composite P.layout O.op t.0 t.1)
-        (zip (map S.value mattes.now) (map P.numbers src.now)) (map P.numbers dst.old) }
+    ensures { map D.reads dst.new ≡ over (λ t. matted_composite P.layout O.op t.0 t.1)
+        (zip (map (coverage_of P.Chan.max M.numbers) mattes.now) (map S.reads src.now)) (map D.reads dst.old) }
 {
-    let colors = covered::<P, 4>(eight_pixels(src), &eight_values(mattes));
-    composite_eight::<O, P, 4>(dst, colors);
+    let colors = covered::<P, 4>(eight_pixels::<P, S>(src), &eight_values(mattes));
+    composite_eight::<O, P, D, 4>(dst, colors);
 }
 
 /// Composites eight pixels with those of `dst`, each through the same matte value.
 ///
 /// Condition: the alpha is the last channel, and none is a hue.
 #[inline(always)]
-pub(super) fn composite_eight_faded<O: Blend, P: Pixel>(dst: &mut [P], src: &[P], alpha: P::Chan)
+pub(super) fn composite_eight_faded<O: Blend, P: Pixel, D: Stored<P>, S: Stored<P>>(
+    dst: &mut [D],
+    src: &[S],
+    alpha: P::Chan,
+)
     requires count { P.layout.count ≡ 4 }
     requires last { P.layout.alpha ≡ 3 }
     requires no_hue { P.layout.hues.end ≡ 0 }
     requires size { length dst.old ≡ 8 }
     requires src_size { length src.now ≡ 8 }
-    ensures { map P.numbers dst.new ≡ over (matted_composite P.layout O.op (P.Chan.number alpha))
-        (map P.numbers src.now) (map P.numbers dst.old) }
+    ensures { map D.reads dst.new ≡ over (matted_composite P.layout O.op (P.Chan.number alpha))
+        (map S.reads src.now) (map D.reads dst.old) }
 {
-    let mut colors = eight_pixels(src);
+    let mut colors = eight_pixels::<P, S>(src);
     P::Chan::mul_run(&mut colors, &[alpha; 32]);
-    composite_eight::<O, P, 3>(dst, colors);
+    composite_eight::<O, P, D, 3>(dst, colors);
 }
 
 /// Composites as many of the first `count` pixels as go in blocks, each through the matte of the
@@ -114,10 +124,10 @@ pub(super) fn composite_eight_faded<O: Blend, P: Pixel>(dst: &mut [P], src: &[P]
 ///
 /// Condition: the format has an alpha channel, and all three slices have `count` elements.
 #[inline(always)]
-fn covered_runs<O: Blend, P: Pixel, S: Coverage<P::Chan>>(
-    dst: &mut [P],
-    src: &[P],
-    mattes: &[S],
+pub(crate) fn covered_runs<O: Blend, P: Pixel, D: Stored<P>, S: Stored<P>, M: Coverage<P::Chan>>(
+    dst: &mut [D],
+    src: &[S],
+    mattes: &[M],
     count: usize,
 ) -> usize
     requires has_alpha { P.layout.count ≡ P.layout.alpha + 1 }
@@ -125,48 +135,32 @@ fn covered_runs<O: Blend, P: Pixel, S: Coverage<P::Chan>>(
     requires src_has { count ≤ length src.now }
     requires mattes_have { count ≤ length mattes.now }
     ensures some { result ≤ count }
-    ensures composite { map P.numbers dst.new ≡ over (λ t. matted_composite P.layout O.op t.0 t.1)
-        (take result (zip (map S.value mattes.now) (map P.numbers src.now)))
-        (map P.numbers dst.old) }
+    ensures composite { map D.reads dst.new ≡ over (λ t. matted_composite P.layout O.op t.0 t.1)
+        (take result (zip (map (coverage_of P.Chan.max M.numbers) mattes.now) (map S.reads src.now)))
+        (map D.reads dst.old) }
 {
     if is_interleaved::<P>() {
-        let start = masked_blocks::<O, P, S, Eight>(dst, src, mattes, count);
+        let start = masked_blocks::<O, P, D, S, M, Eight>(dst, src, mattes, count);
         let (rest, sources) = (&mut dst[start..], &src[start..]);
         start
-            + masked_blocks::<O, P, S, Interleaved>(rest, sources, &mattes[start..], count - start)
+            + masked_blocks::<O, P, D, S, M, Interleaved>(
+                rest,
+                sources,
+                &mattes[start..],
+                count - start,
+            )
     } else if has_four::<P>() {
-        masked_blocks::<O, P, S, Four>(dst, src, mattes, count)
+        masked_blocks::<O, P, D, S, M, Four>(dst, src, mattes, count)
     } else if has_two::<P>() {
-        masked_blocks::<O, P, S, Two>(dst, src, mattes, count)
+        let start = masked_blocks::<O, P, D, S, M, Two>(dst, src, mattes, count);
+        let (rest, sources) = (&mut dst[start..], &src[start..]);
+        let (mattes, count) = (&mattes[start..], count - start);
+        start + masked_blocks::<O, P, D, S, M, HalfTwo>(rest, sources, mattes, count)
     } else if has_one::<P>() {
-        masked_blocks::<O, P, S, One>(dst, src, mattes, count)
+        masked_blocks::<O, P, D, S, M, One>(dst, src, mattes, count)
     } else {
         0
     }
-}
-
-/// Composites as many of the first `count` pixels as go in blocks, each through the matte of the
-/// same index, and returns their number.
-///
-/// Condition: the format has an alpha channel, and all three slices have `count` elements.
-#[inline(always)]
-pub(crate) fn masked_runs<const N: usize, A: Alpha, O: Blend, P: Pixel>(
-    dst: &mut [P],
-    src: &[P],
-    mattes: &[Pix<N, P::Chan, Matte, A, Linear>],
-    count: usize,
-) -> usize
-    requires has_alpha { P.layout.count ≡ P.layout.alpha + 1 }
-    requires dst_has { count ≤ length dst.old }
-    requires src_has { count ≤ length src.now }
-    requires mattes_have { count ≤ length mattes.now }
-    ensures some { result ≤ count }
-    ensures composite { map P.numbers dst.new ≡
-        over (λ t. matted_composite P.layout O.op (matte_value P.layout t.0) t.1)
-        (take result (zip (map (matte_numbers P.Chan.number) mattes.now)
-        (map P.numbers src.now))) (map P.numbers dst.old) }
-{
-    covered_runs::<O, P, Pix<N, P::Chan, Matte, A, Linear>>(dst, src, mattes, count)
 }
 
 /// Composites as many of the first `count` pixels as go in blocks, each through the same matte
@@ -174,9 +168,9 @@ pub(crate) fn masked_runs<const N: usize, A: Alpha, O: Blend, P: Pixel>(
 ///
 /// Condition: the format has an alpha channel, and both slices have `count` pixels.
 #[inline(always)]
-pub(crate) fn faded_runs<O: Blend, P: Pixel>(
-    dst: &mut [P],
-    src: &[P],
+pub(crate) fn faded_runs<O: Blend, P: Pixel, D: Stored<P>, S: Stored<P>>(
+    dst: &mut [D],
+    src: &[S],
     alpha: P::Chan,
     count: usize,
 ) -> usize
@@ -184,20 +178,22 @@ pub(crate) fn faded_runs<O: Blend, P: Pixel>(
     requires dst_has { count ≤ length dst.old }
     requires src_has { count ≤ length src.now }
     ensures some { result ≤ count }
-    ensures composite { map P.numbers dst.new ≡
+    ensures composite { map D.reads dst.new ≡
         over (matted_composite P.layout O.op (P.Chan.number alpha))
-        (take result (map P.numbers src.now)) (map P.numbers dst.old) }
+        (take result (map S.reads src.now)) (map D.reads dst.old) }
 {
     if is_interleaved::<P>() {
-        let start = faded_blocks::<O, P, Eight>(dst, src, alpha, count);
+        let start = faded_blocks::<O, P, D, S, Eight>(dst, src, alpha, count);
         let (rest, sources) = (&mut dst[start..], &src[start..]);
-        start + faded_blocks::<O, P, Interleaved>(rest, sources, alpha, count - start)
+        start + faded_blocks::<O, P, D, S, Interleaved>(rest, sources, alpha, count - start)
     } else if has_four::<P>() {
-        faded_blocks::<O, P, Four>(dst, src, alpha, count)
+        faded_blocks::<O, P, D, S, Four>(dst, src, alpha, count)
     } else if has_two::<P>() {
-        faded_blocks::<O, P, Two>(dst, src, alpha, count)
+        let start = faded_blocks::<O, P, D, S, Two>(dst, src, alpha, count);
+        let (rest, sources) = (&mut dst[start..], &src[start..]);
+        start + faded_blocks::<O, P, D, S, HalfTwo>(rest, sources, alpha, count - start)
     } else if has_one::<P>() {
-        faded_blocks::<O, P, One>(dst, src, alpha, count)
+        faded_blocks::<O, P, D, S, One>(dst, src, alpha, count)
     } else {
         0
     }

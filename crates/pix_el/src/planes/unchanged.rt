@@ -1,11 +1,12 @@
-//! Composites that leave pixels as they are, or replace them. The factors of the operator tell
-//! which.
-ghost use Rattle.std.specs.Prelude.{◌≡◌, ◌<◌, ℕ, [], length, map, get_or, true};
+//! Composites that leave pixels as they are, replace them, or make them clear. The factors of the
+//! operator tell which.
+ghost use Rattle.std.specs.Prelude.{◌≡◌, ℕ, map, get_or, true};
 ghost use Rattle.pix_ops.specs.Operators as operators;
-ghost use Rattle.pix_el.specs.Planes.{Keeps, KeepsAll};
+ghost use Rattle.pix_el.specs.Planes.{coverage_of, Keeps, KeepsAll, Replaces, Clears};
 
 use crate::el::Pixel;
-use crate::planes::coverage::Coverage;
+use crate::model::ColorModel;
+use crate::stored::Coverage;
 use pix_chan::chan::Channel;
 use pix_ops::ops::Blend;
 use pix_ops::ops::run::Factor;
@@ -45,25 +46,40 @@ pub(super) fn keeps_under_clear<O: Blend, C: Channel>() -> bool
     <O::Dest as Factor>::term(C::MAX, C::MAX) == C::MAX
 }
 
+/// Returns whether a model has no hue.
+#[inline(always)]
+fn has_no_hue<P: Pixel>() -> bool
+    ensures { result ≡ true → P.layout.hues.end ≡ 0 }
+{
+    let hues = P::Model::CIRCULAR;
+    hues.end == 0
+}
+
+/// Returns whether an operator replaces each pixel with the source: the source's factor is 1, and
+/// the destination's is 0. A hue moves along an arc, so a model with one is left out.
+#[inline(always)]
+pub(crate) fn replaces<O: Blend, P: Pixel>() -> bool
+    ensures { result ≡ true → Replaces P.layout O.op }
+{
+    has_no_hue::<P>() && is_one::<O::Source, P::Chan>() && is_zero::<O::Dest, P::Chan>()
+}
+
+/// Returns whether an operator makes each pixel clear, whatever the source is: both factors are 0.
+#[inline(always)]
+pub(crate) fn clears<O: Blend, P: Pixel>() -> bool
+    ensures { result ≡ true → Clears P.layout O.op }
+{
+    has_no_hue::<P>() && is_zero::<O::Source, P::Chan>() && is_zero::<O::Dest, P::Chan>()
+}
+
 /// Returns whether all of these mattes are 0.
 #[inline(always)]
-pub(super) fn are_clear<C: Channel, S: Coverage<C>>(src: &[S]) -> bool
-    ensures { result ≡ true → (k : ℕ) → get_or (map S.value src.now) k 0 ≡ 0 }
+pub(super) fn are_clear<C: Channel, M: Coverage<C>>(src: &[M]) -> bool
+    ensures { result ≡ true → (k : ℕ) → get_or (map (coverage_of C.max M.numbers) src.now) k 0 ≡ 0 }
 {
     let mut any = 0;
     for i in 0..src.len() {
         any |= src[i].coverage().to_u32();
     }
     any == 0
-}
-
-/// Establishes that each pixel has the channels of its format. It compiles to no instruction.
-#[inline(always)]
-pub(super) fn see_channels<P: Pixel>(pixels: &[P])
-    ensures { (k : ℕ) → k < length pixels.now
-        → length (get_or (map P.numbers pixels.now) k []) ≡ P.layout.count }
-{
-    for i in 0..pixels.len() {
-        let _ = pixels[i].channels();
-    }
 }

@@ -1,13 +1,21 @@
 -- Of `convert_blocks`: the clause `pixels`.
-use Rattle.std.proofs.Common.{◌≡◌, ◌∙◌, take, sym, ap, map, refl, List, ℕ}
+use Rattle.std.proofs.Common.{◌≡◌, ◌∙◌, take, sym, ap, map, refl, arith, List, ℕ}
 use Rattle.pix_chan.specs.Modes.{to_linear}
 use Rattle.pix_el.specs.Planes.{linear_four, premultiplied_four}
 use Rattle.pix_el.specs.Pixel.{Layout}
 use Rattle.pix_el.specs.Conversion.{at_depth, converted}
+use Rattle.pix_el.proofs.MattePlanes.{next_run}
 use Rattle.pix_el.proofs.Written.{over_alike}
 use Rattle.pix_el.proofs.Models.{placed_by_row}
 use Rattle.pix_el.proofs.Conversions.{converted_premultiplied}
 use Rattle.pix_el.proofs.conversion.blocks.convert_blocks.Goals as goal
+
+pub returns-then-deepens-clause-pixels : goal.returns-then-deepens-clause-pixels
+returns-then-deepens-clause-pixels g c =
+    let first = c.deepen_blocks-start in
+    let second = c.convert_fours in
+    next_run g.D.Pixel.numbers g.P.Pixel.numbers (λ p d. converted g.P.Pixel.format g.P.Gamma.Gamma-2.mode g.D.Pixel.format g.D.Gamma.Gamma.mode p)
+    first.result second.result c.args.dst.now first.new.dst second.new.dst c.args.src.now first.ensures.pixels (omega arith) second.ensures.pixels
 
 pub returns-clause-pixels : goal.returns-clause-pixels
 returns-clause-pixels g c =

@@ -1,6 +1,5 @@
 -- Of `convert_four`: the pixels whose depth alone changes.
-use Rattle.std.proofs.Common.{◌≡◌, ◌∙◌, sym, ap, map, List, ℕ}
-use Rattle.pix_el.specs.Pixel.{Layout}
+use Rattle.std.proofs.Common.{◌≡◌, ◌∙◌, sym, map, List, ℕ}
 use Rattle.pix_el.specs.Conversion.{of_depth, converted}
 use Rattle.pix_el.proofs.Conversions.{map_alike, converted_of_depth}
 use Rattle.pix_el.proofs.conversion.fours.convert_four.Goals as goal
@@ -16,6 +15,5 @@ returns-then-changes_depth g c =
     λ p. sym (converted_of_depth _ _ _ _ g.P.Gamma.Gamma-2.mode g.D.Gamma.Gamma.mode g.P.Pixel.layout g.D.Pixel.layout p
     g.met.P.Pixel.formatted g.met.D.Pixel.formatted g.met.P.Pixel.laid_out laid (has.model is)
     (g.met.P.Alpha.Alpha.tabled ∙ has.alpha is ∙ sym g.met.D.Alpha.Alpha.tabled)
-    (g.met.P.Gamma.Gamma-2.tabled ∙ has.gamma is ∙ sym g.met.D.Gamma.Gamma.tabled)
-    (sym (ap (λ (l : Layout). l.count) laid) ∙ has.count is)) in
+    (g.met.P.Gamma.Gamma-2.tabled ∙ has.gamma is ∙ sym g.met.D.Gamma.Gamma.tabled)) in
     c.deepen_four.ensures ∙ map_alike made convert same (map g.P.Pixel.numbers c.args.src.now)

@@ -9,7 +9,7 @@ use Rattle.pix_el.proofs.planes.block.color_blocks.Goals as goal
 pub loop-i-init : goal.loop-i-init
 loop-i-init g c =
     let v = g.P.Pixel.numbers in
-    none_yet (λ d s. pixel_composite g.P.Pixel.layout g.O.Blend.op s d) c.SIZE-size.result (map v c.args.dst.now) (replicate (length c.args.dst.now) (v c.args.clr.now))
+    none_yet (λ d s. pixel_composite g.P.Pixel.layout g.O.Blend.op s d) c.SIZE-size.result (map g.D.Stored.reads c.args.dst.now) (replicate (length c.args.dst.now) (v c.args.clr.now))
 
 pub offset_bounds-dst-at : goal.offset_bounds-dst-at
 offset_bounds-dst-at g c =
@@ -22,7 +22,7 @@ loop-i-preserved g c =
     let v = g.P.Pixel.numbers in
     let size = c.SIZE-size.result in
     let ends = block_ends (length c.args.dst.now) size c.loop-i.i c.loop-i-test.true in
-    next_color_block v (λ d s. pixel_composite g.P.Pixel.layout g.O.Blend.op s d) g.B.Block.SIZE size c.loop-i.i (length c.args.dst.now) c.args.dst.now c.loop-i.dst c.color.new.dst (v c.args.clr.now)
+    next_color_block g.D.Stored.reads (λ d s. pixel_composite g.P.Pixel.layout g.O.Blend.op s d) g.B.Block.SIZE size c.loop-i.i (length c.args.dst.now) c.args.dst.now c.loop-i.dst c.color.new.dst (v c.args.clr.now)
     c.SIZE-size.ensures c.loop-i.invariant ends ends c.color.ensures
 
 pub nonzero_div-i-end : goal.nonzero_div-i-end

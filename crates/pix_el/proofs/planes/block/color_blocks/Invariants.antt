@@ -8,4 +8,4 @@ use Rattle.pix_el.proofs.planes.block.color_blocks.Given as goal
 abbrev pub invariant-loop-i : goal.invariant-loop-i
 invariant-loop-i g l =
     let v = g.P.Pixel.numbers in
-    map v l.dst ≡ over (pixel_composite g.P.Pixel.layout g.O.Blend.op) (take (l.size * l.i) (replicate (length l.fn.dst) (v l.color))) (map v l.fn.dst)
+    map g.D.Stored.reads l.dst ≡ over (pixel_composite g.P.Pixel.layout g.O.Blend.op) (take (l.size * l.i) (replicate (length l.fn.dst) (v l.color))) (map g.D.Stored.reads l.fn.dst)

@@ -7,5 +7,4 @@ use Rattle.pix_el.proofs.planes.block.composite_blocks.Given as goal
 -- the pixels of the blocks below the index are composited
 abbrev pub invariant-loop-i : goal.invariant-loop-i
 invariant-loop-i g l =
-    let v = g.P.Pixel.numbers in
-    map v l.dst ≡ over (pixel_composite g.P.Pixel.layout g.O.Blend.op) (take (l.size * l.i) (map v l.src)) (map v l.fn.dst)
+    map g.D.Stored.reads l.dst ≡ over (pixel_composite g.P.Pixel.layout g.O.Blend.op) (take (l.size * l.i) (map g.S.Stored.reads l.src)) (map g.D.Stored.reads l.fn.dst)

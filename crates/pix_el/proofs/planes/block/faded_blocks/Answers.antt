@@ -9,9 +9,8 @@ use Rattle.pix_el.proofs.planes.block.faded_blocks.Goals as goal
 
 pub loop-i-init : goal.loop-i-init
 loop-i-init g c =
-    let v = g.P.Pixel.numbers in
     let matte = g.P.Chan.Channel.number c.args.alpha in
-    none_yet (λ (d s : List ℕ). matted_composite g.P.Pixel.layout g.O.Blend.op matte s d) c.SIZE-size.result (map v c.args.dst.now) (map v c.args.src.now)
+    none_yet (λ (d s : List ℕ). matted_composite g.P.Pixel.layout g.O.Blend.op matte s d) c.SIZE-size.result (map g.D.Stored.reads c.args.dst.now) (map g.S.Stored.reads c.args.src.now)
 
 pub offset_bounds-dst-at : goal.offset_bounds-dst-at
 offset_bounds-dst-at g c =
@@ -21,10 +20,9 @@ offset_bounds-dst-at g c =
 
 pub loop-i-preserved : goal.loop-i-preserved
 loop-i-preserved g c =
-    let v = g.P.Pixel.numbers in
     let matte = g.P.Chan.Channel.number c.args.alpha in
     let ends = block_ends c.args.count c.SIZE-size.result c.loop-i.i c.loop-i-test.true in
-    next_mapped_block v (λ (d s : List ℕ). matted_composite g.P.Pixel.layout g.O.Blend.op matte s d) v c.SIZE-size.result c.loop-i.i c.args.dst.now c.loop-i.dst c.faded.new.dst c.args.src.now
+    next_mapped_block g.D.Stored.reads (λ (d s : List ℕ). matted_composite g.P.Pixel.layout g.O.Blend.op matte s d) g.S.Stored.reads c.SIZE-size.result c.loop-i.i c.args.dst.now c.loop-i.dst c.faded.new.dst c.args.src.now
     c.loop-i.invariant (omega (arith, ends, c.requires.dst_has)) (omega (arith, ends, c.requires.src_has))
     c.faded.ensures
 

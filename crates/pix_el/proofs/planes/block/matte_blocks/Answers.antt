@@ -5,12 +5,13 @@ use borrow.Author.Rules.{scaled_fits≤}
 use Rattle.pix_el.specs.PixelComposite.{matted_composite}
 use Rattle.pix_chan.proofs.Slices.{next_mapped_block}
 use Rattle.pix_el.proofs.Blocks.{block_ends, none_yet}
+use Rattle.pix_el.specs.Planes.{coverage_of}
 use Rattle.pix_el.proofs.planes.block.matte_blocks.Goals as goal
 
 pub loop-i-init : goal.loop-i-init
 loop-i-init g c =
     let v = g.P.Pixel.numbers in
-    none_yet (λ (d : List ℕ) (m : ℕ). matted_composite g.P.Pixel.layout g.O.Blend.op m (v c.args.clr.now) d) c.SIZE-size.result (map v c.args.dst.now) (map g.S.Coverage.value c.args.src.now)
+    none_yet (λ (d : List ℕ) (m : ℕ). matted_composite g.P.Pixel.layout g.O.Blend.op m (v c.args.clr.now) d) c.SIZE-size.result (map g.D.Stored.reads c.args.dst.now) (map (coverage_of g.P.Chan.Channel.max g.M.Coverage.numbers) c.args.src.now)
 
 pub offset_bounds-dst-at : goal.offset_bounds-dst-at
 offset_bounds-dst-at g c =
@@ -22,7 +23,7 @@ pub loop-i-preserved : goal.loop-i-preserved
 loop-i-preserved g c =
     let v = g.P.Pixel.numbers in
     let ends = block_ends c.args.count c.SIZE-size.result c.loop-i.i c.loop-i-test.true in
-    next_mapped_block v (λ (d : List ℕ) (m : ℕ). matted_composite g.P.Pixel.layout g.O.Blend.op m (v c.args.clr.now) d) g.S.Coverage.value c.SIZE-size.result c.loop-i.i c.args.dst.now c.loop-i.dst c.matted_block.new.dst c.args.src.now
+    next_mapped_block g.D.Stored.reads (λ (d : List ℕ) (m : ℕ). matted_composite g.P.Pixel.layout g.O.Blend.op m (v c.args.clr.now) d) (coverage_of g.P.Chan.Channel.max g.M.Coverage.numbers) c.SIZE-size.result c.loop-i.i c.args.dst.now c.loop-i.dst c.matted_block.new.dst c.args.src.now
     c.loop-i.invariant (omega (arith, ends, c.requires.dst_has)) (omega (arith, ends, c.requires.src_has))
     c.matted_block.ensures
 

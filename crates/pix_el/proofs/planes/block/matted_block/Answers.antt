@@ -6,40 +6,43 @@ use Rattle.pix_el.specs.Premultiplied.{IsBounded}
 use Rattle.pix_el.proofs.Models.{placed_by_row}
 use Rattle.pix_el.proofs.Composited.{Fits, channels_fit, alpha_bounded}
 use Rattle.pix_el.proofs.Unchanged.{kept_clear, kept_always, over_kept}
+use Rattle.pix_el.specs.Planes.{coverage_of}
 use Rattle.pix_el.proofs.planes.block.matted_block.Goals as goal
 
 pub returns-then-keeps_all : goal.returns-then-keeps_all
 returns-then-keeps_all g c =
     let v = g.P.Pixel.numbers in
+    let d = g.D.Stored.reads in
     let layout : Layout = record { max = g.P.Chan.Channel.max; count = g.P.Pixel.layout.count; hues = g.P.Model.ColorModel.CIRCULAR; alpha = g.P.Model.ColorModel.ALPHA } in
     let laid_out : g.P.Pixel.layout ≡ layout = g.met.P.Pixel.laid_out in
     let has_alpha : layout.count ≡ layout.alpha + 1 = c.requires.has_alpha ∙ ap (λ (l : Layout). l.alpha + 1) laid_out in
     let alpha : IsBounded layout layout.alpha = alpha_bounded layout g.P.Model.ColorModel.LINEAR (placed_by_row g.P.Model.ColorModel.model _ g.met.P.Model.ColorModel.stands) has_alpha in
-    let mattes = map g.S.Coverage.value c.args.src.now in
+    let mattes = map (coverage_of g.P.Chan.Channel.max g.M.Coverage.numbers) c.args.src.now in
     let color = v c.args.clr.now in
-    over_kept (λ (m : ℕ) (d : List ℕ). matted_composite g.P.Pixel.layout g.O.Blend.op m color d) v g.P.Pixel.layout.count mattes c.args.dst.now
+    over_kept (λ (m : ℕ) (d : List ℕ). matted_composite g.P.Pixel.layout g.O.Blend.op m color d) g.D.Stored.reads g.P.Pixel.layout.count mattes c.args.dst.now
     (λ k p long.
-    let fits : Fits layout.max (v p) = rw (g.met.P.Pixel.numbered p) (channels_fit layout.max g.P.Chan.Channel.number (g.P.Pixel.channel_list p) g.met.P.Chan.Channel.numbered) in
-    subst (λ (l : Layout). v p ≡ matted_composite l g.O.Blend.op (get_or mattes k 0) color (v p)) (sym laid_out)
-    (kept_always layout g.O.Blend.op g.met.P.Chan.Channel.product_law alpha color (v p) (get_or mattes k 0) (c.if-keeps_all.ensures refl) long fits))
+    let fits : Fits layout.max (d p) = subst (λ (l : Layout). Fits l.max (d p)) laid_out (record { at = g.met.D.Stored.fits p }) in
+    subst (λ (l : Layout). d p ≡ matted_composite l g.O.Blend.op (get_or mattes k 0) color (d p)) (sym laid_out)
+    (kept_always layout g.O.Blend.op g.met.P.Chan.Channel.product_law alpha color (d p) (get_or mattes k 0) (c.if-keeps_all.ensures refl) long fits))
     c.see_channels.ensures
 
 pub returns-then-are_clear : goal.returns-then-are_clear
 returns-then-are_clear g c =
     let v = g.P.Pixel.numbers in
+    let d = g.D.Stored.reads in
     let number = g.P.Chan.Channel.number in
     let layout : Layout = record { max = g.P.Chan.Channel.max; count = g.P.Pixel.layout.count; hues = g.P.Model.ColorModel.CIRCULAR; alpha = g.P.Model.ColorModel.ALPHA } in
     let laid_out : g.P.Pixel.layout ≡ layout = g.met.P.Pixel.laid_out in
     let has_alpha : layout.count ≡ layout.alpha + 1 = c.requires.has_alpha ∙ ap (λ (l : Layout). l.alpha + 1) laid_out in
     let alpha : IsBounded layout layout.alpha = alpha_bounded layout g.P.Model.ColorModel.LINEAR (placed_by_row g.P.Model.ColorModel.model _ g.met.P.Model.ColorModel.stands) has_alpha in
-    let mattes = map g.S.Coverage.value c.args.src.now in
+    let mattes = map (coverage_of g.P.Chan.Channel.max g.M.Coverage.numbers) c.args.src.now in
     let clr = c.args.clr.now in
     let numbered = g.met.P.Chan.Channel.numbered in
     let color_fits : Fits layout.max (v clr) = rw (g.met.P.Pixel.numbered clr) (channels_fit layout.max number (g.P.Pixel.channel_list clr) numbered) in
-    over_kept (λ (m : ℕ) (d : List ℕ). matted_composite g.P.Pixel.layout g.O.Blend.op m (v clr) d) v g.P.Pixel.layout.count mattes c.args.dst.now
+    over_kept (λ (m : ℕ) (d : List ℕ). matted_composite g.P.Pixel.layout g.O.Blend.op m (v clr) d) g.D.Stored.reads g.P.Pixel.layout.count mattes c.args.dst.now
     (λ k p long.
-    let fits : Fits layout.max (v p) = rw (g.met.P.Pixel.numbered p) (channels_fit layout.max number (g.P.Pixel.channel_list p) numbered) in
-    subst (λ (l : Layout). v p ≡ matted_composite l g.O.Blend.op 0 (v clr) (v p)) (sym laid_out)
-    (kept_clear layout g.O.Blend.op g.met.P.Chan.Channel.product_law alpha (v clr) (v p) (c.if-keeps_under_clear.ensures refl) long color_fits fits)
-    ∙ ap (λ (m : ℕ). matted_composite g.P.Pixel.layout g.O.Blend.op m (v clr) (v p)) (sym (c.if-are_clear.ensures refl k)))
+    let fits : Fits layout.max (d p) = subst (λ (l : Layout). Fits l.max (d p)) laid_out (record { at = g.met.D.Stored.fits p }) in
+    subst (λ (l : Layout). d p ≡ matted_composite l g.O.Blend.op 0 (v clr) (d p)) (sym laid_out)
+    (kept_clear layout g.O.Blend.op g.met.P.Chan.Channel.product_law alpha (v clr) (d p) (c.if-keeps_under_clear.ensures refl) long color_fits fits)
+    ∙ ap (λ (m : ℕ). matted_composite g.P.Pixel.layout g.O.Blend.op m (v clr) (d p)) (sym (c.if-are_clear.ensures refl k)))
     c.see_channels-then-are_clear.ensures

@@ -23,7 +23,7 @@ returns g c =
     let da1 : map v c.less32-da1.result ≡ rests max op ds = c.less32-da1.ensures ∙ ap (map (λ x. max - x)) c.alphas8.ensures in
     let sa1 : map v c.less32-sa1.result ≡ rests max op ss = c.less32-sa1.ensures ∙ ap (map (λ x. max - x)) c.alphas8-2.ensures in
     c.put_eight_pixels.ensures
-    ∙ ap by_fours (c.composite_run.ensures
+    ∙ ap by_fours (c.composite_block.ensures
     ∙ ap (λ (r : List ℕ). over (run_composite max op) (triples r ss (map v c.less32-sa1.result)) ds) da1
     ∙ ap (λ (r : List ℕ). over (run_composite max op) (triples (rests max op ds) ss r) ds) sa1)
     ∙ fours_composited max op 8 ss ds (omega (arith, length-map c.args.src v)) (omega (arith, length-map c.eight_pixels-to.result v))

@@ -1,9 +1,14 @@
-use Rattle.std.proofs.Common.{◌∙◌, ap, arith}
-use Rattle.pix_chan.proofs.Sixteen.{mapped8}
+-- Of `eight_pixels`: that there is a place for each channel, and that the channels are those of the pixels.
+use Rattle.std.proofs.Common.{arith, map, refl}
+use Rattle.std.proofs.lemmas.List.{length-map}
+use Rattle.pix_el.proofs.InPixels.{fours_read}
 use Rattle.pix_el.proofs.planes.eight.eight_pixels.Goals as goal
+
+pub load_channels-requires : goal.load_channels-requires
+load_channels-requires g c = rw (c.requires.count, c.requires.size) refl
 
 pub returns : goal.returns
 returns g c =
-    let n = g.P.Pixel.numbers in
-    mapped8 n c.args.p.now c.index-p-0.result c.index-p-1.result c.index-p-2.result c.index-p-3.result c.index-p-4.result c.index-p-5.result c.index-p-6.result c.index-p-7.result (omega arith)
-    (c.four_channels-a0.ensures ∙ ap n c.index-p-0.is) (c.four_channels-a1.ensures ∙ ap n c.index-p-1.is) (c.four_channels-a2.ensures ∙ ap n c.index-p-2.is) (c.four_channels-a3.ensures ∙ ap n c.index-p-3.is) (c.four_channels-a4.ensures ∙ ap n c.index-p-4.is) (c.four_channels-a5.ensures ∙ ap n c.index-p-5.is) (c.four_channels-a6.ensures ∙ ap n c.index-p-6.is) (c.four_channels-a7.ensures ∙ ap n c.index-p-7.is)
+    let v = g.P.Chan.Channel.number in
+    let own = c.load_channels.new.to in
+    fours_read g.P.Pixel.layout.count 8 _ (map v own) _ c.requires.count c.requires.size (omega (arith, length-map own v)) c.load_channels.ensures

@@ -1,13 +1,13 @@
--- Of `put_eight_pixels`: that the pixels are those of the channels.
-use Rattle.std.proofs.Common.{arith}
-use Rattle.pix_el.specs.Planes.{by_fours}
-use Rattle.pix_el.proofs.FourPlanes.{by_fours-joined}
-use Rattle.pix_el.proofs.Halves.{pixels_put}
+-- Of `put_eight_pixels`: that there is a channel for each place, and that the pixels are those of the channels.
+use Rattle.std.proofs.Common.{arith, map}
+use Rattle.std.proofs.lemmas.List.{length-map}
+use Rattle.pix_el.proofs.InPixels.{fours_written}
 use Rattle.pix_el.proofs.planes.eight.put_eight_pixels.Goals as goal
+
+pub store_channels-requires : goal.store_channels-requires
+store_channels-requires g c = rw (c.requires.count, c.requires.size) (omega arith)
 
 pub returns : goal.returns
 returns g c =
-    let first = c.put_channels in
-    let second = c.put_channels-2 in
-    pixels_put g.P.Pixel.numbers g.P.Chan.Channel.number by_fours 4 16 c.args.p.now first.new.p second.new.p c.args.c (by_fours-joined 4)
-    (omega arith) first.ensures.size second.ensures.size (omega arith) first.ensures.pixels second.ensures.pixels
+    let v = g.P.Chan.Channel.number in
+    fours_written g.P.Pixel.layout.count 8 _ (map v c.args.c) _ c.requires.count c.requires.size (omega (arith, length-map c.args.c v)) c.store_channels.ensures

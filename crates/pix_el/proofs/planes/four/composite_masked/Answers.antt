@@ -16,18 +16,19 @@ pub returns : goal.returns
 returns g c =
     let max = g.P.Chan.Channel.max in
     let v = g.P.Chan.Channel.number in
-    let n = g.P.Pixel.numbers in
+    let d = g.D.Stored.reads in
+    let s = g.S.Stored.reads in
     let layout : Layout = g.P.Pixel.layout in
     let made = pixel_composite layout g.O.Blend.op in
     let hues = g.P.Model.ColorModel.CIRCULAR in
     let h = layout.hues.end in
     let ms = map v c.args.mattes.now in
-    let ss = map n c.args.src.now in
-    let ds = map n c.args.dst.now in
+    let ss = map s c.args.src.now in
+    let ds = map d c.args.dst.now in
     let four : layout ≡ four_of max h = is_four_of layout max hues g.P.Model.ColorModel.ALPHA g.met.P.Pixel.laid_out
     c.requires.count c.requires.alpha (placed_by_row g.P.Model.ColorModel.model _ g.met.P.Model.ColorModel.stands).hue_first in
     let same : hues ≡ record { start = 0; end = h } = sym (ap (λ (l : Layout). l.hues) g.met.P.Pixel.laid_out) ∙ ap (λ (l : Layout). l.hues) four in
-    let long : length ms ≡ length ss = omega (arith, length-map c.args.mattes.now v, length-map c.args.src.now n, c.requires.src_size, c.requires.whole) in
+    let long : length ms ≡ length ss = omega (arith, length-map c.args.mattes.now v, length-map c.args.src.now s, c.requires.src_size, c.requires.whole) in
     c.composite_sixteen.ensures (over (matted_color (four_of max h)) ms ss)
     (masked_planes max h c.requires.hue ms ss c.planes-one.ensures
     (c.scale_first.ensures ∙ ap (λ (r : Range ℕ). over (matted_first max r) ms (map v c.planes-one.result.0)) same)

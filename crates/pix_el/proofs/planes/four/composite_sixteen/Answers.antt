@@ -14,7 +14,7 @@ returns g c = λ pixels are.
     let max = g.P.Chan.Channel.max in
     let op = g.O.Blend.op in
     let v = g.P.Chan.Channel.number in
-    let n = g.P.Pixel.numbers in
+    let n = g.D.Stored.reads in
     let laws = g.met.P.Chan.Channel in
     let hues = g.P.Model.ColorModel.CIRCULAR in
     let four = is_four_of g.P.Pixel.layout max hues g.P.Model.ColorModel.ALPHA g.met.P.Pixel.laid_out
@@ -23,7 +23,7 @@ returns g c = λ pixels are.
     c.put_planes.ensures
     ∙ planes_composited max op g.P.Pixel.layout.hues.end c.requires.hue pixels (map n c.args.dst.now) are c.planes-to_one.ensures c.less16-da1.ensures c.less16-sa1.ensures
     (c.composite_first.ensures ∙ ap (λ (r : Range ℕ). over (run_first max r op) (triples (map v c.less16-da1.result) (map v c.args.one) (map v c.less16-sa1.result)) (map v c.planes-to_one.result.0)) same)
-    c.composite_run.ensures c.composite_run-2.ensures c.composite_run-3.ensures
+    c.composite_block.ensures c.composite_block-2.ensures c.composite_block-3.ensures
     (omega (arith, length-map c.args.four v, length-map c.planes-to_one.result.3 v))
     (numbers_fit max v laws.numbered c.args.four) (numbers_fit max v laws.numbered c.planes-to_one.result.3)
     ∙ ap (λ (l : Layout). over (pixel_composite l op) pixels (map n c.args.dst.now)) (sym four)

@@ -6,7 +6,7 @@ use Rattle.pix_el.proofs.planes.fours.fours.Goals as goal
 pub returns : goal.returns
 returns g c =
     let v = g.P.Chan.Channel.number in
-    let n = g.P.Pixel.numbers in
+    let n = g.D.Stored.reads in
     let p = c.args.p.now in
     let a = c.four_pixels.result in
     let b = c.four_pixels-2.result in

@@ -6,7 +6,7 @@ use Rattle.pix_el.proofs.planes.fours.put_fours.Goals as goal
 pub returns : goal.returns
 returns g c =
     let v = g.P.Chan.Channel.number in
-    let n = g.P.Pixel.numbers in
+    let n = g.D.Stored.reads in
     let args = c.args in
     let w = c.put_four_pixels.new.p in
     let x = c.put_four_pixels-2.new.p in

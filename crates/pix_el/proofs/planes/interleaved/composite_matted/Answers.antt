@@ -1,7 +1,7 @@
 use Rattle.std.proofs.Common.{◌≡◌, ◌∙◌, ap, sym, arith, map, List, [], ◌∷◌, ℕ}
 use Rattle.std.proofs.lemmas.List.{length-map}
 use Rattle.pix_chan.specs.Runs.{over}
-use Rattle.pix_el.specs.Planes.{by_fours}
+use Rattle.pix_el.specs.Planes.{by_fours, coverage_of}
 use Rattle.pix_el.specs.Pixel.{Layout}
 use Rattle.pix_el.specs.PixelComposite.{pixel_composite, matted_color, matted_composite}
 use Rattle.pix_el.proofs.Models.{placed_by_row}
@@ -15,13 +15,12 @@ returns g c =
     let max = g.P.Chan.Channel.max in
     let op = g.O.Blend.op in
     let v = g.P.Chan.Channel.number in
-    let n = g.P.Pixel.numbers in
     let layout : Layout = g.P.Pixel.layout in
-    let color = n c.args.clr.now in
-    let ds = map n c.args.dst.now in
+    let color = g.P.Pixel.numbers c.args.clr.now in
+    let ds = map g.D.Stored.reads c.args.dst.now in
     let four : layout ≡ four_of max 0 = is_four_of layout max g.P.Model.ColorModel.CIRCULAR g.P.Model.ColorModel.ALPHA g.met.P.Pixel.laid_out
     c.requires.count c.requires.alpha (placed_by_row g.P.Model.ColorModel.model _ g.met.P.Model.ColorModel.stands).hue_first ∙ ap (four_of max) c.requires.no_hue in
-    let f = g.S.Coverage.value in
+    let f = (coverage_of g.P.Chan.Channel.max g.M.Coverage.numbers) in
     let ms = v c.coverage-a.result ∷ v c.coverage-b.result ∷ v c.coverage-c.result ∷ v c.coverage-d.result ∷ [] in
     let made : by_fours (map v c.mul_run.new.dst) ≡ map (λ (x : ℕ). matted_color (four_of max 0) x color) ms = ap by_fours c.mul_run.ensures
     ∙ color_matted max (v c.coverage-a.result) (v c.coverage-b.result) (v c.coverage-c.result) (v c.coverage-d.result) color (map v c.four_times-color.result) (omega (arith, length-map c.four_times-color.result v)) c.four_times-color.ensures in

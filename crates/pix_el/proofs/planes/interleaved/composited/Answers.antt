@@ -22,7 +22,7 @@ returns g c =
     c.requires.count c.requires.alpha (placed_by_row g.P.Model.ColorModel.model _ g.met.P.Model.ColorModel.stands).hue_first ∙ ap (four_of max) c.requires.no_hue in
     let da1 : map v c.less16-da1.result ≡ rests max op ds = c.less16-da1.ensures ∙ ap (map (λ x. max - x)) c.alphas4.ensures in
     let sa1 : map v c.less16-sa1.result ≡ rests max op ss = c.less16-sa1.ensures ∙ ap (map (λ x. max - x)) c.alphas4-2.ensures in
-    ap by_fours (c.composite_run.ensures
+    ap by_fours (c.composite_block.ensures
     ∙ ap (λ (r : List ℕ). over (run_composite max op) (triples r ss (map v c.less16-sa1.result)) ds) da1
     ∙ ap (λ (r : List ℕ). over (run_composite max op) (triples (rests max op ds) ss r) ds) sa1)
     ∙ fours_composited max op 4 ss ds (omega (arith, length-map c.args.src v)) (omega (arith, length-map c.args.to v))

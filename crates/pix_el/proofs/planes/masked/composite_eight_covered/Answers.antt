@@ -10,16 +10,17 @@ use Rattle.pix_el.proofs.planes.masked.composite_eight_covered.Goals as goal
 pub returns : goal.returns
 returns g c =
     let v = g.P.Chan.Channel.number in
-    let n = g.P.Pixel.numbers in
+    let d = g.D.Stored.reads in
+    let s = g.S.Stored.reads in
     let layout = g.P.Pixel.layout in
     let made = pixel_composite layout g.O.Blend.op in
-    let ss = map n c.args.src.now in
-    let ds = map n c.args.dst.now in
+    let ss = map s c.args.src.now in
+    let ds = map d c.args.dst.now in
     let values = c.eight_values.result in
     let ms = map v values in
     let colors : by_fours (map v c.covered-colors.result) ≡ over (matted_color layout) ms ss =
     c.covered-colors.ensures ∙ ap (over (matted_color layout) ms) c.eight_pixels.ensures in
-    let long : length ms ≡ length ss = omega (arith, length-map values v, length-map c.args.src.now n, c.requires.src_size) in
+    let long : length ms ≡ length ss = omega (arith, length-map values v, length-map c.args.src.now s, c.requires.src_size) in
     c.composite_eight.ensures
     ∙ ap (λ (l : List (List ℕ)). over made l ds) colors
     ∙ over-beside made (matted_color layout) ms ss ds long

@@ -14,11 +14,12 @@ pub returns : goal.returns
 returns g c =
     let max = g.P.Chan.Channel.max in
     let v = g.P.Chan.Channel.number in
-    let n = g.P.Pixel.numbers in
+    let d = g.D.Stored.reads in
+    let s = g.S.Stored.reads in
     let layout : Layout = g.P.Pixel.layout in
     let made = pixel_composite layout g.O.Blend.op in
-    let ss = map n c.args.src.now in
-    let ds = map n c.args.dst.now in
+    let ss = map s c.args.src.now in
+    let ds = map d c.args.dst.now in
     let a = v c.args.alpha in
     let cs = map v c.eight_pixels-colors.result in
     let four : layout ≡ four_of max 0 = is_four_of layout max g.P.Model.ColorModel.CIRCULAR g.P.Model.ColorModel.ALPHA g.met.P.Pixel.laid_out
@@ -27,8 +28,8 @@ returns g c =
     ∙ eight_matted max a a a a a a a a cs (omega (arith, length-map c.eight_pixels-colors.result v))
     ∙ ap (over (matted_color (four_of max 0)) (replicate 8 a)) c.eight_pixels-colors.ensures
     ∙ ap (λ (l : Layout). over (matted_color l) (replicate 8 a) ss) (sym four) in
-    let long : length (replicate 8 a) ≡ length ss = omega (arith, length-map c.args.src.now n, c.requires.src_size) in
+    let long : length (replicate 8 a) ≡ length ss = omega (arith, length-map c.args.src.now s, c.requires.src_size) in
     c.composite_eight.ensures
     ∙ ap (λ (l : List (List ℕ)). over made l ds) colors
     ∙ over-beside made (matted_color layout) (replicate 8 a) ss ds long
-    ∙ over-one (λ (m : ℕ) (s d : List ℕ). matted_composite layout g.O.Blend.op m s d) 8 a ss ds (omega (arith, length-map c.args.src.now n, c.requires.src_size))
+    ∙ over-one (λ (m : ℕ) (x y : List ℕ). matted_composite layout g.O.Blend.op m x y) 8 a ss ds (omega (arith, length-map c.args.src.now s, c.requires.src_size))

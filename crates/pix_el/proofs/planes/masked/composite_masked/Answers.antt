@@ -15,11 +15,12 @@ returns g c =
     let max = g.P.Chan.Channel.max in
     let op = g.O.Blend.op in
     let v = g.P.Chan.Channel.number in
-    let n = g.P.Pixel.numbers in
+    let d = g.D.Stored.reads in
+    let s = g.S.Stored.reads in
     let layout : Layout = g.P.Pixel.layout in
     let a = c.args in
-    let ss = map n a.src.now in
-    let ds = map n a.dst.now in
+    let ss = map s a.src.now in
+    let ds = map d a.dst.now in
     let ms = v a.a ∷ v a.b ∷ v a.c ∷ v a.d ∷ [] in
     let cs = map v c.four_pixels-colors.result in
     let four : layout ≡ four_of max 0 = is_four_of layout max g.P.Model.ColorModel.CIRCULAR g.P.Model.ColorModel.ALPHA g.met.P.Pixel.laid_out
@@ -28,7 +29,7 @@ returns g c =
     ∙ each_matted max (v a.a) (v a.b) (v a.c) (v a.d) cs (omega (arith, length-map c.four_pixels-colors.result v))
     ∙ ap (over (matted_color (four_of max 0)) ms) c.four_pixels-colors.ensures
     ∙ ap (λ (l : Layout). over (matted_color l) ms ss) (sym four) in
-    let long : length ms ≡ length ss = omega (arith, length-map a.src.now n, c.requires.src_size) in
+    let long : length ms ≡ length ss = omega (arith, length-map a.src.now s, c.requires.src_size) in
     c.composite_four.ensures
     ∙ ap (λ (l : List (List ℕ)). over (pixel_composite layout op) l ds) made
     ∙ over-beside (pixel_composite layout op) (matted_color layout) ms ss ds long

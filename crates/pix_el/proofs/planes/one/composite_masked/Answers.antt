@@ -15,15 +15,16 @@ pub returns : goal.returns
 returns g c =
     let max = g.P.Chan.Channel.max in
     let v = g.P.Chan.Channel.number in
-    let n = g.P.Pixel.numbers in
+    let d = g.D.Stored.reads in
+    let s = g.S.Stored.reads in
     let layout : Layout = g.P.Pixel.layout in
     let made = pixel_composite layout g.O.Blend.op in
     let ms = map v c.args.mattes.now in
-    let ss = map n c.args.src.now in
-    let ds = map n c.args.dst.now in
+    let ss = map s c.args.src.now in
+    let ds = map d c.args.dst.now in
     let one : layout ≡ one_of max = is_one_of layout max g.P.Model.ColorModel.CIRCULAR g.P.Model.ColorModel.ALPHA g.met.P.Pixel.laid_out
     c.requires.count c.requires.alpha c.requires.no_hue (placed_by_row g.P.Model.ColorModel.model _ g.met.P.Model.ColorModel.stands).hue_first in
-    let long : length ms ≡ length ss = omega (arith, length-map c.args.mattes.now v, length-map c.args.src.now n, c.requires.src_size, c.requires.whole) in
+    let long : length ms ≡ length ss = omega (arith, length-map c.args.mattes.now v, length-map c.args.src.now s, c.requires.src_size, c.requires.whole) in
     let colors : by_ones (map v c.mul_run.new.dst) ≡ over (matted_color (one_of max)) ms ss = ap by_ones c.mul_run.ensures
     ∙ ones_masked max ms (map v c.sixteen_pixels-colors.result) ∙ ap (over (matted_color (one_of max)) ms) c.sixteen_pixels-colors.ensures in
     c.composite_sixteen.ensures

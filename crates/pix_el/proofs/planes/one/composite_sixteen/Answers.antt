@@ -15,7 +15,7 @@ returns g c =
     let max = g.P.Chan.Channel.max in
     let op = g.O.Blend.op in
     let v = g.P.Chan.Channel.number in
-    let n = g.P.Pixel.numbers in
+    let n = g.D.Stored.reads in
     let laws = g.met.P.Chan.Channel in
     let ss = map v c.args.src in
     let ds = map v c.sixteen_pixels-to.result in
@@ -23,7 +23,7 @@ returns g c =
     let one : g.P.Pixel.layout ≡ one_of max = is_one_of g.P.Pixel.layout max g.P.Model.ColorModel.CIRCULAR g.P.Model.ColorModel.ALPHA g.met.P.Pixel.laid_out
     c.requires.count c.requires.alpha c.requires.no_hue (placed_by_row g.P.Model.ColorModel.model _ g.met.P.Model.ColorModel.stands).hue_first in
     c.put_sixteen_pixels.ensures
-    ∙ ap by_ones (c.composite_run.ensures
+    ∙ ap by_ones (c.composite_block.ensures
     ∙ ap (λ (r : List ℕ). over (run_composite max op) (triples r ss (map v c.less16-sa1.result)) ds) c.less16-da1.ensures
     ∙ ap (λ (r : List ℕ). over (run_composite max op) (triples (less ds) ss r) ds) c.less16-sa1.ensures)
     ∙ ones_composited max op ss ds (omega (arith, length-map c.args.src v, length-map c.sixteen_pixels-to.result v))

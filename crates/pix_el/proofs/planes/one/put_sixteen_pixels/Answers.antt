@@ -1,13 +1,13 @@
--- Of `put_sixteen_pixels`: that the pixels are those of the channels.
-use Rattle.std.proofs.Common.{arith}
-use Rattle.pix_el.specs.Planes.{by_ones}
-use Rattle.pix_el.proofs.OnePlane.{by_ones-joined}
-use Rattle.pix_el.proofs.Halves.{pixels_put}
+-- Of `put_sixteen_pixels`: that there is a channel for each place, and that the pixels are those of the channels.
+use Rattle.std.proofs.Common.{arith, map}
+use Rattle.std.proofs.lemmas.List.{length-map}
+use Rattle.pix_el.proofs.InPixels.{ones_written}
 use Rattle.pix_el.proofs.planes.one.put_sixteen_pixels.Goals as goal
+
+pub store_channels-requires : goal.store_channels-requires
+store_channels-requires g c = rw (c.requires.count, c.requires.size) (omega arith)
 
 pub returns : goal.returns
 returns g c =
-    let first = c.put_eight_pixels in
-    let second = c.put_eight_pixels-2 in
-    pixels_put g.P.Pixel.numbers g.P.Chan.Channel.number by_ones 8 8 c.args.p.now first.new.p second.new.p c.args.c (λ a b h. by_ones-joined a b)
-    (omega arith) first.ensures.size second.ensures.size (omega arith) first.ensures.pixels second.ensures.pixels
+    let v = g.P.Chan.Channel.number in
+    ones_written g.P.Pixel.layout.count 16 _ (map v c.args.c) _ c.requires.count c.requires.size (omega (arith, length-map c.args.c v)) c.store_channels.ensures

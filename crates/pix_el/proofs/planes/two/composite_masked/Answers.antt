@@ -14,15 +14,16 @@ pub returns : goal.returns
 returns g c =
     let max = g.P.Chan.Channel.max in
     let v = g.P.Chan.Channel.number in
-    let n = g.P.Pixel.numbers in
+    let d = g.D.Stored.reads in
+    let s = g.S.Stored.reads in
     let layout : Layout = g.P.Pixel.layout in
     let made = pixel_composite layout g.O.Blend.op in
     let ms = map v c.args.mattes.now in
-    let ss = map n c.args.src.now in
-    let ds = map n c.args.dst.now in
+    let ss = map s c.args.src.now in
+    let ds = map d c.args.dst.now in
     let two : layout ≡ two_of max = is_two_of layout max g.P.Model.ColorModel.CIRCULAR g.P.Model.ColorModel.ALPHA g.met.P.Pixel.laid_out
     c.requires.count c.requires.alpha c.requires.no_hue (placed_by_row g.P.Model.ColorModel.model _ g.met.P.Model.ColorModel.stands).hue_first in
-    let long : length ms ≡ length ss = omega (arith, length-map c.args.mattes.now v, length-map c.args.src.now n, c.requires.src_size, c.requires.whole) in
+    let long : length ms ≡ length ss = omega (arith, length-map c.args.mattes.now v, length-map c.args.src.now s, c.requires.src_size, c.requires.whole) in
     c.composite_sixteen.ensures (over (matted_color (two_of max)) ms ss) (masked_two_planes max ms ss c.planes-one.ensures c.mul_run.ensures c.mul_run-2.ensures)
     ∙ over-beside made (matted_color (two_of max)) ms ss ds long
     ∙ ap (λ (l : Layout). over (λ t. made (matted_color l t.0 t.1)) (zip ms ss) ds) (sym two)

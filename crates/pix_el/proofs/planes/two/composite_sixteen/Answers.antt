@@ -13,13 +13,13 @@ returns g c = λ pixels are.
     let max = g.P.Chan.Channel.max in
     let op = g.O.Blend.op in
     let v = g.P.Chan.Channel.number in
-    let n = g.P.Pixel.numbers in
+    let n = g.D.Stored.reads in
     let laws = g.met.P.Chan.Channel in
     let two = is_two_of g.P.Pixel.layout max g.P.Model.ColorModel.CIRCULAR g.P.Model.ColorModel.ALPHA g.met.P.Pixel.laid_out
     c.requires.count c.requires.alpha c.requires.no_hue (placed_by_row g.P.Model.ColorModel.model _ g.met.P.Model.ColorModel.stands).hue_first in
     c.put_planes.ensures
     ∙ two_composited max op pixels (map n c.args.dst.now) are c.planes-to_one.ensures c.less16-da1.ensures c.less16-sa1.ensures
-    c.composite_run.ensures c.composite_run-2.ensures
+    c.composite_block.ensures c.composite_block-2.ensures
     (omega (arith, length-map c.args.two v, length-map c.planes-to_one.result.1 v))
     (numbers_fit max v laws.numbered c.args.two) (numbers_fit max v laws.numbered c.planes-to_one.result.1)
     ∙ ap (λ (l : Layout). over (pixel_composite l op) pixels (map n c.args.dst.now)) (sym two)

@@ -9,7 +9,7 @@ use Rattle.pix_el.proofs.planes.two.planes.Goals as goal
 pub returns : goal.returns
 returns g c =
     let v = g.P.Chan.Channel.number in
-    let n = g.P.Pixel.numbers in
+    let n = g.D.Stored.reads in
     let p = c.args.p.now in
     let a = c.eight_pixels.result in
     let b = c.eight_pixels-2.result in

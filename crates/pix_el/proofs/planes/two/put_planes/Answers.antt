@@ -9,7 +9,7 @@ use Rattle.pix_el.proofs.planes.two.put_planes.Goals as goal
 pub returns : goal.returns
 returns g c =
     let v = g.P.Chan.Channel.number in
-    let n = g.P.Pixel.numbers in
+    let n = g.D.Stored.reads in
     let w = c.put_eight_pixels.new.p in
     let x = c.put_eight_pixels-2.new.p in
     ap (map n) (halves_put 8 c.args.p.now w x (omega arith) c.put_eight_pixels.ensures.size c.put_eight_pixels-2.ensures.size)

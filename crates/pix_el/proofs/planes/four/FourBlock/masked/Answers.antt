@@ -6,6 +6,5 @@ use Rattle.pix_el.proofs.planes.four.FourBlock.masked.Goals as goal
 
 pub returns : goal.returns
 returns g c =
-    let n = g.P.Pixel.numbers in
     c.composite_masked.ensures
-    ∙ ap (λ (l : List ℕ). over (λ t. matted_composite g.P.Pixel.layout g.O.Blend.op t.0 t.1) (zip l (map n c.args.src.now)) (map n c.args.dst.now)) c.matte_values.ensures
+    ∙ ap (λ (l : List ℕ). over (λ t. matted_composite g.P.Pixel.layout g.O.Blend.op t.0 t.1) (zip l (map g.S.Stored.reads c.args.src.now)) (map g.D.Stored.reads c.args.dst.now)) c.matte_values.ensures

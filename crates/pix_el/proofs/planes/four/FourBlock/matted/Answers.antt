@@ -1,14 +1,15 @@
 use Rattle.std.proofs.Common.{◌∙◌, ◌∷◌, [], ap, map, List, ℕ}
 use Rattle.pix_chan.specs.Runs.{over}
 use Rattle.pix_el.specs.PixelComposite.{matted_composite}
+use Rattle.pix_el.specs.Planes.{coverage_of}
 use Rattle.pix_el.proofs.planes.four.FourBlock.matted.Goals as goal
 
 pub returns : goal.returns
 returns g c =
     let v = g.P.Chan.Channel.number in
-    let n = g.P.Pixel.numbers in
+    let n = g.D.Stored.reads in
     let ds = map n c.args.dst.now in
     let made = λ (color ms : List ℕ). over (λ m. matted_composite g.P.Pixel.layout g.O.Blend.op m color) ms ds in
     c.composite_matted.ensures
     ∙ ap (λ (l : List ℕ). made (v c.four_channels-a.result.0 ∷ v c.four_channels-a.result.1 ∷ v c.four_channels-a.result.2 ∷ v c.four_channels-a.result.3 ∷ []) l) c.matte_values.ensures
-    ∙ ap (λ (l : List ℕ). made l (map g.S.Coverage.value c.args.src.now)) c.four_channels-a.ensures
+    ∙ ap (λ (l : List ℕ). made l (map (coverage_of g.P.Chan.Channel.max g.M.Coverage.numbers) c.args.src.now)) c.four_channels-a.ensures

@@ -5,5 +5,5 @@ use Rattle.pix_el.proofs.planes.interleaved.InterleavedBlock.color.Goals as goal
 
 pub returns : goal.returns
 returns g c =
-    let ds = map g.P.Pixel.numbers c.args.dst.now in
+    let ds = map g.D.Stored.reads c.args.dst.now in
     c.composite_four.ensures ∙ ap (λ (l : List (List ℕ)). over (pixel_composite g.P.Pixel.layout g.O.Blend.op) l ds) c.four_times.ensures

@@ -7,6 +7,6 @@ use Rattle.pix_el.proofs.planes.one.OneBlock.color.Goals as goal
 pub returns : goal.returns
 returns g c =
     let n = g.P.Pixel.numbers in
-    let ds = map n c.args.dst.now in
+    let ds = map g.D.Stored.reads c.args.dst.now in
     c.composite_sixteen.ensures ∙ ap (λ (l : List (List ℕ)). over (pixel_composite g.P.Pixel.layout g.O.Blend.op) l ds)
     (same_ones g.P.Chan.Channel.number c.one_channel.result (n c.args.clr.now) c.one_channel.ensures)

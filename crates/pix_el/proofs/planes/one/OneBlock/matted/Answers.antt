@@ -3,7 +3,7 @@ use Rattle.std.proofs.lemmas.List.{length-map}
 use Rattle.pix_chan.specs.Product.{channel_product}
 use Rattle.pix_chan.specs.Runs.{over}
 use Rattle.pix_el.specs.Pixel.{Layout}
-use Rattle.pix_el.specs.Planes.{by_ones}
+use Rattle.pix_el.specs.Planes.{by_ones, coverage_of}
 use Rattle.pix_el.specs.PixelComposite.{pixel_composite, matted_color}
 use Rattle.pix_el.proofs.Models.{placed_by_row}
 use Rattle.pix_el.proofs.MattePlanes.{each_product, over-mapped}
@@ -19,12 +19,12 @@ returns g c =
     let layout : Layout = g.P.Pixel.layout in
     let a = c.one_channel-colors.result in
     let color = n c.args.clr.now in
-    let ds = map n c.args.dst.now in
-    let ms = map g.S.Coverage.value c.args.src.now in
+    let ds = map g.D.Stored.reads c.args.dst.now in
+    let ms = map (coverage_of g.P.Chan.Channel.max g.M.Coverage.numbers) c.args.src.now in
     let suits = c.requires.suits in
     let one : layout ≡ one_of max = is_one_of layout max g.P.Model.ColorModel.CIRCULAR g.P.Model.ColorModel.ALPHA g.met.P.Pixel.laid_out
     suits.0 suits.1 suits.2 (placed_by_row g.P.Model.ColorModel.model _ g.met.P.Model.ColorModel.stands).hue_first in
-    let long : length ms ≡ 16 = length-map c.args.src.now g.S.Coverage.value ∙ c.requires.src_size in
+    let long : length ms ≡ 16 = length-map c.args.src.now (coverage_of g.P.Chan.Channel.max g.M.Coverage.numbers) ∙ c.requires.src_size in
     let times : map v c.mul_run.new.dst ≡ map (channel_product max (v a)) ms = c.mul_run.ensures
     ∙ ap (λ (l : List ℕ). over (λ y x. channel_product max x y) l (map v (replicate 16 a))) c.matte_values.ensures
     ∙ each_product v (channel_product max) a 16 ms long in

@@ -1,0 +1,14 @@
+-- What holds at each turn of the loop over `i` in `MattedPixels::composite`.
+use Rattle.std.proofs.Common.{◌≡◌, take, map}
+use Rattle.std.specs.List.{zip}
+use Rattle.pix_chan.specs.Runs.{over}
+use Rattle.pix_el.specs.PixelComposite.{matted_composite, matte_value}
+use Rattle.pix_el.proofs.rows.MattedPixels.composite.Given as goal
+
+-- the pixels below the index are composited
+abbrev pub invariant-loop-i : goal.invariant-loop-i
+invariant-loop-i g l =
+    let n = g.D.Stored.reads in
+    let layout = g.P.Pixel.layout in
+    map n l.row ≡ over (λ t. matted_composite layout g.O.Blend.op (matte_value layout t.0) t.1)
+    (take l.i (zip (map g.M.Coverage.numbers l.mask) (map g.S.Stored.reads l.src))) (map n l.fn.row)

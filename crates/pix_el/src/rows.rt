@@ -1,0 +1,481 @@
+//! Changes of the pixels of a row, as they lie in memory: copies, composites, and composites of a
+//! color or of pixels through mattes.
+//!
+//! An operator that replaces pixels copies, and one that makes them clear writes the clear pixel.
+//!
+//! A drawing of another kind is another struct here, with its `Fill`, `Blit` or `MaskedBlit`. The
+//! walks over rows in `pix_raster` stay as they are.
+ghost use Rattle.std.specs.Prelude.{◌≡◌, ℕ, ◌+◌, ⊤, List, map, replicate};
+ghost use Rattle.std.specs.List.{zip};
+ghost use Rattle.pix_chan.specs.Runs.{over};
+ghost use Rattle.pix_el.specs.PixelComposite.{pixel_composite, matted_composite, matte_value};
+
+use crate::el::Pixel;
+use crate::planes::block::{color_blocks, composite_blocks};
+use crate::planes::eight::Eight;
+use crate::planes::four::Four;
+use crate::planes::half::HalfTwo;
+use crate::planes::interleaved::Interleaved;
+use crate::planes::masked::{covered_runs, faded_runs};
+use crate::planes::one::One;
+use crate::planes::two::Two;
+use crate::planes::unchanged::{clears, replaces};
+use crate::planes::{coverage_runs, has_four, has_one, has_two, is_interleaved};
+use crate::stored::{Coverage, Stored, see_channels};
+use pix_chan::chan::{Linear, Premultiplied};
+use pix_ops::ops::Blend;
+use std::marker::PhantomData;
+
+/// The most pixels that are copied where an operator replaces them. Longer rows go in blocks, which
+/// takes less time.
+// For v2, 64 by 64 pixels took 0.79 to 0.82 of pixman's time as copies, and 1.03 to 1.05 by blocks.
+// Copies of 1024 by 1024 took a tenth to a fifth longer than blocks.
+const SHORT: usize = 256;
+
+/// A change of the pixels of a row, each by itself.
+///
+/// # Examples
+///
+/// ```rust
+/// fn fill(&self, row: &mut [u32]) {
+///     for word in row.iter_mut() {
+///         *word = self.word;
+///     }
+/// }
+/// ```
+pub trait Fill<D> {
+    /// What it needs of the format.
+    ghost can_fill: { Type 0 };
+
+    /// How a pixel is read.
+    ghost reads: { D → List ℕ };
+
+    /// What it makes of a pixel.
+    ghost makes: { Self → List ℕ → List ℕ };
+
+    /// Changes every pixel of a row.
+    fn fill(&self, row: &mut [D])
+        requires { can_fill }
+        ensures { map reads row.new ≡ map (makes self.now) (map reads row.old) };
+}
+
+/// A change of the pixels of a row, each by a pixel of another row.
+pub trait Blit<D, S> {
+    /// What it needs of the formats.
+    ghost can_blit: { Type 0 };
+
+    /// How a pixel is read.
+    ghost reads: { D → List ℕ };
+
+    /// How a pixel of the other row is read.
+    ghost source_reads: { S → List ℕ };
+
+    /// What it makes of a source and a pixel.
+    ghost makes: { Self → List ℕ → List ℕ → List ℕ };
+
+    /// Changes each pixel of a row by the pixel of the source at the same place. The shorter row
+    /// decides how many change, and the rest stay as they are.
+    fn blit(&self, row: &mut [D], src: &[S])
+        requires { can_blit }
+        ensures { map reads row.new ≡ over (makes self.now) (map source_reads src.now)
+            (map reads row.old) };
+}
+
+/// A change of the pixels of a row, each by a pixel of another row and through a matte of a third.
+pub trait MaskedBlit<D, S, M> {
+    /// What it needs of the formats.
+    ghost can_blit: { Type 0 };
+
+    /// How a pixel is read.
+    ghost reads: { D → List ℕ };
+
+    /// How a pixel of the source is read.
+    ghost source_reads: { S → List ℕ };
+
+    /// How a matte is read.
+    ghost mask_reads: { M → List ℕ };
+
+    /// What it makes of a matte, a source and a pixel.
+    ghost makes: { Self → List ℕ → List ℕ → List ℕ → List ℕ };
+
+    /// Changes each pixel of a row by the pixel of the source and the matte at the same place. The
+    /// shortest row decides how many change, and the rest stay as they are.
+    fn blit(&self, row: &mut [D], src: &[S], mask: &[M])
+        requires { can_blit }
+        ensures { map reads row.new ≡ over (λ t. makes self.now t.0 t.1)
+            (zip (map mask_reads mask.now) (map source_reads src.now)) (map reads row.old) };
+}
+
+/// Composites a pixel with one in memory. Condition: the format has an alpha channel.
+#[inline(always)]
+fn composite_pixel<O: Blend, P: Pixel<Alpha = Premultiplied, Gamma = Linear>, D: Stored<P>>(
+    dst: &mut D,
+    src: &P,
+    op: O,
+)
+    requires has_alpha { P.layout.count ≡ P.layout.alpha + 1 }
+    ensures { D.reads dst.new ≡
+        pixel_composite P.layout O.op (P.numbers src.now) (D.reads dst.old) }
+{
+    let mut pixel = dst.load();
+    pixel.composite_channels(src, op);
+    *dst = D::store(&pixel);
+}
+
+/// Composites a pixel through a matte value with one in memory. Condition: the format has an alpha
+/// channel.
+#[inline(always)]
+fn matte_pixel<O: Blend, P: Pixel<Alpha = Premultiplied, Gamma = Linear>, D: Stored<P>>(
+    dst: &mut D,
+    src: &P,
+    op: O,
+    alpha: P::Chan,
+)
+    requires has_alpha { P.layout.count ≡ P.layout.alpha + 1 }
+    ensures { D.reads dst.new ≡ matted_composite P.layout O.op (P.Chan.number alpha)
+        (P.numbers src.now) (D.reads dst.old) }
+{
+    let mut pixel = dst.load();
+    pixel.composite_channels_alpha(src, op, &alpha);
+    *dst = D::store(&pixel);
+}
+
+/// Copies a color.
+#[derive(Clone, Copy)]
+pub struct CopiedColor<P, D> {
+    /// The color as it lies in memory.
+    pub clr: D,
+    /// The format of the pixels.
+    pub format: PhantomData<P>,
+}
+
+impl<P: Pixel, D: Stored<P>> Fill<D> for CopiedColor<P, D> {
+    ghost can_fill = { ⊤ };
+
+    ghost reads = { D.reads };
+
+    ghost makes = { λ it _. D.reads it.clr };
+
+    fn fill(&self, row: &mut [D]) {
+        for pixel in row.iter_mut() {
+            *pixel = self.clr;
+        }
+    }
+}
+
+/// Makes every pixel of a row clear.
+#[inline(always)]
+fn clear_row<P: Pixel, D: Stored<P>>(row: &mut [D])
+    ensures { map D.reads row.new ≡
+        map (λ _. replicate P.layout.count 0) (map D.reads row.old) }
+{
+    let (clr, format) = (D::store(&P::default()), PhantomData);
+    CopiedColor::<P, D> { clr, format }.fill(row);
+}
+
+/// Composites a color.
+#[derive(Clone, Copy)]
+pub struct CompositedColor<P, O> {
+    /// The color.
+    pub clr: P,
+    /// The operator.
+    pub op: O,
+}
+
+impl<P: Pixel<Alpha = Premultiplied, Gamma = Linear>, D: Stored<P>, O: Blend> Fill<D>
+    for CompositedColor<P, O> {
+    ghost can_fill = { P.layout.count ≡ P.layout.alpha + 1 };
+
+    ghost reads = { D.reads };
+
+    ghost makes = { λ it. pixel_composite P.layout O.op (P.numbers it.clr) };
+
+    fn fill(&self, row: &mut [D]) {
+        if replaces::<O, P>() {
+            let _ = self.clr.channels();
+            let (clr, format) = (D::store(&self.clr), PhantomData);
+            CopiedColor::<P, D> { clr, format }.fill(row);
+        } else if clears::<O, P>() {
+            clear_row::<P, D>(row);
+        } else {
+            self.composite(row);
+        }
+    }
+}
+
+impl<P: Pixel<Alpha = Premultiplied, Gamma = Linear>, O: Blend> CompositedColor<P, O> {
+    /// Composites the color with every pixel of a row. Condition: the format has an alpha channel.
+    #[inline(always)]
+    fn composite<D: Stored<P>>(&self, row: &mut [D])
+        requires has_alpha { P.layout.count ≡ P.layout.alpha + 1 }
+        ensures { map D.reads row.new ≡
+            map (pixel_composite P.layout O.op (P.numbers self.now.clr)) (map D.reads row.old) }
+    {
+        let clr = &self.clr;
+        let start = if is_interleaved::<P>() {
+            let start = color_blocks::<O, P, D, Eight>(row, clr);
+            start + color_blocks::<O, P, D, Interleaved>(&mut row[start..], clr)
+        } else if has_four::<P>() {
+            color_blocks::<O, P, D, Four>(row, clr)
+        } else if has_two::<P>() {
+            let start = color_blocks::<O, P, D, Two>(row, clr);
+            start + color_blocks::<O, P, D, HalfTwo>(&mut row[start..], clr)
+        } else if has_one::<P>() {
+            color_blocks::<O, P, D, One>(row, clr)
+        } else {
+            0
+        };
+        for i in start..row.len() {
+            composite_pixel::<O, P, D>(&mut row[i], clr, self.op);
+        }
+    }
+}
+
+/// Copies pixels.
+#[derive(Clone, Copy)]
+pub struct CopiedPixels<P> {
+    /// The format of the pixels.
+    pub format: PhantomData<P>,
+}
+
+impl<P: Pixel, D: Stored<P>> Blit<D, D> for CopiedPixels<P> {
+    ghost can_blit = { ⊤ };
+
+    ghost reads = { D.reads };
+
+    ghost source_reads = { D.reads };
+
+    ghost makes = { λ _ source _. source };
+
+    fn blit(&self, row: &mut [D], src: &[D]) {
+        let count = row.len().min(src.len());
+        row[..count].copy_from_slice(&src[..count]);
+    }
+}
+
+/// Composites pixels.
+#[derive(Clone, Copy)]
+pub struct CompositedPixels<P, O> {
+    /// The operator.
+    pub op: O,
+    /// The format of the pixels.
+    pub format: PhantomData<P>,
+}
+
+impl<P: Pixel<Alpha = Premultiplied, Gamma = Linear>, D: Stored<P>, O: Blend> Blit<D, D>
+    for CompositedPixels<P, O> {
+    ghost can_blit = { P.layout.count ≡ P.layout.alpha + 1 };
+
+    ghost reads = { D.reads };
+
+    ghost source_reads = { D.reads };
+
+    ghost makes = { λ _. pixel_composite P.layout O.op };
+
+    fn blit(&self, row: &mut [D], src: &[D]) {
+        if replaces::<O, P>() && row.len() <= SHORT {
+            see_channels::<P, D>(src);
+            let format = self.format;
+            CopiedPixels::<P> { format }.blit(row, src);
+        } else if clears::<O, P>() {
+            let count = row.len().min(src.len());
+            clear_row::<P, D>(&mut row[..count]);
+        } else {
+            self.composite(row, src);
+        }
+    }
+}
+
+impl<P: Pixel<Alpha = Premultiplied, Gamma = Linear>, O: Blend> CompositedPixels<P, O> {
+    /// Composites pixels with those of a row. Condition: the format has an alpha channel.
+    #[inline(always)]
+    fn composite<D: Stored<P>, S: Stored<P>>(&self, row: &mut [D], src: &[S])
+        requires has_alpha { P.layout.count ≡ P.layout.alpha + 1 }
+        ensures { map D.reads row.new ≡
+            over (pixel_composite P.layout O.op) (map S.reads src.now) (map D.reads row.old) }
+    {
+        let count = row.len().min(src.len());
+        let start = if is_interleaved::<P>() {
+            let start = composite_blocks::<O, P, D, S, Eight>(row, src, count);
+            let (rest, sources) = (&mut row[start..], &src[start..]);
+            start + composite_blocks::<O, P, D, S, Interleaved>(rest, sources, count - start)
+        } else if has_four::<P>() {
+            composite_blocks::<O, P, D, S, Four>(row, src, count)
+        } else if has_two::<P>() {
+            let start = composite_blocks::<O, P, D, S, Two>(row, src, count);
+            let (rest, sources) = (&mut row[start..], &src[start..]);
+            start + composite_blocks::<O, P, D, S, HalfTwo>(rest, sources, count - start)
+        } else if has_one::<P>() {
+            composite_blocks::<O, P, D, S, One>(row, src, count)
+        } else {
+            0
+        };
+        for i in start..count {
+            composite_pixel::<O, P, D>(&mut row[i], &src[i].load(), self.op);
+        }
+    }
+}
+
+/// Composites a color through mattes.
+#[derive(Clone, Copy)]
+pub struct MattedColor<P, O> {
+    /// The color.
+    pub clr: P,
+    /// The operator.
+    pub op: O,
+}
+
+impl<
+    P: Pixel<Alpha = Premultiplied, Gamma = Linear>,
+    D: Stored<P>,
+    M: Coverage<P::Chan>,
+    O: Blend,
+> Blit<D, M> for MattedColor<P, O> {
+    ghost can_blit = { P.layout.count ≡ P.layout.alpha + 1 };
+
+    ghost reads = { D.reads };
+
+    ghost source_reads = { M.numbers };
+
+    ghost makes = { λ it matte. matted_composite P.layout O.op
+        (matte_value P.layout matte) (P.numbers it.clr) };
+
+    fn blit(&self, row: &mut [D], src: &[M]) {
+        if clears::<O, P>() {
+            let count = row.len().min(src.len());
+            clear_row::<P, D>(&mut row[..count]);
+        } else {
+            self.composite(row, src);
+        }
+    }
+}
+
+impl<P: Pixel<Alpha = Premultiplied, Gamma = Linear>, O: Blend> MattedColor<P, O> {
+    /// Composites the color with the pixels of a row through mattes. Condition: the format has an
+    /// alpha channel.
+    #[inline(always)]
+    fn composite<D: Stored<P>, M: Coverage<P::Chan>>(&self, row: &mut [D], src: &[M])
+        requires has_alpha { P.layout.count ≡ P.layout.alpha + 1 }
+        ensures { map D.reads row.new ≡ over (λ matte. matted_composite P.layout O.op
+            (matte_value P.layout matte) (P.numbers self.now.clr))
+            (map M.numbers src.now) (map D.reads row.old) }
+    {
+        let count = row.len().min(src.len());
+        let start = coverage_runs::<O, P, D, M>(row, src, &self.clr, count);
+        for i in start..count {
+            matte_pixel::<O, P, D>(&mut row[i], &self.clr, self.op, src[i].coverage());
+        }
+    }
+}
+
+/// Composites pixels through mattes.
+#[derive(Clone, Copy)]
+pub struct MattedPixels<P, O> {
+    /// The operator.
+    pub op: O,
+    /// The format of the pixels.
+    pub format: PhantomData<P>,
+}
+
+impl<
+    P: Pixel<Alpha = Premultiplied, Gamma = Linear>,
+    D: Stored<P>,
+    S: Stored<P>,
+    M: Coverage<P::Chan>,
+    O: Blend,
+> MaskedBlit<D, S, M> for MattedPixels<P, O> {
+    ghost can_blit = { P.layout.count ≡ P.layout.alpha + 1 };
+
+    ghost reads = { D.reads };
+
+    ghost source_reads = { S.reads };
+
+    ghost mask_reads = { M.numbers };
+
+    ghost makes = { λ _ matte. matted_composite P.layout O.op (matte_value P.layout matte) };
+
+    fn blit(&self, row: &mut [D], src: &[S], mask: &[M]) {
+        if clears::<O, P>() {
+            let count = row.len().min(src.len()).min(mask.len());
+            clear_row::<P, D>(&mut row[..count]);
+        } else {
+            self.composite(row, src, mask);
+        }
+    }
+}
+
+impl<P: Pixel<Alpha = Premultiplied, Gamma = Linear>, O: Blend> MattedPixels<P, O> {
+    /// Composites pixels with those of a row through mattes. Condition: the format has an alpha
+    /// channel.
+    #[inline(always)]
+    fn composite<D: Stored<P>, S: Stored<P>, M: Coverage<P::Chan>>(
+        &self,
+        row: &mut [D],
+        src: &[S],
+        mask: &[M],
+    )
+        requires has_alpha { P.layout.count ≡ P.layout.alpha + 1 }
+        ensures { map D.reads row.new ≡
+            over (λ t. matted_composite P.layout O.op (matte_value P.layout t.0) t.1)
+            (zip (map M.numbers mask.now) (map S.reads src.now)) (map D.reads row.old) }
+    {
+        let count = row.len().min(src.len()).min(mask.len());
+        let start = covered_runs::<O, P, D, S, M>(row, src, mask, count);
+        for i in start..count {
+            matte_pixel::<O, P, D>(&mut row[i], &src[i].load(), self.op, mask[i].coverage());
+        }
+    }
+}
+
+/// Composites pixels at one opacity.
+#[derive(Clone, Copy)]
+pub struct FadedPixels<P, C, O> {
+    /// The opacity.
+    pub alpha: C,
+    /// The operator.
+    pub op: O,
+    /// The format of the pixels.
+    pub format: PhantomData<P>,
+}
+
+impl<P: Pixel<Alpha = Premultiplied, Gamma = Linear>, D: Stored<P>, S: Stored<P>, O: Blend> Blit<
+    D,
+    S,
+> for FadedPixels<P, P::Chan, O> {
+    ghost can_blit = { P.layout.count ≡ P.layout.alpha + 1 };
+
+    ghost reads = { D.reads };
+
+    ghost source_reads = { S.reads };
+
+    ghost makes = { λ it. matted_composite P.layout O.op (P.Chan.number it.alpha) };
+
+    fn blit(&self, row: &mut [D], src: &[S]) {
+        if clears::<O, P>() {
+            let count = row.len().min(src.len());
+            clear_row::<P, D>(&mut row[..count]);
+        } else {
+            fade_row::<O, P, D, S>(row, src, self.op, self.alpha);
+        }
+    }
+}
+
+/// Composites pixels with those of a row, each through the same matte value. Condition: the format
+/// has an alpha channel.
+#[inline(always)]
+fn fade_row<O: Blend, P: Pixel<Alpha = Premultiplied, Gamma = Linear>, D: Stored<P>, S: Stored<P>>(
+    row: &mut [D],
+    src: &[S],
+    op: O,
+    alpha: P::Chan,
+)
+    requires has_alpha { P.layout.count ≡ P.layout.alpha + 1 }
+    ensures { map D.reads row.new ≡ over (matted_composite P.layout O.op (P.Chan.number alpha))
+        (map S.reads src.now) (map D.reads row.old) }
+{
+    let count = row.len().min(src.len());
+    let start = faded_runs::<O, P, D, S>(row, src, alpha, count);
+    for i in start..count {
+        matte_pixel::<O, P, D>(&mut row[i], &src[i].load(), op, alpha);
+    }
+}
