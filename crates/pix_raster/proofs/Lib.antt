@@ -5,7 +5,6 @@ pub mod Bands
 pub mod Places
 pub mod Clear
 pub mod Steps
-pub mod Copies
 pub mod Shaped
 pub mod Overlaps
 pub mod Masked
@@ -19,3 +18,6 @@ pub mod Seen
 pub mod Windows
 pub mod Points
 pub mod Samples
+pub mod ViewImages
+pub mod ViewEffects
+pub mod Draws

@@ -1,5 +1,6 @@
 -- Mattes of the maximum, of 0 and of one value.
-use Rattle.std.proofs.Common.{◌≡◌, ℕ, ◌-◌, ◌<◌, ◌≤◌, ◌∙◌, List, [], ◌∷◌, ◌++◌, ℤ, pos, ◌+ℤ◌, ◌-ℤ◌, map, fold, refl, ap, arith, Bool, true, false, cond}
+use Rattle.std.proofs.Common.{◌≡◌, ℕ, ◌-◌, ◌<◌, ◌≤◌, ◌∙◌, List, [], ◌∷◌, ◌++◌, ℤ, pos, ◌+ℤ◌, ◌-ℤ◌, map, fold, refl, ap, sym, arith, Bool, true, false, cond}
+use denote.Bor.{Bor}
 use Rattle.std.specs.List.{range_with_len, zip}
 use Rattle.std.proofs.lemmas.List.FromFn.{fill_by_all, get_or-map-range_with_len, length-map-range_with_len}
 use Rattle.pix_ops.specs.declared.ops.Op.{Op}
@@ -10,17 +11,20 @@ use Rattle.pix_ops.specs.Composite.{term, channel_composite}
 use Rattle.pix_ops.specs.Hue.{hue_composite, hue_after, hue_steps}
 use Rattle.pix_ops.proofs.Transparent.{over_hue}
 use Rattle.pix_el.specs.Pixel.{Layout, is_hue, channel, alpha_of}
-use Rattle.pix_el.specs.PixelComposite.{composite_at, pixel_composite, matted_color, matted_composite}
+use Rattle.pix_el.specs.PixelComposite.{composite_at, pixel_composite, matted_color, matted_composite, matte_value}
 use Rattle.pix_el.specs.Premultiplied.{IsBounded}
 use Rattle.pix_el.specs.Transparent.{IsTransparent, IsUnchanged}
 use Rattle.pix_el.proofs.Composited.{Fits, channel-matted, bounded-matted, channel-pixel_composite}
 use Rattle.pix_raster.specs.Region.{Rectangle}
 use Rattle.pix_raster.specs.Image.{Image, Changed, point, region_of}
 use Rattle.pix_raster.specs.Reach.{is_paired, natural, from_pair}
-use Rattle.pix_raster.specs.View.{where_masked}
-use Rattle.pix_raster.specs.Run.{Effect, apply}
+use Rattle.pix_raster.specs.View.{where_masked, where_paired}
+use Rattle.pix_raster.specs.Run.{Effect, Matted, apply, run_at}
+use Rattle.pix_raster.specs.declared.command.Command.{Command}
+use Rattle.pix_raster.specs.declared.command.Command.TheVariants as commands
 use Rattle.pix_raster.specs.Stays.{is_one_at_none, keeps_under}
 use Rattle.pix_raster.proofs.Masked.{paired_below}
+use Rattle.pix_raster.proofs.Steps.{from_pair_effect, masked_effect}
 
 -- two lists made channel by channel, each channel alike
 made_alike : (count : ℕ) (f g : ℕ → ℕ) → ((ch : ℕ) → ch < count → f ch ≡ g ch) → map f (range_with_len 0 count) ≡ map g (range_with_len 0 count)
@@ -140,4 +144,30 @@ changed_by_one layout n s m old new to from src mask_from mask f effect matte ch
       (point n old x y) (is_paired to (region_of old) mask_from (region_of mask) i j) (is_paired to (region_of old) from (region_of src) i j) (there i j)
       (λ covered. let below = paired_below to (region_of old) mask_from mask.width mask.height i j covered in
       one (natural (mask_from.left +ℤ i)) (natural (mask_from.top +ℤ j)) below.0 below.1) is;
+}
+
+-- the run of a composite through a mask is a change of the points that are paired
+pub masked_change : {P M : Type 0} (layout : Layout) (n : P → List ℕ) (m : M → List ℕ) (old new : Image P) (to from : Rectangle) (src : Bor (Image P)) (mask_from : Rectangle) (mask : Bor (Image M)) (op : Op)
+    → Changed n old new (run_at layout n m (region_of old) (commands.RasterMatte to src from mask mask_from op ∷ []))
+    → Changed n old new (where_masked to (region_of old) from (region_of src.now) mask_from (region_of mask.now) (point n src.now) (point m mask.now) (λ t. matted_composite layout op (matte_value layout t)))
+masked_change layout n m old new to from src mask_from mask op ran = record {
+  same_width = ran.same_width;
+  same_height = ran.same_height;
+  points = λ x y lx ly.
+      ran.points x y lx ly
+      ∙ sym (masked_effect layout to (region_of old) from (region_of src.now) mask_from (region_of mask.now) (point n src.now) (point m mask.now) (λ t. matted_composite layout op (matte_value layout t))
+      (Matted op) x y (point n old x y) (λ t s p. refl));
+}
+
+-- so is that of a composite at an opacity
+pub faded_change : {P M : Type 0} (layout : Layout) (n : P → List ℕ) (m : M → List ℕ) (old new : Image P) (to from : Rectangle) (src : Bor (Image P)) (alpha : M) (op : Op)
+    → Changed n old new (run_at layout n m (region_of old) (commands.RasterAlpha to src from alpha op ∷ []))
+    → Changed n old new (where_paired to (region_of old) from (region_of src.now) (point n src.now) (matted_composite layout op (matte_value layout (m alpha))))
+faded_change layout n m old new to from src alpha op ran = record {
+  same_width = ran.same_width;
+  same_height = ran.same_height;
+  points = λ x y lx ly.
+      ran.points x y lx ly
+      ∙ sym (from_pair_effect layout to (region_of old) from (region_of src.now) (point n src.now) (matted_composite layout op (matte_value layout (m alpha)))
+      (Matted op (m alpha)) x y (point n old x y) (λ s p. refl));
 }

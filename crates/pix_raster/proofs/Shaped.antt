@@ -1,8 +1,9 @@
 -- changes of rows that lie a stride apart
-use Rattle.std.proofs.Common.{◌≡◌, ℕ, ◌<◌, ◌≤◌, ◌+◌, ◌*◌, ◌/◌, ◌%◌, List, false, cond, ◌⊎◌, inl, inr, arith, ap, ◌∙◌}
+use Rattle.std.proofs.Common.{◌≡◌, ℕ, ◌<◌, ◌≤◌, ◌+◌, ◌*◌, ◌/◌, ◌%◌, List, false, cond, ◌⊎◌, inl, inr, arith, refl, ap, ◌∙◌}
 use Rattle.std.proofs.lemmas.Bool.{cases_lt}
 use Rattle.std.proofs.lemmas.Bool.Decides.{nat_tests}
 use Rattle.std.specs.declared.ops.Range.{Range}
+use Rattle.pix_raster.specs.Image.{Changed}
 use Rattle.pix_raster.specs.View.{read_at, ChangedIn}
 use Rattle.pix_raster.specs.Clip.{in_box, where_in}
 use Rattle.pix_raster.specs.declared.view.Shape.{Shape}
@@ -47,4 +48,19 @@ pub changed_alike : {D : Type 0} (reads : D → List ℕ) (shape : Shape) (old n
 changed_alike reads shape old new f g alike changed = record {
   points = λ x y lx ly. changed.points x y lx ly ∙ alike x y (read_at reads shape.stride old x y) lx ly;
   stays = changed.stays;
+}
+
+-- what is changed in rows that follow one another is changed in an image
+pub changed_rows : {P : Type 0} (n : P → List ℕ) (width height : ℕ) (before after : List P) (f : ℕ → ℕ → ℕ → ℕ → List ℕ → List ℕ)
+    → ChangedIn n (record { width = width; height = height; stride = width }) before after (λ x y. f (0 + width) (0 + height) (0 + x) (0 + y))
+    → Changed n (record { width = width; height = height; pixels = before }) (record { width = width; height = height; pixels = after }) (f width height)
+changed_rows n width height before after f changed = record {
+  same_width = refl;
+  same_height = refl;
+  points = λ x y lx ly.
+      let column : 0 + x ≡ x = omega arith in
+      let row : 0 + y ≡ y = omega arith in
+      let wide : 0 + width ≡ width = omega arith in
+      let high : 0 + height ≡ height = omega arith in
+      rw (column, row, wide, high) at (changed.points x y lx ly);
 }

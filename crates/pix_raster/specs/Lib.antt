@@ -16,3 +16,4 @@ pub mod Bounds
 pub mod Claims
 pub mod Window
 pub mod Clip
+pub mod Draw

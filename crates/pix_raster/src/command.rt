@@ -1,9 +1,10 @@
 //! Commands: changes of a raster as values.
-ghost use Rattle.std.specs.Prelude.{◌≡◌};
-ghost use Rattle.pix_raster.specs.Run.{op_of};
+ghost use Rattle.std.specs.Prelude.{⊤};
 
 use crate::raster::Raster;
 use crate::region::Region;
+use crate::view::{Draw, ReadCommand};
+use pix_el::el::Pixel;
 use pix_ops::ops::Op;
 
 /// A change of a raster of pixels `P`, as a value. `M` is the format of the coverage masks.
@@ -106,11 +107,12 @@ pub enum Command<'a, P, M> {
     },
 }
 
-impl<'a, P, M> Command<'a, P, M> {
-    /// Returns the operator, which is `Src` for a command that does not composite.
-    pub(crate) fn op(&self) -> Op
-        ensures { result ≡ op_of self.now }
-    {
+impl<'a, P: Pixel, M: Pixel> ReadCommand<P, M> for Command<'a, P, M> {
+    ghost command = { λ it. it };
+
+    ghost can_read = { λ _. ⊤ };
+
+    fn op(&self) -> Op {
         match self {
             Command::Color { op, .. }
             | Command::Raster { op, .. }
@@ -121,8 +123,7 @@ impl<'a, P, M> Command<'a, P, M> {
         }
     }
 
-    /// Returns the region of the destination. For a clear it has all points of any raster.
-    pub(crate) fn reach(&self) -> Region {
+    fn reach(&self) -> Region {
         match self {
             Command::CopyColor { reg, .. } | Command::Color { reg, .. } => *reg,
             Command::CopyRaster { to, .. }
@@ -131,6 +132,58 @@ impl<'a, P, M> Command<'a, P, M> {
             | Command::RasterMatte { to, .. }
             | Command::RasterAlpha { to, .. } => *to,
             _ => Region::new(0, 0, 2147483647, 2147483647),
+        }
+    }
+
+    fn read(&self) -> Draw<'_, P, M> {
+        match self {
+            Command::Clear => Draw::Clear,
+            Command::CopyColor { reg, clr } => Draw::CopyColor { reg: *reg, clr },
+            Command::CopyRaster { to, src, from } => {
+                let src = src.source(*from);
+                Draw::CopyImage { to: *to, src }
+            }
+            Command::Color { reg, clr, .. } => Draw::Color { reg: *reg, clr },
+            Command::Raster { to, src, from, .. } => {
+                let src = src.source(*from);
+                Draw::Image { to: *to, src }
+            }
+            Command::Matte {
+                to,
+                src,
+                from,
+                clr,
+                ..
+            } => {
+                let src = src.source(*from);
+                Draw::Matte { to: *to, src, clr }
+            }
+            Command::RasterMatte {
+                to,
+                src,
+                from,
+                mask,
+                mask_from,
+                ..
+            } => {
+                let src = src.source(*from);
+                let mask = mask.source(*mask_from);
+                Draw::ImageMatte { to: *to, src, mask }
+            }
+            Command::RasterAlpha {
+                to,
+                src,
+                from,
+                alpha,
+                ..
+            } => {
+                let src = src.source(*from);
+                Draw::ImageAlpha {
+                    to: *to,
+                    src,
+                    alpha,
+                }
+            }
         }
     }
 }

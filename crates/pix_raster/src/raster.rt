@@ -24,7 +24,6 @@ mod change;
 mod convert;
 mod light;
 mod making;
-mod row_change;
 mod samples;
 mod window;
 

@@ -5,12 +5,20 @@ ghost use Rattle.pix_raster.specs.Region.{limit, whole};
 ghost use Rattle.pix_raster.specs.View.{read_at, IsShaped, IsWindow, ChangedIn, where_covered, where_paired, picture, in_window};
 ghost use Rattle.pix_raster.specs.Clip.{where_in};
 
-use crate::clip::{ClippedRect, Overlap};
+use crate::clip::ClippedRect;
 use crate::region::Region;
+use masked::overlap_in;
 
+mod draw;
 mod masked;
+mod run;
 
-pub use masked::{MaskedBlit, Source, blit_masked};
+pub(crate) use draw::NoMattes;
+pub use draw::{Draw, ReadCommand};
+pub use masked::{Source, blit_masked};
+pub use pix_el::rows::{Blit, Fill, MaskedBlit};
+pub use run::Commands;
+pub(crate) use run::OnWindow;
 
 /// The size of an image in points, and how many pixels its rows lie apart.
 #[derive(Clone, Copy, Debug, PartialEq, Eq)]
@@ -37,55 +45,6 @@ pub struct Window {
     pub top: u32,
     /// The shape of the part.
     pub shape: Shape,
-}
-
-/// A change of the pixels of a row, each by itself.
-///
-/// # Examples
-///
-/// ```rust
-/// fn fill(&self, row: &mut [u32]) {
-///     for word in row.iter_mut() {
-///         *word = self.word;
-///     }
-/// }
-/// ```
-pub trait Fill<D> {
-    /// What it needs of the format.
-    ghost can_fill: { Type 0 };
-
-    /// How a pixel is read.
-    ghost reads: { D → List ℕ };
-
-    /// What it makes of a pixel.
-    ghost makes: { Self → List ℕ → List ℕ };
-
-    /// Changes every pixel of a row.
-    fn fill(&self, row: &mut [D])
-        requires { can_fill }
-        ensures { map reads row.new ≡ map (makes self.now) (map reads row.old) };
-}
-
-/// A change of the pixels of a row, each by a pixel of another row.
-pub trait Blit<D, S> {
-    /// What it needs of the formats.
-    ghost can_blit: { Type 0 };
-
-    /// How a pixel is read.
-    ghost reads: { D → List ℕ };
-
-    /// How a pixel of the other row is read.
-    ghost source_reads: { S → List ℕ };
-
-    /// What it makes of a source and a pixel.
-    ghost makes: { Self → List ℕ → List ℕ → List ℕ };
-
-    /// Changes each pixel of a row by the pixel of the source at the same place. The shorter row
-    /// decides how many change, and the rest stay as they are.
-    fn blit(&self, row: &mut [D], src: &[S])
-        requires { can_blit }
-        ensures { map reads row.new ≡ over (makes self.now) (map source_reads src.now)
-            (map reads row.old) };
 }
 
 /// What is painted on windows of a picture, such as a list of commands.
@@ -165,8 +124,11 @@ pub fn fill_window<D, F: Fill<D>>(pixels: &mut [D], window: Window, reg: Region,
         let right = window.left + shape.width;
         let bottom = window.top + shape.height;
         let clipped = ClippedRect::new(reg, right, bottom);
-        let clipped = clipped.seen_from(window.left, window.top);
-        fill_rows(pixels, shape.stride, clipped, change);
+        let seen = clipped.seen_from(window.left, window.top);
+        for y in seen.rows.start..seen.rows.end {
+            let start = y * shape.stride;
+            change.fill(&mut pixels[start + seen.columns.start..start + seen.columns.end]);
+        }
     }
 }
 
@@ -223,13 +185,18 @@ pub fn blit_window<D, S, B: Blit<D, S>>(
         from (whole src_shape.width src_shape.height)
         (read_at B.source_reads src_shape.stride src.now) (B.makes change.now))) }
 {
-    let shape = window.shape;
-    if shape.width > 0 {
-        let right = window.left + shape.width;
-        let bottom = window.top + shape.height;
-        let overlap = Overlap::new(to, right, bottom, from, src_shape.width, src_shape.height);
-        let overlap = overlap.seen_from(window.left, window.top);
-        blit_rows(pixels, shape.stride, src, src_shape.stride, overlap, change);
+    if window.shape.width > 0 {
+        let overlap = overlap_in(window, to, from, src_shape);
+        let count = overlap.columns.dst.end - overlap.columns.dst.start;
+        for y in overlap.rows.dst.start..overlap.rows.dst.end {
+            let start = y * window.shape.stride + overlap.columns.dst.start;
+            let src_y = overlap.rows.src_start + (y - overlap.rows.dst.start);
+            let src_start = src_y * src_shape.stride + overlap.columns.src_start;
+            change.blit(
+                &mut pixels[start..start + count],
+                &src[src_start..src_start + count],
+            );
+        }
     }
 }
 
@@ -298,63 +265,4 @@ pub fn points_in(window: Window, reg: Region) -> usize
     let there = ClippedRect::new(reg, right, bottom).seen_from(window.left, window.top);
     let columns = there.columns.end - there.columns.start;
     columns.saturating_mul(there.rows.end - there.rows.start)
-}
-
-/// Changes the pixels of a clipped rectangle of rows that lie `stride` pixels apart.
-fn fill_rows<D, F: Fill<D>>(pixels: &mut [D], stride: usize, clipped: ClippedRect, change: &F)
-    requires can_fill { F.can_fill }
-    requires ordered { clipped.columns.start ≤ clipped.columns.end }
-    requires from_top { clipped.rows.start ≤ clipped.rows.end }
-    requires across { clipped.columns.end ≤ stride }
-    requires down { (y : ℕ) → y < clipped.rows.end →
-        y * stride + clipped.columns.end ≤ length pixels.old }
-    ensures { (x y : ℕ) → x < stride → read_at F.reads stride pixels.new x y ≡
-        where_in clipped.columns clipped.rows (λ a b. F.makes change.now) x y
-        (read_at F.reads stride pixels.old x y) }
-{
-    for y in clipped.rows.start..clipped.rows.end {
-        let start = y * stride;
-        change.fill(&mut pixels[start + clipped.columns.start..start + clipped.columns.end]);
-    }
-}
-
-/// Changes the pixels of an overlap, in rows that lie `stride` pixels apart, each by its pixel of a
-/// source whose rows lie `src_stride` pixels apart.
-fn blit_rows<D, S, B: Blit<D, S>>(
-    pixels: &mut [D],
-    stride: usize,
-    src: &[S],
-    src_stride: usize,
-    overlap: Overlap,
-    change: &B,
-)
-    requires can_blit { B.can_blit }
-    requires ordered { overlap.columns.dst.start ≤ overlap.columns.dst.end }
-    requires from_top { overlap.rows.dst.start ≤ overlap.rows.dst.end }
-    requires across { overlap.columns.dst.end ≤ stride }
-    requires down { (y : ℕ) → y < overlap.rows.dst.end →
-        y * stride + overlap.columns.dst.end ≤ length pixels.old }
-    requires src_rows { overlap.rows.src_start
-        + (overlap.rows.dst.end - overlap.rows.dst.start) ≤ limit }
-    requires src_down { (y : ℕ) → y < overlap.rows.src_start
-        + (overlap.rows.dst.end - overlap.rows.dst.start) →
-        y * src_stride + (overlap.columns.src_start
-        + (overlap.columns.dst.end - overlap.columns.dst.start)) ≤ length src.now }
-    ensures { (x y : ℕ) → x < stride → read_at B.reads stride pixels.new x y ≡
-        where_in overlap.columns.dst overlap.rows.dst
-        (λ a b. B.makes change.now (read_at B.source_reads src_stride src.now
-        (overlap.columns.src_start + (a - overlap.columns.dst.start))
-        (overlap.rows.src_start + (b - overlap.rows.dst.start))))
-        x y (read_at B.reads stride pixels.old x y) }
-{
-    let count = overlap.columns.dst.end - overlap.columns.dst.start;
-    for y in overlap.rows.dst.start..overlap.rows.dst.end {
-        let start = y * stride + overlap.columns.dst.start;
-        let src_y = overlap.rows.src_start + (y - overlap.rows.dst.start);
-        let src_start = src_y * src_stride + overlap.columns.src_start;
-        change.blit(
-            &mut pixels[start..start + count],
-            &src[src_start..src_start + count],
-        );
-    }
 }

@@ -9,22 +9,23 @@ ghost use Rattle.pix_raster.specs.Bounds.{OfEachChannel};
 ghost use Rattle.pix_raster.specs.PremultipliedRuns.{KeepsPremultiplied};
 ghost use Rattle.pix_raster.specs.Stays.{StaysUnderTransparent, keeps_under};
 ghost use Rattle.pix_raster.specs.Reach.{is_paired};
-ghost use Rattle.pix_raster.specs.View.{IsShaped, where_covered, where_paired, where_masked};
+ghost use Rattle.pix_raster.specs.View.{IsShaped, IsWindow, where_covered, where_paired};
+ghost use Rattle.pix_raster.specs.Draw.{image_in, IsSource, IsSound, command_in};
 ghost use Rattle.pix_raster.specs.declared.command.Command.{Command};
 
 use super::Raster;
-use super::row_change::{
-    CompositedColor, CompositedPixels, CopiedColor, CopiedPixels, FadedPixels, MattedColor,
-    MattedPixels,
-};
-use super::window::masked_from;
 use crate::command::Command;
 use crate::region::Region;
-use crate::view::{self, Blit, Fill, MaskedBlit, Shape, Window};
+use crate::view::{
+    self, Blit, Commands, Draw, Fill, NoMattes, OnWindow, Shape, Source, Window, paint_by_bands,
+};
 use pix_chan::chan::{Alpha, Linear, Premultiplied};
 use pix_el::el::{Pix, Pixel};
 use pix_el::matte::Matte;
-use pix_ops::ops::Blend;
+use pix_el::rows::{CopiedColor, CopiedPixels};
+use pix_el::stored::Coverage;
+use pix_ops::ops::{Blend, SliceVisitor};
+use std::marker::PhantomData;
 
 impl<P: Pixel> Raster<P> {
     /// Clears the raster: every pixel becomes the default one, whose channels are all 0.
@@ -56,7 +57,8 @@ impl<P: Pixel> Raster<P> {
         ensures { Changed P.numbers self.old self.new (done_at P.layout P.numbers
             (region_of self.old) (Command.CopyColor reg clr)) }
     {
-        self.fill_region(reg, &CopiedColor { clr });
+        let format = PhantomData;
+        self.fill_region(reg, &CopiedColor::<P, P> { clr, format });
     }
 
     /// Copies the region `from` of `src` to the region `to` of this raster.
@@ -76,7 +78,26 @@ impl<P: Pixel> Raster<P> {
         ensures { Changed P.numbers self.old self.new (done_at P.layout P.numbers
             (region_of self.old) (Command.CopyRaster to src.entry from)) }
     {
-        self.blit_region(to, src, from, &CopiedPixels {});
+        let format = PhantomData;
+        self.blit_region(to, src, from, &CopiedPixels::<P> { format });
+    }
+
+    /// Returns the region `from` of the raster as a source.
+    pub(crate) fn source(&self, from: Region) -> Source<'_, P>
+        ensures image { image_in result ≡ self.now }
+        ensures region { result.from ≡ from }
+        ensures sound { IsSource result }
+    {
+        let shape = Shape {
+            width: self.width(),
+            height: self.height(),
+            stride: self.width() as usize,
+        };
+        Source {
+            pixels: self.pixels(),
+            shape,
+            from,
+        }
     }
 }
 
@@ -94,6 +115,27 @@ impl<P> Raster<P> {
             width: self.width,
             height: self.height,
             stride: self.width as usize,
+        }
+    }
+
+    /// Returns the raster as the window of a picture that begins with it.
+    fn window(&self) -> Window
+        ensures value { result ≡ record {
+          left = 0;
+          top = 0;
+          shape = record {
+            width = self.now.width;
+            height = self.now.height;
+            stride = self.now.width;
+          };
+        } }
+        ensures fits { IsWindow result (length self.now.pixels) }
+    {
+        let shape = self.shape();
+        Window {
+            left: 0,
+            top: 0,
+            shape,
         }
     }
 
@@ -132,38 +174,52 @@ impl<P> Raster<P> {
     }
 }
 
-impl<P> Raster<P> {
-    /// Changes each point of the overlap of three regions by its point of the source and its matte.
-    fn blit_masked<S, M, B: MaskedBlit<P, S, M>>(
+impl<P: Pixel<Alpha = Premultiplied, Gamma = Linear>> Raster<P> {
+    /// Runs a drawing. Condition: it is one on the window of all points of the raster.
+    fn draw<M: Coverage<P::Chan>, O: Blend>(&mut self, there: &OnWindow<'_, P, P, M>, op: O)
+        requires has_alpha { P.layout.count ≡ P.layout.alpha + 1 }
+        requires window { there.now.window ≡ record {
+          left = 0;
+          top = 0;
+          shape = record {
+            width = self.old.width;
+            height = self.old.height;
+            stride = self.old.width;
+          };
+        } }
+        requires fits { IsWindow there.now.window (length self.old.pixels) }
+        requires sound { IsSound there.now.draw }
+        ensures { Changed P.numbers self.old self.new (run_at P.layout P.numbers M.numbers
+            (region_of self.old) (command_in O.op there.now.draw ∷ [])) }
+    {
+        there.visit(&mut self.pixels, op);
+    }
+
+    /// Composites a region of another raster at one opacity.
+    // A call of its own: the borrow checker does not cover the loan of a value whose type has
+    // `P::Chan` in it beside another loan.
+    fn composite_faded<M: Coverage<P::Chan>, O: Blend>(
         &mut self,
         to: Region,
-        src: &Raster<S>,
+        src: &Raster<P>,
         from: Region,
-        mask: &Raster<M>,
-        mask_from: Region,
-        change: &B,
+        alpha: &M,
+        op: O,
     )
-        requires { B.can_blit }
-        ensures { Changed B.reads self.old self.new (where_masked to
-            (region_of self.old) from (region_of src.now) mask_from (region_of mask.now)
-            (point B.source_reads src.now) (point B.mask_reads mask.now)
-            (B.makes change.now)) }
+        requires has_alpha { P.layout.count ≡ P.layout.alpha + 1 }
+        ensures { Changed P.numbers self.old self.new (run_at P.layout P.numbers M.numbers
+            (region_of self.old) (Command.RasterAlpha to src.entry from alpha.now O.op ∷ [])) }
     {
-        let window = Window {
-            left: 0,
-            top: 0,
-            shape: self.shape(),
+        let there = OnWindow::<P, P, M> {
+            draw: Draw::ImageAlpha {
+                to,
+                src: src.source(from),
+                alpha,
+            },
+            window: self.window(),
+            format: PhantomData,
         };
-        masked_from(
-            &mut self.pixels,
-            window,
-            to,
-            src,
-            from,
-            mask,
-            mask_from,
-            change,
-        );
+        self.draw(&there, op);
     }
 }
 
@@ -184,7 +240,12 @@ impl<P: Pixel<Alpha = Premultiplied, Gamma = Linear>> Raster<P> {
         ensures { Changed P.numbers self.old self.new (done_at P.layout P.numbers
             (region_of self.old) (Command.Color reg clr O.op)) }
     {
-        self.fill_region(reg, &CompositedColor { clr, op });
+        let there = OnWindow::<P, P, NoMattes> {
+            draw: Draw::Color { reg, clr: &clr },
+            window: self.window(),
+            format: PhantomData,
+        };
+        self.draw(&there, op);
     }
 
     /// Composites the region `from` of `src` with the region `to` of this raster. Points are paired
@@ -204,7 +265,15 @@ impl<P: Pixel<Alpha = Premultiplied, Gamma = Linear>> Raster<P> {
         ensures { Changed P.numbers self.old self.new (done_at P.layout P.numbers
             (region_of self.old) (Command.Raster to src.entry from O.op)) }
     {
-        self.blit_region(to, src, from, &CompositedPixels { op });
+        let there = OnWindow::<P, P, NoMattes> {
+            draw: Draw::Image {
+                to,
+                src: src.source(from),
+            },
+            window: self.window(),
+            format: PhantomData,
+        };
+        self.draw(&there, op);
     }
 
     /// Composites `clr` with the region `to` of this raster through the region `from` of `src`, a
@@ -233,7 +302,16 @@ impl<P: Pixel<Alpha = Premultiplied, Gamma = Linear>> Raster<P> {
             (matte_numbers P.Chan.number) (region_of self.old)
             (Command.Matte to src.entry from clr O.op ∷ [])) }
     {
-        self.blit_region(to, src, from, &MattedColor { clr, op });
+        let there = OnWindow::<P, P, Pix<N, P::Chan, Matte, A, Linear>> {
+            draw: Draw::Matte {
+                to,
+                src: src.source(from),
+                clr: &clr,
+            },
+            window: self.window(),
+            format: PhantomData,
+        };
+        self.draw(&there, op);
     }
 
     /// Composites the region `from` of `src` with the region `to` of this raster through the region
@@ -276,7 +354,16 @@ impl<P: Pixel<Alpha = Premultiplied, Gamma = Linear>> Raster<P> {
             (matte_numbers P.Chan.number) (region_of self.old)
             (Command.RasterAlpha to src.entry from alpha O.op ∷ [])) }
     {
-        self.blit_masked(to, src, from, mask, mask_from, &MattedPixels { op });
+        let there = OnWindow::<P, P, Pix<N, P::Chan, Matte, A, Linear>> {
+            draw: Draw::ImageMatte {
+                to,
+                src: src.source(from),
+                mask: mask.source(mask_from),
+            },
+            window: self.window(),
+            format: PhantomData,
+        };
+        self.draw(&there, op);
     }
 
     /// Composites the region `from` of `src` with the region `to` of this raster at one opacity.
@@ -316,8 +403,7 @@ impl<P: Pixel<Alpha = Premultiplied, Gamma = Linear>> Raster<P> {
             → IsUnchanged P.layout (point P.numbers self.old x y)
             (point P.numbers self.new x y) }
     {
-        let alpha = alpha.alpha();
-        self.blit_region(to, src, from, &FadedPixels { alpha, op });
+        self.composite_faded(to, src, from, &alpha, op);
     }
 
     /// Runs `commands` in order. At each point those that reach it run one after the other. No
@@ -394,8 +480,13 @@ impl<P: Pixel<Alpha = Premultiplied, Gamma = Linear>> Raster<P> {
         ensures transparent { StaysUnderTransparent P.layout P.numbers
             (matte_numbers P.Chan.number) commands.now self.old self.new }
     {
-        // No side of a raster is above the limit.
-        prove!(self.width <= 2147483647 && self.height <= 2147483647);
-        self.run_window(0, 0, commands);
+        let window = self.window();
+        let formats = PhantomData;
+        let list = Commands::<
+            P,
+            Pix<N, P::Chan, Matte, A, Linear>,
+            Command<'_, P, Pix<N, P::Chan, Matte, A, Linear>>,
+        > { commands, formats };
+        paint_by_bands(&mut self.pixels, window, &list);
     }
 }

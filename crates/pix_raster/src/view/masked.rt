@@ -6,34 +6,9 @@ ghost use Rattle.pix_raster.specs.Region.{limit, whole};
 ghost use Rattle.pix_raster.specs.View.{read_at, IsShaped, IsWindow, ChangedIn, where_masked, picture, in_window};
 ghost use Rattle.pix_raster.specs.Clip.{where_in, IsOverlap};
 
-use super::{Shape, Window};
+use super::{MaskedBlit, Shape, Window};
 use crate::clip::Overlap;
 use crate::region::Region;
-
-/// A change of the pixels of a row, each by a pixel of another row and through a matte of a third.
-pub trait MaskedBlit<D, S, M> {
-    /// What it needs of the formats.
-    ghost can_blit: { Type 0 };
-
-    /// How a pixel is read.
-    ghost reads: { D → List ℕ };
-
-    /// How a pixel of the source is read.
-    ghost source_reads: { S → List ℕ };
-
-    /// How a matte is read.
-    ghost mask_reads: { M → List ℕ };
-
-    /// What it makes of a matte, a source and a pixel.
-    ghost makes: { Self → List ℕ → List ℕ → List ℕ → List ℕ };
-
-    /// Changes each pixel of a row by the pixel of the source and the matte at the same place. The
-    /// shortest row decides how many change, and the rest stay as they are.
-    fn blit(&self, row: &mut [D], src: &[S], mask: &[M])
-        requires { can_blit }
-        ensures { map reads row.new ≡ over (λ t. makes self.now t.0 t.1)
-            (zip (map mask_reads mask.now) (map source_reads src.now)) (map reads row.old) };
-}
 
 /// A region of an image in memory, from which a change takes its pixels or its mattes.
 #[derive(Drop)]
@@ -85,7 +60,7 @@ pub fn blit_masked<D, S, M, B: MaskedBlit<D, S, M>>(
 
 /// Returns the overlap of the region `to` of a picture and the region `from` of a source, as seen
 /// from a window.
-fn overlap_in(window: Window, to: Region, from: Region, src: Shape) -> Overlap
+pub(super) fn overlap_in(window: Window, to: Region, from: Region, src: Shape) -> Overlap
     requires across { window.left + window.shape.width ≤ limit }
     requires down { window.top + window.shape.height ≤ limit }
     requires src_wide { src.width ≤ limit }

@@ -1,14 +1,46 @@
-use Rattle.std.proofs.Common.{◌≡◌, ◌≤◌, ◌+◌, pos, ◌∙◌, ap, cond, true, Bool, rules, arith}
+use Rattle.std.proofs.Common.{◌≡◌, ◌≤◌, ◌<◌, ◌+◌, ◌*◌, ◌-◌, ℕ, length, map, [], pos, ◌∙◌, ap, cond, true, Bool, rules, arith}
 use Rattle.std.specs.Prelude.{◌&&◌}
 use Rattle.std.proofs.Math.Bool.{and-true}
 use Rattle.pix_raster.specs.Region.{covers, whole}
-use Rattle.pix_raster.specs.Clip.{in_box}
+use Rattle.pix_raster.specs.View.{read_at}
+use Rattle.pix_raster.specs.Clip.{in_box, where_in}
 use Rattle.pix_raster.proofs.Rectangles.{covers_whole, covers-intersection_of}
 use Rattle.pix_raster.proofs.Shaped.{changed_in_box}
+use Rattle.pix_raster.proofs.Zones.{Part, part_each, zoned-map, length-part, row-step}
 use Rattle.pix_raster.proofs.view.fill_window.Goals as goal
 
-pub returns-then-shape-gt0 : goal.returns-then-shape-gt0
-returns-then-shape-gt0 g c =
+pub offset_bounds-pixels-start : goal.offset_bounds-pixels-start
+offset_bounds-pixels-start g c =
+    let seen = c.seen_from-seen.result in
+    let shape = c.args.window.shape in
+    let in_width : seen.columns.end ≤ shape.width = omega arith in
+    let in_height : seen.rows.end ≤ shape.height = omega arith in
+    let row : c.loop-y.y * shape.stride + shape.width ≤ length c.args.pixels.now = c.requires.fits.shaped.last c.loop-y.y (omega arith) in
+    let fits : c.loop-y.y * shape.stride + seen.columns.start ≤ length c.loop-y.pixels = omega arith in
+    search rules
+
+pub loop-y-preserved : goal.loop-y-preserved
+loop-y-preserved g c =
+    let n = g.F.Fill.reads in
+    let f = g.F.Fill.makes c.args.change.now in
+    let seen = c.seen_from-seen.result in
+    let shape = c.args.window.shape in
+    let in_width : seen.columns.end ≤ shape.width = omega arith in
+    let in_height : seen.rows.end ≤ shape.height = omega arith in
+    let row : c.loop-y.y * shape.stride + shape.width ≤ length c.args.pixels.now = c.requires.fits.shaped.last c.loop-y.y (omega arith) in
+    let a : ℕ = c.loop-y.y * shape.stride + seen.columns.start in
+    let k : ℕ = c.loop-y.y * shape.stride + seen.columns.end - a in
+    let fits : a + k ≤ length c.loop-y.pixels = omega arith in
+    let part : Part (λ _. f) [] (map n c.loop-y.pixels) (map n c.fill.new.row) a k = part_each n f [] c.loop-y.pixels c.fill.new.row a k fits c.fill.ensures in
+    record {
+      long = length-part n (λ _. f) [] c.loop-y.pixels c.fill.new.row a k fits part ∙ c.loop-y.invariant.long;
+      done = row-step (λ _ _. f) [] (map n c.args.pixels.now) (map n c.loop-y.pixels) _ shape.stride seen.columns.start seen.columns.end seen.rows.start c.loop-y.y k
+          (omega arith) (omega (arith, c.requires.fits.shaped.apart)) (omega arith) (omega arith) (zoned-map n (λ _. f) [] c.loop-y.pixels c.fill.new.row a k fits part) c.loop-y.invariant.done;
+    }
+
+pub returns-after-loop-y : goal.returns-after-loop-y
+returns-after-loop-y g c =
+    let n = g.F.Fill.reads in
     let f = g.F.Fill.makes c.args.change.now in
     let window = c.args.window in
     let shape = window.shape in
@@ -18,12 +50,15 @@ returns-then-shape-gt0 g c =
     let bottom = top + shape.height in
     let fits = c.requires.fits in
     let clipped = c.new-clipped.ensures in
-    let seen = c.seen_from-clipped.ensures in
-    let columns = c.seen_from-clipped.result.columns in
-    let rows = c.seen_from-clipped.result.rows in
+    let seen = c.seen_from-seen.ensures in
+    let columns = c.seen_from-seen.result.columns in
+    let rows = c.seen_from-seen.result.rows in
     let in_width : columns.end ≤ shape.width = omega arith in
     let in_height : rows.end ≤ shape.height = omega arith in
-    changed_in_box g.F.Fill.reads shape c.args.pixels.now c.fill_rows.new.pixels columns rows (λ _ _. f) _ in_width in_height fits.shaped.apart (search rules) c.fill_rows.ensures
+    let e : c.loop-y.y ≡ rows.end = omega arith in
+    let done : (x y : ℕ) → x < shape.stride → read_at n shape.stride c.loop-y.pixels x y ≡ where_in columns rows (λ _ _. f) x y (read_at n shape.stride c.args.pixels.now x y) =
+    rw e at c.loop-y.invariant.done in
+    changed_in_box n shape c.args.pixels.now c.loop-y.pixels columns rows (λ _ _. f) _ in_width in_height fits.shaped.apart (search rules) done
     (λ x y pixel lx ly.
     let all : covers (whole right bottom) (pos (left + x)) (pos (top + y)) ≡ true = covers_whole right bottom (left + x) (top + y) fits.across fits.down (omega arith) (omega arith) in
     let reached : in_box columns rows x y ≡ covers c.args.reg (pos (left + x)) (pos (top + y)) =

@@ -1,9 +1,9 @@
 use Rattle.std.specs.Vec.{with_items}
-use Rattle.std.proofs.lemmas.List.{with_items_is}
+use Rattle.std.proofs.lemmas.List.{with_items_is, map-id}
 use Rattle.pix_raster.specs.Run.{run_at}
 use Rattle.pix_raster.specs.View.{ChangedIn, largest}
 use Rattle.pix_raster.specs.declared.view.Shape.{Shape}
-use Rattle.std.proofs.Common.{ℕ, List, rules, ◌≡◌, ◌≤◌, ◌+◌, map, ap, sym, subst, ◌∙◌}
+use Rattle.std.proofs.Common.{ℕ, List, rules, ◌≡◌, ◌≤◌, ◌+◌, ap, sym, subst, ◌∙◌}
 use Rattle.pix_raster.specs.Region.{limit}
 use Rattle.pix_chan.specs.Product.{channel_product, fineness, IsProduct}
 use Rattle.pix_el.specs.Pixel.{Layout}
@@ -11,11 +11,13 @@ use Rattle.pix_el.specs.PixelComposite.{matte_numbers}
 use Rattle.pix_el.specs.Premultiplied.{IsBounded}
 use Rattle.pix_el.proofs.Models.{placed_by_row}
 use Rattle.pix_el.proofs.Composited.{Fits, channels_fit, alpha_bounded}
-use Rattle.pix_raster.specs.Window.{command_from}
 use Rattle.pix_raster.proofs.RunBounds.{IsFormat}
-use Rattle.pix_raster.proofs.Claimed.{claims}
-use Rattle.pix_raster.proofs.Windows.{ran_rows, ran_on, ran_seen, stays_part}
+use Rattle.pix_raster.proofs.Claimed.{claimed_in_window}
+use Rattle.pix_raster.proofs.Windows.{ran_rows, ran_on, stays_part}
 use Rattle.pix_raster.proofs.raster.Raster.run_window.Goals as goal
+
+pub paint_by_bands-requires-clause-can_paint : goal.paint_by_bands-requires-clause-can_paint
+paint_by_bands-requires-clause-can_paint g c = (c.requires.has_alpha, λ k d lt. tt)
 
 pub returns : goal.returns
 returns g c =
@@ -33,7 +35,7 @@ returns g c =
     let shape : Shape = record { width = inside.width; height = inside.height; stride = inside.width } in
     let made : ℕ → ℕ → List ℕ → List ℕ = λ x y. run_at layout n mattes largest cs (left + x) (top + y) in
     let painted : ChangedIn n shape inside.pixels.items (with_items inside.pixels c.paint_by_bands.new.pixels).items made =
-    rw (with_items_is inside.pixels c.paint_by_bands.new.pixels (search rules)) (rw (c.shape-shape.ensures.value, c.deref_mut.ensures.value, ← c.self.view_is) at c.paint_by_bands.ensures) in
+    rw (with_items_is inside.pixels c.paint_by_bands.new.pixels (search rules)) (rw (map-id cs, c.shape-shape.ensures.value, c.deref_mut.ensures.value, ← c.self.view_is) at c.paint_by_bands.ensures) in
     let numbered = g.met.P.Chan.Channel.numbered in
     let layout' : Layout = record { max = max; count = layout.count; hues = g.P.Model.ColorModel.CIRCULAR; alpha = g.P.Model.ColorModel.ALPHA } in
     let laid_out : layout ≡ layout' = g.met.P.Pixel.laid_out in
@@ -49,5 +51,5 @@ returns g c =
     rw (← c.self.view_is) (record {
       window = λ width height wide high. ran_on layout n mattes left top cs _ _ across down ran width height wide high;
       tile = λ before after part whole_run. stays_part layout n mattes left top cs _ _ across down ran before after part whole_run;
-      run = claims layout n mattes (map (command_from left top) cs) _ _ format (ran_seen layout n mattes left top cs _ _ across down ran);
+      run = claimed_in_window layout n mattes left top cs inside.width inside.height inside.pixels.items (with_items inside.pixels c.paint_by_bands.new.pixels).items across down format painted;
     })
