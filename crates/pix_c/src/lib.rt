@@ -72,7 +72,9 @@ pub extern "C" fn pix_raw_run(
     ensures run { result ≡ 0 → IsRun rgba8 rgba8_numbers matte8_numbers width height stride
         (map rgba8_command commands.now) pixels.old pixels.new }
 {
-    run::run::<Rgba8p, PixRgba8, u8, PixCommand<'_>>(pixels, width, height, stride, commands, done)
+    run::run_window::<Rgba8p, PixRgba8, u8, PixCommand<'_>>(
+        pixels, 0, 0, width, height, stride, commands, done,
+    )
 }
 
 /// Does what [`pix_raw_run`] does, on 16-bit pixels of red, green, blue and alpha.
@@ -93,8 +95,8 @@ pub extern "C" fn pix_raw_run_rgba16(
     ensures run { result ≡ 0 → IsRun rgba16 rgba16_numbers matte16_numbers width height stride
         (map rgba16_command commands.now) pixels.old pixels.new }
 {
-    run::run::<Rgba16p, PixRgba16, u16, PixCommandRgba16<'_>>(
-        pixels, width, height, stride, commands, done,
+    run::run_window::<Rgba16p, PixRgba16, u16, PixCommandRgba16<'_>>(
+        pixels, 0, 0, width, height, stride, commands, done,
     )
 }
 
@@ -116,7 +118,7 @@ pub extern "C" fn pix_raw_run_graya8(
     ensures run { result ≡ 0 → IsRun graya8 graya8_numbers matte8_numbers width height stride
         (map graya8_command commands.now) pixels.old pixels.new }
 {
-    run::run::<Graya8p, PixGraya8, u8, PixCommandGraya8<'_>>(
-        pixels, width, height, stride, commands, done,
+    run::run_window::<Graya8p, PixGraya8, u8, PixCommandGraya8<'_>>(
+        pixels, 0, 0, width, height, stride, commands, done,
     )
 }

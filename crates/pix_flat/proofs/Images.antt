@@ -1,12 +1,9 @@
--- Images in rows that start a stride apart.
-use Rattle.std.proofs.Common.{◌≡◌, ℕ, zero, suc, ◌+◌, ◌-◌, ◌*◌, ◌<◌, ◌≤◌, List, [], ◌++◌, length, map, get_or, take, drop, true, false, Bool, refl, arith, ap, sym, ◌∙◌}
+-- Sizes of images in rows that start a stride apart.
+use Rattle.std.proofs.Common.{◌≡◌, ℕ, ◌+◌, ◌-◌, ◌*◌, ◌≤◌, true, false, Bool, refl, arith}
 use Rattle.std.specs.Prelude.{◌&&◌, ◌||◌, nat_eq, nat_le}
 use Rattle.std.proofs.Math.Nat.{mul-le-mul_right}
 use Rattle.std.proofs.lemmas.Bool.Decides.{nat_tests}
-use Rattle.std.proofs.lemmas.List.{map-append, take-map, drop-map, length-map, length-take-le, length-drop, get_or_append_left, get_or-append_right, get_or-take, get_or-drop}
-use Rattle.pix_raster.specs.Image.{point}
-use Rattle.pix_raster.specs.View.{read_at, IsShaped}
-use Rattle.pix_flat.specs.Command.{joined_rows, image_of}
+use Rattle.pix_raster.specs.View.{IsShaped}
 use Rattle.pix_flat.specs.Status.{is_sized, is_placed, is_window}
 
 and_right : (a b : Bool) → (a && b) ≡ true → b ≡ true
@@ -31,41 +28,7 @@ sized_is_shaped width height stride count e = record {
       omega arith;
 }
 
--- what stands in the rows of an image stands in its buffer
-row_read : {D : Type 0} (n : D → List ℕ) (width height stride : ℕ) (xs : List D) (x y : ℕ) → x < width → y < height → width ≤ stride
-    → ((r : ℕ) → r < height → r * stride + width ≤ length xs)
-    → get_or (map n (joined_rows width height stride xs)) (y * width + x) [] ≡ get_or (map n xs) (y * stride + x) []
-row_read n width zero stride xs x y lx ly apart last = absurd (omega arith)
-row_read n width (suc height) stride xs x zero lx ly apart last =
-    let fits : width ≤ length xs = let h = last 0 (omega arith) in omega (arith, h) in
-    let front : length (map n (take width xs)) ≡ width = length-map (take width xs) n ∙ length-take-le width xs fits in
-    ap (λ l. get_or l (0 * width + x) []) (map-append n (take width xs) (joined_rows width height stride (drop stride xs)))
-    ∙ ap (λ k. get_or (map n (take width xs) ++ map n (joined_rows width height stride (drop stride xs))) k []) (let e : 0 * width + x ≡ x = omega arith in e)
-    ∙ get_or_append_left (map n (take width xs)) _ [] x (omega arith)
-    ∙ ap (λ l. get_or l x []) (sym (take-map n width xs))
-    ∙ get_or-take width (map n xs) x [] lx
-    ∙ ap (λ k. get_or (map n xs) k []) (let e : x ≡ 0 * stride + x = omega arith in e)
-row_read n width (suc height) stride xs x (suc y) lx ly apart last =
-    let fits : width ≤ length xs = let h = last 0 (omega arith) in omega (arith, h) in
-    let front : length (map n (take width xs)) ≡ width = length-map (take width xs) n ∙ length-take-le width xs fits in
-    let rest : List (List ℕ) = map n (joined_rows width height stride (drop stride xs)) in
-    let place : suc y * width + x - width ≡ y * width + x = omega arith in
-    ap (λ l. get_or l (suc y * width + x) []) (map-append n (take width xs) (joined_rows width height stride (drop stride xs)))
-    ∙ get_or-append_right (map n (take width xs)) rest width (suc y * width + x) [] front (omega arith)
-    ∙ ap (λ k. get_or rest k []) place
-    ∙ row_read n width height stride (drop stride xs) x y lx (omega arith) apart
-    (λ r lt. let h : suc r * stride + width ≤ length xs = last (suc r) (omega arith) in omega (arith, h, length-drop stride xs))
-    ∙ ap (λ l. get_or l (y * stride + x) []) (sym (drop-map n stride xs))
-    ∙ get_or-drop stride (map n xs) (y * stride + x) []
-    ∙ ap (λ k. get_or (map n xs) k []) (let e : stride + (y * stride + x) ≡ suc y * stride + x = omega arith in e)
-
--- the pixel at a point of an image is the one that is read there
-pub point_read : {D : Type 0} (n : D → List ℕ) (width height stride : ℕ) (xs : List D) (x y : ℕ)
-    → IsShaped (record { width = width; height = height; stride = stride }) (length xs) → x < width → y < height
-    → point n (image_of width height stride xs) x y ≡ read_at n stride xs x y
-point_read n width height stride xs x y shaped lx ly = row_read n width height stride xs x y lx ly shaped.apart shaped.last
-
--- so is that of a window that is
+-- so is that of a window that is one
 pub sized_window : (left top width height stride count : ℕ) → is_window left top width height stride count ≡ true
     → (left + width ≤ 2147483647) × (top + height ≤ 2147483647) × (is_sized width height stride count ≡ true)
 sized_window left top width height stride count e =

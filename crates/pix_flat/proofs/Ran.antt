@@ -1,34 +1,42 @@
 -- A run on rows in memory, as one on an image.
-use Rattle.std.proofs.Common.{◌≡◌, ℕ, ◌+◌, ◌≤◌, List, length, map, arith, ap, sym, ◌∙◌, refl}
+use Rattle.std.proofs.Common.{◌≡◌, ℕ, ◌+◌, ◌≤◌, List, [], ◌∷◌, length, map, arith, ap, sym, ◌∙◌, subst, refl}
 use Rattle.pix_el.specs.Pixel.{Layout}
 use Rattle.pix_raster.specs.Region.{limit, whole}
 use Rattle.pix_raster.specs.Run.{run_at}
 use Rattle.pix_raster.specs.Window.{command_from}
 use Rattle.pix_raster.specs.Claims.{IsImageRun}
 use Rattle.pix_raster.specs.View.{IsShaped, ChangedIn, largest}
+use Rattle.pix_raster.specs.declared.command.Command.{Command}
 use Rattle.pix_raster.specs.declared.view.Shape.{Shape}
 use Rattle.pix_raster.proofs.RunBounds.{IsFormat}
 use Rattle.pix_raster.proofs.Claimed.{claims}
 use Rattle.pix_raster.proofs.Seen.{commands_there}
 use Rattle.pix_raster.proofs.Pictures.{run_in_picture}
 use Rattle.pix_raster.proofs.Windows.{RanIn, ran_on, ran_seen}
+use Rattle.pix_raster.proofs.ViewImages.{point_read}
 use Rattle.pix_flat.specs.declared.command.FlatCommand.{FlatCommand}
 use Rattle.pix_flat.specs.Command.{image_of, command_of}
 use Rattle.pix_flat.specs.Run.{IsRun, IsWindowRun}
-use Rattle.pix_flat.proofs.Images.{point_read}
+
+-- the commands that are read are those in the layout of all formats
+pub commands_told : {D M C : Type 0} (command : C → Command D M) (flat : C → FlatCommand D M) → ((c : C) → command c ≡ command_of (flat c))
+    → (cs : List C) → map command cs ≡ map command_of (map flat cs)
+commands_told command flat told [] = refl
+commands_told command flat told (c ∷ cs) = rw (told c, commands_told command flat told cs) refl
 
 module _ {D M : Type 0} (layout : Layout) (n : D → List ℕ) (m : M → List ℕ) (left top width height stride : ℕ) (commands : List (FlatCommand D M)) (old new : List D) where
   abbrev shape : Shape
   shape = record { width = width; height = height; stride = stride }
 
-  -- it was done on a window of a picture
-  abbrev Ran : Type 0
-  Ran = ChangedIn n shape old new (λ x y. run_at layout n m largest (map command_of commands) (left + x) (top + y))
+  -- commands were done on a window of a picture
+  abbrev AreDone : List (Command D M) → Type 0
+  AreDone cs = ChangedIn n shape old new (λ x y. run_at layout n m largest cs (left + x) (top + y))
 
   -- and what follows of it
-  pub ran_in_window : IsFormat layout n m → left + width ≤ 2147483647 → top + height ≤ 2147483647 → IsShaped shape (length old) → length new ≡ length old → Ran
-      → IsWindowRun layout n m left top width height stride commands old new
-  ran_in_window format across down shaped long ran =
+  pub ran_in_window : IsFormat layout n m → left + width ≤ 2147483647 → top + height ≤ 2147483647 → IsShaped shape (length old) → length new ≡ length old
+      → (read : List (Command D M)) → read ≡ map command_of commands → AreDone read → IsWindowRun layout n m left top width height stride commands old new
+  ran_in_window format across down shaped long read told done =
+      let ran : AreDone (map command_of commands) = subst AreDone told done in
       let shaped_new : IsShaped shape (length new) = rw long shaped in
       let cs = map command_of commands in
       let before = image_of width height stride old in

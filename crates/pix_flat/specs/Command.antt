@@ -1,11 +1,10 @@
 -- Commands by their numbers, as commands of the library on images in memory.
-use Rattle.std.specs.Prelude.{ℕ, zero, suc, List, [], ◌++◌, take, drop, nat_eq, slice_index_or, if◌then◌else◌}
-use denote.Bor.{Bor}
+use Rattle.std.specs.Prelude.{ℕ, nat_eq, slice_index_or, if◌then◌else◌}
 use Rattle.pix_ops.specs.declared.ops.Op.{Op}
 use Rattle.pix_ops.specs.declared.ops.Op.TheVariants.{Src}
 use Rattle.pix_ops.specs.OperatorNames.{operators}
 use Rattle.pix_raster.specs.Region.{Rectangle}
-use Rattle.pix_raster.specs.Image.{Image}
+pub use Rattle.pix_raster.specs.Draw.{joined_rows, image_of, borrowed}
 use Rattle.pix_raster.specs.declared.command.Command.{Command}
 use Rattle.pix_raster.specs.declared.command.Command.TheVariants as commands
 use Rattle.pix_flat.specs.declared.command.PixRegion.{PixRegion}
@@ -17,16 +16,6 @@ use Rattle.pix_flat.specs.declared.format.PixRgba8.{PixRgba8}
 use Rattle.pix_flat.specs.declared.format.PixRgba16.{PixRgba16}
 use Rattle.pix_flat.specs.declared.format.PixGraya8.{PixGraya8}
 
--- the first `width` elements of each of `height` rows that start `stride` elements apart, one row
--- after the other
-abbrev pub joined_rows : {D : Type 0} → ℕ → ℕ → ℕ → List D → List D
-joined_rows width zero stride items = []
-joined_rows width (suc height) stride items = take width items ++ joined_rows width height stride (drop stride items)
-
--- the image of that width and height in rows that start `stride` elements apart
-abbrev pub image_of : {D : Type 0} → ℕ → ℕ → ℕ → List D → Image D
-image_of width height stride items = record { width = width; height = height; pixels = joined_rows width height stride items }
-
 -- the operator of a number; a number that is none is refused
 abbrev pub op_at : ℕ → Op
 op_at number = slice_index_or operators number Src
@@ -34,10 +23,6 @@ op_at number = slice_index_or operators number Src
 -- the rectangle of a region
 abbrev pub rectangle : PixRegion → Rectangle
 rectangle r = record { left = r.x; top = r.y; width = r.width; height = r.height }
-
--- an image as a source of a command of the library
-abbrev pub borrowed : {D : Type 0} → Image D → Bor (Image D)
-borrowed image = record { ref_ptr = (0, 0); now = image }
 
 -- a command by the number of its kind, as one of the library
 abbrev pub command_of : {D M : Type 0} → FlatCommand D M → Command D M

@@ -1,4 +1,4 @@
--- Proofs of the laws of `Flat`, which an impl takes from `specs/` alone. No public clause cites
+-- Proofs of the laws of `Stored`, which an impl takes from `specs/` alone. No public clause cites
 -- this file.
 use Rattle.std.specs.Prelude.{ℕ, zero, suc, ◌≤◌, List, [], ◌∷◌, map, min}
 use Rattle.std.proofs.Common.{arith}

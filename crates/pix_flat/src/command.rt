@@ -1,9 +1,12 @@
 //! Commands as C lays them out.
-ghost use Rattle.std.specs.Prelude.{◌≡◌};
+ghost use Rattle.std.specs.Prelude.{◌≡◌, refl};
 ghost use Rattle.pix_flat.specs.declared.command.FlatCommand.{FlatCommand};
 ghost use Rattle.pix_flat.specs.Command.{rgba8_command, rgba16_command, graya8_command};
+ghost use Rattle.pix_flat.specs.Command.{command_of};
+ghost use Rattle.pix_flat.specs.Status.{fault_of};
 
 use crate::format::{PixGraya8, PixRgba8, PixRgba16};
+use pix_raster::view::ReadCommand;
 
 /// A rectangle of points: its left and top coordinates, and its sides of at most 2147483647.
 #[repr(C)]
@@ -155,13 +158,19 @@ pub struct FlatCommand<'a, D, M> {
 }
 
 /// A command as C lays it out for one format.
-pub trait Flatten<D, M> {
+pub trait Flatten<D, M>: ReadCommand<D, M> {
     /// The command in the layout of all formats.
     ghost flat: { Self → FlatCommand D M };
 
     /// Returns the command in the layout of all formats.
     fn flat(&self) -> FlatCommand<'_, D, M>
         ensures { result ≡ flat self.now };
+
+    /// That is the command that is read.
+    ghost told: { (c : Self) → Self.command c ≡ command_of (flat c) };
+
+    /// It can be read where it is not refused.
+    ghost readable: { (c : Self) → fault_of (flat c) ≡ 0 → Self.can_read c };
 }
 
 /// Writes the command of the same fields in the layout of all formats.
@@ -193,6 +202,10 @@ impl<'a> Flatten<PixRgba8, u8> for PixCommand<'a> {
     fn flat(&self) -> FlatCommand<'_, PixRgba8, u8> {
         flat_command!(self)
     }
+
+    ghost told = { λ c. refl };
+
+    ghost readable = { λ c sound. sound };
 }
 
 impl<'a> Flatten<PixRgba16, u16> for PixCommandRgba16<'a> {
@@ -201,6 +214,10 @@ impl<'a> Flatten<PixRgba16, u16> for PixCommandRgba16<'a> {
     fn flat(&self) -> FlatCommand<'_, PixRgba16, u16> {
         flat_command!(self)
     }
+
+    ghost told = { λ c. refl };
+
+    ghost readable = { λ c sound. sound };
 }
 
 impl<'a> Flatten<PixGraya8, u8> for PixCommandGraya8<'a> {
@@ -209,4 +226,8 @@ impl<'a> Flatten<PixGraya8, u8> for PixCommandGraya8<'a> {
     fn flat(&self) -> FlatCommand<'_, PixGraya8, u8> {
         flat_command!(self)
     }
+
+    ghost told = { λ c. refl };
+
+    ghost readable = { λ c sound. sound };
 }

@@ -6,13 +6,11 @@
 #![tactic(auto)]
 
 pub mod command;
-mod copy;
 pub mod format;
 mod kind;
 pub mod layout;
 mod operator;
-mod paint;
+mod read;
 pub mod run;
-mod sixteen;
 mod size;
 pub mod status;

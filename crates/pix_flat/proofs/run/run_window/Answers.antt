@@ -1,4 +1,4 @@
--- Of `run_window`: the clause `run`, and the condition of its call of `paint_by_bands`.
+-- Of `run_window`: the clause `run`, and the conditions of its call of `paint_by_bands`.
 use Rattle.std.proofs.Common.{◌≡◌, ℕ, ◌≤◌, ◌+◌, length, map, sym, ap, ◌∙◌, subst}
 use Rattle.pix_chan.specs.Product.{channel_product, fineness, IsProduct}
 use Rattle.pix_el.specs.Pixel.{Layout, channel}
@@ -7,7 +7,8 @@ use Rattle.pix_el.proofs.Models.{placed_by_row}
 use Rattle.pix_el.proofs.Composited.{alpha_bounded}
 use Rattle.pix_raster.proofs.RunBounds.{IsFormat}
 use Rattle.pix_flat.proofs.Images.{sized_is_shaped, sized_window}
-use Rattle.pix_flat.proofs.Ran.{ran_in_window}
+use Rattle.pix_flat.proofs.Faults.{all_readable}
+use Rattle.pix_flat.proofs.Ran.{commands_told, ran_in_window}
 use Rattle.pix_flat.proofs.run.run_window.Goals as goal
 
 pub paint_by_bands-requires-clause-fits : goal.paint_by_bands-requires-clause-fits
@@ -19,10 +20,16 @@ paint_by_bands-requires-clause-fits g c =
       down = placed.1;
     }
 
+pub paint_by_bands-requires-clause-can_paint : goal.paint_by_bands-requires-clause-can_paint
+paint_by_bands-requires-clause-can_paint g c = (
+  g.met.D.FlatPixel.has_alpha,
+  all_readable g.C.Flatten.flat g.C.ReadCommand.can_read g.met.C.Flatten.readable c.args.commands.now (sym c.first_fault-fault.ensures.fault ∙ c.if-fault-eq-DONE.true),
+)
+
 pub returns-then-fault-eq-DONE-clause-run : goal.returns-then-fault-eq-DONE-clause-run
 returns-then-fault-eq-DONE-clause-run g c =
-    let n = g.D.Numbered.numbers in
-    let mattes = g.M.Numbered.numbers in
+    let n = g.D.Stored.reads in
+    let mattes = g.M.Coverage.numbers in
     let max = g.P.Chan.Channel.max in
     let layout' : Layout = record { max = max; count = g.P.Pixel.layout.count; hues = g.P.Model.ColorModel.CIRCULAR; alpha = g.P.Model.ColorModel.ALPHA } in
     let laid_out : g.P.Pixel.layout ≡ layout' = g.met.P.Pixel.laid_out in
@@ -31,9 +38,11 @@ returns-then-fault-eq-DONE-clause-run g c =
     record {
       laws = subst (λ (l : Layout). IsProduct fineness l.max (channel_product l.max)) (sym laid_out) g.met.P.Chan.Channel.product_law;
       alpha = subst (λ (l : Layout). IsBounded l l.alpha) (sym laid_out) (alpha_bounded layout' g.P.Model.ColorModel.LINEAR (placed_by_row g.P.Model.ColorModel.model _ g.met.P.Model.ColorModel.stands) has_alpha);
-      fit = λ p. record { at = g.met.D.Flat.fits p };
-      mattes_fit = λ m. record { at = subst (λ (l : Layout). (ch : ℕ) → channel l.max (mattes m) ch ≤ l.max) (sym laid_out) (g.met.M.Flat.fits m) };
+      fit = λ p. record { at = g.met.D.Stored.fits p };
+      mattes_fit = λ m. record { at = subst (λ (l : Layout). (ch : ℕ) → channel l.max (mattes m) ch ≤ l.max) (sym laid_out) (g.met.M.Coverage.fits m) };
     } in
     let placed = sized_window c.args.left c.args.top c.args.width c.args.height c.args.stride (length c.args.pixels.now) (sym c.is_window.ensures ∙ c.if-not-is_window.false) in
+    let told = commands_told g.C.ReadCommand.command g.C.Flatten.flat g.met.C.Flatten.told c.args.commands.now in
     λ e. ran_in_window g.P.Pixel.layout n mattes c.args.left c.args.top c.args.width c.args.height c.args.stride (map g.C.Flatten.flat c.args.commands.now) c.args.pixels.now c.paint_by_bands.new.pixels
-    format placed.0 placed.1 (sized_is_shaped c.args.width c.args.height c.args.stride (length c.args.pixels.now) placed.2) c.paint_by_bands.auto.pixels c.paint_by_bands.ensures
+    format placed.0 placed.1 (sized_is_shaped c.args.width c.args.height c.args.stride (length c.args.pixels.now) placed.2) c.paint_by_bands.auto.pixels
+    (map g.C.ReadCommand.command c.args.commands.now) told c.paint_by_bands.ensures
