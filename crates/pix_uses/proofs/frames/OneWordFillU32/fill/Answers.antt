@@ -1,6 +1,6 @@
 use Rattle.std.proofs.Common.{arith, refl, map, ap, ◌∙◌, List, ℕ, [], ◌∷◌}
 use Rattle.pix_el.proofs.Written.{written_none, written_more, written_same}
-use Rattle.pix_raster.proofs.Copies.{map_color}
+use Rattle.pix_el.proofs.Copies.{map_color}
 use Rattle.pix_uses.proofs.frames.OneWordFillU32.fill.Goals as goal
 
 pub loop-word-init : goal.loop-word-init
