@@ -6,7 +6,8 @@
 //! color of 8 bits through sixteen mattes. A pixel of one channel is its own alpha, so mattes go as
 //! they are in memory. Pixels through mattes use the same blocks (`masked.rt`).
 //!
-//! The changes of rows choose a block by the model (`rows.rt`). No contract there depends on it.
+//! The blocks are chosen by the model (`runs.rt`, `masked.rt`). No contract of `rows.rt` depends on
+//! it.
 ghost use Rattle.std.specs.Prelude.{◌≡◌, ◌≤◌, ◌+◌, ◌-◌, length, map, take, true};
 ghost use Rattle.pix_chan.specs.Runs.{over, triples};
 ghost use Rattle.pix_el.specs.Planes.{coverage_of, run_hue, run_first, matted_first};
@@ -34,6 +35,7 @@ pub(crate) mod half;
 pub(crate) mod interleaved;
 pub(crate) mod masked;
 pub(crate) mod one;
+pub(crate) mod runs;
 pub(crate) mod two;
 pub(crate) mod unchanged;
 
