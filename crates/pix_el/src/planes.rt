@@ -1,10 +1,10 @@
 //! Composites of pixels by runs of sixteen or thirty-two channels.
 //!
-//! Each way is a `Block`. Pixels of four channels without a hue go eight at a time and then four,
-//! interleaved as they are in memory. Pixels of four channels whose first is a hue go by planes:
-//! arrays of the same channel of sixteen pixels. So do pixels of two channels without a hue, and a
-//! color of 8 bits through sixteen mattes. A pixel of one channel is its own alpha, so mattes go as
-//! they are in memory. Pixels through mattes use the same blocks (`masked.rt`).
+//! Each way is a `Block`. Pixels of four channels without a hue go sixteen, eight and then four at
+//! a time, interleaved as they are in memory. Pixels of four channels whose first is a hue go by
+//! planes: arrays of the same channel of sixteen pixels. So do pixels of two channels without a
+//! hue, and a color of 8 bits through sixteen mattes. A pixel of one channel is its own alpha, so
+//! mattes go as they are in memory. Pixels through mattes use the same blocks (`masked.rt`).
 //!
 //! The blocks are chosen by the model (`runs.rt`, `masked.rt`). No contract of `rows.rt` depends on
 //! it.
@@ -35,6 +35,7 @@ pub(crate) mod half;
 pub(crate) mod interleaved;
 pub(crate) mod masked;
 pub(crate) mod one;
+pub(crate) mod pair;
 pub(crate) mod runs;
 pub(crate) mod two;
 pub(crate) mod unchanged;

@@ -15,6 +15,7 @@ use crate::planes::four::Four;
 use crate::planes::half::HalfTwo;
 use crate::planes::interleaved::{Interleaved, composite_four, four_pixels};
 use crate::planes::one::One;
+use crate::planes::pair::Pair;
 use crate::planes::two::Two;
 use crate::planes::{has_four, has_one, has_two, is_interleaved};
 use crate::stored::{Coverage, Stored};
@@ -140,7 +141,7 @@ pub(crate) fn covered_runs<O: Blend, P: Pixel, D: Stored<P>, S: Stored<P>, M: Co
         (map D.reads dst.old) }
 {
     if is_interleaved::<P>() {
-        masked_blocks::<O, P, D, S, M, Eight>(dst, src, mattes, count)
+        masked_blocks::<O, P, D, S, M, Pair>(dst, src, mattes, count)
     } else if has_four::<P>() {
         masked_blocks::<O, P, D, S, M, Four>(dst, src, mattes, count)
     } else if has_two::<P>() {
@@ -172,7 +173,7 @@ pub(crate) fn faded_runs<O: Blend, P: Pixel, D: Stored<P>, S: Stored<P>>(
         (take result (map S.reads src.now)) (map D.reads dst.old) }
 {
     if is_interleaved::<P>() {
-        faded_blocks::<O, P, D, S, Eight>(dst, src, alpha, count)
+        faded_blocks::<O, P, D, S, Pair>(dst, src, alpha, count)
     } else if has_four::<P>() {
         faded_blocks::<O, P, D, S, Four>(dst, src, alpha, count)
     } else if has_two::<P>() {
@@ -205,7 +206,10 @@ pub(crate) fn covered_rest<O: Blend, P: Pixel, D: Stored<P>, S: Stored<P>, M: Co
         (map D.reads dst.old) }
 {
     if is_interleaved::<P>() {
-        masked_blocks::<O, P, D, S, M, Interleaved>(dst, src, mattes, count)
+        let start = masked_blocks::<O, P, D, S, M, Eight>(dst, src, mattes, count);
+        let (rest, sources) = (&mut dst[start..], &src[start..]);
+        let (mattes, count) = (&mattes[start..], count - start);
+        start + masked_blocks::<O, P, D, S, M, Interleaved>(rest, sources, mattes, count)
     } else if has_two::<P>() {
         masked_blocks::<O, P, D, S, M, HalfTwo>(dst, src, mattes, count)
     } else {
@@ -233,7 +237,9 @@ pub(crate) fn faded_rest<O: Blend, P: Pixel, D: Stored<P>, S: Stored<P>>(
         (take result (map S.reads src.now)) (map D.reads dst.old) }
 {
     if is_interleaved::<P>() {
-        faded_blocks::<O, P, D, S, Interleaved>(dst, src, alpha, count)
+        let start = faded_blocks::<O, P, D, S, Eight>(dst, src, alpha, count);
+        let (rest, sources) = (&mut dst[start..], &src[start..]);
+        start + faded_blocks::<O, P, D, S, Interleaved>(rest, sources, alpha, count - start)
     } else if has_two::<P>() {
         faded_blocks::<O, P, D, S, HalfTwo>(dst, src, alpha, count)
     } else {

@@ -11,6 +11,7 @@ use crate::planes::four::Four;
 use crate::planes::half::HalfTwo;
 use crate::planes::interleaved::Interleaved;
 use crate::planes::one::One;
+use crate::planes::pair::Pair;
 use crate::planes::two::Two;
 use crate::planes::{has_four, has_one, has_two, is_interleaved};
 use crate::stored::Stored;
@@ -34,7 +35,7 @@ pub(crate) fn pixel_runs<O: Blend, P: Pixel, D: Stored<P>, S: Stored<P>>(
         (take result (map S.reads src.now)) (map D.reads dst.old) }
 {
     if is_interleaved::<P>() {
-        composite_blocks::<O, P, D, S, Eight>(dst, src, count)
+        composite_blocks::<O, P, D, S, Pair>(dst, src, count)
     } else if has_four::<P>() {
         composite_blocks::<O, P, D, S, Four>(dst, src, count)
     } else if has_two::<P>() {
@@ -64,7 +65,9 @@ pub(crate) fn pixel_rest<O: Blend, P: Pixel, D: Stored<P>, S: Stored<P>>(
         (take result (map S.reads src.now)) (map D.reads dst.old) }
 {
     if is_interleaved::<P>() {
-        composite_blocks::<O, P, D, S, Interleaved>(dst, src, count)
+        let start = composite_blocks::<O, P, D, S, Eight>(dst, src, count);
+        let (rest, sources) = (&mut dst[start..], &src[start..]);
+        start + composite_blocks::<O, P, D, S, Interleaved>(rest, sources, count - start)
     } else if has_two::<P>() {
         composite_blocks::<O, P, D, S, HalfTwo>(dst, src, count)
     } else {
@@ -84,7 +87,7 @@ pub(crate) fn color_runs<O: Blend, P: Pixel, D: Stored<P>>(dst: &mut [D], clr: &
         (take result (replicate (length dst.old) (P.numbers clr.now))) (map D.reads dst.old) }
 {
     if is_interleaved::<P>() {
-        color_blocks::<O, P, D, Eight>(dst, clr)
+        color_blocks::<O, P, D, Pair>(dst, clr)
     } else if has_four::<P>() {
         color_blocks::<O, P, D, Four>(dst, clr)
     } else if has_two::<P>() {
@@ -108,7 +111,8 @@ pub(crate) fn color_rest<O: Blend, P: Pixel, D: Stored<P>>(dst: &mut [D], clr: &
         (take result (replicate (length dst.old) (P.numbers clr.now))) (map D.reads dst.old) }
 {
     if is_interleaved::<P>() {
-        color_blocks::<O, P, D, Interleaved>(dst, clr)
+        let start = color_blocks::<O, P, D, Eight>(dst, clr);
+        start + color_blocks::<O, P, D, Interleaved>(&mut dst[start..], clr)
     } else if has_two::<P>() {
         color_blocks::<O, P, D, HalfTwo>(dst, clr)
     } else {
