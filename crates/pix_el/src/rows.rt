@@ -11,7 +11,7 @@ ghost use Rattle.pix_chan.specs.Runs.{over};
 ghost use Rattle.pix_el.specs.PixelComposite.{pixel_composite, matted_composite, matte_value};
 
 use crate::el::Pixel;
-use crate::filled::{clear_row, fill_row};
+use crate::filled::{clear_row, write_all};
 use crate::planes::block::{color_blocks, composite_blocks};
 use crate::planes::eight::Eight;
 use crate::planes::four::Four;
@@ -158,7 +158,7 @@ impl<P: Pixel, D: Stored<P>> Fill<D> for CopiedColor<P, D> {
     ghost makes = { λ it _. D.reads it.clr };
 
     fn fill(&self, row: &mut [D]) {
-        fill_row(row, self.clr);
+        write_all(row, self.clr);
     }
 }
 

@@ -5,4 +5,4 @@ use Rattle.pix_el.proofs.rows.CopiedColorFill.fill.Goals as goal
 pub returns : goal.returns
 returns g c =
     let n = g.D.Stored.reads in
-    ap (map n) c.fill_row.ensures ∙ map_color n c.args.self.now.clr c.args.row.now
+    ap (map n) c.write_all.ensures ∙ map_color n c.args.self.now.clr c.args.row.now
