@@ -21,6 +21,7 @@ pub mod EightPixels
 pub mod Blocks
 pub mod Unchanged
 pub mod Replaced
+pub mod OneValue
 pub mod Masked
 pub mod MaskedPlanes
 pub mod Unmultiplied

@@ -7,6 +7,7 @@ pub use pix_ops::ops;
 mod conversion;
 mod each;
 pub mod el;
+mod filled;
 mod hue;
 pub mod light;
 pub mod matte;

@@ -11,6 +11,7 @@ ghost use Rattle.pix_chan.specs.Runs.{over};
 ghost use Rattle.pix_el.specs.PixelComposite.{pixel_composite, matted_composite, matte_value};
 
 use crate::el::Pixel;
+use crate::filled::{clear_row, write_all};
 use crate::planes::coverage_runs;
 use crate::planes::masked::{covered_runs, faded_runs};
 use crate::planes::runs::{color_runs, pixel_runs};
@@ -118,20 +119,27 @@ impl<P: Pixel, D: Stored<P>> Fill<D> for CopiedColor<P, D> {
     ghost makes = { λ it _. D.reads it.clr };
 
     fn fill(&self, row: &mut [D]) {
-        for pixel in row.iter_mut() {
-            *pixel = self.clr;
-        }
+        write_all(row, self.clr);
     }
 }
 
-/// Makes every pixel of a row clear.
-#[inline(always)]
-fn clear_row<P: Pixel, D: Stored<P>>(row: &mut [D])
-    ensures { map D.reads row.new ≡
-        map (λ _. replicate P.layout.count 0) (map D.reads row.old) }
-{
-    let (clr, format) = (D::store(&P::default()), PhantomData);
-    CopiedColor::<P, D> { clr, format }.fill(row);
+/// Makes pixels clear.
+#[derive(Clone, Copy)]
+pub struct ClearedPixels<P> {
+    /// The format of the pixels.
+    pub format: PhantomData<P>,
+}
+
+impl<P: Pixel, D: Stored<P>> Fill<D> for ClearedPixels<P> {
+    ghost can_fill = { ⊤ };
+
+    ghost reads = { D.reads };
+
+    ghost makes = { λ _ _. replicate P.layout.count 0 };
+
+    fn fill(&self, row: &mut [D]) {
+        clear_row::<P, D>(row);
+    }
 }
 
 /// Composites a color.

@@ -1,5 +1,5 @@
-//! Pixels of two channels by planes, eight at a time: each pixel stands twice in a plane.
-ghost use Rattle.std.specs.Prelude.{◌≡◌, ◌++◌, ℕ, List, [], ◌∷◌, length, map, refl};
+//! Pixels of two channels by planes, eight at a time: the second half of a plane is clear pixels.
+ghost use Rattle.std.specs.Prelude.{◌≡◌, ◌++◌, ℕ, List, [], ◌∷◌, length, map, take, replicate, refl};
 ghost use Rattle.std.specs.List.{zip};
 ghost use Rattle.pix_chan.specs.Runs.{over};
 ghost use Rattle.pix_el.specs.Planes.{AreTwoPlanes};
@@ -13,34 +13,32 @@ use crate::stored::{Coverage, Stored};
 use pix_chan::chan::Channel;
 use pix_ops::ops::Blend;
 
-/// Returns the planes of eight pixels, twice. Each `CALLER` has a copy of its own, since LLVM
-/// inlines a function that is called once.
+/// Returns the planes of eight pixels, and of eight clear ones after them. Each `CALLER` has a copy
+/// of its own, since LLVM inlines a function that is called once.
+// What is made of the clear pixels is not written back, so it may be anything.
 #[inline(always)]
 fn planes<P: Pixel, D: Stored<P>, const CALLER: usize>(p: &[D]) -> ([P::Chan; 16], [P::Chan; 16])
     requires count { P.layout.count ≡ 2 }
     requires size { length p.now ≡ 8 }
-    ensures { AreTwoPlanes P.Chan.max (map D.reads p.now ++ map D.reads p.now)
+    ensures { AreTwoPlanes P.Chan.max (map D.reads p.now ++ replicate 8 (0 ∷ 0 ∷ []))
         (map P.Chan.number result.0) (map P.Chan.number result.1) }
 {
-    let own = eight_pixels::<P, D>(p);
-    P::Chan::split2(own, own)
+    P::Chan::split2(eight_pixels::<P, D>(p), [P::Chan::MIN; 16])
 }
 
-/// Returns eight values, twice.
+/// Returns eight values, and eight zeros after them.
 #[inline(always)]
-fn twice<C: Channel>(values: &[C]) -> [C; 16]
+fn beside_zeros<C: Channel>(values: &[C]) -> [C; 16]
     requires { length values.now ≡ 8 }
-    ensures { map C.number result ≡ map C.number values.now ++ map C.number values.now }
+    ensures { map C.number result ≡ map C.number values.now ++ replicate 8 0 }
 {
-    let mut both = [C::MIN; 16];
-    let whole = &mut both[..];
-    whole[..8].copy_from_slice(values);
-    whole[8..16].copy_from_slice(values);
-    both
+    let mut all = [C::MIN; 16];
+    all[..8].copy_from_slice(values);
+    all
 }
 
-/// Composites the eight pixels that stand twice in these planes with those of `dst`. Both alphas
-/// are read before a plane is written.
+/// Composites the first eight of the sixteen pixels of these planes with those of `dst`. Both
+/// alphas are read before a plane is written.
 ///
 /// Condition: the alpha is the second channel, and there is no hue.
 #[inline(always)]
@@ -53,11 +51,10 @@ fn composite_eight<O: Blend, P: Pixel, D: Stored<P>, const CALLER: usize>(
     requires alpha { P.layout.alpha ≡ 1 }
     requires no_hue { P.layout.hues.end ≡ 0 }
     requires size { length dst.old ≡ 8 }
-    ensures { (pixels : List (List ℕ)) → length pixels ≡ 8
-        → AreTwoPlanes P.Chan.max (pixels ++ pixels)
-        (map P.Chan.number one) (map P.Chan.number two)
+    ensures { (pixels : List (List ℕ))
+        → AreTwoPlanes P.Chan.max pixels (map P.Chan.number one) (map P.Chan.number two)
         → map D.reads dst.new ≡
-        over (pixel_composite P.layout O.op) pixels (map D.reads dst.old) }
+        over (pixel_composite P.layout O.op) (take 8 pixels) (map D.reads dst.old) }
 {
     let (mut to_one, mut to_two) = planes::<P, D, CALLER>(dst);
     let da1 = P::Chan::less16(to_two);
@@ -69,7 +66,7 @@ fn composite_eight<O: Blend, P: Pixel, D: Stored<P>, const CALLER: usize>(
 }
 
 /// Composites the color of these channels with eight pixels, each through the matte value of the
-/// same index.
+/// same index. The last eight mattes may be anything.
 ///
 /// Condition: the alpha is the second channel, and there is no hue.
 #[inline(always)]
@@ -83,20 +80,20 @@ fn composite_matted<O: Blend, P: Pixel, D: Stored<P>, const CALLER: usize>(
     requires alpha { P.layout.alpha ≡ 1 }
     requires no_hue { P.layout.hues.end ≡ 0 }
     requires size { length dst.old ≡ 8 }
-    requires whole { length mattes.now ≡ 8 }
+    requires whole { length mattes.now ≡ 16 }
     ensures { map D.reads dst.new ≡ over (λ m. matted_composite P.layout O.op m
         (P.Chan.number a ∷ P.Chan.number b ∷ []))
-        (map P.Chan.number mattes.now) (map D.reads dst.old) }
+        (take 8 (map P.Chan.number mattes.now)) (map D.reads dst.old) }
 {
-    let by = twice(mattes);
     let mut one = [a; 16];
     let mut two = [b; 16];
-    P::Chan::mul_run(&mut one, &by);
-    P::Chan::mul_run(&mut two, &by);
+    P::Chan::mul_run(&mut one, mattes);
+    P::Chan::mul_run(&mut two, mattes);
     composite_eight::<O, P, D, CALLER>(dst, one, two);
 }
 
-/// Composites eight pixels with those of `dst`, each through the matte value of the same index.
+/// Composites eight pixels with those of `dst`, each through the matte value of the same index. The
+/// last eight mattes may be anything.
 ///
 /// Condition: the alpha is the second channel, and there is no hue.
 #[inline(always)]
@@ -110,14 +107,13 @@ fn composite_masked<O: Blend, P: Pixel, D: Stored<P>, S: Stored<P>, const CALLER
     requires no_hue { P.layout.hues.end ≡ 0 }
     requires size { length dst.old ≡ 8 }
     requires src_size { length src.now ≡ 8 }
-    requires whole { length mattes.now ≡ 8 }
+    requires whole { length mattes.now ≡ 16 }
     ensures { map D.reads dst.new ≡ over (λ t. matted_composite P.layout O.op t.0 t.1)
-        (zip (map P.Chan.number mattes.now) (map S.reads src.now)) (map D.reads dst.old) }
+        (zip (take 8 (map P.Chan.number mattes.now)) (map S.reads src.now)) (map D.reads dst.old) }
 {
-    let by = twice(mattes);
     let (mut one, mut two) = planes::<P, S, CALLER>(src);
-    P::Chan::mul_run(&mut one, &by);
-    P::Chan::mul_run(&mut two, &by);
+    P::Chan::mul_run(&mut one, mattes);
+    P::Chan::mul_run(&mut two, mattes);
     composite_eight::<O, P, D, CALLER>(dst, one, two);
 }
 
@@ -150,7 +146,7 @@ impl<P: Pixel> Block<P> for HalfTwo {
     #[inline(always)]
     fn matted<O: Blend, D: Stored<P>, M: Coverage<P::Chan>>(dst: &mut [D], src: &[M], clr: &P) {
         let (a, b) = two_channels(clr);
-        composite_matted::<O, P, D, 3>(dst, &eight_values(src), a, b);
+        composite_matted::<O, P, D, 3>(dst, &beside_zeros(&eight_values(src)), a, b);
     }
 
     #[inline(always)]
@@ -159,11 +155,12 @@ impl<P: Pixel> Block<P> for HalfTwo {
         src: &[S],
         mattes: &[M],
     ) {
-        composite_masked::<O, P, D, S, 4>(dst, src, &eight_values(mattes));
+        let mattes = beside_zeros(&eight_values(mattes));
+        composite_masked::<O, P, D, S, 4>(dst, src, &mattes);
     }
 
     #[inline(always)]
     fn faded<O: Blend, D: Stored<P>, S: Stored<P>>(dst: &mut [D], src: &[S], alpha: P::Chan) {
-        composite_masked::<O, P, D, S, 5>(dst, src, &[alpha; 8]);
+        composite_masked::<O, P, D, S, 5>(dst, src, &[alpha; 16]);
     }
 }

@@ -1,15 +1,14 @@
-use Rattle.std.proofs.Common.{◌≡◌, ◌∙◌, ◌++◌, ap, sym, arith, map, length, List, ℕ}
-use Rattle.std.proofs.lemmas.List.{length-map}
+use Rattle.std.proofs.Common.{◌≡◌, ◌∙◌, ◌++◌, ap, sym, arith, map, take, replicate, length, List, [], ◌∷◌, ℕ}
+use Rattle.std.proofs.lemmas.List.{length-map, length-take}
 use Rattle.std.specs.List.{zip}
 use Rattle.pix_chan.specs.Runs.{over}
 use Rattle.pix_el.specs.Pixel.{Layout}
 use Rattle.pix_el.specs.PixelComposite.{pixel_composite, matted_color}
 use Rattle.pix_el.proofs.Models.{placed_by_row}
 use Rattle.pix_el.proofs.TwoPlanes.{is_two_of, two_of}
-use Rattle.pix_el.proofs.HalfPlanes.{over-append, planes_of_both}
+use Rattle.pix_el.proofs.HalfPlanes.{first-over}
 use Rattle.pix_el.proofs.Masked.{over-beside}
 use Rattle.pix_el.proofs.MaskedPlanes.{masked_two_planes}
-use Rattle.pix_el.proofs.Written.{length-over}
 use Rattle.pix_el.proofs.planes.half.composite_masked.Goals as goal
 
 pub returns : goal.returns
@@ -22,15 +21,13 @@ returns g c =
     let ms = map v c.args.mattes.now in
     let ss = map s c.args.src.now in
     let ds = map g.D.Stored.reads c.args.dst.now in
-    let bs = map v c.twice-by.result in
+    let all = ss ++ replicate 8 (0 ∷ 0 ∷ []) in
     let two : layout ≡ two_of max = is_two_of layout max g.P.Model.ColorModel.CIRCULAR g.P.Model.ColorModel.ALPHA g.met.P.Pixel.laid_out
     c.requires.count c.requires.alpha c.requires.no_hue (placed_by_row g.P.Model.ColorModel.model _ g.met.P.Model.ColorModel.stands).hue_first in
     let color = matted_color (two_of max) in
     let count : length ss ≡ 8 = length-map c.args.src.now s ∙ c.requires.src_size in
-    let long : length ms ≡ length ss = omega (arith, count, length-map c.args.mattes.now v, c.requires.whole) in
-    c.composite_eight.ensures (over color ms ss) (length-over color ms ss ∙ count)
-    (planes_of_both max (over color bs (ss ++ ss)) (over color ms ss)
-    (ap (λ (l : List ℕ). over color l (ss ++ ss)) c.twice-by.ensures ∙ over-append color ms ms ss ss long)
-    (masked_two_planes max bs (ss ++ ss) c.planes-one.ensures c.mul_run.ensures c.mul_run-2.ensures))
-    ∙ over-beside made color ms ss ds long
-    ∙ ap (λ (l : Layout). over (λ t. made (matted_color l t.0 t.1)) (zip ms ss) ds) (sym two)
+    let long : length (take 8 ms) ≡ length ss = omega (arith, count, length-take 8 ms, length-map c.args.mattes.now v, c.requires.whole) in
+    c.composite_eight.ensures (over color ms all) (masked_two_planes max ms all c.planes-one.ensures c.mul_run.ensures c.mul_run-2.ensures)
+    ∙ ap (λ (l : List (List ℕ)). over made l ds) (first-over color 8 ms ss (replicate 8 (0 ∷ 0 ∷ [])) count)
+    ∙ over-beside made color (take 8 ms) ss ds long
+    ∙ ap (λ (l : Layout). over (λ t. made (matted_color l t.0 t.1)) (zip (take 8 ms) ss) ds) (sym two)
