@@ -167,24 +167,11 @@ impl<P: Pixel<Alpha = Premultiplied, Gamma = Linear>, D: Stored<P>, O: Blend> Fi
         } else if clears::<O, P>() {
             clear_row::<P, D>(row);
         } else {
-            self.composite(row);
-        }
-    }
-}
-
-impl<P: Pixel<Alpha = Premultiplied, Gamma = Linear>, O: Blend> CompositedColor<P, O> {
-    /// Composites the color with every pixel of a row. Condition: the format has an alpha channel.
-    #[inline(always)]
-    fn composite<D: Stored<P>>(&self, row: &mut [D])
-        requires has_alpha { P.layout.count ≡ P.layout.alpha + 1 }
-        ensures { map D.reads row.new ≡
-            map (pixel_composite P.layout O.op (P.numbers self.now.clr)) (map D.reads row.old) }
-    {
-        let clr = &self.clr;
-        let count = row.len();
-        let start = color_runs::<O, P, D>(row, clr);
-        if start < count {
-            finish_color::<O, P, D>(&mut row[start..], clr, self.op);
+            let clr = &self.clr;
+            let start = color_runs::<O, P, D>(row, clr);
+            if start < row.len() {
+                finish_color::<O, P, D>(&mut row[start..], clr, self.op);
+            }
         }
     }
 }
@@ -231,31 +218,18 @@ impl<P: Pixel<Alpha = Premultiplied, Gamma = Linear>, D: Stored<P>, O: Blend> Bl
     ghost makes = { λ _. pixel_composite P.layout O.op };
 
     fn blit(&self, row: &mut [D], src: &[D]) {
+        let count = row.len().min(src.len());
         if replaces::<O, P>() && row.len() <= SHORT {
             see_channels::<P, D>(src);
             let format = self.format;
             CopiedPixels::<P> { format }.blit(row, src);
         } else if clears::<O, P>() {
-            let count = row.len().min(src.len());
             clear_row::<P, D>(&mut row[..count]);
         } else {
-            self.composite(row, src);
-        }
-    }
-}
-
-impl<P: Pixel<Alpha = Premultiplied, Gamma = Linear>, O: Blend> CompositedPixels<P, O> {
-    /// Composites pixels with those of a row. Condition: the format has an alpha channel.
-    #[inline(always)]
-    fn composite<D: Stored<P>, S: Stored<P>>(&self, row: &mut [D], src: &[S])
-        requires has_alpha { P.layout.count ≡ P.layout.alpha + 1 }
-        ensures { map D.reads row.new ≡
-            over (pixel_composite P.layout O.op) (map S.reads src.now) (map D.reads row.old) }
-    {
-        let count = row.len().min(src.len());
-        let start = pixel_runs::<O, P, D, S>(row, src, count);
-        if start < count {
-            finish_pixels::<O, P, D, S>(&mut row[start..], &src[start..], self.op);
+            let start = pixel_runs::<O, P, D, D>(row, src, count);
+            if start < count {
+                finish_pixels::<O, P, D, D>(&mut row[start..], &src[start..], self.op);
+            }
         }
     }
 }

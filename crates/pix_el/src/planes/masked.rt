@@ -67,7 +67,8 @@ pub(super) fn composite_covered<
     requires src_size { length src.now ≡ 4 }
     requires whole { length mattes.now ≡ 4 }
     ensures { map D.reads dst.new ≡ over (λ t. matted_composite P.layout O.op t.0 t.1)
-        (zip (map (coverage_of P.Chan.max M.numbers) mattes.now) (map S.reads src.now)) (map D.reads dst.old) }
+        (zip (map (coverage_of P.Chan.max M.numbers) mattes.now) (map S.reads src.now))
+        (map D.reads dst.old) }
 {
     let (a, b) = (mattes[0].coverage(), mattes[1].coverage());
     let (c, d) = (mattes[2].coverage(), mattes[3].coverage());
@@ -92,7 +93,8 @@ pub(super) fn composite_eight_covered<
     requires src_size { length src.now ≡ 8 }
     requires whole { length mattes.now ≡ 8 }
     ensures { map D.reads dst.new ≡ over (λ t. matted_composite P.layout O.op t.0 t.1)
-        (zip (map (coverage_of P.Chan.max M.numbers) mattes.now) (map S.reads src.now)) (map D.reads dst.old) }
+        (zip (map (coverage_of P.Chan.max M.numbers) mattes.now) (map S.reads src.now))
+        (map D.reads dst.old) }
 {
     let colors = covered::<P, 4>(eight_pixels::<P, S>(src), &eight_values(mattes));
     composite_eight::<O, P, D, 4>(dst, colors);
@@ -137,7 +139,8 @@ pub(crate) fn covered_runs<O: Blend, P: Pixel, D: Stored<P>, S: Stored<P>, M: Co
     requires mattes_have { count ≤ length mattes.now }
     ensures some { result ≤ count }
     ensures composite { map D.reads dst.new ≡ over (λ t. matted_composite P.layout O.op t.0 t.1)
-        (take result (zip (map (coverage_of P.Chan.max M.numbers) mattes.now) (map S.reads src.now)))
+        (take result
+        (zip (map (coverage_of P.Chan.max M.numbers) mattes.now) (map S.reads src.now)))
         (map D.reads dst.old) }
 {
     if is_interleaved::<P>() {
@@ -153,8 +156,8 @@ pub(crate) fn covered_runs<O: Blend, P: Pixel, D: Stored<P>, S: Stored<P>, M: Co
     }
 }
 
-/// Composites as many of the first `count` pixels as go in the largest blocks, each through the same
-/// matte value, and returns their number.
+/// Composites as many of the first `count` pixels as go in the largest blocks, each through the
+/// same matte value, and returns their number.
 ///
 /// Condition: the format has an alpha channel, and both slices have `count` pixels.
 #[inline(always)]
@@ -202,7 +205,8 @@ pub(crate) fn covered_rest<O: Blend, P: Pixel, D: Stored<P>, S: Stored<P>, M: Co
     requires mattes_have { count ≤ length mattes.now }
     ensures some { result ≤ count }
     ensures composite { map D.reads dst.new ≡ over (λ t. matted_composite P.layout O.op t.0 t.1)
-        (take result (zip (map (coverage_of P.Chan.max M.numbers) mattes.now) (map S.reads src.now)))
+        (take result
+        (zip (map (coverage_of P.Chan.max M.numbers) mattes.now) (map S.reads src.now)))
         (map D.reads dst.old) }
 {
     if is_interleaved::<P>() {

@@ -4,7 +4,7 @@ ghost use Rattle.std.specs.Prelude.{◌≡◌, refl};
 
 use crate::el::Pixel;
 use crate::planes::block::Block;
-use crate::planes::eight::Eight;
+use crate::planes::eight::{Eight, composite_eight, eight_pixels};
 use crate::stored::{Coverage, Stored};
 use pix_ops::ops::Blend;
 
@@ -24,8 +24,8 @@ impl<P: Pixel> Block<P> for Pair {
 
     #[inline(always)]
     fn composite<O: Blend, D: Stored<P>, S: Stored<P>>(dst: &mut [D], src: &[S]) {
-        <Eight as Block<P>>::composite::<O, D, S>(&mut dst[..8], &src[..8]);
-        <Eight as Block<P>>::composite::<O, D, S>(&mut dst[8..16], &src[8..16]);
+        composite_eight::<O, P, D, 5>(&mut dst[..8], eight_pixels::<P, S>(&src[..8]));
+        composite_eight::<O, P, D, 5>(&mut dst[8..16], eight_pixels::<P, S>(&src[8..16]));
     }
 
     #[inline(always)]
