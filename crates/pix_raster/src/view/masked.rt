@@ -114,18 +114,21 @@ fn blit_rows<D, S, M, B: MaskedBlit<D, S, M>>(
         (overlap.rows.src_start + (b - overlap.rows.dst.start))))
         x y (read_at B.reads stride pixels.old x y) }
 {
+    // Read once: for all that is known in the loop, writing a row could change both sources.
+    let (pixels_of_src, src_stride) = (src.pixels, src.shape.stride);
+    let (pixels_of_mask, mask_stride) = (mask.pixels, mask.shape.stride);
     let (mask_column, mask_row) = mask_starts;
     let count = overlap.columns.dst.end - overlap.columns.dst.start;
     for y in overlap.rows.dst.start..overlap.rows.dst.end {
         let start = y * stride + overlap.columns.dst.start;
         let src_y = overlap.rows.src_start + (y - overlap.rows.dst.start);
-        let src_start = src_y * src.shape.stride + overlap.columns.src_start;
+        let src_start = src_y * src_stride + overlap.columns.src_start;
         let mask_y = mask_row + (y - overlap.rows.dst.start);
-        let mask_start = mask_y * mask.shape.stride + mask_column;
+        let mask_start = mask_y * mask_stride + mask_column;
         change.blit(
             &mut pixels[start..start + count],
-            &src.pixels[src_start..src_start + count],
-            &mask.pixels[mask_start..mask_start + count],
+            &pixels_of_src[src_start..src_start + count],
+            &pixels_of_mask[mask_start..mask_start + count],
         );
     }
 }
