@@ -7,7 +7,7 @@ ghost use Rattle.pix_raster.specs.View.{read_at, IsShaped, IsWindow, ChangedIn, 
 ghost use Rattle.pix_raster.specs.Clip.{where_in, IsOverlap};
 
 use super::{MaskedBlit, Shape, Window};
-use crate::clip::Overlap;
+use crate::clip::{Overlap, axis_overlap};
 use crate::region::Region;
 
 /// A region of an image in memory, from which a change takes its pixels or its mattes.
@@ -28,6 +28,7 @@ pub struct Source<'a, S> {
 /// Condition: `window` and the shapes are as the docs of their fields say. The rows of the window
 /// lie in `pixels`, and those of the source and of the mask in their own pixels. The change suits
 /// the formats.
+#[inline(always)]
 pub fn blit_masked<D, S, M, B: MaskedBlit<D, S, M>>(
     pixels: &mut [D],
     window: Window,
@@ -60,6 +61,7 @@ pub fn blit_masked<D, S, M, B: MaskedBlit<D, S, M>>(
 
 /// Returns the overlap of the region `to` of a picture and the region `from` of a source, as seen
 /// from a window.
+#[inline(always)]
 pub(super) fn overlap_in(window: Window, to: Region, from: Region, src: Shape) -> Overlap
     requires across { window.left + window.shape.width ≤ limit }
     requires down { window.top + window.shape.height ≤ limit }
@@ -67,15 +69,33 @@ pub(super) fn overlap_in(window: Window, to: Region, from: Region, src: Shape) -
     requires src_high { src.height ≤ limit }
     ensures { IsOverlap window to from src result }
 {
-    let right = window.left + window.shape.width;
-    let bottom = window.top + window.shape.height;
-    let overlap = Overlap::new(to, right, bottom, from, src.width, src.height);
-    overlap.seen_from(window.left, window.top)
+    let Window { left, top, shape } = window;
+    Overlap {
+        columns: axis_overlap(
+            to.left(),
+            to.width(),
+            left,
+            shape.width,
+            from.left(),
+            from.width(),
+            src.width,
+        ),
+        rows: axis_overlap(
+            to.top(),
+            to.height(),
+            top,
+            shape.height,
+            from.top(),
+            from.height(),
+            src.height,
+        ),
+    }
 }
 
 /// Changes the pixels of an overlap, in rows that lie `stride` pixels apart. Each is changed by its
 /// pixel of a source and its matte of a mask. The matte for the first pixel is at the column and
 /// row `mask_starts`.
+#[inline(always)]
 fn blit_rows<D, S, M, B: MaskedBlit<D, S, M>>(
     pixels: &mut [D],
     stride: usize,
