@@ -2,7 +2,7 @@
 ghost use Rattle.std.specs.Prelude.{◌≡◌, ◌≤◌, ◌+◌, ◌∷◌, [], map, All};
 ghost use Rattle.pix_raster.specs.Region.{limit};
 ghost use Rattle.pix_raster.specs.View.{IsWindow, ChangedIn, picture, largest, in_window};
-ghost use Rattle.pix_raster.specs.Run.{run_at};
+ghost use Rattle.pix_raster.specs.Run.{run_at, op_of};
 ghost use Rattle.pix_raster.specs.Draw.{command_in, IsSound};
 
 use super::draw::{Draw, ReadCommand};
@@ -39,6 +39,7 @@ impl<
         (in_window it.window (run_at P.layout D.reads M.numbers
         (picture it.window) (command_in op it.draw ∷ []))) };
 
+    #[inline(always)]
     fn visit<O: Blend>(&self, pixels: &mut [D], op: O) {
         let window = self.window;
         let format = PhantomData;
@@ -79,6 +80,40 @@ impl<
                 blit_window(pixels, window, *to, src.pixels, src.shape, src.from, &blit);
             }
         }
+    }
+}
+
+/// A command on a window of a picture, in which pixels are of the format `P` and a matte lies as an
+/// `M`. It is read when its operator is a type, so that the drawing never lies in memory.
+#[derive(Drop)]
+struct OneCommand<'a, P, M, C> {
+    command: &'a C,
+    window: Window,
+    formats: PhantomData<(P, M)>,
+}
+
+impl<
+    'a,
+    P: Pixel<Alpha = Premultiplied, Gamma = Linear>,
+    D: Stored<P>,
+    M: Coverage<P::Chan>,
+    C: ReadCommand<D, M>,
+> SliceVisitor<D> for OneCommand<'a, P, M, C> {
+    ghost can_visit = { λ it op count. (P.layout.count ≡ P.layout.alpha + 1)
+        × IsWindow it.window count × C.can_read it.command.now
+        × (op ≡ op_of (C.command it.command.now)) };
+
+    ghost visits = { λ it _ old new. ChangedIn D.reads it.window.shape old new
+        (in_window it.window (run_at P.layout D.reads M.numbers
+        (picture it.window) (C.command it.command.now ∷ []))) };
+
+    fn visit<O: Blend>(&self, pixels: &mut [D], op: O) {
+        let there = OnWindow::<P, D, M> {
+            draw: self.command.read(),
+            window: self.window,
+            format: PhantomData,
+        };
+        there.visit(pixels, op);
     }
 }
 
@@ -131,10 +166,11 @@ impl<
 
     fn paint(&self, pixels: &mut [D], window: Window) {
         for command in self.commands {
-            let there = OnWindow::<P, D, M> {
-                draw: command.read(),
+            let formats = PhantomData;
+            let there = OneCommand::<P, M, C> {
+                command,
                 window,
-                format: PhantomData,
+                formats,
             };
             command.op().visit_slice(&there, pixels);
         }
