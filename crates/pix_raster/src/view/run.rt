@@ -11,8 +11,8 @@ use crate::region::Region;
 use pix_chan::chan::{Linear, Premultiplied};
 use pix_el::el::Pixel;
 use pix_el::rows::{
-    CompositedColor, CompositedPixels, CopiedColor, CopiedPixels, FadedPixels, MattedColor,
-    MattedPixels,
+    ClearedPixels, CompositedColor, CompositedPixels, CopiedColor, CopiedPixels, FadedPixels,
+    MattedColor, MattedPixels,
 };
 use pix_el::stored::{Coverage, Stored};
 use pix_ops::ops::{Blend, SliceVisitor};
@@ -45,9 +45,8 @@ impl<
         let format = PhantomData;
         match &self.draw {
             Draw::Clear => {
-                let clr = D::store(&P::default());
                 let all = picture_of(window);
-                fill_window(pixels, window, all, &CopiedColor::<P, D> { clr, format });
+                fill_window(pixels, window, all, &ClearedPixels::<P> { format });
             }
             Draw::CopyColor { reg, clr } => {
                 let clr = **clr;

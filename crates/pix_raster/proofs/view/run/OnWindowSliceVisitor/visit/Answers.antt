@@ -15,12 +15,12 @@ returns-in-Clear g c =
     let n = g.D.Stored.reads in
     let window = c.args.self.now.window in
     let fits = c.requires.1 in
-    let none : n c.store-clr.result ≡ replicate layout.count 0 = c.store-clr.ensures ∙ g.met.P.Pixel.default_is_clear c.default.result c.default.ensures in
+    let clear : List ℕ = replicate layout.count 0 in
     rw c.in-Clear.is (changed_alike n window.shape c.args.pixels.now c.fill_window.new.pixels _ _
     (λ x y pixel lx ly.
-    ap (λ r. where_covered r (λ p. n c.store-clr.result) (window.left + x) (window.top + y) pixel) c.picture_of-all.ensures
-    ∙ whole_effect layout (window.left + window.shape.width) (window.top + window.shape.height) (λ p. n c.store-clr.result) Cleared (window.left + x) (window.top + y) pixel
-    fits.across fits.down (omega arith) (omega arith) (λ p. none)) c.fill_window.ensures)
+    ap (λ r. where_covered r (λ p. clear) (window.left + x) (window.top + y) pixel) c.picture_of-all.ensures
+    ∙ whole_effect layout (window.left + window.shape.width) (window.top + window.shape.height) (λ p. clear) Cleared (window.left + x) (window.top + y) pixel
+    fits.across fits.down (omega arith) (omega arith) (λ p. refl)) c.fill_window.ensures)
 
 pub returns-in-CopyColor : goal.returns-in-CopyColor
 returns-in-CopyColor g c =
