@@ -19,6 +19,7 @@ use pix_raster::Region;
 use pix_raster::view::{Draw, ReadCommand, Shape, Source};
 
 /// Returns the region of the library. Condition: its sides are within the limit.
+#[inline(always)]
 fn region_of(reg: PixRegion) -> Region
     requires { fits reg ≡ true }
     ensures { result ≡ rectangle reg }
@@ -28,6 +29,7 @@ fn region_of(reg: PixRegion) -> Region
 
 /// Returns the region of the destination of a command of a kind. For a clear it has all points of
 /// any picture. A side above the limit counts as the limit.
+#[inline(always)]
 fn reach_of(kind: u32, to: PixRegion) -> Region {
     if kind == kind::CLEAR {
         return Region::new(0, 0, LIMIT, LIMIT);
@@ -36,6 +38,7 @@ fn reach_of(kind: u32, to: PixRegion) -> Region {
 }
 
 /// Returns the operator of a command that composites, and `Src` for another.
+#[inline(always)]
 fn operator_of(kind: u32, op: u32) -> Op
     ensures { result ≡ if nat_lt kind 3 then Src else op_at op }
 {
@@ -47,6 +50,7 @@ fn operator_of(kind: u32, op: u32) -> Op
 
 /// Returns a region of an image as a source of the library. Condition: the sides of the region are
 /// within the limit, and the rows of the image lie in `pixels`.
+#[inline(always)]
 fn source_of<'a, S>(
     pixels: &'a [S],
     width: u32,
@@ -74,6 +78,7 @@ fn source_of<'a, S>(
 }
 
 /// Returns the region of the source of a command that reads pixels.
+#[inline(always)]
 fn pixels_of<'a, D, M>(c: &FlatCommand<'a, D, M>) -> Source<'a, D>
     requires fits { fits c.now.from ≡ true }
     requires sized { has_pixels c.now ≡ true }
@@ -87,6 +92,7 @@ fn pixels_of<'a, D, M>(c: &FlatCommand<'a, D, M>) -> Source<'a, D>
 
 /// Returns the drawing of a command that is not refused. Its color and its opacity are lent from
 /// where they lie.
+#[inline(always)]
 fn draw_of<'a, D, M>(c: &FlatCommand<'a, D, M>, clr: &'a D, alpha: &'a M) -> Draw<'a, D, M>
     requires sound { fault_of c.now ≡ 0 }
     requires color { clr.now ≡ c.now.color }
@@ -129,14 +135,17 @@ impl<'a> ReadCommand<PixRgba8, u8> for PixCommand<'a> {
 
     ghost can_read = { λ c. fault_of (rgba8_command c) ≡ 0 };
 
+    #[inline(always)]
     fn op(&self) -> Op {
         operator_of(self.kind, self.op)
     }
 
+    #[inline(always)]
     fn reach(&self) -> Region {
         reach_of(self.kind, self.to)
     }
 
+    #[inline(always)]
     fn read(&self) -> Draw<'_, PixRgba8, u8> {
         draw_of(&self.flat(), &self.color, &self.alpha)
     }
@@ -147,14 +156,17 @@ impl<'a> ReadCommand<PixRgba16, u16> for PixCommandRgba16<'a> {
 
     ghost can_read = { λ c. fault_of (rgba16_command c) ≡ 0 };
 
+    #[inline(always)]
     fn op(&self) -> Op {
         operator_of(self.kind, self.op)
     }
 
+    #[inline(always)]
     fn reach(&self) -> Region {
         reach_of(self.kind, self.to)
     }
 
+    #[inline(always)]
     fn read(&self) -> Draw<'_, PixRgba16, u16> {
         draw_of(&self.flat(), &self.color, &self.alpha)
     }
@@ -165,14 +177,17 @@ impl<'a> ReadCommand<PixGraya8, u8> for PixCommandGraya8<'a> {
 
     ghost can_read = { λ c. fault_of (graya8_command c) ≡ 0 };
 
+    #[inline(always)]
     fn op(&self) -> Op {
         operator_of(self.kind, self.op)
     }
 
+    #[inline(always)]
     fn reach(&self) -> Region {
         reach_of(self.kind, self.to)
     }
 
+    #[inline(always)]
     fn read(&self) -> Draw<'_, PixGraya8, u8> {
         draw_of(&self.flat(), &self.color, &self.alpha)
     }

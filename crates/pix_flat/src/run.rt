@@ -20,6 +20,7 @@ use std::marker::PhantomData;
 /// past the limit or is not in `pixels`, or why the first refused command is refused. `done` is the
 /// number of commands before that one. It is 0 where the window is refused, and the number of all
 /// commands when they are done.
+#[inline(always)]
 pub fn run_window<
     P: Pixel<Alpha = Premultiplied, Gamma = Linear>,
     D: FlatPixel<P>,

@@ -1,6 +1,6 @@
--- The overlap of two regions: each axis from the offsets that lie in its raster, and the points
--- from both axes.
-use Rattle.std.proofs.Common.{◌≡◌, ℕ, ◌<◌, ◌≤◌, ◌+◌, ◌-◌, ℤ, pos, ◌+ℤ◌, ◌-ℤ◌, ◌<ℤ◌, ◌≤ℤ◌, Bool, true, false, arith, min, max, List, [], ◌∷◌, refl, sym, ap, ◌∙◌, subst}
+-- The overlap of two regions: each axis from the places of its first point and its last, and the
+-- points from both axes.
+use Rattle.std.proofs.Common.{◌≡◌, ℕ, ◌<◌, ◌≤◌, ◌+◌, ◌-◌, ℤ, pos, ◌+ℤ◌, ◌-ℤ◌, ◌<ℤ◌, ◌≤ℤ◌, Bool, true, false, arith, min, List, [], ◌∷◌, refl, ap, ◌∙◌, subst}
 use Rattle.std.specs.Bool.{Decides}
 use Rattle.std.specs.Prelude.{nat_le, not, ◌&&◌, int_lt, if◌then◌else◌, fold}
 use Rattle.std.specs.Int.{int_min}
@@ -42,89 +42,84 @@ IsOffset start len limit i = Below len i × Below limit (start +ℤ i)
 Decides-offset : (start : ℤ) (len limit : ℕ) (i : ℤ) → Decides (is_offset start len limit i) (IsOffset start len limit i)
 Decides-offset start len limit i = Decides-and _ _ (Decides-below len i) (Decides-below limit (start +ℤ i))
 
--- the offsets of a range are those that lie in a raster
-pub offsets_are : (start : ℤ) (len limit : ℕ) (s : Range ℕ) (i : ℕ) → ((s.start ≤ i) × (i < s.end) → IsOffset start len limit (pos i))
-    → (IsOffset start len limit (pos i) → (s.start ≤ i) × (i < s.end)) → lies_in s i ≡ is_offset start len limit (pos i)
-offsets_are start len limit s i there back = same_from_decides _ _ (Decides-in s i) (Decides-like _ back there (Decides-offset start len limit (pos i)))
-
 -- a whole number that is not negative
 natural_is : (z : ℤ) → pos 0 ≤ℤ z → z ≡ pos (natural z)
 natural_is (pos n) h = refl
 natural_is (negsuc n) h = absurd (omega (arith, ints))
 
--- the offsets of both axes, each as a range, and where those ranges meet
-module _ (to from : ℤ) (to_len dst_limit from_len src_limit : ℕ) (a b : Range ℕ)
-    (ha : (i : ℕ) → lies_in a i ≡ is_offset to to_len dst_limit (pos i)) (hb : (i : ℕ) → lies_in b i ≡ is_offset from from_len src_limit (pos i))
-    (start end : ℕ) (es : start ≡ max a.start b.start) (ee : end ≡ min a.end b.end) where
+-- the offsets of both axes, between the places of the first and the last in both
+module _ (to from : ℤ) (to_len first count from_len src_count near src_near start end : ℕ)
+    (place : pos (first + near) ≡ to +ℤ pos 4294967296) (src_place : pos src_near ≡ from +ℤ pos 4294967296)
+    (es : start ≡ 4294967296 - min near src_near)
+    (ee : end ≡ min (min (min to_len from_len) (4294967296 + count - near)) (4294967296 + src_count - src_near)) where
   -- the offset i lies in both rasters
   abbrev Meets : ℤ → Type 0
-  Meets i = IsOffset to to_len dst_limit i × IsOffset from from_len src_limit i
+  Meets i = IsOffset to to_len (first + count) i × IsOffset from from_len src_count i
 
-  -- the test whether it does
-  Decides-meets : (i : ℤ) → Decides (is_offset to to_len dst_limit i && is_offset from from_len src_limit i) (Meets i)
-  Decides-meets i = Decides-and _ _ (Decides-offset to to_len dst_limit i) (Decides-offset from from_len src_limit i)
+  -- the offset of a column of the window
+  abbrev offset : ℕ → ℤ
+  offset x = pos (first + x) -ℤ to
 
-  -- what lies in both ranges does
+  -- the test whether it lies in both
+  abbrev is_met : ℕ → Bool
+  is_met x = is_offset to to_len (first + count) (offset x) && is_offset from from_len src_count (offset x)
+
+  Decides-met : (x : ℕ) → Decides (is_met x) (Meets (offset x))
+  Decides-met x = Decides-and _ _ (Decides-offset to to_len (first + count) (offset x)) (Decides-offset from from_len src_count (offset x))
+
+  -- what lies between them does
   meets : (n : ℕ) → start ≤ n → n < end → Meets (pos n)
   meets n h k = (
-    (Decides-offset to to_len dst_limit (pos n)).0 (sym (ha n) ∙ (Decides-in a n).1 (omega (arith, es), omega (arith, ee))),
-    (Decides-offset from from_len src_limit (pos n)).0 (sym (hb n) ∙ (Decides-in b n).1 (omega (arith, es), omega (arith, ee))),
+    ((omega (arith, ints), omega (arith, ints, ee, k)), (omega (arith, ints, place, es, h), omega (arith, ints, place, ee, k))),
+    ((omega (arith, ints), omega (arith, ints, ee, k)), (omega (arith, ints, src_place, es, h), omega (arith, ints, src_place, ee, k))),
   )
 
-  -- and what does lies in both
-  met : (n : ℕ) → Meets (pos n) → (start ≤ n) × (n < end)
-  met n h =
-      let p = (Decides-in a n).0 (ha n ∙ (Decides-offset to to_len dst_limit (pos n)).1 h.0) in
-      let q = (Decides-in b n).0 (hb n ∙ (Decides-offset from from_len src_limit (pos n)).1 h.1) in
-      let p0 : a.start ≤ n = p.0 in let p1 : n < a.end = p.1 in let q0 : b.start ≤ n = q.0 in let q1 : n < b.end = q.1 in
-      (omega (arith, es), omega (arith, ee))
+  -- and what does lies between them
+  met : (x : ℕ) → Meets (offset x) → (offset x ≡ pos (natural (offset x))) × (start ≤ natural (offset x)) × (natural (offset x) < end)
+  met x h =
+      let n : ℕ = natural (offset x) in
+      let e : offset x ≡ pos n = natural_is (offset x) h.0.0.0 in
+      let a : offset x <ℤ pos to_len = h.0.0.1 in
+      let b : (to +ℤ offset x) <ℤ pos (first + count) = h.0.1.1 in
+      let c : offset x <ℤ pos from_len = h.1.0.1 in
+      let d : pos 0 ≤ℤ (from +ℤ offset x) = h.1.1.0 in
+      let f : (from +ℤ offset x) <ℤ pos src_count = h.1.1.1 in
+      (e, omega (arith, ints, place, src_place, es, e, d), omega (arith, ints, place, src_place, ee, e, a, b, c, f))
 
-  -- the offset of a coordinate that lies in both, as a number
-  met_at : (i : ℤ) → Meets i → (i ≡ pos (natural i)) × (start ≤ natural i) × (natural i < end)
-  met_at i h = let e : i ≡ pos (natural i) = natural_is i h.0.0.0 in let m = met (natural i) (subst Meets e h) in (e, m.0, m.1)
-
-  -- where they don't meet, nothing is paired
-  pub none_meet : end ≤ start → (x : ℕ) → lies_in (record { start = 0; end = 0 }) x ≡ (is_offset to to_len dst_limit (pos x -ℤ to) && is_offset from from_len src_limit (pos x -ℤ to))
+  -- where there is none, nothing is paired
+  pub none_meet : end ≤ start → (x : ℕ) → lies_in (record { start = 0; end = 0 }) x ≡ is_met x
   none_meet h x =
       same_from_decides _ _ (Decides-in (record { start = 0; end = 0 }) x)
-      (Decides-like _ (λ k. let m = met_at (pos x -ℤ to) k in let m1 = m.1 in let m2 = m.2 in absurd (omega arith)) (λ k. let l : x < 0 = k.1 in absurd (omega arith)) (Decides-meets (pos x -ℤ to)))
+      (Decides-like _ (λ k. let m = met x k in let m1 = m.1 in let m2 = m.2 in absurd (omega arith)) (λ k. let l : x < 0 = k.1 in absurd (omega arith)) (Decides-met x))
 
-  -- the coordinates of the first offset in both rasters
-  module _ (some : start < end) (d s : ℕ) (hd : pos d ≡ to +ℤ pos start) (hs : pos s ≡ from +ℤ pos start) where
+  -- the first coordinates in both rasters
+  module _ (some : start < end) (d s : ℕ) (hd : d + 4294967296 ≡ near + start) (hs : s + 4294967296 ≡ src_near + start) where
     -- the coordinates of the destination
     abbrev dst : Range ℕ
     dst = record { start = d; end = d + (end - start) }
 
-    there : (x : ℕ) → (d ≤ x) × (x < d + (end - start)) → Meets (pos x -ℤ to)
+    there : (x : ℕ) → (d ≤ x) × (x < d + (end - start)) → Meets (offset x)
     there x h =
         let h0 : d ≤ x = h.0 in let h1 : x < d + (end - start) = h.1 in
-        let e : pos (start + (x - d)) ≡ pos x -ℤ to = omega (arith, ints, hd, h0) in
+        let e : pos (start + (x - d)) ≡ offset x = omega (arith, ints, place, hd, h0) in
         subst Meets e (meets (start + (x - d)) (omega arith) (omega (arith, some)))
 
-    back : (x : ℕ) → Meets (pos x -ℤ to) → (d ≤ x) × (x < d + (end - start))
+    back : (x : ℕ) → Meets (offset x) → (d ≤ x) × (x < d + (end - start))
     back x h =
-        let m = met_at (pos x -ℤ to) h in
-        let n : ℕ = natural (pos x -ℤ to) in
-        let e : (pos x -ℤ to) ≡ pos n = m.0 in let m1 : start ≤ n = m.1 in let m2 : n < end = m.2 in
-        (omega (arith, ints, hd, e, m1), omega (arith, ints, hd, e, m1, m2, some))
+        let m = met x h in
+        let e : offset x ≡ pos (natural (offset x)) = m.0 in let m1 : start ≤ natural (offset x) = m.1 in let m2 : natural (offset x) < end = m.2 in
+        (omega (arith, ints, place, hd, e, m1), omega (arith, ints, place, hd, e, m1, m2, some))
 
     -- just those of offsets in both
-    pub points_meet : (x : ℕ) → lies_in dst x ≡ (is_offset to to_len dst_limit (pos x -ℤ to) && is_offset from from_len src_limit (pos x -ℤ to))
-    points_meet x = same_from_decides _ _ (Decides-in dst x) (Decides-like _ (back x) (there x) (Decides-meets (pos x -ℤ to)))
+    pub points_meet : (x : ℕ) → lies_in dst x ≡ is_met x
+    points_meet x = same_from_decides _ _ (Decides-in dst x) (Decides-like _ (back x) (there x) (Decides-met x))
 
     -- each with the coordinate of the source at that offset
-    pub sources_meet : (x : ℕ) → lies_in dst x ≡ true → s + (x - d) ≡ natural (from +ℤ (pos x -ℤ to))
+    pub sources_meet : (x : ℕ) → lies_in dst x ≡ true → s + (x - d) ≡ natural (from +ℤ offset x)
     sources_meet x e =
         let h = (Decides-in dst x).0 e in let h0 : d ≤ x = h.0 in
-        let i : (from +ℤ (pos x -ℤ to)) ≡ pos (s + (x - d)) = omega (arith, ints, hd, hs, h0) in
+        let i : (from +ℤ offset x) ≡ pos (s + (x - d)) = omega (arith, ints, place, src_place, hd, hs, h0) in
         rw i refl
-
-    -- all of them in the destination, and those in the source
-    pub within : (d + (end - start) ≤ dst_limit) × (s + (end - start) ≤ src_limit)
-    within =
-        let m = meets (end - 1) (omega (arith, some)) (omega (arith, some)) in
-        let m0 : (to +ℤ pos (end - 1)) <ℤ pos dst_limit = m.0.1.1 in let m1 : (from +ℤ pos (end - 1)) <ℤ pos src_limit = m.1.1.1 in
-        (omega (arith, ints, hd, some, m0), omega (arith, ints, hs, some, m1))
 
 -- one axis of a rectangle in a raster, by its coordinates and by its offsets
 axis_is : (start : ℤ) (len limit : ℕ) (i : ℤ) → limit ≤ 2147483647

@@ -1,10 +1,11 @@
 -- Columns, rows and overlaps in rasters, as the code finds and walks them. No clause of a public
 -- call cites this file.
 use Rattle.std.proofs.Common.{zero, suc}
-use Rattle.std.specs.Prelude.{◌≡◌, ℕ, ◌+◌, ◌-◌, ◌*◌, ◌≤◌, min, max, true, pos, ℤ, ◌+ℤ◌, ◌-ℤ◌, Bool, ◌&&◌, if◌then◌else◌, List, [], ◌∷◌, drop, slice_range}
+use Rattle.std.specs.Prelude.{◌≡◌, ℕ, ◌+◌, ◌-◌, ◌*◌, ◌≤◌, min, max, true, pos, ℤ, ◌+ℤ◌, ◌-ℤ◌, Bool, ◌&&◌, not, int_lt, if◌then◌else◌, List, [], ◌∷◌, drop, slice_range}
+use Rattle.std.specs.Int.{int_min}
 use Rattle.std.specs.declared.ops.Range.{Range}
 use Rattle.pix_el.specs.Pixel.{lies_in}
-use Rattle.pix_raster.specs.Region.{Rectangle, has_row, whole}
+use Rattle.pix_raster.specs.Region.{Rectangle, limit, has_row, whole}
 use Rattle.pix_raster.specs.Reach.{is_below, is_paired, natural}
 use Rattle.pix_raster.specs.View.{picture}
 use Rattle.pix_raster.specs.declared.clip.AxisOverlap.{AxisOverlap}
@@ -19,6 +20,10 @@ in_box columns rows x y = lies_in columns x && lies_in rows y
 -- f of the point and of what stands there, where it lies in both ranges, and what stands elsewhere
 abbrev pub where_in : {X : Type 0} → (columns rows : Range ℕ) → (ℕ → ℕ → X → X) → ℕ → ℕ → X → X
 where_in columns rows f x y pixel = if in_box columns rows x y then f x y pixel else pixel
+
+-- whether the coordinate is one of so many from a start on, at most 2147483647
+abbrev pub is_between : (start : ℤ) → (len x : ℕ) → Bool
+is_between start len x = not (int_lt (pos x) start) && int_lt (pos x) (int_min (start +ℤ pos len) (pos limit))
 
 -- whether the offset is below the length, and leads from the start to one of the columns, or rows,
 -- of a raster that has `limit`

@@ -1,5 +1,5 @@
 -- The run of a list of commands at one point.
-use Rattle.std.specs.Prelude.{◌≡◌, ◌<◌, ◌⊎◌, ℕ, pos, Bool, true, false, List, [], ◌∷◌, ◌++◌, map, fold, replicate, if◌then◌else◌}
+use Rattle.std.specs.Prelude.{◌≡◌, ◌<◌, ◌⊎◌, ℕ, pos, List, [], ◌∷◌, ◌++◌, map, fold, replicate, if◌then◌else◌}
 use Rattle.std.specs.List.{zip}
 use Rattle.pix_ops.specs.declared.ops.Op.{Op}
 use Rattle.pix_ops.specs.declared.ops.Op.TheVariants.{Src}
@@ -68,13 +68,6 @@ op_of command = Src
 -- the same for one command that takes no mattes
 abbrev pub done_at : {P : Type 0} → Layout → (P → List ℕ) → Rectangle → Command P P → ℕ → ℕ → List ℕ → List ℕ
 done_at layout numbers dest command = run_at layout numbers numbers dest (command ∷ [])
-
--- whether a command composites through mattes, or at an opacity
-abbrev pub is_masked : {P M : Type 0} → Command P M → Bool
-is_masked (commands.Matte to src from clr op) = true
-is_masked (commands.RasterMatte to src from mask mask_from op) = true
-is_masked (commands.RasterAlpha to src from alpha op) = true
-is_masked command = false
 
 -- the two commands are disjoint: they reach no common point of the image
 abbrev pub AreDisjoint : {P M : Type 0} → (P → List ℕ) → (M → List ℕ) → Image P → Command P M → Command P M → Type 0

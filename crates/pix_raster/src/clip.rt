@@ -1,13 +1,14 @@
 //! Clipping: the points of a region that lie in a raster, and the overlap of two regions.
 //!
 //! Columns, rows and offsets are half-open ranges.
-ghost use Rattle.std.specs.Prelude.{◌≡◌, ℕ, pos, ◌+ℤ◌, ◌-ℤ◌, ◌≤ℤ◌, ◌+◌, ◌-◌, ◌*◌, ◌≤◌, ◌&&◌, true};
+ghost use Rattle.std.specs.Prelude.{◌≡◌, ℕ, pos, ◌+ℤ◌, ◌-ℤ◌, ◌≤ℤ◌, ◌+◌, ◌-◌, ◌*◌, ◌<◌, ◌≤◌, ◌&&◌, true};
 ghost use Rattle.pix_el.specs.Pixel.{lies_in};
 ghost use Rattle.pix_raster.specs.Region.{limit, right, bottom, has_column, has_row, covers, intersection_of, whole};
 ghost use Rattle.pix_raster.specs.Reach.{natural, is_paired};
-ghost use Rattle.pix_raster.specs.Clip.{in_box, is_offset, row_start, row_end, IsWithin};
+ghost use Rattle.pix_raster.specs.Clip.{in_box, is_between, is_offset, row_start, row_end, IsWithin};
 
 use crate::region::Region;
+use crate::view::Window;
 use std::ops::Range;
 
 /// The clipped rectangle of a region in a raster: the columns and rows of its points that lie
@@ -76,32 +77,55 @@ impl ClippedRect {
 }
 
 impl ClippedRect {
-    /// Returns the points of the rectangle that are neither left of a point nor above it. They are
-    /// given by their distances from its column and its row.
-    pub(crate) fn seen_from(self, left: u32, top: u32) -> ClippedRect
-        requires ordered { self.columns.start ≤ self.columns.end }
-        requires from_top { self.rows.start ≤ self.rows.end }
-        ensures right { result.columns.end ≡ self.columns.end - left }
-        ensures bottom { result.rows.end ≡ self.rows.end - top }
+    /// Returns the points of `reg`, a region of the picture, that lie in a window. They are given
+    /// by their distances from its first column and its first row.
+    #[inline(always)]
+    pub(crate) fn in_window(reg: Region, window: Window) -> ClippedRect
+        requires across { window.left + window.shape.width ≤ limit }
+        requires down { window.top + window.shape.height ≤ limit }
         ensures ordered { result.columns.start ≤ result.columns.end }
         ensures from_top { result.rows.start ≤ result.rows.end }
-        ensures points { (x y : ℕ) → in_box result.columns result.rows x y ≡
-            in_box self.columns self.rows (left + x) (top + y) }
+        ensures in_width { result.columns.end ≤ window.shape.width }
+        ensures in_height { result.rows.end ≤ window.shape.height }
+        ensures points { (x y : ℕ) → x < window.shape.width → y < window.shape.height →
+            in_box result.columns result.rows x y ≡
+            covers reg (pos (window.left + x)) (pos (window.top + y)) }
     {
+        let shape = window.shape;
         ClippedRect {
-            columns: seen(self.columns, left as usize),
-            rows: seen(self.rows, top as usize),
+            columns: axis_seen(reg.left(), reg.width(), window.left, shape.width),
+            rows: axis_seen(reg.top(), reg.height(), window.top, shape.height),
         }
     }
 }
 
-/// Returns the numbers of a range from `first` on, each less `first`.
-fn seen(range: Range<usize>, first: usize) -> Range<usize>
-    ensures start { result.start ≡ range.start - first }
-    ensures end { result.end ≡ range.end - first }
-    ensures points { (x : ℕ) → lies_in result x ≡ lies_in range (first + x) }
+/// The place of the first column, or row, of a window.
+const ORIGIN: usize = 4294967296;
+
+/// Returns the place of a coordinate as seen from `first`: its distance from there, counted from
+/// [`ORIGIN`]. So a place is never negative, and one comparison clips it.
+fn place(coordinate: i32, first: u32) -> usize
+    requires { first ≤ limit }
+    ensures { pos (first + result) ≡ coordinate +ℤ pos 4294967296 }
 {
-    range.start.saturating_sub(first)..range.end.saturating_sub(first)
+    (4294967296 + i64::from(coordinate) - i64::from(first)) as usize
+}
+
+/// Returns which of `count` columns, or rows, from `first` on are among the `len` from `start` on.
+/// They are given by their distances from `first`.
+fn axis_seen(start: i32, len: u32, first: u32, count: u32) -> Range<usize>
+    requires { first + count ≤ limit }
+    ensures ordered { result.start ≤ result.end }
+    ensures within { result.end ≤ count }
+    ensures points { (x : ℕ) → x < count → lies_in result x ≡ is_between start len (first + x) }
+{
+    let near = place(start, first);
+    let from = near.max(ORIGIN);
+    let to = (near + len as usize).min(ORIGIN + count as usize);
+    if to <= from {
+        return 0..0;
+    }
+    from - ORIGIN..to - ORIGIN
 }
 
 /// Returns the columns of a region. Condition: its left coordinate is at least 0.
@@ -149,122 +173,6 @@ pub(crate) fn row_places(reg: Region, width: u32, height: u32, y: i32) -> Range<
 }
 
 impl Overlap {
-    /// Returns the overlap of `to` in a destination of that width and height and `from` in a
-    /// source.
-    pub(crate) fn new(
-        to: Region,
-        width: u32,
-        height: u32,
-        from: Region,
-        src_width: u32,
-        src_height: u32,
-    ) -> Overlap
-        requires wide { width ≤ limit }
-        requires high { height ≤ limit }
-        requires src_wide { src_width ≤ limit }
-        requires src_high { src_height ≤ limit }
-        ensures ordered { result.columns.dst.start ≤ result.columns.dst.end }
-        ensures from_top { result.rows.dst.start ≤ result.rows.dst.end }
-        ensures in_width { result.columns.dst.end ≤ width }
-        ensures in_height { result.rows.dst.end ≤ height }
-        ensures in_src_width { result.columns.src_start
-            + (result.columns.dst.end - result.columns.dst.start) ≤ src_width }
-        ensures in_src_height { result.rows.src_start
-            + (result.rows.dst.end - result.rows.dst.start) ≤ src_height }
-        ensures points { (x y : ℕ) → in_box result.columns.dst result.rows.dst x y ≡
-            is_paired to (whole width height) from (whole src_width src_height)
-            (pos x -ℤ to.left) (pos y -ℤ to.top) }
-        ensures src_columns { (x : ℕ) → lies_in result.columns.dst x ≡ true →
-            result.columns.src_start + (x - result.columns.dst.start)
-            ≡ natural (from.left +ℤ (pos x -ℤ to.left)) }
-        ensures src_rows { (y : ℕ) → lies_in result.rows.dst y ≡ true →
-            result.rows.src_start + (y - result.rows.dst.start)
-            ≡ natural (from.top +ℤ (pos y -ℤ to.top)) }
-    {
-        Overlap {
-            columns: axis_overlap(
-                to.left(),
-                to.width(),
-                width,
-                from.left(),
-                from.width(),
-                src_width,
-            ),
-            rows: axis_overlap(
-                to.top(),
-                to.height(),
-                height,
-                from.top(),
-                from.height(),
-                src_height,
-            ),
-        }
-    }
-}
-
-impl Overlap {
-    /// Returns the points of the overlap that are neither left of a point of the destination nor
-    /// above it. They are given by their distances from its column and its row. Each keeps its
-    /// point of the source.
-    pub(crate) fn seen_from(self, left: u32, top: u32) -> Overlap
-        requires ordered { self.columns.dst.start ≤ self.columns.dst.end }
-        requires from_top { self.rows.dst.start ≤ self.rows.dst.end }
-        requires across { self.columns.src_start
-            + (self.columns.dst.end - self.columns.dst.start) ≤ limit }
-        requires down { self.rows.src_start
-            + (self.rows.dst.end - self.rows.dst.start) ≤ limit }
-        ensures right { result.columns.dst.end ≡ self.columns.dst.end - left }
-        ensures bottom { result.rows.dst.end ≡ self.rows.dst.end - top }
-        ensures ordered { result.columns.dst.start ≤ result.columns.dst.end }
-        ensures from_top { result.rows.dst.start ≤ result.rows.dst.end }
-        ensures in_src_width { result.columns.src_start
-            + (result.columns.dst.end - result.columns.dst.start)
-            ≤ self.columns.src_start + (self.columns.dst.end - self.columns.dst.start) }
-        ensures in_src_height { result.rows.src_start
-            + (result.rows.dst.end - result.rows.dst.start)
-            ≤ self.rows.src_start + (self.rows.dst.end - self.rows.dst.start) }
-        ensures columns { (x : ℕ) → lies_in result.columns.dst x ≡
-            lies_in self.columns.dst (left + x) }
-        ensures rows { (y : ℕ) → lies_in result.rows.dst y ≡ lies_in self.rows.dst (top + y) }
-        ensures src_columns { (x : ℕ) → lies_in result.columns.dst x ≡ true →
-            result.columns.src_start + (x - result.columns.dst.start)
-            ≡ self.columns.src_start + (left + x - self.columns.dst.start) }
-        ensures src_rows { (y : ℕ) → lies_in result.rows.dst y ≡ true →
-            result.rows.src_start + (y - result.rows.dst.start)
-            ≡ self.rows.src_start + (top + y - self.rows.dst.start) }
-    {
-        Overlap {
-            columns: self.columns.seen_from(left as usize),
-            rows: self.rows.seen_from(top as usize),
-        }
-    }
-}
-
-impl AxisOverlap {
-    /// Returns the overlap of the destination's columns, or rows, from `first` on, each less
-    /// `first`.
-    fn seen_from(self, first: usize) -> AxisOverlap
-        requires ordered { self.dst.start ≤ self.dst.end }
-        requires short { self.src_start + (self.dst.end - self.dst.start) ≤ limit }
-        ensures end { result.dst.end ≡ self.dst.end - first }
-        ensures ordered { result.dst.start ≤ result.dst.end }
-        ensures in_src { result.src_start + (result.dst.end - result.dst.start)
-            ≤ self.src_start + (self.dst.end - self.dst.start) }
-        ensures points { (x : ℕ) → lies_in result.dst x ≡ lies_in self.dst (first + x) }
-        ensures sources { (x : ℕ) → lies_in result.dst x ≡ true →
-            result.src_start + (x - result.dst.start)
-            ≡ self.src_start + (first + x - self.dst.start) }
-    {
-        let count = self.dst.end - self.dst.start;
-        let skipped = first.saturating_sub(self.dst.start).min(count);
-        AxisOverlap {
-            src_start: self.src_start + skipped,
-            dst: seen(self.dst, first),
-        }
-    }
-}
-
-impl Overlap {
     /// Returns the points that two overlaps share. Both are of the same region of one destination.
     /// Each point keeps its point of the source.
     pub(crate) fn within(&self, other: &Overlap) -> Overlap
@@ -305,54 +213,44 @@ impl AxisOverlap {
 }
 
 /// Returns the overlap along one axis: the columns, or rows, at the offsets that lie in both. The
-/// destination has `dst_limit` columns or rows, of which `to_len` from `to` on count. The source
-/// has `src_limit`, of which `from_len` from `from` on count.
-fn axis_overlap(
+/// window has `count` columns or rows from `first` on, and those of the destination are given by
+/// their distances from `first`. The region has `to_len` from `to` on. The source has `src_count`,
+/// of which `from_len` from `from` on count.
+pub(crate) fn axis_overlap(
     to: i32,
     to_len: u32,
-    dst_limit: u32,
+    first: u32,
+    count: u32,
     from: i32,
     from_len: u32,
-    src_limit: u32,
+    src_count: u32,
 ) -> AxisOverlap
+    requires { first + count ≤ limit }
     ensures ordered { result.dst.start ≤ result.dst.end }
-    ensures in_dst { result.dst.end ≤ dst_limit }
-    ensures in_src { result.src_start + (result.dst.end - result.dst.start) ≤ src_limit }
+    ensures in_dst { result.dst.end ≤ count }
+    ensures in_src { result.src_start + (result.dst.end - result.dst.start) ≤ src_count }
     ensures points { (x : ℕ) → lies_in result.dst x ≡
-        (is_offset to to_len dst_limit (pos x -ℤ to)
-        && is_offset from from_len src_limit (pos x -ℤ to)) }
+        (is_offset to to_len (first + count) (pos (first + x) -ℤ to)
+        && is_offset from from_len src_count (pos (first + x) -ℤ to)) }
     ensures sources { (x : ℕ) → lies_in result.dst x ≡ true →
-        result.src_start + (x - result.dst.start) ≡ natural (from +ℤ (pos x -ℤ to)) }
+        result.src_start + (x - result.dst.start) ≡ natural (from +ℤ (pos (first + x) -ℤ to)) }
 {
-    let to_offsets = offsets_in(to, to_len, dst_limit);
-    let from_offsets = offsets_in(from, from_len, src_limit);
-    let start = to_offsets.start.max(from_offsets.start);
-    let end = to_offsets.end.min(from_offsets.end);
+    let near = place(to, first);
+    let src_near = place(from, 0);
+    let start = ORIGIN.saturating_sub(near.min(src_near));
+    let there = (ORIGIN + count as usize).saturating_sub(near);
+    let src_there = (ORIGIN + src_count as usize).saturating_sub(src_near);
+    let end = (to_len.min(from_len) as usize).min(there).min(src_there);
     if end <= start {
         return AxisOverlap {
             dst: 0..0,
             src_start: 0,
         };
     }
-    let dst_start = coordinate(to, start);
+    let dst_start = near + start - ORIGIN;
     AxisOverlap {
         dst: dst_start..dst_start + (end - start),
-        src_start: coordinate(from, start),
-    }
-}
-
-/// Returns the offsets from `start`, below `len`, that lead to coordinates from 0 to `limit`,
-/// exclusive.
-fn offsets_in(start: i32, len: u32, limit: u32) -> Range<usize>
-    ensures offsets { (i : ℕ) → lies_in result i ≡ is_offset start len limit (pos i) }
-    ensures visible { pos 0 ≤ℤ (start +ℤ pos result.start) }
-    ensures short { result.end ≤ len }
-{
-    let distance = start.unsigned_abs() as usize;
-    if start < 0 {
-        distance..(len as usize).min(limit as usize + distance)
-    } else {
-        0..(len as usize).min((limit as usize).saturating_sub(distance))
+        src_start: src_near + start - ORIGIN,
     }
 }
 

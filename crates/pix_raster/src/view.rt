@@ -13,12 +13,10 @@ mod draw;
 mod masked;
 mod run;
 
-pub(crate) use draw::NoMattes;
 pub use draw::{Draw, ReadCommand};
 pub use masked::{Source, blit_masked};
 pub use pix_el::rows::{Blit, Fill, MaskedBlit};
 pub use run::Commands;
-pub(crate) use run::OnWindow;
 
 /// The size of an image in points, and how many pixels its rows lie apart.
 #[derive(Clone, Copy, Debug, PartialEq, Eq)]
@@ -113,6 +111,7 @@ pub fn fill_region<D, F: Fill<D>>(pixels: &mut [D], shape: Shape, reg: Region, c
 ///
 /// Condition: `window` and its shape are as the docs of their fields say, its rows lie in `pixels`,
 /// and the change suits the format.
+#[inline(always)]
 pub fn fill_window<D, F: Fill<D>>(pixels: &mut [D], window: Window, reg: Region, change: &F)
     requires can_fill { F.can_fill }
     requires fits { IsWindow window (length pixels.old) }
@@ -121,10 +120,7 @@ pub fn fill_window<D, F: Fill<D>>(pixels: &mut [D], window: Window, reg: Region,
 {
     let shape = window.shape;
     if shape.width > 0 {
-        let right = window.left + shape.width;
-        let bottom = window.top + shape.height;
-        let clipped = ClippedRect::new(reg, right, bottom);
-        let seen = clipped.seen_from(window.left, window.top);
+        let seen = ClippedRect::in_window(reg, window);
         for y in seen.rows.start..seen.rows.end {
             let start = y * shape.stride;
             change.fill(&mut pixels[start + seen.columns.start..start + seen.columns.end]);
@@ -168,6 +164,7 @@ pub fn blit_region<D, S, B: Blit<D, S>>(
 ///
 /// Condition: `window` and both shapes are as the docs of their fields say. The rows of the window
 /// lie in `pixels`, and those of the source in `src`. The change suits both formats.
+#[inline(always)]
 pub fn blit_window<D, S, B: Blit<D, S>>(
     pixels: &mut [D],
     window: Window,
@@ -260,9 +257,7 @@ pub fn points_in(window: Window, reg: Region) -> usize
     requires across { window.left + window.shape.width ≤ limit }
     requires down { window.top + window.shape.height ≤ limit }
 {
-    let right = window.left + window.shape.width;
-    let bottom = window.top + window.shape.height;
-    let there = ClippedRect::new(reg, right, bottom).seen_from(window.left, window.top);
+    let there = ClippedRect::in_window(reg, window);
     let columns = there.columns.end - there.columns.start;
     columns.saturating_mul(there.rows.end - there.rows.start)
 }

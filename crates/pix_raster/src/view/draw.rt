@@ -1,14 +1,11 @@
 //! Drawings: commands on images in memory without their operator, and what they are read from.
-ghost use Rattle.std.specs.Prelude.{◌≡◌, []};
-ghost use Rattle.pix_el.specs.PixelLaws.{fit_at};
+ghost use Rattle.std.specs.Prelude.{◌≡◌};
 ghost use Rattle.pix_raster.specs.declared.command.Command.{Command};
 ghost use Rattle.pix_raster.specs.Run.{op_of};
 ghost use Rattle.pix_raster.specs.Draw.{command_in, unplaced, IsSound};
 
 use super::Source;
 use crate::region::Region;
-use pix_chan::chan::Channel;
-use pix_el::stored::Coverage;
 use pix_ops::ops::Op;
 
 /// A command on images in memory, in which a pixel lies as a `D` and a matte as an `M`. Its
@@ -97,19 +94,4 @@ pub trait ReadCommand<D, M> {
         ensures same { command_in (op_of (command self.now)) result ≡
             unplaced (command self.now) }
         ensures sound { IsSound result };
-}
-
-/// The mattes of a drawing that takes none.
-#[derive(Clone, Copy)]
-pub(crate) struct NoMattes {}
-
-impl<C: Channel> Coverage<C> for NoMattes {
-    ghost numbers = { λ _. [] };
-
-    #[inline(always)]
-    fn coverage(&self) -> C {
-        C::MAX
-    }
-
-    ghost fits = { λ _ ch. fit_at C.max C.number [] ch C.numbered };
 }

@@ -7,7 +7,7 @@ ghost use Rattle.pix_raster.specs.View.{read_at, IsShaped, IsWindow, ChangedIn, 
 ghost use Rattle.pix_raster.specs.Clip.{where_in, IsOverlap};
 
 use super::{MaskedBlit, Shape, Window};
-use crate::clip::Overlap;
+use crate::clip::{Overlap, axis_overlap};
 use crate::region::Region;
 
 /// A region of an image in memory, from which a change takes its pixels or its mattes.
@@ -28,6 +28,7 @@ pub struct Source<'a, S> {
 /// Condition: `window` and the shapes are as the docs of their fields say. The rows of the window
 /// lie in `pixels`, and those of the source and of the mask in their own pixels. The change suits
 /// the formats.
+#[inline(always)]
 pub fn blit_masked<D, S, M, B: MaskedBlit<D, S, M>>(
     pixels: &mut [D],
     window: Window,
@@ -60,6 +61,7 @@ pub fn blit_masked<D, S, M, B: MaskedBlit<D, S, M>>(
 
 /// Returns the overlap of the region `to` of a picture and the region `from` of a source, as seen
 /// from a window.
+#[inline(always)]
 pub(super) fn overlap_in(window: Window, to: Region, from: Region, src: Shape) -> Overlap
     requires across { window.left + window.shape.width ≤ limit }
     requires down { window.top + window.shape.height ≤ limit }
@@ -67,15 +69,33 @@ pub(super) fn overlap_in(window: Window, to: Region, from: Region, src: Shape) -
     requires src_high { src.height ≤ limit }
     ensures { IsOverlap window to from src result }
 {
-    let right = window.left + window.shape.width;
-    let bottom = window.top + window.shape.height;
-    let overlap = Overlap::new(to, right, bottom, from, src.width, src.height);
-    overlap.seen_from(window.left, window.top)
+    let Window { left, top, shape } = window;
+    Overlap {
+        columns: axis_overlap(
+            to.left(),
+            to.width(),
+            left,
+            shape.width,
+            from.left(),
+            from.width(),
+            src.width,
+        ),
+        rows: axis_overlap(
+            to.top(),
+            to.height(),
+            top,
+            shape.height,
+            from.top(),
+            from.height(),
+            src.height,
+        ),
+    }
 }
 
 /// Changes the pixels of an overlap, in rows that lie `stride` pixels apart. Each is changed by its
 /// pixel of a source and its matte of a mask. The matte for the first pixel is at the column and
 /// row `mask_starts`.
+#[inline(always)]
 fn blit_rows<D, S, M, B: MaskedBlit<D, S, M>>(
     pixels: &mut [D],
     stride: usize,
@@ -114,18 +134,21 @@ fn blit_rows<D, S, M, B: MaskedBlit<D, S, M>>(
         (overlap.rows.src_start + (b - overlap.rows.dst.start))))
         x y (read_at B.reads stride pixels.old x y) }
 {
+    // Read once: for all that is known in the loop, writing a row could change both sources.
+    let (pixels_of_src, src_stride) = (src.pixels, src.shape.stride);
+    let (pixels_of_mask, mask_stride) = (mask.pixels, mask.shape.stride);
     let (mask_column, mask_row) = mask_starts;
     let count = overlap.columns.dst.end - overlap.columns.dst.start;
     for y in overlap.rows.dst.start..overlap.rows.dst.end {
         let start = y * stride + overlap.columns.dst.start;
         let src_y = overlap.rows.src_start + (y - overlap.rows.dst.start);
-        let src_start = src_y * src.shape.stride + overlap.columns.src_start;
+        let src_start = src_y * src_stride + overlap.columns.src_start;
         let mask_y = mask_row + (y - overlap.rows.dst.start);
-        let mask_start = mask_y * mask.shape.stride + mask_column;
+        let mask_start = mask_y * mask_stride + mask_column;
         change.blit(
             &mut pixels[start..start + count],
-            &src.pixels[src_start..src_start + count],
-            &mask.pixels[mask_start..mask_start + count],
+            &pixels_of_src[src_start..src_start + count],
+            &pixels_of_mask[mask_start..mask_start + count],
         );
     }
 }

@@ -2,7 +2,7 @@
 ghost use Rattle.std.specs.Prelude.{◌≡◌, ◌≤◌, ◌+◌, ◌∷◌, [], map, All};
 ghost use Rattle.pix_raster.specs.Region.{limit};
 ghost use Rattle.pix_raster.specs.View.{IsWindow, ChangedIn, picture, largest, in_window};
-ghost use Rattle.pix_raster.specs.Run.{run_at};
+ghost use Rattle.pix_raster.specs.Run.{run_at, op_of};
 ghost use Rattle.pix_raster.specs.Draw.{command_in, IsSound};
 
 use super::draw::{Draw, ReadCommand};
@@ -11,19 +11,20 @@ use crate::region::Region;
 use pix_chan::chan::{Linear, Premultiplied};
 use pix_el::el::Pixel;
 use pix_el::rows::{
-    CompositedColor, CompositedPixels, CopiedColor, CopiedPixels, FadedPixels, MattedColor,
-    MattedPixels,
+    ClearedPixels, CompositedColor, CompositedPixels, CopiedColor, CopiedPixels, FadedPixels,
+    MattedColor, MattedPixels,
 };
 use pix_el::stored::{Coverage, Stored};
 use pix_ops::ops::{Blend, SliceVisitor};
 use std::marker::PhantomData;
 
-/// A drawing on a window of a picture. Its pixels are of the format `P`.
+/// A command on a window of a picture, in which pixels are of the format `P` and a matte lies as an
+/// `M`. It is read when its operator is a type, so that the drawing never lies in memory.
 #[derive(Drop)]
-pub(crate) struct OnWindow<'a, P, D, M> {
-    pub(crate) draw: Draw<'a, D, M>,
-    pub(crate) window: Window,
-    pub(crate) format: PhantomData<P>,
+struct OnWindow<'a, P, M, C> {
+    command: &'a C,
+    window: Window,
+    formats: PhantomData<(P, M)>,
 }
 
 impl<
@@ -31,22 +32,24 @@ impl<
     P: Pixel<Alpha = Premultiplied, Gamma = Linear>,
     D: Stored<P>,
     M: Coverage<P::Chan>,
-> SliceVisitor<D> for OnWindow<'a, P, D, M> {
-    ghost can_visit = { λ it _ count. (P.layout.count ≡ P.layout.alpha + 1)
-        × IsWindow it.window count × IsSound it.draw };
+    C: ReadCommand<D, M>,
+> SliceVisitor<D> for OnWindow<'a, P, M, C> {
+    ghost can_visit = { λ it op count. (P.layout.count ≡ P.layout.alpha + 1)
+        × IsWindow it.window count × C.can_read it.command.now
+        × (op ≡ op_of (C.command it.command.now)) };
 
-    ghost visits = { λ it op old new. ChangedIn D.reads it.window.shape old new
+    ghost visits = { λ it _ old new. ChangedIn D.reads it.window.shape old new
         (in_window it.window (run_at P.layout D.reads M.numbers
-        (picture it.window) (command_in op it.draw ∷ []))) };
+        (picture it.window) (C.command it.command.now ∷ []))) };
 
     fn visit<O: Blend>(&self, pixels: &mut [D], op: O) {
         let window = self.window;
         let format = PhantomData;
-        match &self.draw {
+        let draw = self.command.read();
+        match &draw {
             Draw::Clear => {
-                let clr = D::store(&P::default());
                 let all = picture_of(window);
-                fill_window(pixels, window, all, &CopiedColor::<P, D> { clr, format });
+                fill_window(pixels, window, all, &ClearedPixels::<P> { format });
             }
             Draw::CopyColor { reg, clr } => {
                 let clr = **clr;
@@ -131,10 +134,11 @@ impl<
 
     fn paint(&self, pixels: &mut [D], window: Window) {
         for command in self.commands {
-            let there = OnWindow::<P, D, M> {
-                draw: command.read(),
+            let formats = PhantomData;
+            let there = OnWindow::<P, M, C> {
+                command,
                 window,
-                format: PhantomData,
+                formats,
             };
             command.op().visit_slice(&there, pixels);
         }

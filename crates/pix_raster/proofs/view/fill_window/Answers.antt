@@ -1,20 +1,16 @@
-use Rattle.std.proofs.Common.{◌≡◌, ◌≤◌, ◌<◌, ◌+◌, ◌*◌, ◌-◌, ℕ, length, map, [], pos, ◌∙◌, ap, cond, true, Bool, rules, arith}
-use Rattle.std.specs.Prelude.{◌&&◌}
-use Rattle.std.proofs.Math.Bool.{and-true}
-use Rattle.pix_raster.specs.Region.{covers, whole}
+use Rattle.std.proofs.Common.{◌≡◌, ◌≤◌, ◌<◌, ◌+◌, ◌*◌, ◌-◌, ℕ, length, map, [], ◌∙◌, ap, cond, Bool, rules, arith}
 use Rattle.pix_raster.specs.View.{read_at}
-use Rattle.pix_raster.specs.Clip.{in_box, where_in}
-use Rattle.pix_raster.proofs.Rectangles.{covers_whole, covers-intersection_of}
+use Rattle.pix_raster.specs.Clip.{where_in}
 use Rattle.pix_raster.proofs.Shaped.{changed_in_box}
 use Rattle.pix_raster.proofs.Zones.{Part, part_each, zoned-map, length-part, row-step}
 use Rattle.pix_raster.proofs.view.fill_window.Goals as goal
 
 pub offset_bounds-pixels-start : goal.offset_bounds-pixels-start
 offset_bounds-pixels-start g c =
-    let seen = c.seen_from-seen.result in
+    let seen = c.in_window-seen.result in
     let shape = c.args.window.shape in
-    let in_width : seen.columns.end ≤ shape.width = omega arith in
-    let in_height : seen.rows.end ≤ shape.height = omega arith in
+    let in_width : seen.columns.end ≤ shape.width = c.in_window-seen.ensures.in_width in
+    let in_height : seen.rows.end ≤ shape.height = c.in_window-seen.ensures.in_height in
     let row : c.loop-y.y * shape.stride + shape.width ≤ length c.args.pixels.now = c.requires.fits.shaped.last c.loop-y.y (omega arith) in
     let fits : c.loop-y.y * shape.stride + seen.columns.start ≤ length c.loop-y.pixels = omega arith in
     search rules
@@ -23,10 +19,10 @@ pub loop-y-preserved : goal.loop-y-preserved
 loop-y-preserved g c =
     let n = g.F.Fill.reads in
     let f = g.F.Fill.makes c.args.change.now in
-    let seen = c.seen_from-seen.result in
+    let seen = c.in_window-seen.result in
     let shape = c.args.window.shape in
-    let in_width : seen.columns.end ≤ shape.width = omega arith in
-    let in_height : seen.rows.end ≤ shape.height = omega arith in
+    let in_width : seen.columns.end ≤ shape.width = c.in_window-seen.ensures.in_width in
+    let in_height : seen.rows.end ≤ shape.height = c.in_window-seen.ensures.in_height in
     let row : c.loop-y.y * shape.stride + shape.width ≤ length c.args.pixels.now = c.requires.fits.shaped.last c.loop-y.y (omega arith) in
     let a : ℕ = c.loop-y.y * shape.stride + seen.columns.start in
     let k : ℕ = c.loop-y.y * shape.stride + seen.columns.end - a in
@@ -42,26 +38,12 @@ pub returns-after-loop-y : goal.returns-after-loop-y
 returns-after-loop-y g c =
     let n = g.F.Fill.reads in
     let f = g.F.Fill.makes c.args.change.now in
-    let window = c.args.window in
-    let shape = window.shape in
-    let left = window.left in
-    let top = window.top in
-    let right = left + shape.width in
-    let bottom = top + shape.height in
-    let fits = c.requires.fits in
-    let clipped = c.new-clipped.ensures in
-    let seen = c.seen_from-seen.ensures in
-    let columns = c.seen_from-seen.result.columns in
-    let rows = c.seen_from-seen.result.rows in
-    let in_width : columns.end ≤ shape.width = omega arith in
-    let in_height : rows.end ≤ shape.height = omega arith in
-    let e : c.loop-y.y ≡ rows.end = omega arith in
+    let shape = c.args.window.shape in
+    let seen = c.in_window-seen.ensures in
+    let columns = c.in_window-seen.result.columns in
+    let rows = c.in_window-seen.result.rows in
+    let e : c.loop-y.y ≡ rows.end = omega (arith, seen.from_top) in
     let done : (x y : ℕ) → x < shape.stride → read_at n shape.stride c.loop-y.pixels x y ≡ where_in columns rows (λ _ _. f) x y (read_at n shape.stride c.args.pixels.now x y) =
     rw e at c.loop-y.invariant.done in
-    changed_in_box n shape c.args.pixels.now c.loop-y.pixels columns rows (λ _ _. f) _ in_width in_height fits.shaped.apart (search rules) done
-    (λ x y pixel lx ly.
-    let all : covers (whole right bottom) (pos (left + x)) (pos (top + y)) ≡ true = covers_whole right bottom (left + x) (top + y) fits.across fits.down (omega arith) (omega arith) in
-    let reached : in_box columns rows x y ≡ covers c.args.reg (pos (left + x)) (pos (top + y)) =
-    seen.points x y ∙ clipped.points (left + x) (top + y) ∙ covers-intersection_of c.args.reg (whole right bottom) (pos (left + x)) (pos (top + y))
-    ∙ ap (λ (b : Bool). covers c.args.reg (pos (left + x)) (pos (top + y)) && b) all ∙ and-true _ in
-    ap (λ (b : Bool). cond b (f pixel) pixel) reached)
+    changed_in_box n shape c.args.pixels.now c.loop-y.pixels columns rows (λ _ _. f) _ seen.in_width seen.in_height c.requires.fits.shaped.apart (search rules) done
+    (λ x y pixel lx ly. ap (λ (b : Bool). cond b (f pixel) pixel) (seen.points x y lx ly))

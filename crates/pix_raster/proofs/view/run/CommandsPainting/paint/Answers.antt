@@ -1,12 +1,8 @@
-use Rattle.std.proofs.Common.{◌≡◌, ◌<◌, ◌+◌, ◌∷◌, [], length, map, drop, get_or, sym, ap, ◌∙◌, arith, refl, subst}
+use Rattle.std.proofs.Common.{◌≡◌, ◌<◌, ◌+◌, ◌∷◌, [], length, map, drop, get_or, sym, ap, ◌∙◌, arith}
 use Rattle.std.proofs.lemmas.List.{length-map, get_or-map, drop_all}
 use Rattle.pix_raster.specs.Region.{limit}
-use Rattle.pix_raster.specs.Run.{run_at, op_of}
+use Rattle.pix_raster.specs.Run.{run_at}
 use Rattle.pix_raster.specs.View.{read_at, ChangedIn, picture, in_window}
-use Rattle.pix_raster.specs.Draw.{unplaced, command_in}
-use Rattle.pix_raster.specs.declared.command.Command.{Command}
-use Rattle.pix_ops.specs.declared.ops.Op.{Op}
-use Rattle.pix_raster.proofs.Draws.{run_unplaced}
 use Rattle.pix_raster.proofs.Pictures.{run_in_picture}
 use Rattle.pix_raster.proofs.Steps.{run_more}
 use Rattle.pix_raster.proofs.view.run.CommandsPainting.paint.Goals as goal
@@ -27,13 +23,10 @@ loop-command-preserved g c =
     let within : i < length all = omega (arith, length-map commands flat, c.loop-command-test.true) in
     let is : flat item ≡ get_or all i (flat item) =
     sym (get_or-map flat commands i item (flat item) c.loop-command-test.true ∙ ap flat (sym c.command-item.is)) in
-    let told : command_in c.op.result c.read.result ≡ unplaced (flat item) =
-    ap (λ (o : Op). command_in o c.read.result) c.op.ensures ∙ c.read.ensures.same in
-    let done : ChangedIn n shape c.loop-command.pixels c.visit_slice.new.items (in_window window (run_at layout n m dest (unplaced (flat item) ∷ []))) =
-    subst (λ (k : Command g.row.D.Denot g.row.M.Denot). ChangedIn n shape c.loop-command.pixels c.visit_slice.new.items (in_window window (run_at layout n m dest (k ∷ [])))) told c.visit_slice.ensures in
+    let done : ChangedIn n shape c.loop-command.pixels c.visit_slice.new.items (in_window window (run_at layout n m dest (flat item ∷ []))) = c.visit_slice.ensures in
     record {
       rest = λ x y lx ly.
-          ap (run_at layout n m dest (drop (i + 1) all) (window.left + x) (window.top + y)) (done.points x y lx ly ∙ run_unplaced layout n m dest (flat item) (window.left + x) (window.top + y) (read_at n shape.stride c.loop-command.pixels x y))
+          ap (run_at layout n m dest (drop (i + 1) all) (window.left + x) (window.top + y)) (done.points x y lx ly)
           ∙ run_more layout n m dest all i (flat item) (window.left + x) (window.top + y) (read_at n shape.stride c.loop-command.pixels x y) within is
           ∙ c.loop-command.invariant.rest x y lx ly;
       stays = λ place none. done.stays place none ∙ c.loop-command.invariant.stays place none;
