@@ -2,7 +2,7 @@
 use Rattle.std.proofs.Common.{◌≡◌, ℕ, zero, suc, ◌+◌, ◌-◌, ◌≤◌, List, [], ◌∷◌, length, map, take, drop, min, refl, ap, sym, ◌∙◌, arith}
 use borrow.Rule.Slice.PartMut.{put_mid}
 use Rattle.std.specs.List.{zip}
-use Rattle.std.proofs.lemmas.List.{length-drop, take_all}
+use Rattle.std.proofs.lemmas.List.{length-drop, length-take, take_all}
 use Rattle.std.proofs.lemmas.Slice.Zip.{length-zip}
 use Rattle.pix_chan.specs.Product.{channel_product}
 use Rattle.pix_chan.specs.Runs.{over}
@@ -14,7 +14,7 @@ use Rattle.pix_el.proofs.FourPlanes.{four_of}
 use Rattle.pix_el.proofs.TwoPlanes.{two_of}
 use Rattle.pix_el.proofs.OnePlane.{one_of}
 use Rattle.pix_el.proofs.MattePlanes.{next_run}
-use Rattle.pix_el.proofs.Masked.{drop-zip}
+use Rattle.pix_el.proofs.Masked.{drop-zip, length-beside}
 
 -- what a run makes of one part of each element
 pub over-part : {A B C : Type 0} (part : A → B) (f : C → A → A) (g : C → B → B) → ((m : C) (x : A) → g m (part x) ≡ part (f m x)) → (ms : List C) (xs : List A)
@@ -95,3 +95,21 @@ next_beside {M = M} {P = P} {A = A} {B = B} {D = D} number value numbers f n r x
     (e ∙ ap made (sym all)) (omega (arith, long, h, i))
     (j ∙ ap (λ (l : List (B × D)). over f (take r l) (map number (take (length ws - n) (drop n ws)))) rest)
     ∙ ap (λ (l : List (B × D)). over f (take (n + r) l) (map number xs)) all
+
+-- the same where the slices from n on are the whole rest
+pub last_beside : {C M P A B D : Type 0} (number : C → A) (value : M → B) (numbers : P → D) (f : B × D → A → A) (n : ℕ) (xs ws new : List C) (ms : List M) (ss : List P)
+    → map number ws ≡ over f (take n (zip (map value ms) (map numbers ss))) (map number xs) → n ≤ length ms → n ≤ length ss
+    → map number new ≡ over f (zip (map value (take (length ms - n) (drop n ms))) (map numbers (take (length ss - n) (drop n ss)))) (map number (take (length ws - n) (drop n ws)))
+    → map number (put_mid n (length ws - n) ws new) ≡ over f (zip (map value ms) (map numbers ss)) (map number xs)
+last_beside {B = B} {D = D} number value numbers f n xs ws new ms ss e h i j =
+    let some = length ms - n in
+    let others = length ss - n in
+    let part = zip (map value (take some (drop n ms))) (map numbers (take others (drop n ss))) in
+    let beside = zip (map value ms) (map numbers ss) in
+    let at = map number (take (length ws - n) (drop n ws)) in
+    let r = length part in
+    let long : r ≡ min (length (take some (drop n ms))) (length (take others (drop n ss))) = length-beside value numbers (take some (drop n ms)) (take others (drop n ss)) in
+    let all : take r part ≡ part = take_all r part (omega arith) in
+    next_beside number value numbers f n r xs ws new ms ss e h i (j ∙ ap (λ (l : List (B × D)). over f l at) (sym all))
+    ∙ ap (λ (l : List (B × D)). over f l (map number xs))
+    (take_all (n + r) beside (omega (arith, h, i, long, length-beside value numbers ms ss, length-take some (drop n ms), length-drop n ms, length-take others (drop n ss), length-drop n ss)))

@@ -4,7 +4,7 @@ use Rattle.pix_ops.specs.declared.ops.Op.{Op}
 use Rattle.pix_chan.specs.Product.{channel_product}
 use Rattle.pix_chan.specs.Runs.{over}
 use Rattle.pix_chan.proofs.Sixteen.{whole16}
-use Rattle.pix_chan.proofs.Slices.{over-nil, map-put_mid, length-run}
+use Rattle.pix_chan.proofs.Slices.{over-nil, map-put_mid, length-run, over_color}
 use Rattle.std.proofs.lemmas.List.{append-nil, drop_all, length-drop, length-map, length-take, drop-map, take-map, take_all}
 use borrow.Rule.Slice.PartMut.{put_mid}
 use Rattle.std.specs.declared.ops.Range.{Range}
@@ -136,6 +136,19 @@ next_run {A = A} {B = B} number other f n r xs ws new ys e h i =
     ∙ ap (λ (l : List A). take n l ++ over f (take r (drop n (map other ys))) (drop n l)) e
     ∙ over_rest f n r (n + r) (map number xs) (map other ys) refl (omega (arith, h, length-map ys other))
 
+-- the same where the slice from n on is the whole rest
+pub last_run : {C D A B : Type 0} (number : C → A) (other : D → B) (f : B → A → A) (n : ℕ) (xs ws new : List C) (ys : List D)
+    → map number ws ≡ over f (take n (map other ys)) (map number xs) → n ≤ length ys
+    → map number new ≡ over f (map other (take (length ys - n) (drop n ys))) (map number (take (length ws - n) (drop n ws)))
+    → map number (put_mid n (length ws - n) ws new) ≡ over f (map other ys) (map number xs)
+last_run {B = B} number other f n xs ws new ys e h i =
+    let r = length ys - n in
+    let part = take r (drop n ys) in
+    let at = map number (take (length ws - n) (drop n ws)) in
+    let all : take r (map other part) ≡ map other part = take_all r (map other part) (omega (arith, length-map part other, length-take r (drop n ys), length-drop n ys)) in
+    next_run number other f n r xs ws new ys e h (i ∙ ap (λ (l : List B). over f l at) (sym all))
+    ∙ ap (λ (l : List B). over f l (map number xs)) (take_all (n + r) (map other ys) (omega (arith, h, length-map ys other)))
+
 -- one color again and again
 replicated : {C A : Type 0} (color : A) (xs : List C) → map (λ _. color) xs ≡ replicate (length xs) color
 replicated color [] = refl
@@ -157,3 +170,18 @@ next_color {B = B} number f n r xs ws new color e h i =
     (e ∙ ap (λ (l : List B). over f (take n l) at) (sym (replicated color xs))) h
     (i ∙ ap (λ (l : List B). over f (take r l) (map number rest)) (ap (λ (k : ℕ). replicate k color) long ∙ sym (replicated color own)))
     ∙ ap (λ (l : List B). over f (take (n + r) l) at) (replicated color xs)
+
+-- the same where the slice from n on is the whole rest
+pub last_color : {C A B : Type 0} (number : C → A) (f : B → A → A) (n : ℕ) (xs ws new : List C) (color : B)
+    → map number ws ≡ over f (take n (replicate (length xs) color)) (map number xs) → n ≤ length xs
+    → map number new ≡ map (f color) (map number (take (length ws - n) (drop n ws)))
+    → map number (put_mid n (length ws - n) ws new) ≡ map (f color) (map number xs)
+last_color {A = A} {B = B} number f n xs ws new color e h i =
+    let own = λ (x : A) (y : B). f y x in
+    let at = map number xs in
+    let rest = take (length ws - n) (drop n ws) in
+    let r = length rest in
+    let m = length xs in
+    let same : length ws ≡ m = sym (length-map ws number) ∙ ap length e ∙ length-run own at (take n (replicate m color)) ∙ length-map xs number in
+    next_color number f n r xs ws new color e h (i ∙ sym (over_color own r r color (map number rest) (omega (arith, length-map rest number)) (length-map rest number)))
+    ∙ over_color own (n + r) m color at (omega (arith, h, same, length-map xs number, length-take (length ws - n) (drop n ws), length-drop n ws)) (length-map xs number)

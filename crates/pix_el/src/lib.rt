@@ -13,6 +13,7 @@ pub mod light;
 pub mod matte;
 pub mod model;
 mod planes;
+mod rest;
 pub mod rgb;
 pub mod rows;
 pub mod stored;

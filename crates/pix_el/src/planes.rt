@@ -1,12 +1,13 @@
 //! Composites of pixels by runs of sixteen or thirty-two channels.
 //!
-//! Each way is a `Block`. Pixels of four channels without a hue go eight at a time and then four,
-//! interleaved as they are in memory. Pixels of four channels whose first is a hue go by planes:
-//! arrays of the same channel of sixteen pixels. So do pixels of two channels without a hue, and a
-//! color of 8 bits through sixteen mattes. A pixel of one channel is its own alpha, so mattes go as
-//! they are in memory. Pixels through mattes use the same blocks (`masked.rt`).
+//! Each way is a `Block`. Pixels of four channels without a hue go sixteen, eight and then four at
+//! a time, interleaved as they are in memory. Pixels of four channels whose first is a hue go by
+//! planes: arrays of the same channel of sixteen pixels. So do pixels of two channels without a
+//! hue, and a color of 8 bits through sixteen mattes. A pixel of one channel is its own alpha, so
+//! mattes go as they are in memory. Pixels through mattes use the same blocks (`masked.rt`).
 //!
-//! The changes of rows choose a block by the model (`rows.rt`). No contract there depends on it.
+//! The blocks are chosen by the model (`runs.rt`, `masked.rt`). No contract of `rows.rt` depends on
+//! it.
 ghost use Rattle.std.specs.Prelude.{◌≡◌, ◌≤◌, ◌+◌, ◌-◌, length, map, take, true};
 ghost use Rattle.pix_chan.specs.Runs.{over, triples};
 ghost use Rattle.pix_el.specs.Planes.{coverage_of, run_hue, run_first, matted_first};
@@ -34,6 +35,8 @@ pub(crate) mod half;
 pub(crate) mod interleaved;
 pub(crate) mod masked;
 pub(crate) mod one;
+pub(crate) mod pair;
+pub(crate) mod runs;
 pub(crate) mod two;
 pub(crate) mod unchanged;
 

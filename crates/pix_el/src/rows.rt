@@ -12,16 +12,11 @@ ghost use Rattle.pix_el.specs.PixelComposite.{pixel_composite, matted_composite,
 
 use crate::el::Pixel;
 use crate::filled::{clear_row, write_all};
-use crate::planes::block::{color_blocks, composite_blocks};
-use crate::planes::eight::Eight;
-use crate::planes::four::Four;
-use crate::planes::half::HalfTwo;
-use crate::planes::interleaved::Interleaved;
+use crate::planes::coverage_runs;
 use crate::planes::masked::{covered_runs, faded_runs};
-use crate::planes::one::One;
-use crate::planes::two::Two;
+use crate::planes::runs::{color_runs, pixel_runs};
 use crate::planes::unchanged::{clears, replaces};
-use crate::planes::{coverage_runs, has_four, has_one, has_two, is_interleaved};
+use crate::rest::{finish_color, finish_faded, finish_masked, finish_pixels, matte_pixel};
 use crate::stored::{Coverage, Stored, see_channels};
 use pix_chan::chan::{Linear, Premultiplied};
 use pix_ops::ops::Blend;
@@ -107,40 +102,6 @@ pub trait MaskedBlit<D, S, M> {
             (zip (map mask_reads mask.now) (map source_reads src.now)) (map reads row.old) };
 }
 
-/// Composites a pixel with one in memory. Condition: the format has an alpha channel.
-#[inline(always)]
-fn composite_pixel<O: Blend, P: Pixel<Alpha = Premultiplied, Gamma = Linear>, D: Stored<P>>(
-    dst: &mut D,
-    src: &P,
-    op: O,
-)
-    requires has_alpha { P.layout.count ≡ P.layout.alpha + 1 }
-    ensures { D.reads dst.new ≡
-        pixel_composite P.layout O.op (P.numbers src.now) (D.reads dst.old) }
-{
-    let mut pixel = dst.load();
-    pixel.composite_channels(src, op);
-    *dst = D::store(&pixel);
-}
-
-/// Composites a pixel through a matte value with one in memory. Condition: the format has an alpha
-/// channel.
-#[inline(always)]
-fn matte_pixel<O: Blend, P: Pixel<Alpha = Premultiplied, Gamma = Linear>, D: Stored<P>>(
-    dst: &mut D,
-    src: &P,
-    op: O,
-    alpha: P::Chan,
-)
-    requires has_alpha { P.layout.count ≡ P.layout.alpha + 1 }
-    ensures { D.reads dst.new ≡ matted_composite P.layout O.op (P.Chan.number alpha)
-        (P.numbers src.now) (D.reads dst.old) }
-{
-    let mut pixel = dst.load();
-    pixel.composite_channels_alpha(src, op, &alpha);
-    *dst = D::store(&pixel);
-}
-
 /// Copies a color.
 #[derive(Clone, Copy)]
 pub struct CopiedColor<P, D> {
@@ -206,35 +167,11 @@ impl<P: Pixel<Alpha = Premultiplied, Gamma = Linear>, D: Stored<P>, O: Blend> Fi
         } else if clears::<O, P>() {
             clear_row::<P, D>(row);
         } else {
-            self.composite(row);
-        }
-    }
-}
-
-impl<P: Pixel<Alpha = Premultiplied, Gamma = Linear>, O: Blend> CompositedColor<P, O> {
-    /// Composites the color with every pixel of a row. Condition: the format has an alpha channel.
-    #[inline(always)]
-    fn composite<D: Stored<P>>(&self, row: &mut [D])
-        requires has_alpha { P.layout.count ≡ P.layout.alpha + 1 }
-        ensures { map D.reads row.new ≡
-            map (pixel_composite P.layout O.op (P.numbers self.now.clr)) (map D.reads row.old) }
-    {
-        let clr = &self.clr;
-        let start = if is_interleaved::<P>() {
-            let start = color_blocks::<O, P, D, Eight>(row, clr);
-            start + color_blocks::<O, P, D, Interleaved>(&mut row[start..], clr)
-        } else if has_four::<P>() {
-            color_blocks::<O, P, D, Four>(row, clr)
-        } else if has_two::<P>() {
-            let start = color_blocks::<O, P, D, Two>(row, clr);
-            start + color_blocks::<O, P, D, HalfTwo>(&mut row[start..], clr)
-        } else if has_one::<P>() {
-            color_blocks::<O, P, D, One>(row, clr)
-        } else {
-            0
-        };
-        for i in start..row.len() {
-            composite_pixel::<O, P, D>(&mut row[i], clr, self.op);
+            let clr = &self.clr;
+            let start = color_runs::<O, P, D>(row, clr);
+            if start < row.len() {
+                finish_color::<O, P, D>(&mut row[start..], clr, self.op);
+            }
         }
     }
 }
@@ -281,45 +218,18 @@ impl<P: Pixel<Alpha = Premultiplied, Gamma = Linear>, D: Stored<P>, O: Blend> Bl
     ghost makes = { λ _. pixel_composite P.layout O.op };
 
     fn blit(&self, row: &mut [D], src: &[D]) {
+        let count = row.len().min(src.len());
         if replaces::<O, P>() && row.len() <= SHORT {
             see_channels::<P, D>(src);
             let format = self.format;
             CopiedPixels::<P> { format }.blit(row, src);
         } else if clears::<O, P>() {
-            let count = row.len().min(src.len());
             clear_row::<P, D>(&mut row[..count]);
         } else {
-            self.composite(row, src);
-        }
-    }
-}
-
-impl<P: Pixel<Alpha = Premultiplied, Gamma = Linear>, O: Blend> CompositedPixels<P, O> {
-    /// Composites pixels with those of a row. Condition: the format has an alpha channel.
-    #[inline(always)]
-    fn composite<D: Stored<P>, S: Stored<P>>(&self, row: &mut [D], src: &[S])
-        requires has_alpha { P.layout.count ≡ P.layout.alpha + 1 }
-        ensures { map D.reads row.new ≡
-            over (pixel_composite P.layout O.op) (map S.reads src.now) (map D.reads row.old) }
-    {
-        let count = row.len().min(src.len());
-        let start = if is_interleaved::<P>() {
-            let start = composite_blocks::<O, P, D, S, Eight>(row, src, count);
-            let (rest, sources) = (&mut row[start..], &src[start..]);
-            start + composite_blocks::<O, P, D, S, Interleaved>(rest, sources, count - start)
-        } else if has_four::<P>() {
-            composite_blocks::<O, P, D, S, Four>(row, src, count)
-        } else if has_two::<P>() {
-            let start = composite_blocks::<O, P, D, S, Two>(row, src, count);
-            let (rest, sources) = (&mut row[start..], &src[start..]);
-            start + composite_blocks::<O, P, D, S, HalfTwo>(rest, sources, count - start)
-        } else if has_one::<P>() {
-            composite_blocks::<O, P, D, S, One>(row, src, count)
-        } else {
-            0
-        };
-        for i in start..count {
-            composite_pixel::<O, P, D>(&mut row[i], &src[i].load(), self.op);
+            let start = pixel_runs::<O, P, D, D>(row, src, count);
+            if start < count {
+                finish_pixels::<O, P, D, D>(&mut row[start..], &src[start..], self.op);
+            }
         }
     }
 }
@@ -429,8 +339,9 @@ impl<P: Pixel<Alpha = Premultiplied, Gamma = Linear>, O: Blend> MattedPixels<P, 
     {
         let count = row.len().min(src.len()).min(mask.len());
         let start = covered_runs::<O, P, D, S, M>(row, src, mask, count);
-        for i in start..count {
-            matte_pixel::<O, P, D>(&mut row[i], &src[i].load(), self.op, mask[i].coverage());
+        if start < count {
+            let (rest, sources) = (&mut row[start..], &src[start..]);
+            finish_masked::<O, P, D, S, M>(rest, sources, &mask[start..], self.op);
         }
     }
 }
@@ -483,7 +394,7 @@ fn fade_row<O: Blend, P: Pixel<Alpha = Premultiplied, Gamma = Linear>, D: Stored
 {
     let count = row.len().min(src.len());
     let start = faded_runs::<O, P, D, S>(row, src, alpha, count);
-    for i in start..count {
-        matte_pixel::<O, P, D>(&mut row[i], &src[i].load(), op, alpha);
+    if start < count {
+        finish_faded::<O, P, D, S>(&mut row[start..], &src[start..], op, alpha);
     }
 }

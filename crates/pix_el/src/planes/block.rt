@@ -65,7 +65,8 @@ pub(crate) trait Block<P: Pixel> {
         requires mattes_size { length mattes.now ≡ SIZE }
         ensures { map D.reads dst.new ≡
             over (λ t. matted_composite P.layout O.op t.0 t.1)
-            (zip (map (coverage_of P.Chan.max M.numbers) mattes.now) (map S.reads src.now)) (map D.reads dst.old) };
+            (zip (map (coverage_of P.Chan.max M.numbers) mattes.now) (map S.reads src.now))
+            (map D.reads dst.old) };
 
     /// Composites the pixels of a block with those of another, each through the same matte value.
     fn faded<O: Blend, D: Stored<P>, S: Stored<P>>(dst: &mut [D], src: &[S], alpha: P::Chan)
@@ -199,7 +200,8 @@ pub(super) fn masked_blocks<
     requires mattes_have { count ≤ length mattes.now }
     ensures some { result ≤ count }
     ensures composite { map D.reads dst.new ≡ over (λ t. matted_composite P.layout O.op t.0 t.1)
-        (take result (zip (map (coverage_of P.Chan.max M.numbers) mattes.now) (map S.reads src.now)))
+        (take result
+        (zip (map (coverage_of P.Chan.max M.numbers) mattes.now) (map S.reads src.now)))
         (map D.reads dst.old) }
 {
     let size = B::SIZE;

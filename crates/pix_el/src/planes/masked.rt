@@ -15,6 +15,7 @@ use crate::planes::four::Four;
 use crate::planes::half::HalfTwo;
 use crate::planes::interleaved::{Interleaved, composite_four, four_pixels};
 use crate::planes::one::One;
+use crate::planes::pair::Pair;
 use crate::planes::two::Two;
 use crate::planes::{has_four, has_one, has_two, is_interleaved};
 use crate::stored::{Coverage, Stored};
@@ -66,7 +67,8 @@ pub(super) fn composite_covered<
     requires src_size { length src.now ≡ 4 }
     requires whole { length mattes.now ≡ 4 }
     ensures { map D.reads dst.new ≡ over (λ t. matted_composite P.layout O.op t.0 t.1)
-        (zip (map (coverage_of P.Chan.max M.numbers) mattes.now) (map S.reads src.now)) (map D.reads dst.old) }
+        (zip (map (coverage_of P.Chan.max M.numbers) mattes.now) (map S.reads src.now))
+        (map D.reads dst.old) }
 {
     let (a, b) = (mattes[0].coverage(), mattes[1].coverage());
     let (c, d) = (mattes[2].coverage(), mattes[3].coverage());
@@ -91,7 +93,8 @@ pub(super) fn composite_eight_covered<
     requires src_size { length src.now ≡ 8 }
     requires whole { length mattes.now ≡ 8 }
     ensures { map D.reads dst.new ≡ over (λ t. matted_composite P.layout O.op t.0 t.1)
-        (zip (map (coverage_of P.Chan.max M.numbers) mattes.now) (map S.reads src.now)) (map D.reads dst.old) }
+        (zip (map (coverage_of P.Chan.max M.numbers) mattes.now) (map S.reads src.now))
+        (map D.reads dst.old) }
 {
     let colors = covered::<P, 4>(eight_pixels::<P, S>(src), &eight_values(mattes));
     composite_eight::<O, P, D, 4>(dst, colors);
@@ -119,8 +122,8 @@ pub(super) fn composite_eight_faded<O: Blend, P: Pixel, D: Stored<P>, S: Stored<
     composite_eight::<O, P, D, 3>(dst, colors);
 }
 
-/// Composites as many of the first `count` pixels as go in blocks, each through the matte of the
-/// same index, and returns their number.
+/// Composites as many of the first `count` pixels as go in the largest blocks, each through the
+/// matte of the same index, and returns their number.
 ///
 /// Condition: the format has an alpha channel, and all three slices have `count` elements.
 #[inline(always)]
@@ -136,26 +139,16 @@ pub(crate) fn covered_runs<O: Blend, P: Pixel, D: Stored<P>, S: Stored<P>, M: Co
     requires mattes_have { count ≤ length mattes.now }
     ensures some { result ≤ count }
     ensures composite { map D.reads dst.new ≡ over (λ t. matted_composite P.layout O.op t.0 t.1)
-        (take result (zip (map (coverage_of P.Chan.max M.numbers) mattes.now) (map S.reads src.now)))
+        (take result
+        (zip (map (coverage_of P.Chan.max M.numbers) mattes.now) (map S.reads src.now)))
         (map D.reads dst.old) }
 {
     if is_interleaved::<P>() {
-        let start = masked_blocks::<O, P, D, S, M, Eight>(dst, src, mattes, count);
-        let (rest, sources) = (&mut dst[start..], &src[start..]);
-        start
-            + masked_blocks::<O, P, D, S, M, Interleaved>(
-                rest,
-                sources,
-                &mattes[start..],
-                count - start,
-            )
+        masked_blocks::<O, P, D, S, M, Pair>(dst, src, mattes, count)
     } else if has_four::<P>() {
         masked_blocks::<O, P, D, S, M, Four>(dst, src, mattes, count)
     } else if has_two::<P>() {
-        let start = masked_blocks::<O, P, D, S, M, Two>(dst, src, mattes, count);
-        let (rest, sources) = (&mut dst[start..], &src[start..]);
-        let (mattes, count) = (&mattes[start..], count - start);
-        start + masked_blocks::<O, P, D, S, M, HalfTwo>(rest, sources, mattes, count)
+        masked_blocks::<O, P, D, S, M, Two>(dst, src, mattes, count)
     } else if has_one::<P>() {
         masked_blocks::<O, P, D, S, M, One>(dst, src, mattes, count)
     } else {
@@ -163,8 +156,8 @@ pub(crate) fn covered_runs<O: Blend, P: Pixel, D: Stored<P>, S: Stored<P>, M: Co
     }
 }
 
-/// Composites as many of the first `count` pixels as go in blocks, each through the same matte
-/// value, and returns their number.
+/// Composites as many of the first `count` pixels as go in the largest blocks, each through the
+/// same matte value, and returns their number.
 ///
 /// Condition: the format has an alpha channel, and both slices have `count` pixels.
 #[inline(always)]
@@ -183,17 +176,76 @@ pub(crate) fn faded_runs<O: Blend, P: Pixel, D: Stored<P>, S: Stored<P>>(
         (take result (map S.reads src.now)) (map D.reads dst.old) }
 {
     if is_interleaved::<P>() {
-        let start = faded_blocks::<O, P, D, S, Eight>(dst, src, alpha, count);
-        let (rest, sources) = (&mut dst[start..], &src[start..]);
-        start + faded_blocks::<O, P, D, S, Interleaved>(rest, sources, alpha, count - start)
+        faded_blocks::<O, P, D, S, Pair>(dst, src, alpha, count)
     } else if has_four::<P>() {
         faded_blocks::<O, P, D, S, Four>(dst, src, alpha, count)
     } else if has_two::<P>() {
-        let start = faded_blocks::<O, P, D, S, Two>(dst, src, alpha, count);
-        let (rest, sources) = (&mut dst[start..], &src[start..]);
-        start + faded_blocks::<O, P, D, S, HalfTwo>(rest, sources, alpha, count - start)
+        faded_blocks::<O, P, D, S, Two>(dst, src, alpha, count)
     } else if has_one::<P>() {
         faded_blocks::<O, P, D, S, One>(dst, src, alpha, count)
+    } else {
+        0
+    }
+}
+
+/// Composites as many of the first `count` pixels as go in the blocks that follow the largest, each
+/// through the matte of the same index, and returns their number.
+///
+/// Condition: the format has an alpha channel, and all three slices have `count` elements.
+#[inline(always)]
+pub(crate) fn covered_rest<O: Blend, P: Pixel, D: Stored<P>, S: Stored<P>, M: Coverage<P::Chan>>(
+    dst: &mut [D],
+    src: &[S],
+    mattes: &[M],
+    count: usize,
+) -> usize
+    requires has_alpha { P.layout.count ≡ P.layout.alpha + 1 }
+    requires dst_has { count ≤ length dst.old }
+    requires src_has { count ≤ length src.now }
+    requires mattes_have { count ≤ length mattes.now }
+    ensures some { result ≤ count }
+    ensures composite { map D.reads dst.new ≡ over (λ t. matted_composite P.layout O.op t.0 t.1)
+        (take result
+        (zip (map (coverage_of P.Chan.max M.numbers) mattes.now) (map S.reads src.now)))
+        (map D.reads dst.old) }
+{
+    if is_interleaved::<P>() {
+        let start = masked_blocks::<O, P, D, S, M, Eight>(dst, src, mattes, count);
+        let (rest, sources) = (&mut dst[start..], &src[start..]);
+        let (mattes, count) = (&mattes[start..], count - start);
+        start + masked_blocks::<O, P, D, S, M, Interleaved>(rest, sources, mattes, count)
+    } else if has_two::<P>() {
+        masked_blocks::<O, P, D, S, M, HalfTwo>(dst, src, mattes, count)
+    } else {
+        0
+    }
+}
+
+/// Composites as many of the first `count` pixels as go in the blocks that follow the largest, each
+/// through the same matte value, and returns their number.
+///
+/// Condition: the format has an alpha channel, and both slices have `count` pixels.
+#[inline(always)]
+pub(crate) fn faded_rest<O: Blend, P: Pixel, D: Stored<P>, S: Stored<P>>(
+    dst: &mut [D],
+    src: &[S],
+    alpha: P::Chan,
+    count: usize,
+) -> usize
+    requires has_alpha { P.layout.count ≡ P.layout.alpha + 1 }
+    requires dst_has { count ≤ length dst.old }
+    requires src_has { count ≤ length src.now }
+    ensures some { result ≤ count }
+    ensures composite { map D.reads dst.new ≡
+        over (matted_composite P.layout O.op (P.Chan.number alpha))
+        (take result (map S.reads src.now)) (map D.reads dst.old) }
+{
+    if is_interleaved::<P>() {
+        let start = faded_blocks::<O, P, D, S, Eight>(dst, src, alpha, count);
+        let (rest, sources) = (&mut dst[start..], &src[start..]);
+        start + faded_blocks::<O, P, D, S, Interleaved>(rest, sources, alpha, count - start)
+    } else if has_two::<P>() {
+        faded_blocks::<O, P, D, S, HalfTwo>(dst, src, alpha, count)
     } else {
         0
     }

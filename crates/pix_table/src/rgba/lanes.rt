@@ -102,8 +102,8 @@ impl SeenLanes {
         red + green + blue < CLOSE
     }
 
-    /// Returns what [`SeenLanes::nearest`] does. Blocks are passed by where the entry of an index is
-    /// close to the color, since few are near then.
+    /// Returns what [`SeenLanes::nearest`] does. Blocks are passed by where the entry of an index
+    /// is close to the color, since few are near then.
     #[inline(always)]
     pub(crate) fn nearest_if_close(&self, ends: &BlockEnds, clr: Seen, near: u8) -> u8
         requires seen { AreSeen (seen_numbers clr) }

@@ -1,7 +1,8 @@
--- Of `CompositedColorFill::fill`: the rows that an operator replaces, or makes clear.
-use Rattle.std.proofs.Common.{◌≡◌, ◌∙◌, ℕ, List, length, map, ap, sym, refl}
+use Rattle.std.proofs.Common.{◌≡◌, ◌∙◌, ℕ, List, length, map, ap, sym, refl, arith}
 use Rattle.std.proofs.lemmas.List.{length-map}
 use Rattle.pix_el.specs.PixelComposite.{pixel_composite}
+use Rattle.pix_chan.proofs.Slices.{over_color}
+use Rattle.pix_el.proofs.MattePlanes.{last_color}
 use Rattle.pix_el.proofs.Replaced.{one_for_each}
 use Rattle.pix_el.proofs.rows.CompositedColorFill.fill.Goals as goal
 
@@ -24,3 +25,18 @@ returns-then-clears g c =
     let n = g.D.Stored.reads in
     let color = g.P.Pixel.numbers c.args.self.now.clr in
     c.clear_row.ensures ∙ one_for_each _ (pixel_composite g.P.Pixel.layout g.O.Blend.op color) (map n c.args.row.now) (c.if-clears.ensures refl color)
+
+pub returns-then-start-row : goal.returns-then-start-row
+returns-then-start-row g c =
+    let first = c.color_runs-start in
+    let rest = c.finish_color in
+    last_color g.D.Stored.reads (pixel_composite g.P.Pixel.layout g.O.Blend.op) first.result c.args.row.now first.new.dst rest.new.row (g.P.Pixel.numbers c.args.self.now.clr) first.ensures.composite (omega arith) rest.ensures
+
+pub returns-else-start-row : goal.returns-else-start-row
+returns-else-start-row g c =
+    let n = g.D.Stored.reads in
+    let first = c.color_runs-start in
+    let f = λ (d s : List ℕ). pixel_composite g.P.Pixel.layout g.O.Blend.op s d in
+    let row = c.args.row.now in
+    first.ensures.composite
+    ∙ over_color f first.result (length row) (g.P.Pixel.numbers c.args.self.now.clr) (map n row) (omega (arith, length-map row n)) (omega (arith, length-map row n))

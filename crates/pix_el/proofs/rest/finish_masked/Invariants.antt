@@ -1,9 +1,9 @@
--- What holds at each turn of the loop over `i` in `MattedPixels::composite`.
+-- What holds at each turn of the loop over `i` in `finish_masked`.
 use Rattle.std.proofs.Common.{◌≡◌, take, map}
 use Rattle.std.specs.List.{zip}
 use Rattle.pix_chan.specs.Runs.{over}
 use Rattle.pix_el.specs.PixelComposite.{matted_composite, matte_value}
-use Rattle.pix_el.proofs.rows.MattedPixels.composite.Given as goal
+use Rattle.pix_el.proofs.rest.finish_masked.Given as goal
 
 -- the pixels below the index are composited
 abbrev pub invariant-loop-i : goal.invariant-loop-i

@@ -1,8 +1,8 @@
--- What holds at each turn of the loop over `i` in `CompositedPixels::composite`.
+-- What holds at each turn of the loop over `i` in `finish_pixels`.
 use Rattle.std.proofs.Common.{◌≡◌, take, map}
 use Rattle.pix_chan.specs.Runs.{over}
 use Rattle.pix_el.specs.PixelComposite.{pixel_composite}
-use Rattle.pix_el.proofs.rows.CompositedPixels.composite.Given as goal
+use Rattle.pix_el.proofs.rest.finish_pixels.Given as goal
 
 -- the pixels below the index are composited
 abbrev pub invariant-loop-i : goal.invariant-loop-i

@@ -1,11 +1,11 @@
--- What holds at each turn of the loop over `i` in `CompositedColor::composite`.
+-- What holds at each turn of the loop over `i` in `finish_color`.
 use Rattle.std.proofs.Common.{◌≡◌, take, map, replicate, length}
 use Rattle.pix_chan.specs.Runs.{over}
 use Rattle.pix_el.specs.PixelComposite.{pixel_composite}
-use Rattle.pix_el.proofs.rows.CompositedColor.composite.Given as goal
+use Rattle.pix_el.proofs.rest.finish_color.Given as goal
 
 -- the pixels below the index are composited
 abbrev pub invariant-loop-i : goal.invariant-loop-i
 invariant-loop-i g l =
     let n = g.D.Stored.reads in
-    map n l.row ≡ over (pixel_composite g.P.Pixel.layout g.O.Blend.op) (take l.i (replicate (length l.fn.row) (g.P.Pixel.numbers l.self.clr))) (map n l.fn.row)
+    map n l.row ≡ over (pixel_composite g.P.Pixel.layout g.O.Blend.op) (take l.i (replicate (length l.fn.row) (g.P.Pixel.numbers l.clr))) (map n l.fn.row)

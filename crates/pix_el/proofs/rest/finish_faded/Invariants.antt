@@ -1,8 +1,8 @@
--- What holds at each turn of the loop over `i` in `fade_row`.
+-- What holds at each turn of the loop over `i` in `finish_faded`.
 use Rattle.std.proofs.Common.{◌≡◌, take, map}
 use Rattle.pix_chan.specs.Runs.{over}
 use Rattle.pix_el.specs.PixelComposite.{matted_composite}
-use Rattle.pix_el.proofs.rows.fade_row.Given as goal
+use Rattle.pix_el.proofs.rest.finish_faded.Given as goal
 
 -- the pixels below the index are composited
 abbrev pub invariant-loop-i : goal.invariant-loop-i

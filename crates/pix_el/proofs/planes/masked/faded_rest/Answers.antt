@@ -1,0 +1,16 @@
+-- Of `faded_rest`: the clause `composite`.
+use Rattle.std.proofs.Common.{sym, arith, map}
+use Rattle.pix_chan.proofs.Slices.{over-nil}
+use Rattle.pix_el.specs.PixelComposite.{matted_composite}
+use Rattle.pix_el.proofs.MattePlanes.{next_run}
+use Rattle.pix_el.proofs.planes.masked.faded_rest.Goals as goal
+
+pub returns-then-is_interleaved-clause-composite : goal.returns-then-is_interleaved-clause-composite
+returns-then-is_interleaved-clause-composite g c =
+    let first = c.faded_blocks-start in
+    let second = c.faded_blocks in
+    next_run g.D.Stored.reads g.S.Stored.reads (matted_composite g.P.Pixel.layout g.O.Blend.op (g.P.Chan.Channel.number c.args.alpha)) first.result second.result c.args.dst.now first.new.dst second.new.dst c.args.src.now
+    first.ensures.composite (omega arith) second.ensures.composite
+
+pub returns-else-has_two-clause-composite : goal.returns-else-has_two-clause-composite
+returns-else-has_two-clause-composite g c = sym (over-nil _ (map g.D.Stored.reads c.args.dst.now))

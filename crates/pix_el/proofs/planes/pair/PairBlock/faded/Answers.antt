@@ -1,0 +1,13 @@
+use Rattle.std.proofs.Common.{◌∙◌, arith, map, take, drop}
+use Rattle.std.proofs.lemmas.List.{length-map, length-take-le}
+use Rattle.pix_el.specs.PixelComposite.{matted_composite}
+use Rattle.pix_el.proofs.Halves.{halves_made, map-halves}
+use Rattle.pix_el.proofs.planes.pair.PairBlock.faded.Goals as goal
+
+pub returns : goal.returns
+returns g c =
+    let n = g.S.Stored.reads in
+    let src = c.args.src.now in
+    halves_made g.D.Stored.reads (matted_composite g.P.Pixel.layout g.O.Blend.op (g.P.Chan.Channel.number c.args.alpha)) 8 (map n (take 8 src)) (map n (take 8 (drop 8 src))) (map n src) c.args.dst.now c.faded.new.dst c.faded-2.new.dst
+    c.requires.size (length-map (take 8 src) n ∙ length-take-le 8 src (omega (arith, c.requires.src_size))) (map-halves n 8 src c.requires.src_size)
+    c.faded.ensures c.faded-2.ensures

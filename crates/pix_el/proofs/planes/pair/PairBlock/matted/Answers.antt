@@ -1,0 +1,14 @@
+use Rattle.std.proofs.Common.{◌∙◌, arith, map, take, drop}
+use Rattle.std.proofs.lemmas.List.{length-map, length-take-le}
+use Rattle.pix_el.specs.PixelComposite.{matted_composite}
+use Rattle.pix_el.specs.Planes.{coverage_of}
+use Rattle.pix_el.proofs.Halves.{halves_made, map-halves}
+use Rattle.pix_el.proofs.planes.pair.PairBlock.matted.Goals as goal
+
+pub returns : goal.returns
+returns g c =
+    let n = coverage_of g.P.Chan.Channel.max g.M.Coverage.numbers in
+    let src = c.args.src.now in
+    halves_made g.D.Stored.reads (λ m. matted_composite g.P.Pixel.layout g.O.Blend.op m (g.P.Pixel.numbers c.args.clr.now)) 8 (map n (take 8 src)) (map n (take 8 (drop 8 src))) (map n src) c.args.dst.now c.matted.new.dst c.matted-2.new.dst
+    c.requires.size (length-map (take 8 src) n ∙ length-take-le 8 src (omega (arith, c.requires.src_size))) (map-halves n 8 src c.requires.src_size)
+    c.matted.ensures c.matted-2.ensures
