@@ -184,10 +184,12 @@ impl<P: Pixel<Alpha = Premultiplied, Gamma = Linear>> Raster<P> {
         ensures { Changed P.numbers self.old self.new (run_at P.layout P.numbers M.numbers
             (region_of self.old) (command_in O.op single.now.draw ∷ [])) }
     {
+        let window = self.window();
+        let formats = PhantomData;
         let there = OnWindow::<P, M, Single<'_, P, M, O>> {
             command: single,
-            window: self.window(),
-            formats: PhantomData,
+            window,
+            formats,
         };
         there.visit(&mut self.pixels, op);
     }
