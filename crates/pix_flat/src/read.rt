@@ -16,7 +16,7 @@ use crate::operator::op_at;
 use crate::size::LIMIT;
 use pix_ops::ops::Op;
 use pix_raster::Region;
-use pix_raster::view::{Draw, ReadCommand, Shape, Source};
+use pix_raster::view::{Draw, ReadCommand, ReadDraw, Shape, Source};
 
 /// Returns the region of the library. Condition: its sides are within the limit.
 #[inline(always)]
@@ -130,20 +130,10 @@ fn draw_of<'a, D, M>(c: &FlatCommand<'a, D, M>, clr: &'a D, alpha: &'a M) -> Dra
     }
 }
 
-impl<'a> ReadCommand<PixRgba8, u8> for PixCommand<'a> {
+impl<'a> ReadDraw<PixRgba8, u8> for PixCommand<'a> {
     ghost command = { λ c. command_of (rgba8_command c) };
 
     ghost can_read = { λ c. fault_of (rgba8_command c) ≡ 0 };
-
-    #[inline(always)]
-    fn op(&self) -> Op {
-        operator_of(self.kind, self.op)
-    }
-
-    #[inline(always)]
-    fn reach(&self) -> Region {
-        reach_of(self.kind, self.to)
-    }
 
     #[inline(always)]
     fn read(&self) -> Draw<'_, PixRgba8, u8> {
@@ -151,11 +141,7 @@ impl<'a> ReadCommand<PixRgba8, u8> for PixCommand<'a> {
     }
 }
 
-impl<'a> ReadCommand<PixRgba16, u16> for PixCommandRgba16<'a> {
-    ghost command = { λ c. command_of (rgba16_command c) };
-
-    ghost can_read = { λ c. fault_of (rgba16_command c) ≡ 0 };
-
+impl<'a> ReadCommand<PixRgba8, u8> for PixCommand<'a> {
     #[inline(always)]
     fn op(&self) -> Op {
         operator_of(self.kind, self.op)
@@ -165,6 +151,12 @@ impl<'a> ReadCommand<PixRgba16, u16> for PixCommandRgba16<'a> {
     fn reach(&self) -> Region {
         reach_of(self.kind, self.to)
     }
+}
+
+impl<'a> ReadDraw<PixRgba16, u16> for PixCommandRgba16<'a> {
+    ghost command = { λ c. command_of (rgba16_command c) };
+
+    ghost can_read = { λ c. fault_of (rgba16_command c) ≡ 0 };
 
     #[inline(always)]
     fn read(&self) -> Draw<'_, PixRgba16, u16> {
@@ -172,11 +164,7 @@ impl<'a> ReadCommand<PixRgba16, u16> for PixCommandRgba16<'a> {
     }
 }
 
-impl<'a> ReadCommand<PixGraya8, u8> for PixCommandGraya8<'a> {
-    ghost command = { λ c. command_of (graya8_command c) };
-
-    ghost can_read = { λ c. fault_of (graya8_command c) ≡ 0 };
-
+impl<'a> ReadCommand<PixRgba16, u16> for PixCommandRgba16<'a> {
     #[inline(always)]
     fn op(&self) -> Op {
         operator_of(self.kind, self.op)
@@ -186,9 +174,27 @@ impl<'a> ReadCommand<PixGraya8, u8> for PixCommandGraya8<'a> {
     fn reach(&self) -> Region {
         reach_of(self.kind, self.to)
     }
+}
+
+impl<'a> ReadDraw<PixGraya8, u8> for PixCommandGraya8<'a> {
+    ghost command = { λ c. command_of (graya8_command c) };
+
+    ghost can_read = { λ c. fault_of (graya8_command c) ≡ 0 };
 
     #[inline(always)]
     fn read(&self) -> Draw<'_, PixGraya8, u8> {
         draw_of(&self.flat(), &self.color, &self.alpha)
+    }
+}
+
+impl<'a> ReadCommand<PixGraya8, u8> for PixCommandGraya8<'a> {
+    #[inline(always)]
+    fn op(&self) -> Op {
+        operator_of(self.kind, self.op)
+    }
+
+    #[inline(always)]
+    fn reach(&self) -> Region {
+        reach_of(self.kind, self.to)
     }
 }

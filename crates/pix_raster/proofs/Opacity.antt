@@ -20,10 +20,11 @@ use Rattle.pix_raster.specs.Image.{Image, Changed, point, region_of}
 use Rattle.pix_raster.specs.Reach.{is_paired, natural, from_pair}
 use Rattle.pix_raster.specs.View.{where_masked, where_paired}
 use Rattle.pix_raster.specs.Run.{Effect, Matted, apply, run_at}
+use Rattle.pix_raster.specs.declared.command.Command.{Command}
 use Rattle.pix_raster.specs.declared.command.Command.TheVariants as commands
 use Rattle.pix_raster.specs.Stays.{is_one_at_none, keeps_under}
 use Rattle.pix_raster.proofs.Masked.{paired_below}
-use Rattle.pix_raster.proofs.Steps.{from_pair_effect}
+use Rattle.pix_raster.proofs.Steps.{from_pair_effect, masked_effect}
 
 -- two lists made channel by channel, each channel alike
 made_alike : (count : ℕ) (f g : ℕ → ℕ) → ((ch : ℕ) → ch < count → f ch ≡ g ch) → map f (range_with_len 0 count) ≡ map g (range_with_len 0 count)
@@ -145,7 +146,20 @@ changed_by_one layout n s m old new to from src mask_from mask f effect matte ch
       one (natural (mask_from.left +ℤ i)) (natural (mask_from.top +ℤ j)) below.0 below.1) is;
 }
 
--- the run of a composite at an opacity is a change of the points that are paired
+-- the run of a composite through a mask is a change of the points that are paired
+pub masked_change : {P M : Type 0} (layout : Layout) (n : P → List ℕ) (m : M → List ℕ) (old new : Image P) (to from : Rectangle) (src : Bor (Image P)) (mask_from : Rectangle) (mask : Bor (Image M)) (op : Op)
+    → Changed n old new (run_at layout n m (region_of old) (commands.RasterMatte to src from mask mask_from op ∷ []))
+    → Changed n old new (where_masked to (region_of old) from (region_of src.now) mask_from (region_of mask.now) (point n src.now) (point m mask.now) (λ t. matted_composite layout op (matte_value layout t)))
+masked_change layout n m old new to from src mask_from mask op ran = record {
+  same_width = ran.same_width;
+  same_height = ran.same_height;
+  points = λ x y lx ly.
+      ran.points x y lx ly
+      ∙ sym (masked_effect layout to (region_of old) from (region_of src.now) mask_from (region_of mask.now) (point n src.now) (point m mask.now) (λ t. matted_composite layout op (matte_value layout t))
+      (Matted op) x y (point n old x y) (λ t s p. refl));
+}
+
+-- so is that of a composite at an opacity
 pub faded_change : {P M : Type 0} (layout : Layout) (n : P → List ℕ) (m : M → List ℕ) (old new : Image P) (to from : Rectangle) (src : Bor (Image P)) (alpha : M) (op : Op)
     → Changed n old new (run_at layout n m (region_of old) (commands.RasterAlpha to src from alpha op ∷ []))
     → Changed n old new (where_paired to (region_of old) from (region_of src.now) (point n src.now) (matted_composite layout op (matte_value layout (m alpha))))

@@ -3,7 +3,7 @@ ghost use Rattle.std.specs.Prelude.{⊤};
 
 use crate::raster::Raster;
 use crate::region::Region;
-use crate::view::{Draw, ReadCommand};
+use crate::view::{Draw, ReadCommand, ReadDraw};
 use pix_el::el::Pixel;
 use pix_ops::ops::Op;
 
@@ -107,33 +107,10 @@ pub enum Command<'a, P, M> {
     },
 }
 
-impl<'a, P: Pixel, M: Pixel> ReadCommand<P, M> for Command<'a, P, M> {
+impl<'a, P: Pixel, M: Pixel> ReadDraw<P, M> for Command<'a, P, M> {
     ghost command = { λ it. it };
 
     ghost can_read = { λ _. ⊤ };
-
-    fn op(&self) -> Op {
-        match self {
-            Command::Color { op, .. }
-            | Command::Raster { op, .. }
-            | Command::Matte { op, .. }
-            | Command::RasterMatte { op, .. }
-            | Command::RasterAlpha { op, .. } => *op,
-            _ => Op::Src,
-        }
-    }
-
-    fn reach(&self) -> Region {
-        match self {
-            Command::CopyColor { reg, .. } | Command::Color { reg, .. } => *reg,
-            Command::CopyRaster { to, .. }
-            | Command::Raster { to, .. }
-            | Command::Matte { to, .. }
-            | Command::RasterMatte { to, .. }
-            | Command::RasterAlpha { to, .. } => *to,
-            _ => Region::new(0, 0, 2147483647, 2147483647),
-        }
-    }
 
     fn read(&self) -> Draw<'_, P, M> {
         match self {
@@ -184,6 +161,31 @@ impl<'a, P: Pixel, M: Pixel> ReadCommand<P, M> for Command<'a, P, M> {
                     alpha,
                 }
             }
+        }
+    }
+}
+
+impl<'a, P: Pixel, M: Pixel> ReadCommand<P, M> for Command<'a, P, M> {
+    fn op(&self) -> Op {
+        match self {
+            Command::Color { op, .. }
+            | Command::Raster { op, .. }
+            | Command::Matte { op, .. }
+            | Command::RasterMatte { op, .. }
+            | Command::RasterAlpha { op, .. } => *op,
+            _ => Op::Src,
+        }
+    }
+
+    fn reach(&self) -> Region {
+        match self {
+            Command::CopyColor { reg, .. } | Command::Color { reg, .. } => *reg,
+            Command::CopyRaster { to, .. }
+            | Command::Raster { to, .. }
+            | Command::Matte { to, .. }
+            | Command::RasterMatte { to, .. }
+            | Command::RasterAlpha { to, .. } => *to,
+            _ => Region::new(0, 0, 2147483647, 2147483647),
         }
     }
 }

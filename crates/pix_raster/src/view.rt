@@ -13,10 +13,12 @@ mod draw;
 mod masked;
 mod run;
 
-pub use draw::{Draw, ReadCommand};
+pub(crate) use draw::{NoMattes, Single};
+pub use draw::{Draw, ReadCommand, ReadDraw};
 pub use masked::{Source, blit_masked};
 pub use pix_el::rows::{Blit, Fill, MaskedBlit};
 pub use run::Commands;
+pub(crate) use run::OnWindow;
 
 /// The size of an image in points, and how many pixels its rows lie apart.
 #[derive(Clone, Copy, Debug, PartialEq, Eq)]

@@ -9,23 +9,23 @@ ghost use Rattle.pix_raster.specs.Bounds.{OfEachChannel};
 ghost use Rattle.pix_raster.specs.PremultipliedRuns.{KeepsPremultiplied};
 ghost use Rattle.pix_raster.specs.Stays.{StaysUnderTransparent, keeps_under};
 ghost use Rattle.pix_raster.specs.Reach.{is_paired};
-ghost use Rattle.pix_raster.specs.View.{IsShaped, IsWindow, where_covered, where_paired, where_masked};
-ghost use Rattle.pix_raster.specs.Draw.{image_in, IsSource};
+ghost use Rattle.pix_raster.specs.View.{IsShaped, IsWindow, where_covered, where_paired};
+ghost use Rattle.pix_raster.specs.Draw.{image_in, IsSource, IsSound, command_in};
 ghost use Rattle.pix_raster.specs.declared.command.Command.{Command};
 
 use super::Raster;
 use crate::command::Command;
 use crate::region::Region;
-use crate::view::{self, Blit, Commands, Fill, MaskedBlit, Shape, Source, Window, paint_by_bands};
+use crate::view::{
+    self, Blit, Commands, Draw, Fill, NoMattes, OnWindow, Shape, Single, Source, Window,
+    paint_by_bands,
+};
 use pix_chan::chan::{Alpha, Linear, Premultiplied};
 use pix_el::el::{Pix, Pixel};
 use pix_el::matte::Matte;
-use pix_el::rows::{
-    CompositedColor, CompositedPixels, CopiedColor, CopiedPixels, FadedPixels, MattedColor,
-    MattedPixels,
-};
+use pix_el::rows::{CopiedColor, CopiedPixels};
 use pix_el::stored::Coverage;
-use pix_ops::ops::Blend;
+use pix_ops::ops::{Blend, SliceVisitor};
 use std::marker::PhantomData;
 
 impl<P: Pixel> Raster<P> {
@@ -173,39 +173,27 @@ impl<P> Raster<P> {
             change,
         );
     }
-
-    /// Changes each point of the overlap of three regions by its points of a source and of a mask.
-    fn blit_masked<S, M, B: MaskedBlit<P, S, M>>(
-        &mut self,
-        to: Region,
-        src: &Raster<S>,
-        from: Region,
-        mask: &Raster<M>,
-        mask_from: Region,
-        change: &B,
-    )
-        requires { B.can_blit }
-        ensures { Changed B.reads self.old self.new (where_masked to (region_of self.old)
-            from (region_of src.now) mask_from (region_of mask.now)
-            (point B.source_reads src.now) (point B.mask_reads mask.now)
-            (B.makes change.now)) }
-    {
-        let window = self.window();
-        let source = Source {
-            pixels: &src.pixels,
-            shape: src.shape(),
-            from,
-        };
-        let mattes = Source {
-            pixels: &mask.pixels,
-            shape: mask.shape(),
-            from: mask_from,
-        };
-        view::blit_masked(&mut self.pixels, window, to, &source, &mattes, change);
-    }
 }
 
 impl<P: Pixel<Alpha = Premultiplied, Gamma = Linear>> Raster<P> {
+    /// Runs a single drawing. Condition: its sources are sound, and it composites.
+    fn draw<M: Coverage<P::Chan>, O: Blend>(&mut self, single: &Single<'_, P, M, O>, op: O)
+        requires has_alpha { P.layout.count ≡ P.layout.alpha + 1 }
+        requires sound { IsSound single.now.draw }
+        requires composites { O.op ≡ op_of (command_in O.op single.now.draw) }
+        ensures { Changed P.numbers self.old self.new (run_at P.layout P.numbers M.numbers
+            (region_of self.old) (command_in O.op single.now.draw ∷ [])) }
+    {
+        let window = self.window();
+        let formats = PhantomData;
+        let there = OnWindow::<P, M, Single<'_, P, M, O>> {
+            command: single,
+            window,
+            formats,
+        };
+        there.visit(&mut self.pixels, op);
+    }
+
     /// Composites a region of another raster at one opacity.
     // A call of its own: the borrow checker does not cover the loan of a value whose type has
     // `P::Chan` in it beside another loan.
@@ -221,9 +209,15 @@ impl<P: Pixel<Alpha = Premultiplied, Gamma = Linear>> Raster<P> {
         ensures { Changed P.numbers self.old self.new (run_at P.layout P.numbers M.numbers
             (region_of self.old) (Command.RasterAlpha to src.entry from alpha.now O.op ∷ [])) }
     {
-        let (alpha, format) = (alpha.coverage(), PhantomData);
-        let blit = FadedPixels::<P, P::Chan, O> { alpha, op, format };
-        self.blit_region(to, src, from, &blit);
+        let single = Single::<P, M, O> {
+            draw: Draw::ImageAlpha {
+                to,
+                src: src.source(from),
+                alpha,
+            },
+            op: PhantomData,
+        };
+        self.draw(&single, op);
     }
 }
 
@@ -244,7 +238,11 @@ impl<P: Pixel<Alpha = Premultiplied, Gamma = Linear>> Raster<P> {
         ensures { Changed P.numbers self.old self.new (done_at P.layout P.numbers
             (region_of self.old) (Command.Color reg clr O.op)) }
     {
-        self.fill_region(reg, &CompositedColor { clr, op });
+        let single = Single::<P, NoMattes, O> {
+            draw: Draw::Color { reg, clr: &clr },
+            op: PhantomData,
+        };
+        self.draw(&single, op);
     }
 
     /// Composites the region `from` of `src` with the region `to` of this raster. Points are paired
@@ -264,8 +262,14 @@ impl<P: Pixel<Alpha = Premultiplied, Gamma = Linear>> Raster<P> {
         ensures { Changed P.numbers self.old self.new (done_at P.layout P.numbers
             (region_of self.old) (Command.Raster to src.entry from O.op)) }
     {
-        let format = PhantomData;
-        self.blit_region(to, src, from, &CompositedPixels::<P, O> { op, format });
+        let single = Single::<P, NoMattes, O> {
+            draw: Draw::Image {
+                to,
+                src: src.source(from),
+            },
+            op: PhantomData,
+        };
+        self.draw(&single, op);
     }
 
     /// Composites `clr` with the region `to` of this raster through the region `from` of `src`, a
@@ -294,7 +298,15 @@ impl<P: Pixel<Alpha = Premultiplied, Gamma = Linear>> Raster<P> {
             (matte_numbers P.Chan.number) (region_of self.old)
             (Command.Matte to src.entry from clr O.op ∷ [])) }
     {
-        self.blit_region(to, src, from, &MattedColor { clr, op });
+        let single = Single::<P, Pix<N, P::Chan, Matte, A, Linear>, O> {
+            draw: Draw::Matte {
+                to,
+                src: src.source(from),
+                clr: &clr,
+            },
+            op: PhantomData,
+        };
+        self.draw(&single, op);
     }
 
     /// Composites the region `from` of `src` with the region `to` of this raster through the region
@@ -337,9 +349,15 @@ impl<P: Pixel<Alpha = Premultiplied, Gamma = Linear>> Raster<P> {
             (matte_numbers P.Chan.number) (region_of self.old)
             (Command.RasterAlpha to src.entry from alpha O.op ∷ [])) }
     {
-        let format = PhantomData;
-        let blit = MattedPixels::<P, O> { op, format };
-        self.blit_masked(to, src, from, mask, mask_from, &blit);
+        let single = Single::<P, Pix<N, P::Chan, Matte, A, Linear>, O> {
+            draw: Draw::ImageMatte {
+                to,
+                src: src.source(from),
+                mask: mask.source(mask_from),
+            },
+            op: PhantomData,
+        };
+        self.draw(&single, op);
     }
 
     /// Composites the region `from` of `src` with the region `to` of this raster at one opacity.

@@ -5,6 +5,7 @@ ghost use Rattle.pix_chan.specs.Runs.{over};
 ghost use Rattle.pix_raster.specs.Region.{limit, whole};
 ghost use Rattle.pix_raster.specs.View.{read_at, IsShaped, IsWindow, ChangedIn, where_masked, picture, in_window};
 ghost use Rattle.pix_raster.specs.Clip.{where_in, IsOverlap};
+ghost use Rattle.pix_raster.specs.Draw.{image_in, IsSource};
 
 use super::{MaskedBlit, Shape, Window};
 use crate::clip::{Overlap, axis_overlap};
@@ -19,6 +20,23 @@ pub struct Source<'a, S> {
     pub shape: Shape,
     /// The region.
     pub from: Region,
+}
+
+impl<'a, S> Source<'a, S> {
+    /// Returns the source again.
+    #[inline(always)]
+    pub(crate) fn lent(&self) -> Source<'_, S>
+        requires { IsSource self.now }
+        ensures image { image_in result ≡ image_in self.now }
+        ensures from { result.from ≡ self.now.from }
+        ensures sound { IsSource result }
+    {
+        Source {
+            pixels: self.pixels,
+            shape: self.shape,
+            from: self.from,
+        }
+    }
 }
 
 /// Changes the region `to` of a picture by a region of a source and a region of a mask, in those

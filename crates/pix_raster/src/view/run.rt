@@ -5,7 +5,7 @@ ghost use Rattle.pix_raster.specs.View.{IsWindow, ChangedIn, picture, largest, i
 ghost use Rattle.pix_raster.specs.Run.{run_at, op_of};
 ghost use Rattle.pix_raster.specs.Draw.{command_in, IsSound};
 
-use super::draw::{Draw, ReadCommand};
+use super::draw::{Draw, ReadCommand, ReadDraw};
 use super::{Painting, Window, blit_masked, blit_window, fill_window, points_in};
 use crate::region::Region;
 use pix_chan::chan::{Linear, Premultiplied};
@@ -21,10 +21,10 @@ use std::marker::PhantomData;
 /// A command on a window of a picture, in which pixels are of the format `P` and a matte lies as an
 /// `M`. It is read when its operator is a type, so that the drawing never lies in memory.
 #[derive(Drop)]
-struct OnWindow<'a, P, M, C> {
-    command: &'a C,
-    window: Window,
-    formats: PhantomData<(P, M)>,
+pub(crate) struct OnWindow<'a, P, M, C> {
+    pub(crate) command: &'a C,
+    pub(crate) window: Window,
+    pub(crate) formats: PhantomData<(P, M)>,
 }
 
 impl<
@@ -32,7 +32,7 @@ impl<
     P: Pixel<Alpha = Premultiplied, Gamma = Linear>,
     D: Stored<P>,
     M: Coverage<P::Chan>,
-    C: ReadCommand<D, M>,
+    C: ReadDraw<D, M>,
 > SliceVisitor<D> for OnWindow<'a, P, M, C> {
     ghost can_visit = { λ it op count. (P.layout.count ≡ P.layout.alpha + 1)
         × IsWindow it.window count × C.can_read it.command.now

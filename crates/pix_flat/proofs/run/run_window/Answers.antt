@@ -23,7 +23,7 @@ paint_by_bands-requires-clause-fits g c =
 pub paint_by_bands-requires-clause-can_paint : goal.paint_by_bands-requires-clause-can_paint
 paint_by_bands-requires-clause-can_paint g c = (
   g.met.D.FlatPixel.has_alpha,
-  all_readable g.C.Flatten.flat g.C.ReadCommand.can_read g.met.C.Flatten.readable c.args.commands.now (sym c.first_fault-fault.ensures.fault ∙ c.if-fault-eq-DONE.true),
+  all_readable g.C.Flatten.flat g.C.ReadDraw.can_read g.met.C.Flatten.readable c.args.commands.now (sym c.first_fault-fault.ensures.fault ∙ c.if-fault-eq-DONE.true),
 )
 
 pub returns-then-fault-eq-DONE-clause-run : goal.returns-then-fault-eq-DONE-clause-run
@@ -42,7 +42,7 @@ returns-then-fault-eq-DONE-clause-run g c =
       mattes_fit = λ m. record { at = subst (λ (l : Layout). (ch : ℕ) → channel l.max (mattes m) ch ≤ l.max) (sym laid_out) (g.met.M.Coverage.fits m) };
     } in
     let placed = sized_window c.args.left c.args.top c.args.width c.args.height c.args.stride (length c.args.pixels.now) (sym c.is_window.ensures ∙ c.if-not-is_window.false) in
-    let told = commands_told g.C.ReadCommand.command g.C.Flatten.flat g.met.C.Flatten.told c.args.commands.now in
+    let told = commands_told g.C.ReadDraw.command g.C.Flatten.flat g.met.C.Flatten.told c.args.commands.now in
     λ e. ran_in_window g.P.Pixel.layout n mattes c.args.left c.args.top c.args.width c.args.height c.args.stride (map g.C.Flatten.flat c.args.commands.now) c.args.pixels.now c.paint_by_bands.new.pixels
     format placed.0 placed.1 (sized_is_shaped c.args.width c.args.height c.args.stride (length c.args.pixels.now) placed.2) c.paint_by_bands.auto.pixels
-    (map g.C.ReadCommand.command c.args.commands.now) told c.paint_by_bands.ensures
+    (map g.C.ReadDraw.command c.args.commands.now) told c.paint_by_bands.ensures

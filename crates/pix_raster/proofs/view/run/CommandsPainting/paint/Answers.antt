@@ -9,7 +9,7 @@ use Rattle.pix_raster.proofs.view.run.CommandsPainting.paint.Goals as goal
 
 pub loop-command-preserved : goal.loop-command-preserved
 loop-command-preserved g c =
-    let flat = g.C.ReadCommand.command in
+    let flat = g.C.ReadDraw.command in
     let layout = g.P.Pixel.layout in
     let n = g.D.Stored.reads in
     let m = g.M.Coverage.numbers in
@@ -35,14 +35,14 @@ loop-command-preserved g c =
 pub returns : goal.returns
 returns g c =
     let commands = c.args.self.now.commands.now in
-    let all = map g.C.ReadCommand.command commands in
+    let all = map g.C.ReadDraw.command commands in
     let window = c.args.window in
     let width = window.left + window.shape.width in
     let height = window.top + window.shape.height in
     let fits = c.requires.fits in
     record {
       points = λ x y lx ly.
-          rw (drop_all c.loop-command.command-index all (omega (arith, length-map commands g.C.ReadCommand.command))) at (c.loop-command.invariant.rest x y lx ly)
+          rw (drop_all c.loop-command.command-index all (omega (arith, length-map commands g.C.ReadDraw.command))) at (c.loop-command.invariant.rest x y lx ly)
           ∙ run_in_picture g.P.Pixel.layout g.D.Stored.reads g.M.Coverage.numbers all width height limit limit (window.left + x) (window.top + y) _ fits.across fits.down fits.across fits.down (omega arith) (omega arith);
       stays = c.loop-command.invariant.stays;
     }

@@ -11,7 +11,7 @@ invariant-loop-command g l =
     let n = g.D.Stored.reads in
     let window = l.fn.window in
     let run = run_at g.P.Pixel.layout n g.M.Coverage.numbers (picture window) in
-    let all = map g.C.ReadCommand.command l.command-items in
+    let all = map g.C.ReadDraw.command l.command-items in
     let read = read_at n window.shape.stride in
     record {
       rest : (x y : ℕ) → x < window.shape.width → y < window.shape.height
