@@ -20,7 +20,6 @@ use Rattle.pix_raster.specs.Image.{Image, Changed, point, region_of}
 use Rattle.pix_raster.specs.Reach.{is_paired, natural, from_pair}
 use Rattle.pix_raster.specs.View.{where_masked, where_paired}
 use Rattle.pix_raster.specs.Run.{Effect, Matted, apply, run_at}
-use Rattle.pix_raster.specs.declared.command.Command.{Command}
 use Rattle.pix_raster.specs.declared.command.Command.TheVariants as commands
 use Rattle.pix_raster.specs.Stays.{is_one_at_none, keeps_under}
 use Rattle.pix_raster.proofs.Masked.{paired_below}

@@ -1,6 +1,6 @@
 use Rattle.std.specs.Vec.{with_items}
 use Rattle.std.proofs.lemmas.List.{with_items_is}
-use Rattle.std.proofs.Common.{◌≡◌, ℕ, List, [], ◌∷◌, ◌+◌, length, rules}
+use Rattle.std.proofs.Common.{List, [], ◌∷◌, ◌+◌, rules}
 use Rattle.pix_raster.specs.Region.{whole}
 use Rattle.pix_raster.specs.Run.{run_at}
 use Rattle.pix_raster.specs.View.{ChangedIn}

@@ -1,4 +1,4 @@
-use Rattle.std.proofs.Common.{◌≡◌, ap, length, List, sym, ◌∙◌}
+use Rattle.std.proofs.Common.{ap, length, List, sym, ◌∙◌}
 use Rattle.pix_raster.specs.Image.{Image}
 use Rattle.pix_raster.proofs.ViewImages.{dense_rows}
 use Rattle.pix_raster.proofs.raster.Raster.source.Goals as goal
