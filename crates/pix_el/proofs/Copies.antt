@@ -1,6 +1,10 @@
 -- Copied pixels, by their numbers.
-use Rattle.std.proofs.Common.{◌≡◌, List, [], ◌∷◌, length, map, replicate, refl, ap}
+use Rattle.std.proofs.Common.{◌≡◌, ℕ, ◌+◌, ◌-◌, ◌≤◌, List, [], ◌∷◌, ◌++◌, length, map, take, drop, replicate, refl, ap, sym, ◌∙◌, arith}
+use borrow.Rule.Slice.PartMut.{put_mid}
+use Rattle.std.proofs.lemmas.List.{append_assoc, drop-drop, drop-take, length-take-le, take-append-drop, take-append-le, take-take}
+use Rattle.std.proofs.lemmas.Slice.{drop-append-drop}
 use Rattle.pix_chan.specs.Runs.{over}
+use Rattle.pix_chan.proofs.Planes.{same_pair}
 
 -- one color in place of each pixel
 pub map_color : {P X : Type 0} (n : P → X) (clr : P) (xs : List P) → map n (replicate (length xs) clr) ≡ map (λ _. n clr) (map n xs)
@@ -12,3 +16,17 @@ pub map_over : {P X : Type 0} (n : P → X) (source dest : List P) → map n (ov
 map_over n source [] = refl
 map_over n [] (d ∷ dest) = refl
 map_over {X = X} n (s ∷ source) (d ∷ dest) = ap (λ (l : List X). n s ∷ l) (map_over n source dest)
+
+-- the first n places are copied, and then those from k, which is not past them, up to e
+pub copied_more : {X : Type 0} (k n e : ℕ) (source old ws new : List X) → k ≤ n → n ≤ e → n ≤ length source → ws ≡ take n source ++ drop n old
+    → new ≡ take (e - k) (drop k source) → put_mid k (e - k) ws new ≡ take e source ++ drop e old
+copied_more {X = X} k n e source old ws new from le has is fresh =
+    let part : length (take n source) ≡ n = length-take-le n source has in
+    let end : k + (e - k) ≡ e = omega arith in
+    let first : take k ws ≡ take k source = ap (take k) is ∙ take-append-le k (take n source) (drop n old) (omega (arith, part)) ∙ take-take k n source from in
+    let rest : drop (e - k) (drop k ws) ≡ drop e old = drop-drop (e - k) k ws ∙ ap (λ (j : ℕ). drop j ws) end ∙ ap (drop e) is ∙ drop-append-drop n old (take n source) e le part in
+    let whole : take k source ++ take (e - k) (drop k source) ≡ take e source =
+    same_pair (sym (take-take k e source (omega arith))) (sym (drop-take k (e - k) source) ∙ ap (λ (j : ℕ). drop k (take j source)) end) ∙ take-append-drop k (take e source) in
+    same_pair first (same_pair fresh rest)
+    ∙ sym (append_assoc (take k source) (take (e - k) (drop k source)) (drop e old))
+    ∙ ap (λ (l : List X). l ++ drop e old) whole

@@ -1,5 +1,6 @@
-//! Rows of one color, as it lies in memory.
-ghost use Rattle.std.specs.Prelude.{◌≡◌, length, map, replicate};
+//! Rows of one color and copies of rows, as they lie in memory.
+ghost use Rattle.std.specs.Prelude.{◌≡◌, ◌+◌, ◌≤◌, length, map, min, replicate};
+ghost use Rattle.pix_chan.specs.Runs.{over};
 
 use crate::el::Pixel;
 use crate::stored::Stored;
@@ -14,27 +15,34 @@ pub(crate) fn write_all<D: Copy>(row: &mut [D], value: D)
     }
 }
 
-/// Writes one value in each place. A row of 8 to 16 places is two parts of 8, which may overlap.
-/// A longer one goes in pairs of 16.
-// LLVM makes `memset` of a whole loop over zeros, and of a loop over single blocks of them. It
-// writes vectors where a turn has two blocks. A color takes longer so than in one loop: rows of 32
-// pixels of gray took 1.4 of its time.
+/// Writes one value in each place of a row of one to two parts: in the first part, and in the last,
+/// which may overlap.
+#[inline(always)]
+fn fill_ends<D: Copy>(row: &mut [D], part: usize, value: D)
+    requires has_one { part ≤ length row.old }
+    requires has_two { length row.old ≤ part + part }
+    ensures { row.new ≡ replicate (length row.old) value }
+{
+    let count = row.len();
+    write_all(&mut row[..part], value);
+    if count > part {
+        write_all(&mut row[count - part..], value);
+    }
+}
+
+/// Writes one value in each place. A row of 8 to 32 places is two parts.
+// LLVM makes `memset` of a loop over zeros. A call of it takes longer than such a row.
 #[inline(always)]
 fn fill_row<D: Copy>(row: &mut [D], value: D)
     ensures { row.new ≡ replicate (length row.old) value }
 {
     let count = row.len();
-    if count < 8 || count > 16 {
-        for i in 0..count / 32 {
-            let at = 32 * i;
-            write_all(&mut row[at..at + 16], value);
-            write_all(&mut row[at + 16..at + 32], value);
-        }
-        let start = count / 32 * 32;
-        write_all(&mut row[start..], value);
+    if count < 8 || count > 32 {
+        write_all(row, value);
+    } else if count <= 16 {
+        fill_ends(row, 8, value);
     } else {
-        write_all(&mut row[..8], value);
-        write_all(&mut row[count - 8..], value);
+        fill_ends(row, 16, value);
     }
 }
 
@@ -46,4 +54,36 @@ pub(crate) fn clear_row<P: Pixel, D: Stored<P>>(row: &mut [D])
 {
     let clr = D::store(&P::default());
     fill_row(row, clr);
+}
+
+/// Copies as many places as the shorter row has, which are one to two parts: the first part, and
+/// the last, which may overlap.
+#[inline(always)]
+fn copy_ends<D: Copy>(row: &mut [D], src: &[D], part: usize)
+    requires has_one { part ≤ min (length row.old) (length src.now) }
+    requires has_two { min (length row.old) (length src.now) ≤ part + part }
+    ensures { row.new ≡ over (λ source _. source) src.now row.old }
+{
+    let count = row.len().min(src.len());
+    row[..part].copy_from_slice(&src[..part]);
+    if count > part {
+        row[count - part..count].copy_from_slice(&src[count - part..count]);
+    }
+}
+
+/// Copies each place of a row to the same place of another. The shorter row decides how many
+/// change, and the rest stay as they are. A copy of 8 to 32 places is two parts.
+// LLVM calls `memmove` for a copy whose length it doesn't know, and for one of 256 bytes.
+#[inline(always)]
+pub(crate) fn copy_row<D: Copy>(row: &mut [D], src: &[D])
+    ensures { row.new ≡ over (λ source _. source) src.now row.old }
+{
+    let count = row.len().min(src.len());
+    if count < 8 || count > 32 {
+        row[..count].copy_from_slice(&src[..count]);
+    } else if count <= 16 {
+        copy_ends(row, src, 8);
+    } else {
+        copy_ends(row, src, 16);
+    }
 }

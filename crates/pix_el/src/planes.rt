@@ -157,7 +157,7 @@ fn largest_coverage<O: Blend, P: Pixel, D: Stored<P>, M: Coverage<P::Chan>>(
         (take result (map (coverage_of P.Chan.max M.numbers) src.now)) (map D.reads dst.old) }
 {
     if is_wide::<P::Chan>() {
-        matte_blocks::<O, P, D, M, Eight>(dst, src, clr, count)
+        matte_blocks::<O, P, D, M, Eight<0>>(dst, src, clr, count)
     } else {
         matte_blocks::<O, P, D, M, Four>(dst, src, clr, count)
     }

@@ -11,7 +11,7 @@ ghost use Rattle.pix_chan.specs.Runs.{over};
 ghost use Rattle.pix_el.specs.PixelComposite.{pixel_composite, matted_composite, matte_value};
 
 use crate::el::Pixel;
-use crate::filled::{clear_row, write_all};
+use crate::filled::{clear_row, copy_row, write_all};
 use crate::planes::coverage_runs;
 use crate::planes::masked::{covered_runs, faded_runs};
 use crate::planes::runs::{color_runs, pixel_runs};
@@ -193,8 +193,7 @@ impl<P: Pixel, D: Stored<P>> Blit<D, D> for CopiedPixels<P> {
     ghost makes = { λ _ source _. source };
 
     fn blit(&self, row: &mut [D], src: &[D]) {
-        let count = row.len().min(src.len());
-        row[..count].copy_from_slice(&src[..count]);
+        copy_row(row, src);
     }
 }
 

@@ -81,11 +81,11 @@ fn spread<C: Channel>(values: &[C]) -> [C; 32]
 }
 
 /// Returns the channels of eight pixels, each pixel multiplied by the matte value of the same
-/// index. Each `CALLER` has a copy of its own, since LLVM inlines a function that is called once.
+/// index.
 ///
 /// Condition: the alpha is the last channel, and none is a hue.
 #[inline(always)]
-pub(super) fn covered<P: Pixel, const CALLER: usize>(
+pub(super) fn covered<P: Pixel, const COPY: usize, const CALLER: usize>(
     mut to: [P::Chan; 32],
     values: &[P::Chan],
 ) -> [P::Chan; 32]
@@ -102,14 +102,17 @@ pub(super) fn covered<P: Pixel, const CALLER: usize>(
 }
 
 /// Composites the eight pixels of these channels with those of `dst`. At each index the alphas are
-/// those of its own pixel. Each `CALLER` has a copy of its own.
+/// those of its own pixel.
 ///
 /// Condition: the alpha is the last channel, and none is a hue.
 #[inline(always)]
-pub(super) fn composite_eight<O: Blend, P: Pixel, D: Stored<P>, const CALLER: usize>(
-    dst: &mut [D],
-    src: [P::Chan; 32],
-)
+pub(super) fn composite_eight<
+    O: Blend,
+    P: Pixel,
+    D: Stored<P>,
+    const COPY: usize,
+    const CALLER: usize,
+>(dst: &mut [D], src: [P::Chan; 32])
     requires count { P.layout.count ≡ 4 }
     requires alpha { P.layout.alpha ≡ 3 }
     requires no_hue { P.layout.hues.end ≡ 0 }
@@ -124,10 +127,11 @@ pub(super) fn composite_eight<O: Blend, P: Pixel, D: Stored<P>, const CALLER: us
     put_eight_pixels::<P, D>(dst, to);
 }
 
-/// Pixels of four channels without a hue, eight at a time.
-pub(crate) struct Eight {}
+/// Pixels of four channels without a hue, eight at a time. Each `COPY` has code of its own, and so
+/// has each `CALLER` in it, since LLVM inlines a large function only where it is called once.
+pub(crate) struct Eight<const COPY: usize> {}
 
-impl<P: Pixel> Block<P> for Eight {
+impl<P: Pixel, const COPY: usize> Block<P> for Eight<COPY> {
     ghost suits = { (P.layout.count ≡ 4) × (P.layout.alpha ≡ 3) × (P.layout.hues.end ≡ 0) };
 
     ghost SIZE = { 8 };
@@ -140,18 +144,18 @@ impl<P: Pixel> Block<P> for Eight {
 
     #[inline(always)]
     fn composite<O: Blend, D: Stored<P>, S: Stored<P>>(dst: &mut [D], src: &[S]) {
-        composite_eight::<O, P, D, 0>(dst, eight_pixels::<P, S>(src));
+        composite_eight::<O, P, D, COPY, 0>(dst, eight_pixels::<P, S>(src));
     }
 
     #[inline(always)]
     fn color<O: Blend, D: Stored<P>>(dst: &mut [D], clr: &P) {
-        composite_eight::<O, P, D, 1>(dst, eight_times(clr));
+        composite_eight::<O, P, D, COPY, 1>(dst, eight_times(clr));
     }
 
     #[inline(always)]
     fn matted<O: Blend, D: Stored<P>, M: Coverage<P::Chan>>(dst: &mut [D], src: &[M], clr: &P) {
-        let colors = covered::<P, 2>(eight_times(clr), &eight_values(src));
-        composite_eight::<O, P, D, 2>(dst, colors);
+        let colors = covered::<P, COPY, 2>(eight_times(clr), &eight_values(src));
+        composite_eight::<O, P, D, COPY, 2>(dst, colors);
     }
 
     #[inline(always)]
@@ -160,11 +164,11 @@ impl<P: Pixel> Block<P> for Eight {
         src: &[S],
         mattes: &[M],
     ) {
-        composite_eight_covered::<O, P, D, S, M>(dst, src, mattes);
+        composite_eight_covered::<O, P, D, S, M, COPY>(dst, src, mattes);
     }
 
     #[inline(always)]
     fn faded<O: Blend, D: Stored<P>, S: Stored<P>>(dst: &mut [D], src: &[S], alpha: P::Chan) {
-        composite_eight_faded::<O, P, D, S>(dst, src, alpha);
+        composite_eight_faded::<O, P, D, S, COPY>(dst, src, alpha);
     }
 }

@@ -85,6 +85,7 @@ pub(super) fn composite_eight_covered<
     D: Stored<P>,
     S: Stored<P>,
     M: Coverage<P::Chan>,
+    const COPY: usize,
 >(dst: &mut [D], src: &[S], mattes: &[M])
     requires count { P.layout.count ≡ 4 }
     requires alpha { P.layout.alpha ≡ 3 }
@@ -96,19 +97,21 @@ pub(super) fn composite_eight_covered<
         (zip (map (coverage_of P.Chan.max M.numbers) mattes.now) (map S.reads src.now))
         (map D.reads dst.old) }
 {
-    let colors = covered::<P, 4>(eight_pixels::<P, S>(src), &eight_values(mattes));
-    composite_eight::<O, P, D, 4>(dst, colors);
+    let colors = covered::<P, COPY, 4>(eight_pixels::<P, S>(src), &eight_values(mattes));
+    composite_eight::<O, P, D, COPY, 4>(dst, colors);
 }
 
 /// Composites eight pixels with those of `dst`, each through the same matte value.
 ///
 /// Condition: the alpha is the last channel, and none is a hue.
 #[inline(always)]
-pub(super) fn composite_eight_faded<O: Blend, P: Pixel, D: Stored<P>, S: Stored<P>>(
-    dst: &mut [D],
-    src: &[S],
-    alpha: P::Chan,
-)
+pub(super) fn composite_eight_faded<
+    O: Blend,
+    P: Pixel,
+    D: Stored<P>,
+    S: Stored<P>,
+    const COPY: usize,
+>(dst: &mut [D], src: &[S], alpha: P::Chan)
     requires count { P.layout.count ≡ 4 }
     requires last { P.layout.alpha ≡ 3 }
     requires no_hue { P.layout.hues.end ≡ 0 }
@@ -119,7 +122,7 @@ pub(super) fn composite_eight_faded<O: Blend, P: Pixel, D: Stored<P>, S: Stored<
 {
     let mut colors = eight_pixels::<P, S>(src);
     P::Chan::mul_run(&mut colors, &[alpha; 32]);
-    composite_eight::<O, P, D, 3>(dst, colors);
+    composite_eight::<O, P, D, COPY, 3>(dst, colors);
 }
 
 /// Composites as many of the first `count` pixels as go in the largest blocks, each through the
@@ -210,7 +213,7 @@ pub(crate) fn covered_rest<O: Blend, P: Pixel, D: Stored<P>, S: Stored<P>, M: Co
         (map D.reads dst.old) }
 {
     if is_interleaved::<P>() {
-        let start = masked_blocks::<O, P, D, S, M, Eight>(dst, src, mattes, count);
+        let start = masked_blocks::<O, P, D, S, M, Eight<0>>(dst, src, mattes, count);
         let (rest, sources) = (&mut dst[start..], &src[start..]);
         let (mattes, count) = (&mattes[start..], count - start);
         start + masked_blocks::<O, P, D, S, M, Interleaved>(rest, sources, mattes, count)
@@ -241,7 +244,7 @@ pub(crate) fn faded_rest<O: Blend, P: Pixel, D: Stored<P>, S: Stored<P>>(
         (take result (map S.reads src.now)) (map D.reads dst.old) }
 {
     if is_interleaved::<P>() {
-        let start = faded_blocks::<O, P, D, S, Eight>(dst, src, alpha, count);
+        let start = faded_blocks::<O, P, D, S, Eight<0>>(dst, src, alpha, count);
         let (rest, sources) = (&mut dst[start..], &src[start..]);
         start + faded_blocks::<O, P, D, S, Interleaved>(rest, sources, alpha, count - start)
     } else if has_two::<P>() {

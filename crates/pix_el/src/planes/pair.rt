@@ -1,10 +1,11 @@
 //! Sixteen pixels of four channels without a hue: two blocks of eight, one after the other. What
-//! the lanes need of constants is then read once for both.
+//! the lanes need of constants is then read once for both. Each half has code of its own
+//! (`Eight`), so that LLVM inlines both.
 ghost use Rattle.std.specs.Prelude.{◌≡◌, refl};
 
 use crate::el::Pixel;
 use crate::planes::block::Block;
-use crate::planes::eight::{Eight, composite_eight, eight_pixels};
+use crate::planes::eight::Eight;
 use crate::stored::{Coverage, Stored};
 use pix_ops::ops::Blend;
 
@@ -24,20 +25,20 @@ impl<P: Pixel> Block<P> for Pair {
 
     #[inline(always)]
     fn composite<O: Blend, D: Stored<P>, S: Stored<P>>(dst: &mut [D], src: &[S]) {
-        composite_eight::<O, P, D, 5>(&mut dst[..8], eight_pixels::<P, S>(&src[..8]));
-        composite_eight::<O, P, D, 5>(&mut dst[8..16], eight_pixels::<P, S>(&src[8..16]));
+        <Eight<1> as Block<P>>::composite::<O, D, S>(&mut dst[..8], &src[..8]);
+        <Eight<2> as Block<P>>::composite::<O, D, S>(&mut dst[8..16], &src[8..16]);
     }
 
     #[inline(always)]
     fn color<O: Blend, D: Stored<P>>(dst: &mut [D], clr: &P) {
-        <Eight as Block<P>>::color::<O, D>(&mut dst[..8], clr);
-        <Eight as Block<P>>::color::<O, D>(&mut dst[8..16], clr);
+        <Eight<1> as Block<P>>::color::<O, D>(&mut dst[..8], clr);
+        <Eight<2> as Block<P>>::color::<O, D>(&mut dst[8..16], clr);
     }
 
     #[inline(always)]
     fn matted<O: Blend, D: Stored<P>, M: Coverage<P::Chan>>(dst: &mut [D], src: &[M], clr: &P) {
-        <Eight as Block<P>>::matted::<O, D, M>(&mut dst[..8], &src[..8], clr);
-        <Eight as Block<P>>::matted::<O, D, M>(&mut dst[8..16], &src[8..16], clr);
+        <Eight<1> as Block<P>>::matted::<O, D, M>(&mut dst[..8], &src[..8], clr);
+        <Eight<2> as Block<P>>::matted::<O, D, M>(&mut dst[8..16], &src[8..16], clr);
     }
 
     #[inline(always)]
@@ -46,13 +47,13 @@ impl<P: Pixel> Block<P> for Pair {
         src: &[S],
         mattes: &[M],
     ) {
-        <Eight as Block<P>>::masked::<O, D, S, M>(&mut dst[..8], &src[..8], &mattes[..8]);
-        <Eight as Block<P>>::masked::<O, D, S, M>(&mut dst[8..16], &src[8..16], &mattes[8..16]);
+        <Eight<1> as Block<P>>::masked::<O, D, S, M>(&mut dst[..8], &src[..8], &mattes[..8]);
+        <Eight<2> as Block<P>>::masked::<O, D, S, M>(&mut dst[8..16], &src[8..16], &mattes[8..16]);
     }
 
     #[inline(always)]
     fn faded<O: Blend, D: Stored<P>, S: Stored<P>>(dst: &mut [D], src: &[S], alpha: P::Chan) {
-        <Eight as Block<P>>::faded::<O, D, S>(&mut dst[..8], &src[..8], alpha);
-        <Eight as Block<P>>::faded::<O, D, S>(&mut dst[8..16], &src[8..16], alpha);
+        <Eight<1> as Block<P>>::faded::<O, D, S>(&mut dst[..8], &src[..8], alpha);
+        <Eight<2> as Block<P>>::faded::<O, D, S>(&mut dst[8..16], &src[8..16], alpha);
     }
 }
