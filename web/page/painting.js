@@ -13,7 +13,8 @@ function commandOf({ name, values }, kept) {
     case 'fill': return copyColor(region(values), values[4]);
     case 'paint': return compositeColor(values[0], region(values.slice(1)), values[5]);
     case 'copy': { const { to, from } = pair(values); return copyImage(to, kept, from); }
-    default: { const { to, from } = pair(values.slice(1)); return compositeImage(values[0], to, kept, from); }
+    case 'comp': { const { to, from } = pair(values.slice(1)); return compositeImage(values[0], to, kept, from); }
+    default: throw new Error(`no command of the library for ${name}`);
     }
 }
 
