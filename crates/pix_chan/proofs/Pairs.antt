@@ -1,15 +1,15 @@
 -- Lists of thirty-two, and products of bytes by pairs: even and odd lanes apart, and together
 -- again.
 use Rattle.std.proofs.Common.{◌≡◌, ℕ, zero, suc, ◌+◌, ◌*◌, ◌/◌, ◌%◌, ◌^◌, ◌<◌, ◌≤◌, List, [], ◌∷◌, ◌++◌, length, take, drop, get_or, map, refl, ap, sym, ◌∙◌, arith, replicate, w8, Fits, bit_or}
-use Rattle.std.specs.Int.Bits.{or_shifted_r}
+use Rattle.std.specs.Int.Bits.{or_shifted_r, or_zero_l, or_zero_r}
 use lib.Lanes.{zip2, Each1, pick_l, number_l, digits_l}
 use Rattle.std.proofs.lemmas.Simd.{zip2_of_maps, splat_is_map, map-map}
 use Rattle.pix_chan.specs.Product.{channel_product}
 use Rattle.pix_chan.proofs.LaneProduct.{near_lane, near_fits}
 use Rattle.pix_chan.proofs.Lanes.{add, mul, shr, shl, same, pairs, firsts, seconds, length-pairs, wide}
-use Rattle.pix_chan.proofs.Planes.{of_pairs, low, high, cons}
+use Rattle.pix_chan.proofs.Planes.{of_pairs, low, high, highs, cons, Each1-of_pairs}
 use Rattle.pix_chan.proofs.Sixteen.{is_sixteen, first_half, second_half, both_halves, fourths, fourths_are, spaced, spaced_are, Each1-fourths}
-use Rattle.pix_chan.specs.Planes.{last_of_four}
+use Rattle.pix_chan.specs.Planes.{last_of_four, last_of_two}
 use Rattle.pix_chan.specs.Runs.{over}
 use Rattle.pix_chan.specs.Lanes.{high_half}
 
@@ -36,46 +36,161 @@ module _ (a b : List ℕ) (la : length a ≡ 16) (lb : length b ≡ 16) where
   pub near_are : halves ≡ zip2 high_half a b
   near_are = halves_are ∙ zipped a b
 
-word_is : (p q : ℕ) → p < 256 → q < 256 → bit_or p (q * 2 ^ 8 % 2 ^ 16) ≡ p + 256 * q
-word_is p q a b = let e : q * 2 ^ 8 % 2 ^ 16 ≡ q * 2 ^ 8 = omega arith in rw e (or_shifted_r q 8 p a ∙ omega arith)
-
-first_byte : (p q z : ℕ) → p < 256 → q < 256 → (p + 256 * q + 65536 * z) % 256 ≡ p
-first_byte p q z a b = omega arith
-
-second_byte : (p q z : ℕ) → p < 256 → q < 256 → (p + 256 * q + 65536 * z) / 256 % 256 ≡ q
-second_byte p q z a b = omega arith
-
-other_bytes : (p q z : ℕ) → p < 256 → q < 256 → (p + 256 * q + 65536 * z) / 256 / 256 ≡ z
-other_bytes p q z a b = omega arith
-
 abbrev pub twice : ℕ → ℕ
 twice zero = zero
 twice (suc n) = suc (suc (twice n))
 
--- the words of products of even and odd bytes
-abbrev pub words : ℕ → List ℕ → List ℕ → List ℕ
-words n a b = zip2 bit_or (zip2 high_half (of_pairs low a) (of_pairs low b)) (zip2 (shl (2 ^ 16)) (zip2 high_half (of_pairs high a) (of_pairs high b)) (replicate n 8))
+-- each number and one of 0
+abbrev pub apart : List ℕ → List ℕ
+apart [] = []
+apart (v ∷ u) = v ∷ 0 ∷ apart u
 
-pub rejoined : (n : ℕ) (a b : List ℕ) → length a ≡ n + n → length b ≡ n + n → Each1 (Fits w8) a → Each1 (Fits w8) b
-    → digits_l 256 (twice n) (number_l 65536 (words n a b)) ≡ zip2 (channel_product 255) a b
-rejoined zero [] b h k f g = refl
-rejoined zero (x ∷ a) b h k f g = absurd (omega arith)
-rejoined (suc n) [] b h k f g = absurd (omega arith)
-rejoined (suc n) (x ∷ []) b h k f g = absurd (omega arith)
-rejoined (suc n) (x ∷ y ∷ a) [] h k f g = absurd (omega arith)
-rejoined (suc n) (x ∷ y ∷ a) (u ∷ []) h k f g = absurd (omega arith)
-rejoined (suc n) (x ∷ y ∷ a) (u ∷ v ∷ b) h k f g =
-    let one = near_fits x u f.0 g.0 in
-    let two = near_fits y v f.1.0 g.1.0 in
-    let p : channel_product 255 x u < 256 = one.fits in
-    let q : channel_product 255 y v < 256 = two.fits in
-    let e : high_half x u ≡ channel_product 255 x u = near_lane x u f.0.fits g.0.fits in
-    let i : high_half y v ≡ channel_product 255 y v = near_lane y v f.1.0.fits g.1.0.fits in
-    let head : bit_or (high_half x u) (high_half y v * 2 ^ 8 % 2 ^ 16) ≡ channel_product 255 x u + 256 * channel_product 255 y v = rw (e, i) (word_is _ _ p q) in
-    let z = number_l 65536 (words n a b) in
-    ap (λ (w : ℕ). digits_l 256 (suc (suc (twice n))) (w + 65536 * z)) head
-    ∙ cons (first_byte _ _ z p q) (cons (second_byte _ _ z p q)
-    (ap (digits_l 256 (twice n)) (other_bytes _ _ z p q) ∙ rejoined n a b (omega arith) (omega arith) f.1.1 g.1.1))
+-- each number after one of 0
+abbrev pub behind : List ℕ → List ℕ
+behind [] = []
+behind (v ∷ u) = 0 ∷ v ∷ behind u
+
+-- each number twice
+abbrev pub doubled : List ℕ → List ℕ
+doubled [] = []
+doubled (v ∷ u) = v ∷ v ∷ doubled u
+
+low_byte : (v r : ℕ) → v < 256 → (v + 65536 * r) % 256 ≡ v
+low_byte v r a = omega arith
+
+high_byte : (v r : ℕ) → v < 256 → (v + 65536 * r) / 256 % 256 ≡ 0
+high_byte v r a = omega arith
+
+further_bytes : (v r : ℕ) → v < 256 → (v + 65536 * r) / 256 / 256 ≡ r
+further_bytes v r a = omega arith
+
+-- the bytes of words below 256
+pub apart_are : (n : ℕ) (u : List ℕ) → length u ≡ n → Each1 (Fits w8) u → digits_l 256 (twice n) (number_l 65536 u) ≡ apart u
+apart_are zero [] h f = refl
+apart_are zero (v ∷ u) h f = absurd (omega arith)
+apart_are (suc n) [] h f = absurd (omega arith)
+apart_are (suc n) (v ∷ u) h f =
+    let a : v < 256 = f.0.fits in
+    let r = number_l 65536 u in
+    cons (low_byte v r a) (cons (high_byte v r a) (ap (digits_l 256 (twice n)) (further_bytes v r a) ∙ apart_are n u (omega arith) f.1))
+
+word_apart : (v r : ℕ) → v < 256 → (v + 256 * (0 + 256 * r)) % 65536 ≡ v
+word_apart v r a = omega arith
+
+words_further : (v r : ℕ) → v < 256 → (v + 256 * (0 + 256 * r)) / 65536 ≡ r
+words_further v r a = omega arith
+
+-- .. and words of these bytes
+pub words_apart : (n : ℕ) (u : List ℕ) → length u ≡ n → Each1 (Fits w8) u → digits_l 65536 n (number_l 256 (apart u)) ≡ u
+words_apart zero [] h f = refl
+words_apart zero (v ∷ u) h f = absurd (omega arith)
+words_apart (suc n) [] h f = absurd (omega arith)
+words_apart (suc n) (v ∷ u) h f =
+    let a : v < 256 = f.0.fits in
+    let r = number_l 256 (apart u) in
+    cons (word_apart v r a) (ap (digits_l 65536 n) (words_further v r a) ∙ words_apart n u (omega arith) f.1)
+
+word_is : (p : ℕ) → p < 256 → bit_or p (p * 2 ^ 8 % 2 ^ 16) ≡ p + 256 * p
+word_is p a = let e : p * 2 ^ 8 % 2 ^ 16 ≡ p * 2 ^ 8 = omega arith in rw e (or_shifted_r p 8 p a ∙ omega arith)
+
+first_byte : (p z : ℕ) → p < 256 → (p + 256 * p + 65536 * z) % 256 ≡ p
+first_byte p z a = omega arith
+
+second_byte : (p z : ℕ) → p < 256 → (p + 256 * p + 65536 * z) / 256 % 256 ≡ p
+second_byte p z a = omega arith
+
+other_bytes : (p z : ℕ) → p < 256 → (p + 256 * p + 65536 * z) / 256 / 256 ≡ z
+other_bytes p z a = omega arith
+
+-- words whose low bytes are put into both
+pub doubled_are : (n : ℕ) (u : List ℕ) → length u ≡ n → Each1 (Fits w8) u
+    → digits_l 256 (twice n) (number_l 65536 (zip2 bit_or u (zip2 (shl (2 ^ 16)) u (replicate n 8)))) ≡ doubled u
+doubled_are zero [] h f = refl
+doubled_are zero (v ∷ u) h f = absurd (omega arith)
+doubled_are (suc n) [] h f = absurd (omega arith)
+doubled_are (suc n) (v ∷ u) h f =
+    let a : v < 256 = f.0.fits in
+    let z = number_l 65536 (zip2 bit_or u (zip2 (shl (2 ^ 16)) u (replicate n 8))) in
+    ap (λ (w : ℕ). digits_l 256 (suc (suc (twice n))) (w + 65536 * z)) (word_is v a)
+    ∙ cons (first_byte v z a) (cons (second_byte v z a) (ap (digits_l 256 (twice n)) (other_bytes v z a) ∙ doubled_are n u (omega arith) f.1))
+
+Each1-doubled : (u : List ℕ) → Each1 (Fits w8) u → Each1 (Fits w8) (doubled u)
+Each1-doubled [] f = tt
+Each1-doubled (v ∷ u) f = (f.0, (f.0, Each1-doubled u f.1))
+
+-- products of bytes in words
+products_fit : (a b : List ℕ) → Each1 (Fits w8) a → Each1 (Fits w8) b → Each1 (Fits w8) (zip2 high_half a b)
+products_fit [] b f g = tt
+products_fit (x ∷ a) [] f g = tt
+products_fit (x ∷ a) (y ∷ b) f g = (rw (near_lane x y f.0.fits g.0.fits) (near_fits x y f.0 g.0), products_fit a b f.1 g.1)
+
+products_long : (g : ℕ → ℕ → ℕ) (n : ℕ) (a b : List ℕ) → length a ≡ n + n → length b ≡ n + n → length (zip2 high_half (of_pairs g a) (of_pairs g b)) ≡ n
+products_long g zero [] b h k = refl
+products_long g zero (x ∷ a) b h k = absurd (omega arith)
+products_long g (suc n) [] b h k = absurd (omega arith)
+products_long g (suc n) (x ∷ []) b h k = absurd (omega arith)
+products_long g (suc n) (x ∷ y ∷ a) [] h k = absurd (omega arith)
+products_long g (suc n) (x ∷ y ∷ a) (u ∷ []) h k = absurd (omega arith)
+products_long g (suc n) (x ∷ y ∷ a) (u ∷ v ∷ b) h k = ap suc (products_long g n a b (omega arith) (omega arith))
+
+alternate : (n : ℕ) (a b : List ℕ) → length a ≡ n + n → length b ≡ n + n → Each1 (Fits w8) a → Each1 (Fits w8) b
+    → zip2 bit_or (apart (zip2 high_half (of_pairs low a) (of_pairs low b))) (behind (zip2 high_half (of_pairs high a) (of_pairs high b)))
+    ≡ zip2 (channel_product 255) a b
+alternate zero [] b h k f g = refl
+alternate zero (x ∷ a) b h k f g = absurd (omega arith)
+alternate (suc n) [] b h k f g = absurd (omega arith)
+alternate (suc n) (x ∷ []) b h k f g = absurd (omega arith)
+alternate (suc n) (x ∷ y ∷ a) [] h k f g = absurd (omega arith)
+alternate (suc n) (x ∷ y ∷ a) (u ∷ []) h k f g = absurd (omega arith)
+alternate (suc n) (x ∷ y ∷ a) (u ∷ v ∷ b) h k f g =
+    cons (or_zero_r (high_half x u) ∙ near_lane x u f.0.fits g.0.fits)
+    (cons (or_zero_l (high_half y v) ∙ near_lane y v f.1.0.fits g.1.0.fits) (alternate n a b (omega arith) (omega arith) f.1.1 g.1.1))
+
+-- the odd indexes of thirty-two lanes, each after one of the lanes that follow
+abbrev after_zeros : List ℕ
+after_zeros = 32 ∷ 0 ∷ 32 ∷ 2 ∷ 32 ∷ 4 ∷ 32 ∷ 6 ∷ 32 ∷ 8 ∷ 32 ∷ 10 ∷ 32 ∷ 12 ∷ 32 ∷ 14 ∷ 32 ∷ 16 ∷ 32 ∷ 18 ∷ 32 ∷ 20 ∷ 32 ∷ 22 ∷ 32 ∷ 24 ∷ 32 ∷ 26 ∷ 32 ∷ 28 ∷ 32 ∷ 30 ∷ []
+
+picked_behind : (u : List ℕ) → length u ≡ 16 → pick_l 0 (apart u ++ replicate {A = ℕ} 32 0) after_zeros ≡ behind u
+picked_behind u h = rw (← (is_sixteen u h).1) refl
+
+pub rejoined : (a b : List ℕ) → length a ≡ 32 → length b ≡ 32 → Each1 (Fits w8) a → Each1 (Fits w8) b
+    → let even = zip2 high_half (of_pairs low a) (of_pairs low b) in
+    let odd = zip2 high_half (of_pairs high a) (of_pairs high b) in
+    zip2 bit_or (digits_l 256 32 (number_l 65536 even)) (pick_l 0 (digits_l 256 32 (number_l 65536 odd) ++ replicate {A = ℕ} 32 0) after_zeros)
+    ≡ zip2 (channel_product 255) a b
+rejoined a b h k f g =
+    let even = zip2 high_half (of_pairs low a) (of_pairs low b) in
+    let odd = zip2 high_half (of_pairs high a) (of_pairs high b) in
+    let lows = Each1-of_pairs low (λ x y p q. p) in
+    let highs = Each1-of_pairs high (λ x y p q. q) in
+    let first = apart_are 16 even (products_long low 16 a b h k) (products_fit (of_pairs low a) (of_pairs low b) (lows a f) (lows b g)) in
+    let second = apart_are 16 odd (products_long high 16 a b h k) (products_fit (of_pairs high a) (of_pairs high b) (highs a f) (highs b g)) in
+    ap (λ (l : List ℕ). zip2 bit_or l (pick_l 0 (digits_l 256 32 (number_l 65536 odd) ++ replicate {A = ℕ} 32 0) after_zeros)) first
+    ∙ ap (λ (l : List ℕ). zip2 bit_or (apart even) (pick_l 0 (l ++ replicate {A = ℕ} 32 0) after_zeros)) second
+    ∙ ap (zip2 bit_or (apart even)) (picked_behind odd (products_long high 16 a b h k))
+    ∙ alternate 16 a b h k f g
+
+-- the words of the last channels of pixels of two, each twice
+abbrev last_words : ℕ → List ℕ → List ℕ
+last_words n u = zip2 bit_or (of_pairs high u) (zip2 (shl (2 ^ 16)) (of_pairs high u) (replicate n 8))
+
+last_bytes : (n : ℕ) (u : List ℕ) → length u ≡ n + n → Each1 (Fits w8) u → digits_l 256 (twice n) (number_l 65536 (last_words n u)) ≡ last_of_two u
+last_bytes zero [] h f = refl
+last_bytes zero (x ∷ u) h f = absurd (omega arith)
+last_bytes (suc n) [] h f = absurd (omega arith)
+last_bytes (suc n) (x ∷ []) h f = absurd (omega arith)
+last_bytes (suc n) (x ∷ y ∷ u) h f =
+    let q : y < 256 = f.1.0.fits in
+    let z = number_l 65536 (last_words n u) in
+    ap (λ (w : ℕ). digits_l 256 (suc (suc (twice n))) (w + 65536 * z)) (word_is y q)
+    ∙ cons (first_byte y z q) (cons (second_byte y z q)
+    (ap (digits_l 256 (twice n)) (other_bytes y z q) ∙ last_bytes n u (omega arith) f.1.1))
+
+pub last_are : (u : List ℕ) → length u ≡ 32 → Each1 (Fits w8) u
+    → let last = zip2 shr (digits_l 65536 16 (number_l 256 u)) (replicate 16 8) in
+    digits_l 256 32 (number_l 65536 (zip2 bit_or last (zip2 (shl (2 ^ 16)) last (replicate 16 8)))) ≡ last_of_two u
+last_are u h f =
+    ap (λ (l : List ℕ). digits_l 256 32 (number_l 65536 (zip2 bit_or l (zip2 (shl (2 ^ 16)) l (replicate 16 8))))) (highs 16 u h f) ∙ last_bytes 16 u h f
 
 -- a list of 32 as the tuple of its elements
 pub is_thirty_two : {A : Type 0} (p : List A) → length p ≡ 32 → (w : (A × A × A × A × A × A × A × A × A × A × A × A × A × A × A × A) × (A × A × A × A × A × A × A × A × A × A × A × A × A × A × A × A)) × (w.0.0 ∷ w.0.1 ∷ w.0.2 ∷ w.0.3 ∷ w.0.4 ∷ w.0.5 ∷ w.0.6 ∷ w.0.7 ∷ w.0.8 ∷ w.0.9 ∷ w.0.10 ∷ w.0.11 ∷ w.0.12 ∷ w.0.13 ∷ w.0.14 ∷ w.0.15 ∷ w.1.0 ∷ w.1.1 ∷ w.1.2 ∷ w.1.3 ∷ w.1.4 ∷ w.1.5 ∷ w.1.6 ∷ w.1.7 ∷ w.1.8 ∷ w.1.9 ∷ w.1.10 ∷ w.1.11 ∷ w.1.12 ∷ w.1.13 ∷ w.1.14 ∷ w.1.15 ∷ [] ≡ p)
@@ -100,22 +215,29 @@ all_put n [] (x ∷ xs) h k = absurd (omega arith)
 all_put zero (y ∷ ys) (x ∷ xs) h k = absurd (omega arith)
 all_put (suc n) (y ∷ ys) (x ∷ xs) h k = ap (λ (l : List ℕ). y ∷ l) (all_put n ys xs (omega arith) (omega arith))
 
--- the last channels of eight pixels, by the words of their channels
+-- the last channels of eight pixels, each in two words, by the words of their channels
 abbrev places : List ℕ
-places = 0 ∷ 0 ∷ 0 ∷ 0 ∷ 4 ∷ 4 ∷ 4 ∷ 4 ∷ 8 ∷ 8 ∷ 8 ∷ 8 ∷ 12 ∷ 12 ∷ 12 ∷ 12 ∷ 16 ∷ 16 ∷ 16 ∷ 16 ∷ 20 ∷ 20 ∷ 20 ∷ 20 ∷ 24 ∷ 24 ∷ 24 ∷ 24 ∷ 28 ∷ 28 ∷ 28 ∷ 28 ∷ []
+places = 0 ∷ 32 ∷ 0 ∷ 32 ∷ 4 ∷ 32 ∷ 4 ∷ 32 ∷ 8 ∷ 32 ∷ 8 ∷ 32 ∷ 12 ∷ 32 ∷ 12 ∷ 32 ∷ 16 ∷ 32 ∷ 16 ∷ 32 ∷ 20 ∷ 32 ∷ 20 ∷ 32 ∷ 24 ∷ 32 ∷ 24 ∷ 32 ∷ 28 ∷ 32 ∷ 28 ∷ 32 ∷ []
 
 spread_fourths : (u : List ℕ) → length u ≡ 32
-    → (length (fourths u) ≡ 8) × (pick_l 0 (spaced (fourths u) ++ spaced (fourths u)) places ≡ last_of_four u)
-spread_fourths u h = rw (← (is_thirty_two u h).1) (refl, refl)
+    → (length (fourths u) ≡ 8) × (length (doubled (fourths u)) ≡ 16) × (doubled (doubled (fourths u)) ≡ last_of_four u)
+    × (pick_l 0 (spaced (fourths u) ++ replicate {A = ℕ} 32 0) places ≡ apart (doubled (fourths u)))
+spread_fourths u h = rw (← (is_thirty_two u h).1) (refl, refl, refl, refl)
 
 pub spread_are : (u : List ℕ) → length u ≡ 32 → Each1 (Fits w8) u
     → let bytes = digits_l 256 32 (number_l 4294967296 (zip2 shr (digits_l 4294967296 8 (number_l 256 u)) (replicate 8 24))) in
-    pick_l 0 (bytes ++ bytes) places ≡ last_of_four u
+    let words = digits_l 65536 16 (number_l 256 (pick_l 0 (bytes ++ replicate {A = ℕ} 32 0) places)) in
+    digits_l 256 32 (number_l 65536 (zip2 bit_or words (zip2 (shl (2 ^ 16)) words (replicate 16 8)))) ≡ last_of_four u
 spread_are u h f =
-    let both = spread_fourths u h in
-    let words = fourths_are 8 u h f in
-    let bytes = ap (λ (l : List ℕ). digits_l 256 32 (number_l 4294967296 l)) words ∙ spaced_are 8 (fourths u) both.0 (Each1-fourths u f) in
-    ap (λ (l : List ℕ). pick_l 0 (l ++ l) places) bytes ∙ both.1
+    let all = spread_fourths u h in
+    let v = fourths u in
+    let fits = Each1-fourths u f in
+    let twos = Each1-doubled v fits in
+    let bytes = ap (λ (l : List ℕ). digits_l 256 32 (number_l 4294967296 l)) (fourths_are 8 u h f) ∙ spaced_are 8 v all.0 fits in
+    let words = ap (λ (l : List ℕ). digits_l 65536 16 (number_l 256 (pick_l 0 (l ++ replicate {A = ℕ} 32 0) places))) bytes
+    ∙ ap (λ (l : List ℕ). digits_l 65536 16 (number_l 256 l)) all.3 ∙ words_apart 16 (doubled v) all.1 twos in
+    ap (λ (l : List ℕ). digits_l 256 32 (number_l 65536 (zip2 bit_or l (zip2 (shl (2 ^ 16)) l (replicate 16 8))))) words
+    ∙ doubled_are 16 (doubled v) all.1 twos ∙ all.2
 
 -- the last channels of eight pixels, each at the places of its pixel
 pub alphas_are : {A : Type 0} (f : A → ℕ) (u : List A) (d0 d1 d2 d3 d4 d5 d6 d7 : A) {a b c d e g i j : ℕ} → length u ≡ 32

@@ -3,7 +3,7 @@ use Rattle.std.proofs.Common.{◌≡◌, ℕ, zero, suc, ◌+◌, ◌*◌, ◌/�
 use lib.Lanes.{zip2, Each1, pick_l, number_l, digits_l}
 use borrow.Rule.Slice.PartMut.{put_mid}
 use Rattle.std.proofs.lemmas.List.{map-append}
-use Rattle.pix_chan.specs.Planes.{last_of_four}
+use Rattle.pix_chan.specs.Planes.{last_of_four, last_of_two}
 use Rattle.pix_chan.proofs.Lanes.{shr}
 use Rattle.pix_chan.proofs.Planes.{cons, four_times}
 use Rattle.pix_chan.proofs.Sixteen.{is_sixteen, fourths, spaced}
@@ -140,3 +140,19 @@ pub both_spread : {A : Type 0} (f : A → ℕ) (u a b : List A) → length u ≡
 both_spread f u a b h i j e g =
     ap (map f) (put_halves u a b h i j) ∙ map-append f a b
     ∙ ap (λ (l : List ℕ). l ++ map f b) e ∙ ap (λ (l : List ℕ). last_of_four (map f (take 16 u)) ++ l) g ∙ last_of_halves f u h
+
+-- the same of pixels of two channels
+pub last_pairs : (u : List ℕ) → length u ≡ 16
+    → pick_l 0 (u ++ u) (1 ∷ 1 ∷ 3 ∷ 3 ∷ 5 ∷ 5 ∷ 7 ∷ 7 ∷ 9 ∷ 9 ∷ 11 ∷ 11 ∷ 13 ∷ 13 ∷ 15 ∷ 15 ∷ []) ≡ last_of_two u
+last_pairs u h = rw (← (is_sixteen u h).1) refl
+
+last_two_of_halves : {A : Type 0} (f : A → ℕ) (u : List A) → length u ≡ 32
+    → last_of_two (map f (take 16 u)) ++ last_of_two (map f (take 16 (drop 16 u))) ≡ last_of_two (map f u)
+last_two_of_halves f u h = rw (← (is_thirty_two u h).1) refl
+
+pub both_last : {A : Type 0} (f : A → ℕ) (u a b : List A) → length u ≡ 32 → length a ≡ 16 → length b ≡ 16
+    → map f a ≡ last_of_two (map f (take 16 u)) → map f b ≡ last_of_two (map f (take 16 (drop 16 u)))
+    → map f (put_mid 16 16 (a ++ drop 16 u) b) ≡ last_of_two (map f u)
+both_last f u a b h i j e g =
+    ap (map f) (put_halves u a b h i j) ∙ map-append f a b
+    ∙ ap (λ (l : List ℕ). l ++ map f b) e ∙ ap (λ (l : List ℕ). last_of_two (map f (take 16 u)) ++ l) g ∙ last_two_of_halves f u h

@@ -23,6 +23,12 @@ last_of_four (w ∷ x ∷ []) = []
 last_of_four (w ∷ x ∷ y ∷ []) = []
 last_of_four (w ∷ x ∷ y ∷ z ∷ r) = z ∷ z ∷ z ∷ z ∷ last_of_four r
 
+-- of pixels of two channels, pixel by pixel: at each place the last channel of its pixel
+abbrev pub last_of_two : {A : Type 0} → List A → List A
+last_of_two [] = []
+last_of_two (w ∷ []) = []
+last_of_two (w ∷ x ∷ r) = x ∷ x ∷ last_of_two r
+
 -- of pixels of four channels, pixel by pixel: the colors of the first list and the alphas of the
 -- second one
 abbrev pub with_alphas : {A : Type 0} → List A → List A → List A

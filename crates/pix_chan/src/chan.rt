@@ -13,7 +13,7 @@ ghost use Rattle.pix_chan.specs.Laws.{ChannelLaws};
 ghost use Rattle.pix_chan.specs.Channel.{IsNumbered, IsTotal, Answers};
 ghost use Rattle.pix_chan.specs.Runs.{over};
 ghost use Rattle.pix_chan.specs.Seal.{Seal};
-ghost use Rattle.pix_chan.specs.Planes.{in_turn, both_in_turn, last_of_four, with_alphas};
+ghost use Rattle.pix_chan.specs.Planes.{in_turn, both_in_turn, last_of_four, last_of_two, with_alphas};
 
 use std::fmt::Debug;
 use std::ops::{Add, Div, Mul, Sub};
@@ -210,6 +210,11 @@ pub trait Channel: Copy
     #[doc(hidden)]
     fn alphas8(pixels: [Self; 32]) -> [Self; 32]
         ensures { map number result ≡ last_of_four (map number pixels) };
+
+    /// Returns, for sixteen pixels of two channels, at each index the last channel of its pixel.
+    #[doc(hidden)]
+    fn alphas16(pixels: [Self; 32]) -> [Self; 32]
+        ensures { map number result ≡ last_of_two (map number pixels) };
 
     /// Returns the planes of sixteen pixels of four channels: `a` to `d` are four pixels each.
     #[doc(hidden)]

@@ -7,7 +7,7 @@ ghost use Rattle.pix_chan.specs.Number.{saturating_sum, saturating_difference};
 ghost use Rattle.pix_chan.specs.Product.{channel_product, channel_quotient};
 ghost use Rattle.pix_chan.specs.Channel.{AnswersFrom};
 ghost use Rattle.pix_chan.specs.Depth.{to_16_bit, from_16_bit};
-ghost use Rattle.pix_chan.specs.Planes.{in_turn, both_in_turn, last_of_four, with_alphas};
+ghost use Rattle.pix_chan.specs.Planes.{in_turn, both_in_turn, last_of_four, last_of_two, with_alphas};
 ghost use Rattle.pix_chan.specs.Seal.{seal};
 
 use crate::chan::{Ch8, Channel, whole};
@@ -309,6 +309,20 @@ impl Channel for Ch16 {
         let p = &pixels[..];
         let first = lanes::channels(lanes::spread(lanes::units(&p[..16])));
         let second = lanes::channels(lanes::spread(lanes::units(&p[16..32])));
+        let mut own = pixels;
+        let to = &mut own[..];
+        lanes::store(&mut to[..16], first);
+        lanes::store(&mut to[16..32], second);
+        own
+    }
+
+    #[inline(always)]
+    fn alphas16(pixels: [Ch16; 32]) -> [Ch16; 32]
+        ensures { map (λ x. x.value) result ≡ last_of_two (map (λ x. x.value) pixels) }
+    {
+        let p = &pixels[..];
+        let first = lanes::channels(lanes::twice_last(lanes::units(&p[..16])));
+        let second = lanes::channels(lanes::twice_last(lanes::units(&p[16..32])));
         let mut own = pixels;
         let to = &mut own[..];
         lanes::store(&mut to[..16], first);

@@ -7,7 +7,7 @@ ghost use Rattle.pix_chan.specs.Number.{saturating_sum, saturating_difference};
 ghost use Rattle.pix_chan.specs.Product.{channel_product, channel_quotient};
 ghost use Rattle.pix_chan.specs.Channel.{AnswersFrom};
 ghost use Rattle.pix_chan.specs.Depth.{to_16_bit, from_16_bit};
-ghost use Rattle.pix_chan.specs.Planes.{in_turn, both_in_turn, last_of_four, with_alphas};
+ghost use Rattle.pix_chan.specs.Planes.{in_turn, both_in_turn, last_of_four, last_of_two, with_alphas};
 ghost use Rattle.pix_chan.specs.Seal.{seal};
 
 use crate::chan::bits8::lanes::{channels, units, unmultiplied};
@@ -277,6 +277,13 @@ impl Channel for Ch8 {
         ensures { map (λ x. x.value) result ≡ last_of_four (map (λ x. x.value) pixels) }
     {
         pairs::channels(pairs::spread(pairs::units(&pixels)))
+    }
+
+    #[inline(always)]
+    fn alphas16(pixels: [Ch8; 32]) -> [Ch8; 32]
+        ensures { map (λ x. x.value) result ≡ last_of_two (map (λ x. x.value) pixels) }
+    {
+        pairs::channels(pairs::twice_last(pairs::units(&pixels)))
     }
 
     #[inline(always)]

@@ -6,7 +6,8 @@ ghost use Rattle.std.specs.Prelude.{◌≡◌, ◌<◌, ◌*◌, ◌/◌, ◌%�
 ghost use Rattle.std.specs.Simd.Lanes.{zip2, Each1, number_l, digits_l};
 ghost use Rattle.pix_chan.specs.Product.{channel_quotient};
 ghost use Rattle.pix_chan.specs.Planes.{with_alphas};
-ghost use Rattle.pix_chan.specs.LaneQuotients.{alphas_in, reciprocal_of, whole_reciprocal_of, parts, IsReciprocal};
+ghost use Rattle.pix_chan.specs.LaneQuotients.{alphas_in, whole_reciprocal_of, parts, IsReciprocal};
+ghost use Rattle.pix_chan.specs.declared.quotients.TheConstants.{RECIPROCALS};
 
 use crate::quotients::reciprocal;
 use std::simd::prelude::*;
@@ -62,20 +63,19 @@ fn in_parts(words: u64x4) -> u16x16
     u16x16::from_le_bytes(words.to_le_bytes())
 }
 
-/// Returns the reciprocals of the alphas of four pixels, each in four parts.
+/// Returns the reciprocals of four alphas that come from eight bits, each in four parts.
 #[inline(always)]
-fn reciprocals(x: u16x16) -> u16x16
-    ensures { result ≡ parts (reciprocal_of (slice_index_or x 3 0))
-        ++ (parts (reciprocal_of (slice_index_or x 7 0))
-        ++ (parts (reciprocal_of (slice_index_or x 11 0))
-        ++ parts (reciprocal_of (slice_index_or x 15 0)))) }
+fn reciprocals(one: u8, two: u8, three: u8, four: u8) -> u16x16
+    ensures { result ≡ parts (slice_index_or RECIPROCALS one 0)
+        ++ (parts (slice_index_or RECIPROCALS two 0)
+        ++ (parts (slice_index_or RECIPROCALS three 0)
+        ++ parts (slice_index_or RECIPROCALS four 0))) }
 {
-    let p = x.to_array();
     in_parts(u64x4::from_array([
-        reciprocal(usize::from(p[3] % 256)),
-        reciprocal(usize::from(p[7] % 256)),
-        reciprocal(usize::from(p[11] % 256)),
-        reciprocal(usize::from(p[15] % 256)),
+        reciprocal(usize::from(one)),
+        reciprocal(usize::from(two)),
+        reciprocal(usize::from(three)),
+        reciprocal(usize::from(four)),
     ]))
 }
 
@@ -123,14 +123,36 @@ fn divided_by(x: u16x16, r: u16x16) -> u16x16
         .select(scaled(x, low, middle, high), u16x16::splat(65535))
 }
 
+/// Returns four pixels of four channels, each channel divided by the alpha of its pixel.
+///
+/// Condition: the alphas come from eight bits, which are the four numbers.
+#[inline(always)]
+pub fn divided_by_bytes(x: u16x16, one: u8, two: u8, three: u8, four: u8) -> u16x16
+    requires repeated { Each1 (λ a. a ≡ 257 * (a % 256)) (alphas_in x) }
+    requires one { one ≡ slice_index_or x 3 0 % 256 }
+    requires two { two ≡ slice_index_or x 7 0 % 256 }
+    requires three { three ≡ slice_index_or x 11 0 % 256 }
+    requires four { four ≡ slice_index_or x 15 0 % 256 }
+    ensures { result ≡ zip2 (channel_quotient 65535) x (alphas_in x) }
+{
+    divided_by(x, reciprocals(one, two, three, four))
+}
+
 /// Returns four pixels of four channels, each channel divided by the alpha of its pixel. Condition:
 /// the alphas come from eight bits.
 #[inline(always)]
-pub fn divided(x: u16x16) -> u16x16
+fn divided(x: u16x16) -> u16x16
     requires { Each1 (λ a. a ≡ 257 * (a % 256)) (alphas_in x) }
     ensures { result ≡ zip2 (channel_quotient 65535) x (alphas_in x) }
 {
-    divided_by(x, reciprocals(x))
+    let p = x.to_array();
+    divided_by_bytes(
+        x,
+        (p[3] % 256) as u8,
+        (p[7] % 256) as u8,
+        (p[11] % 256) as u8,
+        (p[15] % 256) as u8,
+    )
 }
 
 /// Returns 2^48 / `alpha` rounded down, plus one. An alpha of 0 counts as 1 here.

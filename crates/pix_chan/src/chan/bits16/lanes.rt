@@ -3,7 +3,7 @@ ghost use Rattle.std.specs.Prelude.{◌≡◌, map, length};
 ghost use Rattle.std.specs.Simd.Lanes.{zip2};
 ghost use Rattle.pix_chan.specs.Number.{saturating_sum};
 ghost use Rattle.pix_chan.specs.Product.{channel_product};
-ghost use Rattle.pix_chan.specs.Planes.{last_of_four};
+ghost use Rattle.pix_chan.specs.Planes.{last_of_four, last_of_two};
 ghost use Rattle.pix_chan.specs.Lanes.{high_sum, carried};
 
 use crate::chan::bits16::Ch16;
@@ -66,6 +66,17 @@ pub(super) fn spread(pixels: u16x16) -> u16x16
     let words = u64x4::from_le_bytes(pixels.to_le_bytes()) >> u64x4::splat(48);
     let last = u16x16::from_le_bytes(words.to_le_bytes());
     last.shuffle(last, [0, 0, 0, 0, 4, 4, 4, 4, 8, 8, 8, 8, 12, 12, 12, 12])
+}
+
+/// Returns, for eight pixels of two channels, at each lane the last channel of its pixel.
+#[inline(always)]
+pub(super) fn twice_last(pixels: u16x16) -> u16x16
+    ensures { result ≡ last_of_two pixels }
+{
+    pixels.shuffle(
+        pixels,
+        [1, 1, 3, 3, 5, 5, 7, 7, 9, 9, 11, 11, 13, 13, 15, 15],
+    )
 }
 
 /// Returns the numbers of sixteen channels.

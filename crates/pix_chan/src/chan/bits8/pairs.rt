@@ -7,7 +7,7 @@ ghost use Rattle.std.specs.Prelude.{◌≡◌, map, length};
 ghost use Rattle.std.specs.Simd.Lanes.{zip2};
 ghost use Rattle.pix_chan.specs.Number.{saturating_sum};
 ghost use Rattle.pix_chan.specs.Product.{channel_product};
-ghost use Rattle.pix_chan.specs.Planes.{last_of_four};
+ghost use Rattle.pix_chan.specs.Planes.{last_of_four, last_of_two};
 ghost use Rattle.pix_chan.specs.Lanes.{high_half};
 
 use crate::chan::bits8::Ch8;
@@ -27,15 +27,25 @@ fn near(a: u16x16, b: u16x16) -> u16x16
 }
 
 /// Returns the channel product of the bytes of each lane.
+///
+/// The odd ones go back to their places by a shuffle of bytes. A shift of words by 8 does the same,
+/// but LLVM then computes the high half of their products by four steps in place of one.
 #[inline(always)]
 fn product_lanes(a: u8x32, b: u8x32) -> u8x32
     ensures { result ≡ zip2 (channel_product 255) a b }
 {
     let x = u16x16::from_le_bytes(a);
     let y = u16x16::from_le_bytes(b);
-    let even = near(x & u16x16::splat(255), y & u16x16::splat(255));
-    let odd = near(x >> u16x16::splat(8), y >> u16x16::splat(8));
-    (even | (odd << u16x16::splat(8))).to_le_bytes()
+    let even = near(x & u16x16::splat(255), y & u16x16::splat(255)).to_le_bytes();
+    let odd = near(x >> u16x16::splat(8), y >> u16x16::splat(8)).to_le_bytes();
+    let behind = odd.shuffle(
+        u8x32::splat(0),
+        [
+            32, 0, 32, 2, 32, 4, 32, 6, 32, 8, 32, 10, 32, 12, 32, 14, 32, 16, 32, 18, 32, 20, 32,
+            22, 32, 24, 32, 26, 32, 28, 32, 30,
+        ],
+    );
+    even | behind
 }
 
 /// Returns the saturating sum of the bytes of each lane.
@@ -46,20 +56,33 @@ fn sum_lanes(x: u8x32, y: u8x32) -> u8x32
     x.saturating_add(y)
 }
 
-/// Returns, for eight pixels of four channels, at each lane the last channel of its pixel. It
-/// shifts words, as the same function for four pixels does.
+/// Returns, for eight pixels of four channels, at each lane the last channel of its pixel.
+///
+/// It is put together from words that have the channel in their low byte alone. So LLVM sees that
+/// both bytes of a word are equal, and a product takes them apart once.
 #[inline(always)]
 pub(super) fn spread(pixels: u8x32) -> u8x32
     ensures { result ≡ last_of_four pixels }
 {
     let last = (u32x8::from_le_bytes(pixels) >> u32x8::splat(24)).to_le_bytes();
-    last.shuffle(
-        last,
+    let low = u16x16::from_le_bytes(last.shuffle(
+        u8x32::splat(0),
         [
-            0, 0, 0, 0, 4, 4, 4, 4, 8, 8, 8, 8, 12, 12, 12, 12, 16, 16, 16, 16, 20, 20, 20, 20, 24,
-            24, 24, 24, 28, 28, 28, 28,
+            0, 32, 0, 32, 4, 32, 4, 32, 8, 32, 8, 32, 12, 32, 12, 32, 16, 32, 16, 32, 20, 32, 20,
+            32, 24, 32, 24, 32, 28, 32, 28, 32,
         ],
-    )
+    ));
+    (low | (low << u16x16::splat(8))).to_le_bytes()
+}
+
+/// Returns, for sixteen pixels of two channels, at each lane the last channel of its pixel. It
+/// shifts words, as products do, so that LLVM sees through both.
+#[inline(always)]
+pub(super) fn twice_last(pixels: u8x32) -> u8x32
+    ensures { result ≡ last_of_two pixels }
+{
+    let last = u16x16::from_le_bytes(pixels) >> u16x16::splat(8);
+    (last | (last << u16x16::splat(8))).to_le_bytes()
 }
 
 /// Returns the numbers of thirty-two channels.
