@@ -1,6 +1,6 @@
 -- Of `two_channels`: that the channels are there, and that they are those of the pixel.
 use Rattle.std.proofs.Common.{◌∙◌, ap, sym, arith, map}
-use Rattle.pix_el.proofs.TwoPlanes.{mapped2}
+use Rattle.pix_el.proofs.TwoPixels.{mapped2}
 use Rattle.pix_el.proofs.planes.two.two_channels.Goals as goal
 
 pub bounds-c-0 : goal.bounds-c-0

@@ -2,7 +2,7 @@
 use Rattle.std.proofs.Common.{arith, map, refl}
 use Rattle.std.proofs.lemmas.List.{length-map}
 use Rattle.pix_el.proofs.InPixels.{twos_read}
-use Rattle.pix_el.proofs.planes.two.eight_pixels.Goals as goal
+use Rattle.pix_el.proofs.planes.half.eight_pixels.Goals as goal
 
 pub load_channels-requires : goal.load_channels-requires
 load_channels-requires g c = rw (c.requires.count, c.requires.size) refl
