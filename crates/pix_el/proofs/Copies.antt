@@ -1,6 +1,8 @@
 -- Copied pixels, by their numbers.
-use Rattle.std.proofs.Common.{◌≡◌, ℕ, ◌+◌, ◌-◌, ◌≤◌, List, [], ◌∷◌, ◌++◌, length, map, take, drop, replicate, refl, ap, sym, ◌∙◌, arith}
+use Rattle.std.proofs.Common.{◌≡◌, ℕ, ◌+◌, ◌-◌, ◌*◌, ◌/◌, ◌%◌, ◌≤◌, ◌<◌, List, [], ◌∷◌, ◌++◌, length, map, min, take, drop, replicate, refl, ap, sym, ◌∙◌, arith}
 use borrow.Rule.Slice.PartMut.{put_mid}
+use Rattle.std.proofs.Math.Nat.{mul-le-mul_left}
+use Rattle.std.proofs.lemmas.Grind.{div_ceil_times}
 use Rattle.std.proofs.lemmas.List.{append_assoc, drop-drop, drop-take, length-take-le, take-append-drop, take-append-le, take-take}
 use Rattle.std.proofs.lemmas.Slice.{drop-append-drop}
 use Rattle.pix_chan.specs.Runs.{over}
@@ -30,3 +32,22 @@ copied_more {X = X} k n e source old ws new from le has is fresh =
     same_pair first (same_pair fresh rest)
     ∙ sym (append_assoc (take k source) (take (e - k) (drop k source)) (drop e old))
     ∙ ap (λ (l : List X). l ++ drop e old) whole
+
+-- a row that is copied part by part, and then the part that is next, which ends where the row ends or before
+pub copied_part : {X : Type 0} (k part count at : ℕ) (source old ws new : List X) → part ≤ count → count ≤ length source → k * part < count
+    → at ≡ min (k * part) (count - part) → ws ≡ take (min (k * part) count) source ++ drop (min (k * part) count) old
+    → new ≡ take (at + part - at) (drop at source)
+    → put_mid at (at + part - at) ws new ≡ take (min ((k + 1) * part) count) source ++ drop (min ((k + 1) * part) count) old
+copied_part {X = X} k part count at source old ws new fits has next is so_far fresh =
+    let end : at + part ≡ min ((k + 1) * part) count = omega arith in
+    copied_more at (min (k * part) count) (at + part) source old ws new (omega arith) (omega arith) (omega arith) so_far fresh
+    ∙ ap (λ (n : ℕ). take n source ++ drop n old) end
+
+-- a part of those that it takes begins within the row
+pub part_begins : (k part count end : ℕ) → 0 < part → end ≡ count / part + min 1 (count % part) → k < end → k * part < count
+part_begins k part count end some is lt =
+    let most : part * (k + 1) ≤ part * end = mul-le-mul_left part (omega (arith, lt)) in
+    let all : end * part < count + part = rw is (div_ceil_times count part some).1 in
+    let next : part * (k + 1) ≡ k * part + part = omega arith in
+    let same : part * end ≡ end * part = omega arith in
+    omega (arith, most, all, next, same)

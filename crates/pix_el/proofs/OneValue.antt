@@ -30,3 +30,17 @@ first_filled x n old new fits fresh = same_pair (fresh ∙ ap (λ (k : ℕ). rep
 pub all_filled : {X : Type 0} (x : X) (n : ℕ) (old ws : List X) → n ≡ length old → ws ≡ replicate n x ++ drop n old → ws ≡ replicate (length old) x
 all_filled {X = X} x n old ws end is =
     is ∙ ap (λ (l : List X). replicate n x ++ l) (drop_all n old (omega arith)) ∙ append-nil (replicate n x) ∙ ap (λ (k : ℕ). replicate k x) end
+
+-- a part of a row of one value
+part_same : {X : Type 0} (x : X) (k m n : ℕ) → k + m ≤ n → replicate m x ≡ take m (drop k (replicate n x))
+part_same x zero zero n le = refl
+part_same x zero (suc m) zero le = absurd (omega arith)
+part_same {X = X} x zero (suc m) (suc n) le = ap (λ (l : List X). x ∷ l) (part_same x zero m n (omega arith))
+part_same x (suc k) m zero le = absurd (omega arith)
+part_same x (suc k) m (suc n) le = part_same x k m n (omega arith)
+
+-- a part that is filled
+pub filled_part : {X : Type 0} (x : X) (k m n : ℕ) (ws new : List X) → k + m ≤ n → length ws ≡ n → new ≡ replicate (length (take m (drop k ws))) x
+    → new ≡ take m (drop k (replicate n x))
+filled_part x k m n ws new le long is =
+    is ∙ ap (λ (i : ℕ). replicate i x) (length-take-le m (drop k ws) (omega (arith, length-drop k ws))) ∙ part_same x k m n le

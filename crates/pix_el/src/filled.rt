@@ -1,5 +1,5 @@
 //! Rows of one color and copies of rows, as they lie in memory.
-ghost use Rattle.std.specs.Prelude.{◌≡◌, ◌+◌, ◌≤◌, length, map, min, replicate};
+ghost use Rattle.std.specs.Prelude.{◌≡◌, ◌+◌, ◌<◌, ◌≤◌, length, map, min, replicate};
 ghost use Rattle.pix_chan.specs.Runs.{over};
 
 use crate::el::Pixel;
@@ -30,14 +30,34 @@ fn fill_ends<D: Copy>(row: &mut [D], part: usize, value: D)
     }
 }
 
-/// Writes one value in each place. A row of 8 to 32 places is two parts.
-// LLVM makes `memset` of a loop over zeros. A call of it takes longer than such a row.
+/// Writes one value in each place of a row of at least one part, part by part. The last part may
+/// overlap the one before it.
+#[inline(always)]
+fn fill_parts<D: Copy>(row: &mut [D], part: usize, value: D)
+    requires some { 0 < part }
+    requires has_one { part ≤ length row.old }
+    ensures { row.new ≡ replicate (length row.old) value }
+{
+    let count = row.len();
+    let last = count - part;
+    for k in 0..count.div_ceil(part) {
+        let at = (k * part).min(last);
+        write_all(&mut row[at..at + part], value);
+    }
+}
+
+/// Writes one value in each place. A row of 8 to 32 places is two parts, and one of more than 256
+/// goes in parts of 16.
+// LLVM makes `memset` of a loop over zeros, but not of parts whose places `min` decides. A call of
+// it takes longer than such a row.
 #[inline(always)]
 fn fill_row<D: Copy>(row: &mut [D], value: D)
     ensures { row.new ≡ replicate (length row.old) value }
 {
     let count = row.len();
-    if count < 8 || count > 32 {
+    if count > 256 {
+        fill_parts(row, 16, value);
+    } else if count < 8 || count > 32 {
         write_all(row, value);
     } else if count <= 16 {
         fill_ends(row, 8, value);

@@ -6,8 +6,8 @@ use Rattle.pix_el.proofs.MattePlanes.{last_color}
 use Rattle.pix_el.proofs.Replaced.{one_for_each}
 use Rattle.pix_el.proofs.rows.CompositedColorFill.fill.Goals as goal
 
-pub returns-then-replaces : goal.returns-then-replaces
-returns-then-replaces g c =
+pub returns-then-row-le32 : goal.returns-then-row-le32
+returns-then-row-le32 g c =
     let n = g.D.Stored.reads in
     let op = pixel_composite g.P.Pixel.layout g.O.Blend.op in
     let clr = c.args.self.now.clr in
