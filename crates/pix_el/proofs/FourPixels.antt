@@ -18,6 +18,14 @@ pub color_four_times : {C : Type 0} (number : C → ℕ) (a b c d : C) (color : 
     → by_fours (map number (a ∷ b ∷ c ∷ d ∷ a ∷ b ∷ c ∷ d ∷ a ∷ b ∷ c ∷ d ∷ a ∷ b ∷ c ∷ d ∷ [])) ≡ replicate 4 color
 color_four_times number a b c d color e = rw (← e) refl
 
+-- what is made of the last channels
+pub last_made : {A B : Type 0} (f : A → B) (cs : List A) → last_of_four (map f cs) ≡ map f (last_of_four cs)
+last_made f [] = refl
+last_made f (w ∷ []) = refl
+last_made f (w ∷ x ∷ []) = refl
+last_made f (w ∷ x ∷ y ∷ []) = refl
+last_made f (w ∷ x ∷ y ∷ z ∷ r) = ap (λ l. f z ∷ f z ∷ f z ∷ f z ∷ l) (last_made f r)
+
 module _ (max : ℕ) (op : Op) where
   -- one minus the alpha of its pixel, at each place
   abbrev pub rests : List ℕ → List ℕ

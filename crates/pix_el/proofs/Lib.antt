@@ -7,11 +7,10 @@ pub mod Conversions
 pub mod InLight
 pub mod LightBlocks
 pub mod FourPlanes
-pub mod TwoPlanes
 pub mod Gray
 pub mod Made
 pub mod Depth
-pub mod HalfPlanes
+pub mod TwoPixels
 pub mod Halves
 pub mod InPixels
 pub mod OnePlane

@@ -7,11 +7,10 @@ use Rattle.std.proofs.lemmas.Slice.Zip.{length-zip}
 use Rattle.pix_chan.specs.Product.{channel_product}
 use Rattle.pix_chan.specs.Runs.{over}
 use Rattle.pix_chan.proofs.Planes.{cons}
-use Rattle.pix_el.specs.Planes.{by_ones, ArePlanes, AreTwoPlanes, matted_first}
+use Rattle.pix_el.specs.Planes.{by_ones, ArePlanes, matted_first}
 use Rattle.pix_el.specs.Pixel.{channel}
 use Rattle.pix_el.specs.PixelComposite.{matted_color}
 use Rattle.pix_el.proofs.FourPlanes.{four_of}
-use Rattle.pix_el.proofs.TwoPlanes.{two_of}
 use Rattle.pix_el.proofs.OnePlane.{one_of}
 use Rattle.pix_el.proofs.MattePlanes.{next_run}
 use Rattle.pix_el.proofs.Masked.{drop-zip, length-beside}
@@ -36,14 +35,6 @@ module _ (max : ℕ) where
       → ((m : ℕ) (s : List ℕ) → g m (channel max s k) ≡ channel max (f m s) k) → a ≡ map (λ s. channel max s k) ss → w ≡ over g ms a
       → w ≡ map (λ s. channel max s k) (over f ms ss)
   plane_masked f g k ms ss same are made = made ∙ ap (over g ms) are ∙ over-part (λ (s : List ℕ). channel max s k) f g same ms ss
-
-  -- of two channels
-  pub masked_two_planes : (ms : List ℕ) (ss : List (List ℕ)) {a b w x : List ℕ} → AreTwoPlanes max ss a b → w ≡ over times ms a → x ≡ over times ms b
-      → AreTwoPlanes max (over (matted_color (two_of max)) ms ss) w x
-  masked_two_planes ms ss are p q = record {
-    first = plane_masked (matted_color (two_of max)) times 0 ms ss (λ m s. refl) are.first p;
-    second = plane_masked (matted_color (two_of max)) times 1 ms ss (λ m s. refl) are.second q;
-  }
 
   masked_by : (h : ℕ) (ms : List ℕ) (ss : List (List ℕ)) {a b c e w x y z : List ℕ}
       → ((m : ℕ) (s : List ℕ) → matted_first max (record { start = 0; end = h }) m (channel max s 0) ∷ times m (channel max s 1) ∷ times m (channel max s 2) ∷ times m (channel max s 3) ∷ []

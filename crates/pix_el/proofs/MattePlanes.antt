@@ -8,11 +8,10 @@ use Rattle.pix_chan.proofs.Slices.{over-nil, map-put_mid, length-run, over_color
 use Rattle.std.proofs.lemmas.List.{append-nil, drop_all, length-drop, length-map, length-take, drop-map, take-map, take_all}
 use borrow.Rule.Slice.PartMut.{put_mid}
 use Rattle.std.specs.declared.ops.Range.{Range}
-use Rattle.pix_el.specs.Planes.{ArePlanes, AreTwoPlanes, matted_first}
+use Rattle.pix_el.specs.Planes.{ArePlanes, matted_first}
 use Rattle.pix_el.specs.Pixel.{Layout, channel, lies_in}
 use Rattle.pix_el.specs.PixelComposite.{matted_color, matted_composite, matte_value}
 use Rattle.pix_el.proofs.FourPlanes.{four_of}
-use Rattle.pix_el.proofs.TwoPlanes.{two_of}
 
 -- one channel times each of a list
 pub each_product : {C : Type 0} (number : C → ℕ) (f : ℕ → ℕ → ℕ) (a : C) (n : ℕ) (ms : List ℕ) → length ms ≡ n
@@ -86,16 +85,6 @@ module _ (max a b c e : ℕ) where
   matted_planes zero le ms = matted_by zero ms (λ m. refl)
   matted_planes (suc zero) le ms = matted_by 1 ms (λ m. refl)
   matted_planes (suc (suc h)) le ms = absurd (omega arith)
-
--- the same of a color of two channels
-pub matted_two_planes : (max a b : ℕ) (ms : List ℕ) {w x : List ℕ} → w ≡ map (channel_product max a) ms → x ≡ map (channel_product max b) ms
-    → AreTwoPlanes max (map (λ m. matted_color (two_of max) m (a ∷ b ∷ [])) ms) w x
-matted_two_planes max a b ms p q =
-    let g = λ (m : ℕ). matted_color (two_of max) m (a ∷ b ∷ []) in
-    record {
-      first = p ∙ map-mapped (λ (l : List ℕ). channel max l 0) g ms;
-      second = q ∙ map-mapped (λ (l : List ℕ). channel max l 1) g ms;
-    }
 
 -- what is made of each of sixteen
 pub mapped16 : {A B : Type 0} (f : A → B) (xs : List A) (d0 d1 d2 d3 d4 d5 d6 d7 d8 d9 d10 d11 d12 d13 d14 d15 : A) {r0 r1 r2 r3 r4 r5 r6 r7 r8 r9 r10 r11 r12 r13 r14 r15 : B} → length xs ≡ 16

@@ -1,17 +1,20 @@
 -- Pixels that an operator replaces, or makes clear.
-use Rattle.std.proofs.Common.{◌≡◌, ℕ, suc, ◌≤◌, ◌<◌, List, [], ◌∷◌, ◌++◌, length, map, take, drop, get_or, min, replicate, arith, false, refl, ap, ◌∙◌}
+use Rattle.std.proofs.Common.{◌≡◌, ℕ, suc, ◌≤◌, ◌<◌, List, [], ◌∷◌, ◌++◌, length, map, take, drop, get_or, min, replicate, arith, false, refl, ap, ◌∙◌, sym}
 use Rattle.std.proofs.lemmas.Bool.Decides.{nat_tests}
 use Rattle.std.proofs.lemmas.List.{map-append, get_or-replicate, length-replicate}
 use Rattle.std.proofs.lemmas.List.FromFn.{fill_by_all}
 use Rattle.std.specs.declared.ops.Range.{Range}
 use Rattle.pix_chan.specs.Number.{saturating_sum}
+use Rattle.pix_chan.specs.Product.{channel_product, fineness, IsProduct}
 use Rattle.pix_chan.specs.Runs.{over}
 use Rattle.pix_ops.specs.declared.ops.Op.{Op}
 use Rattle.pix_ops.specs.Operators.{Coefficient, Zero, One, row}
 use Rattle.pix_ops.specs.Composite.{term, channel_composite}
 use Rattle.pix_el.specs.Pixel.{Layout, lies_in, channel, alpha_of}
-use Rattle.pix_el.specs.PixelComposite.{composite_at, pixel_composite}
-use Rattle.pix_el.specs.Planes.{Replaces, Clears}
+use Rattle.pix_el.specs.PixelComposite.{composite_at, pixel_composite, matted_color, matted_composite}
+use Rattle.pix_el.specs.Planes.{Empties, Replaces, Clears}
+use Rattle.pix_el.specs.Premultiplied.{IsBounded}
+use Rattle.pix_el.proofs.Composited.{Fits, bounded-matted}
 
 -- no number lies in a range that ends at 0
 lies_in_none : (range : Range ℕ) (ch : ℕ) → range.end ≡ 0 → lies_in range ch ≡ false
@@ -43,6 +46,35 @@ module _ (layout : Layout) (op : Op) (none : layout.hues.end ≡ 0) where
       fill_by_all (composite_at layout op (alpha_of layout source) (alpha_of layout dest) source dest) (replicate layout.count 0) layout.count 0 (length-replicate layout.count 0)
       (λ ch lt. get_or-replicate layout.count ch 0 0 lt ∙ rw (lies_in_none layout.hues ch none)
       (no_channel layout.max op (channel layout.max source ch) (alpha_of layout source) (channel layout.max dest ch) (alpha_of layout dest) e f))
+
+-- under a color through a matte of 0, where a clear source leaves nothing
+pub emptied_clear : (layout : Layout) (op : Op) (laws : IsProduct fineness layout.max (channel_product layout.max)) (alpha : IsBounded layout layout.alpha) (color dest : List ℕ)
+    → layout.hues.end ≡ 0 → Empties layout.max op → Fits layout.max color → Fits layout.max dest
+    → replicate layout.count 0 ≡ matted_composite layout op 0 color dest
+emptied_clear layout op laws alpha color dest none empties fc fd =
+    let source = matted_color layout 0 color in
+    let clear : (ch : ℕ) → ch < layout.count → channel layout.max source ch ≡ 0 =
+    λ ch lt.
+    let x = channel layout.max color ch in
+    let least = laws.at_most_operand 0 x (omega arith) (fc.at ch) in
+    let nothing : channel_product layout.max 0 x ≡ 0 = omega (arith, least) in
+    bounded-matted layout 0 color ch (record { within = lt; no_hue = lies_in_none layout.hues ch none })
+    ∙ laws.commutes x 0 ∙ nothing in
+    let transparent : alpha_of layout source ≡ 0 = clear layout.alpha alpha.within in
+    fill_by_all (composite_at layout op (alpha_of layout source) (alpha_of layout dest) source dest) (replicate layout.count 0) layout.count 0 (length-replicate layout.count 0)
+    (λ ch lt. get_or-replicate layout.count ch 0 0 lt ∙ rw (lies_in_none layout.hues ch none, clear ch lt, transparent)
+    (sym (empties (channel layout.max dest ch) (alpha_of layout dest) (fd.at ch) (fd.at layout.alpha))))
+
+-- clear pixels, each under the matte of its place
+pub over_emptied : {X : Type 0} (f : ℕ → List ℕ → List ℕ) (numbers : X → List ℕ) (v : List ℕ) (ms : List ℕ) (ps : List X)
+    → length ms ≡ length ps → ((k : ℕ) (p : X) → v ≡ f (get_or ms k 0) (numbers p))
+    → map (λ _. v) (map numbers ps) ≡ over f ms (map numbers ps)
+over_emptied f numbers v [] [] e same = refl
+over_emptied f numbers v [] (p ∷ ps) e same = absurd (omega (arith, e))
+over_emptied f numbers v (m ∷ ms) [] e same = refl
+over_emptied f numbers v (m ∷ ms) (p ∷ ps) e same =
+    ap (λ (x : List ℕ). x ∷ map (λ _. v) (map numbers ps)) (same 0 p)
+    ∙ ap (λ (l : List (List ℕ)). f m (numbers p) ∷ l) (over_emptied f numbers v ms ps (omega (arith, e)) (λ k. same (suc k)))
 
 -- a row of replaced pixels, as they lie in memory
 pub replaced_row : {D : Type 0} (n : D → List ℕ) (layout : Layout) (op : Op) (src : List D) (dest : List (List ℕ)) → Replaces layout op

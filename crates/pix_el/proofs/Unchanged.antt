@@ -12,7 +12,7 @@ use Rattle.pix_ops.proofs.Transparent.{over_hue}
 use Rattle.pix_el.specs.Pixel.{Layout, is_hue, channel, alpha_of}
 use Rattle.pix_el.specs.PixelComposite.{composite_at, pixel_composite, matted_color, matted_composite}
 use Rattle.pix_el.specs.Premultiplied.{IsBounded}
-use Rattle.pix_el.specs.Planes.{Keeps, KeepsAll}
+use Rattle.pix_el.specs.Planes.{Empties, Keeps, KeepsAll}
 use Rattle.pix_el.proofs.Composited.{Fits, bounded-matted}
 
 -- factors, by what they make of the maximum
@@ -55,12 +55,24 @@ module _ (max : ℕ) (laws : IsProduct fineness max (channel_product max)) where
   left_by Alpha d h = absurd (omega (arith, laws.positive, of_none))
   left_by OneMinusAlpha d h = ap (channel_product max d) (let e : max - 0 ≡ max = omega arith in e) ∙ laws.identity d
 
+  -- a factor that leaves nothing of the maximum under a transparent other side leaves no channel
+  -- there
+  emptied_by : (c : Coefficient) (d : ℕ) → d ≤ max → term max c max 0 ≡ 0 → term max c d 0 ≡ 0
+  emptied_by Zero d l h = refl
+  emptied_by One d l h = absurd (omega (arith, laws.positive))
+  emptied_by Alpha d l h = laws.commutes d 0 ∙ none_of d l
+  emptied_by OneMinusAlpha d l h = absurd (omega (arith, laws.positive, whole))
+
   sum_of : (x y d : ℕ) → x ≡ 0 → y ≡ d → d ≤ max → saturating_sum max x y ≡ d
   sum_of x y d e f h = omega arith
 
   pub keeps_clear : (op : Op) → term max (row op).dest max 0 ≡ max → Keeps max op 0 0
   keeps_clear op h = λ d da l k.
       (sum_of _ _ d (none_by (row op).source da k) (left_by (row op).dest d h) l, none_by (row op).source da k)
+
+  pub empties_clear : (op : Op) → term max (row op).dest max 0 ≡ 0 → Empties max op
+  empties_clear op h = λ d da l k.
+      sum_of _ _ 0 (none_by (row op).source da k) (emptied_by (row op).dest d l h) (omega arith)
 
   pub keeps_any : (op : Op) → (row op).source ≡ Zero → (row op).dest ≡ One → KeepsAll max op
   keeps_any op e f = λ s sa d da l k.

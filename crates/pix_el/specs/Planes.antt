@@ -42,11 +42,6 @@ pub record ArePlanes (max : ℕ) (pixels : List (List ℕ)) (one two three four 
   pub third : three ≡ plane_of max pixels 2
   pub fourth : four ≡ plane_of max pixels 3
 
--- the lists are the planes of pixels of two channels
-pub record AreTwoPlanes (max : ℕ) (pixels : List (List ℕ)) (one two : List ℕ) : Type 0 where
-  pub first : one ≡ plane_of max pixels 0
-  pub second : two ≡ plane_of max pixels 1
-
 -- the source's hue s composited with the destination's hue d, where da1 and sa1 are one minus the
 -- alphas
 abbrev pub run_hue : ℕ → Op → ℕ × ℕ × ℕ → ℕ → ℕ
@@ -68,6 +63,10 @@ Keeps max op s sa = (d da : ℕ) → d ≤ max → da ≤ max → (channel_compo
 -- any source does
 abbrev pub KeepsAll : ℕ → Op → Type 0
 KeepsAll max op = (s sa : ℕ) → Keeps max op s sa
+
+-- a clear source leaves nothing of a destination's channel
+abbrev pub Empties : ℕ → Op → Type 0
+Empties max op = (d da : ℕ) → d ≤ max → da ≤ max → channel_composite max op 0 0 d da ≡ 0
 
 -- each pixel is replaced with the source
 abbrev pub Replaces : Layout → Op → Type 0

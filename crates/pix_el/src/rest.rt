@@ -6,6 +6,7 @@ ghost use Rattle.pix_chan.specs.Runs.{over};
 ghost use Rattle.pix_el.specs.PixelComposite.{pixel_composite, matted_composite, matte_value};
 
 use crate::el::Pixel;
+use crate::planes::coverage::coverage_rest;
 use crate::planes::masked::{covered_rest, faded_rest};
 use crate::planes::runs::{color_rest, pixel_rest};
 use crate::stored::{Coverage, Stored};
@@ -81,6 +82,27 @@ pub(crate) fn finish_pixels<
     let start = pixel_rest::<O, P, D, S>(row, src, count);
     for i in start..count {
         composite_pixel::<O, P, D>(&mut row[i], &src[i].load(), op);
+    }
+}
+
+/// Composites a color through mattes with the pixels that larger blocks left. Condition: the format
+/// has an alpha channel.
+#[inline(always)]
+pub(crate) fn finish_coverage<
+    O: Blend,
+    P: Pixel<Alpha = Premultiplied, Gamma = Linear>,
+    D: Stored<P>,
+    M: Coverage<P::Chan>,
+>(row: &mut [D], src: &[M], clr: &P, op: O)
+    requires has_alpha { P.layout.count ≡ P.layout.alpha + 1 }
+    ensures { map D.reads row.new ≡ over (λ matte. matted_composite P.layout O.op
+        (matte_value P.layout matte) (P.numbers clr.now))
+        (map M.numbers src.now) (map D.reads row.old) }
+{
+    let count = row.len().min(src.len());
+    let start = coverage_rest::<O, P, D, M>(row, src, clr, count);
+    for i in start..count {
+        matte_pixel::<O, P, D>(&mut row[i], clr, op, src[i].coverage());
     }
 }
 

@@ -12,11 +12,11 @@ ghost use Rattle.pix_el.specs.PixelComposite.{pixel_composite, matted_composite,
 
 use crate::el::Pixel;
 use crate::filled::{clear_row, copy_row, write_all};
-use crate::planes::coverage_runs;
+use crate::planes::coverage::coverage_runs;
 use crate::planes::masked::{covered_runs, faded_runs};
 use crate::planes::runs::{color_runs, pixel_runs};
 use crate::planes::unchanged::{clears, replaces};
-use crate::rest::{finish_color, finish_faded, finish_masked, finish_pixels, matte_pixel};
+use crate::rest::{finish_color, finish_coverage, finish_faded, finish_masked, finish_pixels};
 use crate::stored::{Coverage, Stored, see_channels};
 use pix_chan::chan::{Linear, Premultiplied};
 use pix_ops::ops::Blend;
@@ -160,7 +160,7 @@ impl<P: Pixel<Alpha = Premultiplied, Gamma = Linear>, D: Stored<P>, O: Blend> Fi
     ghost makes = { λ it. pixel_composite P.layout O.op (P.numbers it.clr) };
 
     fn fill(&self, row: &mut [D]) {
-        if replaces::<O, P>() {
+        if replaces::<O, P>() && row.len() <= 32 {
             let _ = self.clr.channels();
             let (clr, format) = (D::store(&self.clr), PhantomData);
             CopiedColor::<P, D> { clr, format }.fill(row);
@@ -192,6 +192,7 @@ impl<P: Pixel, D: Stored<P>> Blit<D, D> for CopiedPixels<P> {
 
     ghost makes = { λ _ source _. source };
 
+    #[inline(always)]
     fn blit(&self, row: &mut [D], src: &[D]) {
         copy_row(row, src);
     }
@@ -279,8 +280,9 @@ impl<P: Pixel<Alpha = Premultiplied, Gamma = Linear>, O: Blend> MattedColor<P, O
     {
         let count = row.len().min(src.len());
         let start = coverage_runs::<O, P, D, M>(row, src, &self.clr, count);
-        for i in start..count {
-            matte_pixel::<O, P, D>(&mut row[i], &self.clr, self.op, src[i].coverage());
+        if start < count {
+            let (rest, mattes) = (&mut row[start..], &src[start..]);
+            finish_coverage::<O, P, D, M>(rest, mattes, &self.clr, self.op);
         }
     }
 }

@@ -7,7 +7,8 @@ ghost use Rattle.pix_el.specs.Planes.{coverage_of};
 ghost use Rattle.pix_el.specs.PixelComposite.{pixel_composite, matted_composite};
 
 use crate::el::Pixel;
-use crate::planes::unchanged::{are_clear, keeps_all, keeps_under_clear};
+use crate::filled::clear_row;
+use crate::planes::unchanged::{are_clear, empties_under_clear, keeps_all, keeps_under_clear};
 use crate::stored::{Coverage, Stored, see_channels};
 use pix_ops::ops::Blend;
 
@@ -125,8 +126,8 @@ pub(crate) fn color_blocks<O: Blend, P: Pixel, D: Stored<P>, B: Block<P>>(
 }
 
 /// Composites `clr` with each pixel of a block through the matte of the same index. A block is
-/// skipped where the operator keeps any pixel. It is also skipped where all mattes are 0 and the
-/// operator keeps pixels under a transparent source.
+/// skipped where the operator keeps any pixel. Where all mattes are 0, it is skipped if the
+/// operator keeps pixels under a transparent source, and made clear if it empties them.
 ///
 /// Condition: the format has an alpha channel.
 #[inline(always)]
@@ -147,6 +148,8 @@ fn matted_block<O: Blend, P: Pixel, D: Stored<P>, M: Coverage<P::Chan>, B: Block
         see_channels::<P, D>(dst);
     } else if keeps_under_clear::<O, P::Chan>() && are_clear::<P::Chan, M>(src) {
         see_channels::<P, D>(dst);
+    } else if empties_under_clear::<O, P>() && are_clear::<P::Chan, M>(src) {
+        clear_row::<P, D>(dst);
     } else {
         B::matted::<O, D, M>(dst, src, clr);
     }

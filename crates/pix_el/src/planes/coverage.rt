@@ -1,9 +1,23 @@
-//! The values of several mattes.
-ghost use Rattle.std.specs.Prelude.{◌≡◌, length, map};
+//! The values of several mattes, and the choice of blocks for a color through mattes.
+ghost use Rattle.std.specs.Prelude.{◌≡◌, ◌≤◌, ◌+◌, length, map, take};
+ghost use Rattle.pix_chan.specs.Runs.{over};
 ghost use Rattle.pix_el.specs.Planes.{coverage_of};
+ghost use Rattle.pix_el.specs.PixelComposite.{matted_composite};
 
-use crate::stored::Coverage;
+use crate::el::Pixel;
+use crate::planes::block::matte_blocks;
+use crate::planes::eight::Eight;
+use crate::planes::four::Four;
+use crate::planes::half::HalfTwo;
+use crate::planes::interleaved::Interleaved;
+use crate::planes::one::One;
+use crate::planes::pair::Pair;
+use crate::planes::two::Two;
+use crate::planes::unchanged::is_one;
+use crate::planes::{has_four, has_one, has_two, is_interleaved};
+use crate::stored::{Coverage, Stored};
 use pix_chan::chan::Channel;
+use pix_ops::ops::Blend;
 
 /// Returns the values of sixteen mattes.
 #[inline(always)]
@@ -47,4 +61,110 @@ pub(super) fn eight_values<C: Channel, M: Coverage<C>>(src: &[M]) -> [C; 8]
         src[6].coverage(),
         src[7].coverage(),
     ]
+}
+
+/// Returns whether channels have more than 8 bits.
+#[inline(always)]
+fn is_wide<C: Channel>() -> bool {
+    C::MAX.to_u32() > 255
+}
+
+/// Returns whether an operator adds one side as it is. Colors of 8 bits take less time interleaved
+/// then, and else by planes.
+#[inline(always)]
+fn adds_a_side<O: Blend, C: Channel>() -> bool {
+    is_one::<O::Source, C>() || is_one::<O::Dest, C>()
+}
+
+/// Composites `clr` through mattes with as many of the first `count` pixels as go in the largest
+/// blocks, and returns their number.
+///
+/// Condition: the format has an alpha channel, and both slices have `count` elements.
+#[inline(always)]
+pub(crate) fn coverage_runs<O: Blend, P: Pixel, D: Stored<P>, M: Coverage<P::Chan>>(
+    dst: &mut [D],
+    src: &[M],
+    clr: &P,
+    count: usize,
+) -> usize
+    requires has_alpha { P.layout.count ≡ P.layout.alpha + 1 }
+    requires dst_has { count ≤ length dst.old }
+    requires src_has { count ≤ length src.now }
+    ensures some { result ≤ count }
+    ensures composite { map D.reads dst.new ≡
+        over (λ m. matted_composite P.layout O.op m (P.numbers clr.now))
+        (take result (map (coverage_of P.Chan.max M.numbers) src.now)) (map D.reads dst.old) }
+{
+    if is_interleaved::<P>() && is_wide::<P::Chan>() {
+        matte_blocks::<O, P, D, M, Eight<0>>(dst, src, clr, count)
+    } else if is_interleaved::<P>() && adds_a_side::<O, P::Chan>() {
+        matte_blocks::<O, P, D, M, Pair>(dst, src, clr, count)
+    } else if has_four::<P>() {
+        matte_blocks::<O, P, D, M, Four>(dst, src, clr, count)
+    } else if has_two::<P>() {
+        matte_blocks::<O, P, D, M, Two>(dst, src, clr, count)
+    } else if has_one::<P>() {
+        matte_blocks::<O, P, D, M, One>(dst, src, clr, count)
+    } else {
+        0
+    }
+}
+
+/// Composites `clr` through mattes with as many of the first `count` pixels as go in blocks of eight
+/// interleaved ones after the largest, and returns their number.
+///
+/// Condition: the alpha is the last of four channels, none is a hue, and both slices have `count`
+/// elements.
+#[inline(always)]
+fn coverage_eights<O: Blend, P: Pixel, D: Stored<P>, M: Coverage<P::Chan>>(
+    dst: &mut [D],
+    src: &[M],
+    clr: &P,
+    count: usize,
+) -> usize
+    requires has_alpha { P.layout.count ≡ P.layout.alpha + 1 }
+    requires alpha { P.layout.alpha ≡ 3 }
+    requires no_hue { P.layout.hues.end ≡ 0 }
+    requires dst_has { count ≤ length dst.old }
+    requires src_has { count ≤ length src.now }
+    ensures some { result ≤ count }
+    ensures composite { map D.reads dst.new ≡
+        over (λ m. matted_composite P.layout O.op m (P.numbers clr.now))
+        (take result (map (coverage_of P.Chan.max M.numbers) src.now)) (map D.reads dst.old) }
+{
+    if is_wide::<P::Chan>() {
+        0
+    } else {
+        matte_blocks::<O, P, D, M, Eight<0>>(dst, src, clr, count)
+    }
+}
+
+/// Composites `clr` through mattes with as many of the first `count` pixels as go in the blocks
+/// that follow the largest, and returns their number.
+///
+/// Condition: the format has an alpha channel, and both slices have `count` elements.
+#[inline(always)]
+pub(crate) fn coverage_rest<O: Blend, P: Pixel, D: Stored<P>, M: Coverage<P::Chan>>(
+    dst: &mut [D],
+    src: &[M],
+    clr: &P,
+    count: usize,
+) -> usize
+    requires has_alpha { P.layout.count ≡ P.layout.alpha + 1 }
+    requires dst_has { count ≤ length dst.old }
+    requires src_has { count ≤ length src.now }
+    ensures some { result ≤ count }
+    ensures composite { map D.reads dst.new ≡
+        over (λ m. matted_composite P.layout O.op m (P.numbers clr.now))
+        (take result (map (coverage_of P.Chan.max M.numbers) src.now)) (map D.reads dst.old) }
+{
+    if is_interleaved::<P>() {
+        let start = coverage_eights::<O, P, D, M>(dst, src, clr, count);
+        let (rest, mattes) = (&mut dst[start..], &src[start..]);
+        start + matte_blocks::<O, P, D, M, Interleaved>(rest, mattes, clr, count - start)
+    } else if has_two::<P>() {
+        matte_blocks::<O, P, D, M, HalfTwo>(dst, src, clr, count)
+    } else {
+        0
+    }
 }

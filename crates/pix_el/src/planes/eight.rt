@@ -1,7 +1,7 @@
 //! Eight pixels of four channels without a hue, as they are in memory: thirty-two channels, pixel
 //! by pixel.
-ghost use Rattle.std.specs.Prelude.{◌≡◌, ◌++◌, length, map, refl, replicate};
-ghost use Rattle.pix_chan.specs.Planes.{in_turn};
+ghost use Rattle.std.specs.Prelude.{◌≡◌, ◌-◌, ◌++◌, length, map, refl, replicate};
+ghost use Rattle.pix_chan.specs.Planes.{in_turn, last_of_four};
 ghost use Rattle.pix_chan.specs.Runs.{over};
 ghost use Rattle.pix_el.specs.Planes.{by_fours};
 ghost use Rattle.pix_el.specs.PixelComposite.{pixel_composite, matted_color, matted_composite};
@@ -14,6 +14,7 @@ use crate::planes::masked::{composite_eight_covered, composite_eight_faded};
 use crate::stored::{Coverage, Stored};
 use pix_chan::chan::Channel;
 use pix_ops::ops::Blend;
+use pix_ops::ops::run::Factor;
 
 /// Returns the channels of eight pixels, pixel by pixel.
 #[inline(always)]
@@ -52,7 +53,7 @@ fn put_eight_pixels<P: Pixel, D: Stored<P>>(p: &mut [D], c: [P::Chan; 32])
 
 /// Returns both arrays, one after the other.
 #[inline(always)]
-fn joined<C: Channel>(a: [C; 16], b: [C; 16]) -> [C; 32]
+pub(super) fn joined<C: Channel>(a: [C; 16], b: [C; 16]) -> [C; 32]
     ensures { map C.number result ≡ map C.number a ++ map C.number b }
 {
     let mut both = [C::MIN; 32];
@@ -101,6 +102,21 @@ pub(super) fn covered<P: Pixel, const COPY: usize, const CALLER: usize>(
     to
 }
 
+/// Returns one minus the alphas of eight pixels, each at the four places of its pixel. Where the
+/// factor multiplies by alphas, they are taken from the pixels as they are, so that what is left
+/// over cancels there.
+#[inline(always)]
+fn alphas_left<F: Factor, C: Channel>(pixels: [C; 32]) -> [C; 32]
+    ensures { map C.number result ≡
+        map (λ x. C.max - x) (last_of_four (map C.number pixels)) }
+{
+    if F::term(C::MAX, C::MAX) == C::MIN {
+        C::less32(C::alphas8(pixels))
+    } else {
+        C::alphas8(C::less32(pixels))
+    }
+}
+
 /// Composites the eight pixels of these channels with those of `dst`. At each index the alphas are
 /// those of its own pixel.
 ///
@@ -121,8 +137,8 @@ pub(super) fn composite_eight<
         (by_fours (map P.Chan.number src)) (map D.reads dst.old) }
 {
     let mut to = eight_pixels::<P, D>(dst);
-    let da1 = P::Chan::less32(P::Chan::alphas8(to));
-    let sa1 = P::Chan::less32(P::Chan::alphas8(src));
+    let da1 = alphas_left::<O::Source, P::Chan>(to);
+    let sa1 = alphas_left::<O::Dest, P::Chan>(src);
     O::composite_block(&mut to, &da1, &src, &sa1);
     put_eight_pixels::<P, D>(dst, to);
 }

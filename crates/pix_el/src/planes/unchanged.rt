@@ -2,7 +2,7 @@
 //! operator tell which.
 ghost use Rattle.std.specs.Prelude.{◌≡◌, ℕ, map, get_or, true};
 ghost use Rattle.pix_ops.specs.Operators as operators;
-ghost use Rattle.pix_el.specs.Planes.{coverage_of, Keeps, KeepsAll, Replaces, Clears};
+ghost use Rattle.pix_el.specs.Planes.{coverage_of, Empties, Keeps, KeepsAll, Replaces, Clears};
 
 use crate::el::Pixel;
 use crate::model::ColorModel;
@@ -23,7 +23,7 @@ fn is_zero<F: Factor, C: Channel>() -> bool
 /// Returns whether a factor is 1: it keeps the maximum, whether the other side is transparent or
 /// opaque.
 #[inline(always)]
-fn is_one<F: Factor, C: Channel>() -> bool
+pub(super) fn is_one<F: Factor, C: Channel>() -> bool
     ensures { result ≡ true → F.coefficient ≡ operators.One }
 {
     F::term(C::MAX, C::MAX) == C::MAX && F::term(C::MAX, C::MIN) == C::MAX
@@ -70,6 +70,17 @@ pub(crate) fn clears<O: Blend, P: Pixel>() -> bool
     ensures { result ≡ true → Clears P.layout O.op }
 {
     has_no_hue::<P>() && is_zero::<O::Source, P::Chan>() && is_zero::<O::Dest, P::Chan>()
+}
+
+/// Returns whether an operator makes each pixel clear under a transparent source: the destination's
+/// factor is then 0. A hue moves along an arc, so a model with one is left out.
+#[inline(always)]
+pub(super) fn empties_under_clear<O: Blend, P: Pixel>() -> bool
+    ensures no_hue { result ≡ true → P.layout.hues.end ≡ 0 }
+    ensures empties { result ≡ true → Empties P.Chan.max O.op }
+{
+    let (min, max) = (P::Chan::MIN, P::Chan::MAX);
+    has_no_hue::<P>() && <O::Dest as Factor>::term(max, max) == min
 }
 
 /// Returns whether all of these mattes are 0.

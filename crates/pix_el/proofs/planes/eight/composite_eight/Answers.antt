@@ -1,4 +1,4 @@
-use Rattle.std.proofs.Common.{◌≡◌, ◌∙◌, ◌-◌, ap, sym, arith, map, List, ℕ}
+use Rattle.std.proofs.Common.{◌≡◌, ◌∙◌, ap, sym, arith, map, List, ℕ}
 use Rattle.std.proofs.lemmas.List.{length-map}
 use Rattle.pix_el.specs.Pixel.{Layout}
 use Rattle.pix_chan.specs.Runs.{over, triples}
@@ -20,12 +20,10 @@ returns g c =
     let ds = map v c.eight_pixels-to.result in
     let four : g.P.Pixel.layout ≡ four_of max 0 = is_four_of g.P.Pixel.layout max g.P.Model.ColorModel.CIRCULAR g.P.Model.ColorModel.ALPHA g.met.P.Pixel.laid_out
     c.requires.count c.requires.alpha (placed_by_row g.P.Model.ColorModel.model _ g.met.P.Model.ColorModel.stands).hue_first ∙ ap (four_of max) c.requires.no_hue in
-    let da1 : map v c.less32-da1.result ≡ rests max op ds = c.less32-da1.ensures ∙ ap (map (λ x. max - x)) c.alphas8.ensures in
-    let sa1 : map v c.less32-sa1.result ≡ rests max op ss = c.less32-sa1.ensures ∙ ap (map (λ x. max - x)) c.alphas8-2.ensures in
     c.put_eight_pixels.ensures
     ∙ ap by_fours (c.composite_block.ensures
-    ∙ ap (λ (r : List ℕ). over (run_composite max op) (triples r ss (map v c.less32-sa1.result)) ds) da1
-    ∙ ap (λ (r : List ℕ). over (run_composite max op) (triples (rests max op ds) ss r) ds) sa1)
+    ∙ ap (λ (r : List ℕ). over (run_composite max op) (triples r ss (map v c.alphas_left-sa1.result)) ds) c.alphas_left-da1.ensures
+    ∙ ap (λ (r : List ℕ). over (run_composite max op) (triples (rests max op ds) ss r) ds) c.alphas_left-sa1.ensures)
     ∙ fours_composited max op 8 ss ds (omega (arith, length-map c.args.src v)) (omega (arith, length-map c.eight_pixels-to.result v))
     (numbers_fit max v laws.numbered c.args.src) (numbers_fit max v laws.numbered c.eight_pixels-to.result)
     ∙ ap (λ (l : Layout). over (pixel_composite l op) (by_fours ss) (by_fours ds)) (sym four)
