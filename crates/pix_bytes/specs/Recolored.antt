@@ -6,7 +6,7 @@ use Rattle.pix_el.specs.Pixel.{channel}
 use Rattle.pix_bytes.specs.Lit.{first_place, last_place}
 use Rattle.pix_bytes.specs.declared.bitmap.format.FormatParts.{FormatParts}
 use Rattle.pix_bytes.specs.declared.bitmap.model.ModelName.{ModelName}
-use Rattle.pix_bytes.specs.declared.bitmap.model.ModelName.TheVariants.{Rgb, Bgr}
+use Rattle.pix_bytes.specs.declared.bitmap.model.ModelName.TheVariants.{Rgb, Bgr, Gray}
 
 -- a color as it is, or multiplied by the alpha
 abbrev pub at_alpha : Bool → ℕ → ℕ → ℕ
@@ -68,3 +68,14 @@ IsRecolored from to curve f = (from_reversed to_reversed is_reversed : Bool) (co
     → (if is_reversed then (if from_reversed then false else true) else from_reversed) ≡ to_reversed
     → from.count ≡ count → to.count ≡ 4 → from.is_premultiplied ≡ false
     → (p : List ℕ) → ((ch : ℕ) → channel 255 p ch < 256) → recolored curve is_reversed to.is_premultiplied p ≡ f p
+
+-- an opaque pixel whose colors are what a curve makes of a gray value
+abbrev pub gray_recolored : (ℕ → ℕ) → List ℕ → List ℕ
+gray_recolored curve pixel = curve (channel 255 pixel 0) ∷ curve (channel 255 pixel 0) ∷ curve (channel 255 pixel 0) ∷ 255 ∷ []
+
+-- f is what a curve makes of gray pixels of one byte
+abbrev pub IsGrayRecolored : FormatParts → FormatParts → (ℕ → ℕ) → (List ℕ → List ℕ) → Type 0
+IsGrayRecolored from to curve f = (is_reversed : Bool)
+    → from.model ≡ Gray → to.model ≡ model_in_order is_reversed
+    → from.count ≡ 1 → to.count ≡ 4 → from.is_premultiplied ≡ false
+    → (x : ℕ) → x < 256 → gray_recolored curve (x ∷ []) ≡ f (x ∷ [])

@@ -12,6 +12,7 @@ mod eights;
 pub(crate) mod format;
 mod four;
 mod fours;
+mod grays;
 mod levels;
 mod model;
 mod pixel_conversion;

@@ -5,14 +5,15 @@ ghost use Rattle.pix_el.specs.Conversion.{converted};
 ghost use Rattle.pix_el.specs.Model.{row};
 ghost use Rattle.pix_bytes.specs.Four.{as_list};
 ghost use Rattle.pix_bytes.specs.Models.{model_of};
-ghost use Rattle.pix_bytes.specs.Recolored.{IsRecolored, model_in_order};
+ghost use Rattle.pix_bytes.specs.Recolored.{IsRecolored, IsGrayRecolored, model_in_order};
 ghost use Rattle.pix_bytes.specs.Rows.{IsEach, IsSame, format_at};
 ghost use Rattle.pix_bytes.specs.BitmapFormats.{sample_size};
 
 use crate::bitmap::eights::{Decoded, Encoded, Table, map_eights, map_eights_opaque};
 use crate::bitmap::format::FormatParts;
 use crate::bitmap::four::Four;
-use crate::bitmap::model::ModelName::{self, Bgr, Rgb};
+use crate::bitmap::grays::map_grays;
+use crate::bitmap::model::ModelName::{self, Bgr, Gray, Rgb};
 use crate::bitmap::pixel_conversion::{Converted, PixelConversion};
 use pix_chan::chan::{Ch8, Channel, Linear, Srgb};
 
@@ -85,6 +86,34 @@ fn map_ahead<T: Table>(
     }
 }
 
+/// Does what [`map_ahead`] does for gray pixels without an alpha, but one by one.
+///
+/// Condition: there are `count` in both.
+fn map_grays_ahead<T: Table>(
+    from: FormatParts,
+    to: FormatParts,
+    src: &[u8],
+    dst: &mut [u8],
+    count: usize,
+) -> usize
+    requires src { length src.now ≡ count * ((from.count + from.spare) * sample_size 255) }
+    requires dst { length dst.old ≡ count * ((to.count + to.spare) * sample_size 255) }
+    ensures some { result ≤ count }
+    ensures each { (f : List ℕ → List ℕ) → IsGrayRecolored from to T.curve f
+        → IsEach 255 255 from.count (to.count + to.spare)
+        ((from.count + from.spare) * sample_size 255) ((to.count + to.spare) * sample_size 255)
+        f src.now dst.new result }
+{
+    if !are_plain(from, to) {
+        return 0;
+    }
+    let (1, true, Some(_)) = (from.count, from.model.is(Gray), order(to.model)) else {
+        return 0;
+    };
+    map_grays::<T>(src, dst, count);
+    count
+}
+
 /// The conversion of an sRGB pixel of 8 bits to a linear one.
 pub(crate) struct IntoLinear;
 
@@ -110,6 +139,9 @@ impl PixelConversion<Ch8, Ch8> for IntoLinear {
         dst: &mut [u8],
         count: usize,
     ) -> usize {
+        if from.model.is(Gray) {
+            return map_grays_ahead::<Decoded>(from, to, src, dst, count);
+        }
         map_ahead::<Decoded>(from, to, src, dst, count)
     }
 }
@@ -141,6 +173,9 @@ impl PixelConversion<Ch8, Ch8> for OutOfLinear {
     ) -> usize {
         if to.is_premultiplied {
             return 0;
+        }
+        if from.model.is(Gray) {
+            return map_grays_ahead::<Encoded>(from, to, src, dst, count);
         }
         map_ahead::<Encoded>(from, to, src, dst, count)
     }
