@@ -145,16 +145,23 @@ fn near(a: u16x16, b: u16x16) -> u16x16
 }
 
 /// Returns the channel product of the bytes of each lane: those of even and those of odd index
-/// apart, in lanes of 16 bits.
+/// apart, in lanes of 16 bits. The odd ones go back to their places by a shuffle of bytes.
 #[inline(always)]
 fn products(a: u8x32, b: u8x32) -> u8x32
     ensures { result ≡ zip2 (channel_product 255) a b }
 {
     let x = u16x16::from_le_bytes(a);
     let y = u16x16::from_le_bytes(b);
-    let even = near(x & u16x16::splat(255), y & u16x16::splat(255));
-    let odd = near(x >> u16x16::splat(8), y >> u16x16::splat(8));
-    (even | (odd << u16x16::splat(8))).to_le_bytes()
+    let even = near(x & u16x16::splat(255), y & u16x16::splat(255)).to_le_bytes();
+    let odd = near(x >> u16x16::splat(8), y >> u16x16::splat(8)).to_le_bytes();
+    let behind = odd.shuffle(
+        u8x32::splat(0),
+        [
+            32, 0, 32, 2, 32, 4, 32, 6, 32, 8, 32, 10, 32, 12, 32, 14, 32, 16, 32, 18, 32, 20, 32,
+            22, 32, 24, 32, 26, 32, 28, 32, 30,
+        ],
+    );
+    even | behind
 }
 
 /// Returns eight pixels whose colors the table maps, in their order or reversed, and which are

@@ -1,6 +1,6 @@
-use Rattle.std.proofs.Common.{◌≡◌, ◌∙◌, ◌^◌, ap, arith, List, ℕ, replicate, bit_or, bit_and}
+use Rattle.std.proofs.Common.{◌≡◌, ◌∙◌, ap, arith, List, ℕ, replicate, bit_and}
 use lib.Lanes.{zip2, digits_l, number_l}
-use Rattle.pix_chan.proofs.Lanes.{shr, shl}
+use Rattle.pix_chan.proofs.Lanes.{shr}
 use Rattle.pix_chan.proofs.Planes.{of_pairs, low, high, lows, highs}
 use Rattle.pix_chan.specs.Lanes.{high_half}
 use Rattle.pix_chan.proofs.Pairs.{rejoined}
@@ -14,6 +14,4 @@ returns c =
     c.near-even.ensures ∙ ap (λ (l : List ℕ). zip2 high_half l (zip2 bit_and (digits_l 65536 16 (number_l 256 b)) (replicate 16 255))) (lows 16 a (omega arith) c.fits-a.1) ∙ ap (zip2 high_half (of_pairs low a)) (lows 16 b (omega arith) c.fits-b.1) in
     let odd : c.near-odd.result ≡ zip2 high_half (of_pairs high a) (of_pairs high b) =
     c.near-odd.ensures ∙ ap (λ (l : List ℕ). zip2 high_half l (zip2 shr (digits_l 65536 16 (number_l 256 b)) (replicate 16 8))) (highs 16 a (omega arith) c.fits-a.1) ∙ ap (zip2 high_half (of_pairs high a)) (highs 16 b (omega arith) c.fits-b.1) in
-    ap (λ (l : List ℕ). digits_l 256 32 (number_l 65536 (zip2 bit_or l (zip2 (shl (2 ^ 16)) c.near-odd.result (replicate 16 8))))) even
-    ∙ ap (λ (l : List ℕ). digits_l 256 32 (number_l 65536 (zip2 bit_or (zip2 high_half (of_pairs low a) (of_pairs low b)) (zip2 (shl (2 ^ 16)) l (replicate 16 8))))) odd
-    ∙ rejoined 16 a b (omega arith) (omega arith) c.fits-a.1 c.fits-b.1
+    rw (even, odd) (rejoined a b (omega arith) (omega arith) c.fits-a.1 c.fits-b.1)
