@@ -9,10 +9,9 @@
 //!
 //! The blocks are chosen by the model (`runs.rt`, `masked.rt`), for a color through mattes also by
 //! the operator (`coverage.rt`). No contract of `rows.rt` depends on it.
-ghost use Rattle.std.specs.Prelude.{◌≡◌, ◌≤◌, ◌+◌, ◌-◌, length, map, take, true};
+ghost use Rattle.std.specs.Prelude.{◌≡◌, ◌≤◌, map, true};
 ghost use Rattle.pix_chan.specs.Runs.{over, triples};
-ghost use Rattle.pix_el.specs.Planes.{coverage_of, run_hue, run_first, matted_first};
-ghost use Rattle.pix_el.specs.PixelComposite.{matted_composite};
+ghost use Rattle.pix_el.specs.Planes.{run_hue, run_first, matted_first};
 
 use crate::el::Pixel;
 use crate::hue::composite_hue;

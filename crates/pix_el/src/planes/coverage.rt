@@ -13,7 +13,7 @@ use crate::planes::interleaved::Interleaved;
 use crate::planes::one::One;
 use crate::planes::pair::Pair;
 use crate::planes::two::Two;
-use crate::planes::unchanged::is_one;
+use crate::planes::unchanged::is_zero;
 use crate::planes::{has_four, has_one, has_two, is_interleaved};
 use crate::stored::{Coverage, Stored};
 use pix_chan::chan::Channel;
@@ -69,11 +69,11 @@ fn is_wide<C: Channel>() -> bool {
     C::MAX.to_u32() > 255
 }
 
-/// Returns whether an operator adds one side as it is. Colors of 8 bits take less time interleaved
-/// then, and else by planes.
+/// Returns whether an operator uses the source's colors, and not its alpha alone. Colors of 8 bits
+/// take less time interleaved then, and else by planes.
 #[inline(always)]
-fn adds_a_side<O: Blend, C: Channel>() -> bool {
-    is_one::<O::Source, C>() || is_one::<O::Dest, C>()
+fn uses_colors<O: Blend, C: Channel>() -> bool {
+    !is_zero::<O::Source, C>()
 }
 
 /// Composites `clr` through mattes with as many of the first `count` pixels as go in the largest
@@ -97,7 +97,7 @@ pub(crate) fn coverage_runs<O: Blend, P: Pixel, D: Stored<P>, M: Coverage<P::Cha
 {
     if is_interleaved::<P>() && is_wide::<P::Chan>() {
         matte_blocks::<O, P, D, M, Eight<0>>(dst, src, clr, count)
-    } else if is_interleaved::<P>() && adds_a_side::<O, P::Chan>() {
+    } else if is_interleaved::<P>() && uses_colors::<O, P::Chan>() {
         matte_blocks::<O, P, D, M, Pair>(dst, src, clr, count)
     } else if has_four::<P>() {
         matte_blocks::<O, P, D, M, Four>(dst, src, clr, count)

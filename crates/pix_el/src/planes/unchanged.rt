@@ -14,7 +14,7 @@ use pix_ops::ops::run::Factor;
 /// Returns whether a factor is 0: it turns the maximum into 0, whether the other side is
 /// transparent or opaque.
 #[inline(always)]
-fn is_zero<F: Factor, C: Channel>() -> bool
+pub(super) fn is_zero<F: Factor, C: Channel>() -> bool
     ensures { result ≡ true → F.coefficient ≡ operators.Zero }
 {
     F::term(C::MAX, C::MAX) == C::MIN && F::term(C::MAX, C::MIN) == C::MIN
@@ -23,7 +23,7 @@ fn is_zero<F: Factor, C: Channel>() -> bool
 /// Returns whether a factor is 1: it keeps the maximum, whether the other side is transparent or
 /// opaque.
 #[inline(always)]
-pub(super) fn is_one<F: Factor, C: Channel>() -> bool
+fn is_one<F: Factor, C: Channel>() -> bool
     ensures { result ≡ true → F.coefficient ≡ operators.One }
 {
     F::term(C::MAX, C::MAX) == C::MAX && F::term(C::MAX, C::MIN) == C::MAX

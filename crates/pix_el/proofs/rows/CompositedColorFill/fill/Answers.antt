@@ -6,8 +6,8 @@ use Rattle.pix_el.proofs.MattePlanes.{last_color}
 use Rattle.pix_el.proofs.Replaced.{one_for_each}
 use Rattle.pix_el.proofs.rows.CompositedColorFill.fill.Goals as goal
 
-pub returns-then-row-le32 : goal.returns-then-row-le32
-returns-then-row-le32 g c =
+pub returns-then-is_copied : goal.returns-then-is_copied
+returns-then-is_copied g c =
     let n = g.D.Stored.reads in
     let op = pixel_composite g.P.Pixel.layout g.O.Blend.op in
     let clr = c.args.self.now.clr in
@@ -17,7 +17,7 @@ returns-then-row-le32 g c =
     ap length (g.met.P.Pixel.numbered clr) ∙ length-map (g.P.Pixel.channel_list clr) g.P.Chan.Channel.number ∙ ap length (sym c.channels.ensures.channels) ∙ c.channels.ensures.count in
     c.fill.ensures
     ∙ one_for_each (n stored) (op color) (map n c.args.row.now) (λ d.
-    c.if-replaces.ensures refl (n stored) d (ap length c.store-clr.ensures ∙ long) (g.met.D.Stored.fits stored)
+    c.if-is_copied.ensures refl (n stored) d (ap length c.store-clr.ensures ∙ long) (g.met.D.Stored.fits stored)
     ∙ ap (λ (z : List ℕ). op z d) c.store-clr.ensures)
 
 pub returns-then-clears : goal.returns-then-clears
