@@ -8,7 +8,9 @@ ghost use Rattle.pix_el.specs.PixelComposite.{pixel_composite, matted_composite}
 
 use crate::el::Pixel;
 use crate::filled::clear_row;
-use crate::planes::unchanged::{are_clear, empties_under_clear, keeps_all, keeps_under_clear};
+use crate::planes::unchanged::{
+    are_clear, empties_under_clear, keeps_all, keeps_under_clear, saves_products,
+};
 use crate::stored::{Coverage, Stored, see_channels};
 use pix_ops::ops::Blend;
 
@@ -127,7 +129,8 @@ pub(crate) fn color_blocks<O: Blend, P: Pixel, D: Stored<P>, B: Block<P>>(
 
 /// Composites `clr` with each pixel of a block through the matte of the same index. A block is
 /// skipped where the operator keeps any pixel. Where all mattes are 0, it is skipped if the
-/// operator keeps pixels under a transparent source, and made clear if it empties them.
+/// operator keeps pixels under a transparent source. Of four channels of 8 bits it is then made
+/// clear if the operator empties them.
 ///
 /// Condition: the format has an alpha channel.
 #[inline(always)]
@@ -148,7 +151,10 @@ fn matted_block<O: Blend, P: Pixel, D: Stored<P>, M: Coverage<P::Chan>, B: Block
         see_channels::<P, D>(dst);
     } else if keeps_under_clear::<O, P::Chan>() && are_clear::<P::Chan, M>(src) {
         see_channels::<P, D>(dst);
-    } else if empties_under_clear::<O, P>() && are_clear::<P::Chan, M>(src) {
+    } else if saves_products::<P>()
+        && empties_under_clear::<O, P>()
+        && are_clear::<P::Chan, M>(src)
+    {
         clear_row::<P, D>(dst);
     } else {
         B::matted::<O, D, M>(dst, src, clr);
