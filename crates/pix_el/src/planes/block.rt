@@ -129,8 +129,8 @@ pub(crate) fn color_blocks<O: Blend, P: Pixel, D: Stored<P>, B: Block<P>>(
 
 /// Composites `clr` with each pixel of a block through the matte of the same index. A block is
 /// skipped where the operator keeps any pixel. Where all mattes are 0, it is skipped if the
-/// operator keeps pixels under a transparent source. Of four channels of 8 bits it is then made
-/// clear if the operator empties them.
+/// operator keeps pixels under a transparent source. Of four channels it is then made clear if the
+/// operator empties them.
 ///
 /// Condition: the format has an alpha channel.
 #[inline(always)]
