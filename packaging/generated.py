@@ -193,13 +193,18 @@ def stale(line=None):
         yield from other_copies()
 
 
+def logic_of(line):
+    """Returns the sum of the logic that a kit's line names. Kits of one logic prove the same."""
+    return line.partition(" logic ")[2]
+
+
 def other_sources(line):
-    """Yields each file that is not of just these sources, this version and, where a line is given, the kit of this line."""
+    """Yields each file that is not of just these sources, this version and, where a line is given, the logic of this line's kit."""
     for made in [*MADE, *([MODULE] if (FOLDER / MODULE.name).is_file() else [])]:
         path = FOLDER / (SAID if made is MODULE else made.name)
         said = facts_of(path) if path.is_file() else {}
-        if line and said.get("kit") != line:
-            yield f"generated/{path.name} is of the kit {said.get('kit')}, and this one is {line}"
+        if line and logic_of(said.get("kit", "")) != logic_of(line):
+            yield f"generated/{path.name} is of the kit {said.get('kit')}, and this one, {line}, has another logic"
         elif said.get("version") != version():
             yield f"generated/{path.name} is of the version {said.get('version')}, and VERSION says {version()}"
         elif not said.get("verdict", "").startswith("logic=proved"):
