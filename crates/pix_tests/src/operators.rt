@@ -75,12 +75,3 @@ fn every_operator_on_a_grid(rt: HostRuntime) {
         }
     }
 }
-
-#[test]
-fn operators_are_equal_to_themselves_alone(rt: HostRuntime) {
-    for (i, (op, _, _)) in TABLE.iter().enumerate() {
-        for (j, (other, _, _)) in TABLE.iter().enumerate() {
-            assert_eq!(rt; op == other, i == j, "{op:?} and {other:?}");
-        }
-    }
-}

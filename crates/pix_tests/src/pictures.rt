@@ -3,7 +3,6 @@ ghost use Rattle.std.specs.Prelude.{◌≡◌, IfOk};
 ghost use Rattle.pix.specs.Image.{Image};
 
 use pix::el::Pixel;
-use pix::gray::Gray8;
 use pix::matte::Matte8;
 use pix::rgb::Rgba8p;
 use pix::{Raster, RasterFault};
@@ -21,11 +20,6 @@ pub(crate) fn picture<P: Pixel>(
     let mut raster = Raster::with_clear(alloc, width, height)?;
     P::copy_slice(raster.pixels_mut(), pixels);
     Ok(raster)
-}
-
-/// A pixel of one gray value.
-pub(crate) fn gray(value: u8) -> Gray8 {
-    Gray8::new(value)
 }
 
 /// A pixel of red, green, blue and alpha.
