@@ -36,102 +36,69 @@ type SrgbFormats<const N: usize, const A: usize, M> = (
 /// The formats of a model that has both.
 type Formats<const N: usize, const A: usize, M> = (LinearFormats<N, A, M>, SrgbFormats<N, A, M>);
 
-/// Takes two names of one type.
-fn same<T>(_names: PhantomData<T>, _parts: PhantomData<T>) {}
+/// The names of the formats of these models.
+type Colors = (
+    (
+        (Rgb8, Rgb16, Rgba8, Rgba8p, Rgba16, Rgba16p),
+        (SRgb8, SRgba8, SRgba8p),
+    ),
+    (
+        (Bgr8, Bgr16, Bgra8, Bgra8p, Bgra16, Bgra16p),
+        (SBgr8, SBgra8, SBgra8p),
+    ),
+    (
+        (Cmy8, Cmy16, Cmya8, Cmya8p, Cmya16, Cmya16p),
+        (SCmy8, SCmya8, SCmya8p),
+    ),
+    (
+        (Gray8, Gray16, Graya8, Graya8p, Graya16, Graya16p),
+        (SGray8, SGraya8, SGraya8p),
+    ),
+);
 
-/// Takes the names of the formats of each model beside their parts: those of a model in one call,
-/// because each call costs the prover a second.
+/// The names of the formats of the models with a hue.
+type Hues = (
+    (
+        (Hsv8, Hsv16, Hsva8, Hsva8p, Hsva16, Hsva16p),
+        (SHsv8, SHsva8, SHsva8p),
+    ),
+    (
+        (Hsl8, Hsl16, Hsla8, Hsla8p, Hsla16, Hsla16p),
+        (SHsl8, SHsla8, SHsla8p),
+    ),
+    (
+        (Hwb8, Hwb16, Hwba8, Hwba8p, Hwba16, Hwba16p),
+        (SHwb8, SHwba8, SHwba8p),
+    ),
+);
+
+/// The names of the other formats.
+type Others = (
+    (Xyz8, Xyz16, Xyza8, Xyza8p, Xyza16, Xyza16p),
+    (YCbCr8, YCbCr16, YCbCra8, YCbCra8p, YCbCra16, YCbCra16p),
+    (Matte8, Matte16),
+);
+
+/// The formats of all models by their parts.
+type Parts = (
+    (
+        Formats<3, 4, Rgb>,
+        Formats<3, 4, Bgr>,
+        Formats<3, 4, Cmy>,
+        Formats<1, 2, Gray>,
+    ),
+    (Formats<3, 4, Hsv>, Formats<3, 4, Hsl>, Formats<3, 4, Hwb>),
+    (
+        LinearFormats<3, 4, Xyz>,
+        LinearFormats<3, 4, YCbCr>,
+        (
+            Pix<1, Ch8, Matte, Premultiplied, Linear>,
+            Pix<1, Ch16, Matte, Premultiplied, Linear>,
+        ),
+    ),
+);
+
+/// Takes the names of all formats for their parts.
 pub(crate) fn compare() {
-    colors();
-    hues();
-    others();
-}
-
-fn colors() {
-    same(
-        PhantomData::<
-            (
-                (Rgb8, Rgb16, Rgba8, Rgba8p, Rgba16, Rgba16p),
-                (SRgb8, SRgba8, SRgba8p),
-            ),
-        >,
-        PhantomData::<Formats<3, 4, Rgb>>,
-    );
-    same(
-        PhantomData::<
-            (
-                (Bgr8, Bgr16, Bgra8, Bgra8p, Bgra16, Bgra16p),
-                (SBgr8, SBgra8, SBgra8p),
-            ),
-        >,
-        PhantomData::<Formats<3, 4, Bgr>>,
-    );
-    same(
-        PhantomData::<
-            (
-                (Cmy8, Cmy16, Cmya8, Cmya8p, Cmya16, Cmya16p),
-                (SCmy8, SCmya8, SCmya8p),
-            ),
-        >,
-        PhantomData::<Formats<3, 4, Cmy>>,
-    );
-    same(
-        PhantomData::<
-            (
-                (Gray8, Gray16, Graya8, Graya8p, Graya16, Graya16p),
-                (SGray8, SGraya8, SGraya8p),
-            ),
-        >,
-        PhantomData::<Formats<1, 2, Gray>>,
-    );
-}
-
-fn hues() {
-    same(
-        PhantomData::<
-            (
-                (Hsv8, Hsv16, Hsva8, Hsva8p, Hsva16, Hsva16p),
-                (SHsv8, SHsva8, SHsva8p),
-            ),
-        >,
-        PhantomData::<Formats<3, 4, Hsv>>,
-    );
-    same(
-        PhantomData::<
-            (
-                (Hsl8, Hsl16, Hsla8, Hsla8p, Hsla16, Hsla16p),
-                (SHsl8, SHsla8, SHsla8p),
-            ),
-        >,
-        PhantomData::<Formats<3, 4, Hsl>>,
-    );
-    same(
-        PhantomData::<
-            (
-                (Hwb8, Hwb16, Hwba8, Hwba8p, Hwba16, Hwba16p),
-                (SHwb8, SHwba8, SHwba8p),
-            ),
-        >,
-        PhantomData::<Formats<3, 4, Hwb>>,
-    );
-}
-
-fn others() {
-    same(
-        PhantomData::<(Xyz8, Xyz16, Xyza8, Xyza8p, Xyza16, Xyza16p)>,
-        PhantomData::<LinearFormats<3, 4, Xyz>>,
-    );
-    same(
-        PhantomData::<(YCbCr8, YCbCr16, YCbCra8, YCbCra8p, YCbCra16, YCbCra16p)>,
-        PhantomData::<LinearFormats<3, 4, YCbCr>>,
-    );
-    same(
-        PhantomData::<(Matte8, Matte16)>,
-        PhantomData::<
-            (
-                Pix<1, Ch8, Matte, Premultiplied, Linear>,
-                Pix<1, Ch16, Matte, Premultiplied, Linear>,
-            ),
-        >,
-    );
+    let _parts: PhantomData<Parts> = PhantomData::<(Colors, Hues, Others)>;
 }

@@ -1,11 +1,14 @@
 //! Rasters made of bytes, words and pixels, and taken apart into them.
+ghost use Rattle.std.specs.Prelude.{◌≤◌};
+
 use crate::flaw::Flaw;
 use crate::images::{all, picture, put, size, text};
 use crate::words::{bytes, hexadecimal};
-use pix::el::Pixel;
-use pix::gray::{Gray8, Graya16};
-use pix::rgb::{Rgba8, SRgb8};
-use pix::{Raster, RasterFault};
+use pix::chan::{Ch8, Ch16, Channel, Gamma, Linear, Srgb, Straight};
+use pix::el::{Pix, Pixel};
+use pix::gray::{Gray, Gray8};
+use pix::rgb::Rgb;
+use pix::{ColorModel, Raster, RasterFault};
 use std::alloc::Global;
 
 /// `rgba8 1x1 01020304`: the format and the size of a raster, and the bytes that it is made of. The
@@ -17,58 +20,30 @@ pub(crate) fn of_bytes(words: &[&str], alloc: Global) -> Result<String, Flaw> {
     };
     let (size, buffer) = (size(word)?, bytes(buffer, alloc)?);
     match *format {
-        "gray8" => gray8(size, buffer, written, alloc),
-        "rgba8" => rgba8(size, buffer, written, alloc),
-        "srgb8" => srgb8(size, buffer, written, alloc),
+        "gray8" => of_model::<1, Gray, Linear>(size, buffer, written, alloc),
+        "rgba8" => of_model::<4, Rgb, Linear>(size, buffer, written, alloc),
+        "srgb8" => of_model::<3, Rgb, Srgb>(size, buffer, written, alloc),
         _ => Err(Flaw::Name),
     }
 }
 
-/// The answer of [`of_bytes`] for grays.
-fn gray8(
-    (width, height): (u32, u32),
+/// The answer of [`of_bytes`] for a format of `N` channels.
+fn of_model<const N: usize, M, G>(
+    sides: (u32, u32),
     buffer: Vec<u8>,
     written: &[&str],
     alloc: Global,
-) -> Result<String, Flaw> {
-    match Raster::<Gray8>::with_u8_buffer(alloc, width, height, buffer) {
+) -> Result<String, Flaw>
+where
+    M: ColorModel,
+    G: Gamma<Ch8>,
+    requires { N ≤ 4 }
+{
+    let (width, height) = sides;
+    match Raster::<Pix<N, Ch8, M, Straight, G>>::with_u8_buffer(alloc, width, height, buffer) {
         Ok(mut raster) => {
             let made = written_picture(&mut raster, written, alloc)?;
-            let back = raster.into_u8_vec(alloc).map_err(|_| Flaw::Memory)?;
-            with_bytes(made.as_str(), &back, alloc)
-        }
-        Err((fault, back)) => refused(fault, &back, written, alloc),
-    }
-}
-
-/// The answer of [`of_bytes`] for colors with an alpha.
-fn rgba8(
-    (width, height): (u32, u32),
-    buffer: Vec<u8>,
-    written: &[&str],
-    alloc: Global,
-) -> Result<String, Flaw> {
-    match Raster::<Rgba8>::with_u8_buffer(alloc, width, height, buffer) {
-        Ok(mut raster) => {
-            let made = written_picture(&mut raster, written, alloc)?;
-            let back = raster.into_u8_vec(alloc).map_err(|_| Flaw::Memory)?;
-            with_bytes(made.as_str(), &back, alloc)
-        }
-        Err((fault, back)) => refused(fault, &back, written, alloc),
-    }
-}
-
-/// The answer of [`of_bytes`] for colors in sRGB.
-fn srgb8(
-    (width, height): (u32, u32),
-    buffer: Vec<u8>,
-    written: &[&str],
-    alloc: Global,
-) -> Result<String, Flaw> {
-    match Raster::<SRgb8>::with_u8_buffer(alloc, width, height, buffer) {
-        Ok(mut raster) => {
-            let made = written_picture(&mut raster, written, alloc)?;
-            let back = raster.into_u8_vec(alloc).map_err(|_| Flaw::Memory)?;
+            let back = raster.into_u8_vec(alloc)?;
             with_bytes(made.as_str(), &back, alloc)
         }
         Err((fault, back)) => refused(fault, &back, written, alloc),
@@ -116,8 +91,21 @@ pub(crate) fn of_words(words: &[&str], alloc: Global) -> Result<String, Flaw> {
     let [word, buffer] = words else {
         return Err(Flaw::Count);
     };
-    let ((width, height), buffer) = (size(word)?, sixteens(buffer, alloc)?);
-    match Raster::<Graya16>::with_u16_buffer(alloc, width, height, buffer) {
+    words_of_model::<2, Gray>(size(word)?, sixteens(buffer, alloc)?, alloc)
+}
+
+/// The answer of [`of_words`] for a format of `N` channels.
+fn words_of_model<const N: usize, M: ColorModel>(
+    sides: (u32, u32),
+    buffer: Vec<u16>,
+    alloc: Global,
+) -> Result<String, Flaw>
+    requires { N ≤ 4 }
+{
+    let (width, height) = sides;
+    match Raster::<Pix<N, Ch16, M, Straight, Linear>>::with_u16_buffer(
+        alloc, width, height, buffer,
+    ) {
         Err((fault, back)) => {
             let back = sixteens_text(&back, alloc)?;
             Ok(format!(in alloc; "{fault} / {back}")?)
@@ -126,10 +114,12 @@ pub(crate) fn of_words(words: &[&str], alloc: Global) -> Result<String, Flaw> {
             let (width, height) = (raster.width(), raster.height());
             let mut made = format!(in alloc; "{width}x{height}")?;
             for pixel in raster.pixels() {
-                let (value, alpha) = (u16::from(pixel.get(0)), u16::from(pixel.alpha()));
-                write!(made, " {value:04x}{alpha:04x}")?;
+                made.push(' ')?;
+                for channel in pixel.channels() {
+                    write!(made, "{:04x}", channel.to_u32())?;
+                }
             }
-            let back = raster.into_u16_vec(alloc).map_err(|_| Flaw::Memory)?;
+            let back = raster.into_u16_vec(alloc)?;
             let back = sixteens_text(&back, alloc)?;
             Ok(format!(in alloc; "{made} / {back}")?)
         }
@@ -166,8 +156,16 @@ pub(crate) fn of_pixels(words: &[&str], alloc: Global) -> Result<String, Flaw> {
     let [word, pixels] = words else {
         return Err(Flaw::Count);
     };
-    let ((width, height), pixels) = (size(word)?, all::<Gray8>(pixels, alloc)?);
-    match Raster::with_pixels(width, height, pixels) {
+    made_of::<Gray8>(size(word)?, pixels, alloc)
+}
+
+/// The answer of [`of_pixels`] for a format.
+fn made_of<P: Pixel>(
+    (width, height): (u32, u32),
+    pixels: &str,
+    alloc: Global,
+) -> Result<String, Flaw> {
+    match Raster::with_pixels(width, height, all::<P>(pixels, alloc)?) {
         Err((fault, back)) => {
             let back = text(&back, alloc)?;
             Ok(format!(in alloc; "{fault} / {back}")?)

@@ -30,7 +30,6 @@ pub(crate) fn answer(class: &str, words: &[&str], alloc: Global) -> Result<Strin
         "draw" => drawings::draw(words, alloc),
         "draw_gray" => drawings::draw_gray(words, alloc),
         "gray" => grays::gray(words, alloc),
-        "matte" => grays::matte(words, alloc),
         "bytes" => buffers::of_bytes(words, alloc),
         "words" => buffers::of_words(words, alloc),
         "pixels" => buffers::of_pixels(words, alloc),

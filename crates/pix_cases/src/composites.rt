@@ -1,19 +1,20 @@
 //! Pixels composited by operators.
-ghost use Rattle.std.specs.Prelude.{◌≡◌, ◌+◌, ⊤};
+ghost use Rattle.std.specs.Prelude.{◌≡◌, ◌≤◌, ◌+◌, ⊤};
 
 use crate::flaw::Flaw;
+use crate::formats::{Format, Model};
 use crate::pixels::{channel, pixel, word_of};
 use crate::words::operator;
 use pix::ColorModel;
-use pix::chan::{Linear, Premultiplied};
-use pix::el::Pixel;
-use pix::gray::{Graya8p, Graya16p};
-use pix::hsl::Hsla8p;
-use pix::hsv::Hsva8p;
-use pix::hwb::Hwba8p;
-use pix::matte::Matte8;
+use pix::chan::{Ch8, Ch16, Linear, Premultiplied};
+use pix::el::{Pix, Pixel};
+use pix::gray::Gray;
+use pix::hsl::Hsl;
+use pix::hsv::Hsv;
+use pix::hwb::Hwb;
+use pix::matte::Matte;
 use pix::ops::{Blend, OpVisitor};
-use pix::rgb::{Rgba8p, Rgba16p};
+use pix::rgb::Rgb;
 use std::alloc::Global;
 
 /// How pixels are composited.
@@ -63,16 +64,28 @@ pub(crate) fn composited(words: &[&str], alloc: Global) -> Result<String, Flaw> 
     let [format, rest @ ..] = words else {
         return Err(Flaw::Count);
     };
-    match *format {
-        "Graya8p" => by_format::<Graya8p>(rest, alloc),
-        "Graya16p" => by_format::<Graya16p>(rest, alloc),
-        "Rgba8p" => by_format::<Rgba8p>(rest, alloc),
-        "Rgba16p" => by_format::<Rgba16p>(rest, alloc),
-        "Hsva8p" => by_format::<Hsva8p>(rest, alloc),
-        "Hsla8p" => by_format::<Hsla8p>(rest, alloc),
-        "Hwba8p" => by_format::<Hwba8p>(rest, alloc),
-        "Matte8" => by_format::<Matte8>(rest, alloc),
+    let format = Format::of(format)?;
+    match format.model {
+        Model::Gray => of_model::<2, Gray>(format.is_wide, rest, alloc),
+        Model::Rgb => of_model::<4, Rgb>(format.is_wide, rest, alloc),
+        Model::Hsv => of_model::<4, Hsv>(format.is_wide, rest, alloc),
+        Model::Hsl => of_model::<4, Hsl>(format.is_wide, rest, alloc),
+        Model::Hwb => of_model::<4, Hwb>(format.is_wide, rest, alloc),
+        Model::Matte => of_model::<1, Matte>(format.is_wide, rest, alloc),
         _ => Err(Flaw::Name),
+    }
+}
+
+/// Composites premultiplied linear pixels of a model, which have `N` channels.
+fn of_model<const N: usize, M>(is_wide: bool, words: &[&str], alloc: Global) -> Result<String, Flaw>
+where
+    M: ColorModel,
+    requires { N ≤ 4 }
+{
+    if is_wide {
+        by_format::<Pix<N, Ch16, M, Premultiplied, Linear>>(words, alloc)
+    } else {
+        by_format::<Pix<N, Ch8, M, Premultiplied, Linear>>(words, alloc)
     }
 }
 

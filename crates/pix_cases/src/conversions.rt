@@ -8,162 +8,72 @@ use crate::flaw::Flaw;
 use crate::formats::{Format, Task};
 use crate::pixels::{pixel, word_of};
 use pix::ColorModel;
-use pix::bgr::Bgr;
-use pix::chan::{Alpha, Ch8, Ch16, Gamma, Linear, Premultiplied, Srgb, Straight};
-use pix::cmy::Cmy;
+use pix::chan::{Alpha, Ch8, Gamma, Linear, Premultiplied, Srgb, Straight};
 use pix::el::{Pix, Pixel};
 use pix::gray::Gray;
-use pix::hsl::Hsl;
-use pix::hsv::Hsv;
-use pix::hwb::Hwb;
-use pix::matte::Matte;
 use pix::rgb::{Rgb, Rgb8, Rgba16p};
-use pix::xyz::Xyz;
-use pix::ycc::YCbCr;
 use std::alloc::Global;
 
 /// `Cmy8 0,254,253 Rgb8`: a format, a pixel of it, and the format that it is converted to.
+///
+/// The one is `Rgb8` or `Rgba8`, the other is one of [`to_format`], or both have one model and the
+/// other is straight and linear.
 pub(crate) fn converted(words: &[&str], alloc: Global) -> Result<String, Flaw> {
     let &[from, word, to] = words else {
         return Err(Flaw::Count);
     };
-    match (from, to) {
-        ("Rgba8", _) => Format::of(to)?.answer(Task::OfRgba8(word), alloc),
-        ("Rgb8", _) => Format::of(to)?.answer(Task::OfRgb8(word), alloc),
-        (_, "Rgba8") => Format::of(from)?.answer(Task::ToRgba8(word), alloc),
-        ("SBgra8p" | "SCmya8p" | "SGraya8p" | "SHsva8p" | "SHsla8p", _) => {
-            to_straight(from, word, to, alloc)
-        }
-        ("SHwba8p" | "YCbCra8p" | "Xyza8p", _) => to_straight(from, word, to, alloc),
-        (_, "SRgb8") => to_eight::<3, Rgb, Straight, Srgb>(from, word, alloc),
-        (_, "SRgba8p") => to_eight::<4, Rgb, Premultiplied, Srgb>(from, word, alloc),
-        (_, "Rgba8p") => to_eight::<4, Rgb, Premultiplied, Linear>(from, word, alloc),
-        (_, "SGraya8") => to_eight::<2, Gray, Straight, Srgb>(from, word, alloc),
-        (_, "Bgra8") => to_eight::<4, Bgr, Straight, Linear>(from, word, alloc),
-        _ => to_model(from, word, to, alloc),
+    match from {
+        "Rgba8" => Format::of(to)?.answer(Task::OfRgba8(word), alloc),
+        "Rgb8" => Format::of(to)?.answer(Task::OfRgb8(word), alloc),
+        _ if to == straight(from) => Format::of(from)?.answer(Task::MakeStraight(word), alloc),
+        _ => Format::of(from)?.answer(Task::Into(word, to), alloc),
     }
 }
 
-/// Converts a pixel of `Rgba8` to another format.
-pub(crate) fn of_rgba8<D>(word: &str, alloc: Global) -> Result<String, Flaw>
-where
-    D: Pixel,
-    D::Chan: From<Ch8>,
-    Linear: Gamma<D::Chan>,
-{
-    of_eight::<4, Rgb, Straight, Linear, D>(word, alloc)
+/// The name of the straight linear format of the same channels.
+fn straight(name: &str) -> &str {
+    let name = name.strip_prefix("S").unwrap_or(name);
+    name.strip_suffix("p").unwrap_or(name)
 }
 
-/// Converts a pixel of `Rgb8` to another format.
-pub(crate) fn of_rgb8<D>(word: &str, alloc: Global) -> Result<String, Flaw>
-where
-    D: Pixel,
-    D::Chan: From<Ch8>,
-    Linear: Gamma<D::Chan>,
-{
-    of_eight::<3, Rgb, Straight, Linear, D>(word, alloc)
-}
-
-/// Converts a pixel to `Rgba8`.
-pub(crate) fn to_rgba8<S>(word: &str, alloc: Global) -> Result<String, Flaw>
+/// Converts a pixel to the format of a name.
+pub(crate) fn to_format<S>(word: &str, to: &str, alloc: Global) -> Result<String, Flaw>
 where
     S: Pixel,
     Ch8: From<S::Chan>,
     S::Gamma: Gamma<Ch8>,
 {
-    one::<S, Pix<4, Ch8, Rgb, Straight, Linear>>(word, alloc)
-}
-
-/// Converts a premultiplied pixel of eight bits to straight linear channels of the same model.
-fn to_straight(from: &str, word: &str, to: &str, alloc: Global) -> Result<String, Flaw> {
-    match (from, to) {
-        ("SBgra8p", "Bgra8") => straight::<4, Bgr, Srgb>(word, alloc),
-        ("SCmya8p", "Cmya8") => straight::<4, Cmy, Srgb>(word, alloc),
-        ("SGraya8p", "Graya8") => straight::<2, Gray, Srgb>(word, alloc),
-        ("SHsva8p", "Hsva8") => straight::<4, Hsv, Srgb>(word, alloc),
-        ("SHsla8p", "Hsla8") => straight::<4, Hsl, Srgb>(word, alloc),
-        ("SHwba8p", "Hwba8") => straight::<4, Hwb, Srgb>(word, alloc),
-        ("YCbCra8p", "YCbCra8") => straight::<4, YCbCr, Linear>(word, alloc),
-        ("Xyza8p", "Xyza8") => straight::<4, Xyz, Linear>(word, alloc),
-        _ => Err(Flaw::Name),
-    }
-}
-
-/// Converts a premultiplied pixel of eight bits to straight linear channels of the same model.
-fn straight<const N: usize, M, G>(word: &str, alloc: Global) -> Result<String, Flaw>
-where
-    M: ColorModel,
-    G: Gamma<Ch8>,
-    requires { N ≤ 4 }
-{
-    of_eight::<N, M, Premultiplied, G, Pix<N, Ch8, M, Straight, Linear>>(word, alloc)
-}
-
-/// Converts the pixel of a word, of the format of a name, to straight linear channels of eight bits
-/// without an alpha.
-fn to_model(from: &str, word: &str, to: &str, alloc: Global) -> Result<String, Flaw> {
     match to {
-        "Rgb8" => to_eight::<3, Rgb, Straight, Linear>(from, word, alloc),
-        "Cmy8" => to_eight::<3, Cmy, Straight, Linear>(from, word, alloc),
-        "Gray8" => to_eight::<1, Gray, Straight, Linear>(from, word, alloc),
-        "Bgr8" => to_eight::<3, Bgr, Straight, Linear>(from, word, alloc),
-        "YCbCr8" => to_eight::<3, YCbCr, Straight, Linear>(from, word, alloc),
-        "Xyz8" => to_eight::<3, Xyz, Straight, Linear>(from, word, alloc),
-        "Hsv8" => to_eight::<3, Hsv, Straight, Linear>(from, word, alloc),
-        "Hsl8" => to_eight::<3, Hsl, Straight, Linear>(from, word, alloc),
-        "Hwb8" => to_eight::<3, Hwb, Straight, Linear>(from, word, alloc),
+        "Rgba8" => to_eight::<S, 4, Rgb, Straight, Linear>(word, alloc),
+        "Rgba8p" => to_eight::<S, 4, Rgb, Premultiplied, Linear>(word, alloc),
+        "Rgb8" => to_eight::<S, 3, Rgb, Straight, Linear>(word, alloc),
+        "SRgb8" => to_eight::<S, 3, Rgb, Straight, Srgb>(word, alloc),
+        "SRgba8p" => to_eight::<S, 4, Rgb, Premultiplied, Srgb>(word, alloc),
+        "Gray8" => to_eight::<S, 1, Gray, Straight, Linear>(word, alloc),
+        "SGraya8" => to_eight::<S, 2, Gray, Straight, Srgb>(word, alloc),
         _ => Err(Flaw::Name),
     }
 }
 
-/// Converts the pixel of a word, of the format of a name, to the format of eight bits of these
-/// parts.
-fn to_eight<const N: usize, M, A, G>(from: &str, word: &str, alloc: Global) -> Result<String, Flaw>
+/// Converts a pixel to the format of eight bits of these parts.
+fn to_eight<S, const N: usize, M, A, G>(word: &str, alloc: Global) -> Result<String, Flaw>
 where
+    S: Pixel,
+    Ch8: From<S::Chan>,
+    S::Gamma: Gamma<Ch8>,
     M: ColorModel,
     A: Alpha,
     G: Gamma<Ch8>,
     requires { N ≤ 4 }
 {
-    converted_to::<Pix<N, Ch8, M, A, G>>(from, word, alloc)
+    one::<S, Pix<N, Ch8, M, A, G>>(word, alloc)
 }
 
-/// Converts the pixel of a word, of the format of a name.
-fn converted_to<D>(from: &str, word: &str, alloc: Global) -> Result<String, Flaw>
-where
-    D: Pixel,
-    D::Chan: From<Ch8> + From<Ch16>,
-    Srgb: Gamma<D::Chan>,
-{
-    match from {
-        "Cmy8" => of_eight::<3, Cmy, Straight, Linear, D>(word, alloc),
-        "Cmy16" => of_sixteen::<3, Cmy, Straight, D>(word, alloc),
-        "YCbCr8" => of_eight::<3, YCbCr, Straight, Linear, D>(word, alloc),
-        "Xyz8" => of_eight::<3, Xyz, Straight, Linear, D>(word, alloc),
-        "Hsv8" => of_eight::<3, Hsv, Straight, Linear, D>(word, alloc),
-        "Hsv16" => of_sixteen::<3, Hsv, Straight, D>(word, alloc),
-        "Hsl8" => of_eight::<3, Hsl, Straight, Linear, D>(word, alloc),
-        "Hsl16" => of_sixteen::<3, Hsl, Straight, D>(word, alloc),
-        "Hwb8" => of_eight::<3, Hwb, Straight, Linear, D>(word, alloc),
-        "Hwb16" => of_sixteen::<3, Hwb, Straight, D>(word, alloc),
-        "SRgb8" => of_eight::<3, Rgb, Straight, Srgb, D>(word, alloc),
-        "Rgb16" => of_sixteen::<3, Rgb, Straight, D>(word, alloc),
-        "Gray8" => of_eight::<1, Gray, Straight, Linear, D>(word, alloc),
-        "SGraya8" => of_eight::<2, Gray, Straight, Srgb, D>(word, alloc),
-        "SGray8" => of_eight::<1, Gray, Straight, Srgb, D>(word, alloc),
-        "SRgba8" => of_eight::<4, Rgb, Straight, Srgb, D>(word, alloc),
-        "Rgba8p" => of_eight::<4, Rgb, Premultiplied, Linear, D>(word, alloc),
-        "Rgba16" => of_sixteen::<4, Rgb, Straight, D>(word, alloc),
-        "Rgba16p" => of_sixteen::<4, Rgb, Premultiplied, D>(word, alloc),
-        "Graya8p" => of_eight::<2, Gray, Premultiplied, Linear, D>(word, alloc),
-        "Matte8" => of_eight::<1, Matte, Premultiplied, Linear, D>(word, alloc),
-        "Matte16" => of_sixteen::<1, Matte, Premultiplied, D>(word, alloc),
-        _ => Err(Flaw::Name),
-    }
-}
-
-/// Converts the pixel of a word, of the format of eight bits of these parts.
-fn of_eight<const N: usize, M, A, G, D>(word: &str, alloc: Global) -> Result<String, Flaw>
+/// Converts a pixel of the format of eight bits of these parts.
+pub(crate) fn of_eight<const N: usize, M, A, G, D>(
+    word: &str,
+    alloc: Global,
+) -> Result<String, Flaw>
 where
     M: ColorModel,
     A: Alpha,
@@ -173,18 +83,6 @@ where
     requires { N ≤ 4 }
 {
     one::<Pix<N, Ch8, M, A, G>, D>(word, alloc)
-}
-
-/// Converts the pixel of a word, of the linear format of sixteen bits of these parts.
-fn of_sixteen<const N: usize, M, A, D>(word: &str, alloc: Global) -> Result<String, Flaw>
-where
-    M: ColorModel,
-    A: Alpha,
-    D: Pixel,
-    D::Chan: From<Ch16>,
-    requires { N ≤ 4 }
-{
-    one::<Pix<N, Ch16, M, A, Linear>, D>(word, alloc)
 }
 
 /// Converts the pixel of a word.

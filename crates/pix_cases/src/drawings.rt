@@ -1,17 +1,21 @@
 //! Commands on rasters: clears, copies and composites, in single calls and in lists.
-ghost use Rattle.std.specs.Prelude.{⊤};
+ghost use Rattle.std.specs.Prelude.{◌≡◌, ◌≤◌, ◌+◌, ⊤};
 
 use crate::flaw::Flaw;
 use crate::images::{image, picture, pixel};
 use crate::regions::region;
 use crate::words::operator;
-use pix::el::Pixel;
-use pix::gray::Graya8p;
+use pix::chan::{Ch8, Linear, Premultiplied};
+use pix::el::{Pix, Pixel};
+use pix::gray::Gray;
 use pix::matte::Matte8;
 use pix::ops::{Blend, Op, OpVisitor};
-use pix::rgb::Rgba8p;
-use pix::{Command, Raster, Region};
+use pix::rgb::Rgb;
+use pix::{ColorModel, Command, Raster, Region};
 use std::alloc::{AllocError, Global};
+
+/// A premultiplied pixel of eight bits, of `N` channels.
+type Color<const N: usize, M> = Pix<N, Ch8, M, Premultiplied, Linear>;
 
 /// A command, without the images that it may read.
 #[derive(Drop)]
@@ -58,31 +62,32 @@ struct Images<P> {
 ///
 /// The answer is the size and the pixels of the raster after them.
 pub(crate) fn draw(words: &[&str], alloc: Global) -> Result<String, Flaw> {
-    drawn::<Rgba8p>(words, alloc)
+    drawn::<4, Rgb>(words, alloc)
 }
 
 /// `list 2x1 - ; paint SrcOver 0,0,1,1 4080`: as [`draw`], on a raster of premultiplied gray and
 /// alpha.
 pub(crate) fn draw_gray(words: &[&str], alloc: Global) -> Result<String, Flaw> {
-    drawn::<Graya8p>(words, alloc)
+    drawn::<2, Gray>(words, alloc)
 }
 
-/// The answer of [`draw`] for a format.
-fn drawn<P>(words: &[&str], alloc: Global) -> Result<String, Flaw>
-where
-    P: Pixel,
-    Raster<P>: Canvas<P>,
+/// The answer of [`draw`] for a format of `N` channels.
+///
+/// Condition: these are all channels of the model.
+fn drawn<const N: usize, M: ColorModel>(words: &[&str], alloc: Global) -> Result<String, Flaw>
+    requires few { N ≤ 4 }
+    requires has_alpha { N ≡ M.ALPHA + 1 }
 {
     let [way, size, pixels, words @ ..] = words else {
         return Err(Flaw::Count);
     };
-    let mut raster: Raster<P> = image(size, pixels, alloc)?;
+    let mut raster: Raster<Color<N, M>> = image(size, pixels, alloc)?;
     let source = named_image("source", words, alloc)?;
     let mattes = named_image("mattes", words, alloc)?;
     let images = Images { source, mattes };
-    let orders = orders::<P>(words, alloc)?;
+    let orders = orders::<Color<N, M>>(words, alloc)?;
     match *way {
-        "list" => raster.run_list(&commands_of(&images, &orders, alloc)?),
+        "list" => raster.run(&commands_of(&images, &orders, alloc)?),
         "calls" => {
             for order in &orders {
                 call(&mut raster, &images, order);
@@ -229,10 +234,15 @@ fn faded<'a, P: Pixel>(
 }
 
 /// Does a command by a call of its own.
-fn call<P>(raster: &mut Raster<P>, images: &Images<P>, order: &Order<P>)
-where
-    P: Pixel,
-    Raster<P>: Canvas<P>,
+///
+/// Condition: the format has all channels of the model.
+fn call<const N: usize, M: ColorModel>(
+    raster: &mut Raster<Color<N, M>>,
+    images: &Images<Color<N, M>>,
+    order: &Order<Color<N, M>>,
+)
+    requires few { N ≤ 4 }
+    requires has_alpha { N ≡ M.ALPHA + 1 }
 {
     match *order {
         Order::Clear => raster.clear(),
@@ -242,7 +252,7 @@ where
         | Order::Comp(op, ..)
         | Order::Matte(op, ..)
         | Order::Mask(op, ..)
-        | Order::Fade(op, ..) => raster.composite(&Composite { images, order }, op),
+        | Order::Fade(op, ..) => op.visit(&Composite { images, order }, raster),
     }
 }
 
@@ -253,63 +263,12 @@ struct Composite<'a, P> {
     order: &'a Order<P>,
 }
 
-/// A raster of a format that is composited. Each format has the calls written out.
-trait Canvas<P> {
-    /// Does the commands as one list.
-    fn run_list(&mut self, commands: &[Command<'_, P, Matte8>]);
-
-    /// Does a command that composites by a call of its own.
-    fn composite(&mut self, composite: &Composite<'_, P>, op: Op);
-}
-
-impl Canvas<Rgba8p> for Raster<Rgba8p> {
-    fn run_list(&mut self, commands: &[Command<'_, Rgba8p, Matte8>]) {
-        self.run(commands);
-    }
-
-    fn composite(&mut self, composite: &Composite<'_, Rgba8p>, op: Op) {
-        op.visit(composite, self);
-    }
-}
-
-impl OpVisitor<Raster<Rgba8p>> for Composite<'_, Rgba8p> {
-    ghost can_visit = { λ _ _. ⊤ };
+impl<const N: usize, M: ColorModel> OpVisitor<Raster<Color<N, M>>> for Composite<'_, Color<N, M>> {
+    ghost can_visit = { λ _ _. N ≡ M.ALPHA + 1 };
 
     ghost visits = { λ _ _ _ _. ⊤ };
 
-    fn visit<O: Blend>(&self, raster: &mut Raster<Rgba8p>, op: O) {
-        let (source, mattes) = (&self.images.source, &self.images.mattes);
-        match *self.order {
-            Order::Paint(_, reg, clr) => raster.composite_color(reg, clr, op),
-            Order::Comp(_, to, from) => raster.composite_raster(to, source, from, op),
-            Order::Matte(_, to, from, clr) => raster.composite_matte(to, mattes, from, clr, op),
-            Order::Mask(_, to, from, mask_from) => {
-                raster.composite_raster_matte(to, source, from, mattes, mask_from, op);
-            }
-            Order::Fade(_, to, from, alpha) => {
-                raster.composite_raster_alpha(to, source, from, alpha, op);
-            }
-            _ => {}
-        }
-    }
-}
-
-impl Canvas<Graya8p> for Raster<Graya8p> {
-    fn run_list(&mut self, commands: &[Command<'_, Graya8p, Matte8>]) {
-        self.run(commands);
-    }
-
-    fn composite(&mut self, composite: &Composite<'_, Graya8p>, op: Op) {
-        op.visit(composite, self);
-    }
-}
-
-impl OpVisitor<Raster<Graya8p>> for Composite<'_, Graya8p> {
-    ghost can_visit = { λ _ _. ⊤ };
-
-    ghost visits = { λ _ _ _ _. ⊤ };
-
-    fn visit<O: Blend>(&self, raster: &mut Raster<Graya8p>, op: O) {
+    fn visit<O: Blend>(&self, raster: &mut Raster<Color<N, M>>, op: O) {
         let (source, mattes) = (&self.images.source, &self.images.mattes);
         match *self.order {
             Order::Paint(_, reg, clr) => raster.composite_color(reg, clr, op),

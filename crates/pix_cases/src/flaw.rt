@@ -1,4 +1,5 @@
 //! What can be wrong with a case, other than its answer.
+use pix::RasterFault;
 use std::alloc::{AllocError, AllocFailed};
 use thiserror::Error;
 
@@ -23,7 +24,7 @@ pub(crate) enum Flaw {
     /// The library refuses what the line asks.
     #[error("refused")]
     Refused,
-    /// An allocation failed.
+    /// An allocation failed, or a raster was refused.
     #[error("out of memory")]
     Memory,
 }
@@ -36,6 +37,18 @@ impl From<AllocError> for Flaw {
 
 impl<T: Drop> From<AllocFailed<T>> for Flaw {
     fn from(_error: AllocFailed<T>) -> Flaw {
+        Flaw::Memory
+    }
+}
+
+impl From<RasterFault> for Flaw {
+    fn from(_fault: RasterFault) -> Flaw {
+        Flaw::Memory
+    }
+}
+
+impl<T: Drop> From<(RasterFault, T)> for Flaw {
+    fn from(_fault: (RasterFault, T)) -> Flaw {
         Flaw::Memory
     }
 }

@@ -4,7 +4,7 @@
 //! count of its channels, its color model, its alpha mode and its gamma mode.
 ghost use Rattle.std.specs.Prelude.{◌≤◌};
 
-use crate::conversions::{of_rgb8, of_rgba8, to_rgba8};
+use crate::conversions::{of_eight, to_format};
 use crate::flaw::Flaw;
 use crate::models::{made_of_rgba, rgba_of};
 use pix::ColorModel;
@@ -36,8 +36,10 @@ pub(crate) enum Task<'a> {
     OfRgba8(&'a str),
     /// Converts a pixel of `Rgb8` to it.
     OfRgb8(&'a str),
-    /// Converts a pixel of it to `Rgba8`.
-    ToRgba8(&'a str),
+    /// Converts a pixel of it to the format of a name.
+    Into(&'a str, &'a str),
+    /// Converts a pixel of it, of eight bits, to straight linear channels.
+    MakeStraight(&'a str),
 }
 
 /// A color model.
@@ -153,7 +155,12 @@ where
     G: Gamma<Ch8>,
     requires { N ≤ 4 }
 {
-    done::<Pix<N, Ch8, M, A, G>>(task, alloc)
+    match task {
+        Task::MakeStraight(word) => {
+            of_eight::<N, M, A, G, Pix<N, Ch8, M, Straight, Linear>>(word, alloc)
+        },
+        _ => done::<Pix<N, Ch8, M, A, G>>(task, alloc),
+    }
 }
 
 /// Does a task for a linear format of sixteen bits.
@@ -179,9 +186,10 @@ where
         Task::Describe => description::<P>(alloc),
         Task::FromRgba(word) => made_of_rgba::<P>(word, alloc),
         Task::IntoRgba(word) => rgba_of::<P>(word, alloc),
-        Task::OfRgba8(word) => of_rgba8::<P>(word, alloc),
-        Task::OfRgb8(word) => of_rgb8::<P>(word, alloc),
-        Task::ToRgba8(word) => to_rgba8::<P>(word, alloc),
+        Task::OfRgba8(word) => of_eight::<4, Rgb, Straight, Linear, P>(word, alloc),
+        Task::OfRgb8(word) => of_eight::<3, Rgb, Straight, Linear, P>(word, alloc),
+        Task::Into(word, to) => to_format::<P>(word, to, alloc),
+        Task::MakeStraight(_) => Err(Flaw::Name),
     }
 }
 

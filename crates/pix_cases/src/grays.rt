@@ -1,15 +1,19 @@
-//! Rows, single pixels and copies of rasters of grays and of mattes.
+//! Rows, single pixels and copies of rasters of grays.
+ghost use Rattle.std.specs.Prelude.{◌≤◌};
+
 use crate::flaw::Flaw;
 use crate::images::{all, image, picture, pixel, pixel_at, put, text};
 use crate::regions::{coordinate, region};
 use crate::words::{hexadecimal, number};
-use pix::chan::{Alpha, Ch8, Channel, Gamma};
+use pix::chan::{Ch8, Channel, Linear, Straight};
 use pix::el::{Pix, Pixel};
-use pix::gray::Gray8;
-use pix::matte::Matte8;
+use pix::gray::Gray;
 use pix::{ColorModel, Raster, Region};
 use std::alloc::Global;
 use std::mem;
+
+/// A pixel of eight bits, of `N` channels.
+type Color<const N: usize, M> = Pix<N, Ch8, M, Straight, Linear>;
 
 /// `3x1 01,02,03 ; row 0 1,0,9,9`: the size and the pixels of a raster, and after each `;` what is
 /// done with it:
@@ -36,24 +40,19 @@ pub(crate) fn gray(words: &[&str], alloc: Global) -> Result<String, Flaw> {
     let [size, pixels, words @ ..] = words else {
         return Err(Flaw::Count);
     };
-    walked::<Gray8>(size, pixels, words, alloc)
+    walked::<1, Gray>(size, pixels, words, alloc)
 }
 
-/// `3x1 01,02,03 ; row 0 1,0,9,9`: as [`gray`], of a raster of mattes.
-pub(crate) fn matte(words: &[&str], alloc: Global) -> Result<String, Flaw> {
-    let [size, pixels, words @ ..] = words else {
-        return Err(Flaw::Count);
-    };
-    walked::<Matte8>(size, pixels, words, alloc)
-}
-
-/// The answer of [`gray`] for a format whose rasters become bytes.
-fn walked<P>(size: &str, pixels: &str, words: &[&str], alloc: Global) -> Result<String, Flaw>
-where
-    P: Pixel,
-    Raster<P>: Bytes,
+/// The answer of [`gray`] for a format of `N` channels.
+fn walked<const N: usize, M: ColorModel>(
+    size: &str,
+    pixels: &str,
+    words: &[&str],
+    alloc: Global,
+) -> Result<String, Flaw>
+    requires { N ≤ 4 }
 {
-    let mut raster: Raster<P> = image(size, pixels, alloc)?;
+    let mut raster: Raster<Color<N, M>> = image(size, pixels, alloc)?;
     let mut source = image("0x0", "-", alloc)?;
     let mut answer = String::new(alloc);
     for part in words.split(|word| *word == ";") {
@@ -97,15 +96,13 @@ fn change<P: Pixel>(
 }
 
 /// The answer to a question.
-fn told<P>(
-    raster: &mut Raster<P>,
-    source: &mut Raster<P>,
+fn told<const N: usize, M: ColorModel>(
+    raster: &mut Raster<Color<N, M>>,
+    source: &mut Raster<Color<N, M>>,
     words: &[&str],
     alloc: Global,
 ) -> Result<String, Flaw>
-where
-    P: Pixel,
-    Raster<P>: Bytes,
+    requires { N ≤ 4 }
 {
     match words {
         ["pixels"] => picture(raster, alloc),
@@ -127,41 +124,25 @@ where
             Ok(format!(in alloc; "{count}")?)
         }
         ["clone"] => {
-            *source = raster.try_clone(alloc).map_err(|_| Flaw::Memory)?;
+            *source = raster.try_clone(alloc)?;
             copies(raster, alloc)
         }
         _ => Err(Flaw::Name),
     }
 }
 
-/// A raster that becomes bytes.
-trait Bytes {
-    /// Its bytes, and the ones that it becomes.
-    fn bytes(&self, alloc: Global) -> Result<(Vec<u8>, Vec<u8>), Flaw>;
-}
-
-impl<const N: usize, M, A, G> Bytes for Raster<Pix<N, Ch8, M, A, G>>
+/// The pixels and the bytes that come out of copies of a raster.
+fn copies<const N: usize, M>(raster: &Raster<Color<N, M>>, alloc: Global) -> Result<String, Flaw>
 where
     M: ColorModel,
-    A: Alpha,
-    G: Gamma<Ch8>,
+    requires { N ≤ 4 }
 {
-    fn bytes(&self, alloc: Global) -> Result<(Vec<u8>, Vec<u8>), Flaw> {
-        let copied = self.to_u8_vec(alloc).map_err(|_| Flaw::Memory)?;
-        let copy = self.try_clone(alloc).map_err(|_| Flaw::Memory)?;
-        Ok((copied, copy.into_u8_vec(alloc).map_err(|_| Flaw::Memory)?))
-    }
-}
-
-/// The pixels and the bytes that come out of copies of a raster.
-fn copies<P>(raster: &Raster<P>, alloc: Global) -> Result<String, Flaw>
-where
-    P: Pixel,
-    Raster<P>: Bytes,
-{
-    let (copied, bytes) = raster.bytes(alloc)?;
-    let (copied, bytes) = (hexadecimal(&copied, alloc)?, hexadecimal(&bytes, alloc)?);
-    let copy = raster.try_clone(alloc).map_err(|_| Flaw::Memory)?;
+    let copied = raster.to_u8_vec(alloc)?;
+    let copied = hexadecimal(&copied, alloc)?;
+    let copy = raster.try_clone(alloc)?;
+    let bytes = copy.into_u8_vec(alloc)?;
+    let bytes = hexadecimal(&bytes, alloc)?;
+    let copy = raster.try_clone(alloc)?;
     let pixels = text(&copy.into_pixels(), alloc)?;
     Ok(format!(in alloc; "{pixels} {copied} {bytes}")?)
 }
@@ -217,7 +198,7 @@ fn number_points<P: Pixel>(raster: &mut Raster<P>, reg: Region) -> usize {
 }
 
 /// Sets each channel of a pixel to a number of units, or to the maximum where that is less.
-fn set_channels<P: Pixel>(pixel: &mut P, number: u8) {
+pub(crate) fn set_channels<P: Pixel>(pixel: &mut P, number: u8) {
     for channel in pixel.channels_mut() {
         *channel = P::Chan::from_ratio(i64::from(number), 1);
     }

@@ -4,7 +4,7 @@ use crate::pixels::{channel, pixel, word_of};
 use pix::chan::{Ch8, Ch16, Channel};
 use pix::el::Pixel;
 use pix::hue::{Hexcone, rgb_to_hue_chroma_value};
-use pix::rgb::{Rgb, Rgb8, Rgba8, Rgba16};
+use pix::rgb::{Rgb, Rgb8, Rgba16};
 use std::alloc::Global;
 
 /// `of_hue 8 255`: the width of a hue, and the hue. `rgb Red 51 128`: a side of the cone with its
@@ -62,7 +62,6 @@ pub(crate) fn compared(words: &[&str], alloc: Global) -> Result<String, Flaw> {
     };
     match format {
         "Rgb8" => by_format::<Rgb8>(name, one, other, alloc),
-        "Rgba8" => by_format::<Rgba8>(name, one, other, alloc),
         "Rgba16" => by_format::<Rgba16>(name, one, other, alloc),
         _ => Err(Flaw::Name),
     }

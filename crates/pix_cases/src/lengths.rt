@@ -1,13 +1,23 @@
 //! Rasters, buffers, palettes, indices and scripts of any length, made with ample memory: a call
 //! that refuses a length has no answer.
+ghost use Rattle.std.specs.Prelude.{◌≤◌, ◌+◌};
+
 use crate::flaw::Flaw;
+use crate::grays::set_channels;
 use crate::words::small;
-use pix::el::Pixel;
-use pix::gray::{Gray8, Gray16};
+use pix::chan::{Ch8, Ch16, Channel, Gamma, Linear, Straight};
+use pix::el::{Pix, Pixel};
+use pix::gray::Gray;
 use pix::rgb::SRgb8;
-use pix::{Palette, Raster};
+use pix::{ColorModel, Palette, Raster};
 use pix_script::paint_io;
 use std::alloc::Global;
+
+/// A pixel of eight bits, of `N` channels.
+type Narrow<const N: usize, M> = Pix<N, Ch8, M, Straight, Linear>;
+
+/// A pixel of sixteen bits, of `N` channels.
+type Wide<const N: usize, M> = Pix<N, Ch16, M, Straight, Linear>;
 
 /// `4097`: the length of a row of grays, whose values count up and begin again after 255. The
 /// answer is how many of them are right. They are counted as bytes, in a copy, in a raster made of
@@ -16,16 +26,23 @@ pub(crate) fn row(words: &[&str], alloc: Global) -> Result<String, Flaw> {
     let [word] = words else {
         return Err(Flaw::Count);
     };
-    let len = small(word)?;
-    let mut raster = Raster::<Gray8>::with_clear(alloc, len, 1).map_err(|_| Flaw::Memory)?;
+    row_of_model::<1, Gray>(small(word)?, alloc)
+}
+
+/// The answer of [`row`] for a model. It has that many numbers where a pixel has one channel.
+///
+/// Condition: the format has no more channels than the model.
+fn row_of_model<const N: usize, M: ColorModel>(len: u32, alloc: Global) -> Result<String, Flaw>
+    requires { N ≤ M.ALPHA + 1 }
+{
+    let mut raster: Raster<Narrow<N, M>> = Raster::with_clear(alloc, len, 1)?;
     for (i, pixel) in raster.pixels_mut().iter_mut().enumerate() {
-        *pixel = Gray8::new((i % 256) as u8);
+        set_channels(pixel, (i % 256) as u8);
     }
-    let wide = Raster::<Gray16>::with_raster(alloc, &raster).map_err(|_| Flaw::Memory)?;
-    let copy = raster.try_clone(alloc).map_err(|_| Flaw::Memory)?;
-    let bytes = raster.to_u8_vec(alloc).map_err(|_| Flaw::Memory)?;
-    let copied = copy.into_u8_vec(alloc).map_err(|_| Flaw::Memory)?;
-    let words = wide.into_u16_vec(alloc).map_err(|_| Flaw::Memory)?;
+    let wide: Raster<Wide<N, M>> = Raster::with_raster(alloc, &raster)?;
+    let bytes = raster.to_u8_vec(alloc)?;
+    let copied = raster.try_clone(alloc)?.into_u8_vec(alloc)?;
+    let words = wide.into_u16_vec(alloc)?;
     let (one, two, three) = (
         right_bytes(&bytes),
         right_bytes(&copied),
@@ -34,12 +51,22 @@ pub(crate) fn row(words: &[&str], alloc: Global) -> Result<String, Flaw> {
     if len == 0 {
         return Ok(format!(in alloc; "{one} {two} {three}")?);
     }
-    let made = Raster::<Gray8>::with_u8_buffer(alloc, len, 1, bytes).map_err(|_| Flaw::Memory)?;
-    let bytes = made.into_u8_vec(alloc).map_err(|_| Flaw::Memory)?;
-    let made = Raster::<Gray16>::with_u16_buffer(alloc, len, 1, words).map_err(|_| Flaw::Memory)?;
-    let words = made.into_u16_vec(alloc).map_err(|_| Flaw::Memory)?;
-    let (four, five) = (right_bytes(&bytes), right_words(&words));
+    let (four, five) = made_again::<N, M>(len, bytes, words, alloc)?;
     Ok(format!(in alloc; "{one} {two} {four} {three} {five}")?)
+}
+
+/// How many bytes and words are right that come back out of rasters of them.
+fn made_again<const N: usize, M: ColorModel>(
+    len: u32,
+    bytes: Vec<u8>,
+    words: Vec<u16>,
+    alloc: Global,
+) -> Result<(usize, usize), Flaw> {
+    let made: Raster<Narrow<N, M>> = Raster::with_u8_buffer(alloc, len, 1, bytes)?;
+    let bytes = made.into_u8_vec(alloc)?;
+    let made: Raster<Wide<N, M>> = Raster::with_u16_buffer(alloc, len, 1, words)?;
+    let words = made.into_u16_vec(alloc)?;
+    Ok((right_bytes(&bytes), right_words(&words)))
 }
 
 /// How many bytes are those of the row.
@@ -68,15 +95,21 @@ pub(crate) fn table(words: &[&str], alloc: Global) -> Result<String, Flaw> {
         return Err(Flaw::Count);
     };
     let (limit, colors, len) = (small(limit)?, small(colors)?, small(len)?);
-    let raster = turns(colors, len, alloc)?;
-    let mut palette = Palette::new(alloc, limit as usize).map_err(|_| Flaw::Memory)?;
-    let wide = palette
-        .make_indexed_wide(alloc, raster)
-        .map_err(|_| Flaw::Memory)?
-        .ok_or(Flaw::Refused)?;
-    let indices = wide.into_u16_vec(alloc).map_err(|_| Flaw::Memory)?;
-    let copy = palette.try_clone(alloc).map_err(|_| Flaw::Memory)?;
-    let counts = copy.histogram(alloc, &indices).map_err(|_| Flaw::Memory)?;
+    table_of(limit, colors, turns::<SRgb8>(colors, len, alloc)?, alloc)
+}
+
+/// The answer of [`table`] for a row of pixels.
+fn table_of<P>(limit: u32, colors: u32, row: Raster<P>, alloc: Global) -> Result<String, Flaw>
+where
+    P: Pixel,
+    Ch8: From<P::Chan>,
+    P::Gamma: Gamma<Ch8>,
+{
+    let mut palette = Palette::new(alloc, limit as usize)?;
+    let wide = palette.make_indexed_wide(alloc, row)?.ok_or(Flaw::Refused)?;
+    let indices = wide.into_u16_vec(alloc)?;
+    let copy = palette.try_clone(alloc)?;
+    let counts = copy.histogram(alloc, &indices)?;
     let counted = sum(&counts.ok_or(Flaw::Refused)?);
     let right = right_turns(&indices, colors);
     let entries = copy.len();
@@ -84,13 +117,21 @@ pub(crate) fn table(words: &[&str], alloc: Global) -> Result<String, Flaw> {
 }
 
 /// A row of pixels in which this many colors take turns.
-fn turns(colors: u32, len: u32, alloc: Global) -> Result<Raster<SRgb8>, Flaw> {
-    let mut raster = Raster::with_clear(alloc, len, 1).map_err(|_| Flaw::Memory)?;
+fn turns<P: Pixel>(colors: u32, len: u32, alloc: Global) -> Result<Raster<P>, Flaw> {
+    let mut raster = Raster::with_clear(alloc, len, 1)?;
     for (i, pixel) in raster.pixels_mut().iter_mut().enumerate() {
-        let number = turn(i, colors);
-        *pixel = SRgb8::new((number % 256) as u8, (number / 256 % 256) as u8, 0u8);
+        spell(pixel, turn(i, colors));
     }
     Ok(raster)
+}
+
+/// Sets the channels of a pixel to the bytes of a number, the lowest first.
+fn spell<P: Pixel>(pixel: &mut P, number: usize) {
+    let mut rest = number;
+    for channel in pixel.channels_mut() {
+        *channel = P::Chan::from_ratio((rest % 256) as i64, 1);
+        rest /= 256;
+    }
 }
 
 /// The number of the color whose turn it is at a pixel.

@@ -1,7 +1,7 @@
 //! Palettes: entries, matches, thresholds, counts and copies, and images of indices.
 use crate::flaw::Flaw;
 use crate::images::{image, pixel, text};
-use pix::chan::Channel;
+use pix::chan::{Ch8, Channel, Gamma};
 use pix::el::Pixel;
 use pix::rgb::SRgb8;
 use pix::{Palette, Raster};
@@ -27,7 +27,7 @@ pub(crate) fn palette(words: &[&str], alloc: Global) -> Result<String, Flaw> {
     let [limit, words @ ..] = words else {
         return Err(Flaw::Count);
     };
-    let mut copy = Palette::new(alloc, 0).map_err(|_| Flaw::Memory)?;
+    let mut copy = Palette::new(alloc, 0)?;
     let mut palette = match Palette::new(alloc, index(limit)?) {
         Ok(palette) => palette,
         Err(fault) => return Ok(format!(in alloc; "{fault}")?),
@@ -40,7 +40,7 @@ pub(crate) fn palette(words: &[&str], alloc: Global) -> Result<String, Flaw> {
             ["threshold", "five"] => palette.set_threshold_fn(five),
             ["threshold", "all"] => palette.set_threshold_fn(any),
             ["threshold", "falling"] => palette.set_threshold_fn(falling),
-            ["clone"] => copy = palette.try_clone(alloc).map_err(|_| Flaw::Memory)?,
+            ["clone"] => copy = palette.try_clone(alloc)?,
             ["swap"] => mem::swap(&mut palette, &mut copy),
             ["set", color] => {
                 let found = palette.set_entry(color_of(color, alloc)?);
@@ -80,19 +80,24 @@ fn index(word: &str) -> Result<usize, Flaw> {
     word.parse::<usize>().map_err(|_| Flaw::Number)
 }
 
+/// A color of these channels.
+fn color(red: u8, green: u8, blue: u8) -> SRgb8 {
+    SRgb8::new(red, green, blue)
+}
+
 /// 4, 5 and 6 in the channels.
 fn four_five_six(_size: usize) -> SRgb8 {
-    SRgb8::new(4, 5, 6)
+    color(4, 5, 6)
 }
 
 /// 5 in each channel.
 fn five(_size: usize) -> SRgb8 {
-    SRgb8::new(5, 5, 5)
+    color(5, 5, 5)
 }
 
 /// The maximum in each channel.
 fn any(_size: usize) -> SRgb8 {
-    SRgb8::new(255, 255, 255)
+    color(255, 255, 255)
 }
 
 /// In each channel 40 for no entries, and 10 less for each entry up to 4.
@@ -104,7 +109,7 @@ fn falling(size: usize) -> SRgb8 {
         3 => 10,
         _ => 0,
     };
-    SRgb8::new(value, value, value)
+    color(value, value, value)
 }
 
 /// The answer to a question that changes nothing.
@@ -150,14 +155,9 @@ fn counted(palette: &Palette, digits: &[u8], alloc: Global) -> Result<String, Fl
         words.push(u16::from(digit))?;
         numbers.push(usize::from(digit))?;
     }
-    let of_bytes = palette.histogram(alloc, &bytes).map_err(|_| Flaw::Memory)?;
-    let of_words = palette.histogram(alloc, &words).map_err(|_| Flaw::Memory)?;
-    let of_numbers = palette
-        .histogram(alloc, &numbers)
-        .map_err(|_| Flaw::Memory)?;
-    let of_bytes = counts_text(of_bytes, alloc)?;
-    let of_words = counts_text(of_words, alloc)?;
-    let of_numbers = counts_text(of_numbers, alloc)?;
+    let of_bytes = counts_text(palette.histogram(alloc, &bytes)?, alloc)?;
+    let of_words = counts_text(palette.histogram(alloc, &words)?, alloc)?;
+    let of_numbers = counts_text(palette.histogram(alloc, &numbers)?, alloc)?;
     Ok(format!(in alloc; "{of_bytes} {of_words} {of_numbers}")?)
 }
 
@@ -183,43 +183,55 @@ pub(crate) fn indexed(words: &[&str], alloc: Global) -> Result<String, Flaw> {
     let [bits, limit, size, pixels] = words else {
         return Err(Flaw::Count);
     };
-    let raster = image::<SRgb8>(size, pixels, alloc)?;
-    let mut palette = Palette::new(alloc, index(limit)?).map_err(|_| Flaw::Memory)?;
-    let mut answer = String::new(alloc);
+    let (limit, raster) = (index(limit)?, image::<SRgb8>(size, pixels, alloc)?);
     match *bits {
-        "8" => match palette
-            .make_indexed(alloc, raster)
-            .map_err(|_| Flaw::Memory)?
-        {
-            None => answer.push_str("none")?,
-            Some(image) => write_values(&mut answer, &image)?,
-        },
-        "16" => match palette
-            .make_indexed_wide(alloc, raster)
-            .map_err(|_| Flaw::Memory)?
-        {
-            None => answer.push_str("none")?,
-            Some(image) => write_values(&mut answer, &image)?,
-        },
-        "set" => {
-            let mut found = vec![in alloc; None; raster.pixels().len()]?;
-            palette.set_entries(alloc, raster.pixels(), &mut found);
-            for index in &found {
-                add(&mut answer, index_or_none(*index, alloc)?)?;
-            }
-        }
-        _ => return Err(Flaw::Name),
+        "8" => made(false, limit, raster, alloc),
+        "16" => made(true, limit, raster, alloc),
+        "set" => set(limit, raster.pixels(), alloc),
+        _ => Err(Flaw::Name),
+    }
+}
+
+/// The answer of [`indexed`] for indices of eight bits, or of sixteen if they are wide.
+fn made<P>(is_wide: bool, limit: usize, raster: Raster<P>, alloc: Global) -> Result<String, Flaw>
+where
+    P: Pixel,
+    Ch8: From<P::Chan>,
+    P::Gamma: Gamma<Ch8>,
+{
+    let mut palette = Palette::new(alloc, limit)?;
+    let mut answer = if is_wide {
+        values(palette.make_indexed_wide(alloc, raster)?, alloc)?
+    } else {
+        values(palette.make_indexed(alloc, raster)?, alloc)?
+    };
+    let colors = colors_text(palette.colors(), alloc)?;
+    write!(answer, " / {colors}")?;
+    Ok(answer)
+}
+
+/// The answer of [`indexed`] for colors that are set as entries.
+fn set(limit: usize, colors: &[SRgb8], alloc: Global) -> Result<String, Flaw> {
+    let mut palette = Palette::new(alloc, limit)?;
+    let mut found = vec![in alloc; None; colors.len()]?;
+    palette.set_entries(alloc, colors, &mut found);
+    let mut answer = String::new(alloc);
+    for index in &found {
+        add(&mut answer, index_or_none(*index, alloc)?)?;
     }
     let colors = colors_text(palette.colors(), alloc)?;
     write!(answer, " / {colors}")?;
     Ok(answer)
 }
 
-/// Adds the size of an image, and the value of each of its pixels.
-fn write_values<P: Pixel>(answer: &mut String, image: &Raster<P>) -> Result<(), Flaw> {
-    write!(answer, "{}x{}", image.width(), image.height())?;
+/// The size of an image and the value of each of its pixels, or `none`.
+fn values<P: Pixel>(image: Option<Raster<P>>, alloc: Global) -> Result<String, Flaw> {
+    let Some(image) = image else {
+        return Ok(String::from_str(alloc, "none")?);
+    };
+    let mut answer = format!(in alloc; "{}x{}", image.width(), image.height())?;
     for pixel in image.pixels() {
         write!(answer, " {}", pixel.get(0).to_u32())?;
     }
-    Ok(())
+    Ok(answer)
 }

@@ -3,6 +3,7 @@ use crate::flaw::Flaw;
 use crate::images::image;
 use crate::words::numbers;
 use pix::Region;
+use pix::el::Pixel;
 use pix::gray::Gray8;
 use std::alloc::Global;
 
@@ -46,9 +47,14 @@ pub(crate) fn clip(words: &[&str], alloc: Global) -> Result<String, Flaw> {
     let [size, word] = words else {
         return Err(Flaw::Count);
     };
-    let raster = image::<Gray8>(size, "-", alloc)?;
+    clipped::<Gray8>(size, region(word, alloc)?, alloc)
+}
+
+/// The answer of [`clip`] for a format.
+fn clipped<P: Pixel>(size: &str, part: Region, alloc: Global) -> Result<String, Flaw> {
+    let raster = image::<P>(size, "-", alloc)?;
     let all = four(raster.region(), alloc)?;
-    let part = four(raster.intersection(region(word, alloc)?), alloc)?;
+    let part = four(raster.intersection(part), alloc)?;
     Ok(format!(in alloc; "{all} {part}")?)
 }
 
