@@ -1,8 +1,8 @@
 //! Pictures in another format: what viewers, readers and writers of files do.
-ghost use Rattle.std.specs.Prelude.{◌≡◌, ◌≤◌, ◌+◌};
+ghost use Rattle.std.specs.Prelude.{◌≤◌, ◌+◌};
 
 use crate::digest::Digest;
-use crate::pictures;
+use crate::pictures::{self, Shade, Veil};
 use crate::random::Random;
 use crate::size::Size;
 use pix::bgr::Bgr;
@@ -13,41 +13,56 @@ use pix::gray::Gray;
 use pix::hsl::Hsl;
 use pix::hsv::Hsv;
 use pix::hwb::Hwb;
-use pix::rgb::{Rgb, Rgb8, Rgb16, Rgba8, SRgb8, SRgba8};
 use pix::xyz::Xyz;
 use pix::ycc::YCbCr;
 use pix::{ColorModel, Raster};
 use std::alloc::Global;
 
+/// A pixel of three linear colors of 8 bits.
+type Plain<M> = Pix<3, Ch8, M, Straight, Linear>;
+
+/// A pixel of three linear colors of 16 bits.
+type Fine<M> = Pix<3, Ch16, M, Straight, Linear>;
+
 /// Does the job.
-pub(crate) fn run(
+///
+/// Condition: the model has three colors.
+pub(crate) fn run<M: ColorModel>(
     alloc: Global,
     size: Size,
     random: &mut Random,
     digest: &mut Digest,
-) -> Option<()> {
+) -> Option<()>
+    requires three { 3 ≤ M.ALPHA + 1 }
+    requires four { 4 ≤ M.ALPHA + 1 }
+{
     for _ in 0..3 {
-        let photo = pictures::large_photo(alloc, size.of(1920), size.of(1080), random)?;
+        let photo = pictures::large_photo::<M>(alloc, size.of(1920), size.of(1080), random)?;
         picture(alloc, &photo, random, digest)?;
     }
     for _ in 0..size.of(32) {
-        let photo = pictures::photo(alloc, 200, 150, random)?;
+        let photo = pictures::photo::<M>(alloc, 200, 150, random)?;
         picture(alloc, &photo, random, digest)?;
     }
     Some(())
 }
 
 /// Converts a picture to other formats and back.
-fn picture(
+///
+/// Condition: the model has three colors.
+fn picture<M: ColorModel>(
     alloc: Global,
-    photo: &Raster<SRgb8>,
+    photo: &Raster<Shade<M>>,
     random: &mut Random,
     digest: &mut Digest,
-) -> Option<()> {
-    let linear = eight::<3, Rgb, Straight, Linear, _>(alloc, photo, digest)?;
+) -> Option<()>
+    requires three { 3 ≤ M.ALPHA + 1 }
+    requires four { 4 ≤ M.ALPHA + 1 }
+{
+    let linear = eight::<3, M, Straight, Linear, _>(alloc, photo, digest)?;
     models(alloc, &linear, digest)?;
     eight::<1, Gray, Straight, Linear, _>(alloc, &linear, digest)?;
-    eight::<3, Rgb, Straight, Srgb, _>(alloc, &linear, digest)?;
+    eight::<3, M, Straight, Srgb, _>(alloc, &linear, digest)?;
     words(alloc, &linear, digest)?;
     let shade = pictures::with_alpha(alloc, photo, false, random)?;
     alphas(alloc, &shade, digest)
@@ -97,52 +112,75 @@ where
 }
 
 /// Converts a picture to other color models and back.
-fn models(alloc: Global, linear: &Raster<Rgb8>, digest: &mut Digest) -> Option<()> {
-    through::<Hsv>(alloc, linear, digest)?;
-    through::<Hsl>(alloc, linear, digest)?;
-    through::<Hwb>(alloc, linear, digest)?;
-    through::<YCbCr>(alloc, linear, digest)?;
-    through::<Xyz>(alloc, linear, digest)?;
-    through::<Cmy>(alloc, linear, digest)
-}
-
-/// Converts a picture to a color model and back.
 ///
 /// Condition: the model has three colors.
-fn through<M: ColorModel>(alloc: Global, linear: &Raster<Rgb8>, digest: &mut Digest) -> Option<()>
-    requires few { 3 ≤ M.ALPHA + 1 }
+fn models<M: ColorModel>(
+    alloc: Global,
+    linear: &Raster<Plain<M>>,
+    digest: &mut Digest,
+) -> Option<()>
+    requires three { 3 ≤ M.ALPHA + 1 }
 {
-    let made = eight::<3, M, Straight, Linear, _>(alloc, linear, digest)?;
-    eight::<3, Rgb, Straight, Linear, _>(alloc, &made, digest)?;
+    through::<Hsv, M>(alloc, linear, digest)?;
+    through::<Hsl, M>(alloc, linear, digest)?;
+    through::<Hwb, M>(alloc, linear, digest)?;
+    through::<YCbCr, M>(alloc, linear, digest)?;
+    through::<Xyz, M>(alloc, linear, digest)?;
+    through::<Cmy, M>(alloc, linear, digest)
+}
+
+/// Converts a picture to the color model `T` and back.
+///
+/// Condition: both models have three colors.
+fn through<T: ColorModel, M: ColorModel>(
+    alloc: Global,
+    linear: &Raster<Plain<M>>,
+    digest: &mut Digest,
+) -> Option<()>
+    requires other { 3 ≤ T.ALPHA + 1 }
+    requires three { 3 ≤ M.ALPHA + 1 }
+{
+    let made = eight::<3, T, Straight, Linear, _>(alloc, linear, digest)?;
+    eight::<3, M, Straight, Linear, _>(alloc, &made, digest)?;
     Some(())
 }
 
 /// Converts a picture to 16 bits and back, by way of a buffer of words, and there to another color
 /// model.
-fn words(alloc: Global, linear: &Raster<Rgb8>, digest: &mut Digest) -> Option<()> {
-    let fine = Raster::<Rgb16>::with_raster(alloc, linear).ok()?;
+///
+/// Condition: the model has three colors.
+fn words<M: ColorModel>(alloc: Global, linear: &Raster<Plain<M>>, digest: &mut Digest) -> Option<()>
+    requires three { 3 ≤ M.ALPHA + 1 }
+{
+    let fine = Raster::<Fine<M>>::with_raster(alloc, linear).ok()?;
     let (width, height) = (fine.width(), fine.height());
     let Ok(words) = fine.into_u16_vec(alloc) else {
         return None;
     };
-    let fine = Raster::<Rgb16>::with_u16_buffer(alloc, width, height, words).ok()?;
+    let fine = Raster::<Fine<M>>::with_u16_buffer(alloc, width, height, words).ok()?;
     digest.add_wide_raster(&fine);
     let hues = sixteen::<3, Hsv, Straight, _>(alloc, &fine, digest)?;
-    eight::<3, Rgb, Straight, Linear, _>(alloc, &hues, digest)?;
-    eight::<3, Rgb, Straight, Linear, _>(alloc, &fine, digest)?;
+    eight::<3, M, Straight, Linear, _>(alloc, &hues, digest)?;
+    eight::<3, M, Straight, Linear, _>(alloc, &fine, digest)?;
     Some(())
 }
 
 /// Converts a picture with an alpha to premultiplied pixels and back, of 8 and of 16 bits, and by
 /// way of a buffer to blue first.
-fn alphas(alloc: Global, shade: &Raster<SRgba8>, digest: &mut Digest) -> Option<()> {
+///
+/// Condition: the model has three colors.
+fn alphas<M: ColorModel>(alloc: Global, shade: &Raster<Veil<M>>, digest: &mut Digest) -> Option<()>
+    requires four { 4 ≤ M.ALPHA + 1 }
+{
     let (width, height) = (shade.width(), shade.height());
     let bytes = shade.to_u8_vec(alloc).ok()?;
-    let straight = Raster::<Rgba8>::with_u8_buffer(alloc, width, height, bytes).ok()?;
-    let product = eight::<4, Rgb, Premultiplied, Linear, _>(alloc, &straight, digest)?;
-    eight::<4, Rgb, Straight, Linear, _>(alloc, &product, digest)?;
-    let fine = sixteen::<4, Rgb, Premultiplied, _>(alloc, &straight, digest)?;
-    let quotient = sixteen::<4, Rgb, Straight, _>(alloc, &fine, digest)?;
+    let straight: Raster<Pix<4, Ch8, M, Straight, Linear>> = Raster::with_u8_buffer(
+        alloc, width, height, bytes,
+    ).ok()?;
+    let product = eight::<4, M, Premultiplied, Linear, _>(alloc, &straight, digest)?;
+    eight::<4, M, Straight, Linear, _>(alloc, &product, digest)?;
+    let fine = sixteen::<4, M, Premultiplied, _>(alloc, &straight, digest)?;
+    let quotient = sixteen::<4, M, Straight, _>(alloc, &fine, digest)?;
     eight::<4, Bgr, Straight, Linear, _>(alloc, &quotient, digest)?;
     Some(())
 }

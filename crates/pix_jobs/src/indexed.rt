@@ -1,35 +1,38 @@
 //! Images of indices, and their tables of 256 colors: what encoders of PNG and GIF do.
 
 use crate::digest::Digest;
-use crate::pictures;
+use crate::pictures::{self, Shade};
 use crate::random::Random;
 use crate::size::Size;
-use pix::rgb::SRgb8;
-use pix::{ColorTable, Raster};
+use pix::{ColorModel, ColorTable, Raster};
 use std::alloc::Global;
 
 /// Does the job.
-pub(crate) fn run(
+pub(crate) fn run<M: ColorModel>(
     alloc: Global,
     size: Size,
     random: &mut Random,
     digest: &mut Digest,
 ) -> Option<()> {
-    let photo = pictures::photo(alloc, size.of(2048), size.of(1536), random)?;
+    let photo = pictures::photo::<M>(alloc, size.of(2048), size.of(1536), random)?;
     encode(alloc, &photo, digest)?;
     for _ in 0..size.of(32) {
-        let photo = pictures::photo(alloc, 240, 200, random)?;
+        let photo = pictures::photo::<M>(alloc, 240, 200, random)?;
         encode(alloc, &photo, digest)?;
     }
-    let noise = pictures::noise(alloc, size.of(1024), size.of(512), random)?;
+    let noise = pictures::noise::<M>(alloc, size.of(1024), size.of(512), random)?;
     encode(alloc, &noise, digest)?;
-    let colors = pictures::colors(alloc, size.of(3000), random)?;
+    let colors = pictures::colors::<M>(alloc, size.of(3000), random)?;
     let drawing = pictures::drawing(alloc, size.of(1024), size.of(768), &colors, 12, random)?;
     encode(alloc, &drawing, digest)
 }
 
 /// Makes a table of a picture, and its indices in two ways.
-fn encode(alloc: Global, picture: &Raster<SRgb8>, digest: &mut Digest) -> Option<()> {
+fn encode<M: ColorModel>(
+    alloc: Global,
+    picture: &Raster<Shade<M>>,
+    digest: &mut Digest,
+) -> Option<()> {
     let table = ColorTable::quantize(alloc, picture, 256, 0).ok()??;
     let nearest = table.map_indexed(alloc, picture).ok()??;
     digest.add_raster(alloc, &nearest)?;

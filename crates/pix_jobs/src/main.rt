@@ -19,6 +19,7 @@ mod sprites;
 mod tables;
 
 use digest::Digest;
+use pix::rgb::Rgb;
 use random::Random;
 use size::Size;
 use std::alloc::Global;
@@ -96,13 +97,13 @@ fn done(
     digest: &mut Digest,
 ) -> Option<()> {
     match name {
-        "indexed" => indexed::run(alloc, size, random, digest),
-        "sheets" => sheets::run(alloc, size, random, digest),
-        "convert" => convert::run(alloc, size, random, digest),
-        "sprites" => sprites::run(alloc, size, random, digest),
-        "light" => light::run(alloc, size, random, digest),
+        "indexed" => indexed::run::<Rgb>(alloc, size, random, digest),
+        "sheets" => sheets::run::<Rgb>(alloc, size, random, digest),
+        "convert" => convert::run::<Rgb>(alloc, size, random, digest),
+        "sprites" => sprites::run::<Rgb>(alloc, size, random, digest),
+        "light" => light::run::<Rgb>(alloc, size, random, digest),
         "script" => script::run(alloc, size, random, digest),
-        "tables" => tables::run(alloc, size, random, digest),
-        part => tables::run_part(alloc, part, size, random, digest),
+        "tables" => tables::run::<Rgb>(alloc, size, random, digest),
+        part => tables::run_part::<Rgb>(alloc, part, size, random, digest),
     }
 }

@@ -1,13 +1,27 @@
 //! Pictures of real kinds: photographs, drawings, sprites and masks.
-ghost use Rattle.std.specs.Prelude.{◌<◌};
+//!
+//! A call at a concrete format costs the prover seconds. So the jobs are written for any color
+//! model, and begin at red, green and blue.
+ghost use Rattle.std.specs.Prelude.{◌<◌, ◌≤◌, ◌+◌};
 
 use crate::random::{Random, byte};
-use pix::chan::Ch8;
-use pix::el::Pixel;
-use pix::matte::Matte8;
-use pix::rgb::{Rgba8p, SRgb8, SRgba8};
-use pix::{Raster, Region};
+use pix::chan::{Ch8, Linear, Premultiplied, Srgb, Straight};
+use pix::el::{Pix, Pixel};
+use pix::rgb::SRgb8;
+use pix::{ColorModel, Raster, Region};
 use std::alloc::Global;
+
+/// A pixel of a photograph: three colors of a model in sRGB.
+pub(crate) type Shade<M> = Pix<3, Ch8, M, Straight, Srgb>;
+
+/// The same with an alpha.
+pub(crate) type Veil<M> = Pix<4, Ch8, M, Straight, Srgb>;
+
+/// A pixel of a sprite.
+pub(crate) type Ink<M> = Pix<4, Ch8, M, Premultiplied, Linear>;
+
+/// A pixel of a mask.
+pub(crate) type Cover<M> = Pix<1, Ch8, M, Premultiplied, Linear>;
 
 /// Shades that grow and fall in turn.
 #[derive(Clone, Copy)]
@@ -44,13 +58,13 @@ impl Wave {
 }
 
 /// Makes a photograph: smooth shades with noise and edges.
-pub(crate) fn photo(
+pub(crate) fn photo<M: ColorModel>(
     alloc: Global,
     width: u32,
     height: u32,
     random: &mut Random,
-) -> Option<Raster<SRgb8>> {
-    let mut picture = Raster::<SRgb8>::with_clear(alloc, width, height).ok()?;
+) -> Option<Raster<Shade<M>>> {
+    let mut picture = Raster::<Shade<M>>::with_clear(alloc, width, height).ok()?;
     let mut starts = [Wave::new(random), Wave::new(random), Wave::new(random)];
     for row in picture.rows_mut(Region::from(())) {
         for start in starts.iter_mut() {
@@ -64,7 +78,7 @@ pub(crate) fn photo(
                 green.jump(bits >> 8);
                 blue.jump(bits >> 16);
             }
-            *pixel = SRgb8::new(
+            *pixel = Shade::<M>::new(
                 red.next(bits >> 16),
                 green.next(bits >> 24),
                 blue.next(bits >> 40),
@@ -75,14 +89,14 @@ pub(crate) fn photo(
 }
 
 /// Makes a large photograph of the parts of a small one, in memory that is made once.
-pub(crate) fn large_photo(
+pub(crate) fn large_photo<M: ColorModel>(
     alloc: Global,
     width: u32,
     height: u32,
     random: &mut Random,
-) -> Option<Raster<SRgb8>> {
-    let part = photo(alloc, 512, 256, random)?;
-    let mut picture = Raster::<SRgb8>::with_clear(alloc, width, height).ok()?;
+) -> Option<Raster<Shade<M>>> {
+    let part = photo::<M>(alloc, 512, 256, random)?;
+    let mut picture = Raster::<Shade<M>>::with_clear(alloc, width, height).ok()?;
     let mut y = 0_i32;
     for _ in 0..height / 128 + 1 {
         let mut x = -256_i32;
@@ -97,27 +111,35 @@ pub(crate) fn large_photo(
 }
 
 /// Makes a picture in which each pixel has a color by chance.
-pub(crate) fn noise(
+pub(crate) fn noise<M: ColorModel>(
     alloc: Global,
     width: u32,
     height: u32,
     random: &mut Random,
-) -> Option<Raster<SRgb8>> {
-    let mut picture = Raster::<SRgb8>::with_clear(alloc, width, height).ok()?;
+) -> Option<Raster<Shade<M>>> {
+    let mut picture = Raster::<Shade<M>>::with_clear(alloc, width, height).ok()?;
     for pixel in picture.pixels_mut().iter_mut() {
         *pixel = color(random);
     }
     Some(picture)
 }
 
+/// Returns the color of these channels.
+pub(crate) fn color_of(red: u8, green: u8, blue: u8) -> SRgb8 {
+    SRgb8::new(red, green, blue)
+}
+
 /// Returns a color by chance.
-pub(crate) fn color(random: &mut Random) -> SRgb8 {
+pub(crate) fn color<M>(random: &mut Random) -> Shade<M> {
     let bits = random.bits();
-    SRgb8::new(byte(bits >> 8), byte(bits >> 16), byte(bits >> 24))
+    Shade::<M>::new(byte(bits >> 8), byte(bits >> 16), byte(bits >> 24))
 }
 
 /// Makes a list of colors by chance.
-pub(crate) fn colors(alloc: Global, count: u32, random: &mut Random) -> Option<Vec<SRgb8>> {
+pub(crate) fn colors<M>(alloc: Global, count: u32, random: &mut Random) -> Option<Vec<Shade<M>>>
+where
+    M: ColorModel,
+{
     let mut colors = Vec::new(alloc);
     for _ in 0..count {
         colors.push(color(random)).ok()?;
@@ -127,17 +149,17 @@ pub(crate) fn colors(alloc: Global, count: u32, random: &mut Random) -> Option<V
 
 /// Makes a drawing: runs of pixels of one of the colors, up to a length. Condition: there are
 /// colors, and runs.
-pub(crate) fn drawing(
+pub(crate) fn drawing<M: ColorModel>(
     alloc: Global,
     width: u32,
     height: u32,
-    colors: &[SRgb8],
+    colors: &[Shade<M>],
     run: u32,
     random: &mut Random,
-) -> Option<Raster<SRgb8>> {
-    let mut picture = Raster::<SRgb8>::with_clear(alloc, width, height).ok()?;
+) -> Option<Raster<Shade<M>>> {
+    let mut picture = Raster::<Shade<M>>::with_clear(alloc, width, height).ok()?;
     let mut left = 0_u32;
-    let mut clr = SRgb8::default();
+    let mut clr = Shade::<M>::default();
     let count = (colors.len() & 65535) as u32;
     for pixel in picture.pixels_mut().iter_mut() {
         if left == 0 {
@@ -167,13 +189,13 @@ fn scaled(channel: u8, alpha: u8) -> u8 {
 }
 
 /// Makes a sprite: runs of up to 32 pixels, of which some are clear, some opaque, and some neither.
-pub(crate) fn sprite(
+pub(crate) fn sprite<M: ColorModel>(
     alloc: Global,
     width: u32,
     height: u32,
     random: &mut Random,
-) -> Option<Raster<Rgba8p>> {
-    let mut sprite = Raster::<Rgba8p>::with_clear(alloc, width, height).ok()?;
+) -> Option<Raster<Ink<M>>> {
+    let mut sprite = Raster::<Ink<M>>::with_clear(alloc, width, height).ok()?;
     let mut left = 0_u32;
     let mut kind = 0_u32;
     for pixel in sprite.pixels_mut().iter_mut() {
@@ -184,7 +206,7 @@ pub(crate) fn sprite(
         left -= 1;
         let bits = random.bits();
         let alpha = alpha_of(kind, bits);
-        *pixel = Rgba8p::new(
+        *pixel = Ink::<M>::new(
             scaled(byte(bits >> 8), alpha),
             scaled(byte(bits >> 16), alpha),
             scaled(byte(bits >> 24), alpha),
@@ -195,13 +217,13 @@ pub(crate) fn sprite(
 }
 
 /// Makes the mask of a glyph: strokes with soft edges, and more that is clear.
-pub(crate) fn glyph(
+pub(crate) fn glyph<M: ColorModel>(
     alloc: Global,
     width: u32,
     height: u32,
     random: &mut Random,
-) -> Option<Raster<Matte8>> {
-    let mut glyph = Raster::<Matte8>::with_clear(alloc, width, height).ok()?;
+) -> Option<Raster<Cover<M>>> {
+    let mut glyph = Raster::<Cover<M>>::with_clear(alloc, width, height).ok()?;
     let mut left = 0_u32;
     let mut kind = 0_u32;
     for pixel in glyph.pixels_mut().iter_mut() {
@@ -219,19 +241,23 @@ pub(crate) fn glyph(
             4..=5 => 255,
             _ => byte(random.bits()),
         };
-        *pixel = Matte8::new(value);
+        *pixel = Cover::<M>::new(value);
     }
     Some(glyph)
 }
 
 /// Makes a photograph with an alpha: any alphas, or runs that are clear, opaque or neither.
-pub(crate) fn with_alpha(
+///
+/// Condition: the model has three colors.
+pub(crate) fn with_alpha<M: ColorModel>(
     alloc: Global,
-    photo: &Raster<SRgb8>,
+    photo: &Raster<Shade<M>>,
     any: bool,
     random: &mut Random,
-) -> Option<Raster<SRgba8>> {
-    let mut picture = Raster::<SRgba8>::with_raster(alloc, photo).ok()?;
+) -> Option<Raster<Veil<M>>>
+    requires few { 4 ≤ M.ALPHA + 1 }
+{
+    let mut picture = Raster::<Veil<M>>::with_raster(alloc, photo).ok()?;
     let mut left = 0_u32;
     let mut kind = 0_u32;
     for pixel in picture.pixels_mut().iter_mut() {
@@ -242,7 +268,7 @@ pub(crate) fn with_alpha(
         left -= 1;
         let channels = pixel.channels();
         let alpha = Ch8::new(alpha_of(kind, random.bits() >> 8));
-        *pixel = SRgba8::with_channels([channels[0], channels[1], channels[2], alpha]);
+        *pixel = Veil::<M>::with_channels([channels[0], channels[1], channels[2], alpha]);
     }
     Some(picture)
 }

@@ -1,55 +1,65 @@
 //! Palettes of many colors, and palettes whose colors stand for those near them.
 
 use crate::digest::Digest;
-use crate::pictures;
+use crate::pictures::{self, Shade, color_of};
 use crate::random::Random;
 use crate::size::Size;
 use pix::rgb::SRgb8;
-use pix::{ColorTable, Palette, Raster};
+use pix::{ColorModel, ColorTable, Palette, Raster};
 use std::alloc::Global;
 
 /// Does the job: twice, on other inputs of the same kinds and sizes, where the size is whole.
-pub(crate) fn run(
+pub(crate) fn run<M: ColorModel>(
     alloc: Global,
     size: Size,
     random: &mut Random,
     digest: &mut Digest,
 ) -> Option<()> {
     for _ in 0..=size.of(1) {
-        inputs(alloc, size, random, digest)?;
+        inputs::<M>(alloc, size, random, digest)?;
     }
     Some(())
 }
 
 /// Indexes an input of each kind.
-fn inputs(alloc: Global, size: Size, random: &mut Random, digest: &mut Digest) -> Option<()> {
-    let colors = pictures::colors(alloc, size.of(8000), random)?;
+fn inputs<M: ColorModel>(
+    alloc: Global,
+    size: Size,
+    random: &mut Random,
+    digest: &mut Digest,
+) -> Option<()> {
+    let colors = pictures::colors::<M>(alloc, size.of(8000), random)?;
     let sheet = pictures::drawing(alloc, size.of(512), size.of(384), &colors, 4, random)?;
     wide(alloc, sheet, false, digest)?;
-    let noise = pictures::noise(alloc, size.of(160), size.of(160), random)?;
+    let noise = pictures::noise::<M>(alloc, size.of(160), size.of(160), random)?;
     wide(alloc, noise, false, digest)?;
-    let photo = pictures::photo(alloc, size.of(400), size.of(300), random)?;
+    let photo = pictures::photo::<M>(alloc, size.of(400), size.of(300), random)?;
     wide(alloc, photo, true, digest)?;
     for _ in 0..size.of(16) {
-        let photo = pictures::photo(alloc, 240, 200, random)?;
-        few(alloc, &photo, SRgb8::new(36u8, 36u8, 36u8), digest)?;
+        let photo = pictures::photo::<M>(alloc, 240, 200, random)?;
+        few(alloc, &photo, color_of(36, 36, 36), digest)?;
     }
-    let photo = pictures::photo(alloc, size.of(1024), size.of(768), random)?;
-    few(alloc, &photo, SRgb8::new(36u8, 36u8, 36u8), digest)?;
-    let colors = pictures::colors(alloc, 250, random)?;
+    let photo = pictures::photo::<M>(alloc, size.of(1024), size.of(768), random)?;
+    few(alloc, &photo, color_of(36, 36, 36), digest)?;
+    let colors = pictures::colors::<M>(alloc, 250, random)?;
     let drawing = pictures::drawing(alloc, size.of(1024), size.of(768), &colors, 20, random)?;
-    few(alloc, &drawing, SRgb8::default(), digest)
+    few(alloc, &drawing, color_of(0, 0, 0), digest)
 }
 
 /// The more entries there are, the farther a color may be from the one that stands for it.
 fn near(entries: usize) -> SRgb8 {
     let apart = 4 + (entries / 128 % 64) as u8;
-    SRgb8::new(apart, apart, apart)
+    color_of(apart, apart, apart)
 }
 
 /// Indexes a picture by a palette of up to 65536 colors, whose threshold is 0 or grows, and counts
 /// its indices.
-fn wide(alloc: Global, picture: Raster<SRgb8>, grows: bool, digest: &mut Digest) -> Option<()> {
+fn wide<M: ColorModel>(
+    alloc: Global,
+    picture: Raster<Shade<M>>,
+    grows: bool,
+    digest: &mut Digest,
+) -> Option<()> {
     let mut palette = Palette::new(alloc, 65536).ok()?;
     if grows {
         palette.set_threshold_fn(near);
@@ -70,9 +80,9 @@ fn wide(alloc: Global, picture: Raster<SRgb8>, grows: bool, digest: &mut Digest)
 }
 
 /// Indexes a picture by a table of up to 256 colors with a threshold.
-fn few(
+fn few<M: ColorModel>(
     alloc: Global,
-    picture: &Raster<SRgb8>,
+    picture: &Raster<Shade<M>>,
     threshold: SRgb8,
     digest: &mut Digest,
 ) -> Option<()> {

@@ -2,15 +2,14 @@
 ghost use Rattle.std.specs.Prelude.{◌≡◌, ◌≤◌, ◌+◌};
 
 use crate::digest::Digest;
-use crate::pictures;
+use crate::pictures::{self, Ink};
 use crate::random::Random;
 use crate::size::Size;
-use pix::chan::{Channel, Gamma, Linear, Premultiplied};
+use pix::chan::{Ch8, Ch16, Channel, Gamma, Linear, Premultiplied};
 use pix::el::{Pix, Pixel};
-use pix::hsv::Hsva8p;
-use pix::matte::{Matte, Matte8, Matte16};
+use pix::hsv::Hsv;
+use pix::matte::{Matte, Matte8};
 use pix::ops::Op;
-use pix::rgb::{Rgba8p, Rgba16p};
 use pix::{ColorModel, Command, Raster, Region};
 use std::alloc::{AllocError, Global};
 
@@ -22,29 +21,34 @@ struct Sheet<P, K> {
 }
 
 /// Does the job.
-pub(crate) fn run(
+///
+/// Condition: the model has three colors.
+pub(crate) fn run<M: ColorModel>(
     alloc: Global,
     size: Size,
     random: &mut Random,
     digest: &mut Digest,
-) -> Option<()> {
+) -> Option<()>
+    requires four { 4 ≤ M.ALPHA + 1 }
+    requires has_alpha { 4 ≡ M.ALPHA + 1 }
+{
     let sheet = Sheet {
-        sprites: sprites(alloc, random)?,
+        sprites: sprites::<M>(alloc, random)?,
         masks: glyphs(alloc, random)?,
     };
-    let mut page = Raster::<Rgba8p>::with_clear(alloc, size.of(1920), size.of(1080)).ok()?;
+    let mut page = Raster::<Ink<M>>::with_clear(alloc, size.of(1920), size.of(1080)).ok()?;
     for _ in 0..size.of(160) {
         draw(alloc, &mut page, &sheet, size.of(3000), random)?;
     }
     digest.add_raster(alloc, &page)?;
     for _ in 0..size.of(32) {
-        layers(alloc, size, random, digest)?;
+        layers::<M>(alloc, size, random, digest)?;
     }
     awkward(alloc, size, &sheet, random, digest)
 }
 
 /// Makes sprites of 16 to 64 pixels.
-fn sprites(alloc: Global, random: &mut Random) -> Option<Vec<Raster<Rgba8p>>> {
+fn sprites<M: ColorModel>(alloc: Global, random: &mut Random) -> Option<Vec<Raster<Ink<M>>>> {
     let mut sprites = Vec::new(alloc);
     for _ in 0..16 {
         let (width, height) = (16 + random.below(49), 16 + random.below(49));
@@ -156,9 +160,18 @@ fn placed<'a, C: Channel, M: ColorModel>(
 }
 
 /// Composites a picture of layers, each of them as large as it.
-fn layers(alloc: Global, size: Size, random: &mut Random, digest: &mut Digest) -> Option<()> {
+///
+/// Condition: the model has three colors.
+fn layers<M: ColorModel>(
+    alloc: Global,
+    size: Size,
+    random: &mut Random,
+    digest: &mut Digest,
+) -> Option<()>
+    requires has_alpha { 4 ≡ M.ALPHA + 1 }
+{
     let (width, height) = (size.of(960), size.of(540));
-    let mut page = Raster::<Rgba8p>::with_clear(alloc, width, height).ok()?;
+    let mut page = Raster::<Ink<M>>::with_clear(alloc, width, height).ok()?;
     let mut sheet = Sheet {
         sprites: Vec::new(alloc),
         masks: Vec::new(alloc),
@@ -235,31 +248,48 @@ fn layer<'a, C: Channel, M: ColorModel>(
 }
 
 /// Draws the same on pages of a hue and of 16 bits.
-fn awkward(
+///
+/// Condition: the model has three colors.
+fn awkward<M: ColorModel>(
     alloc: Global,
     size: Size,
-    sheet: &Sheet<Rgba8p, Matte8>,
+    sheet: &Sheet<Ink<M>, Matte8>,
     random: &mut Random,
     digest: &mut Digest,
-) -> Option<()> {
-    let hues = Sheet {
-        sprites: converted::<Rgba8p, Hsva8p>(alloc, &sheet.sprites)?,
-        masks: converted::<Matte8, Matte8>(alloc, &sheet.masks)?,
-    };
-    let mut page = Raster::<Hsva8p>::with_clear(alloc, size.of(1920), size.of(1080)).ok()?;
-    for _ in 0..size.of(32) {
-        draw(alloc, &mut page, &hues, size.of(600), random)?;
-    }
+) -> Option<()>
+    requires four { 4 ≤ M.ALPHA + 1 }
+    requires has_alpha { 4 ≡ M.ALPHA + 1 }
+{
+    let page = page_of::<Ch8, Hsv, M>(alloc, size, sheet, 600, random)?;
     digest.add_raster(alloc, &page)?;
-    let fine = Sheet {
-        sprites: converted::<Rgba8p, Rgba16p>(alloc, &sheet.sprites)?,
-        masks: converted::<Matte8, Matte16>(alloc, &sheet.masks)?,
-    };
-    let mut page = Raster::<Rgba16p>::with_clear(alloc, size.of(1920), size.of(1080)).ok()?;
-    for _ in 0..size.of(32) {
-        draw(alloc, &mut page, &fine, size.of(1500), random)?;
-    }
+    let page = page_of::<Ch16, M, M>(alloc, size, sheet, 1500, random)?;
     digest.add_wide_raster(&page);
-    let shown = Raster::<Rgba8p>::with_raster(alloc, &page).ok()?;
+    let shown = Raster::<Ink<M>>::with_raster(alloc, &page).ok()?;
     digest.add_raster(alloc, &shown)
+}
+
+/// Draws lists of sprites and glyphs on a page of channels of a width and of the model `T`.
+///
+/// Condition: that model has three colors.
+fn page_of<C, T: ColorModel, M: ColorModel>(
+    alloc: Global,
+    size: Size,
+    sheet: &Sheet<Ink<M>, Matte8>,
+    count: u32,
+    random: &mut Random,
+) -> Option<Raster<Pix<4, C, T, Premultiplied, Linear>>>
+where
+    C: Channel + From<Ch8>,
+    requires four { 4 ≤ T.ALPHA + 1 }
+    requires has_alpha { 4 ≡ T.ALPHA + 1 }
+{
+    let sheet = Sheet {
+        sprites: converted::<_, Pix<4, C, T, Premultiplied, Linear>>(alloc, &sheet.sprites)?,
+        masks: converted::<_, Pix<1, C, Matte, Premultiplied, Linear>>(alloc, &sheet.masks)?,
+    };
+    let mut page = Raster::with_clear(alloc, size.of(1920), size.of(1080)).ok()?;
+    for _ in 0..size.of(32) {
+        draw(alloc, &mut page, &sheet, size.of(count), random)?;
+    }
+    Some(page)
 }

@@ -13,6 +13,7 @@ mod tiles;
 use crate::digest::Digest;
 use crate::random::Random;
 use crate::size::Size;
+use pix::ColorModel;
 use std::alloc::Global;
 
 /// The parts, in the order in which they are done.
@@ -56,20 +57,20 @@ pub(crate) const PARTS: [&str; 36] = [
 ];
 
 /// Does all parts.
-pub(crate) fn run(
+pub(crate) fn run<M: ColorModel>(
     alloc: Global,
     size: Size,
     random: &mut Random,
     digest: &mut Digest,
 ) -> Option<()> {
     for part in PARTS {
-        run_part(alloc, part, size, random, digest)?;
+        run_part::<M>(alloc, part, size, random, digest)?;
     }
     Some(())
 }
 
 /// Does a part.
-pub(crate) fn run_part(
+pub(crate) fn run_part<M: ColorModel>(
     alloc: Global,
     part: &str,
     size: Size,
@@ -77,15 +78,15 @@ pub(crate) fn run_part(
     digest: &mut Digest,
 ) -> Option<()> {
     match part {
-        "near-90" => near::run(alloc, 90, size, random, digest),
-        "near-150" => near::run(alloc, 150, size, random, digest),
-        "near-200" => near::run(alloc, 200, size, random, digest),
+        "near-90" => near::run::<M>(alloc, 90, size, random, digest),
+        "near-150" => near::run::<M>(alloc, 150, size, random, digest),
+        "near-200" => near::run::<M>(alloc, 200, size, random, digest),
         "tiles-16" => tiles::by_chance(alloc, 16, size, random, digest),
         "tiles-128" => tiles::by_chance(alloc, 128, size, random, digest),
         "tiles-256" => tiles::by_chance(alloc, 256, size, random, digest),
         "tiles-alike" => tiles::alike(alloc, size, random, digest),
         "set" => long::set(alloc, size, random, digest),
-        "order" => long::order(alloc, size, random, digest),
+        "order" => long::order::<M>(alloc, size, random, digest),
         "narrow-1" => narrow::run(alloc, 1, size, random, digest),
         "narrow-2" => narrow::run(alloc, 2, size, random, digest),
         "narrow-4" => narrow::run(alloc, 4, size, random, digest),
@@ -94,6 +95,6 @@ pub(crate) fn run_part(
         "narrow-32" => narrow::run(alloc, 32, size, random, digest),
         "narrow-64" => narrow::run(alloc, 64, size, random, digest),
         "narrow-any" => narrow::any(alloc, size, random, digest),
-        _ => mapped::run_part(alloc, part, size, random, digest),
+        _ => mapped::run_part::<M>(alloc, part, size, random, digest),
     }
 }

@@ -1,11 +1,11 @@
 //! Images whose pixels are matched to a table of 256 colors: most of them are small.
 
 use crate::digest::Digest;
-use crate::pictures;
+use crate::pictures::{self, Shade, color_of};
 use crate::random::Random;
 use crate::size::Size;
-use pix::rgb::SRgb8;
-use pix::{ColorTable, Raster};
+use pix::rgb::Rgb;
+use pix::{ColorModel, ColorTable, Raster};
 use std::alloc::Global;
 
 /// How a picture is matched.
@@ -17,7 +17,7 @@ enum Way {
 }
 
 /// Does a part: small images of a side, or images of grays or of dark colors.
-pub(crate) fn run_part(
+pub(crate) fn run_part<M: ColorModel>(
     alloc: Global,
     part: &str,
     size: Size,
@@ -25,25 +25,25 @@ pub(crate) fn run_part(
     digest: &mut Digest,
 ) -> Option<()> {
     match part {
-        "map-1" => small(alloc, Way::Nearest, 1, size, random, digest),
-        "map-2" => small(alloc, Way::Nearest, 2, size, random, digest),
-        "map-8" => small(alloc, Way::Nearest, 8, size, random, digest),
-        "map-32" => small(alloc, Way::Nearest, 32, size, random, digest),
-        "alpha-1" => small(alloc, Way::ByAlpha, 1, size, random, digest),
-        "alpha-2" => small(alloc, Way::ByAlpha, 2, size, random, digest),
-        "alpha-8" => small(alloc, Way::ByAlpha, 8, size, random, digest),
-        "alpha-32" => small(alloc, Way::ByAlpha, 32, size, random, digest),
-        "diffuse-1" => small(alloc, Way::Diffused, 1, size, random, digest),
-        "diffuse-2" => small(alloc, Way::Diffused, 2, size, random, digest),
-        "diffuse-8" => small(alloc, Way::Diffused, 8, size, random, digest),
-        "diffuse-32" => small(alloc, Way::Diffused, 32, size, random, digest),
-        "grays-1" => grays(alloc, 1, size, random, digest),
-        "grays-2" => grays(alloc, 2, size, random, digest),
-        "grays-8" => grays(alloc, 8, size, random, digest),
-        "grays-32" => grays(alloc, 32, size, random, digest),
-        "grays-photo" => gray_photo(alloc, size, random, digest),
-        "grays-noise" => gray_noise(alloc, size, random, digest),
-        _ => dark(alloc, size, random, digest),
+        "map-1" => small::<M>(alloc, Way::Nearest, 1, size, random, digest),
+        "map-2" => small::<M>(alloc, Way::Nearest, 2, size, random, digest),
+        "map-8" => small::<M>(alloc, Way::Nearest, 8, size, random, digest),
+        "map-32" => small::<M>(alloc, Way::Nearest, 32, size, random, digest),
+        "alpha-1" => small::<M>(alloc, Way::ByAlpha, 1, size, random, digest),
+        "alpha-2" => small::<M>(alloc, Way::ByAlpha, 2, size, random, digest),
+        "alpha-8" => small::<M>(alloc, Way::ByAlpha, 8, size, random, digest),
+        "alpha-32" => small::<M>(alloc, Way::ByAlpha, 32, size, random, digest),
+        "diffuse-1" => small::<M>(alloc, Way::Diffused, 1, size, random, digest),
+        "diffuse-2" => small::<M>(alloc, Way::Diffused, 2, size, random, digest),
+        "diffuse-8" => small::<M>(alloc, Way::Diffused, 8, size, random, digest),
+        "diffuse-32" => small::<M>(alloc, Way::Diffused, 32, size, random, digest),
+        "grays-1" => grays::<M>(alloc, 1, size, random, digest),
+        "grays-2" => grays::<M>(alloc, 2, size, random, digest),
+        "grays-8" => grays::<M>(alloc, 8, size, random, digest),
+        "grays-32" => grays::<M>(alloc, 32, size, random, digest),
+        "grays-photo" => gray_photo::<M>(alloc, size, random, digest),
+        "grays-noise" => gray_noise::<M>(alloc, size, random, digest),
+        _ => dark::<M>(alloc, size, random, digest),
     }
 }
 
@@ -53,7 +53,7 @@ fn count_of(side: u32, size: Size) -> u32 {
 }
 
 /// Matches noise to a table of colors by chance, and photographs to the table of a photograph.
-fn small(
+fn small<M: ColorModel>(
     alloc: Global,
     how: Way,
     side: u32,
@@ -61,24 +61,24 @@ fn small(
     random: &mut Random,
     digest: &mut Digest,
 ) -> Option<()> {
-    let photo = pictures::photo(alloc, 240, 200, random)?;
+    let photo = pictures::photo::<M>(alloc, 240, 200, random)?;
     let of_photo = ColorTable::quantize(alloc, &photo, 256, 0).ok()??;
-    let noise = pictures::noise(alloc, 16, 16, random)?;
+    let noise = pictures::noise::<M>(alloc, 16, 16, random)?;
     let by_chance = ColorTable::quantize(alloc, &noise, 256, 0).ok()??;
     for _ in 0..count_of(side, size).div_ceil(2) {
-        let noise = pictures::noise(alloc, side, side, random)?;
+        let noise = pictures::noise::<M>(alloc, side, side, random)?;
         match_picture(alloc, &by_chance, &noise, how, digest)?;
-        let photo = pictures::photo(alloc, side, side, random)?;
+        let photo = pictures::photo::<M>(alloc, side, side, random)?;
         match_picture(alloc, &of_photo, &photo, how, digest)?;
     }
     Some(())
 }
 
 /// Matches a picture in one way.
-fn match_picture(
+fn match_picture<M: ColorModel>(
     alloc: Global,
     table: &ColorTable,
-    picture: &Raster<SRgb8>,
+    picture: &Raster<Shade<M>>,
     how: Way,
     digest: &mut Digest,
 ) -> Option<()> {
@@ -93,15 +93,15 @@ fn match_picture(
 
 /// Makes the table of 256 grays.
 fn gray_table(alloc: Global) -> Option<ColorTable> {
-    let mut table = ColorTable::new(alloc, 256, SRgb8::default()).ok()?;
+    let mut table = ColorTable::new(alloc, 256, color_of(0, 0, 0)).ok()?;
     for shade in 0..=255_u8 {
-        table.set_entry(SRgb8::new(shade, shade, shade));
+        table.set_entry(color_of(shade, shade, shade));
     }
     Some(table)
 }
 
 /// Matches small noise to grays.
-fn grays(
+fn grays<M: ColorModel>(
     alloc: Global,
     side: u32,
     size: Size,
@@ -110,43 +110,58 @@ fn grays(
 ) -> Option<()> {
     let table = gray_table(alloc)?;
     for _ in 0..count_of(side, size) {
-        let noise = pictures::noise(alloc, side, side, random)?;
+        let noise = pictures::noise::<M>(alloc, side, side, random)?;
         match_picture(alloc, &table, &noise, Way::Nearest, digest)?;
     }
     Some(())
 }
 
 /// Matches photographs to grays.
-fn gray_photo(alloc: Global, size: Size, random: &mut Random, digest: &mut Digest) -> Option<()> {
+fn gray_photo<M: ColorModel>(
+    alloc: Global,
+    size: Size,
+    random: &mut Random,
+    digest: &mut Digest,
+) -> Option<()> {
     let table = gray_table(alloc)?;
     for _ in 0..size.times(4) {
-        let photo = pictures::photo(alloc, 200, 200, random)?;
+        let photo = pictures::photo::<M>(alloc, 200, 200, random)?;
         match_picture(alloc, &table, &photo, Way::Nearest, digest)?;
     }
     Some(())
 }
 
 /// Matches noise to grays.
-fn gray_noise(alloc: Global, size: Size, random: &mut Random, digest: &mut Digest) -> Option<()> {
+fn gray_noise<M: ColorModel>(
+    alloc: Global,
+    size: Size,
+    random: &mut Random,
+    digest: &mut Digest,
+) -> Option<()> {
     let table = gray_table(alloc)?;
-    let noise = pictures::noise(alloc, size.of(256), size.of(256), random)?;
+    let noise = pictures::noise::<M>(alloc, size.of(256), size.of(256), random)?;
     match_picture(alloc, &table, &noise, Way::Nearest, digest)
 }
 
 /// Matches a dark picture to a table of sixteen colors and 240 that are nearly black.
-fn dark(alloc: Global, size: Size, random: &mut Random, digest: &mut Digest) -> Option<()> {
-    let mut table = ColorTable::new(alloc, 256, SRgb8::default()).ok()?;
-    for clr in pictures::colors(alloc, 16, random)?.iter() {
+fn dark<M: ColorModel>(
+    alloc: Global,
+    size: Size,
+    random: &mut Random,
+    digest: &mut Digest,
+) -> Option<()> {
+    let mut table = ColorTable::new(alloc, 256, color_of(0, 0, 0)).ok()?;
+    for clr in pictures::colors::<Rgb>(alloc, 16, random)?.iter() {
         table.set_entry(*clr);
     }
     for at in 0..240_u8 {
-        table.set_entry(SRgb8::new(at / 60, at / 15 % 4, at % 15));
+        table.set_entry(color_of(at / 60, at / 15 % 4, at % 15));
     }
-    let mut picture = Raster::<SRgb8>::with_clear(alloc, size.of(240), size.of(200)).ok()?;
+    let mut picture = Raster::<Shade<M>>::with_clear(alloc, size.of(240), size.of(200)).ok()?;
     for pixel in picture.pixels_mut().iter_mut() {
         let bits = random.bits();
         let shade = |at: u32| ((bits >> at) & 31) as u8;
-        *pixel = SRgb8::new(shade(8), shade(16), shade(24));
+        *pixel = Shade::<M>::new(shade(8), shade(16), shade(24));
     }
     match_picture(alloc, &table, &picture, Way::Nearest, digest)
 }

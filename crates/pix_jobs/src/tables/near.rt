@@ -1,16 +1,15 @@
 //! Photographs in tables with a threshold that have room for all their colors.
 
 use crate::digest::Digest;
-use crate::pictures;
+use crate::pictures::{self, color_of};
 use crate::random::Random;
 use crate::size::Size;
-use pix::ColorTable;
-use pix::rgb::SRgb8;
+use pix::{ColorModel, ColorTable};
 use std::alloc::Global;
 
 /// Indexes photographs by tables of a threshold, or of the next greater one by which the table has
 /// room for all colors.
-pub(crate) fn run(
+pub(crate) fn run<M: ColorModel>(
     alloc: Global,
     least: u8,
     size: Size,
@@ -18,10 +17,10 @@ pub(crate) fn run(
     digest: &mut Digest,
 ) -> Option<()> {
     for _ in 0..size.times(4) {
-        let photo = pictures::photo(alloc, 240, 200, random)?;
+        let photo = pictures::photo::<M>(alloc, 240, 200, random)?;
         for more in 0..16_u8 {
             let apart = least.saturating_add(10 * more);
-            let near = SRgb8::new(apart, apart, apart);
+            let near = color_of(apart, apart, apart);
             let mut table = ColorTable::new(alloc, 256, near).ok()?;
             if let Some(image) = table.index_pixels(alloc, &photo).ok()? {
                 digest.add(table.len() as u64);

@@ -1,11 +1,11 @@
 //! Many small tiles on one palette, which has all their colors.
 
 use crate::digest::Digest;
-use crate::pictures;
+use crate::pictures::{self, color_of};
 use crate::random::Random;
 use crate::size::Size;
 use pix::Palette;
-use pix::rgb::SRgb8;
+use pix::rgb::{Rgb, SRgb8};
 use std::alloc::Global;
 
 /// How many colors a tile has.
@@ -19,7 +19,7 @@ pub(crate) fn by_chance(
     random: &mut Random,
     digest: &mut Digest,
 ) -> Option<()> {
-    let colors = pictures::colors(alloc, count, random)?;
+    let colors = pictures::colors::<Rgb>(alloc, count, random)?;
     run(alloc, &colors, size, random, digest)
 }
 
@@ -33,7 +33,7 @@ pub(crate) fn alike(
     let mut colors = Vec::new(alloc);
     for green in 0..16_u8 {
         for blue in 0..16_u8 {
-            colors.push(SRgb8::new(90, 80 + green, 70 + blue)).ok()?;
+            colors.push(color_of(90, 80 + green, 70 + blue)).ok()?;
         }
     }
     run(alloc, &colors, size, random, digest)
