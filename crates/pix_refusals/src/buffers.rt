@@ -2,10 +2,11 @@
 //! was.
 //!
 //! A buffer or a raster that could not be made for a call ends its function: nothing was handed in
-//! then.
-use pix::el::Pixel;
-use pix::rgb::{Rgba8p, Rgba16p};
-use pix::{Raster, RasterFault};
+//! then. The bodies are for any color model, since each call at a concrete format costs the prover
+//! seconds.
+use pix::chan::{Ch8, Ch16, Linear, Premultiplied};
+use pix::el::{Pix, Pixel};
+use pix::{ColorModel, Raster, RasterFault};
 use std::alloc::Global;
 
 /// The channels of three columns and two rows of pixels.
@@ -17,23 +18,26 @@ const BYTES: &[u8] = &[
 /// The channels of one column and two rows of pixels.
 const WORDS: &[u16] = &[1, 2, 300, 40_000, 5, 65_535, 7, 8_000];
 
+/// A premultiplied pixel of four channels.
+type Color<C, M> = Pix<4, C, M, Premultiplied, Linear>;
+
 /// Returns the pixels of [`BYTES`].
-fn pixels_of_bytes() -> [Rgba8p; 6] {
+fn pixels_of_bytes<M>() -> [Color<Ch8, M>; 6] {
     [
-        Rgba8p::new(1u8, 2u8, 3u8, 4u8),
-        Rgba8p::new(5u8, 6u8, 7u8, 8u8),
-        Rgba8p::new(9u8, 10u8, 11u8, 12u8),
-        Rgba8p::new(101u8, 102u8, 103u8, 104u8),
-        Rgba8p::new(105u8, 106u8, 107u8, 108u8),
-        Rgba8p::new(109u8, 110u8, 111u8, 255u8),
+        Color::<Ch8, M>::new(1u8, 2u8, 3u8, 4u8),
+        Color::<Ch8, M>::new(5u8, 6u8, 7u8, 8u8),
+        Color::<Ch8, M>::new(9u8, 10u8, 11u8, 12u8),
+        Color::<Ch8, M>::new(101u8, 102u8, 103u8, 104u8),
+        Color::<Ch8, M>::new(105u8, 106u8, 107u8, 108u8),
+        Color::<Ch8, M>::new(109u8, 110u8, 111u8, 255u8),
     ]
 }
 
 /// Returns the pixels of [`WORDS`].
-fn pixels_of_words() -> [Rgba16p; 2] {
+fn pixels_of_words<M>() -> [Color<Ch16, M>; 2] {
     [
-        Rgba16p::new(1u16, 2u16, 300u16, 40_000u16),
-        Rgba16p::new(5u16, 65_535u16, 7u16, 8_000u16),
+        Color::<Ch16, M>::new(1u16, 2u16, 300u16, 40_000u16),
+        Color::<Ch16, M>::new(5u16, 65_535u16, 7u16, 8_000u16),
     ]
 }
 
@@ -43,40 +47,39 @@ fn is_of<P: Pixel>(raster: &Raster<P>, width: u32, height: u32, pixels: &[P]) ->
 }
 
 /// Whether the raster is that of [`BYTES`].
-fn is_of_bytes(raster: &Raster<Rgba8p>) -> bool {
-    is_of(raster, 3, 2, &pixels_of_bytes())
+fn is_of_bytes<M: ColorModel>(raster: &Raster<Color<Ch8, M>>) -> bool {
+    is_of(raster, 3, 2, &pixels_of_bytes::<M>())
 }
 
 /// Whether the raster is that of [`WORDS`].
-fn is_of_words(raster: &Raster<Rgba16p>) -> bool {
-    is_of(raster, 1, 2, &pixels_of_words())
+fn is_of_words<M: ColorModel>(raster: &Raster<Color<Ch16, M>>) -> bool {
+    is_of(raster, 1, 2, &pixels_of_words::<M>())
 }
 
-/// The raster of the bytes, or the bytes.
-fn of_bytes(alloc: Global, bytes: Vec<u8>) -> Result<Raster<Rgba8p>, (RasterFault, Vec<u8>)> {
-    Raster::with_u8_buffer(alloc, 3, 2, bytes)
+/// The raster of [`BYTES`], if no request for its memory is refused.
+fn raster_of_bytes<M: ColorModel>(alloc: Global) -> Option<Raster<Color<Ch8, M>>> {
+    let bytes = Vec::from_slice(alloc, BYTES).ok()?;
+    Raster::with_u8_buffer(alloc, 3, 2, bytes).ok()
 }
 
-/// The raster of the words, or the words.
-fn of_words(alloc: Global, words: Vec<u16>) -> Result<Raster<Rgba16p>, (RasterFault, Vec<u16>)> {
-    Raster::with_u16_buffer(alloc, 1, 2, words)
+/// The raster of [`WORDS`], if no request for its memory is refused.
+fn raster_of_words<M: ColorModel>(alloc: Global) -> Option<Raster<Color<Ch16, M>>> {
+    let words = Vec::from_slice(alloc, WORDS).ok()?;
+    Raster::with_u16_buffer(alloc, 1, 2, words).ok()
 }
 
-pub(crate) fn with_u8_buffer(alloc: Global) -> bool {
+pub(crate) fn with_u8_buffer<M: ColorModel>(alloc: Global) -> bool {
     let Ok(bytes) = Vec::from_slice(alloc, BYTES) else {
         return true;
     };
-    match of_bytes(alloc, bytes) {
+    match Raster::<Color<Ch8, M>>::with_u8_buffer(alloc, 3, 2, bytes) {
         Ok(raster) => is_of_bytes(&raster),
         Err((fault, back)) => fault == RasterFault::Memory && back.as_slice() == BYTES,
     }
 }
 
-pub(crate) fn into_u8_vec(alloc: Global) -> bool {
-    let Ok(bytes) = Vec::from_slice(alloc, BYTES) else {
-        return true;
-    };
-    let Ok(raster) = of_bytes(alloc, bytes) else {
+pub(crate) fn into_u8_vec<M: ColorModel>(alloc: Global) -> bool {
+    let Some(raster) = raster_of_bytes::<M>(alloc) else {
         return true;
     };
     match raster.into_u8_vec(alloc) {
@@ -85,11 +88,8 @@ pub(crate) fn into_u8_vec(alloc: Global) -> bool {
     }
 }
 
-pub(crate) fn to_u8_vec(alloc: Global) -> bool {
-    let Ok(bytes) = Vec::from_slice(alloc, BYTES) else {
-        return true;
-    };
-    let Ok(raster) = of_bytes(alloc, bytes) else {
+pub(crate) fn to_u8_vec<M: ColorModel>(alloc: Global) -> bool {
+    let Some(raster) = raster_of_bytes::<M>(alloc) else {
         return true;
     };
     let right = match raster.to_u8_vec(alloc) {
@@ -99,21 +99,18 @@ pub(crate) fn to_u8_vec(alloc: Global) -> bool {
     right && is_of_bytes(&raster)
 }
 
-pub(crate) fn with_u16_buffer(alloc: Global) -> bool {
+pub(crate) fn with_u16_buffer<M: ColorModel>(alloc: Global) -> bool {
     let Ok(words) = Vec::from_slice(alloc, WORDS) else {
         return true;
     };
-    match of_words(alloc, words) {
+    match Raster::<Color<Ch16, M>>::with_u16_buffer(alloc, 1, 2, words) {
         Ok(raster) => is_of_words(&raster),
         Err((fault, back)) => fault == RasterFault::Memory && back.as_slice() == WORDS,
     }
 }
 
-pub(crate) fn into_u16_vec(alloc: Global) -> bool {
-    let Ok(words) = Vec::from_slice(alloc, WORDS) else {
-        return true;
-    };
-    let Ok(raster) = of_words(alloc, words) else {
+pub(crate) fn into_u16_vec<M: ColorModel>(alloc: Global) -> bool {
+    let Some(raster) = raster_of_words::<M>(alloc) else {
         return true;
     };
     match raster.into_u16_vec(alloc) {

@@ -2,10 +2,13 @@
 //! concrete format costs the prover seconds.
 ghost use Rattle.std.specs.Prelude.{◌≤◌, ◌+◌};
 
-use pix::chan::Gamma;
-use pix::el::Pixel;
-use pix::{Raster, RasterFault};
+use pix::chan::{Ch8, Linear, Straight};
+use pix::el::{Pix, Pixel};
+use pix::{ColorModel, Raster, RasterFault};
 use std::alloc::Global;
+
+/// A pixel of four channels.
+type Color<M> = Pix<4, Ch8, M, Straight, Linear>;
 
 /// Whether the raster has this size and color.
 fn is_plain<P: Pixel>(raster: &Raster<P>, clr: P) -> bool {
@@ -23,16 +26,18 @@ fn is_right<P: Pixel>(made: Result<Raster<P>, RasterFault>, clr: P) -> bool {
     }
 }
 
-pub(crate) fn with_clear<P: Pixel>(alloc: Global, clear: P) -> bool {
-    is_right(Raster::with_clear(alloc, 3, 2), clear)
+pub(crate) fn with_clear<M: ColorModel>(alloc: Global) -> bool {
+    is_right(Raster::with_clear(alloc, 3, 2), Color::<M>::default())
 }
 
-pub(crate) fn with_color<P: Pixel>(alloc: Global, clr: P) -> bool {
+pub(crate) fn with_color<M: ColorModel>(alloc: Global) -> bool {
+    let clr = Color::<M>::new(64u8, 128u8, 96u8, 128u8);
     is_right(Raster::with_color(alloc, 3, 2, clr), clr)
 }
 
 /// The raster that is copied stays as it was. Where it could not be made, nothing is copied.
-pub(crate) fn try_clone<P: Pixel>(alloc: Global, clr: P) -> bool {
+pub(crate) fn try_clone<M: ColorModel>(alloc: Global) -> bool {
+    let clr = Color::<M>::new(64u8, 128u8, 96u8, 128u8);
     match Raster::with_color(alloc, 3, 2, clr) {
         Ok(raster) => is_right(raster.try_clone(alloc), clr) && is_plain(&raster, clr),
         Err(fault) => fault == RasterFault::Memory,
@@ -40,16 +45,16 @@ pub(crate) fn try_clone<P: Pixel>(alloc: Global, clr: P) -> bool {
 }
 
 /// The raster that is converted stays as it was. Where it could not be made, nothing is converted.
-pub(crate) fn with_raster<S, D>(alloc: Global, clr: S, converted: D) -> bool
-where
-    S: Pixel,
-    D: Pixel,
-    D::Chan: From<S::Chan>,
-    S::Gamma: Gamma<D::Chan>,
-    requires few { D.layout.count ≤ D.layout.alpha + 1 }
+/// The colors of the other model stand in reverse.
+///
+/// Condition: the other model has three colors.
+pub(crate) fn with_raster<M: ColorModel, T: ColorModel>(alloc: Global) -> bool
+    requires few { 4 ≤ T.ALPHA + 1 }
 {
+    let clr = Color::<M>::new(64u8, 128u8, 96u8, 128u8);
     let Ok(raster) = Raster::with_color(alloc, 3, 2, clr) else {
         return true;
     };
+    let converted = Color::<T>::new(96u8, 128u8, 64u8, 128u8);
     is_right(Raster::with_raster(alloc, &raster), converted) && is_plain(&raster, clr)
 }
