@@ -1,11 +1,14 @@
 //! A picture of many colors, beside it the same picture indexed with a palette of few, and below
 //! them that palette.
-use crate::print_pixel;
+ghost use Rattle.std.specs.Prelude.{◌≤◌, ◌+◌};
+
+use crate::{Shade, Veil, print_pixel};
+use pix::chan::Channel;
 use pix::el::Pixel;
-use pix::gray::{Gray, Gray8};
-use pix::hsl::SHsl8;
-use pix::rgb::{SRgb8, SRgba8};
-use pix::{Palette, Raster, RasterFault, Region};
+use pix::gray::Gray8;
+use pix::hsl::Hsl;
+use pix::rgb::{Rgb, SRgb8};
+use pix::{ColorModel, Palette, Raster, RasterFault, Region};
 use std::alloc::Global;
 use std::io;
 
@@ -17,18 +20,25 @@ const LIMIT: usize = 256;
 
 /// Prints the page, or why there is none.
 pub(crate) fn print(rt: &HostRuntime) -> io::Result<()> {
-    match page(rt.alloc()) {
+    match page::<Hsl, Rgb>(rt.alloc()) {
         Ok(Some(page)) => print_rows(rt, &page),
         Ok(None) => println!(rt; "too many colors"),
         Err(fault) => println!(rt; "{fault}"),
     }
 }
 
-/// Makes the page that is printed.
-fn page(alloc: Global) -> Result<Option<Raster<SRgba8>>, RasterFault> {
-    let picture = picture(alloc)?;
-    let mut page = Raster::<SRgba8>::with_clear(alloc, 68, 68)?;
-    let left = Raster::<SRgba8>::with_raster(alloc, &picture)?;
+/// Makes the page that is printed, of a picture with a hue.
+///
+/// Condition: the second model has three colors.
+fn page<H, M>(alloc: Global) -> Result<Option<Raster<Veil<M>>>, RasterFault>
+where
+    H: ColorModel,
+    M: ColorModel,
+    requires few { 4 ≤ M.ALPHA + 1 }
+{
+    let picture = picture::<H>(alloc)?;
+    let mut page = Raster::<Veil<M>>::with_clear(alloc, 68, 68)?;
+    let left = Raster::<Veil<M>>::with_raster(alloc, &picture)?;
     page.copy_raster(Region::new(0, 0, SIDE, SIDE), &left, Region::from(()));
     let Some((indices, table)) = indexed(alloc, picture)? else {
         return Ok(None);
@@ -40,13 +50,13 @@ fn page(alloc: Global) -> Result<Option<Raster<SRgba8>>, RasterFault> {
 }
 
 /// Makes the picture: its hue turns from left to right, and it grows darker from top to bottom.
-fn picture(alloc: Global) -> Result<Raster<SHsl8>, RasterFault> {
-    let mut picture = Raster::<SHsl8>::with_clear(alloc, SIDE, SIDE)?;
+fn picture<H: ColorModel>(alloc: Global) -> Result<Raster<Shade<H>>, RasterFault> {
+    let mut picture = Raster::<Shade<H>>::with_clear(alloc, SIDE, SIDE)?;
     let mut lightness = 255_u8;
     for row in picture.rows_mut(Region::from(())) {
         let mut hue = 0_u8;
         for pixel in row.iter_mut() {
-            *pixel = SHsl8::new(hue, 128u8, lightness);
+            *pixel = Shade::<H>::new(hue, 128u8, lightness);
             hue = hue.wrapping_add(8);
         }
         lightness = lightness.wrapping_sub(4);
@@ -60,9 +70,9 @@ fn threshold(_size: usize) -> SRgb8 {
 }
 
 /// Returns the indices of the picture's pixels, and the palette's colors.
-fn indexed(
+fn indexed<H: ColorModel>(
     alloc: Global,
-    picture: Raster<SHsl8>,
+    picture: Raster<Shade<H>>,
 ) -> Result<Option<(Raster<Gray8>, Vec<SRgb8>)>, RasterFault> {
     let mut palette = Palette::new(alloc, LIMIT)?;
     palette.set_threshold_fn(threshold);
@@ -79,25 +89,37 @@ fn indexed(
 }
 
 /// Returns the color of each index.
-fn looked_up(
+///
+/// Condition: the second model has three colors.
+fn looked_up<S, M, I>(
     alloc: Global,
-    indices: &Raster<Gray8>,
-    table: &[SRgb8],
-) -> Result<Raster<SRgba8>, RasterFault> {
-    let mut shown = Raster::<SRgb8>::with_clear(alloc, SIDE, SIDE)?;
+    indices: &Raster<I>,
+    table: &[Shade<S>],
+) -> Result<Raster<Veil<M>>, RasterFault>
+where
+    S: ColorModel,
+    M: ColorModel,
+    I: Pixel,
+    requires few { 4 ≤ M.ALPHA + 1 }
+{
+    let mut shown = Raster::<Shade<S>>::with_clear(alloc, SIDE, SIDE)?;
     for (pixel, index) in shown.pixels_mut().iter_mut().zip(indices.pixels()) {
-        if let Some(clr) = table.get(usize::from(u8::from(Gray::value(*index)))) {
+        if let Some(clr) = table.get(index.get(0).to_u32() as usize) {
             *pixel = *clr;
         }
     }
-    Raster::<SRgba8>::with_raster(alloc, &shown)
+    Raster::<Veil<M>>::with_raster(alloc, &shown)
 }
 
 /// Copies the colors of a table to squares below the pictures, sixteen in a row.
-fn copy_table(page: &mut Raster<SRgba8>, table: &[SRgb8]) {
+///
+/// Condition: the second model has three colors.
+fn copy_table<S: ColorModel, M: ColorModel>(page: &mut Raster<Veil<M>>, table: &[Shade<S>])
+    requires few { 4 ≤ M.ALPHA + 1 }
+{
     let (mut x, mut y) = (0_i32, 36_i32);
     for clr in table {
-        let clr = clr.convert::<SRgba8>();
+        let clr = clr.convert::<Veil<M>>();
         page.copy_color(Region::new(x, y, 4, 4), clr);
         x = x.wrapping_add(4);
         if x == 64 {
@@ -108,7 +130,7 @@ fn copy_table(page: &mut Raster<SRgba8>, table: &[SRgb8]) {
 }
 
 /// Prints each row of pixels.
-fn print_rows(rt: &HostRuntime, page: &Raster<SRgba8>) -> io::Result<()> {
+fn print_rows<P: Pixel>(rt: &HostRuntime, page: &Raster<P>) -> io::Result<()> {
     for row in page.rows(Region::from(())) {
         for (place, pixel) in row.iter().enumerate() {
             print_pixel(rt, place, *pixel)?;
