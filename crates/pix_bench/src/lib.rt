@@ -29,8 +29,8 @@ pub extern "C" fn pix_bench(
         0 => rasters::composited::<Hsv>(alloc, times, src, out),
         1 => rasters::converted::<Rgb, Hsv>(alloc, times, src, out),
         2 => rasters::converted::<YCbCr, Rgb>(alloc, times, src, out),
-        3 => rasters::indexed(alloc, times, src, out),
-        _ => rasters::mapped(alloc, times, src, out),
+        3 => rasters::indexed::<Rgb>(alloc, times, src, out),
+        _ => rasters::mapped::<Rgb>(alloc, times, src, out),
     };
     done.is_some()
 }

@@ -1,11 +1,10 @@
 //! The works, for any color model where a model does not say what they are.
 ghost use Rattle.std.specs.Prelude.{◌≡◌, ◌≤◌, ◌+◌};
 
-use pix::chan::{Alpha, Ch8, Gamma, Linear, Premultiplied, Straight};
-use pix::el::Pix;
+use pix::chan::{Alpha, Ch8, Gamma, Linear, Premultiplied, Srgb, Straight};
+use pix::el::{Pix, Pixel};
 use pix::gray::Gray8;
 use pix::ops::SrcOver;
-use pix::rgb::SRgb8;
 use pix::{ColorModel, ColorTable, Palette, Raster, Region};
 use std::alloc::Global;
 
@@ -84,11 +83,21 @@ pub(crate) fn converted<S: ColorModel, D: ColorModel>(
     write(alloc, &made, out)
 }
 
+/// Makes a raster without points.
+fn empty<P: Pixel>(alloc: Global) -> Option<Raster<P>> {
+    Raster::with_clear(alloc, 0, 0).ok()
+}
+
 /// Indexes a raster of `src` with a new palette of 256 colors a number of times. Each time the
 /// raster is copied, since the call takes it.
-pub(crate) fn indexed(alloc: Global, times: u32, src: &[u8], out: &mut [u8]) -> Option<()> {
-    let source: Raster<SRgb8> = raster_of(alloc, src)?;
-    let mut made: Raster<Gray8> = Raster::with_clear(alloc, 0, 0).ok()?;
+pub(crate) fn indexed<M: ColorModel>(
+    alloc: Global,
+    times: u32,
+    src: &[u8],
+    out: &mut [u8],
+) -> Option<()> {
+    let source: Raster<Pix<3, Ch8, M, Straight, Srgb>> = raster_of(alloc, src)?;
+    let mut made: Raster<Gray8> = empty(alloc)?;
     for _ in 0..times {
         let copy = source.try_clone(alloc).ok()?;
         let mut palette = Palette::new(alloc, 256).ok()?;
@@ -99,10 +108,15 @@ pub(crate) fn indexed(alloc: Global, times: u32, src: &[u8], out: &mut [u8]) -> 
 
 /// Makes a table of 256 colors of a raster of `src`, and a number of times an image of the nearest
 /// of them.
-pub(crate) fn mapped(alloc: Global, times: u32, src: &[u8], out: &mut [u8]) -> Option<()> {
-    let source: Raster<SRgb8> = raster_of(alloc, src)?;
+pub(crate) fn mapped<M: ColorModel>(
+    alloc: Global,
+    times: u32,
+    src: &[u8],
+    out: &mut [u8],
+) -> Option<()> {
+    let source: Raster<Pix<3, Ch8, M, Straight, Srgb>> = raster_of(alloc, src)?;
     let table = ColorTable::quantize(alloc, &source, 256, 0).ok()??;
-    let mut made: Raster<Gray8> = Raster::with_clear(alloc, 0, 0).ok()?;
+    let mut made: Raster<Gray8> = empty(alloc)?;
     for _ in 0..times {
         made = table.map_indexed(alloc, &source).ok()??;
     }
