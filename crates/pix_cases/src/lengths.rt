@@ -129,7 +129,8 @@ fn turns<P: Pixel>(colors: u32, len: u32, alloc: Global) -> Result<Raster<P>, Fl
 fn spell<P: Pixel>(pixel: &mut P, number: usize) {
     let mut rest = number;
     for channel in pixel.channels_mut() {
-        *channel = P::Chan::from_ratio((rest % 256) as i64, 1);
+        let byte = (rest % 256) as u8;
+        *channel = P::Chan::from_ratio(i64::from(byte), 1);
         rest /= 256;
     }
 }
