@@ -1,4 +1,6 @@
 //! Palettes. A palette is made and used up in one function.
+use pix::chan::{Ch8, Gamma};
+use pix::el::Pixel;
 use pix::gray::Gray8;
 use pix::rgb::{SRgb8, SRgba8};
 use pix::{ColorTable, Palette, Raster, RasterFault, RgbaTable, ScanOrder};
@@ -38,10 +40,12 @@ pub fn counted(alloc: Global) -> Result<Option<Vec<usize>>, RasterFault> {
 }
 
 /// Indexes a picture.
-pub fn indexed(
-    alloc: Global,
-    picture: Raster<SRgb8>,
-) -> Result<Option<Raster<Gray8>>, RasterFault> {
+pub fn indexed<S>(alloc: Global, picture: Raster<S>) -> Result<Option<Raster<Gray8>>, RasterFault>
+where
+    S: Pixel,
+    Ch8: From<S::Chan>,
+    S::Gamma: Gamma<Ch8>,
+{
     let mut palette = Palette::new(alloc, 256)?;
     match palette.make_indexed(alloc, picture) {
         Ok(indices) => Ok(indices), // None: the picture has more than 256 colors
@@ -55,7 +59,12 @@ pub fn near(_entries: usize) -> SRgb8 {
 }
 
 /// Indexes a picture by few colors, and answers how many.
-pub fn few(alloc: Global, picture: Raster<SRgb8>) -> Result<Option<usize>, RasterFault> {
+pub fn few<S>(alloc: Global, picture: Raster<S>) -> Result<Option<usize>, RasterFault>
+where
+    S: Pixel,
+    Ch8: From<S::Chan>,
+    S::Gamma: Gamma<Ch8>,
+{
     let mut palette = Palette::new(alloc, 99)?;
     palette.set_threshold_fn(near);
     let spare = palette.try_clone(alloc)?;
@@ -80,11 +89,16 @@ pub fn table(alloc: Global) -> Result<(usize, Option<SRgb8>, Option<usize>), Ras
 }
 
 /// Indexes a picture in a table, and makes colors of the indices again.
-pub fn looked_up(
+pub fn looked_up<S>(
     alloc: Global,
     table: &mut ColorTable,
-    picture: &Raster<SRgb8>,
-) -> Result<Option<Raster<SRgb8>>, RasterFault> {
+    picture: &Raster<S>,
+) -> Result<Option<Raster<SRgb8>>, RasterFault>
+where
+    S: Pixel,
+    Ch8: From<S::Chan>,
+    S::Gamma: Gamma<Ch8>,
+{
     let Some(indices) = table.index_pixels(alloc, picture)? else {
         return Ok(None); // the table has no room for all colors
     };
@@ -92,11 +106,16 @@ pub fn looked_up(
 }
 
 /// Indexes a picture by the nearest entries of a table.
-pub fn mapped(
+pub fn mapped<S>(
     alloc: Global,
     table: &ColorTable,
-    picture: &Raster<SRgb8>,
-) -> Result<Option<Raster<Gray8>>, RasterFault> {
+    picture: &Raster<S>,
+) -> Result<Option<Raster<Gray8>>, RasterFault>
+where
+    S: Pixel,
+    Ch8: From<S::Chan>,
+    S::Gamma: Gamma<Ch8>,
+{
     let Some(indices) = table.map_indexed(alloc, picture)? else {
         return Ok(None); // the table has no entry, or more than 256
     };
@@ -105,11 +124,16 @@ pub fn mapped(
 
 /// Indexes a picture by the nearest entries of a table; where it is clear, its index is one that no
 /// entry has.
-pub fn mapped_alpha(
+pub fn mapped_alpha<S>(
     alloc: Global,
     table: &ColorTable,
-    picture: &Raster<SRgba8>,
-) -> Result<Option<Raster<Gray8>>, RasterFault> {
+    picture: &Raster<S>,
+) -> Result<Option<Raster<Gray8>>, RasterFault>
+where
+    S: Pixel,
+    Ch8: From<S::Chan>,
+    S::Gamma: Gamma<Ch8>,
+{
     let Some(indices) = table.map_indexed_alpha(alloc, picture, 128, 255)? else {
         return Ok(None); // the table has no entry, or more than 256
     };
@@ -117,10 +141,12 @@ pub fn mapped_alpha(
 }
 
 /// Indexes a picture by error diffusion in a table of its colors.
-pub fn diffused(
-    alloc: Global,
-    picture: &Raster<SRgba8>,
-) -> Result<Option<Raster<Gray8>>, RasterFault> {
+pub fn diffused<S>(alloc: Global, picture: &Raster<S>) -> Result<Option<Raster<Gray8>>, RasterFault>
+where
+    S: Pixel,
+    Ch8: From<S::Chan>,
+    S::Gamma: Gamma<Ch8>,
+{
     let Some(table) = ColorTable::quantize(alloc, picture, 255, 128)? else {
         return Ok(None); // not for 255 entries
     };
@@ -128,10 +154,15 @@ pub fn diffused(
 }
 
 /// Indexes a picture by error diffusion that goes to and fro, with three quarters of each error.
-pub fn diffused_by(
+pub fn diffused_by<S>(
     alloc: Global,
-    picture: &Raster<SRgba8>,
-) -> Result<Option<Raster<Gray8>>, RasterFault> {
+    picture: &Raster<S>,
+) -> Result<Option<Raster<Gray8>>, RasterFault>
+where
+    S: Pixel,
+    Ch8: From<S::Chan>,
+    S::Gamma: Gamma<Ch8>,
+{
     let Some(table) = ColorTable::quantize(alloc, picture, 255, 128)? else {
         return Ok(None); // not for 255 entries
     };
@@ -139,10 +170,12 @@ pub fn diffused_by(
 }
 
 /// Indexes a picture by the nearest entries of a table of its colors, which is refined.
-pub fn refined(
-    alloc: Global,
-    picture: &Raster<SRgba8>,
-) -> Result<Option<Raster<Gray8>>, RasterFault> {
+pub fn refined<S>(alloc: Global, picture: &Raster<S>) -> Result<Option<Raster<Gray8>>, RasterFault>
+where
+    S: Pixel,
+    Ch8: From<S::Chan>,
+    S::Gamma: Gamma<Ch8>,
+{
     let Some(table) = ColorTable::quantize_refined(alloc, picture, 255, 128, 4)? else {
         return Ok(None); // not for 255 entries
     };
@@ -150,10 +183,15 @@ pub fn refined(
 }
 
 /// Shows a picture in the colors of a table that keeps its alphas.
-pub fn with_alpha(
+pub fn with_alpha<S>(
     alloc: Global,
-    picture: &Raster<SRgba8>,
-) -> Result<Option<Raster<SRgba8>>, RasterFault> {
+    picture: &Raster<S>,
+) -> Result<Option<Raster<SRgba8>>, RasterFault>
+where
+    S: Pixel,
+    Ch8: From<S::Chan>,
+    S::Gamma: Gamma<Ch8>,
+{
     let Some(table) = RgbaTable::quantize(alloc, picture, 256, 4)? else {
         return Ok(None); // not for 256 entries
     };
@@ -164,10 +202,15 @@ pub fn with_alpha(
 }
 
 /// Indexes a picture by error diffusion in a table that keeps its alphas.
-pub fn diffused_with_alpha(
+pub fn diffused_with_alpha<S>(
     alloc: Global,
-    picture: &Raster<SRgba8>,
-) -> Result<Option<Raster<Gray8>>, RasterFault> {
+    picture: &Raster<S>,
+) -> Result<Option<Raster<Gray8>>, RasterFault>
+where
+    S: Pixel,
+    Ch8: From<S::Chan>,
+    S::Gamma: Gamma<Ch8>,
+{
     let Some(table) = RgbaTable::quantize(alloc, picture, 256, 4)? else {
         return Ok(None); // not for 256 entries
     };

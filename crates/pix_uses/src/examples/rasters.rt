@@ -1,13 +1,15 @@
 //! Rasters.
-ghost use Rattle.std.specs.Prelude.{◌≡◌, IfOk, IfErr};
+ghost use Rattle.std.specs.Prelude.{◌≡◌, ◌+◌, IfOk, IfErr};
 ghost use Rattle.pix_raster.specs.declared.fault.RasterFault.{RasterFault};
 
 use pix::bgr::Bgra16p;
+use pix::chan::{Ch8, Linear, Premultiplied};
+use pix::el::{Pix, Pixel};
 use pix::gray::{Gray8, Gray16};
 use pix::matte::Matte8;
 use pix::ops::{Op, SrcOver};
 use pix::rgb::{Rgba8, Rgba8p, Rgba16p};
-use pix::{Command, Raster, RasterFault, Region};
+use pix::{ColorModel, Command, Raster, RasterFault, Region};
 use std::alloc::Global;
 
 /// Makes a clear page, and asks for its size.
@@ -41,7 +43,7 @@ pub fn points(alloc: Global) -> Result<(Gray8, usize), RasterFault> {
 }
 
 /// Makes a raster of pixels, and takes them out again.
-pub fn again(pixels: Vec<Gray8>) -> Vec<Gray8>
+pub fn again<P: Pixel>(pixels: Vec<P>) -> Vec<P>
     ensures { result.items ≡ pixels.items }
 {
     // Six pixels, or they are handed back.
@@ -104,11 +106,13 @@ pub fn composited(alloc: Global, page: &mut Raster<Rgba8p>) -> Result<(), Raster
 }
 
 /// Composites a sprite through a mask.
-pub fn masked(
+pub fn masked<M: ColorModel>(
     alloc: Global,
-    page: &mut Raster<Rgba8p>,
-    sprite: &Raster<Rgba8p>,
-) -> Result<(), RasterFault> {
+    page: &mut Raster<Pix<4, Ch8, M, Premultiplied, Linear>>,
+    sprite: &Raster<Pix<4, Ch8, M, Premultiplied, Linear>>,
+) -> Result<(), RasterFault>
+    requires has_alpha { 4 ≡ M.ALPHA + 1 }
+{
     let at = Region::from((10, 10));
     let soft = Raster::with_color(alloc, 16, 16, Matte8::new(64))?;
     page.composite_raster_matte(at, sprite, sprite.region(), &soft, soft.region(), SrcOver);
@@ -116,7 +120,12 @@ pub fn masked(
 }
 
 /// Composites a sprite at half opacity.
-pub fn faded(page: &mut Raster<Rgba8p>, sprite: &Raster<Rgba8p>) {
+pub fn faded<M: ColorModel>(
+    page: &mut Raster<Pix<4, Ch8, M, Premultiplied, Linear>>,
+    sprite: &Raster<Pix<4, Ch8, M, Premultiplied, Linear>>,
+)
+    requires has_alpha { 4 ≡ M.ALPHA + 1 }
+{
     let at = Region::from((10, 10));
     let half = Matte8::new(128);
     page.composite_raster_alpha(at, sprite, sprite.region(), half, SrcOver);
