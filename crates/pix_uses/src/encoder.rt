@@ -1,4 +1,4 @@
-//! An encoder of indexed images that has one table of colors for all of them.
+//! What an encoder of indexed images does with a table of colors.
 ghost use Rattle.std.specs.Prelude.{◌≡◌, ◌<◌, ℕ, [], ◌∷◌, length, map, slice_index_or};
 ghost use Rattle.std.specs.Prelude.{IfOk, IfErr, IfSome};
 ghost use Rattle.pix.specs.ColorTable.{entries_of, IsMadeOf};
@@ -15,40 +15,6 @@ use pix::gray::Gray8;
 use pix::rgb::{SRgb8, SRgba8};
 use pix::{ColorTable, Raster, RasterFault};
 use std::alloc::Global;
-
-/// An encoder, and the colors of the pictures that it was given.
-#[derive(Drop)]
-pub struct Encoder {
-    table: ColorTable,
-}
-
-impl Encoder {
-    /// Makes an encoder without a picture; a color may be as far from the one that stands for it as
-    /// `near` says.
-    pub fn new(alloc: Global, near: SRgb8) -> Result<Encoder, RasterFault>
-        ensures { IfOk result (λ encoder. entries_of encoder.table ≡ []) }
-    {
-        let table = ColorTable::new(alloc, 256, near)?;
-        Ok(Encoder { table })
-    }
-
-    /// Returns the indices of a picture, and adds its colors to the table. Where there are more
-    /// than 256 then, it returns `None`, and none is added.
-    pub fn add<S>(
-        &mut self,
-        alloc: Global,
-        picture: &Raster<S>,
-    ) -> Result<Option<Raster<Gray8>>, RasterFault>
-    where
-        S: Pixel,
-        Ch8: From<S::Chan>,
-        S::Gamma: Gamma<Ch8>,
-        ensures unchanged { IfErr result (λ _.
-            entries_of self.new.table ≡ entries_of self.old.table) }
-    {
-        self.table.index_pixels(alloc, picture)
-    }
-}
 
 /// Indexes a picture in a table of exact colors, and makes a picture of its indices again. Returns
 /// `None` where the table has no room for the colors.
