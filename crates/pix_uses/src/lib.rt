@@ -1,5 +1,5 @@
-//! Callers of the library, as a user would write them: each is proved, and tried by a test of
-//! `pix_tests`.
+//! Callers of the library, as a user would write them: each is proved, and tests of `pix_tests` run
+//! some of them.
 #![tactic(auto)]
 
 pub mod bounds;

@@ -141,12 +141,10 @@ where
 }
 
 /// Indexes a picture by error diffusion in a table of its colors.
-pub fn diffused<S>(alloc: Global, picture: &Raster<S>) -> Result<Option<Raster<Gray8>>, RasterFault>
-where
-    S: Pixel,
-    Ch8: From<S::Chan>,
-    S::Gamma: Gamma<Ch8>,
-{
+pub fn diffused(
+    alloc: Global,
+    picture: &Raster<SRgba8>,
+) -> Result<Option<Raster<Gray8>>, RasterFault> {
     let Some(table) = ColorTable::quantize(alloc, picture, 255, 128)? else {
         return Ok(None); // not for 255 entries
     };
@@ -154,15 +152,10 @@ where
 }
 
 /// Indexes a picture by error diffusion that goes to and fro, with three quarters of each error.
-pub fn diffused_by<S>(
+pub fn diffused_by(
     alloc: Global,
-    picture: &Raster<S>,
-) -> Result<Option<Raster<Gray8>>, RasterFault>
-where
-    S: Pixel,
-    Ch8: From<S::Chan>,
-    S::Gamma: Gamma<Ch8>,
-{
+    picture: &Raster<SRgba8>,
+) -> Result<Option<Raster<Gray8>>, RasterFault> {
     let Some(table) = ColorTable::quantize(alloc, picture, 255, 128)? else {
         return Ok(None); // not for 255 entries
     };
@@ -170,12 +163,10 @@ where
 }
 
 /// Indexes a picture by the nearest entries of a table of its colors, which is refined.
-pub fn refined<S>(alloc: Global, picture: &Raster<S>) -> Result<Option<Raster<Gray8>>, RasterFault>
-where
-    S: Pixel,
-    Ch8: From<S::Chan>,
-    S::Gamma: Gamma<Ch8>,
-{
+pub fn refined(
+    alloc: Global,
+    picture: &Raster<SRgba8>,
+) -> Result<Option<Raster<Gray8>>, RasterFault> {
     let Some(table) = ColorTable::quantize_refined(alloc, picture, 255, 128, 4)? else {
         return Ok(None); // not for 255 entries
     };
@@ -183,15 +174,10 @@ where
 }
 
 /// Shows a picture in the colors of a table that keeps its alphas.
-pub fn with_alpha<S>(
+pub fn with_alpha(
     alloc: Global,
-    picture: &Raster<S>,
-) -> Result<Option<Raster<SRgba8>>, RasterFault>
-where
-    S: Pixel,
-    Ch8: From<S::Chan>,
-    S::Gamma: Gamma<Ch8>,
-{
+    picture: &Raster<SRgba8>,
+) -> Result<Option<Raster<SRgba8>>, RasterFault> {
     let Some(table) = RgbaTable::quantize(alloc, picture, 256, 4)? else {
         return Ok(None); // not for 256 entries
     };
@@ -202,15 +188,10 @@ where
 }
 
 /// Indexes a picture by error diffusion in a table that keeps its alphas.
-pub fn diffused_with_alpha<S>(
+pub fn diffused_with_alpha(
     alloc: Global,
-    picture: &Raster<S>,
-) -> Result<Option<Raster<Gray8>>, RasterFault>
-where
-    S: Pixel,
-    Ch8: From<S::Chan>,
-    S::Gamma: Gamma<Ch8>,
-{
+    picture: &Raster<SRgba8>,
+) -> Result<Option<Raster<Gray8>>, RasterFault> {
     let Some(table) = RgbaTable::quantize(alloc, picture, 256, 4)? else {
         return Ok(None); // not for 256 entries
     };
