@@ -66,27 +66,30 @@ pub(crate) fn composited(words: &[&str], alloc: Global) -> Result<String, Flaw> 
     };
     let format = Format::of(format)?;
     match format.model {
-        Model::Gray => of_model::<2, Gray>(format.is_wide, rest, alloc),
-        Model::Rgb => of_model::<4, Rgb>(format.is_wide, rest, alloc),
-        Model::Hsv => of_model::<4, Hsv>(format.is_wide, rest, alloc),
-        Model::Hsl => of_model::<4, Hsl>(format.is_wide, rest, alloc),
-        Model::Hwb => of_model::<4, Hwb>(format.is_wide, rest, alloc),
-        Model::Matte => of_model::<1, Matte>(format.is_wide, rest, alloc),
+        Model::Gray if format.is_wide => sixteen::<2, Gray>(rest, alloc),
+        Model::Rgb if format.is_wide => sixteen::<4, Rgb>(rest, alloc),
+        Model::Gray => eight::<2, Gray>(rest, alloc),
+        Model::Rgb => eight::<4, Rgb>(rest, alloc),
+        Model::Hsv => eight::<4, Hsv>(rest, alloc),
+        Model::Hsl => eight::<4, Hsl>(rest, alloc),
+        Model::Hwb => eight::<4, Hwb>(rest, alloc),
+        Model::Matte => eight::<1, Matte>(rest, alloc),
         _ => Err(Flaw::Name),
     }
 }
 
-/// Composites premultiplied linear pixels of a model, which have `N` channels.
-fn of_model<const N: usize, M>(is_wide: bool, words: &[&str], alloc: Global) -> Result<String, Flaw>
-where
-    M: ColorModel,
+/// Composites premultiplied linear pixels of eight bits, which have `N` channels.
+fn eight<const N: usize, M: ColorModel>(words: &[&str], alloc: Global) -> Result<String, Flaw>
     requires { N ≤ 4 }
 {
-    if is_wide {
-        by_format::<Pix<N, Ch16, M, Premultiplied, Linear>>(words, alloc)
-    } else {
-        by_format::<Pix<N, Ch8, M, Premultiplied, Linear>>(words, alloc)
-    }
+    by_format::<Pix<N, Ch8, M, Premultiplied, Linear>>(words, alloc)
+}
+
+/// Composites premultiplied linear pixels of sixteen bits, which have `N` channels.
+fn sixteen<const N: usize, M: ColorModel>(words: &[&str], alloc: Global) -> Result<String, Flaw>
+    requires { N ≤ 4 }
+{
+    by_format::<Pix<N, Ch16, M, Premultiplied, Linear>>(words, alloc)
 }
 
 /// The pixels of a word.
