@@ -46,6 +46,15 @@ fn fill_parts<D: Copy>(row: &mut [D], part: usize, value: D)
     }
 }
 
+/// Does what [`fill_parts`] does with parts of 16 places, in code of its own.
+#[inline(never)]
+fn fill_long<D: Copy>(row: &mut [D], value: D)
+    requires { 16 ≤ length row.old }
+    ensures { row.new ≡ replicate (length row.old) value }
+{
+    fill_parts(row, 16, value);
+}
+
 /// Writes one value in each place. A row of 8 to 32 places is two parts, and one of more than 256
 /// goes in parts of 16.
 // LLVM makes `memset` of a loop over zeros, but not of parts whose places `min` decides. A call of
@@ -56,7 +65,7 @@ fn fill_row<D: Copy>(row: &mut [D], value: D)
 {
     let count = row.len();
     if count > 256 {
-        fill_parts(row, 16, value);
+        fill_long(row, value);
     } else if count < 8 || count > 32 {
         write_all(row, value);
     } else if count <= 16 {
@@ -76,34 +85,76 @@ pub(crate) fn clear_row<P: Pixel, D: Stored<P>>(row: &mut [D])
     fill_row(row, clr);
 }
 
+/// Copies a part of a row. All of it is read before it is written.
+// LLVM then needs no test for an overlap.
+#[inline(always)]
+fn copy_part<D: Copy, const PART: usize>(row: &mut [D], src: &[D])
+    requires has_row { length row.old ≡ PART }
+    requires has_source { length src.now ≡ PART }
+    ensures { row.new ≡ src.now }
+{
+    if let (Some(to), Some(from)) = (row.as_mut_array::<PART>(), src.as_array::<PART>()) {
+        *to = *from;
+    }
+}
+
 /// Copies as many places as the shorter row has, which are one to two parts: the first part, and
 /// the last, which may overlap.
 #[inline(always)]
-fn copy_ends<D: Copy>(row: &mut [D], src: &[D], part: usize)
-    requires has_one { part ≤ min (length row.old) (length src.now) }
-    requires has_two { min (length row.old) (length src.now) ≤ part + part }
+fn copy_ends<D: Copy, const PART: usize>(row: &mut [D], src: &[D])
+    requires has_one { PART ≤ min (length row.old) (length src.now) }
+    requires has_two { min (length row.old) (length src.now) ≤ PART + PART }
     ensures { row.new ≡ over (λ source _. source) src.now row.old }
 {
     let count = row.len().min(src.len());
-    row[..part].copy_from_slice(&src[..part]);
-    if count > part {
-        row[count - part..count].copy_from_slice(&src[count - part..count]);
+    copy_part::<D, PART>(&mut row[..PART], &src[..PART]);
+    if count > PART {
+        copy_part::<D, PART>(&mut row[count - PART..count], &src[count - PART..count]);
+    }
+}
+
+/// Copies as many places as the shorter row has, part by part. The last part may overlap the one
+/// before it.
+#[inline(always)]
+fn copy_parts<D: Copy, const PART: usize>(row: &mut [D], src: &[D])
+    requires some { 0 < PART }
+    requires has_one { PART ≤ min (length row.old) (length src.now) }
+    ensures { row.new ≡ over (λ source _. source) src.now row.old }
+{
+    let count = row.len().min(src.len());
+    let last = count - PART;
+    for k in 0..count.div_ceil(PART) {
+        let at = (k * PART).min(last);
+        copy_part::<D, PART>(&mut row[at..at + PART], &src[at..at + PART]);
     }
 }
 
 /// Copies each place of a row to the same place of another. The shorter row decides how many
-/// change, and the rest stay as they are. A copy of 8 to 32 places is two parts.
+/// change, and the rest stay as they are.
+#[inline(never)]
+fn copy_any<D: Copy>(row: &mut [D], src: &[D])
+    ensures { row.new ≡ over (λ source _. source) src.now row.old }
+{
+    let count = row.len().min(src.len());
+    row[..count].copy_from_slice(&src[..count]);
+}
+
+/// Copies each place of a row to the same place of another. The shorter row decides how many
+/// change, and the rest stay as they are. A copy of 8 to 32 places is two parts, and one of 33 to
+/// 64 goes in parts of 16.
 // LLVM calls `memmove` for a copy whose length it doesn't know, and for one of 256 bytes.
 #[inline(always)]
 pub(crate) fn copy_row<D: Copy>(row: &mut [D], src: &[D])
     ensures { row.new ≡ over (λ source _. source) src.now row.old }
 {
     let count = row.len().min(src.len());
-    if count < 8 || count > 32 {
-        row[..count].copy_from_slice(&src[..count]);
+    if count < 8 || count > 64 {
+        copy_any(row, src);
+    } else if count > 32 {
+        copy_parts::<D, 16>(row, src);
     } else if count <= 16 {
-        copy_ends(row, src, 8);
+        copy_ends::<D, 8>(row, src);
     } else {
-        copy_ends(row, src, 16);
+        copy_ends::<D, 16>(row, src);
     }
 }

@@ -181,7 +181,7 @@ impl<P: Pixel<Alpha = Premultiplied, Gamma = Linear>, D: Stored<P>, O: Blend> Fi
             let _ = self.clr.channels();
             let (clr, format) = (D::store(&self.clr), PhantomData);
             CopiedColor::<P, D> { clr, format }.fill(row);
-        } else if row.len() <= 32 && clears::<O, P>() {
+        } else if clears::<O, P>() {
             clear_row::<P, D>(row);
         } else {
             let clr = &self.clr;
