@@ -91,6 +91,7 @@ fn fault_of<D, M>(command: &FlatCommand<'_, D, M>) -> u32
 
 /// Returns why the first refused command is refused, or 0, and writes to `done` how many come
 /// before it.
+#[inline(always)]
 pub(crate) fn first_fault<D: Copy, M: Copy, C: Flatten<D, M>>(
     commands: &[C],
     done: &mut usize,

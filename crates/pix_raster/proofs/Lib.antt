@@ -8,6 +8,7 @@ pub mod Steps
 pub mod Shaped
 pub mod Overlaps
 pub mod Masked
+pub mod MaskedOverlaps
 pub mod Pictures
 pub mod WrittenLemmas
 pub mod RunBounds

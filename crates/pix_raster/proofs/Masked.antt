@@ -1,5 +1,5 @@
 -- Changes by a source and a mask.
-use Rattle.std.proofs.Common.{◌≡◌, ℕ, ◌<◌, ◌≤◌, ◌+◌, ◌-◌, ◌∙◌, ℤ, pos, ◌+ℤ◌, ◌-ℤ◌, ◌<ℤ◌, Bool, true, false, List, [], ◌∷◌, length, map, get_or, take, drop, fold, cond, refl, sym, ap, arith}
+use Rattle.std.proofs.Common.{◌≡◌, ℕ, ◌<◌, ◌≤◌, ◌+◌, ◌-◌, ◌∙◌, ℤ, pos, ◌+ℤ◌, ◌-ℤ◌, ◌<ℤ◌, Bool, true, false, List, [], ◌∷◌, length, map, get_or, take, drop, fold, refl, ap, arith}
 use Rattle.std.specs.Prelude.{◌&&◌, not, int_lt, if◌then◌else◌}
 use Rattle.std.specs.Int.{int_min}
 use Rattle.std.proofs.lemmas.Int.{ints, clamps}
@@ -12,7 +12,7 @@ use Rattle.pix_el.proofs.Written.{length-over, get_or-over}
 use Rattle.pix_raster.specs.Region.{Rectangle, whole, covers, has_column}
 use Rattle.pix_raster.specs.Reach.{is_paired, has_offset, leads_into, natural}
 use Rattle.pix_raster.specs.View.{read_at, ChangedIn, where_masked, picture, in_window}
-use Rattle.pix_raster.specs.Clip.{in_box, where_in, IsWithin, IsOverlap}
+use Rattle.pix_raster.specs.Clip.{where_in, IsMaskedOverlap}
 use Rattle.pix_raster.specs.declared.clip.Overlap.{Overlap}
 use Rattle.pix_raster.specs.declared.view.Shape.{Shape}
 use Rattle.pix_raster.specs.declared.view.Window.{Window}
@@ -44,22 +44,25 @@ part_masked n s m g xs ys src mask a b e k fits fits_src fits_mask made =
           ∙ ap (g (get_or (map m mask) (e + i) []) (get_or (map s src) (b + i) [])) (get_or-part n [] xs a k i lt);
     }
 
--- f of what a mask and a source have at two places and of what stands there, where all four tests
--- hold, is a fold over at most one of both
-both_or_none : {X : Type 0} (get get_mask : ℕ → ℕ → X) (f : X → X → X → X) (old : X) (a b m n a' b' m' n' : ℕ) (c r c' r' : Bool)
-    → ((c && c') ≡ true → a ≡ m) → ((r && r') ≡ true → b ≡ n) → ((c && c') ≡ true → a' ≡ m') → ((r && r') ≡ true → b' ≡ n')
-    → (if (c && c') && (r && r') then f (get_mask a' b') (get a b) old else old)
-    ≡ fold (λ p t. f t.0 t.1 p) old (zip (if c' && r' then get_mask m' n' ∷ [] else []) (if c && r then get m n ∷ [] else []))
-both_or_none get get_mask f old a b m n a' b' m' n' true true true true hc hr hc' hr' = rw (hc refl, hr refl, hc' refl, hr' refl) refl
-both_or_none get get_mask f old a b m n a' b' m' n' true true true false hc hr hc' hr' = refl
-both_or_none get get_mask f old a b m n a' b' m' n' true r false r' hc hr hc' hr' = refl
-both_or_none get get_mask f old a b m n a' b' m' n' true false true true hc hr hc' hr' = refl
-both_or_none get get_mask f old a b m n a' b' m' n' true false true false hc hr hc' hr' = refl
-both_or_none get get_mask f old a b m n a' b' m' n' false r false r' hc hr hc' hr' = refl
-both_or_none get get_mask f old a b m n a' b' m' n' false r true true hc hr hc' hr' = refl
-both_or_none get get_mask f old a b m n a' b' m' n' false r true false hc hr hc' hr' = refl
+-- f of what a mask and a source have at two places and of what stands there, where both are, is a
+-- fold over at most one of both
+both_or_none : {X : Type 0} (get get_mask : ℕ → ℕ → X) (f : X → X → X → X) (old : X) (a b m n a' b' m' n' : ℕ) (c r s t : Bool)
+    → (c && r) ≡ (s && t) → (c ≡ true → a ≡ m) → (r ≡ true → b ≡ n) → (c ≡ true → a' ≡ m') → (r ≡ true → b' ≡ n')
+    → (if c && r then f (get_mask a' b') (get a b) old else old)
+    ≡ fold (λ p t. f t.0 t.1 p) old (zip (if t then get_mask m' n' ∷ [] else []) (if s then get m n ∷ [] else []))
+both_or_none get get_mask f old a b m n a' b' m' n' true true true true h hc hr hc' hr' = rw (hc refl, hr refl, hc' refl, hr' refl) refl
+both_or_none get get_mask f old a b m n a' b' m' n' true true true false h hc hr hc' hr' = absurd (let e : true ≡ false = h in cc)
+both_or_none get get_mask f old a b m n a' b' m' n' true true false t h hc hr hc' hr' = absurd (let e : true ≡ false = h in cc)
+both_or_none get get_mask f old a b m n a' b' m' n' true false true true h hc hr hc' hr' = absurd (let e : false ≡ true = h in cc)
+both_or_none get get_mask f old a b m n a' b' m' n' true false true false h hc hr hc' hr' = refl
+both_or_none get get_mask f old a b m n a' b' m' n' true false false true h hc hr hc' hr' = refl
+both_or_none get get_mask f old a b m n a' b' m' n' true false false false h hc hr hc' hr' = refl
+both_or_none get get_mask f old a b m n a' b' m' n' false r true true h hc hr hc' hr' = absurd (let e : false ≡ true = h in cc)
+both_or_none get get_mask f old a b m n a' b' m' n' false r true false h hc hr hc' hr' = refl
+both_or_none get get_mask f old a b m n a' b' m' n' false r false true h hc hr hc' hr' = refl
+both_or_none get get_mask f old a b m n a' b' m' n' false r false false h hc hr hc' hr' = refl
 
--- both of two tests
+-- one of two tests
 first : (a b : Bool) → (a && b) ≡ true → a ≡ true
 first true b h = refl
 first false b h = h
@@ -68,12 +71,6 @@ second : (a b : Bool) → (a && b) ≡ true → b ≡ true
 second true b h = h
 second false true h = refl
 second false false h = h
-
-swapped : (a b : Bool) → (a && b) ≡ true → (b && a) ≡ true
-swapped true true h = refl
-swapped true false h = h
-swapped false true h = h
-swapped false false h = h
 
 -- a coordinate from 0 to a side
 natural_below : (z : ℤ) (side : ℕ) → (not (int_lt z (pos 0)) && int_lt z (int_min (pos 0 +ℤ pos side) (pos 2147483647))) ≡ true → natural z < side
@@ -93,69 +90,30 @@ paired_below to dest from width height i j e =
     second (covers from a b) _ (second (leads_into to dest i j) _ (second (has_offset to i j && has_offset from i j) _ e)) in
     (natural_below a width (first (has_column source a) _ there), natural_below b height (second (has_column source a) _ there))
 
--- two overlaps of one region of a picture with regions of two sources, and the parts of both that
--- lie in both
-module _ (window : Window) (to from mask_from : Rectangle) (src_shape mask_shape : Shape) (o k p q : Overlap)
-    (paired : IsOverlap window to from src_shape o) (covered : IsOverlap window to mask_from mask_shape k)
-    (columns : IsWithin o.columns k.columns.dst p.columns) (rows : IsWithin o.rows k.rows.dst p.rows)
-    (mask_columns : IsWithin k.columns o.columns.dst q.columns) (mask_rows : IsWithin k.rows o.rows.dst q.rows) where
-  -- both parts have the same columns and the same rows
-  pub same_columns : (q.columns.dst.start ≡ p.columns.dst.start) × (q.columns.dst.end ≡ p.columns.dst.end)
-  same_columns = (omega (arith, columns.start, mask_columns.start), omega (arith, columns.end, mask_columns.end))
-
-  pub same_rows : (q.rows.dst.start ≡ p.rows.dst.start) × (q.rows.dst.end ≡ p.rows.dst.end)
-  same_rows = (omega (arith, rows.start, mask_rows.start), omega (arith, rows.end, mask_rows.end))
-
-  pub in_window_width : p.columns.dst.end ≤ window.shape.width
-  in_window_width = omega (arith, columns.end, paired.ordered, covered.ordered, paired.in_width, covered.in_width)
-
-  pub in_window_height : p.rows.dst.end ≤ window.shape.height
-  in_window_height = omega (arith, rows.end, paired.from_top, covered.from_top, paired.in_height, covered.in_height)
-
-  -- where both tests hold, the column of the mask is the one that is paired
-  mask_column : (x : ℕ) → (lies_in o.columns.dst x && lies_in k.columns.dst x) ≡ true
-      → q.columns.src_start + (x - p.columns.dst.start) ≡ natural (mask_from.left +ℤ (pos (window.left + x) -ℤ to.left))
-  mask_column x h =
-      let there : lies_in k.columns.dst x ≡ true = second (lies_in o.columns.dst x) (lies_in k.columns.dst x) h in
-      let here : lies_in q.columns.dst x ≡ true = mask_columns.points x ∙ swapped (lies_in o.columns.dst x) (lies_in k.columns.dst x) h in
-      ap (λ n. q.columns.src_start + (x - n)) (sym same_columns.0) ∙ mask_columns.sources x here ∙ covered.src_columns x there
-
-  mask_row : (y : ℕ) → (lies_in o.rows.dst y && lies_in k.rows.dst y) ≡ true
-      → q.rows.src_start + (y - p.rows.dst.start) ≡ natural (mask_from.top +ℤ (pos (window.top + y) -ℤ to.top))
-  mask_row y h =
-      let there : lies_in k.rows.dst y ≡ true = second (lies_in o.rows.dst y) (lies_in k.rows.dst y) h in
-      let here : lies_in q.rows.dst y ≡ true = mask_rows.points y ∙ swapped (lies_in o.rows.dst y) (lies_in k.rows.dst y) h in
-      ap (λ n. q.rows.src_start + (y - n)) (sym same_rows.0) ∙ mask_rows.sources y here ∙ covered.src_rows y there
-
-  -- what is changed in both parts, pixel by pixel, is changed where points are paired with both
-  pub changed_in_masked : {D S M : Type 0} (reads : D → List ℕ) (old new : List D) (source_reads : S → List ℕ) (src : List S) (mask_reads : M → List ℕ) (mask : List M)
-      (f : List ℕ → List ℕ → List ℕ → List ℕ) → window.shape.width ≤ window.shape.stride → 0 < window.shape.width
-      → ((x y : ℕ) → x < window.shape.stride → read_at reads window.shape.stride new x y
-      ≡ where_in p.columns.dst p.rows.dst
-      (λ a b. f (read_at mask_reads mask_shape.stride mask (q.columns.src_start + (a - p.columns.dst.start)) (q.rows.src_start + (b - p.rows.dst.start)))
-      (read_at source_reads src_shape.stride src (p.columns.src_start + (a - p.columns.dst.start)) (p.rows.src_start + (b - p.rows.dst.start))))
-      x y (read_at reads window.shape.stride old x y))
-      → ChangedIn reads window.shape old new (in_window window (where_masked to (picture window) from (whole src_shape.width src_shape.height)
-      mask_from (whole mask_shape.width mask_shape.height) (read_at source_reads src_shape.stride src) (read_at mask_reads mask_shape.stride mask) f))
-  changed_in_masked reads old new source_reads src mask_reads mask f apart some changed =
-      let get = read_at source_reads src_shape.stride src in
-      let get_mask = read_at mask_reads mask_shape.stride mask in
-      changed_in_box reads window.shape old new p.columns.dst p.rows.dst
-      (λ a b. f (get_mask (q.columns.src_start + (a - p.columns.dst.start)) (q.rows.src_start + (b - p.rows.dst.start))) (get (p.columns.src_start + (a - p.columns.dst.start)) (p.rows.src_start + (b - p.rows.dst.start))))
-      _ in_window_width in_window_height apart some changed
-      (λ x y pixel _ _.
-      let made : List ℕ = f (get_mask (q.columns.src_start + (x - p.columns.dst.start)) (q.rows.src_start + (y - p.rows.dst.start))) (get (p.columns.src_start + (x - p.columns.dst.start)) (p.rows.src_start + (y - p.rows.dst.start))) pixel in
-      let left : ℤ = pos (window.left + x) -ℤ to.left in
-      let top : ℤ = pos (window.top + y) -ℤ to.top in
-      ap (λ (b : Bool). cond (b && lies_in p.rows.dst y) made pixel) (columns.points x)
-      ∙ ap (λ (b : Bool). cond ((lies_in o.columns.dst x && lies_in k.columns.dst x) && b) made pixel) (rows.points y)
-      ∙ both_or_none get get_mask f pixel (p.columns.src_start + (x - p.columns.dst.start)) (p.rows.src_start + (y - p.rows.dst.start)) (natural (from.left +ℤ left)) (natural (from.top +ℤ top))
-      (q.columns.src_start + (x - p.columns.dst.start)) (q.rows.src_start + (y - p.rows.dst.start)) (natural (mask_from.left +ℤ left)) (natural (mask_from.top +ℤ top))
-      (lies_in o.columns.dst x) (lies_in o.rows.dst y) (lies_in k.columns.dst x) (lies_in k.rows.dst y)
-      (λ h. columns.sources x (columns.points x ∙ h) ∙ paired.src_columns x (first (lies_in o.columns.dst x) (lies_in k.columns.dst x) h))
-      (λ h. rows.sources y (rows.points y ∙ h) ∙ paired.src_rows y (first (lies_in o.rows.dst y) (lies_in k.rows.dst y) h))
-      (mask_column x) (mask_row y)
-      ∙ ap (λ (b : Bool). fold (λ q t. f t.0 t.1 q) pixel (zip (cond b (get_mask (natural (mask_from.left +ℤ left)) (natural (mask_from.top +ℤ top)) ∷ []) [])
-      (cond (in_box o.columns.dst o.rows.dst x y) (get (natural (from.left +ℤ left)) (natural (from.top +ℤ top)) ∷ []) []))) (covered.points x y)
-      ∙ ap (λ (b : Bool). fold (λ q t. f t.0 t.1 q) pixel (zip (cond (is_paired to (picture window) mask_from (whole mask_shape.width mask_shape.height) left top) (get_mask (natural (mask_from.left +ℤ left)) (natural (mask_from.top +ℤ top)) ∷ []) [])
-      (cond b (get (natural (from.left +ℤ left)) (natural (from.top +ℤ top)) ∷ []) []))) (paired.points x y))
+-- what is changed in the overlap of a region of a picture with regions of a source and a mask,
+-- pixel by pixel, is changed where points are paired with both
+pub changed_in_masked : {D S M : Type 0} (window : Window) (to from mask_from : Rectangle) (src_shape mask_shape : Shape) (o : Overlap) (starts : ℕ × ℕ)
+    → IsMaskedOverlap window to from src_shape mask_from mask_shape o starts
+    → (reads : D → List ℕ) (old new : List D) (source_reads : S → List ℕ) (src : List S) (mask_reads : M → List ℕ) (mask : List M)
+    (f : List ℕ → List ℕ → List ℕ → List ℕ) → window.shape.width ≤ window.shape.stride → 0 < window.shape.width
+    → ((x y : ℕ) → x < window.shape.stride → read_at reads window.shape.stride new x y
+    ≡ where_in o.columns.dst o.rows.dst
+    (λ a b. f (read_at mask_reads mask_shape.stride mask (starts.0 + (a - o.columns.dst.start)) (starts.1 + (b - o.rows.dst.start)))
+    (read_at source_reads src_shape.stride src (o.columns.src_start + (a - o.columns.dst.start)) (o.rows.src_start + (b - o.rows.dst.start))))
+    x y (read_at reads window.shape.stride old x y))
+    → ChangedIn reads window.shape old new (in_window window (where_masked to (picture window) from (whole src_shape.width src_shape.height)
+    mask_from (whole mask_shape.width mask_shape.height) (read_at source_reads src_shape.stride src) (read_at mask_reads mask_shape.stride mask) f))
+changed_in_masked window to from mask_from src_shape mask_shape o starts paired reads old new source_reads src mask_reads mask f apart some changed =
+    let get = read_at source_reads src_shape.stride src in
+    let get_mask = read_at mask_reads mask_shape.stride mask in
+    changed_in_box reads window.shape old new o.columns.dst o.rows.dst
+    (λ a b. f (get_mask (starts.0 + (a - o.columns.dst.start)) (starts.1 + (b - o.rows.dst.start))) (get (o.columns.src_start + (a - o.columns.dst.start)) (o.rows.src_start + (b - o.rows.dst.start))))
+    _ paired.in_width paired.in_height apart some changed
+    (λ x y pixel _ _.
+    let left : ℤ = pos (window.left + x) -ℤ to.left in
+    let top : ℤ = pos (window.top + y) -ℤ to.top in
+    both_or_none get get_mask f pixel (o.columns.src_start + (x - o.columns.dst.start)) (o.rows.src_start + (y - o.rows.dst.start)) (natural (from.left +ℤ left)) (natural (from.top +ℤ top))
+    (starts.0 + (x - o.columns.dst.start)) (starts.1 + (y - o.rows.dst.start)) (natural (mask_from.left +ℤ left)) (natural (mask_from.top +ℤ top))
+    (lies_in o.columns.dst x) (lies_in o.rows.dst y)
+    (is_paired to (picture window) from (whole src_shape.width src_shape.height) left top) (is_paired to (picture window) mask_from (whole mask_shape.width mask_shape.height) left top)
+    (paired.points x y) (paired.src_columns x) (paired.src_rows y) (paired.mask_columns x) (paired.mask_rows y))

@@ -23,11 +23,11 @@ Decides-nat_le : (a b : ℕ) → Decides (nat_le a b) (a ≤ b)
 Decides-nat_le a b = (λ e. grind (arith, nat_tests), λ h. grind (arith, nat_tests))
 
 -- the test whether a number lies in a range
-Decides-in : (s : Range ℕ) (x : ℕ) → Decides (lies_in s x) ((s.start ≤ x) × (x < s.end))
+pub Decides-in : (s : Range ℕ) (x : ℕ) → Decides (lies_in s x) ((s.start ≤ x) × (x < s.end))
 Decides-in s x = Decides-and _ _ (Decides-nat_le s.start x) (Decides-ltb x s.end)
 
 -- the number is at least 0 and below n
-abbrev Below : ℕ → ℤ → Type 0
+abbrev pub Below : ℕ → ℤ → Type 0
 Below n i = (pos 0 ≤ℤ i) × (i <ℤ pos n)
 
 -- the test whether it is
@@ -35,15 +35,15 @@ Decides-below : (n : ℕ) (i : ℤ) → Decides (is_below n i) (Below n i)
 Decides-below n i = Decides-and _ _ (Decides-not_int_lt i (pos 0)) (Decides-int_lt i (pos n))
 
 -- the offset is below the length, and leads to a coordinate of the raster
-abbrev IsOffset : (start : ℤ) (len limit : ℕ) → ℤ → Type 0
+abbrev pub IsOffset : (start : ℤ) (len limit : ℕ) → ℤ → Type 0
 IsOffset start len limit i = Below len i × Below limit (start +ℤ i)
 
 -- the test whether it does
-Decides-offset : (start : ℤ) (len limit : ℕ) (i : ℤ) → Decides (is_offset start len limit i) (IsOffset start len limit i)
+pub Decides-offset : (start : ℤ) (len limit : ℕ) (i : ℤ) → Decides (is_offset start len limit i) (IsOffset start len limit i)
 Decides-offset start len limit i = Decides-and _ _ (Decides-below len i) (Decides-below limit (start +ℤ i))
 
 -- a whole number that is not negative
-natural_is : (z : ℤ) → pos 0 ≤ℤ z → z ≡ pos (natural z)
+pub natural_is : (z : ℤ) → pos 0 ≤ℤ z → z ≡ pos (natural z)
 natural_is (pos n) h = refl
 natural_is (negsuc n) h = absurd (omega (arith, ints))
 

@@ -1,14 +1,13 @@
 -- Columns, rows and overlaps in rasters, as the code finds and walks them. No clause of a public
 -- call cites this file.
 use Rattle.std.proofs.Common.{zero, suc}
-use Rattle.std.specs.Prelude.{◌≡◌, ℕ, ◌+◌, ◌-◌, ◌*◌, ◌≤◌, min, max, true, pos, ℤ, ◌+ℤ◌, ◌-ℤ◌, Bool, ◌&&◌, not, int_lt, if◌then◌else◌, List, [], ◌∷◌, drop, slice_range}
+use Rattle.std.specs.Prelude.{◌≡◌, ℕ, ◌+◌, ◌-◌, ◌*◌, ◌≤◌, true, pos, ℤ, ◌+ℤ◌, ◌-ℤ◌, Bool, ◌&&◌, not, int_lt, if◌then◌else◌, List, [], ◌∷◌, drop, slice_range}
 use Rattle.std.specs.Int.{int_min}
 use Rattle.std.specs.declared.ops.Range.{Range}
 use Rattle.pix_el.specs.Pixel.{lies_in}
 use Rattle.pix_raster.specs.Region.{Rectangle, limit, has_row, whole}
 use Rattle.pix_raster.specs.Reach.{is_below, is_paired, natural}
 use Rattle.pix_raster.specs.View.{picture}
-use Rattle.pix_raster.specs.declared.clip.AxisOverlap.{AxisOverlap}
 use Rattle.pix_raster.specs.declared.clip.Overlap.{Overlap}
 use Rattle.pix_raster.specs.declared.view.Shape.{Shape}
 use Rattle.pix_raster.specs.declared.view.Window.{Window}
@@ -44,15 +43,6 @@ row_start width r y = if has_row r y then natural y * width + natural r.left els
 abbrev pub row_end : ℕ → Rectangle → ℤ → ℕ
 row_end width r y = if has_row r y then natural y * width + (natural r.left + r.width) else 0
 
--- the columns, or rows, of an overlap that lie in a range too: they begin and end where both do,
--- and each keeps its column, or row, of the source
-pub record IsWithin (overlap : AxisOverlap) (range : Range ℕ) (part : AxisOverlap) : Type 0 where
-  pub start : part.dst.start ≡ max overlap.dst.start range.start
-  pub end : part.dst.end ≡ max (min overlap.dst.end range.end) (max overlap.dst.start range.start)
-  pub in_src : part.src_start + (part.dst.end - part.dst.start) ≤ overlap.src_start + (overlap.dst.end - overlap.dst.start)
-  pub points : (x : ℕ) → lies_in part.dst x ≡ (lies_in overlap.dst x && lies_in range x)
-  pub sources : (x : ℕ) → lies_in part.dst x ≡ true → part.src_start + (x - part.dst.start) ≡ overlap.src_start + (x - overlap.dst.start)
-
 -- the overlap has just the points of a window that are paired with a point of a source, each with
 -- that point
 pub record IsOverlap (window : Window) (to from : Rectangle) (src : Shape) (overlap : Overlap) : Type 0 where
@@ -68,3 +58,26 @@ pub record IsOverlap (window : Window) (to from : Rectangle) (src : Shape) (over
       → overlap.columns.src_start + (x - overlap.columns.dst.start) ≡ natural (from.left +ℤ (pos (window.left + x) -ℤ to.left))
   pub src_rows : (y : ℕ) → lies_in overlap.rows.dst y ≡ true
       → overlap.rows.src_start + (y - overlap.rows.dst.start) ≡ natural (from.top +ℤ (pos (window.top + y) -ℤ to.top))
+
+-- the overlap has just the points of a window that are paired with a point of a source and with one
+-- of a mask, each with both; the column and row of the mask for the first are the two numbers
+pub record IsMaskedOverlap (window : Window) (to from : Rectangle) (src : Shape) (mask_from : Rectangle) (mask : Shape) (overlap : Overlap) (mask_starts : ℕ × ℕ) : Type 0 where
+  pub ordered : overlap.columns.dst.start ≤ overlap.columns.dst.end
+  pub from_top : overlap.rows.dst.start ≤ overlap.rows.dst.end
+  pub in_width : overlap.columns.dst.end ≤ window.shape.width
+  pub in_height : overlap.rows.dst.end ≤ window.shape.height
+  pub in_src_width : overlap.columns.src_start + (overlap.columns.dst.end - overlap.columns.dst.start) ≤ src.width
+  pub in_src_height : overlap.rows.src_start + (overlap.rows.dst.end - overlap.rows.dst.start) ≤ src.height
+  pub in_mask_width : mask_starts.0 + (overlap.columns.dst.end - overlap.columns.dst.start) ≤ mask.width
+  pub in_mask_height : mask_starts.1 + (overlap.rows.dst.end - overlap.rows.dst.start) ≤ mask.height
+  pub points : (x y : ℕ) → in_box overlap.columns.dst overlap.rows.dst x y
+      ≡ (is_paired to (picture window) from (whole src.width src.height) (pos (window.left + x) -ℤ to.left) (pos (window.top + y) -ℤ to.top)
+      && is_paired to (picture window) mask_from (whole mask.width mask.height) (pos (window.left + x) -ℤ to.left) (pos (window.top + y) -ℤ to.top))
+  pub src_columns : (x : ℕ) → lies_in overlap.columns.dst x ≡ true
+      → overlap.columns.src_start + (x - overlap.columns.dst.start) ≡ natural (from.left +ℤ (pos (window.left + x) -ℤ to.left))
+  pub src_rows : (y : ℕ) → lies_in overlap.rows.dst y ≡ true
+      → overlap.rows.src_start + (y - overlap.rows.dst.start) ≡ natural (from.top +ℤ (pos (window.top + y) -ℤ to.top))
+  pub mask_columns : (x : ℕ) → lies_in overlap.columns.dst x ≡ true
+      → mask_starts.0 + (x - overlap.columns.dst.start) ≡ natural (mask_from.left +ℤ (pos (window.left + x) -ℤ to.left))
+  pub mask_rows : (y : ℕ) → lies_in overlap.rows.dst y ≡ true
+      → mask_starts.1 + (y - overlap.rows.dst.start) ≡ natural (mask_from.top +ℤ (pos (window.top + y) -ℤ to.top))

@@ -5,7 +5,9 @@ ghost use Rattle.std.specs.Prelude.{◌≡◌, ℕ, pos, ◌+ℤ◌, ◌-ℤ◌,
 ghost use Rattle.pix_el.specs.Pixel.{lies_in};
 ghost use Rattle.pix_raster.specs.Region.{limit, right, bottom, has_column, has_row, covers, intersection_of, whole};
 ghost use Rattle.pix_raster.specs.Reach.{natural, is_paired};
-ghost use Rattle.pix_raster.specs.Clip.{in_box, is_between, is_offset, row_start, row_end, IsWithin};
+ghost use Rattle.pix_raster.specs.Clip.{in_box, is_between, is_offset, row_start, row_end};
+
+pub(crate) mod masked;
 
 use crate::region::Region;
 use crate::view::Window;
@@ -170,46 +172,6 @@ pub(crate) fn row_places(reg: Region, width: u32, height: u32, y: i32) -> Range<
     }
     let start = row * width as usize;
     start + clipped.columns.start..start + clipped.columns.end
-}
-
-impl Overlap {
-    /// Returns the points that two overlaps share. Both are of the same region of one destination.
-    /// Each point keeps its point of the source.
-    pub(crate) fn within(&self, other: &Overlap) -> Overlap
-        requires ordered { self.now.columns.dst.start ≤ self.now.columns.dst.end }
-        requires from_top { self.now.rows.dst.start ≤ self.now.rows.dst.end }
-        requires across { self.now.columns.src_start
-            + (self.now.columns.dst.end - self.now.columns.dst.start) ≤ limit }
-        requires down { self.now.rows.src_start
-            + (self.now.rows.dst.end - self.now.rows.dst.start) ≤ limit }
-        ensures columns { IsWithin self.now.columns other.now.columns.dst result.columns }
-        ensures rows { IsWithin self.now.rows other.now.rows.dst result.rows }
-    {
-        let (columns, rows) = (&other.columns.dst, &other.rows.dst);
-        Overlap {
-            columns: self.columns.within(columns.start, columns.end),
-            rows: self.rows.within(rows.start, rows.end),
-        }
-    }
-}
-
-impl AxisOverlap {
-    /// Returns the overlap of the destination's columns, or rows, that lie between two others.
-    fn within(&self, start: usize, end: usize) -> AxisOverlap
-        requires ordered { self.now.dst.start ≤ self.now.dst.end }
-        requires short { self.now.src_start
-            + (self.now.dst.end - self.now.dst.start) ≤ limit }
-        ensures { IsWithin self.now (record { start = start; end = end }) result }
-    {
-        let from = self.dst.start.max(start);
-        let to = self.dst.end.min(end).max(from);
-        let count = self.dst.end - self.dst.start;
-        let cut = (from - self.dst.start).min(count);
-        AxisOverlap {
-            src_start: self.src_start + cut,
-            dst: from..to,
-        }
-    }
 }
 
 /// Returns the overlap along one axis: the columns, or rows, at the offsets that lie in both. The

@@ -5,7 +5,7 @@ ghost use Rattle.pix_raster.specs.Region.{limit, whole};
 ghost use Rattle.pix_raster.specs.View.{read_at, IsShaped, IsWindow, ChangedIn, where_covered, where_paired, picture, in_window};
 ghost use Rattle.pix_raster.specs.Clip.{where_in};
 
-use crate::clip::ClippedRect;
+use crate::clip::{ClippedRect, Overlap};
 use crate::region::Region;
 use masked::overlap_in;
 
@@ -186,16 +186,52 @@ pub fn blit_window<D, S, B: Blit<D, S>>(
 {
     if window.shape.width > 0 {
         let overlap = overlap_in(window, to, from, src_shape);
-        let count = overlap.columns.dst.end - overlap.columns.dst.start;
-        for y in overlap.rows.dst.start..overlap.rows.dst.end {
-            let start = y * window.shape.stride + overlap.columns.dst.start;
-            let src_y = overlap.rows.src_start + (y - overlap.rows.dst.start);
-            let src_start = src_y * src_shape.stride + overlap.columns.src_start;
-            change.blit(
-                &mut pixels[start..start + count],
-                &src[src_start..src_start + count],
-            );
-        }
+        blit_overlap(pixels, window.shape.stride, src, src_shape.stride, overlap, change);
+    }
+}
+
+/// Changes the pixels of an overlap, in rows that lie `stride` pixels apart, each by its pixel of a
+/// source, in rows that lie `src_stride` pixels apart.
+// Among the loops of other changes a row takes twice as many instructions. What a loop of its own
+// takes are numbers: a region is copied by one load of what was written in parts, and a processor
+// waits for that.
+#[inline(never)]
+fn blit_overlap<D, S, B: Blit<D, S>>(
+    pixels: &mut [D],
+    stride: usize,
+    src: &[S],
+    src_stride: usize,
+    overlap: Overlap,
+    change: &B,
+)
+    requires can_blit { B.can_blit }
+    requires ordered { overlap.columns.dst.start ≤ overlap.columns.dst.end }
+    requires from_top { overlap.rows.dst.start ≤ overlap.rows.dst.end }
+    requires across { overlap.columns.dst.end ≤ stride }
+    requires down { (y : ℕ) → y < overlap.rows.dst.end →
+        y * stride + overlap.columns.dst.end ≤ length pixels.old }
+    requires src_rows { overlap.rows.src_start
+        + (overlap.rows.dst.end - overlap.rows.dst.start) ≤ limit }
+    requires src_down { (y : ℕ) → y < overlap.rows.src_start
+        + (overlap.rows.dst.end - overlap.rows.dst.start) →
+        y * src_stride + (overlap.columns.src_start
+        + (overlap.columns.dst.end - overlap.columns.dst.start)) ≤ length src.now }
+    ensures { (x y : ℕ) → x < stride → read_at B.reads stride pixels.new x y ≡
+        where_in overlap.columns.dst overlap.rows.dst
+        (λ a b. B.makes change.now (read_at B.source_reads src_stride src.now
+        (overlap.columns.src_start + (a - overlap.columns.dst.start))
+        (overlap.rows.src_start + (b - overlap.rows.dst.start))))
+        x y (read_at B.reads stride pixels.old x y) }
+{
+    let count = overlap.columns.dst.end - overlap.columns.dst.start;
+    for y in overlap.rows.dst.start..overlap.rows.dst.end {
+        let start = y * stride + overlap.columns.dst.start;
+        let src_y = overlap.rows.src_start + (y - overlap.rows.dst.start);
+        let src_start = src_y * src_stride + overlap.columns.src_start;
+        change.blit(
+            &mut pixels[start..start + count],
+            &src[src_start..src_start + count],
+        );
     }
 }
 
@@ -205,6 +241,7 @@ pub fn blit_window<D, S, B: Blit<D, S>>(
 ///
 /// Condition: `window` and its shape are as the docs of their fields say, its rows lie in `pixels`,
 /// and `work` can be painted.
+#[inline(always)]
 pub fn paint_by_bands<D, W: Painting<D>>(pixels: &mut [D], window: Window, work: &W)
     requires can_paint { W.can_paint work.now }
     requires fits { IsWindow window (length pixels.old) }
@@ -217,6 +254,10 @@ pub fn paint_by_bands<D, W: Painting<D>>(pixels: &mut [D], window: Window, work:
         stride,
     } = window.shape;
     let rows = band_rows(window, work);
+    if rows >= height {
+        work.paint(pixels, window);
+        return;
+    }
     let mut first = 0;
     while first < height {
         let height = rows.min(height - first);

@@ -4,10 +4,11 @@ ghost use Rattle.std.specs.List.{zip};
 ghost use Rattle.pix_chan.specs.Runs.{over};
 ghost use Rattle.pix_raster.specs.Region.{limit, whole};
 ghost use Rattle.pix_raster.specs.View.{read_at, IsShaped, IsWindow, ChangedIn, where_masked, picture, in_window};
-ghost use Rattle.pix_raster.specs.Clip.{where_in, IsOverlap};
+ghost use Rattle.pix_raster.specs.Clip.{where_in, IsOverlap, IsMaskedOverlap};
 ghost use Rattle.pix_raster.specs.Draw.{image_in, IsSource};
 
 use super::{MaskedBlit, Shape, Window};
+use crate::clip::masked::{AxisRegion, masked_overlap};
 use crate::clip::{Overlap, axis_overlap};
 use crate::region::Region;
 
@@ -68,11 +69,9 @@ pub fn blit_masked<D, S, M, B: MaskedBlit<D, S, M>>(
         (B.makes change.now))) }
 {
     if window.shape.width > 0 {
-        let overlap = overlap_in(window, to, src.from, src.shape);
-        let masked = overlap_in(window, to, mask.from, mask.shape);
-        let both = overlap.within(&masked);
-        let masked = masked.within(&overlap);
-        let starts = (masked.columns.src_start, masked.rows.src_start);
+        let (both, starts) = masked_overlap_in(
+            window, to, src.from, src.shape, mask.from, mask.shape,
+        );
         blit_rows(pixels, window.shape.stride, src, mask, both, starts, change);
     }
 }
@@ -107,6 +106,73 @@ pub(super) fn overlap_in(window: Window, to: Region, from: Region, src: Shape) -
             from.height(),
             src.height,
         ),
+    }
+}
+
+/// Returns the overlap of the region `to` of a picture with regions of a source and of a mask, as
+/// seen from a window. Beside it are the column and the row of the mask for its first pixel.
+#[inline(always)]
+fn masked_overlap_in(
+    window: Window,
+    to: Region,
+    from: Region,
+    src: Shape,
+    mask_from: Region,
+    mask: Shape,
+) -> (Overlap, (usize, usize))
+    requires across { window.left + window.shape.width ≤ limit }
+    requires down { window.top + window.shape.height ≤ limit }
+    requires src_wide { src.width ≤ limit }
+    requires src_high { src.height ≤ limit }
+    requires mask_wide { mask.width ≤ limit }
+    requires mask_high { mask.height ≤ limit }
+    ensures { IsMaskedOverlap window to from src mask_from mask result.0 result.1 }
+{
+    let Window { left, top, shape } = window;
+    let (columns, mask_column) = masked_overlap(
+        to.left(),
+        to.width(),
+        left,
+        shape.width,
+        across(from, src),
+        across(mask_from, mask),
+    );
+    let (rows, mask_row) = masked_overlap(
+        to.top(),
+        to.height(),
+        top,
+        shape.height,
+        down(from, src),
+        down(mask_from, mask),
+    );
+    (Overlap { columns, rows }, (mask_column, mask_row))
+}
+
+/// Returns the columns of a region of an image of that shape.
+#[inline(always)]
+fn across(reg: Region, shape: Shape) -> AxisRegion
+    ensures start { result.start ≡ reg.left }
+    ensures len { result.len ≡ reg.width }
+    ensures count { result.count ≡ shape.width }
+{
+    AxisRegion {
+        start: reg.left(),
+        len: reg.width(),
+        count: shape.width,
+    }
+}
+
+/// Returns the rows of a region of an image of that shape.
+#[inline(always)]
+fn down(reg: Region, shape: Shape) -> AxisRegion
+    ensures start { result.start ≡ reg.top }
+    ensures len { result.len ≡ reg.height }
+    ensures count { result.count ≡ shape.height }
+{
+    AxisRegion {
+        start: reg.top(),
+        len: reg.height(),
+        count: shape.height,
     }
 }
 

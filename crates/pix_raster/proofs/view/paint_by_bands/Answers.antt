@@ -4,8 +4,8 @@ use Rattle.std.proofs.Common.{◌≡◌, ◌+◌, ◌*◌, ◌≤◌, length, ar
 use Rattle.pix_raster.proofs.Bands.{band_fits, band_more}
 use Rattle.pix_raster.proofs.view.paint_by_bands.Goals as goal
 
-pub paint-requires-clause-fits : goal.paint-requires-clause-fits
-paint-requires-clause-fits g c =
+pub paint-requires-in-loop-first-clause-fits : goal.paint-requires-in-loop-first-clause-fits
+paint-requires-in-loop-first-clause-fits g c =
     let window = c.args.window in
     let first = c.loop-first.first in
     let height = c.min-height.result in
@@ -21,8 +21,8 @@ loop-first-preserved g c =
     let begins : first * window.shape.stride + window.shape.width ≤ length c.args.pixels.now = c.requires.fits.shaped.last first (omega arith) in
     record {
       within = omega (arith, c.min-height.ensures);
-      done = band_more g.W.Painting.reads window (g.W.Painting.makes c.args.work.now) first height (first * window.shape.stride) _ c.args.pixels.now c.loop-first.pixels c.paint.new.pixels
-          c.requires.fits.shaped.apart refl (omega arith) c.loop-first.invariant.done c.paint.ensures;
+      done = band_more g.W.Painting.reads window (g.W.Painting.makes c.args.work.now) first height (first * window.shape.stride) _ c.args.pixels.now c.loop-first.pixels c.paint-in-loop-first.new.pixels
+          c.requires.fits.shaped.apart refl (omega arith) c.loop-first.invariant.done c.paint-in-loop-first.ensures;
     }
 
 pub returns : goal.returns

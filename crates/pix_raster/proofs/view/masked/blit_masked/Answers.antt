@@ -5,7 +5,6 @@ use Rattle.pix_raster.proofs.view.masked.blit_masked.Goals as goal
 pub returns-then-window-gt0 : goal.returns-then-window-gt0
 returns-then-window-gt0 g c =
     let a = c.args in
-    changed_in_masked a.window a.to a.src.now.from a.mask.now.from a.src.now.shape a.mask.now.shape c.overlap_in-overlap.result c.overlap_in-masked.result c.within-both.result c.within-masked.result
-    c.overlap_in-overlap.ensures c.overlap_in-masked.ensures c.within-both.ensures.columns c.within-both.ensures.rows c.within-masked.ensures.columns c.within-masked.ensures.rows
+    changed_in_masked a.window a.to a.src.now.from a.mask.now.from a.src.now.shape a.mask.now.shape c.masked_overlap_in.result.0 c.masked_overlap_in.result.1 c.masked_overlap_in.ensures
     g.B.MaskedBlit.reads a.pixels.now c.blit_rows.new.pixels g.B.MaskedBlit.source_reads a.src.now.pixels.now g.B.MaskedBlit.mask_reads a.mask.now.pixels.now (g.B.MaskedBlit.makes a.change.now)
     c.requires.fits.shaped.apart (search rules) c.blit_rows.ensures
