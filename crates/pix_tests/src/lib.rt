@@ -1,5 +1,5 @@
 //! Tests that cross the library's crates: whole ranges, lists beside their exact runs, rasters of
-//! many sizes, scripts that are read from one device and painted on another, and the values that the
+//! many sizes, scripts that are read from one device and painted on another, and the values that
 //! examples of the docs say.
 #![tactic(auto)]
 
