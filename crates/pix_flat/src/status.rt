@@ -71,6 +71,9 @@ fn has_source<D, M>(command: &FlatCommand<'_, D, M>) -> bool
 }
 
 /// Returns why a command is refused, or 0.
+// A call would be passed a copy of the command, by loads of what the caller has just written in
+// parts.
+#[inline(always)]
 fn fault_of<D, M>(command: &FlatCommand<'_, D, M>) -> u32
     ensures { result ≡ fault_of command.now }
 {
