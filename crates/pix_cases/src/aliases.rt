@@ -79,26 +79,38 @@ type Others = (
     (Matte8, Matte16),
 );
 
-/// The formats of all models by their parts.
-type Parts = (
-    (
-        Formats<3, 4, Rgb>,
-        Formats<3, 4, Bgr>,
-        Formats<3, 4, Cmy>,
-        Formats<1, 2, Gray>,
-    ),
-    (Formats<3, 4, Hsv>, Formats<3, 4, Hsl>, Formats<3, 4, Hwb>),
-    (
-        LinearFormats<3, 4, Xyz>,
-        LinearFormats<3, 4, YCbCr>,
-        (
-            Pix<1, Ch8, Matte, Premultiplied, Linear>,
-            Pix<1, Ch16, Matte, Premultiplied, Linear>,
-        ),
-    ),
-);
-
 /// Takes the names of all formats for their parts.
 pub(crate) fn compare() {
-    let _parts: PhantomData<Parts> = PhantomData::<(Colors, Hues, Others)>;
+    colors();
+    hues();
+    others();
+}
+
+fn colors() {
+    let _parts: PhantomData<
+        (
+            Formats<3, 4, Rgb>,
+            Formats<3, 4, Bgr>,
+            Formats<3, 4, Cmy>,
+            Formats<1, 2, Gray>,
+        ),
+    > = PhantomData::<Colors>;
+}
+
+fn hues() {
+    let _parts: PhantomData<(Formats<3, 4, Hsv>, Formats<3, 4, Hsl>, Formats<3, 4, Hwb>)> =
+        PhantomData::<Hues>;
+}
+
+fn others() {
+    let _parts: PhantomData<
+        (
+            LinearFormats<3, 4, Xyz>,
+            LinearFormats<3, 4, YCbCr>,
+            (
+                Pix<1, Ch8, Matte, Premultiplied, Linear>,
+                Pix<1, Ch16, Matte, Premultiplied, Linear>,
+            ),
+        ),
+    > = PhantomData::<Others>;
 }
