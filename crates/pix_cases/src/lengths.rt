@@ -31,9 +31,10 @@ pub(crate) fn row(words: &[&str], alloc: Global) -> Result<String, Flaw> {
 
 /// The answer of [`row`] for a model. It has that many numbers where a pixel has one channel.
 ///
-/// Condition: the format has no more channels than the model.
+/// Condition: the format has at most four channels, and no more than the model.
 fn row_of_model<const N: usize, M: ColorModel>(len: u32, alloc: Global) -> Result<String, Flaw>
-    requires { N ≤ M.ALPHA + 1 }
+    requires four { N ≤ 4 }
+    requires few { N ≤ M.ALPHA + 1 }
 {
     let mut raster: Raster<Narrow<N, M>> = Raster::with_clear(alloc, len, 1)?;
     for (i, pixel) in raster.pixels_mut().iter_mut().enumerate() {
@@ -61,7 +62,9 @@ fn made_again<const N: usize, M: ColorModel>(
     bytes: Vec<u8>,
     words: Vec<u16>,
     alloc: Global,
-) -> Result<(usize, usize), Flaw> {
+) -> Result<(usize, usize), Flaw>
+    requires { N ≤ 4 }
+{
     let made: Raster<Narrow<N, M>> = Raster::with_u8_buffer(alloc, len, 1, bytes)?;
     let bytes = made.into_u8_vec(alloc)?;
     let made: Raster<Wide<N, M>> = Raster::with_u16_buffer(alloc, len, 1, words)?;
