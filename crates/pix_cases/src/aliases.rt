@@ -50,10 +50,6 @@ type Colors = (
         (Cmy8, Cmy16, Cmya8, Cmya8p, Cmya16, Cmya16p),
         (SCmy8, SCmya8, SCmya8p),
     ),
-    (
-        (Gray8, Gray16, Graya8, Graya8p, Graya16, Graya16p),
-        (SGray8, SGraya8, SGraya8p),
-    ),
 );
 
 /// The names of the formats of the models with a hue.
@@ -74,6 +70,10 @@ type Hues = (
 
 /// The names of the other formats.
 type Others = (
+    (
+        (Gray8, Gray16, Graya8, Graya8p, Graya16, Graya16p),
+        (SGray8, SGraya8, SGraya8p),
+    ),
     (Xyz8, Xyz16, Xyza8, Xyza8p, Xyza16, Xyza16p),
     (YCbCr8, YCbCr16, YCbCra8, YCbCra8p, YCbCra16, YCbCra16p),
     (Matte8, Matte16),
@@ -87,14 +87,8 @@ pub(crate) fn compare() {
 }
 
 fn colors() {
-    let _parts: PhantomData<
-        (
-            Formats<3, 4, Rgb>,
-            Formats<3, 4, Bgr>,
-            Formats<3, 4, Cmy>,
-            Formats<1, 2, Gray>,
-        ),
-    > = PhantomData::<Colors>;
+    let _parts: PhantomData<(Formats<3, 4, Rgb>, Formats<3, 4, Bgr>, Formats<3, 4, Cmy>)> =
+        PhantomData::<Colors>;
 }
 
 fn hues() {
@@ -105,6 +99,7 @@ fn hues() {
 fn others() {
     let _parts: PhantomData<
         (
+            Formats<1, 2, Gray>,
             LinearFormats<3, 4, Xyz>,
             LinearFormats<3, 4, YCbCr>,
             (
