@@ -8,7 +8,7 @@ use crate::size::Size;
 use pix::chan::{Ch8, Ch16, Channel, Gamma, Linear, Premultiplied};
 use pix::el::{Pix, Pixel};
 use pix::hsv::Hsv;
-use pix::matte::{Matte, Matte8};
+use pix::matte::{Matte, Matte8, Matte16};
 use pix::ops::Op;
 use pix::{ColorModel, Command, Raster, Region};
 use std::alloc::{AllocError, Global};
@@ -260,9 +260,11 @@ fn awkward<M: ColorModel>(
     requires four { 4 ≤ M.ALPHA + 1 }
     requires has_alpha { 4 ≡ M.ALPHA + 1 }
 {
-    let page = page_of::<Ch8, Hsv, M>(alloc, size, sheet, 600, random)?;
+    let masks = converted::<_, Matte8>(alloc, &sheet.masks)?;
+    let page = page_of::<Ch8, Hsv, M>(alloc, size, &sheet.sprites, masks, 600, random)?;
     digest.add_raster(alloc, &page)?;
-    let page = page_of::<Ch16, M, M>(alloc, size, sheet, 1500, random)?;
+    let masks = converted::<_, Matte16>(alloc, &sheet.masks)?;
+    let page = page_of::<Ch16, M, M>(alloc, size, &sheet.sprites, masks, 1500, random)?;
     digest.add_wide_raster(&page);
     let shown = Raster::<Ink<M>>::with_raster(alloc, &page).ok()?;
     digest.add_raster(alloc, &shown)
@@ -274,7 +276,8 @@ fn awkward<M: ColorModel>(
 fn page_of<C, T: ColorModel, M: ColorModel>(
     alloc: Global,
     size: Size,
-    sheet: &Sheet<Ink<M>, Matte8>,
+    sprites: &[Raster<Ink<M>>],
+    masks: Vec<Raster<Pix<1, C, Matte, Premultiplied, Linear>>>,
     count: u32,
     random: &mut Random,
 ) -> Option<Raster<Pix<4, C, T, Premultiplied, Linear>>>
@@ -283,10 +286,8 @@ where
     requires four { 4 ≤ T.ALPHA + 1 }
     requires has_alpha { 4 ≡ T.ALPHA + 1 }
 {
-    let sheet = Sheet {
-        sprites: converted::<_, Pix<4, C, T, Premultiplied, Linear>>(alloc, &sheet.sprites)?,
-        masks: converted::<_, Pix<1, C, Matte, Premultiplied, Linear>>(alloc, &sheet.masks)?,
-    };
+    let sprites = converted::<_, Pix<4, C, T, Premultiplied, Linear>>(alloc, sprites)?;
+    let sheet = Sheet { sprites, masks };
     let mut page = Raster::with_clear(alloc, size.of(1920), size.of(1080)).ok()?;
     for _ in 0..size.of(32) {
         draw(alloc, &mut page, &sheet, size.of(count), random)?;
