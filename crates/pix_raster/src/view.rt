@@ -186,7 +186,14 @@ pub fn blit_window<D, S, B: Blit<D, S>>(
 {
     if window.shape.width > 0 {
         let overlap = overlap_in(window, to, from, src_shape);
-        blit_overlap(pixels, window.shape.stride, src, src_shape.stride, overlap, change);
+        blit_overlap(
+            pixels,
+            window.shape.stride,
+            src,
+            src_shape.stride,
+            overlap,
+            change,
+        );
     }
 }
 
