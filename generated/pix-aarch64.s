@@ -1,7 +1,7 @@
 /* pix 0.3.0: the library, for aarch64 under Linux.
  * The code was proved before it was compiled; generated/README.md says what that means. Nobody edits this file: tools/generate makes it.
  *
- * sources: 265c0c3b279bd68b210ee32ed187374d6d214a39cbe5c17570b2c5b5592e2b33, as tools/sources --sum pix_c prints it
+ * sources: b73ce2fc5724a2eae44a9f22797740a0d6123aa487be1d3016247f9a2234c7bb, as tools/sources --sum pix_c prints it
  * kit: rattle-kit-13b logic dac8208d650f15bf
  * verdict: logic=proved functions=38 target=aarch64-unknown-linux-gnu sum=dac8208d650f15bf native=nat,char,string logic-built=trusted libraries-built=trusted statements=trusted
  * made by: rattle build --target aarch64-unknown-linux-gnu of crates/pix_c, with clang -S -fno-verbose-asm -fno-addrsig in the place of clang -c

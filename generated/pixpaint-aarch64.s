@@ -1,7 +1,7 @@
 /* pix 0.3.0: the program pixpaint, for aarch64 under Linux.
  * The code was proved before it was compiled; generated/README.md says what that means. Nobody edits this file: tools/generate makes it.
  *
- * sources: 8baf0a2dcae5905e9f30ca847499b2fdb5893dd68cb55762bfec7d1f3aff9e18, as tools/sources --sum pixpaint prints it
+ * sources: 37f797ae2ca2381d7a81adc128bcfb93f3d2284f59617bb2f544647e255f4781, as tools/sources --sum pixpaint prints it
  * kit: rattle-kit-13b logic dac8208d650f15bf
  * verdict: logic=proved functions=1 axioms=6 target=aarch64-unknown-linux-gnu sum=dac8208d650f15bf native=nat,char,string logic-built=trusted libraries-built=trusted statements=trusted
  * made by: rattle build --target aarch64-unknown-linux-gnu of crates/pixpaint, with clang -S -fno-verbose-asm -fno-addrsig in the place of clang -c
