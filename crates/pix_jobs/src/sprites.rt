@@ -210,7 +210,7 @@ fn layer<'a, C: Channel, M: ColorModel>(
     let (Some(layer), Some(mask)) = (sheet.sprites.first(), sheet.masks.first()) else {
         return Command::Clear;
     };
-    let all = layer.region();
+    let (src, from, op) = (layer, layer.region(), Op::SrcOver);
     let x = random.below(100) as i32 - 50;
     let y = random.below(100) as i32 - 50;
     let to = Region::new(x, y, layer.width(), layer.height());
@@ -218,32 +218,23 @@ fn layer<'a, C: Channel, M: ColorModel>(
     let clr = layer.pixels().get(place).copied().unwrap_or_default();
     let alpha = mask.pixels().get(place).copied().unwrap_or_default();
     match random.below(4) {
-        0 => Command::Color {
-            reg: all,
-            clr,
-            op: Op::SrcOver,
-        },
+        0 => Command::Color { reg: from, clr, op },
         1 => Command::RasterAlpha {
             to,
-            src: layer,
-            from: all,
+            src,
+            from,
             alpha,
-            op: Op::SrcOver,
+            op,
         },
         2 => Command::RasterMatte {
-            to: all,
-            src: layer,
+            to: from,
+            src,
             from: to,
             mask,
-            mask_from: all,
-            op: Op::SrcOver,
+            mask_from: from,
+            op,
         },
-        _ => Command::Raster {
-            to,
-            src: layer,
-            from: all,
-            op: Op::SrcOver,
-        },
+        _ => Command::Raster { to, src, from, op },
     }
 }
 

@@ -43,8 +43,8 @@ impl Read for Source<'_> {
 }
 
 /// Keeps what it is given until a flush. It takes at most `step` bytes a call, and fails at the
-/// call of the number `fails_at`, counted from 1, or at a flush. It may be interrupted at each second
-/// call.
+/// call of the number `fails_at`, counted from 1, or at a flush. It may be interrupted at each
+/// second call.
 #[derive(Drop)]
 pub(crate) struct Sink {
     kept: Vec<u8>,

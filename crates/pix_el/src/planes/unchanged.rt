@@ -83,8 +83,8 @@ pub(super) fn empties_under_clear<O: Blend, P: Pixel>() -> bool
     has_no_hue::<P>() && <O::Dest as Factor>::term(max, max) == min
 }
 
-/// Returns whether a test for clear mattes saves time where pixels become clear: with four channels.
-/// With two it took up to 1.6 times as long where the processor can't predict it.
+/// Returns whether a test for clear mattes saves time where pixels become clear: with four
+/// channels. With two it took up to 1.6 times as long where the processor can't predict it.
 #[inline(always)]
 pub(super) fn saves_products<P: Pixel>() -> bool {
     P::Model::ALPHA == 3
