@@ -13,6 +13,10 @@ pub map_color : {P X : Type 0} (n : P → X) (clr : P) (xs : List P) → map n (
 map_color n clr [] = refl
 map_color {X = X} n clr (x ∷ xs) = ap (λ (l : List X). n clr ∷ l) (map_color n clr xs)
 
+-- each pixel of a row that has one color
+pub colored : {P X : Type 0} (n : P → X) (clr : P) (value : X) (old new : List P) → new ≡ replicate (length old) clr → n clr ≡ value → map n new ≡ map (λ _. value) (map n old)
+colored {X = X} n clr value old new is numbers = ap (map n) is ∙ map_color n clr old ∙ ap (λ (v : X). map (λ (_ : X). v) (map n old)) numbers
+
 -- the pixels of one row in place of those of another
 pub map_over : {P X : Type 0} (n : P → X) (source dest : List P) → map n (over (λ s d. s) source dest) ≡ over (λ s d. s) (map n source) (map n dest)
 map_over n source [] = refl

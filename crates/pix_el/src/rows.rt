@@ -211,7 +211,7 @@ impl<P: Pixel, D: Stored<P>> Blit<D, D> for CopiedPixels<P> {
 
     #[inline(always)]
     fn blit(&self, row: &mut [D], src: &[D]) {
-        copy_row(row, src);
+        copy_row::<P, D>(row, src);
     }
 }
 

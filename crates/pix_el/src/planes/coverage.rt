@@ -65,7 +65,7 @@ pub(super) fn eight_values<C: Channel, M: Coverage<C>>(src: &[M]) -> [C; 8]
 
 /// Returns whether channels have more than 8 bits.
 #[inline(always)]
-fn is_wide<C: Channel>() -> bool {
+pub(crate) fn is_wide<C: Channel>() -> bool {
     C::MAX.to_u32() > 255
 }
 

@@ -1,10 +1,6 @@
-use Rattle.std.proofs.Common.{map, ap, ◌∙◌, ℕ, List}
-use Rattle.pix_el.proofs.Copies.{map_color}
+use Rattle.std.proofs.Common.{◌∙◌}
+use Rattle.pix_el.proofs.Copies.{colored}
 use Rattle.pix_el.proofs.filled.clear_row.Goals as goal
 
-pub returns : goal.returns
-returns g c =
-    let n = g.D.Stored.reads in
-    let row = c.args.row.now in
-    ap (map n) c.fill_row.ensures ∙ map_color n c.store-clr.result row
-    ∙ ap (λ (v : List ℕ). map (λ (_ : List ℕ). v) (map n row)) (c.store-clr.ensures ∙ g.met.P.Pixel.default_is_clear c.default.result c.default.ensures)
+pub returns-else-row-ge1024 : goal.returns-else-row-ge1024
+returns-else-row-ge1024 g c = colored g.D.Stored.reads c.store.result _ c.args.row.now _ c.fill_row.ensures (c.store.ensures ∙ g.met.P.Pixel.default_is_clear c.default.result c.default.ensures)
