@@ -1,17 +1,15 @@
 -- Vectors that are computed lane by lane from two others.
-use Rattle.std.proofs.Common.{◌≡◌, ℕ, ◌+◌, ◌*◌, ◌/◌, ◌%◌, ◌^◌, ◌<◌, List, [], ◌∷◌, length, map, refl, ap, sym, ◌∙◌, arith, replicate}
+use Rattle.std.proofs.Common.{◌≡◌, ℕ, ◌+◌, ◌*◌, ◌/◌, ◌%◌, ◌^◌, ◌<◌, List, [], ◌∷◌, length, map, refl, ap, ◌∙◌, arith}
 use Rattle.std.proofs.Common.{w8, Fits}
 use mir.Syntax.{w16}
 use Rattle.pix_chan.specs.Number.{saturating_sum}
-use Rattle.pix_chan.specs.Product.{channel_product}
-use Rattle.pix_chan.proofs.LaneProduct.{near_lane, near_fits}
 use lib.Lanes.{zip2, Each1, sel_l, top}
 use mir.Val.{hbits, bits}
 use mir.Syntax.{Width}
 use native.Mathlib.Nat.{mod-eq_of_lt}
 use Rattle.std.proofs.Common.{Bool, cond, ltb, ◌-◌, min}
 use Rattle.std.proofs.lemmas.Bool.Decides.{nat_tests}
-use Rattle.std.proofs.lemmas.Simd.{tops_compared, zip2_of_maps, splat_is_map, length-zip2, map-map}
+use Rattle.std.proofs.lemmas.Simd.{tops_compared, zip2_of_maps, length-zip2, map-map}
 
 -- the operations of a lane that has m values
 abbrev pub add : ℕ → ℕ → ℕ → ℕ
@@ -54,38 +52,9 @@ map_pairs P Q f g h [] b l p q = refl
 map_pairs P Q f g h (x ∷ a) [] l p q = refl
 map_pairs P Q f g h (x ∷ a) (y ∷ b) l p q = grind (arith, h x y p.0 q.0, map_pairs P Q f g h a b (omega arith) p.1 q.1)
 
-pub Each1-near : (a b : List ℕ) → Each1 (Fits w8) a → Each1 (Fits w8) b → Each1 (Fits w8) (zip2 (channel_product 255) a b)
-Each1-near [] b p q = tt
-Each1-near (x ∷ a) [] p q = tt
-Each1-near (x ∷ a) (y ∷ b) p q = (near_fits x y p.0 q.0, Each1-near a b p.1 q.1)
-
 -- the product of two vectors of bytes, as it is computed on wider lanes
 abbrev pub wide : ℕ × ℕ → ℕ
 wide v = (v.0 * v.1 % 2 ^ 16 + 128) % 2 ^ 16 * 257 % 2 ^ 32 / 2 ^ 16
-
-module _ (a b : List ℕ) (la : length a ≡ 16) (lb : length b ≡ 16) where
-  abbrev sums : List ℕ
-  sums = zip2 (add (2 ^ 16)) (zip2 (mul (2 ^ 16)) (map same a) (map same b)) (replicate 16 128)
-
-  abbrev pub high_halves : List ℕ
-  high_halves = zip2 shr (zip2 (mul (2 ^ 32)) (map same sums) (replicate 16 257)) (replicate 16 16)
-
-  pub high_halves_are : high_halves ≡ map wide (pairs a b)
-  high_halves_are =
-      let vs = pairs a b in
-      let l = length-pairs a b 16 la lb in
-      let x = ap (map same) (firsts a b (la ∙ sym lb)) ∙ map-map same (λ (v : ℕ × ℕ). v.0) vs in
-      let y = ap (map same) (seconds a b (la ∙ sym lb)) ∙ map-map same (λ (v : ℕ × ℕ). v.1) vs in
-      let p = zip2_of_maps (mul (2 ^ 16)) _ _ vs x y in
-      let s = zip2_of_maps (add (2 ^ 16)) _ _ vs p (splat_is_map vs 16 128 l) in
-      let ss = ap (map same) s ∙ map-map same _ vs in
-      let t = zip2_of_maps (mul (2 ^ 32)) _ _ vs ss (splat_is_map vs 16 257 l) in
-      zip2_of_maps shr _ _ vs t (splat_is_map vs 16 16 l)
-
-  pub near_lanes : Each1 (Fits w8) a → Each1 (Fits w8) b → map same high_halves ≡ zip2 (channel_product 255) a b
-  near_lanes fa fb =
-      ap (map same) high_halves_are ∙ map-map same wide (pairs a b)
-      ∙ map_pairs (Fits w8) (Fits w8) _ _ (λ i j u k. near_lane i j u.fits k.fits) a b (la ∙ sym lb) fa fb
 
 mod-lt_two : (m : ℕ) → m % 2 ^ 32 < 2 ^ 32
 mod-lt_two m = omega arith

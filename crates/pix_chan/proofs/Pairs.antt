@@ -1,17 +1,19 @@
 -- Lists of thirty-two, and products of bytes by pairs: even and odd lanes apart, and together
 -- again.
-use Rattle.std.proofs.Common.{◌≡◌, ℕ, zero, suc, ◌+◌, ◌*◌, ◌/◌, ◌%◌, ◌^◌, ◌<◌, ◌≤◌, List, [], ◌∷◌, ◌++◌, length, take, drop, get_or, map, refl, ap, sym, ◌∙◌, arith, replicate, w8, Fits, bit_or}
+use Rattle.std.proofs.Common.{◌≡◌, ℕ, zero, suc, ◌+◌, ◌*◌, ◌/◌, ◌%◌, ◌^◌, ◌<◌, ◌≤◌, List, [], ◌∷◌, ◌++◌, length, take, drop, get_or, map, refl, ap, sym, ◌∙◌, arith, replicate, subst, w8, Fits, bit_and, bit_or}
 use Rattle.std.specs.Int.Bits.{or_shifted_r, or_zero_l, or_zero_r}
+use mir.Syntax.{w16}
 use lib.Lanes.{zip2, Each1, pick_l, number_l, digits_l}
+use Rattle.std.proofs.lemmas.List.{map-id}
 use Rattle.std.proofs.lemmas.Simd.{zip2_of_maps, splat_is_map, map-map}
 use Rattle.pix_chan.specs.Product.{channel_product}
 use Rattle.pix_chan.proofs.LaneProduct.{near_lane, near_fits}
-use Rattle.pix_chan.proofs.Lanes.{add, mul, shr, shl, same, pairs, firsts, seconds, length-pairs, wide}
-use Rattle.pix_chan.proofs.Planes.{of_pairs, low, high, highs, cons, Each1-of_pairs}
-use Rattle.pix_chan.proofs.Sixteen.{is_sixteen, first_half, second_half, both_halves, fourths, fourths_are, spaced, spaced_are, Each1-fourths}
+use Rattle.pix_chan.proofs.Lanes.{add, mul, shr, shl, same, pairs, firsts, seconds, length-pairs, wide, Each1-wide}
+use Rattle.pix_chan.proofs.Planes.{of_pairs, low, high, lows, highs, cons, Each1-of_pairs}
+use Rattle.pix_chan.proofs.Sixteen.{is_eight, is_sixteen, first_half, second_half, both_halves, fourths, fourths_are, spaced, spaced_are, Each1-fourths}
 use Rattle.pix_chan.specs.Planes.{last_of_four, last_of_two}
 use Rattle.pix_chan.specs.Runs.{over}
-use Rattle.pix_chan.specs.Lanes.{high_half}
+use Rattle.pix_chan.specs.Lanes.{high_half, indexes_from}
 
 -- a function of each pair
 zipped : (a b : List ℕ) → map wide (pairs a b) ≡ zip2 high_half a b
@@ -19,22 +21,25 @@ zipped [] b = refl
 zipped (x ∷ a) [] = refl
 zipped (x ∷ a) (y ∷ b) = ap (λ (l : List ℕ). high_half x y ∷ l) (zipped a b)
 
-module _ (a b : List ℕ) (la : length a ≡ 16) (lb : length b ≡ 16) where
-  abbrev pub halves : List ℕ
-  halves = zip2 shr (zip2 (mul (2 ^ 32)) (map same (zip2 (add (2 ^ 16)) (zip2 (mul (2 ^ 16)) a b) (replicate 16 128))) (replicate 16 257)) (replicate 16 16)
+module _ (n : ℕ) (a b : List ℕ) (la : length a ≡ n) (lb : length b ≡ n) where
+  abbrev halves : List ℕ
+  halves = zip2 shr (zip2 (mul (2 ^ 32)) (map same (zip2 (add (2 ^ 16)) (zip2 (mul (2 ^ 16)) a b) (replicate n 128))) (replicate n 257)) (replicate n 16)
 
-  pub halves_are : halves ≡ map wide (pairs a b)
+  halves_are : halves ≡ map wide (pairs a b)
   halves_are =
       let vs = pairs a b in
-      let l = length-pairs a b 16 la lb in
+      let l = length-pairs a b n la lb in
       let p = zip2_of_maps (mul (2 ^ 16)) _ _ vs (firsts a b (la ∙ sym lb)) (seconds a b (la ∙ sym lb)) in
-      let s = zip2_of_maps (add (2 ^ 16)) _ _ vs p (splat_is_map vs 16 128 l) in
+      let s = zip2_of_maps (add (2 ^ 16)) _ _ vs p (splat_is_map vs n 128 l) in
       let ss = ap (map same) s ∙ map-map same _ vs in
-      let t = zip2_of_maps (mul (2 ^ 32)) _ _ vs ss (splat_is_map vs 16 257 l) in
-      zip2_of_maps shr _ _ vs t (splat_is_map vs 16 16 l)
+      let t = zip2_of_maps (mul (2 ^ 32)) _ _ vs ss (splat_is_map vs n 257 l) in
+      zip2_of_maps shr _ _ vs t (splat_is_map vs n 16 l)
 
-  pub near_are : halves ≡ zip2 high_half a b
-  near_are = halves_are ∙ zipped a b
+  pub halves_fit : Each1 (Fits w16) halves
+  halves_fit = subst (Each1 (Fits w16)) (sym halves_are) (Each1-wide (pairs a b))
+
+  pub near_are : map same halves ≡ zip2 high_half a b
+  near_are = ap (map same) (halves_are ∙ zipped a b) ∙ map-id _
 
 abbrev pub twice : ℕ → ℕ
 twice zero = zero
@@ -45,10 +50,10 @@ abbrev pub apart : List ℕ → List ℕ
 apart [] = []
 apart (v ∷ u) = v ∷ 0 ∷ apart u
 
--- each number after one of 0
-abbrev pub behind : List ℕ → List ℕ
-behind [] = []
-behind (v ∷ u) = 0 ∷ v ∷ behind u
+-- each number after one of z
+abbrev pub after : ℕ → List ℕ → List ℕ
+after z [] = []
+after z (v ∷ u) = z ∷ v ∷ after z u
 
 -- each number twice
 abbrev pub doubled : List ℕ → List ℕ
@@ -134,7 +139,7 @@ products_long g (suc n) (x ∷ y ∷ a) (u ∷ []) h k = absurd (omega arith)
 products_long g (suc n) (x ∷ y ∷ a) (u ∷ v ∷ b) h k = ap suc (products_long g n a b (omega arith) (omega arith))
 
 alternate : (n : ℕ) (a b : List ℕ) → length a ≡ n + n → length b ≡ n + n → Each1 (Fits w8) a → Each1 (Fits w8) b
-    → zip2 bit_or (apart (zip2 high_half (of_pairs low a) (of_pairs low b))) (behind (zip2 high_half (of_pairs high a) (of_pairs high b)))
+    → zip2 bit_or (apart (zip2 high_half (of_pairs low a) (of_pairs low b))) (after 0 (zip2 high_half (of_pairs high a) (of_pairs high b)))
     ≡ zip2 (channel_product 255) a b
 alternate zero [] b h k f g = refl
 alternate zero (x ∷ a) b h k f g = absurd (omega arith)
@@ -146,29 +151,46 @@ alternate (suc n) (x ∷ y ∷ a) (u ∷ v ∷ b) h k f g =
     cons (or_zero_r (high_half x u) ∙ near_lane x u f.0.fits g.0.fits)
     (cons (or_zero_l (high_half y v) ∙ near_lane y v f.1.0.fits g.1.0.fits) (alternate n a b (omega arith) (omega arith) f.1.1 g.1.1))
 
--- the odd indexes of thirty-two lanes, each after one of the lanes that follow
-abbrev after_zeros : List ℕ
-after_zeros = 32 ∷ 0 ∷ 32 ∷ 2 ∷ 32 ∷ 4 ∷ 32 ∷ 6 ∷ 32 ∷ 8 ∷ 32 ∷ 10 ∷ 32 ∷ 12 ∷ 32 ∷ 14 ∷ 32 ∷ 16 ∷ 32 ∷ 18 ∷ 32 ∷ 20 ∷ 32 ∷ 22 ∷ 32 ∷ 24 ∷ 32 ∷ 26 ∷ 32 ∷ 28 ∷ 32 ∷ 30 ∷ []
+-- the indexes that put n lanes of even index after zeros, which follow all 2 n lanes
+abbrev after_zeros : ℕ → List ℕ
+after_zeros n = after (twice n) (indexes_from 2 0 n)
 
-picked_behind : (u : List ℕ) → length u ≡ 16 → pick_l 0 (apart u ++ replicate {A = ℕ} 32 0) after_zeros ≡ behind u
-picked_behind u h = rw (← (is_sixteen u h).1) refl
+abbrev picked : ℕ → List ℕ → List ℕ
+picked n u = pick_l 0 (u ++ replicate {A = ℕ} (twice n) 0) (after_zeros n)
 
-pub rejoined : (a b : List ℕ) → length a ≡ 32 → length b ≡ 32 → Each1 (Fits w8) a → Each1 (Fits w8) b
-    → let even = zip2 high_half (of_pairs low a) (of_pairs low b) in
-    let odd = zip2 high_half (of_pairs high a) (of_pairs high b) in
-    zip2 bit_or (digits_l 256 32 (number_l 65536 even)) (pick_l 0 (digits_l 256 32 (number_l 65536 odd) ++ replicate {A = ℕ} 32 0) after_zeros)
-    ≡ zip2 (channel_product 255) a b
-rejoined a b h k f g =
-    let even = zip2 high_half (of_pairs low a) (of_pairs low b) in
-    let odd = zip2 high_half (of_pairs high a) (of_pairs high b) in
-    let lows = Each1-of_pairs low (λ x y p q. p) in
-    let highs = Each1-of_pairs high (λ x y p q. q) in
-    let first = apart_are 16 even (products_long low 16 a b h k) (products_fit (of_pairs low a) (of_pairs low b) (lows a f) (lows b g)) in
-    let second = apart_are 16 odd (products_long high 16 a b h k) (products_fit (of_pairs high a) (of_pairs high b) (highs a f) (highs b g)) in
-    ap (λ (l : List ℕ). zip2 bit_or l (pick_l 0 (digits_l 256 32 (number_l 65536 odd) ++ replicate {A = ℕ} 32 0) after_zeros)) first
-    ∙ ap (λ (l : List ℕ). zip2 bit_or (apart even) (pick_l 0 (l ++ replicate {A = ℕ} 32 0) after_zeros)) second
-    ∙ ap (zip2 bit_or (apart even)) (picked_behind odd (products_long high 16 a b h k))
-    ∙ alternate 16 a b h k f g
+abbrev pub Picked : ℕ → Type 0
+Picked n = (u : List ℕ) → length u ≡ n → picked n (apart u) ≡ after 0 u
+
+pub picked8 : Picked 8
+picked8 u h = rw (← (is_eight u h).1) refl
+
+pub picked16 : Picked 16
+picked16 u h = rw (← (is_sixteen u h).1) refl
+
+-- products of the bytes of n words, even and odd ones apart
+module _ (n : ℕ) (is : Picked n) where
+  abbrev joined : List ℕ → List ℕ → List ℕ
+  joined even odd = zip2 bit_or (digits_l 256 (twice n) (number_l 65536 even)) (picked n (digits_l 256 (twice n) (number_l 65536 odd)))
+
+  joined_are : (even odd : List ℕ) → length even ≡ n → length odd ≡ n → Each1 (Fits w8) even → Each1 (Fits w8) odd
+      → joined even odd ≡ zip2 bit_or (apart even) (after 0 odd)
+  joined_are even odd h k f g =
+      ap (λ (l : List ℕ). zip2 bit_or l (picked n (digits_l 256 (twice n) (number_l 65536 odd)))) (apart_are n even h f)
+      ∙ ap (λ (l : List ℕ). zip2 bit_or (apart even) (picked n l)) (apart_are n odd k g)
+      ∙ ap (zip2 bit_or (apart even)) (is odd k)
+
+  pub rejoined : (a b : List ℕ) → length a ≡ n + n → length b ≡ n + n → Each1 (Fits w8) a → Each1 (Fits w8) b → {even odd : List ℕ}
+      → even ≡ zip2 high_half (zip2 bit_and (digits_l 65536 n (number_l 256 a)) (replicate n 255)) (zip2 bit_and (digits_l 65536 n (number_l 256 b)) (replicate n 255))
+      → odd ≡ zip2 high_half (zip2 shr (digits_l 65536 n (number_l 256 a)) (replicate n 8)) (zip2 shr (digits_l 65536 n (number_l 256 b)) (replicate n 8))
+      → joined even odd ≡ zip2 (channel_product 255) a b
+  rejoined a b h k f g d e =
+      let lows_fit = Each1-of_pairs low (λ x y p q. p) in
+      let highs_fit = Each1-of_pairs high (λ x y p q. q) in
+      rw (d, e, lows n a h f, lows n b k g, highs n a h f, highs n b k g)
+      (joined_are _ _ (products_long low n a b h k) (products_long high n a b h k)
+      (products_fit (of_pairs low a) (of_pairs low b) (lows_fit a f) (lows_fit b g))
+      (products_fit (of_pairs high a) (of_pairs high b) (highs_fit a f) (highs_fit b g))
+      ∙ alternate n a b h k f g)
 
 -- the words of the last channels of pixels of two, each twice
 abbrev last_words : ℕ → List ℕ → List ℕ

@@ -5,6 +5,7 @@ ghost use Rattle.pix_chan.specs.Number.{saturating_sum};
 ghost use Rattle.pix_chan.specs.Product.{channel_product, channel_quotient};
 ghost use Rattle.pix_chan.specs.Planes.{with_alphas};
 ghost use Rattle.pix_chan.specs.LaneQuotients.{alphas_in};
+ghost use Rattle.pix_chan.specs.Lanes.{high_half};
 
 use crate::chan::bits8::Ch8;
 use crate::reciprocals::quotient;
@@ -12,15 +13,31 @@ use std::simd::prelude::*;
 
 /// Returns the channel product of the bytes of each lane.
 ///
-/// With t = x y + 128, the product is 257 t / 2^16 rounded down: the high half of a product of 16
-/// bits. This takes three steps for eight lanes, and y only has to be widened.
+/// The bytes of even index and those of odd index are multiplied apart, in lanes of 16 bits, as
+/// among thirty-two (`pairs.rt`).
 #[inline(always)]
 fn product_lanes(a: u8x16, b: u8x16) -> u8x16
     ensures { result ≡ zip2 (channel_product 255) a b }
 {
-    let t = a.cast::<u16>() * b.cast::<u16>() + u16x16::splat(128);
-    let high = (t.cast::<u32>() * u32x16::splat(257)) >> u32x16::splat(16);
-    high.cast::<u16>().cast::<u8>()
+    let x = u16x8::from_le_bytes(a);
+    let y = u16x8::from_le_bytes(b);
+    let even = near(x & u16x8::splat(255), y & u16x8::splat(255)).to_le_bytes();
+    let odd = near(x >> u16x8::splat(8), y >> u16x8::splat(8)).to_le_bytes();
+    let behind = odd.shuffle(
+        u8x16::splat(0),
+        [16, 0, 16, 2, 16, 4, 16, 6, 16, 8, 16, 10, 16, 12, 16, 14],
+    );
+    even | behind
+}
+
+/// Returns the channel products of bytes, each in a lane of 16 bits.
+#[inline(always)]
+fn near(a: u16x8, b: u16x8) -> u16x8
+    ensures { result ≡ zip2 high_half a b }
+{
+    let t = a * b + u16x8::splat(128);
+    let high = (t.cast::<u32>() * u32x8::splat(257)) >> u32x8::splat(16);
+    high.cast::<u16>()
 }
 
 /// Returns the saturating sum of the bytes of each lane.

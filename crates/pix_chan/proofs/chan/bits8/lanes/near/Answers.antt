@@ -1,0 +1,9 @@
+use Rattle.std.proofs.Common.{arith}
+use Rattle.pix_chan.proofs.Pairs.{halves_fit, near_are}
+use Rattle.pix_chan.proofs.chan.bits8.lanes.near.Goals as goal
+
+pub overflow_cast-result : goal.overflow_cast-result
+overflow_cast-result c = halves_fit 8 c.args.a c.args.b (omega arith) (omega arith)
+
+pub returns : goal.returns
+returns c = near_are 8 c.args.a c.args.b (omega arith) (omega arith)
