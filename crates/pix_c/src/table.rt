@@ -215,7 +215,8 @@ pub extern "C" fn pix_raw_index_pixels(
         (length pixels.now) (length indices.old) → status ≢ 0 → result ≡ status }
     ensures full { index_status (length entries.old) used.old (length pixels.now)
         (length indices.old) ≡ 0 → result ≢ 0 → (result ≡ 14) × (rest : List Color)
-        × IsStopped numbers (IsSet numbers (Always (numbers threshold.now)) (length entries.old)) 255
+        × IsStopped numbers
+        (IsSet numbers (Always (numbers threshold.now)) (length entries.old)) 255
         (take used.old entries.old) (map numbers pixels.now) rest }
     ensures refused { result ≢ 0 → (entries.new ≡ entries.old) × (used.new ≡ used.old)
         × (indices.new ≡ indices.old) }

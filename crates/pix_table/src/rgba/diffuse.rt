@@ -136,48 +136,30 @@ impl DiffusedColor for Seen {
     ) -> Seen {
         let NeighborErrors {
             left,
-            left_above,
+            left_above: corner,
             above,
         } = near;
-        let scan = how.scan;
+        let (scan, next) = (how.scan, right_above);
         let own = seen_of(pixel);
         let alpha = corrected(
             own.alpha,
             how.strength,
-            handed(
-                scan,
-                left.alpha,
-                left_above.alpha,
-                above.alpha,
-                right_above.alpha,
-            ),
+            handed(scan, left.alpha, corner.alpha, above.alpha, next.alpha),
         );
         let red = corrected(
             own.red,
             how.strength,
-            handed(scan, left.red, left_above.red, above.red, right_above.red),
+            handed(scan, left.red, corner.red, above.red, next.red),
         );
         let green = corrected(
             own.green,
             how.strength,
-            handed(
-                scan,
-                left.green,
-                left_above.green,
-                above.green,
-                right_above.green,
-            ),
+            handed(scan, left.green, corner.green, above.green, next.green),
         );
         let blue = corrected(
             own.blue,
             how.strength,
-            handed(
-                scan,
-                left.blue,
-                left_above.blue,
-                above.blue,
-                right_above.blue,
-            ),
+            handed(scan, left.blue, corner.blue, above.blue, next.blue),
         );
         Seen {
             red: at_most(red, alpha),
