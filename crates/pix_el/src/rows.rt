@@ -276,30 +276,15 @@ impl<
         (matte_value P.layout matte) (P.numbers it.clr) };
 
     fn blit(&self, row: &mut [D], src: &[M]) {
+        let count = row.len().min(src.len());
         if clears::<O, P>() {
-            let count = row.len().min(src.len());
             clear_row::<P, D>(&mut row[..count]);
         } else {
-            self.composite(row, src);
-        }
-    }
-}
-
-impl<P: Pixel<Alpha = Premultiplied, Gamma = Linear>, O: Blend> MattedColor<P, O> {
-    /// Composites the color with the pixels of a row through mattes. Condition: the format has an
-    /// alpha channel.
-    #[inline(always)]
-    fn composite<D: Stored<P>, M: Coverage<P::Chan>>(&self, row: &mut [D], src: &[M])
-        requires has_alpha { P.layout.count ≡ P.layout.alpha + 1 }
-        ensures { map D.reads row.new ≡ over (λ matte. matted_composite P.layout O.op
-            (matte_value P.layout matte) (P.numbers self.now.clr))
-            (map M.numbers src.now) (map D.reads row.old) }
-    {
-        let count = row.len().min(src.len());
-        let start = coverage_runs::<O, P, D, M>(row, src, &self.clr, count);
-        if start < count {
-            let (rest, mattes) = (&mut row[start..], &src[start..]);
-            finish_coverage::<O, P, D, M>(rest, mattes, &self.clr, self.op);
+            let start = coverage_runs::<O, P, D, M>(row, src, &self.clr, count);
+            if start < count {
+                let (rest, mattes) = (&mut row[start..], &src[start..]);
+                finish_coverage::<O, P, D, M>(rest, mattes, &self.clr, self.op);
+            }
         }
     }
 }
@@ -331,35 +316,15 @@ impl<
     ghost makes = { λ _ matte. matted_composite P.layout O.op (matte_value P.layout matte) };
 
     fn blit(&self, row: &mut [D], src: &[S], mask: &[M]) {
+        let count = row.len().min(src.len()).min(mask.len());
         if clears::<O, P>() {
-            let count = row.len().min(src.len()).min(mask.len());
             clear_row::<P, D>(&mut row[..count]);
         } else {
-            self.composite(row, src, mask);
-        }
-    }
-}
-
-impl<P: Pixel<Alpha = Premultiplied, Gamma = Linear>, O: Blend> MattedPixels<P, O> {
-    /// Composites pixels with those of a row through mattes. Condition: the format has an alpha
-    /// channel.
-    #[inline(always)]
-    fn composite<D: Stored<P>, S: Stored<P>, M: Coverage<P::Chan>>(
-        &self,
-        row: &mut [D],
-        src: &[S],
-        mask: &[M],
-    )
-        requires has_alpha { P.layout.count ≡ P.layout.alpha + 1 }
-        ensures { map D.reads row.new ≡
-            over (λ t. matted_composite P.layout O.op (matte_value P.layout t.0) t.1)
-            (zip (map M.numbers mask.now) (map S.reads src.now)) (map D.reads row.old) }
-    {
-        let count = row.len().min(src.len()).min(mask.len());
-        let start = covered_runs::<O, P, D, S, M>(row, src, mask, count);
-        if start < count {
-            let (rest, sources) = (&mut row[start..], &src[start..]);
-            finish_masked::<O, P, D, S, M>(rest, sources, &mask[start..], self.op);
+            let start = covered_runs::<O, P, D, S, M>(row, src, mask, count);
+            if start < count {
+                let (rest, sources) = (&mut row[start..], &src[start..]);
+                finish_masked::<O, P, D, S, M>(rest, sources, &mask[start..], self.op);
+            }
         }
     }
 }
@@ -388,31 +353,15 @@ impl<P: Pixel<Alpha = Premultiplied, Gamma = Linear>, D: Stored<P>, S: Stored<P>
     ghost makes = { λ it. matted_composite P.layout O.op (P.Chan.number it.alpha) };
 
     fn blit(&self, row: &mut [D], src: &[S]) {
+        let count = row.len().min(src.len());
         if clears::<O, P>() {
-            let count = row.len().min(src.len());
             clear_row::<P, D>(&mut row[..count]);
         } else {
-            fade_row::<O, P, D, S>(row, src, self.op, self.alpha);
+            let start = faded_runs::<O, P, D, S>(row, src, self.alpha, count);
+            if start < count {
+                let (rest, sources) = (&mut row[start..], &src[start..]);
+                finish_faded::<O, P, D, S>(rest, sources, self.op, self.alpha);
+            }
         }
-    }
-}
-
-/// Composites pixels with those of a row, each through the same matte value. Condition: the format
-/// has an alpha channel.
-#[inline(always)]
-fn fade_row<O: Blend, P: Pixel<Alpha = Premultiplied, Gamma = Linear>, D: Stored<P>, S: Stored<P>>(
-    row: &mut [D],
-    src: &[S],
-    op: O,
-    alpha: P::Chan,
-)
-    requires has_alpha { P.layout.count ≡ P.layout.alpha + 1 }
-    ensures { map D.reads row.new ≡ over (matted_composite P.layout O.op (P.Chan.number alpha))
-        (map S.reads src.now) (map D.reads row.old) }
-{
-    let count = row.len().min(src.len());
-    let start = faded_runs::<O, P, D, S>(row, src, alpha, count);
-    if start < count {
-        finish_faded::<O, P, D, S>(&mut row[start..], &src[start..], op, alpha);
     }
 }
