@@ -10,7 +10,6 @@ use crate::el::Pixel;
 use crate::planes::block::Block;
 use crate::planes::coverage::eight_values;
 use crate::planes::interleaved::four_channels;
-use crate::planes::masked::{composite_eight_covered, composite_eight_faded};
 use crate::stored::{Coverage, Stored};
 use pix_chan::chan::Channel;
 use pix_ops::ops::Blend;
@@ -180,11 +179,14 @@ impl<P: Pixel, const COPY: usize> Block<P> for Eight<COPY> {
         src: &[S],
         mattes: &[M],
     ) {
-        composite_eight_covered::<O, P, D, S, M, COPY>(dst, src, mattes);
+        let colors = covered::<P, COPY, 4>(eight_pixels::<P, S>(src), &eight_values(mattes));
+        composite_eight::<O, P, D, COPY, 4>(dst, colors);
     }
 
     #[inline(always)]
     fn faded<O: Blend, D: Stored<P>, S: Stored<P>>(dst: &mut [D], src: &[S], alpha: P::Chan) {
-        composite_eight_faded::<O, P, D, S, COPY>(dst, src, alpha);
+        let mut colors = eight_pixels::<P, S>(src);
+        P::Chan::mul_run(&mut colors, &[alpha; 32]);
+        composite_eight::<O, P, D, COPY, 3>(dst, colors);
     }
 }

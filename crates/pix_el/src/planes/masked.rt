@@ -1,6 +1,6 @@
 //! Pixels through mattes or at one opacity. Each block's channels are multiplied by the mattes of
-//! their own pixels, and composited as in any other block. This file has the blocks of four
-//! interleaved channels, and the choice of blocks.
+//! their own pixels, and composited as in any other block. This file has blocks of four interleaved
+//! pixels, and the choice of blocks.
 ghost use Rattle.std.specs.Prelude.{◌≡◌, ◌≤◌, ◌+◌, [], ◌∷◌, length, map, take};
 ghost use Rattle.std.specs.List.{zip};
 ghost use Rattle.pix_chan.specs.Runs.{over};
@@ -9,8 +9,7 @@ ghost use Rattle.pix_el.specs.PixelComposite.{matted_composite};
 
 use crate::el::Pixel;
 use crate::planes::block::{faded_blocks, masked_blocks};
-use crate::planes::coverage::eight_values;
-use crate::planes::eight::{Eight, composite_eight, covered, eight_pixels};
+use crate::planes::eight::Eight;
 use crate::planes::four::Four;
 use crate::planes::half::HalfTwo;
 use crate::planes::interleaved::{Interleaved, composite_four, four_pixels};
@@ -73,56 +72,6 @@ pub(super) fn composite_covered<
     let (a, b) = (mattes[0].coverage(), mattes[1].coverage());
     let (c, d) = (mattes[2].coverage(), mattes[3].coverage());
     composite_masked::<O, P, D, S>(dst, src, a, b, c, d);
-}
-
-/// Composites eight pixels with those of `dst`, each through the matte of the same index.
-///
-/// Condition: the alpha is the last channel, and none is a hue.
-#[inline(always)]
-pub(super) fn composite_eight_covered<
-    O: Blend,
-    P: Pixel,
-    D: Stored<P>,
-    S: Stored<P>,
-    M: Coverage<P::Chan>,
-    const COPY: usize,
->(dst: &mut [D], src: &[S], mattes: &[M])
-    requires count { P.layout.count ≡ 4 }
-    requires alpha { P.layout.alpha ≡ 3 }
-    requires no_hue { P.layout.hues.end ≡ 0 }
-    requires size { length dst.old ≡ 8 }
-    requires src_size { length src.now ≡ 8 }
-    requires whole { length mattes.now ≡ 8 }
-    ensures { map D.reads dst.new ≡ over (λ t. matted_composite P.layout O.op t.0 t.1)
-        (zip (map (coverage_of P.Chan.max M.numbers) mattes.now) (map S.reads src.now))
-        (map D.reads dst.old) }
-{
-    let colors = covered::<P, COPY, 4>(eight_pixels::<P, S>(src), &eight_values(mattes));
-    composite_eight::<O, P, D, COPY, 4>(dst, colors);
-}
-
-/// Composites eight pixels with those of `dst`, each through the same matte value.
-///
-/// Condition: the alpha is the last channel, and none is a hue.
-#[inline(always)]
-pub(super) fn composite_eight_faded<
-    O: Blend,
-    P: Pixel,
-    D: Stored<P>,
-    S: Stored<P>,
-    const COPY: usize,
->(dst: &mut [D], src: &[S], alpha: P::Chan)
-    requires count { P.layout.count ≡ 4 }
-    requires last { P.layout.alpha ≡ 3 }
-    requires no_hue { P.layout.hues.end ≡ 0 }
-    requires size { length dst.old ≡ 8 }
-    requires src_size { length src.now ≡ 8 }
-    ensures { map D.reads dst.new ≡ over (matted_composite P.layout O.op (P.Chan.number alpha))
-        (map S.reads src.now) (map D.reads dst.old) }
-{
-    let mut colors = eight_pixels::<P, S>(src);
-    P::Chan::mul_run(&mut colors, &[alpha; 32]);
-    composite_eight::<O, P, D, COPY, 3>(dst, colors);
 }
 
 /// Composites as many of the first `count` pixels as go in the largest blocks, each through the

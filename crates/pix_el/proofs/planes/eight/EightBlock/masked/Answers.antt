@@ -5,7 +5,7 @@ use Rattle.pix_chan.specs.Runs.{over}
 use Rattle.pix_el.specs.Planes.{by_fours}
 use Rattle.pix_el.specs.PixelComposite.{pixel_composite, matted_color, matted_composite}
 use Rattle.pix_el.proofs.Masked.{over-beside}
-use Rattle.pix_el.proofs.planes.masked.composite_eight_covered.Goals as goal
+use Rattle.pix_el.proofs.planes.eight.EightBlock.masked.Goals as goal
 
 pub returns : goal.returns
 returns g c =

@@ -8,7 +8,7 @@ use Rattle.pix_el.proofs.Models.{placed_by_row}
 use Rattle.pix_el.proofs.FourPlanes.{is_four_of, four_of}
 use Rattle.pix_el.proofs.EightPixels.{eight_matted}
 use Rattle.pix_el.proofs.Masked.{over-beside, over-one}
-use Rattle.pix_el.proofs.planes.masked.composite_eight_faded.Goals as goal
+use Rattle.pix_el.proofs.planes.eight.EightBlock.faded.Goals as goal
 
 pub returns : goal.returns
 returns g c =
@@ -23,7 +23,7 @@ returns g c =
     let a = v c.args.alpha in
     let cs = map v c.eight_pixels-colors.result in
     let four : layout ≡ four_of max 0 = is_four_of layout max g.P.Model.ColorModel.CIRCULAR g.P.Model.ColorModel.ALPHA g.met.P.Pixel.laid_out
-    c.requires.count c.requires.last (placed_by_row g.P.Model.ColorModel.model _ g.met.P.Model.ColorModel.stands).hue_first ∙ ap (four_of max) c.requires.no_hue in
+    c.requires.suits.0 c.requires.suits.1 (placed_by_row g.P.Model.ColorModel.model _ g.met.P.Model.ColorModel.stands).hue_first ∙ ap (four_of max) c.requires.suits.2 in
     let colors : by_fours (map v c.mul_run.new.dst) ≡ over (matted_color layout) (replicate 8 a) ss = ap by_fours c.mul_run.ensures
     ∙ eight_matted max a a a a a a a a cs (omega (arith, length-map c.eight_pixels-colors.result v))
     ∙ ap (over (matted_color (four_of max 0)) (replicate 8 a)) c.eight_pixels-colors.ensures
