@@ -96,7 +96,7 @@ pub(crate) fn coverage_runs<O: Blend, P: Pixel, D: Stored<P>, M: Coverage<P::Cha
         (take result (map (coverage_of P.Chan.max M.numbers) src.now)) (map D.reads dst.old) }
 {
     if is_interleaved::<P>() && is_wide::<P::Chan>() {
-        matte_blocks::<O, P, D, M, Eight<0>>(dst, src, clr, count)
+        matte_blocks::<O, P, D, M, Eight>(dst, src, clr, count)
     } else if is_interleaved::<P>() && uses_colors::<O, P::Chan>() {
         matte_blocks::<O, P, D, M, Pair>(dst, src, clr, count)
     } else if has_four::<P>() {
@@ -135,7 +135,7 @@ fn coverage_eights<O: Blend, P: Pixel, D: Stored<P>, M: Coverage<P::Chan>>(
     if is_wide::<P::Chan>() {
         0
     } else {
-        matte_blocks::<O, P, D, M, Eight<0>>(dst, src, clr, count)
+        matte_blocks::<O, P, D, M, Eight>(dst, src, clr, count)
     }
 }
 

@@ -29,7 +29,7 @@ pub(super) fn eight_pixels<P: Pixel, D: Stored<P>>(p: &[D]) -> [P::Chan; 32]
 
 /// Returns the channels of eight pixels of one color, pixel by pixel.
 #[inline(always)]
-fn eight_times<P: Pixel>(clr: &P) -> [P::Chan; 32]
+pub(super) fn eight_times<P: Pixel>(clr: &P) -> [P::Chan; 32]
     requires { P.layout.count ≡ 4 }
     ensures { by_fours (map P.Chan.number result) ≡ replicate 8 (P.numbers clr.now) }
 {
@@ -117,7 +117,9 @@ fn alphas_left<F: Factor, C: Channel>(pixels: [C; 32]) -> [C; 32]
 }
 
 /// Composites the eight pixels of these channels with those of `dst`. At each index the alphas are
-/// those of its own pixel.
+/// those of its own pixel. Each `CALLER` of each `COPY` has code of its own, since LLVM inlines a
+/// large function only where it is called once: the blocks of eight are copy 0, and the two halves
+/// of sixteen pixels copies 1 and 2.
 ///
 /// Condition: the alpha is the last channel, and none is a hue.
 #[inline(always)]
@@ -142,11 +144,10 @@ pub(super) fn composite_eight<
     put_eight_pixels::<P, D>(dst, to);
 }
 
-/// Pixels of four channels without a hue, eight at a time. Each `COPY` has code of its own, and so
-/// has each `CALLER` in it, since LLVM inlines a large function only where it is called once.
-pub(crate) struct Eight<const COPY: usize> {}
+/// Pixels of four channels without a hue, eight at a time.
+pub(crate) struct Eight {}
 
-impl<P: Pixel, const COPY: usize> Block<P> for Eight<COPY> {
+impl<P: Pixel> Block<P> for Eight {
     ghost suits = { (P.layout.count ≡ 4) × (P.layout.alpha ≡ 3) × (P.layout.hues.end ≡ 0) };
 
     ghost SIZE = { 8 };
@@ -159,18 +160,18 @@ impl<P: Pixel, const COPY: usize> Block<P> for Eight<COPY> {
 
     #[inline(always)]
     fn composite<O: Blend, D: Stored<P>, S: Stored<P>>(dst: &mut [D], src: &[S]) {
-        composite_eight::<O, P, D, COPY, 0>(dst, eight_pixels::<P, S>(src));
+        composite_eight::<O, P, D, 0, 0>(dst, eight_pixels::<P, S>(src));
     }
 
     #[inline(always)]
     fn color<O: Blend, D: Stored<P>>(dst: &mut [D], clr: &P) {
-        composite_eight::<O, P, D, COPY, 1>(dst, eight_times(clr));
+        composite_eight::<O, P, D, 0, 1>(dst, eight_times(clr));
     }
 
     #[inline(always)]
     fn matted<O: Blend, D: Stored<P>, M: Coverage<P::Chan>>(dst: &mut [D], src: &[M], clr: &P) {
-        let colors = covered::<P, COPY, 2>(eight_times(clr), &eight_values(src));
-        composite_eight::<O, P, D, COPY, 2>(dst, colors);
+        let colors = covered::<P, 0, 2>(eight_times(clr), &eight_values(src));
+        composite_eight::<O, P, D, 0, 2>(dst, colors);
     }
 
     #[inline(always)]
@@ -179,14 +180,14 @@ impl<P: Pixel, const COPY: usize> Block<P> for Eight<COPY> {
         src: &[S],
         mattes: &[M],
     ) {
-        let colors = covered::<P, COPY, 4>(eight_pixels::<P, S>(src), &eight_values(mattes));
-        composite_eight::<O, P, D, COPY, 4>(dst, colors);
+        let colors = covered::<P, 0, 4>(eight_pixels::<P, S>(src), &eight_values(mattes));
+        composite_eight::<O, P, D, 0, 4>(dst, colors);
     }
 
     #[inline(always)]
     fn faded<O: Blend, D: Stored<P>, S: Stored<P>>(dst: &mut [D], src: &[S], alpha: P::Chan) {
         let mut colors = eight_pixels::<P, S>(src);
         P::Chan::mul_run(&mut colors, &[alpha; 32]);
-        composite_eight::<O, P, D, COPY, 3>(dst, colors);
+        composite_eight::<O, P, D, 0, 3>(dst, colors);
     }
 }

@@ -162,7 +162,7 @@ pub(crate) fn covered_rest<O: Blend, P: Pixel, D: Stored<P>, S: Stored<P>, M: Co
         (map D.reads dst.old) }
 {
     if is_interleaved::<P>() {
-        let start = masked_blocks::<O, P, D, S, M, Eight<0>>(dst, src, mattes, count);
+        let start = masked_blocks::<O, P, D, S, M, Eight>(dst, src, mattes, count);
         let (rest, sources) = (&mut dst[start..], &src[start..]);
         let (mattes, count) = (&mattes[start..], count - start);
         start + masked_blocks::<O, P, D, S, M, Interleaved>(rest, sources, mattes, count)
@@ -193,7 +193,7 @@ pub(crate) fn faded_rest<O: Blend, P: Pixel, D: Stored<P>, S: Stored<P>>(
         (take result (map S.reads src.now)) (map D.reads dst.old) }
 {
     if is_interleaved::<P>() {
-        let start = faded_blocks::<O, P, D, S, Eight<0>>(dst, src, alpha, count);
+        let start = faded_blocks::<O, P, D, S, Eight>(dst, src, alpha, count);
         let (rest, sources) = (&mut dst[start..], &src[start..]);
         start + faded_blocks::<O, P, D, S, Interleaved>(rest, sources, alpha, count - start)
     } else if has_two::<P>() {

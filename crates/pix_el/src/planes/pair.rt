@@ -1,12 +1,14 @@
 //! Sixteen pixels of four channels without a hue: two blocks of eight, one after the other. What
-//! the lanes need of constants is then read once for both. Each half has code of its own
-//! (`Eight`), so that LLVM inlines both.
+//! the lanes need of constants is then read once for both. Each half has code of its own (`COPY` of
+//! `composite_eight`), so that LLVM inlines both.
 ghost use Rattle.std.specs.Prelude.{◌≡◌, refl};
 
 use crate::el::Pixel;
 use crate::planes::block::Block;
-use crate::planes::eight::Eight;
+use crate::planes::coverage::eight_values;
+use crate::planes::eight::{composite_eight, covered, eight_pixels, eight_times};
 use crate::stored::{Coverage, Stored};
+use pix_chan::chan::Channel;
 use pix_ops::ops::Blend;
 
 /// Pixels of four channels without a hue, sixteen at a time.
@@ -25,20 +27,25 @@ impl<P: Pixel> Block<P> for Pair {
 
     #[inline(always)]
     fn composite<O: Blend, D: Stored<P>, S: Stored<P>>(dst: &mut [D], src: &[S]) {
-        <Eight<1> as Block<P>>::composite::<O, D, S>(&mut dst[..8], &src[..8]);
-        <Eight<2> as Block<P>>::composite::<O, D, S>(&mut dst[8..16], &src[8..16]);
+        composite_eight::<O, P, D, 1, 0>(&mut dst[..8], eight_pixels::<P, S>(&src[..8]));
+        composite_eight::<O, P, D, 2, 0>(&mut dst[8..16], eight_pixels::<P, S>(&src[8..16]));
     }
 
     #[inline(always)]
+    #[tactic(auto, using(crate::proofs::EightBlocks::first_eight))]
     fn color<O: Blend, D: Stored<P>>(dst: &mut [D], clr: &P) {
-        <Eight<1> as Block<P>>::color::<O, D>(&mut dst[..8], clr);
-        <Eight<2> as Block<P>>::color::<O, D>(&mut dst[8..16], clr);
+        let first = eight_times(clr);
+        composite_eight::<O, P, D, 1, 1>(&mut dst[..8], first);
+        let second = eight_times(clr);
+        composite_eight::<O, P, D, 2, 1>(&mut dst[8..16], second);
     }
 
     #[inline(always)]
     fn matted<O: Blend, D: Stored<P>, M: Coverage<P::Chan>>(dst: &mut [D], src: &[M], clr: &P) {
-        <Eight<1> as Block<P>>::matted::<O, D, M>(&mut dst[..8], &src[..8], clr);
-        <Eight<2> as Block<P>>::matted::<O, D, M>(&mut dst[8..16], &src[8..16], clr);
+        let first = covered::<P, 1, 2>(eight_times(clr), &eight_values(&src[..8]));
+        composite_eight::<O, P, D, 1, 2>(&mut dst[..8], first);
+        let second = covered::<P, 2, 2>(eight_times(clr), &eight_values(&src[8..16]));
+        composite_eight::<O, P, D, 2, 2>(&mut dst[8..16], second);
     }
 
     #[inline(always)]
@@ -47,13 +54,21 @@ impl<P: Pixel> Block<P> for Pair {
         src: &[S],
         mattes: &[M],
     ) {
-        <Eight<1> as Block<P>>::masked::<O, D, S, M>(&mut dst[..8], &src[..8], &mattes[..8]);
-        <Eight<2> as Block<P>>::masked::<O, D, S, M>(&mut dst[8..16], &src[8..16], &mattes[8..16]);
+        let pixels = eight_pixels::<P, S>(&src[..8]);
+        let first = covered::<P, 1, 4>(pixels, &eight_values(&mattes[..8]));
+        composite_eight::<O, P, D, 1, 4>(&mut dst[..8], first);
+        let others = eight_pixels::<P, S>(&src[8..16]);
+        let second = covered::<P, 2, 4>(others, &eight_values(&mattes[8..16]));
+        composite_eight::<O, P, D, 2, 4>(&mut dst[8..16], second);
     }
 
     #[inline(always)]
     fn faded<O: Blend, D: Stored<P>, S: Stored<P>>(dst: &mut [D], src: &[S], alpha: P::Chan) {
-        <Eight<1> as Block<P>>::faded::<O, D, S>(&mut dst[..8], &src[..8], alpha);
-        <Eight<2> as Block<P>>::faded::<O, D, S>(&mut dst[8..16], &src[8..16], alpha);
+        let mut first = eight_pixels::<P, S>(&src[..8]);
+        P::Chan::mul_run(&mut first, &[alpha; 32]);
+        composite_eight::<O, P, D, 1, 3>(&mut dst[..8], first);
+        let mut second = eight_pixels::<P, S>(&src[8..16]);
+        P::Chan::mul_run(&mut second, &[alpha; 32]);
+        composite_eight::<O, P, D, 2, 3>(&mut dst[8..16], second);
     }
 }

@@ -65,7 +65,7 @@ pub(crate) fn pixel_rest<O: Blend, P: Pixel, D: Stored<P>, S: Stored<P>>(
         (take result (map S.reads src.now)) (map D.reads dst.old) }
 {
     if is_interleaved::<P>() {
-        let start = composite_blocks::<O, P, D, S, Eight<0>>(dst, src, count);
+        let start = composite_blocks::<O, P, D, S, Eight>(dst, src, count);
         let (rest, sources) = (&mut dst[start..], &src[start..]);
         start + composite_blocks::<O, P, D, S, Interleaved>(rest, sources, count - start)
     } else if has_two::<P>() {
@@ -111,7 +111,7 @@ pub(crate) fn color_rest<O: Blend, P: Pixel, D: Stored<P>>(dst: &mut [D], clr: &
         (take result (replicate (length dst.old) (P.numbers clr.now))) (map D.reads dst.old) }
 {
     if is_interleaved::<P>() {
-        let start = color_blocks::<O, P, D, Eight<0>>(dst, clr);
+        let start = color_blocks::<O, P, D, Eight>(dst, clr);
         start + color_blocks::<O, P, D, Interleaved>(&mut dst[start..], clr)
     } else if has_two::<P>() {
         color_blocks::<O, P, D, HalfTwo>(dst, clr)
