@@ -110,35 +110,6 @@ pub(crate) fn coverage_runs<O: Blend, P: Pixel, D: Stored<P>, M: Coverage<P::Cha
     }
 }
 
-/// Composites `clr` through mattes with as many of the first `count` pixels as go in blocks of eight
-/// interleaved ones after the largest, and returns their number.
-///
-/// Condition: the alpha is the last of four channels, none is a hue, and both slices have `count`
-/// elements.
-#[inline(always)]
-fn coverage_eights<O: Blend, P: Pixel, D: Stored<P>, M: Coverage<P::Chan>>(
-    dst: &mut [D],
-    src: &[M],
-    clr: &P,
-    count: usize,
-) -> usize
-    requires has_alpha { P.layout.count ≡ P.layout.alpha + 1 }
-    requires alpha { P.layout.alpha ≡ 3 }
-    requires no_hue { P.layout.hues.end ≡ 0 }
-    requires dst_has { count ≤ length dst.old }
-    requires src_has { count ≤ length src.now }
-    ensures some { result ≤ count }
-    ensures composite { map D.reads dst.new ≡
-        over (λ m. matted_composite P.layout O.op m (P.numbers clr.now))
-        (take result (map (coverage_of P.Chan.max M.numbers) src.now)) (map D.reads dst.old) }
-{
-    if is_wide::<P::Chan>() {
-        0
-    } else {
-        matte_blocks::<O, P, D, M, Eight>(dst, src, clr, count)
-    }
-}
-
 /// Composites `clr` through mattes with as many of the first `count` pixels as go in the blocks
 /// that follow the largest, and returns their number.
 ///
@@ -158,8 +129,10 @@ pub(crate) fn coverage_rest<O: Blend, P: Pixel, D: Stored<P>, M: Coverage<P::Cha
         over (λ m. matted_composite P.layout O.op m (P.numbers clr.now))
         (take result (map (coverage_of P.Chan.max M.numbers) src.now)) (map D.reads dst.old) }
 {
-    if is_interleaved::<P>() {
-        let start = coverage_eights::<O, P, D, M>(dst, src, clr, count);
+    if is_interleaved::<P>() && is_wide::<P::Chan>() {
+        matte_blocks::<O, P, D, M, Interleaved>(dst, src, clr, count)
+    } else if is_interleaved::<P>() {
+        let start = matte_blocks::<O, P, D, M, Eight>(dst, src, clr, count);
         let (rest, mattes) = (&mut dst[start..], &src[start..]);
         start + matte_blocks::<O, P, D, M, Interleaved>(rest, mattes, clr, count - start)
     } else if has_two::<P>() {

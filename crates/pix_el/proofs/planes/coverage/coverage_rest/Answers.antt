@@ -6,11 +6,11 @@ use Rattle.pix_el.proofs.MattePlanes.{next_run}
 use Rattle.pix_el.specs.Planes.{coverage_of}
 use Rattle.pix_el.proofs.planes.coverage.coverage_rest.Goals as goal
 
-pub returns-then-is_interleaved-clause-composite : goal.returns-then-is_interleaved-clause-composite
-returns-then-is_interleaved-clause-composite g c =
+pub returns-then-is_interleaved-2-clause-composite : goal.returns-then-is_interleaved-2-clause-composite
+returns-then-is_interleaved-2-clause-composite g c =
     let v = g.P.Pixel.numbers in
-    let first = c.coverage_eights-start in
-    let second = c.matte_blocks in
+    let first = c.matte_blocks-start in
+    let second = c.matte_blocks-then-is_interleaved-2 in
     next_run g.D.Stored.reads (coverage_of g.P.Chan.Channel.max g.M.Coverage.numbers) (λ m. matted_composite g.P.Pixel.layout g.O.Blend.op m (v c.args.clr.now)) first.result second.result c.args.dst.now first.new.dst second.new.dst c.args.src.now
     first.ensures.composite (omega arith) second.ensures.composite
 
