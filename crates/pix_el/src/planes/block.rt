@@ -127,42 +127,10 @@ pub(crate) fn color_blocks<O: Blend, P: Pixel, D: Stored<P>, B: Block<P>>(
     count / size * size
 }
 
-/// Composites `clr` with each pixel of a block through the matte of the same index. A block is
-/// skipped where the operator keeps any pixel. Where all mattes are 0, it is skipped if the
-/// operator keeps pixels under a transparent source. Of four channels it is then made clear if the
-/// operator empties them.
-///
-/// Condition: the format has an alpha channel.
-#[inline(always)]
-fn matted_block<O: Blend, P: Pixel, D: Stored<P>, M: Coverage<P::Chan>, B: Block<P>>(
-    dst: &mut [D],
-    src: &[M],
-    clr: &P,
-)
-    requires has_alpha { P.layout.count ≡ P.layout.alpha + 1 }
-    requires suits { B.suits }
-    requires size { length dst.old ≡ B.SIZE }
-    requires src_size { length src.now ≡ B.SIZE }
-    ensures { map D.reads dst.new ≡
-        over (λ m. matted_composite P.layout O.op m (P.numbers clr.now))
-        (map (coverage_of P.Chan.max M.numbers) src.now) (map D.reads dst.old) }
-{
-    if keeps_all::<O, P::Chan>() {
-        see_channels::<P, D>(dst);
-    } else if keeps_under_clear::<O, P::Chan>() && are_clear::<P::Chan, M>(src) {
-        see_channels::<P, D>(dst);
-    } else if saves_products::<P>()
-        && empties_under_clear::<O, P>()
-        && are_clear::<P::Chan, M>(src)
-    {
-        clear_row::<P, D>(dst);
-    } else {
-        B::matted::<O, D, M>(dst, src, clr);
-    }
-}
-
 /// Composites `clr` through mattes with as many of the first `count` pixels as go in whole blocks,
-/// and returns their number.
+/// and returns their number. A block is skipped where the operator keeps any pixel. Where all its
+/// mattes are 0, it is skipped if the operator keeps pixels under a transparent source. Of four
+/// channels it is then made clear if the operator empties them.
 ///
 /// Condition: the format has an alpha channel, and both slices have `count` elements.
 #[inline(always)]
@@ -185,7 +153,19 @@ pub(super) fn matte_blocks<O: Blend, P: Pixel, D: Stored<P>, M: Coverage<P::Chan
     let size = B::SIZE;
     for i in 0..count / size {
         let at = size * i;
-        matted_block::<O, P, D, M, B>(&mut dst[at..at + size], &src[at..at + size], &color);
+        let (block, mattes) = (&mut dst[at..at + size], &src[at..at + size]);
+        if keeps_all::<O, P::Chan>() {
+            see_channels::<P, D>(block);
+        } else if keeps_under_clear::<O, P::Chan>() && are_clear::<P::Chan, M>(mattes) {
+            see_channels::<P, D>(block);
+        } else if saves_products::<P>()
+            && empties_under_clear::<O, P>()
+            && are_clear::<P::Chan, M>(mattes)
+        {
+            clear_row::<P, D>(block);
+        } else {
+            B::matted::<O, D, M>(block, mattes, &color);
+        }
     }
     count / size * size
 }
