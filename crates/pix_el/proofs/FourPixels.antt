@@ -1,5 +1,5 @@
 -- Four pixels of four channels in pixel order.
-use Rattle.std.proofs.Common.{◌≡◌, ℕ, zero, suc, ◌-◌, ◌≤◌, ◌∙◌, List, [], ◌∷◌, length, map, refl, ap, arith, replicate}
+use Rattle.std.proofs.Common.{◌≡◌, ℕ, zero, suc, ◌-◌, ◌≤◌, List, [], ◌∷◌, length, map, refl, ap, arith, replicate}
 use lib.Lanes.{Each1}
 use Rattle.pix_ops.specs.declared.ops.Op.{Op}
 use Rattle.pix_chan.specs.Runs.{over, triples}
@@ -61,11 +61,6 @@ pub each_matted : (max a b c d : ℕ) (cs : List ℕ) → length cs ≡ 16
     → by_fours (over (λ y x. channel_product max x y) (a ∷ a ∷ a ∷ a ∷ b ∷ b ∷ b ∷ b ∷ c ∷ c ∷ c ∷ c ∷ d ∷ d ∷ d ∷ d ∷ []) cs)
     ≡ over (matted_color (four_of max 0)) (a ∷ b ∷ c ∷ d ∷ []) (by_fours cs)
 each_matted max a b c d cs h = rw (← (is_sixteen cs h).1) refl
-
-pub color_matted : (max a b c d : ℕ) (color cs : List ℕ) → length cs ≡ 16 → by_fours cs ≡ replicate 4 color
-    → by_fours (over (λ y x. channel_product max x y) (a ∷ a ∷ a ∷ a ∷ b ∷ b ∷ b ∷ b ∷ c ∷ c ∷ c ∷ c ∷ d ∷ d ∷ d ∷ d ∷ []) cs)
-    ≡ map (λ m. matted_color (four_of max 0) m color) (a ∷ b ∷ c ∷ d ∷ [])
-color_matted max a b c d color cs h e = each_matted max a b c d cs h ∙ ap (over (matted_color (four_of max 0)) (a ∷ b ∷ c ∷ d ∷ [])) e
 
 -- what makes an alpha of one at the place of each alpha
 abbrev pub ones : ℕ → ℕ → ℕ → List ℕ

@@ -4,12 +4,11 @@ use lib.Lanes.{Each1}
 use Rattle.std.specs.declared.ops.Range.{Range}
 use Rattle.std.proofs.lemmas.List.{map-append}
 use Rattle.pix_ops.specs.declared.ops.Op.{Op}
-use Rattle.pix_chan.specs.Product.{channel_product}
 use Rattle.pix_chan.specs.Runs.{over, triples}
 use Rattle.pix_ops.specs.Composite.{run_composite}
 use Rattle.pix_el.specs.Planes.{by_ones}
 use Rattle.pix_el.specs.Pixel.{Layout}
-use Rattle.pix_el.specs.PixelComposite.{pixel_composite, matted_color}
+use Rattle.pix_el.specs.PixelComposite.{pixel_composite}
 use Rattle.pix_chan.proofs.Planes.{cons}
 use Rattle.pix_el.proofs.FourPlanes.{is_layout, one_channel}
 
@@ -45,12 +44,6 @@ ones_composited max op (s ∷ ss) (d ∷ ds) h p q =
 -- one color again and again
 pub same_ones : {C : Type 0} (number : C → ℕ) (a : C) (color : List ℕ) → number a ∷ [] ≡ color → by_ones (map number (replicate 16 a)) ≡ replicate 16 color
 same_ones number a color e = ap (replicate 16) e
-
--- a color through each of mattes
-pub ones_matted : (max a : ℕ) (color : List ℕ) → a ∷ [] ≡ color → (ms : List ℕ)
-    → by_ones (map (channel_product max a) ms) ≡ map (λ m. matted_color (one_of max) m color) ms
-ones_matted max a color e [] = refl
-ones_matted max a color e (m ∷ ms) = cons (ap (matted_color (one_of max) m) e) (ones_matted max a color e ms)
 
 -- the pixels of two lists of channels
 pub by_ones-joined : (a b : List ℕ) → by_ones (a ++ b) ≡ by_ones a ++ by_ones b

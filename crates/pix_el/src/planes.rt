@@ -9,7 +9,7 @@
 //!
 //! The blocks are chosen by the model (`runs.rt`, `masked.rt`), for a color through mattes also by
 //! the operator (`coverage.rt`). No contract of `rows.rt` depends on it.
-ghost use Rattle.std.specs.Prelude.{◌≡◌, ◌≤◌, map, true};
+ghost use Rattle.std.specs.Prelude.{◌≡◌, ◌≤◌, length, map, true};
 ghost use Rattle.pix_chan.specs.Runs.{over, triples};
 ghost use Rattle.pix_el.specs.Planes.{run_hue, run_first, matted_first};
 
@@ -48,8 +48,9 @@ fn composite_hues<O: Blend, C: Channel>(dst: &mut [C], da1: &[C], src: &[C], sa1
     }
 }
 
-/// Composites the first channels, which may be hues, at the same index of all four slices. The
-/// shortest length decides.
+/// Composites the first channels, which may be hues, at the same index of all four slices.
+///
+/// Condition: all four have one length, of at most thirty-two.
 #[inline(always)]
 fn composite_first<O: Blend, M: ColorModel, C: Channel>(
     dst: &mut [C],
@@ -57,6 +58,10 @@ fn composite_first<O: Blend, M: ColorModel, C: Channel>(
     src: &[C],
     sa1: &[C],
 )
+    requires few { length dst.old ≤ 32 }
+    requires da1_same { length da1.now ≡ length dst.old }
+    requires src_same { length src.now ≡ length dst.old }
+    requires sa1_same { length sa1.now ≡ length dst.old }
     ensures { map C.number dst.new ≡ over (run_first C.max M.CIRCULAR O.op)
         (triples (map C.number da1.now) (map C.number src.now) (map C.number sa1.now))
         (map C.number dst.old) }
@@ -64,7 +69,7 @@ fn composite_first<O: Blend, M: ColorModel, C: Channel>(
     if is_hue::<M>(0) {
         composite_hues::<O, C>(dst, da1, src, sa1);
     } else {
-        O::composite_run(dst, da1, src, sa1);
+        O::composite_block(dst, da1, src, sa1);
     }
 }
 

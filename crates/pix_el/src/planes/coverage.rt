@@ -63,6 +63,20 @@ pub(super) fn eight_values<C: Channel, M: Coverage<C>>(src: &[M]) -> [C; 8]
     ]
 }
 
+/// Returns the values of four mattes.
+#[inline(always)]
+pub(super) fn four_values<C: Channel, M: Coverage<C>>(src: &[M]) -> [C; 4]
+    requires { length src.now ≡ 4 }
+    ensures { map C.number result ≡ map (coverage_of C.max M.numbers) src.now }
+{
+    [
+        src[0].coverage(),
+        src[1].coverage(),
+        src[2].coverage(),
+        src[3].coverage(),
+    ]
+}
+
 /// Returns whether channels have more than 8 bits.
 #[inline(always)]
 pub(crate) fn is_wide<C: Channel>() -> bool {

@@ -1,10 +1,9 @@
 //! Pixels of four channels by planes, sixteen at a time.
-ghost use Rattle.std.specs.Prelude.{◌≡◌, ◌≤◌, ℕ, List, [], ◌∷◌, length, map, refl};
-ghost use Rattle.std.specs.List.{zip};
+ghost use Rattle.std.specs.Prelude.{◌≡◌, ◌≤◌, ℕ, List, length, map, refl};
 ghost use Rattle.pix_chan.specs.Planes.{in_turn};
 ghost use Rattle.pix_chan.specs.Runs.{over};
 ghost use Rattle.pix_el.specs.Planes.{by_fours, ArePlanes};
-ghost use Rattle.pix_el.specs.PixelComposite.{pixel_composite, matted_composite};
+ghost use Rattle.pix_el.specs.PixelComposite.{pixel_composite, matted_color};
 
 use crate::el::Pixel;
 use crate::planes::block::Block;
@@ -83,63 +82,34 @@ fn composite_sixteen<O: Blend, P: Pixel, D: Stored<P>, const CALLER: usize>(
     put_planes::<P, D>(dst, to_one, to_two, to_three, to_four);
 }
 
-/// Composites the color of these channels with sixteen pixels, each through the matte value of the
-/// same index.
+/// Returns the planes of sixteen pixels, each pixel multiplied by the matte value of the same
+/// index. Each `CALLER` of each operator has a copy of its own, since LLVM inlines a large function
+/// only where it is called once.
 ///
 /// Condition: the alpha is the last channel, and only the first may be a hue.
 #[inline(always)]
-fn composite_matted<O: Blend, P: Pixel, D: Stored<P>, const CALLER: usize>(
-    dst: &mut [D],
+fn covered<O: Blend, P: Pixel, const CALLER: usize>(
+    mut one: [P::Chan; 16],
+    mut two: [P::Chan; 16],
+    mut three: [P::Chan; 16],
+    mut four: [P::Chan; 16],
     mattes: &[P::Chan],
-    a: P::Chan,
-    b: P::Chan,
-    c: P::Chan,
-    d: P::Chan,
-)
+) -> ([P::Chan; 16], [P::Chan; 16], [P::Chan; 16], [P::Chan; 16])
     requires count { P.layout.count ≡ 4 }
     requires alpha { P.layout.alpha ≡ 3 }
     requires hue { P.layout.hues.end ≤ 1 }
-    requires size { length dst.old ≡ 16 }
-    requires whole { length mattes.now ≡ 16 }
-    ensures { map D.reads dst.new ≡ over (λ m. matted_composite P.layout O.op m
-        (P.Chan.number a ∷ P.Chan.number b ∷ P.Chan.number c ∷ P.Chan.number d ∷ []))
-        (map P.Chan.number mattes.now) (map D.reads dst.old) }
+    ensures { (pixels : List (List ℕ))
+        → ArePlanes P.Chan.max pixels (map P.Chan.number one) (map P.Chan.number two)
+        (map P.Chan.number three) (map P.Chan.number four)
+        → ArePlanes P.Chan.max (over (matted_color P.layout) (map P.Chan.number mattes.now) pixels)
+        (map P.Chan.number result.0) (map P.Chan.number result.1)
+        (map P.Chan.number result.2) (map P.Chan.number result.3) }
 {
-    let mut one = [a; 16];
-    let mut two = [b; 16];
-    let mut three = [c; 16];
-    let mut four = [d; 16];
     scale_first::<P::Model, P::Chan>(&mut one, mattes);
     P::Chan::mul_run(&mut two, mattes);
     P::Chan::mul_run(&mut three, mattes);
     P::Chan::mul_run(&mut four, mattes);
-    composite_sixteen::<O, P, D, CALLER>(dst, one, two, three, four);
-}
-
-/// Composites sixteen pixels with those of `dst`, each through the matte value of the same index.
-///
-/// Condition: the alpha is the last channel, and only the first may be a hue.
-#[inline(always)]
-fn composite_masked<O: Blend, P: Pixel, D: Stored<P>, S: Stored<P>, const CALLER: usize>(
-    dst: &mut [D],
-    src: &[S],
-    mattes: &[P::Chan],
-)
-    requires count { P.layout.count ≡ 4 }
-    requires alpha { P.layout.alpha ≡ 3 }
-    requires hue { P.layout.hues.end ≤ 1 }
-    requires size { length dst.old ≡ 16 }
-    requires src_size { length src.now ≡ 16 }
-    requires whole { length mattes.now ≡ 16 }
-    ensures { map D.reads dst.new ≡ over (λ t. matted_composite P.layout O.op t.0 t.1)
-        (zip (map P.Chan.number mattes.now) (map S.reads src.now)) (map D.reads dst.old) }
-{
-    let (mut one, mut two, mut three, mut four) = planes::<P, S, CALLER>(src);
-    scale_first::<P::Model, P::Chan>(&mut one, mattes);
-    P::Chan::mul_run(&mut two, mattes);
-    P::Chan::mul_run(&mut three, mattes);
-    P::Chan::mul_run(&mut four, mattes);
-    composite_sixteen::<O, P, D, CALLER>(dst, one, two, three, four);
+    (one, two, three, four)
 }
 
 /// Pixels of four channels of which only the first may be a hue, sixteen at a time.
@@ -171,7 +141,11 @@ impl<P: Pixel> Block<P> for Four {
     #[inline(always)]
     fn matted<O: Blend, D: Stored<P>, M: Coverage<P::Chan>>(dst: &mut [D], src: &[M], clr: &P) {
         let (a, b, c, d) = four_channels(clr);
-        composite_matted::<O, P, D, 3>(dst, &matte_values(src), a, b, c, d);
+        let mattes = matte_values(src);
+        let (one, two, three, four) = covered::<O, P, 3>(
+            [a; 16], [b; 16], [c; 16], [d; 16], &mattes,
+        );
+        composite_sixteen::<O, P, D, 3>(dst, one, two, three, four);
     }
 
     #[inline(always)]
@@ -180,11 +154,15 @@ impl<P: Pixel> Block<P> for Four {
         src: &[S],
         mattes: &[M],
     ) {
-        composite_masked::<O, P, D, S, 4>(dst, src, &matte_values(mattes));
+        let (a, b, c, d) = planes::<P, S, 4>(src);
+        let (one, two, three, four) = covered::<O, P, 4>(a, b, c, d, &matte_values(mattes));
+        composite_sixteen::<O, P, D, 4>(dst, one, two, three, four);
     }
 
     #[inline(always)]
     fn faded<O: Blend, D: Stored<P>, S: Stored<P>>(dst: &mut [D], src: &[S], alpha: P::Chan) {
-        composite_masked::<O, P, D, S, 5>(dst, src, &[alpha; 16]);
+        let (a, b, c, d) = planes::<P, S, 5>(src);
+        let (one, two, three, four) = covered::<O, P, 5>(a, b, c, d, &[alpha; 16]);
+        composite_sixteen::<O, P, D, 5>(dst, one, two, three, four);
     }
 }

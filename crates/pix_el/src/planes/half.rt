@@ -1,10 +1,9 @@
 //! Eight pixels of two channels without a hue, as they are in memory.
 ghost use Rattle.std.specs.Prelude.{◌≡◌, ◌++◌, length, map, take, replicate, refl};
-ghost use Rattle.std.specs.List.{zip};
 ghost use Rattle.pix_chan.specs.Planes.{both_in_turn, last_of_two};
 ghost use Rattle.pix_chan.specs.Runs.{over};
 ghost use Rattle.pix_el.specs.Planes.{by_twos, coverage_of};
-ghost use Rattle.pix_el.specs.PixelComposite.{pixel_composite, matted_color, matted_composite};
+ghost use Rattle.pix_el.specs.PixelComposite.{pixel_composite, matted_color};
 
 use crate::el::Pixel;
 use crate::planes::block::Block;
@@ -124,28 +123,6 @@ fn composite_eight<O: Blend, P: Pixel, D: Stored<P>, const CALLER: usize>(
     D::store_channels(dst, &to);
 }
 
-/// Composites eight pixels with those of `dst`, each through the matte value of the same index. The
-/// last eight mattes may be anything.
-///
-/// Condition: the alpha is the second channel, and there is no hue.
-#[inline(always)]
-fn composite_masked<O: Blend, P: Pixel, D: Stored<P>, S: Stored<P>, const CALLER: usize>(
-    dst: &mut [D],
-    src: &[S],
-    mattes: [P::Chan; 16],
-)
-    requires count { P.layout.count ≡ 2 }
-    requires alpha { P.layout.alpha ≡ 1 }
-    requires no_hue { P.layout.hues.end ≡ 0 }
-    requires size { length dst.old ≡ 8 }
-    requires src_size { length src.now ≡ 8 }
-    ensures { map D.reads dst.new ≡ over (λ t. matted_composite P.layout O.op t.0 t.1)
-        (zip (take 8 (map P.Chan.number mattes)) (map S.reads src.now)) (map D.reads dst.old) }
-{
-    let colors = covered::<P, CALLER>(eight_pixels::<P, S>(src), mattes);
-    composite_eight::<O, P, D, CALLER>(dst, colors);
-}
-
 /// Pixels of two channels without a hue, eight at a time.
 pub(crate) struct HalfTwo {}
 
@@ -182,11 +159,13 @@ impl<P: Pixel> Block<P> for HalfTwo {
         src: &[S],
         mattes: &[M],
     ) {
-        composite_masked::<O, P, D, S, 3>(dst, src, eight_mattes(mattes));
+        let colors = covered::<P, 3>(eight_pixels::<P, S>(src), eight_mattes(mattes));
+        composite_eight::<O, P, D, 3>(dst, colors);
     }
 
     #[inline(always)]
     fn faded<O: Blend, D: Stored<P>, S: Stored<P>>(dst: &mut [D], src: &[S], alpha: P::Chan) {
-        composite_masked::<O, P, D, S, 4>(dst, src, [alpha; 16]);
+        let colors = covered::<P, 4>(eight_pixels::<P, S>(src), [alpha; 16]);
+        composite_eight::<O, P, D, 4>(dst, colors);
     }
 }

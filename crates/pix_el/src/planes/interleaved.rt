@@ -2,12 +2,12 @@
 //! pixel by pixel.
 ghost use Rattle.std.specs.Prelude.{◌≡◌, [], ◌∷◌, length, map, replicate, refl};
 ghost use Rattle.pix_chan.specs.Runs.{over};
-ghost use Rattle.pix_el.specs.Planes.{by_fours, coverage_of, premultiplied_four};
-ghost use Rattle.pix_el.specs.PixelComposite.{pixel_composite, matted_composite};
+ghost use Rattle.pix_el.specs.Planes.{by_fours, premultiplied_four};
+ghost use Rattle.pix_el.specs.PixelComposite.{pixel_composite, matted_color};
 
 use crate::el::Pixel;
 use crate::planes::block::Block;
-use crate::planes::masked::{composite_covered, composite_masked};
+use crate::planes::coverage::four_values;
 use crate::stored::{Coverage, Stored};
 use pix_chan::chan::Channel;
 use pix_ops::ops::Blend;
@@ -56,29 +56,34 @@ pub(crate) fn put_four_pixels<P: Pixel, D: Stored<P>>(p: &mut [D], c: [P::Chan; 
     D::store_channels(p, &c);
 }
 
-/// Returns four pixels after those of `src` are composited with them. At each index the alphas are
-/// those of its own pixel.
+/// Returns the channels of four pixels, each pixel multiplied by the matte value of the same index.
 ///
 /// Condition: the alpha is the last channel, and none is a hue.
 #[inline(always)]
-fn composited<O: Blend, P: Pixel>(mut to: [P::Chan; 16], src: [P::Chan; 16]) -> [P::Chan; 16]
+fn covered<P: Pixel>(mut to: [P::Chan; 16], values: &[P::Chan]) -> [P::Chan; 16]
     requires count { P.layout.count ≡ 4 }
     requires alpha { P.layout.alpha ≡ 3 }
     requires no_hue { P.layout.hues.end ≡ 0 }
-    ensures { by_fours (map P.Chan.number result) ≡ over (pixel_composite P.layout O.op)
-        (by_fours (map P.Chan.number src)) (by_fours (map P.Chan.number to)) }
+    requires whole { length values.now ≡ 4 }
+    ensures { by_fours (map P.Chan.number result) ≡ over (matted_color P.layout)
+        (map P.Chan.number values.now) (by_fours (map P.Chan.number to)) }
 {
-    let da1 = P::Chan::less16(P::Chan::alphas4(to));
-    let sa1 = P::Chan::less16(P::Chan::alphas4(src));
-    O::composite_block(&mut to, &da1, &src, &sa1);
+    let (a, b, c, d) = (values[0], values[1], values[2], values[3]);
+    let by = [a, a, a, a, b, b, b, b, c, c, c, c, d, d, d, d];
+    P::Chan::mul_run(&mut to, &by);
     to
 }
 
-/// Composites the four pixels of these channels with those of `dst`.
+/// Composites the four pixels of these channels with those of `dst`. At each index the alphas are
+/// those of its own pixel. Each `CALLER` has a copy of its own, since LLVM inlines a function that
+/// is called once.
 ///
 /// Condition: the alpha is the last channel, and none is a hue.
 #[inline(always)]
-pub(super) fn composite_four<O: Blend, P: Pixel, D: Stored<P>>(dst: &mut [D], src: [P::Chan; 16])
+fn composite_four<O: Blend, P: Pixel, D: Stored<P>, const CALLER: usize>(
+    dst: &mut [D],
+    src: [P::Chan; 16],
+)
     requires count { P.layout.count ≡ 4 }
     requires alpha { P.layout.alpha ≡ 3 }
     requires no_hue { P.layout.hues.end ≡ 0 }
@@ -86,38 +91,11 @@ pub(super) fn composite_four<O: Blend, P: Pixel, D: Stored<P>>(dst: &mut [D], sr
     ensures { map D.reads dst.new ≡ over (pixel_composite P.layout O.op)
         (by_fours (map P.Chan.number src)) (map D.reads dst.old) }
 {
-    let to = composited::<O, P>(four_pixels::<P, D>(dst), src);
+    let mut to = four_pixels::<P, D>(dst);
+    let da1 = P::Chan::less16(P::Chan::alphas4(to));
+    let sa1 = P::Chan::less16(P::Chan::alphas4(src));
+    O::composite_block(&mut to, &da1, &src, &sa1);
     put_four_pixels::<P, D>(dst, to);
-}
-
-/// Composites `clr` with four pixels, each through the matte of the same index.
-///
-/// Condition: the alpha is the last channel, and none is a hue.
-#[inline(always)]
-fn composite_matted<O: Blend, P: Pixel, D: Stored<P>, M: Coverage<P::Chan>>(
-    dst: &mut [D],
-    src: &[M],
-    clr: &P,
-)
-    requires count { P.layout.count ≡ 4 }
-    requires alpha { P.layout.alpha ≡ 3 }
-    requires no_hue { P.layout.hues.end ≡ 0 }
-    requires size { length dst.old ≡ 4 }
-    requires whole { length src.now ≡ 4 }
-    ensures { map D.reads dst.new ≡
-        over (λ m. matted_composite P.layout O.op m (P.numbers clr.now))
-        (map (coverage_of P.Chan.max M.numbers) src.now) (map D.reads dst.old) }
-{
-    let (a, b, c, d) = (
-        src[0].coverage(),
-        src[1].coverage(),
-        src[2].coverage(),
-        src[3].coverage(),
-    );
-    let mattes = [a, a, a, a, b, b, b, b, c, c, c, c, d, d, d, d];
-    let mut color = four_times(clr);
-    P::Chan::mul_run(&mut color, &mattes);
-    composite_four::<O, P, D>(dst, color);
 }
 
 /// Pixels of four channels without a hue, four at a time.
@@ -136,17 +114,18 @@ impl<P: Pixel> Block<P> for Interleaved {
 
     #[inline(always)]
     fn composite<O: Blend, D: Stored<P>, S: Stored<P>>(dst: &mut [D], src: &[S]) {
-        composite_four::<O, P, D>(dst, four_pixels::<P, S>(src));
+        composite_four::<O, P, D, 0>(dst, four_pixels::<P, S>(src));
     }
 
     #[inline(always)]
     fn color<O: Blend, D: Stored<P>>(dst: &mut [D], clr: &P) {
-        composite_four::<O, P, D>(dst, four_times(clr));
+        composite_four::<O, P, D, 1>(dst, four_times(clr));
     }
 
     #[inline(always)]
     fn matted<O: Blend, D: Stored<P>, M: Coverage<P::Chan>>(dst: &mut [D], src: &[M], clr: &P) {
-        composite_matted::<O, P, D, M>(dst, src, clr);
+        let colors = covered::<P>(four_times(clr), &four_values(src));
+        composite_four::<O, P, D, 2>(dst, colors);
     }
 
     #[inline(always)]
@@ -155,12 +134,14 @@ impl<P: Pixel> Block<P> for Interleaved {
         src: &[S],
         mattes: &[M],
     ) {
-        composite_covered::<O, P, D, S, M>(dst, src, mattes);
+        let colors = covered::<P>(four_pixels::<P, S>(src), &four_values(mattes));
+        composite_four::<O, P, D, 3>(dst, colors);
     }
 
     #[inline(always)]
     fn faded<O: Blend, D: Stored<P>, S: Stored<P>>(dst: &mut [D], src: &[S], alpha: P::Chan) {
-        composite_masked::<O, P, D, S>(dst, src, alpha, alpha, alpha, alpha);
+        let colors = covered::<P>(four_pixels::<P, S>(src), &[alpha; 4]);
+        composite_four::<O, P, D, 4>(dst, colors);
     }
 }
 

@@ -1,7 +1,6 @@
-//! Pixels through mattes or at one opacity. Each block's channels are multiplied by the mattes of
-//! their own pixels, and composited as in any other block. This file has blocks of four interleaved
-//! pixels, and the choice of blocks.
-ghost use Rattle.std.specs.Prelude.{◌≡◌, ◌≤◌, ◌+◌, [], ◌∷◌, length, map, take};
+//! The choice of blocks for pixels through mattes or at one opacity. Each block's channels are
+//! multiplied by the mattes of their own pixels, and composited as in any other block.
+ghost use Rattle.std.specs.Prelude.{◌≡◌, ◌≤◌, ◌+◌, length, map, take};
 ghost use Rattle.std.specs.List.{zip};
 ghost use Rattle.pix_chan.specs.Runs.{over};
 ghost use Rattle.pix_el.specs.Planes.{coverage_of};
@@ -12,67 +11,13 @@ use crate::planes::block::{faded_blocks, masked_blocks};
 use crate::planes::eight::Eight;
 use crate::planes::four::Four;
 use crate::planes::half::HalfTwo;
-use crate::planes::interleaved::{Interleaved, composite_four, four_pixels};
+use crate::planes::interleaved::Interleaved;
 use crate::planes::one::One;
 use crate::planes::pair::Pair;
 use crate::planes::two::Two;
 use crate::planes::{has_four, has_one, has_two, is_interleaved};
 use crate::stored::{Coverage, Stored};
-use pix_chan::chan::Channel;
 use pix_ops::ops::Blend;
-
-/// Composites four pixels with those of `dst`, each through one of these matte values.
-///
-/// Condition: the alpha is the last channel, and none is a hue.
-#[inline(always)]
-pub(super) fn composite_masked<O: Blend, P: Pixel, D: Stored<P>, S: Stored<P>>(
-    dst: &mut [D],
-    src: &[S],
-    a: P::Chan,
-    b: P::Chan,
-    c: P::Chan,
-    d: P::Chan,
-)
-    requires count { P.layout.count ≡ 4 }
-    requires alpha { P.layout.alpha ≡ 3 }
-    requires no_hue { P.layout.hues.end ≡ 0 }
-    requires size { length dst.old ≡ 4 }
-    requires src_size { length src.now ≡ 4 }
-    ensures { map D.reads dst.new ≡ over (λ t. matted_composite P.layout O.op t.0 t.1)
-        (zip (P.Chan.number a ∷ P.Chan.number b ∷ P.Chan.number c ∷ P.Chan.number d ∷ [])
-        (map S.reads src.now)) (map D.reads dst.old) }
-{
-    let mattes = [a, a, a, a, b, b, b, b, c, c, c, c, d, d, d, d];
-    let mut colors = four_pixels::<P, S>(src);
-    P::Chan::mul_run(&mut colors, &mattes);
-    composite_four::<O, P, D>(dst, colors);
-}
-
-/// Composites four pixels with those of `dst`, each through the matte of the same index.
-///
-/// Condition: the alpha is the last channel, and none is a hue.
-#[inline(always)]
-pub(super) fn composite_covered<
-    O: Blend,
-    P: Pixel,
-    D: Stored<P>,
-    S: Stored<P>,
-    M: Coverage<P::Chan>,
->(dst: &mut [D], src: &[S], mattes: &[M])
-    requires count { P.layout.count ≡ 4 }
-    requires alpha { P.layout.alpha ≡ 3 }
-    requires no_hue { P.layout.hues.end ≡ 0 }
-    requires size { length dst.old ≡ 4 }
-    requires src_size { length src.now ≡ 4 }
-    requires whole { length mattes.now ≡ 4 }
-    ensures { map D.reads dst.new ≡ over (λ t. matted_composite P.layout O.op t.0 t.1)
-        (zip (map (coverage_of P.Chan.max M.numbers) mattes.now) (map S.reads src.now))
-        (map D.reads dst.old) }
-{
-    let (a, b) = (mattes[0].coverage(), mattes[1].coverage());
-    let (c, d) = (mattes[2].coverage(), mattes[3].coverage());
-    composite_masked::<O, P, D, S>(dst, src, a, b, c, d);
-}
 
 /// Composites as many of the first `count` pixels as go in the largest blocks, each through the
 /// matte of the same index, and returns their number.

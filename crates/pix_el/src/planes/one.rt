@@ -1,10 +1,9 @@
 //! Pixels of one channel, their alpha, sixteen at a time: a run of channels, where each is its own
 //! alpha.
 ghost use Rattle.std.specs.Prelude.{◌≡◌, [], ◌∷◌, length, map, refl};
-ghost use Rattle.std.specs.List.{zip};
 ghost use Rattle.pix_chan.specs.Runs.{over};
 ghost use Rattle.pix_el.specs.Planes.{by_ones};
-ghost use Rattle.pix_el.specs.PixelComposite.{pixel_composite, matted_composite};
+ghost use Rattle.pix_el.specs.PixelComposite.{pixel_composite, matted_color};
 
 use crate::el::Pixel;
 use crate::planes::block::Block;
@@ -44,6 +43,22 @@ fn put_sixteen_pixels<P: Pixel, D: Stored<P>>(p: &mut [D], c: [P::Chan; 16])
     D::store_channels(p, &c);
 }
 
+/// Returns the channels of sixteen pixels, each pixel multiplied by the matte value of the same
+/// index.
+///
+/// Condition: the one channel is the alpha.
+#[inline(always)]
+fn covered<P: Pixel>(mut to: [P::Chan; 16], mattes: &[P::Chan]) -> [P::Chan; 16]
+    requires count { P.layout.count ≡ 1 }
+    requires alpha { P.layout.alpha ≡ 0 }
+    requires no_hue { P.layout.hues.end ≡ 0 }
+    ensures { by_ones (map P.Chan.number result) ≡ over (matted_color P.layout)
+        (map P.Chan.number mattes.now) (by_ones (map P.Chan.number to)) }
+{
+    P::Chan::mul_run(&mut to, mattes);
+    to
+}
+
 /// Composites the pixels of these channels with those of `dst`. The alphas are read before a
 /// channel is written.
 ///
@@ -62,29 +77,6 @@ fn composite_sixteen<O: Blend, P: Pixel, D: Stored<P>>(dst: &mut [D], src: [P::C
     let sa1 = P::Chan::less16(src);
     O::composite_block(&mut to, &da1, &src, &sa1);
     put_sixteen_pixels::<P, D>(dst, to);
-}
-
-/// Composites sixteen pixels with those of `dst`, each through the matte value of the same index.
-///
-/// Condition: the one channel is the alpha.
-#[inline(always)]
-fn composite_masked<O: Blend, P: Pixel, D: Stored<P>, S: Stored<P>>(
-    dst: &mut [D],
-    src: &[S],
-    mattes: &[P::Chan],
-)
-    requires count { P.layout.count ≡ 1 }
-    requires alpha { P.layout.alpha ≡ 0 }
-    requires no_hue { P.layout.hues.end ≡ 0 }
-    requires size { length dst.old ≡ 16 }
-    requires src_size { length src.now ≡ 16 }
-    requires whole { length mattes.now ≡ 16 }
-    ensures { map D.reads dst.new ≡ over (λ t. matted_composite P.layout O.op t.0 t.1)
-        (zip (map P.Chan.number mattes.now) (map S.reads src.now)) (map D.reads dst.old) }
-{
-    let mut colors = sixteen_pixels::<P, S>(src);
-    P::Chan::mul_run(&mut colors, mattes);
-    composite_sixteen::<O, P, D>(dst, colors);
 }
 
 /// Pixels of an alpha alone, sixteen at a time.
@@ -113,8 +105,7 @@ impl<P: Pixel> Block<P> for One {
 
     #[inline(always)]
     fn matted<O: Blend, D: Stored<P>, M: Coverage<P::Chan>>(dst: &mut [D], src: &[M], clr: &P) {
-        let mut colors = [one_channel(clr); 16];
-        P::Chan::mul_run(&mut colors, &matte_values(src));
+        let colors = covered::<P>([one_channel(clr); 16], &matte_values(src));
         composite_sixteen::<O, P, D>(dst, colors);
     }
 
@@ -124,11 +115,13 @@ impl<P: Pixel> Block<P> for One {
         src: &[S],
         mattes: &[M],
     ) {
-        composite_masked::<O, P, D, S>(dst, src, &matte_values(mattes));
+        let colors = covered::<P>(sixteen_pixels::<P, S>(src), &matte_values(mattes));
+        composite_sixteen::<O, P, D>(dst, colors);
     }
 
     #[inline(always)]
     fn faded<O: Blend, D: Stored<P>, S: Stored<P>>(dst: &mut [D], src: &[S], alpha: P::Chan) {
-        composite_masked::<O, P, D, S>(dst, src, &[alpha; 16]);
+        let colors = covered::<P>(sixteen_pixels::<P, S>(src), &[alpha; 16]);
+        composite_sixteen::<O, P, D>(dst, colors);
     }
 }

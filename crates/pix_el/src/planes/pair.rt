@@ -32,7 +32,7 @@ impl<P: Pixel> Block<P> for Pair {
     }
 
     #[inline(always)]
-    #[tactic(auto, using(crate::proofs::EightBlocks::first_eight))]
+    #[tactic(auto, using(crate::proofs::CoveredBlocks::first_eight))]
     fn color<O: Blend, D: Stored<P>>(dst: &mut [D], clr: &P) {
         let first = eight_times(clr);
         composite_eight::<O, P, D, 1, 1>(&mut dst[..8], first);

@@ -1,11 +1,10 @@
 //! Pixels of two channels without a hue, as they are in memory: sixteen pixels are thirty-two
 //! channels, pixel by pixel.
 ghost use Rattle.std.specs.Prelude.{◌≡◌, ◌∷◌, [], length, map, refl, replicate};
-ghost use Rattle.std.specs.List.{zip};
 ghost use Rattle.pix_chan.specs.Planes.{both_in_turn};
 ghost use Rattle.pix_chan.specs.Runs.{over};
 ghost use Rattle.pix_el.specs.Planes.{by_twos};
-ghost use Rattle.pix_el.specs.PixelComposite.{pixel_composite, matted_color, matted_composite};
+ghost use Rattle.pix_el.specs.PixelComposite.{pixel_composite, matted_color};
 
 use crate::el::Pixel;
 use crate::planes::block::Block;
@@ -99,27 +98,6 @@ fn composite_sixteen<O: Blend, P: Pixel, D: Stored<P>, const CALLER: usize>(
     D::store_channels(dst, &to);
 }
 
-/// Composites sixteen pixels with those of `dst`, each through the matte value of the same index.
-///
-/// Condition: the alpha is the second channel, and there is no hue.
-#[inline(always)]
-fn composite_masked<O: Blend, P: Pixel, D: Stored<P>, S: Stored<P>, const CALLER: usize>(
-    dst: &mut [D],
-    src: &[S],
-    mattes: [P::Chan; 16],
-)
-    requires count { P.layout.count ≡ 2 }
-    requires alpha { P.layout.alpha ≡ 1 }
-    requires no_hue { P.layout.hues.end ≡ 0 }
-    requires size { length dst.old ≡ 16 }
-    requires src_size { length src.now ≡ 16 }
-    ensures { map D.reads dst.new ≡ over (λ t. matted_composite P.layout O.op t.0 t.1)
-        (zip (map P.Chan.number mattes) (map S.reads src.now)) (map D.reads dst.old) }
-{
-    let colors = covered::<P, CALLER>(sixteen_pixels::<P, S>(src), mattes);
-    composite_sixteen::<O, P, D, CALLER>(dst, colors);
-}
-
 /// Pixels of two channels without a hue, sixteen at a time.
 pub(crate) struct Two {}
 
@@ -156,11 +134,13 @@ impl<P: Pixel> Block<P> for Two {
         src: &[S],
         mattes: &[M],
     ) {
-        composite_masked::<O, P, D, S, 3>(dst, src, matte_values(mattes));
+        let colors = covered::<P, 3>(sixteen_pixels::<P, S>(src), matte_values(mattes));
+        composite_sixteen::<O, P, D, 3>(dst, colors);
     }
 
     #[inline(always)]
     fn faded<O: Blend, D: Stored<P>, S: Stored<P>>(dst: &mut [D], src: &[S], alpha: P::Chan) {
-        composite_masked::<O, P, D, S, 4>(dst, src, [alpha; 16]);
+        let colors = covered::<P, 4>(sixteen_pixels::<P, S>(src), [alpha; 16]);
+        composite_sixteen::<O, P, D, 4>(dst, colors);
     }
 }

@@ -14,4 +14,4 @@ pub returns-else-is_hue : goal.returns-else-is_hue
 returns-else-is_hue g c =
     let v = g.C.Channel.number in
     let h : lies_in g.M.ColorModel.CIRCULAR 0 ≡ false = cc in
-    c.composite_run.ensures ∙ first_is g.C.Channel.max g.M.ColorModel.CIRCULAR g.O.Blend.op false h (triples (map v c.args.da1.now) (map v c.args.src.now) (map v c.args.sa1.now)) (map v c.args.dst.now)
+    c.composite_block.ensures ∙ first_is g.C.Channel.max g.M.ColorModel.CIRCULAR g.O.Blend.op false h (triples (map v c.args.da1.now) (map v c.args.src.now) (map v c.args.sa1.now)) (map v c.args.dst.now)

@@ -1,4 +1,4 @@
-use Rattle.pix_el.proofs.EightBlocks.{made_of}
+use Rattle.pix_el.proofs.CoveredBlocks.{made_of}
 use Rattle.pix_el.proofs.planes.eight.EightBlock.color.Goals as goal
 
 pub returns : goal.returns

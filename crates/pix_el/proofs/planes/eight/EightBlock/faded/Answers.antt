@@ -2,7 +2,7 @@ use Rattle.std.proofs.Common.{◌≡◌, ◌∙◌, ap, arith, map}
 use Rattle.std.proofs.lemmas.List.{length-map}
 use Rattle.pix_el.proofs.Models.{placed_by_row}
 use Rattle.pix_el.proofs.FourPlanes.{is_four_of, four_of}
-use Rattle.pix_el.proofs.EightBlocks.{made_faded}
+use Rattle.pix_el.proofs.CoveredBlocks.{made_faded}
 use Rattle.pix_el.proofs.planes.eight.EightBlock.faded.Goals as goal
 
 pub returns : goal.returns

@@ -1,7 +1,7 @@
 use Rattle.std.proofs.Common.{arith, map}
 use Rattle.std.proofs.lemmas.List.{length-map}
 use Rattle.pix_el.specs.Planes.{coverage_of}
-use Rattle.pix_el.proofs.EightBlocks.{made_masked}
+use Rattle.pix_el.proofs.CoveredBlocks.{made_masked}
 use Rattle.pix_el.proofs.planes.eight.EightBlock.masked.Goals as goal
 
 pub returns : goal.returns

@@ -1,14 +1,17 @@
-use Rattle.std.proofs.Common.{◌∙◌, ap, arith, map, take, replicate, List, ℕ}
+use Rattle.std.proofs.Common.{◌≡◌, ◌∙◌, ap, arith, length, map, take, replicate}
 use Rattle.std.proofs.lemmas.List.{length-map, take_at}
-use Rattle.std.specs.List.{zip}
-use Rattle.pix_chan.specs.Runs.{over}
 use Rattle.pix_el.specs.Planes.{coverage_of}
-use Rattle.pix_el.specs.PixelComposite.{matted_composite}
+use Rattle.pix_el.proofs.CoveredBlocks.{made_masked}
 use Rattle.pix_el.proofs.planes.half.HalfTwoBlock.masked.Goals as goal
 
 pub returns : goal.returns
 returns g c =
-    let ms = map (coverage_of g.P.Chan.Channel.max g.M.Coverage.numbers) c.args.mattes.now in
-    c.composite_masked.ensures
-    ∙ ap (λ (l : List ℕ). over (λ t. matted_composite g.P.Pixel.layout g.O.Blend.op t.0 t.1) (zip l (map g.S.Stored.reads c.args.src.now)) (map g.D.Stored.reads c.args.dst.now))
-    (ap (take 8) c.eight_mattes.ensures ∙ take_at ms (replicate 8 0) 8 (omega (arith, length-map c.args.mattes.now (coverage_of g.P.Chan.Channel.max g.M.Coverage.numbers), c.requires.mattes_size)))
+    let value = coverage_of g.P.Chan.Channel.max g.M.Coverage.numbers in
+    let v = g.P.Chan.Channel.number in
+    let s = g.S.Stored.reads in
+    let values = c.eight_mattes.result in
+    let ms = map value c.args.mattes.now in
+    let long : length ms ≡ 8 = length-map c.args.mattes.now value ∙ c.requires.mattes_size in
+    let first : take 8 (map v values) ≡ ms = ap (take 8) c.eight_mattes.ensures ∙ take_at ms (replicate 8 0) 8 long in
+    made_masked g.P.Pixel.layout g.O.Blend.op (take 8 (map v values)) ms _ _ (map s c.args.src.now) _ _
+    (omega (arith, ap length first ∙ long, length-map c.args.src.now s, c.requires.src_size)) c.composite_eight.ensures c.covered-colors.ensures c.eight_pixels.ensures first

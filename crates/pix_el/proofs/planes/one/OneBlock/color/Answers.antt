@@ -1,12 +1,7 @@
-use Rattle.std.proofs.Common.{◌∙◌, ap, map, List, ℕ}
-use Rattle.pix_chan.specs.Runs.{over}
-use Rattle.pix_el.specs.PixelComposite.{pixel_composite}
 use Rattle.pix_el.proofs.OnePlane.{same_ones}
+use Rattle.pix_el.proofs.CoveredBlocks.{made_of}
 use Rattle.pix_el.proofs.planes.one.OneBlock.color.Goals as goal
 
 pub returns : goal.returns
-returns g c =
-    let n = g.P.Pixel.numbers in
-    let ds = map g.D.Stored.reads c.args.dst.now in
-    c.composite_sixteen.ensures ∙ ap (λ (l : List (List ℕ)). over (pixel_composite g.P.Pixel.layout g.O.Blend.op) l ds)
-    (same_ones g.P.Chan.Channel.number c.one_channel.result (n c.args.clr.now) c.one_channel.ensures)
+returns g c = made_of g.P.Pixel.layout g.O.Blend.op _ _ _ _ c.composite_sixteen.ensures
+    (same_ones g.P.Chan.Channel.number c.one_channel.result (g.P.Pixel.numbers c.args.clr.now) c.one_channel.ensures)

@@ -1,12 +1,10 @@
-use Rattle.std.proofs.Common.{◌∙◌, arith, map, List, ℕ}
+use Rattle.std.proofs.Common.{arith, map}
 use Rattle.std.proofs.lemmas.List.{length-map}
-use Rattle.pix_el.specs.PixelComposite.{matted_composite}
-use Rattle.pix_el.proofs.Masked.{over-one}
+use Rattle.pix_el.proofs.CoveredBlocks.{made_one}
 use Rattle.pix_el.proofs.planes.one.OneBlock.faded.Goals as goal
 
 pub returns : goal.returns
 returns g c =
-    let n = g.S.Stored.reads in
-    c.composite_masked.ensures
-    ∙ over-one (λ (m : ℕ) (s d : List ℕ). matted_composite g.P.Pixel.layout g.O.Blend.op m s d) 16 (g.P.Chan.Channel.number c.args.alpha) (map n c.args.src.now) (map g.D.Stored.reads c.args.dst.now)
-    (omega (arith, length-map c.args.src.now n, c.requires.src_size))
+    let s = g.S.Stored.reads in
+    made_one g.P.Pixel.layout g.O.Blend.op 16 (g.P.Chan.Channel.number c.args.alpha) _ _ (map s c.args.src.now) _ _
+    (omega (arith, length-map c.args.src.now s, c.requires.src_size)) c.composite_sixteen.ensures c.covered-colors.ensures c.sixteen_pixels.ensures

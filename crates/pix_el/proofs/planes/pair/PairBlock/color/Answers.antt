@@ -1,6 +1,6 @@
 use Rattle.std.proofs.Common.{replicate, refl}
 use Rattle.pix_el.specs.PixelComposite.{pixel_composite}
-use Rattle.pix_el.proofs.EightBlocks.{made_of}
+use Rattle.pix_el.proofs.CoveredBlocks.{made_of}
 use Rattle.pix_el.proofs.Halves.{halves_made}
 use Rattle.pix_el.proofs.planes.pair.PairBlock.color.Goals as goal
 

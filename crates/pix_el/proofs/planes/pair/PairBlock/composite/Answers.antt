@@ -1,7 +1,7 @@
 use Rattle.std.proofs.Common.{◌∙◌, arith, map, take, drop}
 use Rattle.std.proofs.lemmas.List.{length-map, length-take-le}
 use Rattle.pix_el.specs.PixelComposite.{pixel_composite}
-use Rattle.pix_el.proofs.EightBlocks.{made_of}
+use Rattle.pix_el.proofs.CoveredBlocks.{made_of}
 use Rattle.pix_el.proofs.Halves.{halves_made, map-halves}
 use Rattle.pix_el.proofs.planes.pair.PairBlock.composite.Goals as goal
 

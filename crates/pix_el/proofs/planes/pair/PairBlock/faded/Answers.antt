@@ -3,7 +3,7 @@ use Rattle.std.proofs.lemmas.List.{length-drop, length-map, length-take-le}
 use Rattle.pix_el.specs.PixelComposite.{matted_composite}
 use Rattle.pix_el.proofs.Models.{placed_by_row}
 use Rattle.pix_el.proofs.FourPlanes.{is_four_of, four_of}
-use Rattle.pix_el.proofs.EightBlocks.{made_faded}
+use Rattle.pix_el.proofs.CoveredBlocks.{made_faded}
 use Rattle.pix_el.proofs.Halves.{halves_made, map-halves}
 use Rattle.pix_el.proofs.planes.pair.PairBlock.faded.Goals as goal
 

@@ -3,7 +3,7 @@ use Rattle.std.specs.List.{zip}
 use Rattle.std.proofs.lemmas.List.{length-drop, length-map, length-take-le}
 use Rattle.pix_el.specs.PixelComposite.{matted_composite}
 use Rattle.pix_el.specs.Planes.{coverage_of}
-use Rattle.pix_el.proofs.EightBlocks.{made_masked}
+use Rattle.pix_el.proofs.CoveredBlocks.{made_masked}
 use Rattle.pix_el.proofs.Halves.{halves_made, zip-halves}
 use Rattle.pix_el.proofs.Masked.{length-beside}
 use Rattle.pix_el.proofs.planes.pair.PairBlock.masked.Goals as goal

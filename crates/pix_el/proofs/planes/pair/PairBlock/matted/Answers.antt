@@ -2,7 +2,7 @@ use Rattle.std.proofs.Common.{◌∙◌, arith, rules, map, sym, take, drop}
 use Rattle.std.proofs.lemmas.List.{length-map, length-take-le}
 use Rattle.pix_el.specs.PixelComposite.{matted_composite}
 use Rattle.pix_el.specs.Planes.{coverage_of}
-use Rattle.pix_el.proofs.EightBlocks.{made_matted}
+use Rattle.pix_el.proofs.CoveredBlocks.{made_matted}
 use Rattle.pix_el.proofs.Halves.{halves_made, map-halves}
 use Rattle.pix_el.proofs.planes.pair.PairBlock.matted.Goals as goal
 
@@ -26,5 +26,5 @@ returns g c =
     let two = c.eight_values-2.result in
     halves_made g.D.Stored.reads (λ m. matted_composite layout op m color) 8 (map n near) (map n far) (map n src) c.args.dst.now c.composite_eight.new.dst c.composite_eight-2.new.dst
     c.requires.size (length-map near n ∙ length-take-le 8 src (omega (arith, c.requires.src_size))) (map-halves n 8 src c.requires.src_size)
-    (made_matted layout op (map v one) (map n near) color _ _ _ _ (omega (arith, length-map one v)) c.composite_eight.ensures c.covered-first.ensures c.eight_times.ensures c.eight_values.ensures)
-    (made_matted layout op (map v two) (map n far) color _ _ _ _ (omega (arith, length-map two v)) c.composite_eight-2.ensures c.covered-second.ensures c.eight_times-2.ensures c.eight_values-2.ensures)
+    (made_matted layout op 8 (map v one) (map n near) color _ _ _ _ (omega (arith, length-map one v)) c.composite_eight.ensures c.covered-first.ensures c.eight_times.ensures c.eight_values.ensures)
+    (made_matted layout op 8 (map v two) (map n far) color _ _ _ _ (omega (arith, length-map two v)) c.composite_eight-2.ensures c.covered-second.ensures c.eight_times-2.ensures c.eight_values-2.ensures)

@@ -1,9 +1,5 @@
-use Rattle.std.proofs.Common.{◌∙◌, ap, map, List, ℕ}
-use Rattle.pix_chan.specs.Runs.{over}
-use Rattle.pix_el.specs.PixelComposite.{pixel_composite}
+use Rattle.pix_el.proofs.CoveredBlocks.{made_of}
 use Rattle.pix_el.proofs.planes.two.TwoBlock.color.Goals as goal
 
 pub returns : goal.returns
-returns g c =
-    let ds = map g.D.Stored.reads c.args.dst.now in
-    c.composite_sixteen.ensures ∙ ap (λ (l : List (List ℕ)). over (pixel_composite g.P.Pixel.layout g.O.Blend.op) l ds) c.sixteen_times.ensures
+returns g c = made_of g.P.Pixel.layout g.O.Blend.op _ _ _ _ c.composite_sixteen.ensures c.sixteen_times.ensures

@@ -1,10 +1,13 @@
-use Rattle.std.proofs.Common.{◌∙◌, ap, map, List, ℕ}
-use Rattle.std.specs.List.{zip}
-use Rattle.pix_chan.specs.Runs.{over}
-use Rattle.pix_el.specs.PixelComposite.{matted_composite}
+use Rattle.std.proofs.Common.{arith, map}
+use Rattle.std.proofs.lemmas.List.{length-map}
+use Rattle.pix_el.specs.Planes.{coverage_of}
+use Rattle.pix_el.proofs.CoveredBlocks.{made_masked}
 use Rattle.pix_el.proofs.planes.two.TwoBlock.masked.Goals as goal
 
 pub returns : goal.returns
 returns g c =
-    c.composite_masked.ensures
-    ∙ ap (λ (l : List ℕ). over (λ t. matted_composite g.P.Pixel.layout g.O.Blend.op t.0 t.1) (zip l (map g.S.Stored.reads c.args.src.now)) (map g.D.Stored.reads c.args.dst.now)) c.matte_values.ensures
+    let v = g.P.Chan.Channel.number in
+    let s = g.S.Stored.reads in
+    let values = c.matte_values.result in
+    made_masked g.P.Pixel.layout g.O.Blend.op (map v values) (map (coverage_of g.P.Chan.Channel.max g.M.Coverage.numbers) c.args.mattes.now) _ _ (map s c.args.src.now) _ _
+    (omega (arith, length-map values v, length-map c.args.src.now s, c.requires.src_size)) c.composite_sixteen.ensures c.covered-colors.ensures c.sixteen_pixels.ensures c.matte_values.ensures
