@@ -1,5 +1,5 @@
 //! Rasters of one format made of those of another.
-ghost use Rattle.std.specs.Prelude.{◌≡◌, ◌≤◌, ◌+◌, vec_len, length, map, IfOk, IfErr};
+ghost use Rattle.std.specs.Prelude.{◌≡◌, ◌≤◌, ◌+◌, vec_len, length, map, IfOk, IfErr, IsOk};
 ghost use Rattle.pix_el.specs.Conversion.{converted};
 ghost use Rattle.pix_raster.specs.declared.fault.RasterFault.{RasterFault};
 
@@ -17,7 +17,7 @@ impl<P: Pixel> Raster<P> {
     ///
     /// # Errors
     ///
-    /// `Memory` on allocation failure.
+    /// `Memory` on allocation failure. There is no error for a raster without points.
     ///
     /// # Examples
     ///
@@ -37,6 +37,7 @@ impl<P: Pixel> Raster<P> {
             map (converted S.format ⟦<S::Gamma as Gamma<P::Chan>>⟧.mode P.format P.Gamma.mode)
             (map S.numbers src.now.pixels)) }
         ensures memory { IfErr result (λ fault. fault ≡ RasterFault.Memory) }
+        ensures no_room { length src.now.pixels ≡ 0 → IsOk result }
     {
         let pixels = pixels_made::<S, P, Converting>(alloc, src.pixels())?;
         Ok(Raster {

@@ -1,5 +1,5 @@
 //! Rasters of sRGB of 8 bits made of those of linear light of 16 bits, and back.
-ghost use Rattle.std.specs.Prelude.{◌≡◌, ◌≤◌, ◌+◌, vec_len, length, map, IfOk, IfErr};
+ghost use Rattle.std.specs.Prelude.{◌≡◌, ◌≤◌, ◌+◌, vec_len, length, map, IfOk, IfErr, IsOk};
 ghost use Rattle.pix_el.specs.Light.{in_light, as_srgb};
 ghost use Rattle.pix_raster.specs.declared.fault.RasterFault.{RasterFault};
 
@@ -19,7 +19,7 @@ impl<P: Pixel> Raster<P> {
     ///
     /// # Errors
     ///
-    /// `Memory` on allocation failure.
+    /// `Memory` on allocation failure. There is no error for a raster without points.
     ///
     /// # Examples
     ///
@@ -38,6 +38,7 @@ impl<P: Pixel> Raster<P> {
         ensures pixels { IfOk result (λ r. map D.numbers r.pixels ≡
             map (in_light P.format D.format) (map P.numbers self.now.pixels)) }
         ensures memory { IfErr result (λ fault. fault ≡ RasterFault.Memory) }
+        ensures no_room { length self.now.pixels ≡ 0 → IsOk result }
     {
         let pixels = pixels_made::<P, D, Decoding>(alloc, self.pixels())?;
         Ok(Raster {
@@ -54,7 +55,7 @@ impl<P: Pixel> Raster<P> {
     ///
     /// # Errors
     ///
-    /// `Memory` on allocation failure.
+    /// `Memory` on allocation failure. There is no error for a raster without points.
     ///
     /// # Examples
     ///
@@ -74,6 +75,7 @@ impl<P: Pixel> Raster<P> {
         ensures pixels { IfOk result (λ r. map D.numbers r.pixels ≡
             map (as_srgb P.format D.format) (map P.numbers self.now.pixels)) }
         ensures memory { IfErr result (λ fault. fault ≡ RasterFault.Memory) }
+        ensures no_room { length self.now.pixels ≡ 0 → IsOk result }
     {
         let pixels = pixels_made::<P, D, Encoding>(alloc, self.pixels())?;
         Ok(Raster {

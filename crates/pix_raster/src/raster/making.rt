@@ -2,7 +2,7 @@
 //!
 //! Each part is filled and then written while it is in the nearest cache. So the new memory is
 //! walked only once.
-ghost use Rattle.std.specs.Prelude.{◌≡◌, ◌<◌, ◌≤◌, ◌+◌, ◌^◌, ◌++◌, ℕ, List, vec_len, length, map, IfOk, IfErr};
+ghost use Rattle.std.specs.Prelude.{◌≡◌, ◌<◌, ◌≤◌, ◌+◌, ◌^◌, ◌++◌, ℕ, List, vec_len, length, map, IfOk, IfErr, IsOk};
 ghost use Rattle.pix_raster.specs.declared.fault.RasterFault.{RasterFault};
 
 use crate::fault::RasterFault;
@@ -59,7 +59,7 @@ where
 ///
 /// # Errors
 ///
-/// `Memory` on allocation failure.
+/// `Memory` on allocation failure. There is no error without pixels.
 pub(super) fn pixels_made<S, P, M>(alloc: Global, src: &[S]) -> Result<Vec<P>, RasterFault>
 where
     S: Pixel,
@@ -70,6 +70,7 @@ where
         map M.made (map S.numbers src.now)) }
     ensures count { IfOk result (λ made. vec_len made ≡ length src.now) }
     ensures memory { IfErr result (λ fault. fault ≡ RasterFault.Memory) }
+    ensures no_room { length src.now ≡ 0 → IsOk result }
 {
     let mut pixels = Vec::with_capacity(alloc, src.len())?;
     let mut left = src;
