@@ -2,6 +2,7 @@
 pub mod NearestEntries
 pub mod Writes
 pub mod Below
+pub mod TransparentPixels
 pub mod Places
 pub mod BoxSpans
 pub mod LesserLanes

@@ -1,14 +1,17 @@
 -- A table of the pixels of a picture: those that are seen as none before them, and the table of the cut after the rounds.
 use Rattle.std.specs.List.{list_any}
-use Rattle.std.proofs.Common.{◌≡◌, ℕ, ◌+◌, ◌<◌, ◌≤◌, Bool, true, false, ◌||◌, List, [], ◌∷◌, ◌++◌, length, map, take, drop, set, get_or, IsPermutation, refl, arith, ap, ◌∙◌, length-append}
+use Rattle.std.proofs.Common.{◌≡◌, ℕ, ◌+◌, ◌<◌, ◌≤◌, Bool, true, false, ◌||◌, List, [], ◌∷◌, ◌++◌, length, map, take, drop, set, get_or, All, IsPermutation, refl, arith, ap, ap₂, subst, sym, ◌∙◌, length-append}
 use Rattle.std.proofs.lemmas.List.{map-append, take_more_set}
+use Rattle.std.proofs.lemmas.List.Elements.{All-head, All-tail}
 use Rattle.pix_table.specs.Refine.{AreRoundsBy, squared_error_by}
-use Rattle.pix_table.specs.Seen.{seen, seen_distance}
+use Rattle.pix_table.specs.Seen.{AreSeen, seen, seen_distance, straight}
 use Rattle.pix_table.specs.SeenCut.{IsSeenCutTable}
 use Rattle.pix_table.specs.SeenTables.{IsSeenTable, distinct_pixels, four_of, same_seen, seen_settled}
 use Rattle.pix_table.proofs.BoxSpans.{map_more}
 use Rattle.pix_table.proofs.Distinct.{distinct_first, known_more, new_more, parted_at}
-use Rattle.pix_table.proofs.RefinedTables.{error_moved, rounds_moved}
+use Rattle.pix_table.proofs.RefinedTables.{error_moved, round_falls, rounds_moved}
+use Rattle.pix_table.proofs.SeenColors.{seen_straight}
+use Rattle.pix_table.proofs.SeenErrors.{settled_falls}
 
 -- whether a pixel is seen as one of a table
 any_mapped : (f : List ℕ → Bool) (g : List ℕ → List ℕ) (xs : List (List ℕ)) → list_any f (map g xs) ≡ list_any (λ x. f (g x)) xs
@@ -58,4 +61,17 @@ seen_moved rounds room xs ys first new table moved made are less e =
       made,
       rounds_moved seen_distance seen_settled rounds xs ys first new moved are,
       omega (arith, error_moved seen_distance new xs ys moved, error_moved seen_distance first xs ys moved, less),
+      round_falls seen_distance seen_settled settled_falls ys,
     )
+
+-- what a list of seen colors is divided by its alphas is seen as that list
+seen_again : (colors : List (List ℕ)) → All AreSeen colors → map seen (map straight colors) ≡ colors
+seen_again [] h = refl
+seen_again (c ∷ colors) h = ap₂ (λ x xs. x ∷ xs) (seen_straight c (All-head AreSeen c colors h)) (seen_again colors (All-tail AreSeen c colors h))
+
+-- so the entries that are written are seen as the table
+pub seen_as : (rounds room : ℕ) (pixels colors table : List (List ℕ)) → All AreSeen colors → table ≡ map straight colors
+    → IsSeenTable rounds room pixels colors → IsSeenTable rounds room pixels (map seen table) × (table ≡ map straight (map seen table))
+seen_as rounds room pixels colors table all e made =
+    let same : map seen table ≡ colors = ap (map seen) e ∙ seen_again colors all in
+    (subst (IsSeenTable rounds room pixels) (sym same) made, e ∙ ap (map straight) (sym same))

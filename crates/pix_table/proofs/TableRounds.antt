@@ -4,8 +4,9 @@ use Rattle.std.proofs.Common.{◌≡◌, ℕ, zero, suc, ◌≤◌, List, Option
 use Rattle.pix_table.specs.Cut.{IsCutTable}
 use Rattle.pix_table.specs.Quantization.{IsQuantized}
 use Rattle.pix_table.specs.Nearest.{distance}
-use Rattle.pix_table.specs.Refine.{AreRounds, AreRoundsBy, IsQuantizedRefined, IsRoundBy, refined, squared_error}
-use Rattle.pix_table.proofs.RefinedTables.{rounds_moved, error_moved}
+use Rattle.pix_table.specs.Refine.{AreRounds, AreRoundsBy, IsQuantizedRefined, IsRefinedCut, IsRoundBy, refined, squared_error}
+use Rattle.pix_table.proofs.LeastMeans.{refined_least}
+use Rattle.pix_table.proofs.RefinedTables.{rounds_moved, error_moved, round_falls}
 
 -- no rounds leave the table of the cut
 pub unrefined : (room : ℕ) (colors table : List (List ℕ)) → IsQuantizedRefined 0 room colors table → IsQuantized room colors table
@@ -20,13 +21,14 @@ of_some P Q R f (Some n) h = f n h
 -- the rounds are those of the colors in any order
 pub refined_moved : (rounds room : ℕ) (xs ys first new table : List (List ℕ)) → IsPermutation xs ys → IsCutTable room ys first → AreRounds rounds xs first new
     → squared_error new xs ≤ squared_error first xs → table ≡ new
-    → (t : List (List ℕ)) × IsCutTable room ys t × AreRounds rounds ys t table × (squared_error table ys ≤ squared_error t ys)
+    → IsRefinedCut rounds room ys table
 refined_moved rounds room xs ys first new table moved made are less e =
     rw e (
       first,
       made,
       rounds_moved distance refined rounds xs ys first new moved are,
       omega (arith, error_moved distance new xs ys moved, error_moved distance first xs ys moved, less),
+      round_falls distance refined refined_least ys,
     )
 
 -- a round that moves no entry stays one, however many there are

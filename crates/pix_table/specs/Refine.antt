@@ -34,6 +34,11 @@ least_distance_by apart (entry ∷ entries) color = fold (λ least e. min least 
 abbrev pub squared_error_by : (apart : List ℕ → List ℕ → ℕ) → (entries colors : List (List ℕ)) → ℕ
 squared_error_by apart entries colors = sum_by (λ color. least_distance_by apart entries color) colors
 
+-- no round makes the squared error of some colors greater, whatever entries it begins with
+abbrev pub NoRoundIsWorseBy : (apart : List ℕ → List ℕ → ℕ) (settle : List ℕ → List (List ℕ) → List ℕ) → (colors : List (List ℕ)) → Type 0
+NoRoundIsWorseBy apart settle colors =
+    (old new : List (List ℕ)) → IsRoundBy apart settle colors old new → squared_error_by apart new colors ≤ squared_error_by apart old colors
+
 -- an entry after a round: the mean of its colors, or itself where it has none
 abbrev pub refined : List ℕ → List (List ℕ) → List ℕ
 refined entry [] = entry
@@ -55,11 +60,15 @@ least_distance entries color = least_distance_by distance entries color
 abbrev pub squared_error : (entries colors : List (List ℕ)) → ℕ
 squared_error entries colors = squared_error_by distance entries colors
 
+-- the table of the cuts after so many rounds, none of which makes the squared error greater
+abbrev pub IsRefinedCut : (rounds room : ℕ) → (colors table : List (List ℕ)) → Type 0
+IsRefinedCut rounds room colors table =
+    (first : List (List ℕ)) × IsCutTable room colors first × AreRounds rounds colors first table
+    × (squared_error table colors ≤ squared_error first colors) × NoRoundIsWorseBy distance refined colors
+
 -- the table of a list of colors after so many rounds, of at most so many entries: its distinct colors,
--- where there is room for them, and else that of the cuts, refined, whose squared error is no greater
--- than it was
+-- where there is room for them, and else that of the cuts, refined
 abbrev pub IsQuantizedRefined : (rounds room : ℕ) → (colors table : List (List ℕ)) → Type 0
 IsQuantizedRefined rounds room colors table =
     ((length (distinct colors) ≤ room) × (table ≡ distinct colors))
-    ⊎ ((room < length (distinct colors)) × (first : List (List ℕ)) × IsCutTable room colors first
-    × AreRounds rounds colors first table × (squared_error table colors ≤ squared_error first colors))
+    ⊎ ((room < length (distinct colors)) × IsRefinedCut rounds room colors table)

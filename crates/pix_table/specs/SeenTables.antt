@@ -2,7 +2,7 @@
 use Rattle.std.specs.Prelude.{◌⊎◌, ◌≡◌, ℕ, ◌<◌, ◌≤◌, Bool, List, [], ◌∷◌, ◌&&◌, length, map, slice_index, sum_by, nat_eq, nat_le, if◌then◌else◌}
 use Rattle.pix_table.specs.Nearest.{alpha_of}
 use Rattle.pix_table.specs.Quantization.{distinct_by, same_color}
-use Rattle.pix_table.specs.Refine.{AreRoundsBy, squared_error_by}
+use Rattle.pix_table.specs.Refine.{AreRoundsBy, NoRoundIsWorseBy, squared_error_by}
 use Rattle.pix_table.specs.Seen.{seen, seen_distance, straight}
 use Rattle.pix_table.specs.SeenCut.{IsSeenCutTable, seen_mean}
 
@@ -31,16 +31,18 @@ abbrev pub distinct_pixels : List (List ℕ) → List (List ℕ)
 distinct_pixels pixels = distinct_by (λ p q. same_seen (seen p) (seen q)) (map four_of pixels)
 
 -- the table of a list of seen colors where there is no room for all: that of the cut, refined by so
--- many rounds, whose squared error is no greater than it was
+-- many rounds, none of which makes the squared error greater
 abbrev pub IsSeenTable : (rounds room : ℕ) → (colors table : List (List ℕ)) → Type 0
 IsSeenTable rounds room colors table =
     (first : List (List ℕ)) × IsSeenCutTable room colors first × AreRoundsBy seen_distance seen_settled rounds colors first table
     × (squared_error_by seen_distance table colors ≤ squared_error_by seen_distance first colors)
+    × NoRoundIsWorseBy seen_distance seen_settled colors
 
--- the table of some pixels: the distinct ones, where there is room for them, and else the pixels that
--- are seen as the table of what they are seen as
+-- the table of some pixels: the distinct ones, where there is room for them. Else its entries are seen
+-- as the table of what the pixels are seen as, and each of them is what it is seen as, divided by its
+-- alpha
 abbrev pub IsQuantizedRgba : (rounds room : ℕ) → (pixels table : List (List ℕ)) → Type 0
 IsQuantizedRgba rounds room pixels table =
     ((length (distinct_pixels pixels) ≤ room) × (table ≡ distinct_pixels pixels))
-    ⊎ ((room < length (distinct_pixels pixels)) × (colors : List (List ℕ)) × IsSeenTable rounds room (map seen pixels) colors
-    × (table ≡ map straight colors))
+    ⊎ ((room < length (distinct_pixels pixels)) × IsSeenTable rounds room (map seen pixels) (map seen table)
+    × (table ≡ map straight (map seen table)))

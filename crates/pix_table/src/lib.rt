@@ -40,6 +40,7 @@ mod search;
 mod set;
 mod table_blocks;
 mod threshold;
+mod transparent;
 mod weight;
 mod word;
 
@@ -62,3 +63,4 @@ pub use crate::search::nearest;
 pub use crate::set::{set_cached, set_entry};
 pub use crate::table_blocks::TableCache;
 pub use crate::threshold::{closest_between, is_within, standing};
+pub use crate::transparent::map_transparent;

@@ -6,8 +6,7 @@ ghost use Rattle.std.specs.Simd.{first_chunks};
 ghost use Rattle.pix_table.specs.Items.{IsItem, pair_items, spread, times_of};
 ghost use Rattle.pix_table.specs.Nearest.{numbers};
 ghost use Rattle.pix_table.specs.Quantization.{shown, same_color, distinct, IsQuantized};
-ghost use Rattle.pix_table.specs.Cut.{IsCutTable};
-ghost use Rattle.pix_table.specs.Refine.{AreRounds, IsQuantizedRefined, squared_error};
+ghost use Rattle.pix_table.specs.Refine.{IsQuantizedRefined, IsRefinedCut};
 
 use crate::color::{Color, TablePixel};
 use crate::color_items::cut_items;
@@ -31,7 +30,9 @@ pub fn quantize_work(pixels: usize) -> usize
 /// they are the table, in order of first place. Else it is made by the cut by squared error: boxes
 /// of colors are cut where the squared error falls most, into twice as many as there are entries,
 /// but at most 64 more. Then pairs of boxes become one where it rises least, until there are no
-/// more of them than entries. Each entry is the mean of a box. The other entries may hold anything.
+/// more of them than entries. A rise is a difference of quotients rounded down, and at least 0, so
+/// of pairs with nearly equal rises another one may be joined. Each entry is the mean of a box. The
+/// other entries may hold anything.
 pub fn quantize<P: TablePixel>(
     pixels: &[P],
     alpha: u8,
@@ -145,13 +146,8 @@ fn cut_and_refine<P: TablePixel>(
     requires room { 0 < length entries.old }
     requires few { length entries.old ≤ 256 }
     ensures within { result ≤ length entries.new }
-    ensures table { (first : List (List ℕ))
-        × IsCutTable (length entries.old) (shown alpha (map P.values pixels.now)) first
-        × AreRounds rounds (shown alpha (map P.values pixels.now)) first
-        (map numbers (take result entries.new))
-        × (squared_error (map numbers (take result entries.new))
-        (shown alpha (map P.values pixels.now))
-        ≤ squared_error first (shown alpha (map P.values pixels.now))) }
+    ensures table { IsRefinedCut rounds (length entries.old) (shown alpha (map P.values pixels.now))
+        (map numbers (take result entries.new)) }
 {
     match count_pairs(&mut work[..count]) {
         Some(pairs) => refined_of_pairs(&mut work[..count], pairs, rounds, entries),
@@ -174,10 +170,7 @@ fn refined_of_pairs(colors: &mut [Color], pairs: usize, rounds: u8, entries: &mu
     ensures within { result ≤ length entries.new }
     ensures table { (all : List (List ℕ)) → IsPermutation all
         (spread 3 (pair_items numbers (first_chunks 2 pairs colors.old)))
-        → (first : List (List ℕ)) × IsCutTable (length entries.old) all first
-        × AreRounds rounds all first (map numbers (take result entries.new))
-        × (squared_error (map numbers (take result entries.new)) all
-        ≤ squared_error first all) }
+        → IsRefinedCut rounds (length entries.old) all (map numbers (take result entries.new)) }
 {
     let (chunks, _) = colors.as_chunks_mut::<2>();
     let items = &mut chunks[..pairs];
@@ -192,11 +185,8 @@ fn refined_of_colors(colors: &mut [Color], rounds: u8, entries: &mut [Color]) ->
     requires room { 0 < length entries.old }
     requires few { length entries.old ≤ 256 }
     ensures within { result ≤ length entries.new }
-    ensures table { (first : List (List ℕ))
-        × IsCutTable (length entries.old) (map numbers colors.old) first
-        × AreRounds rounds (map numbers colors.old) first (map numbers (take result entries.new))
-        × (squared_error (map numbers (take result entries.new)) (map numbers colors.old)
-        ≤ squared_error first (map numbers colors.old)) }
+    ensures table { IsRefinedCut rounds (length entries.old) (map numbers colors.old)
+        (map numbers (take result entries.new)) }
 {
     let count = cut_table(colors, entries);
     refine(colors, rounds, &mut entries[..count]);

@@ -162,9 +162,10 @@ fn made_table<P: TablePixel>(
     requires room { 0 < length entries.old }
     requires few { length entries.old ≤ 256 }
     ensures within { result ≤ length entries.new }
-    ensures table { (table : List (List ℕ))
-        × IsSeenTable rounds (length entries.old) (map seen (map P.values pixels.now)) table
-        × (map rgba_numbers (take result entries.new) ≡ map straight table) }
+    ensures table { IsSeenTable rounds (length entries.old) (map seen (map P.values pixels.now))
+        (map seen (map rgba_numbers (take result entries.new))) }
+    ensures straight { map rgba_numbers (take result entries.new)
+        ≡ map straight (map seen (map rgba_numbers (take result entries.new))) }
 {
     let mut table = [Seen::default(); ENTRIES];
     let count = cut_and_refine(pixels, rounds, work, &mut table[..entries.len()]);
