@@ -53,12 +53,15 @@ pub use Rattle.pix_table.specs.Setting
 pub use Rattle.pix_table.specs.Indexing as SetInTurn
 pub use Rattle.pix_table.specs.Nearest as NearestEntry
 pub use Rattle.pix_table.specs.Places as CutPlaces
+pub use Rattle.pix_table.specs.Joins
 pub use Rattle.pix_table.specs.Cut
 pub use Rattle.pix_table.specs.Quantization
 pub use Rattle.pix_table.specs.Refine
 pub use Rattle.pix_table.specs.Seen
+pub use Rattle.pix_table.specs.SeenCut
 pub use Rattle.pix_table.specs.SeenTables
 pub use Rattle.pix_table.specs.Diffusion
+pub use Rattle.pix_table.specs.SeenDiffusion
 pub use Rattle.pix_table.specs.LookUp
 pub use Rattle.pix_palette.specs.Palette
 pub use Rattle.pix_palette.specs.Entries

@@ -9,6 +9,7 @@ ghost use Rattle.pix_raster.specs.declared.fault.RasterFault.{RasterFault};
 
 mod cells;
 mod color_table;
+mod copies;
 mod entries;
 mod finder;
 mod index;

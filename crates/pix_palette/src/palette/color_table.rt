@@ -1,5 +1,5 @@
 //! What a table of colors does.
-ghost use Rattle.std.specs.Prelude.{◌≡◌, ℕ, [], length, map, IfOk, IfErr, IfSome, Some, nat_eq, slice_get};
+ghost use Rattle.std.specs.Prelude.{◌≡◌, ℕ, [], length, map, IfOk, IfErr, IfSome, IsOk, Some, nat_eq, slice_get};
 ghost use Rattle.std.specs.Option.{option_map};
 ghost use Rattle.pix_table.specs.Nearest.{IsNearestOf, IsFirst};
 ghost use Rattle.pix_table.specs.Setting.{Always, IsSet};
@@ -169,7 +169,7 @@ impl ColorTable {
     ///
     /// # Errors
     ///
-    /// `Memory` on allocation failure. The table is unchanged.
+    /// `Memory` on allocation failure. The table is unchanged. There is no error without points.
     ///
     /// # Examples
     ///
@@ -198,6 +198,7 @@ impl ColorTable {
         ensures size { IfOk result (λ answer. IfSome answer (λ image.
             (image.width ≡ raster.now.width) × (image.height ≡ raster.now.height))) }
         ensures memory { IfErr result (λ fault. fault ≡ RasterFault.Memory) }
+        ensures no_room { length raster.now.pixels ≡ 0 → IsOk result }
         ensures unchanged { IfErr result (λ _. entries_of self.new ≡ entries_of self.old) }
         ensures limit { limit_of self.new ≡ limit_of self.old }
         ensures threshold { self.new.threshold ≡ self.old.threshold }

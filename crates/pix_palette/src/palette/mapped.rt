@@ -1,5 +1,5 @@
 //! Images of indices of the nearest entries of a table, and back to colors.
-ghost use Rattle.std.specs.Prelude.{◌≡◌, ◌<◌, ◌≤◌, ◌⊎◌, ℕ, [], length, map, true, false, IfOk, IfErr, MatchOption, slice_index, slice_index_or};
+ghost use Rattle.std.specs.Prelude.{◌≡◌, ◌<◌, ◌≤◌, ◌⊎◌, ℕ, [], length, map, true, false, IfOk, IfErr, IsOk, MatchOption, slice_index, slice_index_or};
 ghost use Rattle.pix_table.specs.Nearest.{IsNearest};
 ghost use Rattle.pix_table.specs.LookUp.{AreLookedUp, all_below};
 ghost use Rattle.pix_palette.specs.Palette.{numbers};
@@ -25,7 +25,7 @@ impl ColorTable {
     ///
     /// # Errors
     ///
-    /// `Memory` on allocation failure.
+    /// `Memory` on allocation failure. There is no error without points.
     ///
     /// # Examples
     ///
@@ -50,6 +50,7 @@ impl ColorTable {
             raster.now.width raster.now.height
             (colors_of S.format ⟦<S::Gamma as Gamma<Ch8>>⟧.mode S.numbers raster.now.pixels))) }
         ensures memory { IfErr result (λ fault. fault ≡ RasterFault.Memory) }
+        ensures no_room { length raster.now.pixels ≡ 0 → IsOk result }
     {
         let colors = self.colors();
         if colors.is_empty() || colors.len() > ENTRIES {
@@ -69,7 +70,7 @@ impl ColorTable {
     ///
     /// # Errors
     ///
-    /// `Memory` on allocation failure, which comes first.
+    /// `Memory` on allocation failure, which comes first. There is no error without points.
     ///
     /// # Examples
     ///
@@ -90,6 +91,7 @@ impl ColorTable {
             (IsLookedUp (entries_of self.now) indices.now.width indices.now.height
             (values ⟦<Gray8 as Pixel>⟧.numbers indices.now.pixels))) }
         ensures memory { IfErr result (λ fault. fault ≡ RasterFault.Memory) }
+        ensures no_room { length indices.now.pixels ≡ 0 → IsOk result }
     {
         match Raster::with_clear(alloc, indices.width(), indices.height()) {
             Err(_) => Err(RasterFault::Memory),

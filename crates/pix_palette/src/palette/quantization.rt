@@ -1,6 +1,6 @@
 //! Tables of the colors of a picture, and images of its indices by alpha and by error diffusion.
 ghost use Rattle.std.specs.Prelude.{◌≡◌, ◌<◌, ◌≤◌, ◌⊎◌, ◌*◌, ◌%◌, ◌∷◌, [], length, map, take};
-ghost use Rattle.std.specs.Prelude.{IfOk, IfErr, MatchOption};
+ghost use Rattle.std.specs.Prelude.{IfOk, IfErr, IsOk, MatchOption};
 ghost use Rattle.pix_table.specs.Nearest.{numbers as color_numbers, AreMatched};
 ghost use Rattle.pix_table.specs.Diffusion.{AreDiffused, AreDiffusedBy};
 ghost use Rattle.pix_table.specs.Quantization.{shown};
@@ -11,6 +11,7 @@ ghost use Rattle.pix_palette.specs.ColorTable.{entries_of, limit_of, IsIndexImag
 ghost use Rattle.pix_palette.specs.ColorTable.{IsRefinedMadeOf};
 ghost use Rattle.pix_raster.specs.declared.fault.RasterFault.{RasterFault};
 
+use super::copies::copies;
 use super::index::IndexPixel;
 use super::slots::ColorTable;
 use pix_chan::chan::{Ch8, Gamma};
@@ -116,7 +117,7 @@ impl ColorTable {
     ///
     /// # Errors
     ///
-    /// `Memory` on allocation failure.
+    /// `Memory` on allocation failure. There is no error without points.
     ///
     /// # Examples
     ///
@@ -144,6 +145,7 @@ impl ColorTable {
             (shades_of S.format ⟦<S::Gamma as Gamma<Ch8>>⟧.mode S.numbers raster.now.pixels)
             (values ⟦<Gray8 as Pixel>⟧.numbers image.pixels))) }
         ensures memory { IfErr result (λ fault. fault ≡ RasterFault.Memory) }
+        ensures no_room { length raster.now.pixels ≡ 0 → IsOk result }
     {
         let shades = shades(alloc, raster)?;
         let Some(indices) = matched(
@@ -171,7 +173,7 @@ impl ColorTable {
     ///
     /// # Errors
     ///
-    /// `Memory` on allocation failure.
+    /// `Memory` on allocation failure. There is no error without points.
     ///
     /// # Examples
     ///
@@ -200,6 +202,7 @@ impl ColorTable {
             (shades_of S.format ⟦<S::Gamma as Gamma<Ch8>>⟧.mode S.numbers raster.now.pixels)
             (values ⟦<Gray8 as Pixel>⟧.numbers image.pixels))) }
         ensures memory { IfErr result (λ fault. fault ≡ RasterFault.Memory) }
+        ensures no_room { length raster.now.pixels ≡ 0 → IsOk result }
     {
         diffused_image(
             self.colors(),
@@ -218,7 +221,7 @@ impl ColorTable {
     ///
     /// # Errors
     ///
-    /// `Memory` on allocation failure.
+    /// `Memory` on allocation failure. There is no error without points.
     ///
     /// # Examples
     ///
@@ -250,6 +253,7 @@ impl ColorTable {
             (shades_of S.format ⟦<S::Gamma as Gamma<Ch8>>⟧.mode S.numbers raster.now.pixels)
             (values ⟦<Gray8 as Pixel>⟧.numbers image.pixels))) }
         ensures memory { IfErr result (λ fault. fault ≡ RasterFault.Memory) }
+        ensures no_room { length raster.now.pixels ≡ 0 → IsOk result }
     {
         if strength > WHOLE {
             return Ok(None);
@@ -290,6 +294,7 @@ where
         (shades_of S.format ⟦<S::Gamma as Gamma<Ch8>>⟧.mode S.numbers raster.now.pixels)
         (values ⟦<Gray8 as Pixel>⟧.numbers image.pixels))) }
     ensures memory { IfErr result (λ fault. fault ≡ RasterFault.Memory) }
+    ensures no_room { length raster.now.pixels ≡ 0 → IsOk result }
 {
     let shades = shades(alloc, raster)?;
     let how = Diffusion {
@@ -317,6 +322,7 @@ where
     ensures shades { IfOk result (λ r. map srgba_numbers r.pixels
         ≡ shades_of S.format ⟦<S::Gamma as Gamma<Ch8>>⟧.mode S.numbers raster.now.pixels) }
     ensures memory { IfErr result (λ fault. fault ≡ RasterFault.Memory) }
+    ensures no_room { length raster.now.pixels ≡ 0 → IsOk result }
 {
     let copy = Raster::<SRgba8>::with_raster(alloc, raster)?;
     Ok(copy)
@@ -377,11 +383,12 @@ fn matched(
         (λ indices. AreMatched (map numbers colors.now) alpha transparent_index
         (map srgba_numbers pixels.now) indices.items)) }
     ensures memory { IfErr result (λ fault. fault ≡ RasterFault.Memory) }
+    ensures no_room { length pixels.now ≡ 0 → IsOk result }
 {
     if colors.is_empty() || colors.len() > ENTRIES {
         return Ok(None);
     }
-    let mut indices = vec![in alloc; 0; pixels.len()]?;
+    let mut indices = copies(alloc, 0, pixels.len())?;
     map_indexed(colors, pixels, alpha, transparent_index, &mut indices);
     Ok(Some(indices))
 }
@@ -403,12 +410,13 @@ fn diffused(
         (λ indices. AreDiffusedBy how.scan how.strength (map numbers colors.now) how.alpha
         how.transparent_index how.width (map srgba_numbers pixels.now) indices.items)) }
     ensures memory { IfErr result (λ fault. fault ≡ RasterFault.Memory) }
+    ensures no_room { length pixels.now ≡ 0 → IsOk result }
 {
     if colors.is_empty() || colors.len() > ENTRIES {
         return Ok(None);
     }
-    let mut indices = vec![in alloc; 0; pixels.len()]?;
-    if how.width == 0 {
+    let mut indices = copies(alloc, 0, pixels.len())?;
+    if pixels.is_empty() {
         return Ok(Some(indices));
     }
     let mut work = vec![in alloc; Color::default(); 4 * how.width]?;
@@ -447,6 +455,7 @@ pub(super) fn index_image(
     ensures indices { IfOk result (λ image.
         values ⟦<Gray8 as Pixel>⟧.numbers image.pixels ≡ indices.now) }
     ensures memory { IfErr result (λ fault. fault ≡ RasterFault.Memory) }
+    ensures no_room { length indices.now ≡ 0 → IsOk result }
 {
     match Raster::with_clear(alloc, size.width(), size.height()) {
         Err(_) => Err(RasterFault::Memory),

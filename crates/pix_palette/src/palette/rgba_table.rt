@@ -1,6 +1,6 @@
 //! Tables of colors with an alpha, and images of their indices.
 ghost use Rattle.std.specs.Prelude.{◌≡◌, ◌<◌, ◌≤◌, ◌⊎◌, ◌%◌, [], false, length, map, nat_eq};
-ghost use Rattle.std.specs.Prelude.{IfOk, IfErr, MatchOption};
+ghost use Rattle.std.specs.Prelude.{IfOk, IfErr, IsOk, MatchOption};
 ghost use Rattle.pix_table.specs.LookUp.{all_below};
 ghost use Rattle.pix_table.specs.Seen.{rgba_numbers, AreSeenMatched};
 ghost use Rattle.pix_table.specs.SeenDiffusion.{AreSeenDiffused};
@@ -11,6 +11,7 @@ ghost use Rattle.pix_palette.specs.ColorTable.{IsIndexImage};
 ghost use Rattle.pix_palette.specs.RgbaTable.{colors_of_table, IsRgbaLookedUp};
 ghost use Rattle.pix_raster.specs.declared.fault.RasterFault.{RasterFault};
 
+use super::copies::copies;
 use super::mapped::look_up_pixels;
 use super::quantization::{ENTRIES, WHOLE, index_image, shades};
 use pix_chan::chan::{Ch8, Gamma};
@@ -58,7 +59,7 @@ impl RgbaTable {
     ///
     /// # Errors
     ///
-    /// `Memory` on allocation failure.
+    /// `Memory` on allocation failure. There is no error without points.
     ///
     /// # Examples
     ///
@@ -87,6 +88,7 @@ impl RgbaTable {
             (shades_of S.format ⟦<S::Gamma as Gamma<Ch8>>⟧.mode S.numbers raster.now.pixels)
             (map srgba_numbers (colors_of_table table)))) }
         ensures memory { IfErr result (λ fault. fault ≡ RasterFault.Memory) }
+        ensures no_room { length raster.now.pixels ≡ 0 → IsOk result }
     {
         let shades = shades(alloc, raster)?;
         quantized_rgba_table(alloc, shades.pixels(), limit, rounds)
@@ -158,7 +160,7 @@ impl RgbaTable {
     ///
     /// # Errors
     ///
-    /// `Memory` on allocation failure.
+    /// `Memory` on allocation failure. There is no error without points.
     ///
     /// # Examples
     ///
@@ -187,6 +189,7 @@ impl RgbaTable {
             (shades_of S.format ⟦<S::Gamma as Gamma<Ch8>>⟧.mode S.numbers raster.now.pixels)
             (values ⟦<Gray8 as Pixel>⟧.numbers image.pixels))) }
         ensures memory { IfErr result (λ fault. fault ≡ RasterFault.Memory) }
+        ensures no_room { length raster.now.pixels ≡ 0 → IsOk result }
     {
         let shades = shades(alloc, raster)?;
         let Some(indices) = rgba_matched(alloc, self.colors(), shades.pixels())? else {
@@ -204,7 +207,7 @@ impl RgbaTable {
     ///
     /// # Errors
     ///
-    /// `Memory` on allocation failure.
+    /// `Memory` on allocation failure. There is no error without points.
     ///
     /// # Examples
     ///
@@ -234,6 +237,7 @@ impl RgbaTable {
             (shades_of S.format ⟦<S::Gamma as Gamma<Ch8>>⟧.mode S.numbers raster.now.pixels)
             (values ⟦<Gray8 as Pixel>⟧.numbers image.pixels))) }
         ensures memory { IfErr result (λ fault. fault ≡ RasterFault.Memory) }
+        ensures no_room { length raster.now.pixels ≡ 0 → IsOk result }
     {
         if strength > WHOLE {
             return Ok(None);
@@ -256,7 +260,7 @@ impl RgbaTable {
     ///
     /// # Errors
     ///
-    /// `Memory` on allocation failure, which comes first.
+    /// `Memory` on allocation failure, which comes first. There is no error without points.
     ///
     /// # Examples
     ///
@@ -280,6 +284,7 @@ impl RgbaTable {
             (IsRgbaLookedUp (colors_of_table self.now) indices.now.width indices.now.height
             (values ⟦<Gray8 as Pixel>⟧.numbers indices.now.pixels))) }
         ensures memory { IfErr result (λ fault. fault ≡ RasterFault.Memory) }
+        ensures no_room { length indices.now.pixels ≡ 0 → IsOk result }
     {
         match Raster::with_clear(alloc, indices.width(), indices.height()) {
             Err(_) => Err(RasterFault::Memory),
@@ -306,17 +311,18 @@ fn quantized_rgba_table(
         (λ table. IsQuantizedRgba rounds limit (map srgba_numbers pixels.now)
         (map srgba_numbers (colors_of_table table)))) }
     ensures memory { IfErr result (λ fault. fault ≡ RasterFault.Memory) }
+    ensures no_room { length pixels.now ≡ 0 → IsOk result }
 {
     if limit == 0 || limit > ENTRIES {
         return Ok(None);
     }
-    let mut work = vec![in alloc; Seen::default(); pixels.len()]?;
+    let mut work = copies(alloc, Seen::default(), pixels.len())?;
     let mut room = [RgbaColor::default(); ENTRIES];
     let entries = &mut room[..limit];
     let Some(len) = quantize_rgba(pixels, rounds, &mut work, entries) else {
         return Ok(None);
     };
-    let mut colors = vec![in alloc; SRgba8::default(); len]?;
+    let mut colors = copies(alloc, SRgba8::default(), len)?;
     copy_rgba(&entries[..len], &mut colors);
     Ok(Some(RgbaTable { entries: colors }))
 }
@@ -355,11 +361,12 @@ fn rgba_matched(
         (λ indices. AreSeenMatched (map srgba_numbers colors.now)
         (map srgba_numbers pixels.now) indices.items)) }
     ensures memory { IfErr result (λ fault. fault ≡ RasterFault.Memory) }
+    ensures no_room { length pixels.now ≡ 0 → IsOk result }
 {
     if colors.is_empty() || colors.len() > ENTRIES {
         return Ok(None);
     }
-    let mut indices = vec![in alloc; 0; pixels.len()]?;
+    let mut indices = copies(alloc, 0, pixels.len())?;
     map_indexed_rgba(colors, pixels, &mut indices);
     Ok(Some(indices))
 }
@@ -381,19 +388,24 @@ fn rgba_diffused(
         (λ indices. AreSeenDiffused how.scan how.strength how.width (map srgba_numbers colors.now)
         (map srgba_numbers pixels.now) indices.items)) }
     ensures memory { IfErr result (λ fault. fault ≡ RasterFault.Memory) }
+    ensures no_room { length pixels.now ≡ 0 → IsOk result }
 {
     if colors.is_empty() || colors.len() > ENTRIES {
         return Ok(None);
     }
-    let mut indices = vec![in alloc; 0; pixels.len()]?;
-    // Where a row has no pixel, there is none.
-    let width = how.width.max(1);
-    let mut work = vec![in alloc; Seen::default(); 4 * width]?;
-    let rows = RgbaDiffusion {
-        width,
-        strength: how.strength,
-        scan: how.scan,
-    };
-    diffuse_indexed_rgba(colors, pixels, rows, &mut work, &mut indices);
+    let mut indices = copies(alloc, 0, pixels.len())?;
+    if pixels.is_empty() {
+        // Rows of one pixel serve too, and their work memory is on the stack.
+        let rows = RgbaDiffusion {
+            width: 1,
+            strength: how.strength,
+            scan: how.scan,
+        };
+        let mut work = [Seen::default(); 4];
+        diffuse_indexed_rgba(colors, pixels, rows, &mut work, &mut indices);
+        return Ok(Some(indices));
+    }
+    let mut work = vec![in alloc; Seen::default(); 4 * how.width]?;
+    diffuse_indexed_rgba(colors, pixels, how, &mut work, &mut indices);
     Ok(Some(indices))
 }

@@ -1,4 +1,4 @@
-//! Tables of colors without a function, which any crate may hold, return and pass on.
+//! Tables of colors with a constant threshold.
 ghost use Rattle.std.specs.Prelude.{◌≤◌, vec_len};
 
 use pix_el::rgb::SRgb8;
