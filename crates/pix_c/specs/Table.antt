@@ -1,6 +1,7 @@
 -- The calls on tables of colors: what is refused, with which status.
-use Rattle.std.specs.Prelude.{◌≡◌, ℕ, ◌*◌, ◌%◌, ◌<◌, List, [], ◌∷◌, Bool, true, ◌&&◌, nat_eq, nat_lt, nat_le, length, slice_index, Option, Some, None, if◌then◌else◌}
+use Rattle.std.specs.Prelude.{◌≡◌, ℕ, ◌*◌, ◌%◌, ◌<◌, List, [], ◌∷◌, Bool, true, ◌&&◌, nat_eq, nat_lt, nat_le, length, map, slice_index, Option, Some, None, if◌then◌else◌}
 use Rattle.pix_table.specs.LookUp.{all_below}
+use Rattle.pix_table.specs.Nearest.{alpha_of}
 use Rattle.pix_table.specs.Packing.{pack_fault, unpack_fault}
 use Rattle.pix_table.specs.declared.diffuse.ScanOrder.{ScanOrder}
 use Rattle.pix_table.specs.declared.diffuse.ScanOrder.TheVariants.{LeftToRight, Serpentine}
@@ -21,6 +22,13 @@ nearest_status len = if is_table len then 0 else 11
 -- pixels, and else 0
 abbrev pub map_indexed_status : (len pixels indices : ℕ) → ℕ
 map_indexed_status len pixels indices = if is_table len then (if nat_eq indices pixels then 0 else 7) else 11
+
+-- the status of matching pixels with an alpha: that of matching pixels, but a table without an entry
+-- serves those whose alphas are all below one
+abbrev pub map_indexed_alpha_status : (len alpha : ℕ) (pixels : List (List ℕ)) (indices : ℕ) → ℕ
+map_indexed_alpha_status len alpha pixels indices =
+    if nat_eq len 0 then (if nat_eq indices (length pixels) then (if all_below alpha (map alpha_of pixels) then 0 else 11) else 7)
+    else map_indexed_status len (length pixels) indices
 
 -- the status of making a table: 11 without room for one, 7 where work memory has fewer colors than
 -- there are pixels, and else 0

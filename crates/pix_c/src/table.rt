@@ -11,13 +11,14 @@ ghost use Rattle.pix_table.specs.Indexing.{AreSet, IsStopped};
 ghost use Rattle.pix_table.specs.declared.color.Color.{Color};
 ghost use Rattle.pix_table.specs.declared.row.IndexDepth.{IndexDepth};
 ghost use Rattle.pix_c.specs.Table.{nearest_status, map_indexed_status, look_up_status};
+ghost use Rattle.pix_c.specs.Table.{map_indexed_alpha_status};
 ghost use Rattle.pix_c.specs.Table.{quantize_status, index_status};
 ghost use Rattle.pix_c.specs.Table.{count_status, pack_status, unpack_status, depth_of, row_status};
 
 use crate::status::{BAD_LENGTH, DONE};
 use pix_table::{
     Color, IndexDepth, RgbaColor, RowFault, TablePixel, count_indices, index_pixels, look_up,
-    map_indexed, nearest, pack_row, quantize, unpack_row,
+    map_indexed, map_transparent, nearest, pack_row, quantize, unpack_row,
 };
 
 /// A table has no entry, or more than 256.
@@ -76,7 +77,8 @@ pub extern "C" fn pix_raw_map_indexed(
 }
 
 /// Does what [`pix_raw_map_indexed`] does, on pixels with an alpha. A pixel whose alpha is below
-/// `alpha` gets the index `transparent_index`. The alpha of any other pixel doesn't count.
+/// `alpha` gets the index `transparent_index`. The alpha of any other pixel doesn't count. If all
+/// alphas are below `alpha`, a table without an entry serves too.
 #[unsafe(no_mangle)]
 pub extern "C" fn pix_raw_map_indexed_alpha(
     entries: &[Color],
@@ -85,13 +87,23 @@ pub extern "C" fn pix_raw_map_indexed_alpha(
     transparent_index: u8,
     indices: &mut [u8],
 ) -> u32
-    ensures status { result ≡
-        map_indexed_status (length entries.now) (length pixels.now) (length indices.old) }
+    ensures status { result ≡ map_indexed_alpha_status (length entries.now) alpha
+        (map rgba_numbers pixels.now) (length indices.old) }
     ensures refused { result ≢ 0 → indices.new ≡ indices.old }
     ensures done { result ≡ 0 → AreMatched (map numbers entries.now) alpha transparent_index
         (map rgba_numbers pixels.now) indices.new }
 {
-    match_all(entries, pixels, alpha, transparent_index, indices)
+    if !entries.is_empty() {
+        return match_all(entries, pixels, alpha, transparent_index, indices);
+    }
+    if indices.len() != pixels.len() {
+        return BAD_LENGTH;
+    }
+    if map_transparent(pixels, alpha, transparent_index, indices) {
+        DONE
+    } else {
+        BAD_TABLE
+    }
 }
 
 /// Matches pixels of any kind.
