@@ -50,16 +50,20 @@
  *   - The thread has the stack that the call needs: see below.
  *
  * Stack. A call takes no memory, so what it works with is on the stack of its thread. These are the
- * KiB that a thread's stack needs for each call, the thread's own frames among them:
+ * KiB that a thread's stack needs for each call:
  *
- *     256   pix_quantize_refined, pix_map_indexed, pix_diffuse_indexed, pix_diffuse_indexed_by,
+ *     272   pix_quantize_refined, pix_map_indexed, pix_diffuse_indexed, pix_diffuse_indexed_by,
  *           and all four with _alpha
  *     128   pix_quantize, pix_quantize_alpha, pix_quantize_rgba
- *      32   pix_index_pixels, pix_map_indexed_rgba, pix_diffuse_indexed_rgba
- *      16   all others
+ *      48   pix_index_pixels, pix_map_indexed_rgba, pix_diffuse_indexed_rgba
+ *      24   all others
+ *
+ * The thread's own first frames are among them, and 8 KiB for a signal handler that runs meanwhile:
+ * its frame alone takes about 4 on a processor with AVX-512. A handler that needs more has a stack
+ * of its own (sigaltstack).
  *
  * Main threads have much more, and so have new threads under glibc. Under musl a new thread has 128
- * KiB unless it asks for more (pthread_attr_setstacksize). The calls with 256 need that.
+ * KiB unless it asks for more (pthread_attr_setstacksize). The calls with 272 need that.
  *
  * Threads. Calls may run at once in different threads where none of them writes what another one
  * reads or writes. They may share sources, tables and lists of commands.

@@ -1,10 +1,14 @@
 /* How much stack each call needs: each runs in a thread of the stack that pix.h says, in a process of its own, since a
- * thread that needs more ends its process. With the word `least` the least stack of each is looked for, and printed. */
+ * thread that needs more ends its process. It runs twice. Once 8 KiB of the stack are taken away, which is room for the
+ * frame of a signal handler: with the registers of AVX-512 it has about 3.6. And once a handler runs on that stack every few
+ * microseconds. With the word `least` the least stack of each is looked for, those 8 KiB among it, and printed. */
 #define _DEFAULT_SOURCE
 #include "each.h"
 #include <pthread.h>
+#include <signal.h>
 #include <stdio.h>
 #include <string.h>
+#include <sys/time.h>
 #include <sys/wait.h>
 #include <unistd.h>
 
@@ -241,7 +245,7 @@ static pix_status unpack(void) {
 }
 
 /* The calls, and the kibibytes of stack that pix.h says they need. */
-enum { FEW = 16, SETTING = 32, MAKING = 128, MATCHING = 256 };
+enum { FEW = 24, SETTING = 48, MAKING = 128, MATCHING = 272 };
 static const struct { const char *name; size_t kibibytes; pix_status (*call)(void); } calls[] = {
     {"pix_check_library", FEW, pix_check_library},
     {"pix_run", FEW, run},
@@ -277,26 +281,60 @@ static const struct { const char *name; size_t kibibytes; pix_status (*call)(voi
     {"pix_look_up_rgba", FEW, look_up_rgba},
 };
 
-static void *run_call(void *call) {
-    static int failed;
-    return (*(pix_status (**)(void))call)() == PIX_OK ? NULL : &failed;
+static int failed;
+
+/* Runs a call while 8 KiB of the stack are taken. */
+static void *run_beside(void *call) {
+    volatile unsigned char taken[8 * 1024];
+    for (size_t i = 0; i < sizeof taken; i++)
+        taken[i] = 1;
+    const pix_status status = (*(pix_status (**)(void))call)();
+    return status == PIX_OK && taken[0] ? NULL : &failed;
+}
+
+static volatile sig_atomic_t signals;
+
+static void count_signal(int number) {
+    signals = signals < 300 ? signals + (number != 0) : signals;
+}
+
+/* Runs a call again and again, until a handler has run 300 times on the stack of this thread. */
+static void *run_interrupted(void *call) {
+    const struct itimerval often = {{0, 20}, {0, 20}}, never = {{0, 0}, {0, 0}};
+    struct sigaction action;
+    sigset_t alarms;
+    pix_status status = PIX_OK;
+    memset(&action, 0, sizeof action);
+    action.sa_handler = count_signal;
+    if (sigemptyset(&alarms) || sigaddset(&alarms, SIGALRM) || pthread_sigmask(SIG_UNBLOCK, &alarms, NULL)
+        || sigaction(SIGALRM, &action, NULL) || setitimer(ITIMER_REAL, &often, NULL))
+        return &failed;
+    while (signals < 300 && status == PIX_OK)
+        status = (*(pix_status (**)(void))call)();
+    return setitimer(ITIMER_REAL, &never, NULL) || status != PIX_OK ? &failed : NULL;
+}
+
+/* Runs a call in a thread of so much stack, and ends the process. */
+static void run_child(void *(*run)(void *), pix_status (*call)(void), size_t kibibytes) {
+    const long least = sysconf(_SC_THREAD_STACK_MIN);
+    const size_t asked = kibibytes * 1024, size = least > 0 && (size_t)least > asked ? (size_t)least : asked;
+    pthread_attr_t attributes;
+    pthread_t thread;
+    sigset_t all;
+    void *answer = NULL;
+    if (sigfillset(&all) || pthread_sigmask(SIG_BLOCK, &all, NULL) || pthread_attr_init(&attributes)
+        || pthread_attr_setstacksize(&attributes, size) || pthread_create(&thread, &attributes, run, &call)
+        || pthread_join(thread, &answer))
+        _exit(2);
+    _exit(answer ? 1 : 0);
 }
 
 /* Returns whether a call succeeds in a thread of so much stack, or of the least that a thread has here. */
-static int fits(pix_status (*call)(void), size_t kibibytes) {
+static int fits(void *(*run)(void *), pix_status (*call)(void), size_t kibibytes) {
     fflush(NULL);
     const pid_t child = fork();
-    if (child == 0) {
-        const long least = sysconf(_SC_THREAD_STACK_MIN);
-        const size_t asked = kibibytes * 1024, size = least > 0 && (size_t)least > asked ? (size_t)least : asked;
-        pthread_attr_t attributes;
-        pthread_t thread;
-        void *failed = NULL;
-        if (pthread_attr_init(&attributes) || pthread_attr_setstacksize(&attributes, size)
-            || pthread_create(&thread, &attributes, run_call, &call) || pthread_join(thread, &failed))
-            _exit(2);
-        _exit(failed ? 1 : 0);
-    }
+    if (child == 0)
+        run_child(run, call, kibibytes);
     int status = 0;
     return child > 0 && waitpid(child, &status, 0) == child && WIFEXITED(status) && WEXITSTATUS(status) == 0;
 }
@@ -308,14 +346,20 @@ int main(int words, char **word) {
     for (size_t i = 0; i < sizeof calls / sizeof *calls; i++) {
         size_t kibibytes = calls[i].kibibytes;
         if (is_search) {
-            for (kibibytes = 16; !fits(calls[i].call, kibibytes) && kibibytes < 4096; kibibytes += 4) {}
+            for (kibibytes = 16; !fits(run_beside, calls[i].call, kibibytes) && kibibytes < 4096; kibibytes += 4) {}
             printf("%s: %zu KiB\n", calls[i].name, kibibytes);
-        } else if (!fits(calls[i].call, kibibytes)) {
-            fprintf(stderr, "stack: %s fails with %zu KiB\n", calls[i].name, kibibytes);
+            continue;
+        }
+        if (!fits(run_beside, calls[i].call, kibibytes)) {
+            fprintf(stderr, "stack: %s leaves less than 8 of %zu KiB for a signal\n", calls[i].name, kibibytes);
+            is_well = 0;
+        }
+        if (!fits(run_interrupted, calls[i].call, kibibytes)) {
+            fprintf(stderr, "stack: %s fails with %zu KiB where a handler runs on its stack\n", calls[i].name, kibibytes);
             is_well = 0;
         }
     }
     if (is_well && !is_search)
-        printf("stack: each call fits in what pix.h says\n");
+        printf("stack: each call fits in what pix.h says, with 8 KiB for a signal\n");
     return !is_well;
 }

@@ -16,14 +16,15 @@
 //!
 //! # Stack
 //!
-//! What a call works with is on the stack of its thread, which is to have so many KiB, the caller's frames among them:
+//! What a call works with is on the stack of its thread, which is to have so many KiB. The thread's first frames are among them,
+//! and 8 KiB for a signal handler that runs meanwhile:
 //!
 //! | KiB | calls |
 //! |--:|---|
-//! | 256 | `pix_raw_quantize_refined`, `pix_raw_map_indexed`, `pix_raw_diffuse_indexed`, `pix_raw_diffuse_indexed_by`, and all four with `_alpha` |
+//! | 272 | `pix_raw_quantize_refined`, `pix_raw_map_indexed`, `pix_raw_diffuse_indexed`, `pix_raw_diffuse_indexed_by`, and all four with `_alpha` |
 //! | 128 | `pix_raw_quantize`, `pix_raw_quantize_alpha`, `pix_raw_quantize_rgba` |
-//! | 32 | `pix_raw_index_pixels`, `pix_raw_map_indexed_rgba`, `pix_raw_diffuse_indexed_rgba` |
-//! | 16 | all others |
+//! | 48 | `pix_raw_index_pixels`, `pix_raw_map_indexed_rgba`, `pix_raw_diffuse_indexed_rgba` |
+//! | 24 | all others |
 //!
 //! Threads of `std` have 2 MiB.
 #![no_std]
