@@ -101,6 +101,19 @@ enum { WIDE = 3, HIGH = 3, APART = 5, LENGTH = APART * (HIGH - 1) + WIDE, ALL = 
         CHECK(pix_run##S(image, list, 1, (size_t *)(void *)&words[0]) == PIX_OVERLAP && words[0] == 7);                \
         CHECK(pix_run##S(image, list, 2, (size_t *)(void *)&words[2]) == PIX_OK && words[2] == 2);                     \
         CHECK(words[0] == 0 && words[1] == 0 && words[3] == 7);                                                        \
+    }                                                                                                                  \
+                                                                                                                       \
+    /* A part of an image that no memory holds, and of none, is refused as the image is. */                            \
+    static void parts##S(void) {                                                                                       \
+        PIXEL one = ONE;                                                                                               \
+        pix_image##S image = pix_image_of##S(&one, UINT32_MAX, UINT32_MAX), part;                                      \
+        part = pix_part_of##S(image, pix_region_of(1, INT32_MAX, 5, 5));                                               \
+        CHECK(pix_do##S(part, pix_clear##S()) == PIX_BAD_SIZE);                                                        \
+        part = pix_part_of##S(pix_image_of##S(NULL, 8, 8), pix_region_of(3, 2, 4, 4));                                 \
+        CHECK(part.width == 4 && part.height == 4 && pix_do##S(part, pix_clear##S()) == PIX_NULL);                     \
+        part = pix_part_of##S(pix_image_of##S(NULL, 8, 8), pix_region_of(8, 9, 4, 4));                                 \
+        CHECK(part.width == 0 && pix_do##S(part, pix_clear##S()) == PIX_OK);                                           \
+        CHECK(one.a == (ONE).a);                                                                                       \
     }
 
 BORDERS(, pix_rgba8, pix_matte, uint8_t, pix_rgba8_of(1, 2, 3, 4))
@@ -130,6 +143,31 @@ static void conversions(void) {
     CHECK(pix_convert(PIX_FORMAT_RGBA8, PIX_FORMAT_SGRAY8, bytes + 1, bytes, 2) == PIX_OVERLAP);
 }
 
+/* Bitmaps that begin where no memory is, or have sides or strides that are refused: they are refused before an address is
+ * made of them. The undefined sanitizer tells where one was. */
+static void bitmaps(void) {
+    static uint8_t bytes[64], others[64];
+    const pix_bitmap_view source = pix_bitmap_view_of(bytes, 4, 3, PIX_FORMAT_GRAY8);
+    pix_bitmap low = pix_bitmap_of((void *)(uintptr_t)64, 4, 3, PIX_FORMAT_GRAY8), high = pix_bitmap_of(others, 1, 3, PIX_FORMAT_GRAY8);
+    pix_bitmap same = pix_bitmap_of(others, 4, 3, PIX_FORMAT_GRAY8);
+    low.stride = -40;
+    CHECK(pix_convert_bitmap(source, low) == PIX_BAD_SIZE && pix_convert_in_place(low, low.format) == PIX_BAD_SIZE);
+    CHECK(pix_convert_bitmap(pix_bitmap_view_of_bitmap(low), same) == PIX_BAD_SOURCE);
+    CHECK(pix_convert_in_place(pix_part_of_bitmap(low, pix_region_of(1, 1, 2, 2)), low.format) == PIX_BAD_SIZE);
+    low.width = 41, low.height = 7;
+    CHECK(pix_convert_in_place(low, low.format) == PIX_BAD_SIZE);
+    high.stride = -(PTRDIFF_MAX / 4);
+    CHECK(pix_convert_in_place(high, high.format) == PIX_BAD_SIZE);
+    high.height = (uint32_t)INT32_MAX + 2, high.stride = -(PTRDIFF_MAX / ((ptrdiff_t)INT32_MAX + 3));
+    CHECK(pix_convert_in_place(high, high.format) == PIX_BAD_SIZE);
+    high.stride = PTRDIFF_MAX / 2;
+    CHECK(pix_convert_in_place(pix_part_of_bitmap(high, pix_region_of(0, INT32_MAX, 1, 9)), high.format) == PIX_BAD_SIZE);
+    same.pixels = NULL;
+    CHECK(pix_convert_in_place(pix_part_of_bitmap(same, pix_region_of(1, 1, 2, 2)), same.format) == PIX_NULL);
+    same.stride = -4;
+    CHECK(pix_convert_in_place(pix_part_of_bitmap(same, pix_region_of(1, 1, 2, 2)), same.format) == PIX_NULL);
+}
+
 int main(void) {
     CHECK(pix_check_library() == PIX_OK);
     borders();
@@ -141,7 +179,11 @@ int main(void) {
     lists();
     lists_rgba16();
     lists_graya8();
+    parts();
+    parts_rgba16();
+    parts_graya8();
     conversions();
+    bitmaps();
     printf("borders: %d failures\n", failures);
     return failures != 0;
 }

@@ -440,7 +440,8 @@ static inline pix_graya8 pix_color_of_graya8(pix_format format, const void *pixe
 
 /* The part of an image that lies in a region, clipped to the image. It has no points where the
  * region lies outside. Its first pixel is the point (0, 0) of the part; to paint in coordinates of
- * the whole image use pix_run_window. */
+ * the whole image use pix_run_window. A part of an image that is refused for its size is refused
+ * too, and so is one of an image without memory (null). */
 static inline pix_image pix_part_of(pix_image image, pix_region region);
 static inline pix_image_rgba16 pix_part_of_rgba16(pix_image_rgba16 image, pix_region region);
 static inline pix_image_graya8 pix_part_of_graya8(pix_image_graya8 image, pix_region region);
@@ -1098,7 +1099,8 @@ static inline pix_bitmap_view pix_bitmap_view_of_bitmap(pix_bitmap image) {
 }
 
 /* The bytes of a bitmap, from the row that is lowest in memory to the end of the row that is
- * highest. `length` is 0 where no memory could hold them, and then the library refuses the size. */
+ * highest. `length` is 0 where the size is bad or no memory could hold them, and then the library
+ * refuses the size. No address is made before that is known. */
 typedef struct { const uint8_t *lowest; size_t length; int64_t stride; } pix_bytes_;
 
 static inline pix_bytes_ pix_bytes_of_(pix_bitmap_view image) {
@@ -1107,11 +1109,14 @@ static inline pix_bytes_ pix_bytes_of_(pix_bitmap_view image) {
     if (!image.stride)
         bytes.stride = (int64_t)wide;
     apart = bytes.stride < 0 ? 0 - (uint64_t)bytes.stride : (uint64_t)bytes.stride;
-    if (!image.height || wide > (uint64_t)PTRDIFF_MAX)
+    if (!image.height || image.width > INT32_MAX || image.height > INT32_MAX || wide > apart
+        || wide > (uint64_t)PTRDIFF_MAX)
         return bytes;
     if (image.height > 1 && apart > ((uint64_t)PTRDIFF_MAX - wide) / (image.height - 1))
         return bytes;
     before = (image.height - 1) * apart;
+    if (bytes.stride < 0 && bytes.lowest && before > (uintptr_t)bytes.lowest)
+        return bytes;
     bytes.length = (size_t)(before + wide);
     if (bytes.stride < 0 && bytes.lowest)
         bytes.lowest -= before;
@@ -1200,8 +1205,11 @@ static inline pix_region pix_copy_of_(pix_region to, uint32_t width, uint32_t he
         part.stride = image.stride ? image.stride : image.width;                                                       \
         pix_cut_(region.x, region.width, image.width, &left, &part.width);                                             \
         pix_cut_(region.y, region.height, image.height, &top, &part.height);                                           \
-        if (part.width && part.height)                                                                                 \
-            part.pixels += (size_t)top * part.stride + left;                                                           \
+        if (!part.width || !part.height || !image.pixels)                                                              \
+            return part;                                                                                               \
+        if (!pix_extent_(image.width, image.height, part.stride, sizeof(PIXEL)))                                       \
+            return image; /* which is refused as a whole */                                                            \
+        part.pixels += (size_t)top * part.stride + left;                                                               \
         return part;                                                                                                   \
     }                                                                                                                  \
     static inline PIXEL pix_color_of##S(pix_format format, const void *pixel) {                                        \
@@ -1231,9 +1239,12 @@ static inline pix_bitmap pix_part_of_bitmap(pix_bitmap image, pix_region region)
         part.stride = (ptrdiff_t)(image.width * pix_format_size(image.format));
     pix_cut_(region.x, region.width, image.width, &left, &part.width);
     pix_cut_(region.y, region.height, image.height, &top, &part.height);
-    if (part.width && part.height)
-        part.pixels = (uint8_t *)image.pixels + (ptrdiff_t)top * part.stride
-                      + (ptrdiff_t)(left * pix_format_size(image.format));
+    if (!part.width || !part.height || !image.pixels)
+        return part;
+    if (!pix_bytes_of_(pix_bitmap_view_of_bitmap(image)).length)
+        return image; /* which is refused as a whole */
+    part.pixels = (uint8_t *)image.pixels + (ptrdiff_t)top * part.stride
+                  + (ptrdiff_t)(left * pix_format_size(image.format));
     return part;
 }
 
