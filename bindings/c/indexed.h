@@ -92,24 +92,36 @@ static inline size_t plain_weight(const plain_box *box, int channel, unsigned fr
     return count;
 }
 
-/* The box of these colors, with its best cut, the first of equals. */
+/* Compares the cut of a box at a value of a channel with the best one so far. */
+static inline void plain_try(plain_box *box, int channel, unsigned value, uint64_t whole) {
+    uint64_t low, high;
+    const size_t below = plain_weight(box, channel, 0, value - 1, &low);
+    const size_t others = plain_weight(box, channel, value, 255, &high);
+    const uint64_t gain = low + high > whole ? low + high - whole : 0;
+    if (below && others && (box->channel == 3 || gain > box->gain)) {
+        box->channel = channel;
+        box->value = value;
+        box->gain = gain;
+    }
+}
+
+/* The box of these colors, with its best cut, the first of equals. Only values that come right after that of a color are tried:
+ * another one parts the box as the last of them does. */
 static inline plain_box plain_box_of(pix_srgb8 *colors, size_t count) {
     plain_box box = {colors, count, 3, 0, 0};
-    uint64_t whole, low, high;
+    uint64_t whole;
     unsigned value;
+    size_t i;
     int channel;
     plain_weight(&box, 0, 0, 255, &whole);
-    for (channel = 0; channel < 3; channel++)
-        for (value = 1; value <= 255; value++) {
-            const size_t below = plain_weight(&box, channel, 0, value - 1, &low);
-            const size_t others = plain_weight(&box, channel, value, 255, &high);
-            const uint64_t gain = low + high > whole ? low + high - whole : 0;
-            if (below && others && (box.channel == 3 || gain > box.gain)) {
-                box.channel = channel;
-                box.value = value;
-                box.gain = gain;
-            }
-        }
+    for (channel = 0; channel < 3; channel++) {
+        char comes_after[257] = {0};
+        for (i = 0; i < count; i++)
+            comes_after[plain_number(colors[i], channel) + 1] = 1;
+        for (value = 1; value <= 255; value++)
+            if (comes_after[value])
+                plain_try(&box, channel, value, whole);
+    }
     return box;
 }
 

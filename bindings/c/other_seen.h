@@ -8,21 +8,21 @@
 /* Red, green and blue over black, and the alpha. Those of a pixel that is opaque are its own. */
 typedef struct { int n[4]; } seen;
 
-static seen seen_as(int r, int g, int b, int a) {
+static inline seen seen_as(int r, int g, int b, int a) {
     const seen it = {{(2 * r * a + 255) / 510, (2 * g * a + 255) / 510, (2 * b * a + 255) / 510, a}};
     return it;
 }
 
-static seen opaque_seen(pix_srgb8 it) {
+static inline seen opaque_seen(pix_srgb8 it) {
     return seen_as(it.r, it.g, it.b, 255);
 }
 
-static seen pixel_seen(pix_srgba8 it) {
+static inline seen pixel_seen(pix_srgba8 it) {
     return seen_as(it.r, it.g, it.b, it.a);
 }
 
 /* The squared differences over black, and over white, which is darker by as much as the alpha is more. */
-static int64_t seen_apart(seen p, seen q) {
+static inline int64_t seen_apart(seen p, seen q) {
     int64_t sum = 0;
     for (int k = 0; k < 3; k++) {
         const int black = p.n[k] - q.n[k], white = black - (p.n[3] - q.n[3]);
@@ -31,7 +31,7 @@ static int64_t seen_apart(seen p, seen q) {
     return sum;
 }
 
-static uint8_t seen_nearest(const seen *entries, size_t len, seen color) {
+static inline uint8_t seen_nearest(const seen *entries, size_t len, seen color) {
     size_t at = 0;
     for (size_t i = 1; i < len; i++)
         if (seen_apart(entries[i], color) < seen_apart(entries[at], color))
@@ -40,14 +40,14 @@ static uint8_t seen_nearest(const seen *entries, size_t len, seen color) {
 }
 
 /* So many elements of a size, all of them 0. */
-static void *zeros(size_t count, size_t size) {
+static inline void *zeros(size_t count, size_t size) {
     void *made = calloc(count + 1, size);
     if (!made)
         abort();
     return made;
 }
 
-static seen *all_seen(const pix_srgba8 *pixels, size_t count) {
+static inline seen *all_seen(const pix_srgba8 *pixels, size_t count) {
     seen *all = zeros(count, sizeof *all);
     for (size_t i = 0; i < count; i++)
         all[i] = pixel_seen(pixels[i]);
@@ -64,7 +64,7 @@ typedef struct {
 } diffusion;
 
 /* What was wanted less what was found at the pixel that lies so far before pixel k, against the way of its row, in a channel. */
-static int miss(const diffusion *it, size_t k, long across, size_t up, int channel) {
+static inline int miss(const diffusion *it, size_t k, long across, size_t up, int channel) {
     const size_t row = k / it->width;
     const long left = it->serpentine && row % 2 ? -across : across, column = (long)(k % it->width) + left;
     size_t from;
@@ -76,7 +76,7 @@ static int miss(const diffusion *it, size_t k, long across, size_t up, int chann
 
 /* A number of pixel k, and its share of the errors of four pixels: rounded to the nearest, and clamped. In the row above, which
  * may go the other way, the pixel that came before the one above it gives 1 sixteenth where both rows go one way. */
-static int shared(const diffusion *it, size_t k, int channel) {
+static inline int shared(const diffusion *it, size_t k, int channel) {
     const int behind = it->serpentine ? 3 : 1, ahead = it->serpentine ? 1 : 3;
     const int sixteenths = 7 * miss(it, k, -1, 0, channel) + behind * miss(it, k, -1, 1, channel) + 5 * miss(it, k, 0, 1, channel)
                            + ahead * miss(it, k, 1, 1, channel);
@@ -84,7 +84,7 @@ static int shared(const diffusion *it, size_t k, int channel) {
     return sum < 0 ? 0 : sum / 256 > 255 ? 255 : sum / 256;
 }
 
-static void diffuse_at(const diffusion *it, size_t k, uint8_t *indices) {
+static inline void diffuse_at(const diffusion *it, size_t k, uint8_t *indices) {
     seen *wanted = &it->wanted[k];
     if (it->is_apart[k]) {
         const int index = it->transparent_index;
@@ -100,7 +100,7 @@ static void diffuse_at(const diffusion *it, size_t k, uint8_t *indices) {
     it->found[k] = it->entries[indices[k]];
 }
 
-static void diffuse_all(diffusion *it, uint8_t *indices) {
+static inline void diffuse_all(diffusion *it, uint8_t *indices) {
     it->wanted = zeros(it->count, sizeof *it->wanted);
     it->found = zeros(it->count, sizeof *it->found);
     for (size_t row = 0; row * it->width < it->count; row++)
@@ -118,7 +118,7 @@ static void diffuse_all(diffusion *it, uint8_t *indices) {
 /* How many colors there are, and the sums of their numbers: three over black, three over white, and the alpha. */
 typedef struct { uint64_t count, of[7]; } seen_sums;
 
-static void add_seen(seen_sums *sums, seen it) {
+static inline void add_seen(seen_sums *sums, seen it) {
     sums->count++;
     for (int k = 0; k < 3; k++) {
         sums->of[k] += (uint64_t)it.n[k];
@@ -128,7 +128,7 @@ static void add_seen(seen_sums *sums, seen it) {
 }
 
 /* The part of the sum of squares that the mean accounts for, over black and over white. For no more than eight million colors. */
-static uint64_t seen_weight(const seen_sums *it) {
+static inline uint64_t seen_weight(const seen_sums *it) {
     uint64_t black = 0, white = 0;
     for (int k = 0; k < 3; k++) {
         black += it->of[k] * it->of[k];
@@ -137,7 +137,7 @@ static uint64_t seen_weight(const seen_sums *it) {
     return black / it->count + white / it->count;
 }
 
-static seen seen_mean(const seen_sums *it) {
+static inline seen seen_mean(const seen_sums *it) {
     seen mean;
     for (int k = 0; k < 4; k++)
         mean.n[k] = (int)((2 * it->of[k < 3 ? k : 6] + it->count) / (2 * it->count));
@@ -145,28 +145,29 @@ static seen seen_mean(const seen_sums *it) {
 }
 
 /* A box, and its best cut. The channel is 4 where all of its colors are the same. */
-typedef struct { seen *colors; size_t count; int channel, value; uint64_t gain; seen_sums all; } seen_box;
+typedef struct { seen *colors; size_t count; int channel, value; uint64_t gain, weight; seen_sums all; } seen_box;
 
 /* Compares the cuts of a box at all values of a channel with the best one, by the sums of the colors of each value. */
-static void cut_channel(seen_box *box, int channel) {
+static inline void cut_channel(seen_box *box, int channel) {
     static const seen_sums none;
     seen_sums values[256] = {{0, {0}}}, low = none;
-    const uint64_t whole = seen_weight(&box->all);
     for (size_t i = 0; i < box->count; i++)
         add_seen(&values[box->colors[i].n[channel]], box->colors[i]);
     for (int value = 1; value < 256; value++) {
         seen_sums high = box->all;
         uint64_t parts;
+        if (!values[value - 1].count)
+            continue; /* it parts the colors as the value before */
         low.count += values[value - 1].count;
         high.count -= low.count;
         for (int k = 0; k < 7; k++) {
             low.of[k] += values[value - 1].of[k];
             high.of[k] -= low.of[k];
         }
-        if (!low.count || !high.count)
-            continue;
+        if (!high.count)
+            break;
         parts = seen_weight(&low) + seen_weight(&high);
-        parts = parts > whole ? parts - whole : 0;
+        parts = parts > box->weight ? parts - box->weight : 0;
         if (box->channel == 4 || parts > box->gain) {
             box->channel = channel;
             box->value = value;
@@ -175,35 +176,37 @@ static void cut_channel(seen_box *box, int channel) {
     }
 }
 
-static seen_box seen_box_of(seen *colors, size_t count) {
-    seen_box box = {colors, count, 4, 0, 0, {0, {0}}};
+static inline seen_box seen_box_of(seen *colors, size_t count) {
+    seen_box box = {colors, count, 4, 0, 0, 0, {0, {0}}};
     for (size_t i = 0; i < count; i++)
         add_seen(&box.all, colors[i]);
-    for (int channel = 0; channel < 4; channel++)
+    box.weight = seen_weight(&box.all);
+    for (int channel = 0; channel < 4 && count > 1; channel++)
         cut_channel(&box, channel);
     return box;
 }
 
-static seen_sums both_sums(seen_sums p, const seen_sums *q) {
-    p.count += q->count;
+/* The box of the colors of two, of which only the sums are needed any more. */
+static inline seen_box both_boxes(seen_box p, const seen_box *q) {
+    p.all.count += q->all.count;
     for (int k = 0; k < 7; k++)
-        p.of[k] += q->of[k];
+        p.all.of[k] += q->all.of[k];
+    p.weight = seen_weight(&p.all);
     return p;
 }
 
 /* By how much the squared error rises where two boxes become one. */
-static uint64_t seen_cost(const seen_sums *p, const seen_sums *q) {
-    const seen_sums both = both_sums(*p, q);
-    const uint64_t apart = seen_weight(p) + seen_weight(q), one = seen_weight(&both);
+static inline uint64_t seen_cost(const seen_box *p, const seen_box *q) {
+    const uint64_t apart = p->weight + q->weight, one = both_boxes(*p, q).weight;
     return apart > one ? apart - one : 0;
 }
 
 /* Joins the two boxes that cost least, the first of equals, again and again. The costs of all pairs are kept. */
-static size_t join_seen(seen_box *boxes, size_t used, size_t room) {
+static inline size_t join_seen(seen_box *boxes, size_t used, size_t room) {
     uint64_t (*costs)[320] = zeros(320, sizeof *costs);
     for (size_t j = 1; j < used; j++)
         for (size_t i = 0; i < j; i++)
-            costs[i][j] = seen_cost(&boxes[i].all, &boxes[j].all);
+            costs[i][j] = seen_cost(&boxes[i], &boxes[j]);
     while (used > room) {
         size_t first = 0, second = 1;
         for (size_t i = 0; i < used; i++)
@@ -212,7 +215,7 @@ static size_t join_seen(seen_box *boxes, size_t used, size_t room) {
                     first = i;
                     second = j;
                 }
-        boxes[first].all = both_sums(boxes[first].all, &boxes[second].all);
+        boxes[first] = both_boxes(boxes[first], &boxes[second]);
         used--;
         memmove(&boxes[second], &boxes[second + 1], (used - second) * sizeof *boxes);
         memmove(&costs[second], &costs[second + 1], (used - second) * sizeof *costs);
@@ -220,14 +223,14 @@ static size_t join_seen(seen_box *boxes, size_t used, size_t room) {
             memmove(&costs[i][second], &costs[i][second + 1], (used - second) * sizeof costs[i][0]);
         for (size_t i = 0; i < used; i++)
             if (i != first)
-                costs[i < first ? i : first][i < first ? first : i] = seen_cost(&boxes[i].all, &boxes[first].all);
+                costs[i < first ? i : first][i < first ? first : i] = seen_cost(&boxes[i], &boxes[first]);
     }
     free(costs);
     return used;
 }
 
 /* Cuts the box that gains most again and again, into more boxes than there is room for, joins them, and writes their means. */
-static size_t cut_seen(seen *colors, size_t count, seen *entries, size_t room) {
+static inline size_t cut_seen(seen *colors, size_t count, seen *entries, size_t room) {
     seen_box boxes[320];
     size_t used = 1;
     boxes[0] = seen_box_of(colors, count);
@@ -258,7 +261,7 @@ static size_t cut_seen(seen *colors, size_t count, seen *entries, size_t room) {
 }
 
 /* Whether the squared error of colors, by their sums, is no greater to one color than to another. What both have is left out. */
-static int is_no_worse(const seen_sums *sums, seen one, seen other) {
+static inline int is_no_worse(const seen_sums *sums, seen one, seen other) {
     seen_sums first = {0, {0}}, second = {0, {0}};
     int64_t less = 0;
     add_seen(&first, one);
@@ -270,7 +273,7 @@ static int is_no_worse(const seen_sums *sums, seen one, seen other) {
     return less >= 0;
 }
 
-static void round_seen(const seen *colors, size_t count, seen *entries, size_t used) {
+static inline void round_seen(const seen *colors, size_t count, seen *entries, size_t used) {
     seen_sums sums[256] = {{0, {0}}};
     for (size_t i = 0; i < count; i++)
         add_seen(&sums[seen_nearest(entries, used, colors[i])], colors[i]);
@@ -279,12 +282,12 @@ static void round_seen(const seen *colors, size_t count, seen *entries, size_t u
             entries[i] = seen_mean(&sums[i]);
 }
 
-static int same_seen(seen p, seen q) {
+static inline int same_seen(seen p, seen q) {
     return p.n[0] == q.n[0] && p.n[1] == q.n[1] && p.n[2] == q.n[2] && p.n[3] == q.n[3];
 }
 
 /* How many of the colors differ from all before them, and the places of these; or one more than there is room for. */
-static size_t distinct_seen(const seen *colors, size_t count, size_t *places, size_t room) {
+static inline size_t distinct_seen(const seen *colors, size_t count, size_t *places, size_t room) {
     size_t used = 0, j;
     for (size_t i = 0; i < count; i++) {
         for (j = 0; j < used && !same_seen(colors[places[j]], colors[i]); j++) {}
@@ -297,12 +300,12 @@ static size_t distinct_seen(const seen *colors, size_t count, size_t *places, si
 }
 
 /* A number by an alpha, to the nearest. */
-static uint8_t by_alpha(int number, int alpha) {
+static inline uint8_t by_alpha(int number, int alpha) {
     return (uint8_t)(alpha ? (510 * number + alpha) / (2 * alpha) : 0);
 }
 
 /* The pixel that is seen as a color. */
-static pix_srgba8 straight_of(seen color) {
+static inline pix_srgba8 straight_of(seen color) {
     const int *n = color.n;
     const pix_srgba8 pixel = {by_alpha(n[0], n[3]), by_alpha(n[1], n[3]), by_alpha(n[2], n[3]), (uint8_t)n[3]};
     return pixel;

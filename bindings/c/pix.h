@@ -1340,12 +1340,15 @@ static inline size_t pix_diffuse_indexed_work(size_t width) {
  * the work memory and of the entries. */
 static inline pix_status pix_quantizes_(const void *pixels, size_t size, size_t count, const void *work, const void *entries,
                                         size_t color_size, size_t len, const size_t *made) {
-    const size_t bytes = count * size, work_bytes = count * color_size, table_bytes = len * color_size;
+    size_t bytes, work_bytes, table_bytes;
     pix_status status = made ? PIX_OK : PIX_NULL;
     if (!len || len > 256)
         return PIX_BAD_TABLE;
     if (pix_too_many_(count))
         return PIX_BAD_LENGTH;
+    bytes = count * size;
+    work_bytes = count * color_size;
+    table_bytes = len * color_size;
     if (status == PIX_OK)
         status = pix_apart_(entries, table_bytes, pixels, bytes);
     if (status == PIX_OK)
