@@ -68,6 +68,10 @@
  * Threads. Calls may run at once in different threads where none of them writes what another one
  * reads or writes. They may share sources, tables and lists of commands.
  *
+ * Signals. A signal handler may make calls too, also one that interrupts a call, where neither
+ * writes what the other one reads or writes: no call takes a lock. What the handler calls needs its
+ * own stack besides. A call that a handler leaves by longjmp has written a part of what it writes.
+ *
  * A source must not share memory with the image that is written. That is tested: see PIX_OVERLAP.
  *
  * Promises. docs/PROMISES.md in the repository says what each call promises, and what of it is

@@ -1,9 +1,13 @@
 /* Two threads paint two images from one source at once, and both images come out alike; then four threads paint bands
- * of rows of one image at once, and it is the image that one call paints. */
+ * of rows of one image at once, and it is the image that one call paints; then a signal handler paints an image while the
+ * call that it interrupts paints another one. */
+#define _DEFAULT_SOURCE
 #include "pix.h"
 #include <pthread.h>
+#include <signal.h>
 #include <stdio.h>
 #include <string.h>
+#include <sys/time.h>
 
 enum { SIDE = 64, ROUNDS = 500, BANDS = 4, HEIGHT = SIDE / BANDS };
 
@@ -72,6 +76,38 @@ static int try_bands(void) {
            && memcmp(images[0], images[1], sizeof images[0]) == 0;
 }
 
+static volatile sig_atomic_t handled, refused;
+static pix_command handler_list[4];
+
+/* Paints the second image anew. */
+static void paint_in_handler(int number) {
+    handled = handled < 1000 ? handled + (number == SIGALRM) : handled;
+    if (pix_run(pix_image_of(images[1], SIDE, SIDE), handler_list, 4, NULL) != PIX_OK)
+        refused = 1;
+}
+
+/* Whether an image that is painted again and again, while a handler paints another one, is the image that is painted in peace, and so
+ * is the other. */
+static int try_handler(void) {
+    static pix_rgba8 peaceful[SIDE * SIDE];
+    const struct itimerval often = {{0, 50}, {0, 50}}, never = {{0, 0}, {0, 0}};
+    struct sigaction action;
+    int is_well = 1;
+    fill_list(handler_list);
+    if (pix_run(pix_image_of(peaceful, SIDE, SIDE), handler_list, 4, NULL) != PIX_OK)
+        return 0;
+    memset(&action, 0, sizeof action);
+    action.sa_handler = paint_in_handler;
+    if (sigaction(SIGALRM, &action, NULL) || setitimer(ITIMER_REAL, &often, NULL))
+        return 0;
+    for (int i = 0; i < 200 * ROUNDS && handled < 200 && is_well; i++)
+        is_well = pix_run(pix_image_of(images[0], SIDE, SIDE), handler_list, 4, NULL) == PIX_OK
+                  && memcmp(images[0], peaceful, sizeof peaceful) == 0;
+    if (setitimer(ITIMER_REAL, &never, NULL))
+        return 0;
+    return is_well && handled > 0 && !refused && memcmp(images[1], peaceful, sizeof peaceful) == 0;
+}
+
 int main(void) {
     pthread_t threads[2];
     for (int i = 0; i < SIDE * SIDE; i++) {
@@ -83,8 +119,10 @@ int main(void) {
             return 1;
     const int alike = join(threads, 2) && memcmp(images[0], images[1], sizeof images[0]) == 0;
     const int bands = alike && try_bands();
-    puts(!alike  ? "threads: failed"
-         : bands ? "threads: both images are alike, and bands are the whole"
-                 : "threads: the bands are not the whole");
-    return !bands;
+    const int handlers = bands && try_handler();
+    puts(!alike     ? "threads: failed"
+         : !bands   ? "threads: the bands are not the whole"
+         : handlers ? "threads: both images are alike, bands are the whole, and a signal handler may paint"
+                    : "threads: a signal handler that paints changes another image, or is not run");
+    return !handlers;
 }

@@ -34,6 +34,9 @@
 //! or another language has too. Nothing else writes it while it is borrowed. Nothing else reads it while it is borrowed to
 //! be written. Both hold for each address of that memory.
 //!
+//! No call takes a lock or waits for another one. So a destructor or a signal handler may make calls too, also one that
+//! interrupts a call, on images that it may borrow.
+//!
 //! A thread needs a stack of 272 KiB to match pixels to a table ([`ColorTable::map_indexed`], [`ColorTable::diffuse_indexed`]),
 //! and for [`quantize_refined`]. It needs 128 KiB for [`quantize`] and [`quantize_rgba`], 48 for [`index_pixels`] and to match to
 //! a [`RgbaTable`], and 24 for all else. 8 of each are for a signal handler. Threads of `std` have 2 MiB.
