@@ -1,6 +1,7 @@
 """Pictures in files: read by Pillow, composited in linear light by pix, and written as PNG or, by Pillow, as GIF."""
 
 import io
+import os
 import struct
 import zlib
 
@@ -10,6 +11,7 @@ import PIL.ImageOps
 import PIL.ImageSequence
 import PIL.ImageStat
 import pix
+from pix._put import put  # how the package writes its own files
 
 # The longest side of a GIF, and its longest time, in milliseconds.
 GIF_SIDE, GIF_TIME = 65535, 655350
@@ -138,10 +140,9 @@ def of_one_size(pictures):
 
 
 def write(name, data):
-    """Writes a file, once all of it is there."""
+    """Writes a file, once all of it is there: what stood at its name stays where that fails."""
     try:
-        with open(name, "wb") as file:
-            file.write(data)
+        put(os.fspath(name), data)
     except OSError as error:
         raise PictureError(f"{name}: {error.strerror}") from None
 

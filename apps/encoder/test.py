@@ -12,6 +12,7 @@ import os
 import pathlib
 import pty
 import re
+import resource
 import struct
 import subprocess
 import sys
@@ -265,6 +266,15 @@ class Encoder(Trial):
         with open("/dev/full", "w") as full:
             ran = subprocess.run([*map(str, self.program), "--into", self.folder / "more", small], stdout=full, stderr=subprocess.PIPE, text=True)
         self.assertEqual((ran.returncode, ran.stderr.count("\n")), (1, 1))
+
+    def test_a_full_disk_leaves_the_old_file(self):
+        limit = lambda: resource.setrlimit(resource.RLIMIT_FSIZE, (100, 100))
+        for words in (["--into", self.folder], ["--gif", self.folder / "leaf.gif"]):
+            old = self.file("leaf." + words[0][-3:].replace("nto", "png"), b"what was there before")
+            ran = self.run_program(*words, LEAF, status=1, preexec_fn=limit)
+            self.assertRegex(ran.stderr, f"^encode.py: {old}: File too large\n$")
+            self.assertEqual(old.read_bytes(), b"what was there before")
+            self.assertEqual([path.name for path in self.folder.glob(".*")], [])
 
 
 def blocks_of(data, at):

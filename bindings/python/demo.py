@@ -74,9 +74,7 @@ def paint():
 
 
 def main():
-    encoded = bytes(paint().to_array(pix.SRGB8))  # it is opaque everywhere
-    with open(sys.argv[1] if len(sys.argv) > 1 else "demo.ppm", "wb") as file:
-        file.write(b"P6\n%d %d\n255\n" % (WIDTH, HEIGHT) + encoded)
+    paint().save(sys.argv[1] if len(sys.argv) > 1 else "demo.ppm", "PPM")
 
 
 if __name__ == "__main__":

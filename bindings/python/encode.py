@@ -24,6 +24,7 @@ from typing import Any, Dict, List, NamedTuple, Optional, Tuple
 from PIL import Image, ImageChops, ImageSequence, ImageStat
 
 import pix
+from pix._put import put  # how the package writes its own files
 
 # A pixel whose alpha is below this is transparent in a GIF.
 CLEAR = 128
@@ -211,8 +212,7 @@ def main(words: List[str]) -> int:
     else:
         table, index = with_alphas(picture.frames[0], colors, rounds, diffusion)
         indices, data = [index], png(size, table, index)
-    with open(name, "wb") as file:
-        file.write(data)
+    put(name, data)
 
     # Each pixel as Pillow reads it, beside the entry of its index; and how long each frame is shown.
     shown = [Image.frombytes("RGBA", size, bytes(pix.look_up_rgba(table, each))) for each in indices]

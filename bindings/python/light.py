@@ -50,8 +50,8 @@ def main():
             row = half[start : start + 4 * WIDTH]
             rows += [row[at : at + 3] for at in range(0, len(row), 4)]
             rows += [b"\x80\x80\x80"] * (8 if half is light else 0)
-    with open(sys.argv[1], "wb") as file:
-        file.write(b"P6\n%d %d\n255\n" % (2 * WIDTH + 8, 4 * BAND) + b"".join(rows))
+    size = 2 * WIDTH + 8, 4 * BAND
+    pix.Image.from_array(b"".join(rows), pix.SRGB8, size=size).save(sys.argv[1], "PPM")
 
 
 if __name__ == "__main__":

@@ -165,6 +165,26 @@ class OddFiles(Trial):
                 self.assertRaises(OSError, pix.Image.open, io.BytesIO(data))
 
 
+    def test_what_pillow_stumbles_over(self):
+        """All of it is an OSError, whatever Pillow raises."""
+        good = next(file.path for file in self.files if file.path.name == "color8.png")
+        good = good.read_bytes()
+        huge = odd_files.chunk(b"IHDR", struct.pack(">II", 100_000, 100_000) + good[24:29])
+        for name, data in {
+            "ppm-word": b"P6 x 1 255\n" + bytes(6),
+            "ppm-end": b"P6 1",
+            "ppm-none": b"P6\n",
+            "short-head": good[:8] + odd_files.chunk(b"IHDR", good[16:20]),
+            "huge": good[:8] + huge + good[33:],
+            "cut": good[:60],
+        }.items():
+            for is_alone in (True, False):
+                with self.subTest(name, is_alone=is_alone), alone(is_alone):
+                    with self.assertRaises(OSError) as caught:
+                        pix.Image.open(io.BytesIO(data))
+                    self.assertRegex(str(caught.exception), "^the picture: ....")
+
+
 class Saved(Trial):
     def comes_back(self, image, name, **options):
         path = self.folder / name
@@ -254,10 +274,16 @@ class Saved(Trial):
         self.assertRaises(OSError, image.save, self.folder / "none" / "a.png")
         self.assertRaises(TypeError, image.save, self.folder / "a.ppm", quality=3)
         self.assertRaises(TypeError, pix.Image.open, self.folder / "a.png", "RGBA8")
-        for wrong in (None, 3.5, {}):
-            self.assertRaises(
-                (TypeError, ValueError, AttributeError, OSError), pix.Image.open, wrong
-            )
+        for wrong in (None, 3.5, {}, 5, object()):
+            for is_alone in (True, False):
+                with alone(is_alone):
+                    said = "neither a path nor a file that is open"
+                    self.assertRaisesRegex(TypeError, said, pix.Image.open, wrong)
+                    self.assertRaisesRegex(TypeError, said, image.save, wrong, "PNG")
+                    file, said = io.BytesIO(), "write format='PNG'"
+                    self.assertRaisesRegex(TypeError, said, image.save, file, 5)
+                    for named in ({"format": "none"}, {"format": "JPG"}, {}):
+                        self.assertRaises(ValueError, image.save, file, **named)
         with alone():
             self.assertRaisesRegex(ValueError, "write format='PNG'", image.save, io.BytesIO())
             self.assertRaisesRegex(ValueError, "without Pillow", image.save, self.folder / "a.jpg")

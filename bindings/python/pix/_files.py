@@ -2,19 +2,24 @@
 
 from __future__ import annotations
 
+import io
 import os
 import re
 import struct
 import sys
 import zlib
 from array import array
-from typing import Any, Callable, Optional, Tuple
+from contextlib import contextmanager
+from copy import copy
+from typing import Any, Callable, Iterator, Optional
 
 from pix._bitmap import Bitmap, write
+from pix._convert import convert
 from pix._fresh import lit, scaled
 from pix._pillow import Facts, facts_of, image_of, picture_of, pixels_of
 from pix._pixels import GRAYA8
-from pix._png import SIGNATURE, Fault, Pixels, png, read_png
+from pix._png import SIGNATURE, Fault, Pixels, png, read_png, woven
+from pix._put import put
 from pix._values import Format
 
 # The tag of EXIF that tells how a picture is turned, and what Pillow calls the turn back: to mirror
@@ -35,9 +40,14 @@ def pillow_of() -> Any:
     return pillow
 
 
-def path_of(file: Any) -> Any:
-    """The path of a file as a text, or a file that is open as it is."""
-    return os.fsdecode(file) if isinstance(file, (str, bytes, os.PathLike)) else file
+def path_of(file: Any, use: str) -> Any:
+    """The path of a file as a text, or a file that is open as it is, to `read` or `write` it."""
+    if isinstance(file, (str, bytes, os.PathLike)):
+        return os.fsdecode(file)
+    if hasattr(file, use):
+        return file
+    how = "read: pix.Image.open('x.png')" if use == "read" else "write: image.save('x.png')"
+    raise TypeError(f"{file!r} is neither a path nor a file that is open to {how}")
 
 
 def name_of(file: Any) -> str:
@@ -45,24 +55,40 @@ def name_of(file: Any) -> str:
     return file if isinstance(file, str) else "the picture"
 
 
-def opened(file: Any, white: Optional[float], new: Callable[[int, int], Any]) -> Any:
-    """An image, which `new` makes, of the first picture in a file."""
-    pillow, file = pillow_of(), path_of(file)
-    if pillow is None:
-        return opened_alone(file, white, new)
+# What Pillow raises for files that are none, beside OSError.
+_FAULTS = (SyntaxError, EOFError, LookupError, ValueError, TypeError, AttributeError,
+           ArithmeticError, NotImplementedError, AssertionError, struct.error, zlib.error)  # fmt: skip
+
+
+@contextmanager
+def reading(file: Any) -> Iterator[None]:
+    """Makes an OSError with a sentence of what Pillow raises for a file that is none."""
+    from PIL import Image as pillow
+
     try:
-        with pillow.open(file) as picture:
-            facts = facts_of(picture, white)
-            picture.load()
-            return image_of(upright(picture), facts, new)
+        yield
     except pillow.UnidentifiedImageError as fault:
         raise OSError(f"{name_of(file)}: it is no picture of a kind that Pillow reads") from fault
-    except (OSError, SyntaxError, EOFError, IndexError, struct.error, zlib.error) as fault:
+    except (OSError, pillow.DecompressionBombError, *_FAULTS) as fault:
         if isinstance(fault, OSError) and fault.errno is not None:
             raise
-        raise OSError(
-            f"{name_of(file)}: {fault or 'the file ends before its picture does'}"
-        ) from fault
+        said = fault or "the file ends before its picture does"
+        raise OSError(f"{name_of(file)}: {said}") from fault
+
+
+def opened(file: Any, white: Optional[float], new: Callable[[int, int], Any]) -> Any:
+    """An image, which `new` makes, of the first picture in a file."""
+    pillow, file = pillow_of(), path_of(file, "read")
+    if pillow is None:
+        return opened_alone(file, white, new)
+    with reading(file):
+        picture = pillow.open(file)
+    with picture:
+        facts = facts_of(picture, white)
+        with reading(file):
+            picture.load()
+            picture = upright(picture)
+        return image_of(picture, facts, new)
 
 
 def upright(picture: Any) -> Any:
@@ -127,34 +153,73 @@ def read_pnm(file: bytes) -> Pixels:
 
 
 def saved(image: Any, file: Any, format: Optional[str], options: Any) -> None:
-    """Writes an image into a file, whose name or `format` tells what it is to be."""
-    file = path_of(file)
-    suffix = os.path.splitext(file)[1].lower() if isinstance(file, str) else ""
-    kind = format.upper() if format is not None else _OWN.get(suffix)
+    """Writes an image into a file, whose name or `format` tells what it is to be.
+
+    All of it is encoded first, so that a file stays as it was where that is refused.
+    """
+    file = path_of(file, "write")
     if not image.width or not image.height:
         raise ValueError(f"a picture of {image.width} x {image.height} pixels is no file")
-    pillow = pillow_of()
-    if pillow is None or kind in ("PPM", "PGM"):
-        if kind is None and not suffix:
-            raise ValueError("the file has no name that tells its kind: write format='PNG'")
-        if kind not in _OWN.values():
-            raise ValueError(
-                f"without Pillow, files are PNG, PPM or PGM, and not {kind or suffix}"
-            )
-        if options:
-            raise TypeError(f"{kind} takes no options: {', '.join(options)}")
-        put(file, encoded(image, str(kind)))
-        return
+    if not isinstance(format, (str, type(None))):
+        raise TypeError(f"{format!r} is no kind of file: write format='PNG'")
+    suffix = os.path.splitext(file)[1].lower() if isinstance(file, str) else ""
+    kind = format.upper() if format is not None else _OWN.get(suffix)
+    if pillow_of() is None or kind in ("PPM", "PGM"):
+        put(file, saved_alone(image, suffix, kind, options))
+    else:
+        put(file, saved_by_pillow(image, file, format, options))
+
+
+def saved_alone(image: Any, suffix: str, kind: Optional[str], options: Any) -> bytes:
+    """The bytes of a file that this package makes itself."""
+    if kind is None and not suffix:
+        raise ValueError("the file has no name that tells its kind: write format='PNG'")
+    if kind not in _OWN.values():
+        raise ValueError(f"without Pillow, files are PNG, PPM or PGM, and not {kind or suffix}")
+    if options:
+        raise TypeError(f"{kind} takes no options: {', '.join(options)}")
+    return encoded(image, str(kind))
+
+
+class _Named(io.BytesIO):
+    """A file in memory with the name of another one, by which Pillow tells its kind."""
+
+    name: Any
+
+
+def saved_by_pillow(image: Any, file: Any, format: Optional[str], options: Any) -> Any:
+    """The bytes of a file that Pillow makes."""
+    name = file if isinstance(file, str) else getattr(file, "name", None)
     picture = picture_of(image, "RGBA")
     picture = plain(image, picture, picture.getchannel("A").getextrema()[0] == 255)
+    made = _Named()
+    made.name = name if isinstance(name, str) else ""
+    kind = format or os.path.splitext(made.name)[1]
     try:
-        picture.save(file, format, **options)
+        picture.save(made, format, **options)
+    except KeyError as fault:
+        if not is_unknown(kind):
+            raise
+        said = f"{kind!r} is no kind of file that Pillow writes: write format='PNG'"
+        raise ValueError(said) from fault
+    except ValueError as fault:
+        if kind:
+            raise
+        said = "the file has no name that tells its kind: write format='PNG'"
+        raise ValueError(said) from fault
     except OSError as fault:
         if fault.errno is not None or "A" not in picture.mode:
             raise
-        raise ValueError(
-            f"{name_of(file)}: {no_alpha(suffix[1:].upper() or str(kind))}"
-        ) from fault
+        raise ValueError(f"{name_of(file)}: {no_alpha(kind.strip('.').upper())}") from fault
+    return made.getbuffer()
+
+
+def is_unknown(kind: str) -> bool:
+    """Whether Pillow writes no files of a kind."""
+    from PIL import Image as pillow
+
+    pillow.init()
+    return kind.upper() not in pillow.SAVE
 
 
 def plain(image: Any, picture: Any, is_opaque: bool) -> Any:
@@ -176,30 +241,30 @@ def no_alpha(kind: str) -> str:
     )
 
 
-def put(file: Any, data: bytes) -> None:
-    """Writes bytes into a file, or one that is open."""
-    if hasattr(file, "write"):
-        file.write(data)
-        return
-    with open(file, "wb") as stream:
-        stream.write(data)
-
-
 def encoded(image: Any, kind: str) -> bytes:
-    """The bytes of a PNG, a PPM or a PGM file."""
-    pixels = pixels_of(image, Format.SRGBA8)
-    alphas = bytes(memoryview(pixels)[3::4])
+    """The bytes of a PNG, a PPM or a PGM file. The image is read once, and all else from the copy,
+    since another thread may paint it between two looks."""
+    is_gray = image.type is GRAYA8
+    if kind == "PGM" and not is_gray:
+        image = copy(image)
+    pixels = memoryview(pixels_of(image, Format.SRGBA8))
+    size, alphas = (image.width, image.height), bytes(pixels[3::4])
     is_opaque = alphas.count(255) == len(alphas)
-    if kind == "PNG":
-        gray, color = (
-            (Format.SGRAY8, Format.SRGB8) if is_opaque else (Format.SGRAYA8, Format.SRGBA8)
-        )
-        format = gray if image.type is GRAYA8 else color
-        return png(image.width, image.height, format, pixels_of(image, format))
-    if not is_opaque:
+    if kind != "PNG" and not is_opaque:
         raise ValueError(no_alpha(kind))
-    head, format = (b"P6", Format.SRGB8) if kind == "PPM" else (b"P5", Format.SGRAY8)
-    return b"%b\n%d %d\n255\n%b" % (head, image.width, image.height, pixels_of(image, format))
+    format: Format = Format.SRGB8 if is_opaque else Format.SRGBA8
+    if is_gray and kind != "PPM":
+        format = Format.SGRAY8 if is_opaque else Format.SGRAYA8
+        data: Any = bytes(pixels[::4])
+        data = data if is_opaque else woven((data, alphas))
+    elif kind == "PGM":
+        data = pixels_of(image, Format.SGRAY8)
+    else:
+        data = convert(Format.SRGBA8, pixels, format) if is_opaque else pixels
+    if kind == "PNG":
+        return png(*size, format, data)
+    head = b"P6" if kind == "PPM" else b"P5"
+    return b"%b\n%d %d\n255\n%b" % (head, *size, data)
 
 
 def shown(image: Any) -> Optional[bytes]:
@@ -208,8 +273,4 @@ def shown(image: Any) -> Optional[bytes]:
         return None
     if pillow_of() is None:
         return encoded(image, "PNG")
-    from io import BytesIO
-
-    file = BytesIO()
-    saved(image, file, "PNG", {})
-    return file.getvalue()
+    return bytes(saved_by_pillow(image, None, "PNG", {}))

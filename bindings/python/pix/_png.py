@@ -237,15 +237,13 @@ def painted(head: _Head, row: bytearray, width: int, found: Dict[bytes, bytes]) 
 
 
 def woven(planes: Sequence[Any]) -> Any:
-    """The samples of four planes side by side."""
-    first = planes[0]
-    pixels = (
-        array("H", bytes(8 * len(first)))
-        if isinstance(first, array)
-        else bytearray(4 * len(first))
-    )
+    """The samples of some planes side by side."""
+    first, count = planes[0], len(planes)
+    pixels: Any = bytearray(count * len(first))
+    if isinstance(first, array):
+        pixels = array("H", bytes(2 * count * len(first)))
     for i, plane in enumerate(planes):
-        pixels[i::4] = plane
+        pixels[i::count] = plane
     return pixels
 
 
