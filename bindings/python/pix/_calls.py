@@ -6,7 +6,7 @@ import ctypes
 from typing import Any, List
 
 from pix._library import CALLS, LONG, libraries
-from pix._memory import Memory
+from pix._memory import Memory, refuse_gone
 from pix._turns import turns
 from pix._values import PixError, Status
 
@@ -59,6 +59,7 @@ def copied_rows(memory: Memory, wide: int, apart: int, rows: int) -> bytearray:
     if wide == apart:
         wide, rows = wide * rows, 1
     is_long = len(copy) > LONG
+    refuse_gone(memory)
     move, target = _MOVES[is_long], Memory(copy).address
 
     def move_rows() -> int:
@@ -106,6 +107,7 @@ class Call:
             else:
                 (written if role == "write" else read).append(one)
             arguments += (one.address, one.length // size)
+        refuse_gone(*written, *read)
         is_long = pixels * self.cost > LONG
         status = turns.take(is_long, self.both[is_long], arguments, written, read, copies)
         if status:

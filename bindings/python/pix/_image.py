@@ -11,7 +11,7 @@ from pix._files import opened, saved, shown
 from pix._fresh import zeros
 from pix._library import LONG
 from pix._list import CommandList, PreparedList
-from pix._memory import MOST, Buffer, is_a
+from pix._memory import MOST, Buffer, is_a, refuse_gone
 from pix._pillow import facts_of, image_of, picture_of
 from pix._pixels import RGBA8, RGBA16, PixelType, kind_of
 from pix._turns import turns
@@ -234,6 +234,7 @@ class Image(View):
             prepared = PreparedList(commands, type)
         if memory.is_readonly and memory.length:
             raise TypeError("the buffer is read-only")
+        refuse_gone(memory, prepared)
         prepared.refuse_shared(memory)
         done, size = ctypes.c_size_t(), len(prepared.commands)
         if not width or not height:  # no row is gone through: only its size and the commands are tested

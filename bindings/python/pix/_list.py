@@ -7,7 +7,7 @@ from functools import partial
 from typing import Any, Dict, Iterator, List, Sequence, Tuple
 
 from pix._command import Command, made
-from pix._memory import NOWHERE, Memory
+from pix._memory import NOWHERE, Alive, Memory, refuse_gone
 from pix._pixels import RGBA8, PixelType, kind_of
 from pix._values import PixError, Status
 
@@ -15,10 +15,11 @@ from pix._values import PixError, Status
 class PreparedList:
     """Commands as the library reads them, for images of one type: none of it changes, and it pins what they read."""
 
-    __slots__ = ("commands", "type", "address", "sources", "numbers", "low", "high", "_records")
+    __slots__ = ("commands", "type", "address", "sources", "numbers", "low", "high", "alive", "_records")
 
     def __init__(self, commands: Sequence[Command], type: PixelType) -> None:
         taken = [made(command, type) for command in commands]
+        self.alive = Alive((True,))
         self.commands = tuple(commands)
         self.type = type
         self._records = (type._command * max(1, len(taken)))(*(record for record, _ in taken))
@@ -31,6 +32,7 @@ class PreparedList:
                     first.setdefault(id(source), (number, source))
         self.numbers = [number for number, _ in first.values()]
         self.sources: List[Memory] = [source for _, source in first.values()]
+        refuse_gone(*self.sources)
         self.low = min((source.address for source in self.sources), default=0)
         self.high = max((source.address + source.length for source in self.sources), default=0)
 

@@ -55,6 +55,26 @@ def name_of(given: Any) -> str:
     return type(given).__name__
 
 
+class Alive(list):
+    """What tells whether an object is whole: it is true until that is collected.
+
+    A collection calls the `__del__` of all objects of a cycle before it clears the first one. So
+    none is found half cleared with a memory that is another's by then, whatever a weak reference
+    or its callback gets hold of. This `__del__` is no line of Python, which an interrupt could
+    leave out.
+    """
+
+    __slots__ = ()
+    __del__ = list.clear
+
+
+def refuse_gone(*given: Any) -> None:
+    """Raises a ReferenceError for what a collection has begun to clear."""
+    for one in given:
+        if not getattr(one, "alive", None):
+            raise ReferenceError("a collection has let go of its memory")
+
+
 class Memory:
     """The memory of a buffer: `rows` stretches of `row` bytes, `step` bytes apart.
 
@@ -72,6 +92,7 @@ class Memory:
         "step",
         "length",
         "address",
+        "alive",
         "_view",
         "_held",
     )
@@ -79,6 +100,7 @@ class Memory:
     def __init__(self, buffer: Any, words: bool = False, turned: bool = False) -> None:
         self._view = view = memoryview(buffer)
         self._held = PickleBuffer(view)
+        self.alive = Alive((True,))
         self.is_readonly = view.readonly
         self.shape = shape = view.shape
         size, code = view.itemsize, view.format
@@ -136,6 +158,7 @@ class Memory:
 
         Releasing it releases nothing of this object.
         """
+        refuse_gone(self)
         view = memoryview(self._view)
         if self.has_gaps or not self.length:
             return view

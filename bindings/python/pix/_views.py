@@ -7,7 +7,7 @@ import sys
 from typing import Any, Dict, NamedTuple, Optional, SupportsIndex, Tuple
 
 from pix._calls import copied_rows
-from pix._memory import Buffer, Memory, is_held
+from pix._memory import Buffer, Memory, is_held, refuse_gone
 from pix._pixels import PixelType
 from pix._values import PixError, Status, u32
 
@@ -99,6 +99,7 @@ class View:
         Raises PixError where the buffer is too short for the size.
         """
         memory, element, elements, width, height, stride, type = self._rows
+        refuse_gone(memory)
         if width and height and not is_held(elements, width, height, stride):
             raise PixError(Status.BAD_SIZE)
         size = ctypes.sizeof(element)
