@@ -20,7 +20,7 @@ Name: pix-proved
 Version: {release.version}
 Summary: Compositing of raster images in the caller's own memory; every function of the library is proved
 License: MIT
-Requires-Python: >=3.8
+Requires-Python: >=3.10
 Classifier: License :: OSI Approved :: MIT License
 Classifier: Operating System :: POSIX :: Linux
 Classifier: Programming Language :: Python :: 3

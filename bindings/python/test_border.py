@@ -15,7 +15,7 @@ from unittest import mock
 
 import pix
 from border_uses import BGRA8, RGBA8, TAKEN, Caller
-from pix import _indexed
+from pix import _image, _indexed
 from pix._calls import Copy
 
 try:
@@ -225,6 +225,11 @@ class ChangingMemory(unittest.TestCase):
         pix.index_pixels(b"", indices[:300], 256, (255, 255, 255))
 
 
+def mapped(size=64 << 20):
+    """Memory that takes nothing until it is written."""
+    return mmap.mmap(-1, size)
+
+
 class NoPixels(unittest.TestCase):
     def soon(self, call):
         """Calls it, and sees that it takes no time."""
@@ -294,9 +299,39 @@ class NoPixels(unittest.TestCase):
             lambda: pix.convert_bitmap(pix.SRGBA8, b"1234", RGBA8, None, (10000, 10000)),
         )
         self.refused(status.BAD_LENGTH, lambda: pix.unpack_row(1, b"1", None, 10**12))
+        self.refused(status.BAD_FORMAT, lambda: pix.convert(pix.SRGBA8, mapped(), pix.Format.RGBA16))
+        self.refused(status.BAD_FORMAT, lambda: pix.convert(pix.Format.GRAYA8, mapped(), pix.SRGB8))
         self.assertRaises(ValueError, pix.row_size, 1, -9)
         self.assertRaises(ValueError, pix.unpack_row, 1, b"", None, -1)
         self.assertRaises(ValueError, pix.count_indices, b"", -1)
+
+    def test_an_image_that_nothing_may_paint_is_not_made(self):
+        """Its memory was there before anything was refused."""
+        with mock.patch.object(_image, "zeros", side_effect=AssertionError("memory is made")):
+            for size in ((2**31, 1), (1, 2**31), (2**31, 0), (2**32 - 1, 2**32 - 1)):
+                with self.assertRaises(pix.PixError) as caught:
+                    pix.Image.new(*size)
+                self.assertEqual(caught.exception.status, pix.Status.BAD_SIZE)
+        self.assertRaises(MemoryError, pix.Image.new, 2**31 - 1, 2**31 - 1, pix.RGBA16)
+
+    @unittest.skipIf(numpy is None, "no numpy")
+    def test_rows_far_apart_are_copied_without_what_lies_between(self):
+        apart = 64 << 20
+        for step in (1, -1):
+            memory = mmap.mmap(-1, apart + 4)
+            memory[:4], memory[apart:] = b"\1\2\3\4", b"\5\6\7\x08"
+            rows = numpy.ndarray((2, 4), "u1", memory, strides=(apart, 1))[::step]
+            self.small(lambda: pix.convert_bitmap(RGBA8, rows, BGRA8, rows))
+            self.assertEqual((memory[:4], memory[apart:]), (b"\3\2\1\4", b"\7\6\5\x08"))
+
+    def small(self, call):
+        """Calls it, and sees that it takes little memory."""
+        tracemalloc.start()
+        try:
+            call()
+            self.assertLess(tracemalloc.get_traced_memory()[1], 1_000_000)
+        finally:
+            tracemalloc.stop()
 
     def test_copies_are_the_same(self):
         chance = random.Random(4)

@@ -383,6 +383,10 @@ class Indexed(unittest.TestCase):
         image = pix.Image.new(2, 2)
         for wrong in (b"", bytes(4), bytes(771), [], ["red"], [(1, 2)]):
             self.assertRaises(ValueError, image.to_pillow, "P", wrong)
+        made = mock.patch.object(_pillow, "pixels_of", side_effect=AssertionError("all pixels"))
+        for more in ({}, {"keep_alpha": True}):
+            with made:
+                self.assertRaises(ValueError, image.to_pillow, "P", b"12", **more)
         for mode in ("CMYK", "p", "", None, "I"):
             with self.assertRaisesRegex(ValueError, "is none of RGBA, RGB, L, LA and P"):
                 image.to_pillow(mode)

@@ -124,6 +124,91 @@ class Turns(unittest.TestCase):
             )
 
 
+class Circles(unittest.TestCase):
+    """Calls inside calls, as of a finalizer or a handler, in two threads or more: where each waits
+    for the next, one of them is refused, and then the others end."""
+
+    def inside(self, image, other, meet, said):
+        """Paints an image, and within that another one."""
+
+        def paint():
+            meet.wait(10)
+            try:
+                other.run(pix.clear())
+            except RuntimeError as fault:
+                said.append(str(fault))
+            return 0
+
+        turns.take(True, paint, (), [image._rows.memory], [])
+
+    def ends(self, calls):
+        """Runs calls in threads, which end; returns what was refused."""
+        meet, said = threading.Barrier(len(calls)), []
+        threads = [
+            threading.Thread(target=call, args=[meet, said], daemon=True) for call in calls
+        ]
+        for thread in threads:
+            thread.start()
+        for thread in threads:
+            thread.join(5)
+        self.assertEqual([thread for thread in threads if thread.is_alive()], [])
+        self.assertFalse([turn for turn in turns.running if turn.runs.locked()])
+        self.assertEqual([wait for wait in turns.waits if wait.lasts.locked()], [])
+        return said
+
+    def test_each_inside_a_call_on_what_the_next_paints(self):
+        for count in (2, 3, 5):
+            images = [pix.Image.new(4, 4) for _ in range(count)]
+            calls = [
+                lambda *how, i=i: self.inside(images[i], images[(i + 1) % count], *how)
+                for i in range(count)
+            ]
+            said = self.ends(calls)
+            self.assertGreater(len(said), 0)
+            for text in said:
+                self.assertIn("inside another one", text)
+
+    def test_one_that_has_just_begun(self):
+        """The other one can't begin, since this one holds what calls begin under."""
+        image, free, other = (pix.Image.new(4, 4) for _ in range(3))
+        paints, begun = threading.Event(), threading.Event()
+
+        def outer(meet, said):
+            def paint():
+                paints.set()
+                begun.wait(10)
+                free.run(pix.clear())
+                return 0
+
+            turns.take(True, paint, (), [image._rows.memory], [])
+
+        def begin(meet, said):
+            def paint():
+                begun.set()
+                self.assertRaisesRegex(RuntimeError, "wait for ever", image.run, pix.clear())
+                return said.append("refused")
+
+            paints.wait(10)
+            turns.take(False, paint, (), [other._rows.memory], [])
+
+        self.assertEqual(self.ends([outer, begin]), ["refused"])
+
+    def test_what_is_no_circle_waits(self):
+        """Both wait for one that paints on, and neither for the other."""
+        images = [pix.Image.new(4, 4) for _ in range(3)]
+        go, begun = threading.Event(), threading.Event()
+        stay = lambda: (begun.set(), go.wait(10), 0)[2]
+        memory = images[2]._rows.memory
+        holds = threading.Thread(target=turns.take, args=(True, stay, (), [memory], []))
+        holds.start()
+        begun.wait(10)
+        threading.Timer(0.5, go.set).start()
+        inside = lambda i: lambda *how: self.inside(images[i], images[2], *how)
+        said = self.ends([inside(0), inside(1)])
+        holds.join(10)
+        self.assertEqual(said, [])
+
+
 class Interrupted(BaseException):
     """What the handler of a signal raises."""
 

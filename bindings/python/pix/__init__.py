@@ -47,11 +47,18 @@ resize(refcheck=False) move it although it is pinned. A file that is mapped must
 
 The package looks for the shared object libpix_c.so at the path PIX_LIBRARY of the environment. Without it, it looks in
 its own folder and in the one above. On a processor of x86-64-v3, libpix_c-v3.so of this package comes first, which a
-release has. It needs CPython 3.8 on Linux, on a processor of x86-64 with SSE4.1 or of aarch64. An import on another one,
+release has. It needs CPython 3.10 on Linux, on a processor of x86-64 with SSE4.1 or of aarch64. An import on another one,
 or over a library of another version or layout, raises ImportError.
 
 docs/PROMISES.md of the repository lists all calls in four languages, and what is proved of each.
 """
+
+import sys as _sys
+
+# Before 3.10 the handler of a signal may raise after the body of a `with` and before its end: then a
+# lock stays held, and each other thread waits for ever.
+if _sys.version_info < (3, 10):
+    raise ImportError("pix: it needs Python 3.10, since earlier ones may leave a lock held by an interrupt")
 
 from pix._bitmap import convert_bitmap
 from pix._colors import Color, Srgb, color_of, srgb

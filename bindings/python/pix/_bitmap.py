@@ -2,11 +2,10 @@
 
 from __future__ import annotations
 
-import ctypes
 import importlib
 from typing import Any, Optional, SupportsIndex, Tuple
 
-from pix._calls import Call, Copy
+from pix._calls import Call, RowsCopy
 from pix._memory import Memory, is_held
 from pix._values import Format, PixError, Status, u32
 from pix._views import Rows
@@ -85,18 +84,17 @@ def write(target: Bitmap, source: Bitmap) -> None:
 
 
 def write_in_place(image: Bitmap, to: Format) -> None:
-    """Writes each pixel of a bitmap in its own place, in another format of no more bytes, from a copy of the buffer."""
+    """Writes each pixel of a bitmap in its own place, in another format of no more bytes, from a copy of its rows."""
     if to.size > image.format.size:
         raise PixError(Status.BAD_FORMAT)
     if image.memory.is_readonly and image.memory.length:
         raise TypeError("the buffer is read-only")
     image.refuse_unheld(Status.BAD_SIZE)
-    memory = image.memory
+    memory, wide = image.memory, image.width * image.format.size
     if image.pixels:
-        copy = Copy(memory, (ctypes.c_ubyte * memory.length)(), memory.length)
-        _convert_bitmap(
-            image.pixels, image.format, to, copy, memory, image.stride, image.stride, image.width, image.height
-        )  # fmt: skip
+        copy = RowsCopy(memory, image.height, wide, abs(image.stride))
+        stride = wide if image.stride > 0 else -wide
+        _convert_bitmap(image.pixels, image.format, to, copy, memory, stride, image.stride, image.width, image.height)
 
 
 def convert_bitmap(

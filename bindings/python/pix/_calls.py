@@ -39,6 +39,31 @@ class Copy:
         )
 
 
+class RowsCopy(Copy):
+    """A copy of rows of `wide` bytes, which lie `apart`, without what lies between them."""
+
+    __slots__ = ("rows", "wide", "apart")
+
+    def __init__(self, source: Memory, rows: int, wide: int, apart: int) -> None:
+        super().__init__(source, (ctypes.c_ubyte * (rows * wide))(), rows * wide)
+        self.rows, self.wide, self.apart = rows, wide, apart
+
+    def make(self, is_long: bool) -> None:
+        """Copies the rows."""
+        move_rows(is_long, self.address, self.source, self.rows, self.wide, self.apart)
+
+
+def move_rows(
+    is_long: bool, target: int, source: Memory, rows: int, wide: int, apart: int
+) -> int:
+    """Copies rows of `wide` bytes, which lie `apart`, to an address, without gaps."""
+    if wide == apart:
+        wide, rows = wide * rows, 1
+    for row in range(rows):
+        _MOVES[is_long](target + row * wide, source.address + row * apart, wide)
+    return 0
+
+
 def padded(table: Memory, length: int, size: int = 3) -> Copy:
     """A copy of a table of entries of some bytes, with room for each entry that an index can be.
 
@@ -56,18 +81,10 @@ def copied_rows(memory: Memory, wide: int, apart: int, rows: int) -> bytearray:
     copy = bytearray(wide * rows)
     if not copy:
         return copy
-    if wide == apart:
-        wide, rows = wide * rows, 1
-    is_long = len(copy) > LONG
     refuse_gone(memory)
-    move, target = _MOVES[is_long], Memory(copy).address
-
-    def move_rows() -> int:
-        for row in range(rows):
-            move(target + row * wide, memory.address + row * apart, wide)
-        return 0
-
-    turns.take(is_long, move_rows, (), [], [memory])
+    is_long, target = len(copy) > LONG, Memory(copy)
+    how = is_long, target.address, memory, rows, wide, apart
+    turns.take(is_long, move_rows, how, [], [memory])
     return copy
 
 
@@ -101,7 +118,7 @@ class Call:
                 continue
             if role == "table" and type(one) is Memory:
                 one = padded(one, one.length, size)
-            if type(one) is Copy:
+            if isinstance(one, Copy):
                 copies.append(one)
                 read.append(one.source)
             else:

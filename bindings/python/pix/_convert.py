@@ -10,6 +10,8 @@ from pix._values import Format, PixError, Status
 
 _convert = Call("pix_raw_convert")
 
+_GAPS = "the buffer has gaps between its rows: convert them one by one"
+
 Target = TypeVar("Target", bound=Buffer)
 
 
@@ -24,21 +26,25 @@ def convert(from_: Format, src: Buffer, to: Format, dst: Target) -> Target: ...
 def convert(from_: Format, src: Any, to: Format, dst: Any = None) -> Any:
     """Converts all pixels of the buffer `src` to the format of `dst`, which has room for just as many; returns `dst`.
 
-    Both are buffers of bytes without gaps. Without `dst` a new bytearray is returned. An alpha that `from_` lacks is
+    Both are buffers of bytes without gaps, and the formats are those up to SGRAY8. Without `dst` a new bytearray is returned. An alpha that `from_` lacks is
     255. One that `to` lacks is dropped, and colors that were multiplied by it stay so from RGBA8P and SRGBA8P to RGB8
     and SRGB8; to all others they are divided by it. Raises PixError where the lengths don't fit, TypeError where `dst`
     is read-only and ValueError where the two overlap.
     """
     from_, to = Format(from_), Format(to)
+    if max(from_, to) > Format.SGRAY8:
+        raise PixError(Status.BAD_FORMAT)
     source = Memory(src)
+    if source.has_gaps:
+        raise ValueError(_GAPS)
     count = source.length // from_.size
     if source.length != count * from_.size:
         raise PixError(Status.BAD_LENGTH)
     if dst is None:
         dst = bytearray(count * to.size)
     target = Memory(dst)
-    if source.has_gaps or target.has_gaps:
-        raise ValueError("the buffer has gaps between its rows: convert them one by one")
+    if target.has_gaps:
+        raise ValueError(_GAPS)
     if target.is_readonly and target.length:
         raise TypeError("the buffer is read-only")
     if not target.is_apart(source):

@@ -19,7 +19,7 @@ def zeros(size: int) -> Union[bytearray, mmap.mmap]:
         return bytearray(size)
     try:
         memory = mmap.mmap(-1, size, mmap.MAP_PRIVATE | mmap.MAP_ANONYMOUS)
-    except OSError as fault:
+    except (OSError, OverflowError, ValueError) as fault:
         raise MemoryError(f"no room for {size} bytes") from fault
     try:
         memory.madvise(mmap.MADV_HUGEPAGE)

@@ -70,9 +70,14 @@ class Image(View):
 
     @classmethod
     def new(cls, width: SupportsIndex, height: SupportsIndex, type: PixelType = RGBA8) -> Image:
-        """Makes a transparent image of so many pixels; its buffer is its `pixels`, of bytes."""
+        """Makes a transparent image of so many pixels; its buffer is its `pixels`, of bytes.
+
+        Raises PixError where a side is above 2147483647, and MemoryError where there is no room.
+        """
         columns, rows = u32(width, "width"), u32(height, "height")
         size = ctypes.sizeof(kind_of(type)._color)
+        if max(columns, rows) > MOST:
+            raise PixError(Status.BAD_SIZE)
         return cls(zeros(columns * rows * size), columns, rows, type=type)
 
     @classmethod
@@ -234,7 +239,8 @@ class Image(View):
             prepared = PreparedList(commands, type)
         if memory.is_readonly and memory.length:
             raise TypeError("the buffer is read-only")
-        refuse_gone(memory, prepared)
+        if not (memory.alive and prepared.alive):
+            refuse_gone(memory, prepared)
         prepared.refuse_shared(memory)
         done, size = ctypes.c_size_t(), len(prepared.commands)
         if not width or not height:  # no row is gone through: only its size and the commands are tested

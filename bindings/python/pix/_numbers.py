@@ -2,14 +2,4 @@
 
 from __future__ import annotations
 
-import sys
-from operator import index as _index
-from typing import SupportsIndex
-
-if sys.version_info >= (3, 10):
-    index = _index
-else:
-
-    def index(number: SupportsIndex) -> int:
-        """The number as a plain int: one of another class would be asked at each comparison."""
-        return int.__index__(_index(number))
+from operator import index as index  # of a number of another class it makes a plain int

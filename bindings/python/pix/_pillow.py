@@ -252,13 +252,12 @@ def indexed(image: Any, table: Any, diffuse: bool) -> Any:
     entry is for clear pixels."""
     from PIL import Image as pillow
 
+    entries = b"" if table is None else table_of(table)
     size, pixels = (image.width, image.height), pixels_of(image, Format.SRGBA8)
     alphas = bytes(memoryview(pixels)[3::4])
     has_clear = any(alphas.count(alpha) for alpha in range(CLEAR))
     if table is None:
         entries = bytes(quantize(pixels, 255 if has_clear else 256, Format.SRGBA8, CLEAR))
-    else:
-        entries = table_of(table)
     clear = len(entries) // 3
     if has_clear and clear == 256:
         raise ValueError(
@@ -287,6 +286,7 @@ def indexed_rgba(image: Any, table: Any, diffuse: bool) -> Any:
     them."""
     from PIL import Image as pillow
 
+    entries = b"" if table is None else table_of(table, 4)
     size, pixels = (image.width, image.height), pixels_of(image, Format.SRGBA8)
     if not image.width or not image.height:
         return pillow.new("P", size)
@@ -294,8 +294,6 @@ def indexed_rgba(image: Any, table: Any, diffuse: bool) -> Any:
         made = quantize_rgba(pixels)
         each = [bytes(made[i : i + 4]) for i in range(0, len(made), 4)]
         entries = b"".join(sorted(each, key=lambda entry: entry[3] == 255))
-    else:
-        entries = table_of(table, 4)
     indices = (
         diffuse_indexed_rgba(entries, pixels, image.width)
         if diffuse
