@@ -1,10 +1,11 @@
 //! Arithmetic of channels.
-ghost use Rattle.std.specs.Prelude.{◌<◌};
+ghost use Rattle.std.specs.Prelude.{◌<◌, ⊤};
 
 use crate::flaw::Flaw;
 use crate::pixels::{channel, channels, word_of};
 use crate::words::{number, operator};
 use pix::chan::{Ch8, Ch16, Channel};
+use pix::ops::{Blend, OpVisitor};
 use std::alloc::Global;
 
 /// `8 mul 16 255`: the width of channels, what is computed, and the operands.
@@ -90,4 +91,60 @@ fn composited<C: Channel>(op: &str, src: &str, dst: &str, alloc: Global) -> Resu
     op.composite(below, da1, &gray, sa1);
     op.composite(da, da1, &sa, sa1);
     word_of(&dst, alloc)
+}
+
+/// Runs of channels that are composited with a run: one minus its alphas, the source, and one minus
+/// the alphas of the source.
+#[derive(Drop)]
+struct ChannelRuns<C: Channel> {
+    da1: Vec<C>,
+    src: Vec<C>,
+    sa1: Vec<C>,
+}
+
+impl<C: Channel> OpVisitor<Vec<C>> for ChannelRuns<C> {
+    ghost can_visit = { λ _ _. ⊤ };
+
+    ghost visits = { λ _ _ _ _. ⊤ };
+
+    fn visit<O: Blend>(&self, dst: &mut Vec<C>, _op: O) {
+        O::composite_run(dst, &self.da1, &self.src, &self.sa1);
+    }
+}
+
+/// `8 SrcOver 155 100,200 55,5 64,128`: the width of channels, an operator, one minus the alphas of
+/// the destination, the source, one minus the alphas of the source, and the destination. They are
+/// runs of channels, and `-` is one without a channel. The answer is the destination afterwards.
+pub(crate) fn blended(words: &[&str], alloc: Global) -> Result<String, Flaw> {
+    match words {
+        ["8", op, runs @ ..] => blended_runs::<Ch8>(op, runs, alloc),
+        ["16", op, runs @ ..] => blended_runs::<Ch16>(op, runs, alloc),
+        _ => Err(Flaw::Name),
+    }
+}
+
+/// The run that an operator makes.
+fn blended_runs<C: Channel>(op: &str, runs: &[&str], alloc: Global) -> Result<String, Flaw> {
+    let [da1, src, sa1, dst] = runs else {
+        return Err(Flaw::Count);
+    };
+    let mut dst = run_of::<C>(dst, alloc)?;
+    let runs = ChannelRuns {
+        da1: run_of::<C>(da1, alloc)?,
+        src: run_of::<C>(src, alloc)?,
+        sa1: run_of::<C>(sa1, alloc)?,
+    };
+    operator(op)?.visit(&runs, &mut dst);
+    if dst.is_empty() {
+        return Ok(String::from_str(alloc, "-")?);
+    }
+    word_of(&dst, alloc)
+}
+
+/// The channels of a word, or none where it is `-`.
+fn run_of<C: Channel>(word: &str, alloc: Global) -> Result<Vec<C>, Flaw> {
+    if word == "-" {
+        return Ok(Vec::new(alloc));
+    }
+    channels::<C>(word, alloc)
 }

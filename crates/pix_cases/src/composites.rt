@@ -4,6 +4,7 @@ ghost use Rattle.std.specs.Prelude.{◌≡◌, ◌≤◌, ◌+◌, ⊤};
 use crate::flaw::Flaw;
 use crate::formats::{Format, Model};
 use crate::pixels::{channel, pixel, word_of};
+use crate::slices;
 use crate::words::operator;
 use pix::ColorModel;
 use pix::chan::{Ch8, Ch16, Linear, Premultiplied};
@@ -13,15 +14,17 @@ use pix::hsl::Hsl;
 use pix::hsv::Hsv;
 use pix::hwb::Hwb;
 use pix::matte::Matte;
-use pix::ops::{Blend, OpVisitor};
+use pix::ops::{Blend, Op, OpVisitor};
 use pix::rgb::Rgb;
 use std::alloc::Global;
 
 /// How pixels are composited.
 #[derive(Drop)]
-enum How<P: Pixel> {
+pub(crate) enum How<P: Pixel> {
     /// Each with the pixel at its index, as slices.
     Slice(Vec<P>),
+    /// Each with the pixel at its index, one by one.
+    Pairs(Vec<P>),
     /// Each with one color, as a slice.
     Color(P),
     /// Each with one color, one by one.
@@ -41,6 +44,11 @@ where
     fn visit<O: Blend>(&self, dst: &mut Vec<P>, op: O) {
         match self {
             How::Slice(src) => P::composite_slice(dst, src, op),
+            How::Pairs(src) => {
+                for (pixel, clr) in dst.iter_mut().zip(src.iter()) {
+                    pixel.composite_channels(clr, op);
+                }
+            }
             How::Color(clr) => P::composite_color(dst, clr, op),
             How::One(clr) => {
                 for pixel in dst.iter_mut() {
@@ -59,7 +67,8 @@ where
 /// `Graya8p SrcOver one 100,200 64,128`: a format, an operator, how, a source and a destination.
 ///
 /// It is `one` or `color` with one source, `matted-N` with one through that matte value, or
-/// `slice`; `/` parts the pixels of a slice.
+/// `slice`; `/` parts the pixels of a slice. `Graya8p SrcOver lengths 0,16,100` has the words of
+/// [`slices::of_lengths`].
 pub(crate) fn composited(words: &[&str], alloc: Global) -> Result<String, Flaw> {
     let [format, rest @ ..] = words else {
         return Err(Flaw::Count);
@@ -106,10 +115,22 @@ fn by_format<P>(words: &[&str], alloc: Global) -> Result<String, Flaw>
 where
     P: Pixel<Alpha = Premultiplied, Gamma = Linear>,
 {
-    let &[op, how, src, dst] = words else {
-        return Err(Flaw::Count);
-    };
-    let op = operator(op)?;
+    if P::default().channels().len() != <P::Model as ColorModel>::ALPHA + 1 {
+        return Err(Flaw::Refused);
+    }
+    match words {
+        [op, "lengths", lengths] => slices::of_lengths::<P>(operator(op)?, lengths, alloc),
+        [op, how, src, dst] => by_words::<P>(operator(op)?, how, src, dst, alloc),
+        _ => Err(Flaw::Count),
+    }
+}
+
+/// Composites the pixels of words.
+fn by_words<P>(op: Op, how: &str, src: &str, dst: &str, alloc: Global) -> Result<String, Flaw>
+where
+    P: Pixel<Alpha = Premultiplied, Gamma = Linear>,
+    requires has_alpha { P.layout.count ≡ P.layout.alpha + 1 }
+{
     let how = match how.split_once('-') {
         Some(("matted", value)) => How::Matted(pixel(src, alloc)?, channel(value)?),
         _ if how == "slice" => How::Slice(pixels(src, alloc)?),
@@ -118,9 +139,6 @@ where
         _ => return Err(Flaw::Name),
     };
     let mut dst = pixels::<P>(dst, alloc)?;
-    if P::default().channels().len() != <P::Model as ColorModel>::ALPHA + 1 {
-        return Err(Flaw::Refused);
-    }
     op.visit(&how, &mut dst);
     let mut made = String::new(alloc);
     for (place, pixel) in dst.iter().enumerate() {

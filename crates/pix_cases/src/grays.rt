@@ -1,19 +1,18 @@
-//! Rows, single pixels and copies of rasters of grays.
+//! Rows, single pixels and copies of rasters of eight bits.
 ghost use Rattle.std.specs.Prelude.{◌≤◌};
 
 use crate::flaw::Flaw;
 use crate::images::{all, image, picture, pixel, pixel_at, put, text};
 use crate::regions::{coordinate, region};
 use crate::words::{hexadecimal, number};
-use pix::chan::{Ch8, Channel, Linear, Straight};
+use pix::chan::{Alpha, Ch8, Channel, Gamma, Linear, Premultiplied, Srgb, Straight};
 use pix::el::{Pix, Pixel};
 use pix::gray::Gray;
+use pix::matte::Matte;
+use pix::rgb::Rgb;
 use pix::{ColorModel, Raster, Region};
 use std::alloc::Global;
 use std::mem;
-
-/// A pixel of eight bits, of `N` channels.
-type Color<const N: usize, M> = Pix<N, Ch8, M, Straight, Linear>;
 
 /// `3x1 01,02,03 ; row 0 1,0,9,9`: the size and the pixels of a raster, and after each `;` what is
 /// done with it:
@@ -36,23 +35,35 @@ type Color<const N: usize, M> = Pix<N, Ch8, M, Straight, Linear>;
 /// - `number REGION`: writes 101, 102 and so on to the points of a region, row by row, and says how
 ///   many rows it has
 /// - `clone`: copies the raster to the source, and says which pixels and bytes come out of that
-pub(crate) fn gray(words: &[&str], alloc: Global) -> Result<String, Flaw> {
+///
+/// The class names the format.
+pub(crate) fn walked(class: &str, words: &[&str], alloc: Global) -> Result<String, Flaw> {
     let [size, pixels, words @ ..] = words else {
         return Err(Flaw::Count);
     };
-    walked::<1, Gray>(size, pixels, words, alloc)
+    match class {
+        "gray" => of_model::<1, Gray, Straight, Linear>(size, pixels, words, alloc),
+        "sgray" => of_model::<1, Gray, Straight, Srgb>(size, pixels, words, alloc),
+        "srgb" => of_model::<3, Rgb, Straight, Srgb>(size, pixels, words, alloc),
+        "matte" => of_model::<1, Matte, Premultiplied, Linear>(size, pixels, words, alloc),
+        _ => Err(Flaw::Class),
+    }
 }
 
-/// The answer of [`gray`] for a format of `N` channels.
-fn walked<const N: usize, M: ColorModel>(
+/// The answer of [`walked`] for a format of `N` channels.
+fn of_model<const N: usize, M, A, G>(
     size: &str,
     pixels: &str,
     words: &[&str],
     alloc: Global,
 ) -> Result<String, Flaw>
+where
+    M: ColorModel,
+    A: Alpha,
+    G: Gamma<Ch8>,
     requires { N ≤ 4 }
 {
-    let mut raster: Raster<Color<N, M>> = image(size, pixels, alloc)?;
+    let mut raster: Raster<Pix<N, Ch8, M, A, G>> = image(size, pixels, alloc)?;
     let mut source = image("0x0", "-", alloc)?;
     let mut answer = String::new(alloc);
     for part in words.split(|word| *word == ";") {
@@ -96,12 +107,16 @@ fn change<P: Pixel>(
 }
 
 /// The answer to a question.
-fn told<const N: usize, M: ColorModel>(
-    raster: &mut Raster<Color<N, M>>,
-    source: &mut Raster<Color<N, M>>,
+fn told<const N: usize, M, A, G>(
+    raster: &mut Raster<Pix<N, Ch8, M, A, G>>,
+    source: &mut Raster<Pix<N, Ch8, M, A, G>>,
     words: &[&str],
     alloc: Global,
 ) -> Result<String, Flaw>
+where
+    M: ColorModel,
+    A: Alpha,
+    G: Gamma<Ch8>,
     requires { N ≤ 4 }
 {
     match words {
@@ -132,9 +147,14 @@ fn told<const N: usize, M: ColorModel>(
 }
 
 /// The pixels and the bytes that come out of copies of a raster.
-fn copies<const N: usize, M>(raster: &Raster<Color<N, M>>, alloc: Global) -> Result<String, Flaw>
+fn copies<const N: usize, M, A, G>(
+    raster: &Raster<Pix<N, Ch8, M, A, G>>,
+    alloc: Global,
+) -> Result<String, Flaw>
 where
     M: ColorModel,
+    A: Alpha,
+    G: Gamma<Ch8>,
     requires { N ≤ 4 }
 {
     let copied = raster.to_u8_vec(alloc)?;

@@ -25,6 +25,7 @@ mod palettes;
 mod pixels;
 mod regions;
 mod scripts;
+mod slices;
 mod words;
 
 use cases::Tally;

@@ -103,6 +103,24 @@ fn errors_that_nearly_reach_their_budget(rt: HostRuntime) -> Result<(), Fail> {
     Ok(())
 }
 
+/// Three transparent colors leave a faint one: 5 is 82906875 / 16581375.
+#[test]
+fn a_faint_color_under_three(rt: HostRuntime) -> Result<(), Fail> {
+    let list = Worked {
+        before: [5; 4],
+        matte: 0,
+        steps: [paint(Op::SrcOver, [0; 4]); 6],
+        count: 3,
+        after: [5; 4],
+        channels: [82906875; 4],
+        weight: 16581375,
+        budget: (3, 3, 6),
+    };
+    let point = assert_worked(&rt, rt.alloc(), list)?;
+    assert_eq!(rt; point.channels[0].twice_distance(5), 0);
+    Ok(())
+}
+
 /// Transparent colors leave a faint one, and an opaque one within it is as faint.
 #[test]
 fn a_faint_color_stays(rt: HostRuntime) -> Result<(), Fail> {
@@ -173,6 +191,35 @@ fn a_matted_and_a_copied_color(rt: HostRuntime) -> Result<(), Fail> {
         channels: [1, 2, 3, 4],
         weight: 1,
         budget: (0, 0, 6),
+        ..list
+    };
+    assert_worked(&rt, rt.alloc(), copy)?;
+    Ok(())
+}
+
+/// `Src` through a matte rounds one product of each channel: 128 * 128 / 255 is 64 + 64/255. After
+/// a copy of a color the budgets are 0, and the bound of premultiplied sources stays 2.
+#[test]
+fn a_matted_source_and_a_copied_color(rt: HostRuntime) -> Result<(), Fail> {
+    let matted = step(Kind::Matte, Op::Src, [0, 0x80, 0, 0x80]);
+    let copied = step(Kind::CopyColor, Op::Src, [1, 2, 3, 4]);
+    let list = Worked {
+        before: [9, 8, 7, 10],
+        matte: 0x80,
+        steps: [matted, copied, copied, copied, copied, copied],
+        count: 1,
+        after: [0, 64, 0, 64],
+        channels: [0, 4177920, 0, 4177920],
+        weight: 65025,
+        budget: (1, 1, 2),
+    };
+    assert_worked(&rt, rt.alloc(), list)?;
+    let copy = Worked {
+        count: 2,
+        after: [1, 2, 3, 4],
+        channels: [1, 2, 3, 4],
+        weight: 1,
+        budget: (0, 0, 2),
         ..list
     };
     assert_worked(&rt, rt.alloc(), copy)?;

@@ -164,6 +164,28 @@ fn failed_writes(rt: HostRuntime) -> Result<(), Fail> {
     Ok(())
 }
 
+/// Where the script has a fault, nothing is written and nothing is flushed.
+#[test]
+fn faults_of_scripts(rt: HostRuntime) -> Result<(), Fail> {
+    for (script, wanted) in [
+        ("clear", "line 1: no image"),
+        ("image 1 1\nimage 1 1", "line 2: second image"),
+        ("image 1 1\n\nfill 0 0 1 1 4080608", "line 3: bad color"),
+        ("image 1 1\ncopy 0 0 0 0 1 1", "line 2: nothing kept"),
+        ("image 1 1025", "line 1: image too big"),
+    ] {
+        let mut sink = Sink::new(rt.alloc(), ALL);
+        let text = stop(
+            rt.alloc(),
+            &mut Source::new(script.as_bytes(), 9),
+            &mut sink,
+        )?;
+        assert_eq!(rt; text.as_str(), wanted);
+        assert_eq!(rt; (sink.calls, sink.flushes), (0, 0), "{script:?}");
+    }
+    Ok(())
+}
+
 /// No read follows the byte that shows that the input is too long; after the longest script one
 /// more finds its end.
 #[test]
@@ -174,7 +196,7 @@ fn long_inputs(rt: HostRuntime) -> Result<(), Fail> {
     let text = stop(rt.alloc(), &mut source, &mut sink)?;
     assert_eq!(rt; text.as_str(), "input too long");
     assert_eq!(rt; source.bytes.len(), 23);
-    assert_eq!(rt; (source.calls, sink.calls), (257, 0));
+    assert_eq!(rt; (source.calls, sink.calls, sink.flushes), (257, 0, 0));
     let longest = vec![in rt.alloc(); b' '; 1_048_576]?;
     let mut source = Source::new(&longest, 4096);
     let text = stop(rt.alloc(), &mut source, &mut sink)?;

@@ -18,13 +18,19 @@ mod examples;
 #[cfg(test)]
 mod hues;
 #[cfg(test)]
+mod kinds;
+#[cfg(test)]
 mod lists;
+#[cfg(test)]
+mod no_points;
 #[cfg(test)]
 mod operators;
 #[cfg(test)]
 mod pictures;
 #[cfg(test)]
 mod random_lists;
+#[cfg(test)]
+mod rasters;
 #[cfg(test)]
 mod reports;
 #[cfg(test)]

@@ -1,0 +1,108 @@
+//! Slices of many lengths, composited at once and pixel by pixel.
+ghost use Rattle.std.specs.Prelude.{◌≡◌, ◌+◌};
+
+use crate::composites::How;
+use crate::flaw::Flaw;
+use crate::words::small;
+use pix::chan::{Channel, Linear, Premultiplied};
+use pix::el::Pixel;
+use pix::ops::Op;
+use std::alloc::{AllocError, Global};
+
+/// `0,16,100`: lengths. A slice of each length is composited with one of each length, and with one
+/// color.
+///
+/// The answer is a sum of all channels of the slices that are made, and one of those that the color
+/// makes. It names the lengths instead where a pixel isn't as by a composite of its own: those of a
+/// destination and a source, or that of a destination and `color`.
+pub(crate) fn of_lengths<P>(op: Op, lengths: &str, alloc: Global) -> Result<String, Flaw>
+where
+    P: Pixel<Alpha = Premultiplied, Gamma = Linear>,
+    requires has_alpha { P.layout.count ≡ P.layout.alpha + 1 }
+{
+    let mut of_slices = 0_u32;
+    let mut of_colors = 0_u32;
+    for len in lengths.split(',') {
+        for src_len in lengths.split(',') {
+            let src = series::<P>(small(src_len)?, 2, alloc)?;
+            let want = made(op, How::Pairs(copied(&src, alloc)?), small(len)?, alloc)?;
+            let dst = made(op, How::Slice(src), small(len)?, alloc)?;
+            if !are_same(&dst, &want) {
+                return Ok(format!(in alloc; "{len} {src_len}")?);
+            }
+            of_slices = summed(of_slices, &dst);
+        }
+        let clr = drawn_pixel::<P>(4).0;
+        let want = made(op, How::One(clr), small(len)?, alloc)?;
+        let dst = made(op, How::Color(clr), small(len)?, alloc)?;
+        if !are_same(&dst, &want) {
+            return Ok(format!(in alloc; "{len} color")?);
+        }
+        of_colors = summed(of_colors, &dst);
+    }
+    Ok(format!(in alloc; "{of_slices} {of_colors}")?)
+}
+
+/// The pixels that are made of a slice of a length.
+fn made<P>(op: Op, how: How<P>, len: u32, alloc: Global) -> Result<Vec<P>, AllocError>
+where
+    P: Pixel<Alpha = Premultiplied, Gamma = Linear>,
+    requires has_alpha { P.layout.count ≡ P.layout.alpha + 1 }
+{
+    let mut dst = series::<P>(len, 1, alloc)?;
+    op.visit(&how, &mut dst);
+    Ok(dst)
+}
+
+/// A copy of pixels.
+fn copied<P: Pixel>(pixels: &[P], alloc: Global) -> Result<Vec<P>, AllocError> {
+    Vec::from_slice(alloc, pixels)
+}
+
+/// Whether both have the same pixels.
+fn are_same<P: Pixel>(one: &[P], other: &[P]) -> bool {
+    one.len() == other.len() && one.iter().zip(other.iter()).all(|(a, b)| *a == *b)
+}
+
+/// A sum that each channel of the pixels counts in, by its place.
+fn summed<P: Pixel>(before: u32, pixels: &[P]) -> u32 {
+    let mut sum = before;
+    for pixel in pixels {
+        for channel in pixel.channels() {
+            sum = sum.wrapping_mul(31).wrapping_add(channel.to_u32());
+        }
+    }
+    sum
+}
+
+/// Pixels of a series of numbers that look random.
+fn series<P: Pixel>(len: u32, seed: u32, alloc: Global) -> Result<Vec<P>, AllocError> {
+    let mut all = Vec::new(alloc);
+    let mut state = seed;
+    for _ in 0..len {
+        let (pixel, next) = drawn_pixel::<P>(state);
+        all.push(pixel)?;
+        state = next;
+    }
+    Ok(all)
+}
+
+/// The pixel that comes after a number of the series, and the number after it.
+fn drawn_pixel<P: Pixel>(before: u32) -> (P, u32) {
+    let mut state = before;
+    let mut pixel = P::default();
+    for channel in pixel.channels_mut() {
+        state = state.wrapping_mul(1664525).wrapping_add(1013904223);
+        *channel = drawn::<P::Chan>(state);
+    }
+    (pixel, state)
+}
+
+/// The channel of a number of the series. One of four is 0 or the maximum.
+fn drawn<C: Channel>(state: u32) -> C {
+    match state >> 29 {
+        0 => C::MIN,
+        1 => C::MAX,
+        _ => C::from_16_bit((state / 256 % 65536) as u16),
+    }
+}
