@@ -1,4 +1,6 @@
 //! Rasters that are converted to another format, and composited with others.
+ghost use Rattle.std.specs.Prelude.{◌≤◌, ◌+◌};
+
 use crate::pictures::rgba;
 use pix::chan::{Channel, Gamma};
 use pix::el::Pixel;
@@ -62,6 +64,7 @@ where
     D: Pixel,
     D::Chan: From<S::Chan>,
     S::Gamma: Gamma<D::Chan>,
+    requires few { D.layout.count ≤ D.layout.alpha + 1 }
 {
     let mut triangle = Raster::<S>::with_clear(alloc, width, height)?;
     let mut y = 0_usize;
