@@ -86,19 +86,14 @@ where
 
 /// Asserts that a raster has this size and, from the first to the last of its pixels, these
 /// corners.
-fn assert_corners<P: Pixel>(rt: &impl Abort, raster: &Raster<P>, side: u32, corners: [P; 4]) {
+fn assert_corners<P: Pixel>(rt: &impl Abort, raster: &Raster<P>, side: u32, corners: &[P]) {
     assert_eq!(rt; (raster.width(), raster.height()), (side, side));
     let last = side.saturating_sub(1) as usize;
     let below = last.saturating_mul(side as usize);
     let places = [0, last, below, below.saturating_add(last)];
-    for (place, corner) in places.into_iter().zip(corners) {
-        assert!(rt;
-            raster
-                .pixels()
-                .get(place)
-                .is_some_and(|pixel| *pixel == corner),
-            "{place}"
-        );
+    for (place, corner) in places.iter().zip(corners.iter()) {
+        let pixel = raster.pixels().get(*place);
+        assert!(rt; pixel.is_some_and(|pixel| *pixel == *corner), "{place}");
     }
 }
 
@@ -108,7 +103,7 @@ fn assert_corners<P: Pixel>(rt: &impl Abort, raster: &Raster<P>, side: u32, corn
 fn the_hwb_triangle(rt: HostRuntime) -> Result<(), Fail> {
     let shown = converted_triangle::<SHwb8, SRgb8>(rt.alloc(), 256, 256)?;
     let [red, black, white] = [[255, 0, 0], [0; 3], [255; 3]].map(srgb);
-    assert_corners(&rt, &shown, 256, [red, black, white, red]);
+    assert_corners(&rt, &shown, 256, &[red, black, white, red]);
     Ok(())
 }
 
