@@ -113,6 +113,14 @@ fn tables_and_pictures_without_points(rt: HostRuntime) -> Result<(), Fail> {
     for (width, height) in SIZES {
         let picture = Raster::<SRgba8>::with_clear(rt.alloc(), width, height)?;
         assert_colors(&rt, rt.alloc(), &picture)?;
+    }
+    Ok(())
+}
+
+#[test]
+fn tables_with_alpha_and_pictures_without_points(rt: HostRuntime) -> Result<(), Fail> {
+    for (width, height) in SIZES {
+        let picture = Raster::<SRgba8>::with_clear(rt.alloc(), width, height)?;
         assert_rgbas(&rt, rt.alloc(), &picture)?;
     }
     Ok(())
