@@ -125,13 +125,14 @@ static const char *const letter = "99999720"
                                   "99000000"
                                   "99000000";
 
-/* Reads the pixels of LAKE, and returns whether that went well. */
-static int read_lake(const char *name, pix_srgb8 *photo) {
+/* Reads the photograph, pictures/lake.ppm, of 160 by 100 pixels. */
+static void read_lake(const char *name, pix_srgb8 *photo) {
     FILE *file = fopen(name, "rb");
-    size_t count = 0;
-    if (file && fseek(file, sizeof "P6\n160 100\n255\n" - 1, SEEK_SET) == 0)
-        count = fread(photo, sizeof *photo, 160 * 100, file);
-    return file && fclose(file) == 0 && count == 160 * 100;
+    if (!file || fseek(file, sizeof "P6\n160 100\n255\n" - 1, SEEK_SET)
+        || fread(photo, sizeof *photo, 160 * 100, file) != 160 * 100 || fclose(file)) {
+        perror(name);
+        exit(1);
+    }
 }
 
 int main(int count, char **words) {
@@ -163,14 +164,16 @@ int main(int count, char **words) {
 
     static pix_srgb8 photo[160 * 100];
     static pix_rgba16 light[160 * 100];
-    if (count != 2 || !read_lake(words[1], photo))
+    if (count != 2)
         return 2;
+    read_lake(words[1], photo);
     glaze(&photo[0].r, light, 160, 100);
     write_ppm("light.ppm", photo, 160, 100);
 
     static pix_srgb8 shown[160 * 100];
     static uint8_t indices[160 * 100];
     pix_srgb8 table[16];
+    read_lake(words[1], photo);
     size_t colors = index_picture(photo, 160 * 100, 160, table, indices);
     check(pix_look_up(pix_table_of(table, colors), indices, 160 * 100, shown));
     write_ppm("indexed.ppm", shown, 160, 100);

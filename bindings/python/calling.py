@@ -105,7 +105,7 @@ def main(lake):
     glaze(photo)
     photo.save("light.ppm")
 
-    table, indices = index_picture(photo)
+    table, indices = index_picture(pix.Image.open(lake))
     shown = pix.look_up(table, indices)
     pix.Image.from_array(shown, pix.SRGB8, size=(160, 100)).save("indexed.ppm")
 

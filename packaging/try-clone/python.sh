@@ -46,9 +46,10 @@ python_bad() {
 
 if ! "$python" -c 'import venv, ensurepip' 2>/dev/null; then
     lacks "$python with venv and ensurepip, as in python3-venv" 'the package of Python'
-    ran+=('README.md clone: Python' 'docs/INSTALL.md clone: pip')
+    ran+=('README.md clone: Python' 'CALLING.md clone: Python' 'docs/INSTALL.md clone: pip')
 else
     try_lines README.md Python python_painted
+    try_lines CALLING.md Python task_painted
     env_python=$work/docs-INSTALL.md-pip/env/bin/python
     if try_lines docs/INSTALL.md pip python_painted; then
         step 'Python: demo, refusals, buffers, threads against the wheel' package_tests

@@ -31,9 +31,11 @@ rust_narrow() {
 }
 
 if ! have 'the crates of Rust' cargo rustc ar; then
-    ran+=('README.md clone: Rust' 'docs/INSTALL.md clone: cargo')
+    ran+=('README.md clone: Rust' 'CALLING.md clone: Rust' 'docs/INSTALL.md clone: cargo')
 else
     try_lines README.md Rust rust_painted
+    try_lines CALLING.md Rust task_painted
+    step 'CALLING.md: each program of Rust' "$clone/tools/calling" Rust
     if try_lines docs/INSTALL.md cargo rust_painted; then
         step 'Rust: a second build' rust_again
         step 'Rust: the tests of the crates, in a path with spaces' rust_tests

@@ -69,4 +69,6 @@ step './pixpaint at a terminal says which program runs' at_terminal "$clone"
 step 'bindings/README.md: its lines over generated/' pages_lines "$clone"
 try_lines README.md C painted
 try_lines README.md C++ painted
+try_lines CALLING.md C task_painted
+step 'CALLING.md: each program, as it stands on the page' "$clone/tools/calling" C Python
 try_lines docs/INSTALL.md sums true

@@ -137,6 +137,11 @@ fn save(picture: &ImageMut<'_, Rgba8>, name: &str) -> Result<(), Box<dyn std::er
     Ok(write_ppm(name, &bytes, 64, 36)?)
 }
 
+/// Reads the photograph, pictures/lake.ppm, of 160 by 100 pixels.
+fn read_lake(name: &str) -> std::io::Result<Vec<u8>> {
+    Ok(std::fs::read(name)?.split_off("P6\n160 100\n255\n".len()))
+}
+
 fn main() -> Result<(), Box<dyn std::error::Error>> {
     let (mut pixels, mut ball) = ([Rgba8::default(); 64 * 36], [Rgba8::default(); 16 * 16]);
     let mut picture = ImageMut::new(&mut pixels, 64, 36);
@@ -164,11 +169,11 @@ fn main() -> Result<(), Box<dyn std::error::Error>> {
     save(&picture, "fade.ppm")?;
 
     let lake = std::env::args().nth(1).ok_or("calling LAKE")?;
-    let mut photo = std::fs::read(lake)?.split_off("P6\n160 100\n255\n".len());
+    let mut photo = read_lake(&lake)?;
     glaze(&mut photo, 160, 100)?;
     write_ppm("light.ppm", &photo, 160, 100)?;
 
-    let colors: Vec<Srgb8> = photo
+    let colors: Vec<Srgb8> = read_lake(&lake)?
         .chunks(3)
         .map(|p| Srgb8::new(p[0], p[1], p[2]))
         .collect();
