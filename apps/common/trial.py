@@ -10,6 +10,9 @@ import sys
 import tempfile
 import unittest
 
+sys.path.insert(0, str(pathlib.Path(__file__).resolve().parent.parent.parent / "tools"))
+import endings  # noqa: E402, F401
+
 # What a script says of itself comes first: the machine may lack what it stands on.
 if "--help" in sys.argv[1:]:
     print(sys.modules["__main__"].__doc__.strip())

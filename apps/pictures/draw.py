@@ -13,6 +13,9 @@ import pathlib
 import random
 import sys
 
+sys.path.insert(0, str(pathlib.Path(__file__).resolve().parent.parent.parent / "tools"))
+import endings  # noqa: E402, F401
+
 if len(sys.argv) != 2 or sys.argv[1].startswith("-"):
     print(__doc__.strip(), file=sys.stdout if sys.argv[1:] == ["--help"] else sys.stderr)
     sys.exit(0 if sys.argv[1:] == ["--help"] else 2)
