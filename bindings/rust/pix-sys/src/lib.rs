@@ -28,162 +28,105 @@
 //!
 //! Threads of `std` have 2 MiB.
 #![no_std]
+#![warn(missing_docs)]
 
 mod library;
+mod pixel;
 mod table;
 
 pub use crate::library::{LibraryFault, check_library};
+pub use crate::pixel::*;
 pub use crate::table::*;
 
 use core::mem::{offset_of, size_of};
-
-/// Red, green, blue and alpha of 8 bits, premultiplied and linear.
-#[repr(C)]
-#[derive(Clone, Copy, Debug, Default, PartialEq, Eq, Hash)]
-pub struct Rgba8 {
-    pub r: u8,
-    pub g: u8,
-    pub b: u8,
-    pub a: u8,
-}
-
-impl Rgba8 {
-    pub const fn new(r: u8, g: u8, b: u8, a: u8) -> Rgba8 {
-        Rgba8 { r, g, b, a }
-    }
-}
-
-/// Red, green, blue and alpha of 16 bits, premultiplied and linear.
-#[repr(C)]
-#[derive(Clone, Copy, Debug, Default, PartialEq, Eq, Hash)]
-pub struct Rgba16 {
-    pub r: u16,
-    pub g: u16,
-    pub b: u16,
-    pub a: u16,
-}
-
-impl Rgba16 {
-    pub const fn new(r: u16, g: u16, b: u16, a: u16) -> Rgba16 {
-        Rgba16 { r, g, b, a }
-    }
-}
-
-/// Gray and alpha of 8 bits, premultiplied and linear.
-#[repr(C)]
-#[derive(Clone, Copy, Debug, Default, PartialEq, Eq, Hash)]
-pub struct Graya8 {
-    pub value: u8,
-    pub a: u8,
-}
-
-impl Graya8 {
-    pub const fn new(value: u8, a: u8) -> Graya8 {
-        Graya8 { value, a }
-    }
-}
-
-/// Red, green and blue of 8 bits in sRGB: an entry of a table, or a pixel.
-#[repr(C)]
-#[derive(Clone, Copy, Debug, Default, PartialEq, Eq, Hash)]
-pub struct Srgb8 {
-    pub r: u8,
-    pub g: u8,
-    pub b: u8,
-}
-
-impl Srgb8 {
-    pub const fn new(r: u8, g: u8, b: u8) -> Srgb8 {
-        Srgb8 { r, g, b }
-    }
-}
-
-/// Red, green, blue and alpha of 8 bits in sRGB, not multiplied by the alpha.
-#[repr(C)]
-#[derive(Clone, Copy, Debug, Default, PartialEq, Eq, Hash)]
-pub struct Srgba8 {
-    pub r: u8,
-    pub g: u8,
-    pub b: u8,
-    pub a: u8,
-}
-
-impl Srgba8 {
-    pub const fn new(r: u8, g: u8, b: u8, a: u8) -> Srgba8 {
-        Srgba8 { r, g, b, a }
-    }
-}
-
-/// A rectangle of points, anywhere; a side of at most 2147483647 is accepted.
-#[repr(C)]
-#[derive(Clone, Copy, Debug, Default, PartialEq, Eq, Hash)]
-pub struct Region {
-    pub x: i32,
-    pub y: i32,
-    pub width: u32,
-    pub height: u32,
-}
-
-impl Region {
-    pub const fn new(x: i32, y: i32, width: u32, height: u32) -> Region {
-        Region {
-            x,
-            y,
-            width,
-            height,
-        }
-    }
-}
 
 /// A command on pixels `P` with mattes `M`. No pointer is null, also where its count is 0.
 #[repr(C)]
 #[derive(Clone, Copy, Debug)]
 pub struct Command<P, M> {
+    /// What the command does: one of [`kind`].
     pub kind: u32,
+    /// The number of an operator. 0 where the kind has none.
     pub op: u32,
+    /// What is changed.
     pub to: Region,
+    /// What is read of the source, or of the matte of [`kind::COMPOSITE_MATTE`].
     pub from: Region,
+    /// The color of kinds that have one.
     pub color: P,
+    /// The pixels of the source.
     pub pixels: *const P,
+    /// How many pixels there are.
     pub pixel_count: usize,
+    /// The values of the matte or the mask.
     pub mattes: *const M,
+    /// How many values there are.
     pub matte_count: usize,
+    /// The width of the source, or of the matte of [`kind::COMPOSITE_MATTE`].
     pub width: u32,
+    /// Its height.
     pub height: u32,
+    /// The distance from a row of it to the next, in elements: at least the width.
     pub stride: u32,
+    /// What is read of the mask of [`kind::COMPOSITE_IMAGE_MATTE`].
     pub mask: Region,
+    /// The width of the mask.
     pub mask_width: u32,
+    /// Its height.
     pub mask_height: u32,
+    /// The distance from a row of it to the next.
     pub mask_stride: u32,
+    /// The opacity of [`kind::COMPOSITE_IMAGE_ALPHA`].
     pub alpha: M,
 }
 
 /// Kinds of commands.
 pub mod kind {
+    /// All pixels of the image become clear.
     pub const CLEAR: u32 = 0;
+    /// A color replaces pixels.
     pub const COPY_COLOR: u32 = 1;
+    /// The pixels of a source replace others.
     pub const COPY_IMAGE: u32 = 2;
+    /// A color is composited.
     pub const COMPOSITE_COLOR: u32 = 3;
+    /// A source is composited.
     pub const COMPOSITE_IMAGE: u32 = 4;
+    /// A color is composited through a matte.
     pub const COMPOSITE_MATTE: u32 = 5;
+    /// A source is composited through a mask.
     pub const COMPOSITE_IMAGE_MATTE: u32 = 6;
+    /// A source is composited at an opacity.
     pub const COMPOSITE_IMAGE_ALPHA: u32 = 7;
 }
 
 /// What the functions answer.
 pub mod status {
+    /// Done.
     pub const OK: u32 = 0;
+    /// The image, or the bitmap that is written: a side above 2147483647, a stride below the width, or too few elements.
     pub const BAD_SIZE: u32 = 1;
+    /// No such kind of command.
     pub const BAD_KIND: u32 = 2;
+    /// A region has a side above 2147483647.
     pub const BAD_REGION: u32 = 3;
+    /// No such operator.
     pub const BAD_OP: u32 = 4;
+    /// A source, a matte or a mask: as `BAD_SIZE`.
     pub const BAD_SOURCE: u32 = 5;
+    /// No such format, or none of those that the call takes.
     pub const BAD_FORMAT: u32 = 6;
+    /// Lengths do not go together.
     pub const BAD_LENGTH: u32 = 7;
+    /// A table has no entry, or more than 256.
     pub const BAD_TABLE: u32 = 11;
+    /// An index is past the end, or takes more bits than it is to have.
     pub const BAD_INDEX: u32 = 12;
+    /// Indices take 1, 2, 4 or 8 bits.
     pub const BAD_DEPTH: u32 = 13;
+    /// A table has no room for a color.
     pub const FULL_TABLE: u32 = 14;
+    /// Errors are diffused with a strength of 0 to 16.
     pub const BAD_STRENGTH: u32 = 15;
 }
 

@@ -99,6 +99,19 @@ impl<'a, P: Pixel> Command<'a, P> {
     }
 
     /// Composites the pixels of `from` in a source with those of `to`: a sprite.
+    ///
+    /// ```
+    /// use pix::{Command, Image, ImageMut, Op, Region, Rgba8};
+    ///
+    /// let (sky, clear, red) = (Rgba8::new(9, 20, 60, 255), Rgba8::default(), Rgba8::new(80, 0, 0, 255));
+    /// let (sprite, all) = ([clear, red], Region::new(0, 0, 2, 1));
+    /// let sprite = Image::new(&sprite, 2, 1);
+    /// let mut pixels = [sky; 4];
+    /// let at = Region::new(1, 0, 2, 1);
+    /// ImageMut::new(&mut pixels, 4, 1).run(&[Command::composite_image(at, sprite, all, Op::SrcOver)])?;
+    /// assert_eq!(pixels, [sky, sky, red, sky]);
+    /// # Ok::<(), pix::Error>(())
+    /// ```
     pub fn composite_image(
         to: Region,
         source: Image<'a, P>,
@@ -109,6 +122,19 @@ impl<'a, P: Pixel> Command<'a, P> {
     }
 
     /// Composites a color, multiplied by the values of `from` in a mask, with the pixels of `to`: a glyph.
+    ///
+    /// ```
+    /// use pix::{Command, Image, ImageMut, Op, Region, Rgba8};
+    ///
+    /// let glyph = [0, 128, 255];
+    /// let (glyph, all) = (Image::new(&glyph, 3, 1), Region::new(0, 0, 3, 1));
+    /// let (paper, ink) = (Rgba8::new(255, 255, 255, 255), Rgba8::new(0, 0, 0, 255));
+    /// let mut pixels = [paper; 3];
+    /// let text = Command::composite_matte(all, glyph, all, ink, Op::SrcOver);
+    /// ImageMut::new(&mut pixels, 3, 1).run(&[text])?;
+    /// assert_eq!(pixels, [paper, Rgba8::new(127, 127, 127, 255), ink]);
+    /// # Ok::<(), pix::Error>(())
+    /// ```
     pub fn composite_matte(
         to: Region,
         matte: Image<'a, P::Matte>,
@@ -145,6 +171,17 @@ impl<'a, P: Pixel> Command<'a, P> {
 
     /// Composites the pixels of `from` in a source, multiplied by `alpha`, with those of `to`: a fade. At the maximum it is
     /// [`Command::composite_image`].
+    ///
+    /// ```
+    /// use pix::{Command, Image, ImageMut, Op, Region, Rgba8};
+    ///
+    /// let (source, one) = ([Rgba8::new(200, 0, 0, 255)], Region::new(0, 0, 1, 1));
+    /// let mut pixels = [Rgba8::new(0, 0, 200, 255)];
+    /// let fade = Command::composite_image_alpha(one, Image::new(&source, 1, 1), one, 51, Op::SrcOver);
+    /// ImageMut::new(&mut pixels, 1, 1).run(&[fade])?;
+    /// assert_eq!(pixels, [Rgba8::new(40, 0, 160, 255)]);
+    /// # Ok::<(), pix::Error>(())
+    /// ```
     pub fn composite_image_alpha(
         to: Region,
         source: Image<'a, P>,

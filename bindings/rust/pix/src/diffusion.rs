@@ -33,8 +33,9 @@ impl Default for Diffusion {
 }
 
 impl ColorTable<'_> {
-    /// Does what [`diffuse_indexed`](ColorTable::diffuse_indexed) does, as `how` says. What a pixel gets of the errors before
-    /// it is multiplied by the strength, and rounded once.
+    /// Sets the index of each pixel by error diffusion as `how` says, and else as
+    /// [`diffuse_indexed`](ColorTable::diffuse_indexed). What a pixel gets of the errors before it is multiplied by the
+    /// strength, and rounded once.
     ///
     /// ```
     /// use pix::{ColorTable, Diffusion, Srgb8, diffuse_indexed_work};
@@ -80,7 +81,8 @@ impl ColorTable<'_> {
         })
     }
 
-    /// Does what [`diffuse_indexed_alpha`](ColorTable::diffuse_indexed_alpha) does, as `how` says.
+    /// Sets the index of each pixel with an alpha by error diffusion as `how` says, and else as
+    /// [`diffuse_indexed_alpha`](ColorTable::diffuse_indexed_alpha).
     ///
     /// # Errors
     ///

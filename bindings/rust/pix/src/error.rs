@@ -5,16 +5,23 @@ use pix_sys::{LibraryFault, status};
 
 /// Why a call was refused. It has changed nothing then.
 ///
-/// `index` is that of the refused command in its list; those before it are as they should be.
+/// `index` is that of the refused command in its list; those before it are as they should be. Every call may also say
+/// `Processor` or `Library`, and then each one does.
 #[non_exhaustive]
 #[derive(Clone, Copy, Debug, PartialEq, Eq)]
 pub enum Error {
     /// The image has a side above 2147483647, a stride below its width, or too few pixels.
     Size,
     /// A region has a side above 2147483647.
-    Region { index: usize },
+    Region {
+        /// The place of the command in its list.
+        index: usize,
+    },
     /// The source or the mask has a side above 2147483647, a stride below its width, or too few pixels.
-    Source { index: usize },
+    Source {
+        /// The place of the command in its list.
+        index: usize,
+    },
     /// The picture that is to be converted has a side above 2147483647, a stride below its width, or too few bytes.
     Picture,
     /// The picture that is to be converted has another size than the one that is to be written.
@@ -39,7 +46,12 @@ pub enum Error {
     /// The archive has another version or layout than the crate `pix-sys`.
     Library,
     /// A status that this crate doesn't know.
-    Unknown { status: u32, index: usize },
+    Unknown {
+        /// The number that the library answered.
+        status: u32,
+        /// The place of a command in its list, or 0.
+        index: usize,
+    },
 }
 
 impl Error {

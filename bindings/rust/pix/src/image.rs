@@ -26,7 +26,19 @@ impl<'a, T> Image<'a, T> {
         Image::with_stride(pixels, width, height, width)
     }
 
-    /// An image whose rows begin `stride` pixels apart. It has (height - 1) * stride + width pixels.
+    /// An image whose rows begin `stride` pixels apart. It has (height - 1) * stride + width pixels. So a part of a picture is an
+    /// image too:
+    ///
+    /// ```
+    /// use pix::{Command, Image, ImageMut, Region, Rgba8};
+    ///
+    /// let sheet: Vec<_> = (0..32).map(|i| Rgba8::new(i, 0, 0, 255)).collect(); // 8 x 4 pixels
+    /// let sprite = Image::with_stride(&sheet[8 + 3..], 2, 2, 8); // from (3, 1) on
+    /// let (mut pixels, all) = ([Rgba8::default(); 4], Region::new(0, 0, 2, 2));
+    /// ImageMut::new(&mut pixels, 2, 2).run(&[Command::copy_image(all, sprite, all)])?;
+    /// assert_eq!(pixels.map(|pixel| pixel.r), [11, 12, 19, 20]);
+    /// # Ok::<(), pix::Error>(())
+    /// ```
     pub const fn with_stride(
         pixels: &'a [T],
         width: u32,
@@ -116,6 +128,27 @@ impl<'a, P: Pixel> ImageMut<'a, P> {
     }
 
     /// Runs the commands in order, or none of them where one is refused.
+    ///
+    /// ```
+    /// use pix::{Command, Error, ImageMut, Op, Region, Rgba8};
+    ///
+    /// let mut pixels = [Rgba8::default(); 4];
+    /// let mut image = ImageMut::new(&mut pixels, 2, 2);
+    /// let (blue, red) = (Rgba8::new(0, 0, 200, 255), Rgba8::new(100, 0, 0, 128));
+    /// image.run(&[
+    ///     Command::copy_color(Region::new(0, 0, 2, 2), blue),
+    ///     Command::composite_color(Region::new(1, -5, 9, 6), red, Op::SrcOver), // the upper right pixel
+    /// ])?;
+    /// let too_wide = Command::copy_color(Region::new(0, 0, u32::MAX, 1), red);
+    /// assert_eq!(image.run(&[Command::clear(), too_wide]), Err(Error::Region { index: 1 }));
+    /// assert_eq!(pixels, [blue, Rgba8::new(100, 0, 100, 255), blue, blue]);
+    /// # Ok::<(), pix::Error>(())
+    /// ```
+    ///
+    /// # Errors
+    ///
+    /// `Size` where the image has a side above 2147483647, a stride below its width, or too few pixels. `Region` and `Source`,
+    /// with the index of the command, where one is refused. No pixel has changed then.
     pub fn run(&mut self, commands: &[Command<'_, P>]) -> Result<(), Error> {
         self.run_window(0, 0, commands)
     }
@@ -125,7 +158,21 @@ impl<'a, P: Pixel> ImageMut<'a, P> {
     ///
     /// Each pixel becomes what [`run`](ImageMut::run) would make of it on the whole picture. So pictures painted tile by
     /// tile are the picture painted whole, in any order, and [`bands`](ImageMut::bands) of one image by several threads.
-    /// It is refused too where `left` plus the width or `top` plus the height is above 2147483647.
+    ///
+    /// ```
+    /// use pix::{Command, ImageMut, Region, Rgba8};
+    ///
+    /// let green = Rgba8::new(0, 255, 0, 255);
+    /// let list = [Command::copy_color(Region::new(101, 200, 1, 1), green)];
+    /// let mut tile = [Rgba8::default(); 4]; // the pixels from (100, 200) to (101, 201) of a picture
+    /// ImageMut::new(&mut tile, 2, 2).run_window(100, 200, &list)?;
+    /// assert_eq!(tile[1], green);
+    /// # Ok::<(), pix::Error>(())
+    /// ```
+    ///
+    /// # Errors
+    ///
+    /// As [`run`](ImageMut::run), and `Size` too where `left` plus the width or `top` plus the height is above 2147483647.
     pub fn run_window(
         &mut self,
         left: u32,

@@ -43,6 +43,7 @@
 //!
 //! docs/PROMISES.md of the repository lists all calls in four languages, and what is proved of each.
 #![no_std]
+#![warn(missing_docs)]
 
 mod bitmap;
 mod command;
@@ -52,6 +53,7 @@ mod format;
 mod image;
 mod pixel;
 mod rgba_table;
+mod rows;
 mod table;
 
 pub use crate::bitmap::{Bitmap, BitmapMut};
@@ -62,7 +64,8 @@ pub use crate::format::{Format, convert};
 pub use crate::image::{Bands, Image, ImageMut};
 pub use crate::pixel::{Graya8, Pixel, Region, Rgba8, Rgba16, bytes, bytes_mut};
 pub use crate::rgba_table::{RgbaTable, quantize_rgba};
+pub use crate::rows::{IndexDepth, count_indices, pack_row, unpack_row};
 pub use crate::table::{
-    ColorTable, IndexDepth, Srgb8, Srgba8, count_indices, diffuse_indexed_work, index_pixels,
-    pack_row, quantize, quantize_alpha, quantize_refined, quantize_refined_alpha, unpack_row,
+    ColorTable, Srgb8, Srgba8, diffuse_indexed_work, index_pixels, quantize, quantize_alpha,
+    quantize_refined, quantize_refined_alpha,
 };

@@ -24,6 +24,10 @@ pub trait Pixel: Copy + Default + private::Calls<Self::Matte> {
     /// assert_eq!(half_white, Rgba16::new(32896, 32896, 32896, 32896));
     /// # Ok::<(), pix::Error>(())
     /// ```
+    ///
+    /// # Errors
+    ///
+    /// `Picture` where there are fewer bytes than a pixel of the format has.
     fn color_of(format: Format, pixel: &[u8]) -> Result<Self, Error> {
         let mut color = [Self::default()];
         let source = Bitmap::new(pixel, 1, 1, format);

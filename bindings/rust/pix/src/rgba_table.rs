@@ -123,11 +123,11 @@ impl<'a> RgbaTable<'a> {
     }
 }
 
-/// Does what [`quantize_refined`](crate::quantize_refined) does, with a table of colors with an alpha. Of pixels that are seen
-/// alike the first one counts. Where there is room for all of these, they are the table, just as they are. Else boxes are cut by
-/// the alpha too, after red, green and blue over black, and then joined. In a round an entry also stays where the mean of its
-/// colors would make their squared error greater. What is found is divided by its alpha in the end, and is still seen as just
-/// that. `work` is as long as `pixels`.
+/// Makes a table of colors with an alpha, and refines it in so many rounds, as [`quantize_refined`](crate::quantize_refined). Of
+/// pixels that are seen alike the first one counts. Where there is room for all of these, they are the table, just as they are.
+/// Else boxes are cut by the alpha too, after red, green and blue over black, and then joined. In a round an entry also stays
+/// where the mean of its colors would make their squared error greater. What is found is divided by its alpha in the end, and
+/// is still seen as just that. `work` is as long as `pixels`.
 ///
 /// ```
 /// use pix::{Srgba8, quantize_rgba};

@@ -21,23 +21,6 @@ pub struct ColorTable<'a> {
     entries: &'a [Srgb8],
 }
 
-/// How many bits an index takes in a packed row.
-#[repr(u32)]
-#[derive(Clone, Copy, Debug, PartialEq, Eq, Hash)]
-pub enum IndexDepth {
-    One = 1,
-    Two = 2,
-    Four = 4,
-    Eight = 8,
-}
-
-impl IndexDepth {
-    /// How many bytes a row of so many indices takes.
-    pub const fn row_size(self, count: usize) -> usize {
-        count.div_ceil(8 / self as usize)
-    }
-}
-
 /// What a status says.
 pub(crate) fn done(answer: u32) -> Result<(), Error> {
     if answer == status::OK {
@@ -67,6 +50,18 @@ impl<'a> ColorTable<'a> {
 
     /// The index of the entry that is nearest to a color, the first of equals: the one with the least sum of the squares
     /// of the differences in red, green and blue.
+    ///
+    /// ```
+    /// use pix::{ColorTable, Srgb8};
+    ///
+    /// let entries = [Srgb8::new(0, 0, 0), Srgb8::new(255, 0, 0), Srgb8::new(255, 255, 255)];
+    /// assert_eq!(ColorTable::new(&entries)?.nearest(Srgb8::new(180, 30, 20))?, 1);
+    /// # Ok::<(), pix::Error>(())
+    /// ```
+    ///
+    /// # Errors
+    ///
+    /// `Processor` or `Library`, as of any call.
     pub fn nearest(&self, color: Srgb8) -> Result<u8, Error> {
         check_library()?;
         let mut index = 0;
@@ -102,8 +97,24 @@ impl<'a> ColorTable<'a> {
         })
     }
 
-    /// Does what [`map_indexed`](ColorTable::map_indexed) does, on pixels with an alpha. One whose alpha is below `alpha` has the
-    /// index `transparent_index`, which may be that of a transparent entry; of the others the alpha is not looked at.
+    /// Sets each index to that of the entry that is nearest to the pixel of the same place, of pixels with an alpha. One whose
+    /// alpha is below `alpha` has the index `transparent_index`, which may be that of a transparent entry. The alpha of the
+    /// others is not looked at.
+    ///
+    /// ```
+    /// use pix::{ColorTable, Srgb8, Srgba8};
+    ///
+    /// let entries = [Srgb8::new(0, 0, 0), Srgb8::new(255, 255, 255)];
+    /// let pixels = [Srgba8::new(200, 200, 200, 255), Srgba8::new(200, 200, 200, 40)];
+    /// let mut indices = [0; 2];
+    /// ColorTable::new(&entries)?.map_indexed_alpha(&pixels, 128, 2, &mut indices)?;
+    /// assert_eq!(indices, [1, 2]);
+    /// # Ok::<(), pix::Error>(())
+    /// ```
+    ///
+    /// # Errors
+    ///
+    /// `Length` where there are not as many indices as pixels. They are unchanged.
     pub fn map_indexed_alpha(
         &self,
         pixels: &[Srgba8],
@@ -134,6 +145,17 @@ impl<'a> ColorTable<'a> {
     /// sixteenths that it gets, rounded to the nearest, a half up, and kept from 0 to 255. `work` has [`diffuse_indexed_work`]
     /// colors.
     ///
+    /// ```
+    /// use pix::{ColorTable, Srgb8, diffuse_indexed_work};
+    ///
+    /// let gray = |v| Srgb8::new(v, v, v);
+    /// let entries = [gray(0), gray(255)];
+    /// let (mut work, mut indices) = (vec![gray(0); diffuse_indexed_work(4).unwrap()], [9; 8]);
+    /// ColorTable::new(&entries)?.diffuse_indexed(&[gray(128); 8], 4, &mut work, &mut indices)?;
+    /// assert_eq!(indices, [1, 0, 1, 0, 0, 1, 0, 1]);
+    /// # Ok::<(), pix::Error>(())
+    /// ```
+    ///
     /// # Errors
     ///
     /// `Length` where a row has no pixel, where `work` has another length, or where there are not as many indices as pixels.
@@ -162,8 +184,12 @@ impl<'a> ColorTable<'a> {
         })
     }
 
-    /// Does what [`diffuse_indexed`](ColorTable::diffuse_indexed) does, on pixels with an alpha. One whose alpha is below `alpha`
-    /// has the index `transparent_index`, and hands on no error.
+    /// Sets the index of each pixel by error diffusion, as [`diffuse_indexed`](ColorTable::diffuse_indexed) does, of pixels
+    /// with an alpha. One whose alpha is below `alpha` has the index `transparent_index`, and hands on no error.
+    ///
+    /// # Errors
+    ///
+    /// As [`diffuse_indexed`](ColorTable::diffuse_indexed).
     pub fn diffuse_indexed_alpha(
         &self,
         pixels: &[Srgba8],
@@ -193,6 +219,16 @@ impl<'a> ColorTable<'a> {
     }
 
     /// Sets each pixel to the entry of the index of the same place.
+    ///
+    /// ```
+    /// use pix::{ColorTable, Srgb8};
+    ///
+    /// let entries = [Srgb8::new(0, 0, 0), Srgb8::new(255, 0, 0)];
+    /// let mut pixels = [Srgb8::default(); 3];
+    /// ColorTable::new(&entries)?.look_up(&[1, 0, 1], &mut pixels)?;
+    /// assert_eq!(pixels, [entries[1], entries[0], entries[1]]);
+    /// # Ok::<(), pix::Error>(())
+    /// ```
     ///
     /// # Errors
     ///
@@ -260,8 +296,8 @@ pub fn quantize<'a>(
     Ok(&entries[..made])
 }
 
-/// Does what [`quantize`] does, on pixels with an alpha. Those whose alpha is below `alpha` do not count. Where none counts there
-/// is no entry, and so no [`ColorTable`]: the index of each pixel is the transparent one.
+/// Makes a table of the colors of pixels with an alpha, as [`quantize`]. Those whose alpha is below `alpha` do not count. Where
+/// none counts there is no entry, and so no [`ColorTable`]: the index of each pixel is the transparent one.
 ///
 /// ```
 /// use pix::{ColorTable, Srgb8, Srgba8, quantize_alpha};
@@ -303,7 +339,7 @@ pub fn quantize_alpha<'a>(
     Ok(&entries[..made])
 }
 
-/// Does what [`quantize`] does. Where there are more distinct colors than entries, so many rounds then refine the table. In a
+/// Makes a table as [`quantize`] does. Where there are more distinct colors than entries, so many rounds then refine it. In a
 /// round each color goes to its nearest entry, the first of equals. Each entry goes to the mean of its colors, rounded, and stays
 /// where it has none. No round makes the sum of the squared errors greater.
 ///
@@ -345,8 +381,8 @@ pub fn quantize_refined<'a>(
     Ok(&entries[..made])
 }
 
-/// Does what [`quantize_refined`] does, on pixels with an alpha. Those whose alpha is below `alpha` do not count, as in
-/// [`quantize_alpha`].
+/// Makes a table of the colors of pixels with an alpha, and refines it, as [`quantize_refined`]. Those whose alpha is below
+/// `alpha` do not count, as in [`quantize_alpha`].
 ///
 /// # Errors
 ///
@@ -415,64 +451,6 @@ pub fn index_pixels(
             &threshold,
             pixels.as_ptr(),
             pixels.len(),
-            indices.as_mut_ptr(),
-            indices.len(),
-        )
-    })
-}
-
-/// Sets the count of each number to how often it stands among the indices.
-///
-/// # Errors
-///
-/// `Index` where an index has no count. The counts are unchanged.
-pub fn count_indices(indices: &[u8], counts: &mut [usize]) -> Result<(), Error> {
-    check_library()?;
-    // SAFETY: pointers and lengths are those of two slices, and the exclusive one shares no byte with the other.
-    done(unsafe {
-        pix_sys::pix_raw_count_indices(
-            indices.as_ptr(),
-            indices.len(),
-            counts.as_mut_ptr(),
-            counts.len(),
-        )
-    })
-}
-
-/// Packs a row of indices into the bytes of a row, in order. Those of a byte begin at its most significant bits, and bits
-/// that are left over in the last byte are 0.
-///
-/// # Errors
-///
-/// `Length` where there are not just as many bytes as the row takes, and `Index` where an index takes more bits. The bytes
-/// are unchanged.
-pub fn pack_row(depth: IndexDepth, indices: &[u8], bytes: &mut [u8]) -> Result<(), Error> {
-    check_library()?;
-    // SAFETY: pointers and lengths are those of two slices, and the exclusive one shares no byte with the other.
-    done(unsafe {
-        pix_sys::pix_raw_pack_row(
-            depth as u32,
-            indices.as_ptr(),
-            indices.len(),
-            bytes.as_mut_ptr(),
-            bytes.len(),
-        )
-    })
-}
-
-/// Unpacks a row of indices from its bytes; bits that are left over in the last byte are not looked at.
-///
-/// # Errors
-///
-/// `Length` where there are not just as many bytes as the row takes. The indices are unchanged.
-pub fn unpack_row(depth: IndexDepth, bytes: &[u8], indices: &mut [u8]) -> Result<(), Error> {
-    check_library()?;
-    // SAFETY: pointers and lengths are those of two slices, and the exclusive one shares no byte with the other.
-    done(unsafe {
-        pix_sys::pix_raw_unpack_row(
-            depth as u32,
-            bytes.as_ptr(),
-            bytes.len(),
             indices.as_mut_ptr(),
             indices.len(),
         )
