@@ -246,21 +246,26 @@ static inline const char *pix_status_text(pix_status status);
 
 /* ---- Values and views ---- */
 
+/* A pixel of these channels. The colors are multiplied by the alpha already: half a red is
+ * pix_rgba8_of(128, 0, 0, 128). For a color of sRGB there is pix_color_of. */
 static inline pix_rgba8 pix_rgba8_of(uint8_t r, uint8_t g, uint8_t b, uint8_t a) {
     pix_rgba8 pixel = {r, g, b, a};
     return pixel;
 }
 
+/* The same with channels up to 65535. */
 static inline pix_rgba16 pix_rgba16_of(uint16_t r, uint16_t g, uint16_t b, uint16_t a) {
     pix_rgba16 pixel = {r, g, b, a};
     return pixel;
 }
 
+/* A gray pixel, of which `value` is multiplied by the alpha already. */
 static inline pix_graya8 pix_graya8_of(uint8_t value, uint8_t a) {
     pix_graya8 pixel = {value, a};
     return pixel;
 }
 
+/* A region with its upper left corner at (x, y). */
 static inline pix_region pix_region_of(int32_t x, int32_t y, uint32_t width, uint32_t height) {
     pix_region region = {x, y, width, height};
     return region;
@@ -270,11 +275,13 @@ static inline pix_region pix_region_of(int32_t x, int32_t y, uint32_t width, uin
 static inline pix_image pix_image_of(pix_rgba8 *pixels, uint32_t width, uint32_t height);
 static inline pix_view pix_view_of(const pix_rgba8 *pixels, uint32_t width, uint32_t height);
 
+/* A mask whose rows have no padding. Set `stride` afterwards where they have some. */
 static inline pix_matte pix_matte_of(const uint8_t *values, uint32_t width, uint32_t height) {
     pix_matte matte = {values, width, height, width};
     return matte;
 }
 
+/* The same for images of 16 bits a channel. */
 static inline pix_matte16 pix_matte16_of(const uint16_t *values, uint32_t width, uint32_t height) {
     pix_matte16 matte = {values, width, height, width};
     return matte;
@@ -418,8 +425,8 @@ static inline pix_status pix_convert(pix_format from, pix_format to, const void 
  * another), PIX_NULL or PIX_OVERLAP. */
 static inline pix_status pix_convert_bitmap(pix_bitmap_view src, pix_bitmap dst);
 
-/* Does the same in the image's own memory. Its pixels are read in the image's format, and written
- * as those of `to` at the starts of the same rows. A pixel of `to` has no more bytes than one of
+/* Converts an image in its own memory. Its pixels are read in the image's format, and written as
+ * those of `to` at the starts of the same rows. A pixel of `to` has no more bytes than one of
  * the image's format.
  *
  * Returns PIX_OK, PIX_BAD_FORMAT (also where a pixel of `to` is larger), PIX_BAD_SIZE or PIX_NULL.
@@ -472,6 +479,7 @@ typedef struct { uint8_t r, g, b, a; } pix_srgba8;
 /* A table of `len` colors, from 1 to 256. */
 typedef struct { const pix_srgb8 *entries; size_t len; } pix_table;
 
+/* A table of these entries, which stay where they are. Its calls test `len`. */
 static inline pix_table pix_table_of(const pix_srgb8 *entries, size_t len);
 
 /* Writes the index of the entry that is nearest to a color, the first of equals. The nearest one
@@ -483,10 +491,10 @@ static inline pix_status pix_nearest(pix_table table, pix_srgb8 color, uint8_t *
  * PIX_BAD_LENGTH (more pixels than an eighth of PTRDIFF_MAX), PIX_NULL or PIX_OVERLAP. */
 static inline pix_status pix_map_indexed(pix_table table, const pix_srgb8 *pixels, size_t count, uint8_t *indices);
 
-/* Does the same for pixels with an alpha. One whose alpha is below `alpha` gets the index
- * `transparent_index`, which may be that of a transparent entry. The alpha of the others is not
- * looked at. Where all pixels are below `alpha`, a table of no entry serves too:
- * pix_quantize_alpha makes one of them. */
+/* Writes the index of the nearest entry of each of `count` pixels with an alpha. One whose alpha is
+ * below `alpha` gets the index `transparent_index`, which may be that of a transparent entry. The
+ * alpha of the others is not looked at. Where all pixels are below `alpha`, a table of no entry
+ * serves too: pix_quantize_alpha makes one of them. */
 static inline pix_status pix_map_indexed_alpha(pix_table table, const pix_srgba8 *pixels, size_t count, uint8_t alpha,
                                                uint8_t transparent_index, uint8_t *indices);
 
@@ -506,13 +514,13 @@ static inline size_t pix_diffuse_indexed_work(size_t width);
 static inline pix_status pix_quantize(const pix_srgb8 *pixels, size_t count, pix_srgb8 *work, pix_srgb8 *entries, size_t len,
                                       size_t *made);
 
-/* Does the same for pixels with an alpha. Those whose alpha is below `alpha` do not count. Where
- * none counts, `made` is 0. */
+/* Writes a table of the colors of pixels with an alpha, as pix_quantize does. Those whose alpha is
+ * below `alpha` do not count. Where none counts, `made` is 0. */
 static inline pix_status pix_quantize_alpha(const pix_srgba8 *pixels, size_t count, uint8_t alpha, pix_srgb8 *work,
                                             pix_srgb8 *entries, size_t len, size_t *made);
 
-/* Do what pix_quantize and pix_quantize_alpha do. Where there are more distinct colors than
- * `len`, so many rounds then refine the table. In a round each color goes to its nearest entry, the
+/* Write a table as pix_quantize and pix_quantize_alpha do. Where there are more distinct colors
+ * than `len`, so many rounds then refine it. In a round each color goes to its nearest entry, the
  * first of equals. Each entry goes to the mean of its colors, rounded, and stays where it has none.
  * No round makes the sum of the squared errors greater. A round takes about as long as
  * pix_map_indexed of the distinct colors, so less than that of the pixels where colors come again.
@@ -536,9 +544,9 @@ static inline pix_status pix_quantize_refined_alpha(const pix_srgba8 *pixels, si
 static inline pix_status pix_diffuse_indexed(pix_table table, const pix_srgb8 *pixels, size_t count, size_t width,
                                              pix_srgb8 *work, uint8_t *indices);
 
-/* Does the same for pixels with an alpha. One whose alpha is below `alpha` gets the index
- * `transparent_index`, and passes on no error. Where all are below, a table of no entry serves too.
- */
+/* Writes the index of each pixel with an alpha, with error diffusion. One whose alpha is below
+ * `alpha` gets the index `transparent_index`, and passes on no error. Where all are below, a table
+ * of no entry serves too. */
 static inline pix_status pix_diffuse_indexed_alpha(pix_table table, const pix_srgba8 *pixels, size_t count, size_t width,
                                                    uint8_t alpha, uint8_t transparent_index, pix_srgb8 *work, uint8_t *indices);
 
@@ -552,10 +560,11 @@ static inline pix_status pix_diffuse_indexed_alpha(pix_table table, const pix_sr
  *     rows that all go one way. */
 typedef struct { uint8_t strength; bool serpentine; } pix_diffusion;
 
-/* Do what pix_diffuse_indexed and pix_diffuse_indexed_alpha do, as `how` says. These two have a
- * strength of 16, and no row goes from right to left. What is wanted at a pixel is rounded once,
- * after its share is multiplied. Return PIX_BAD_STRENGTH too where the strength is above 16, and
- * PIX_BAD_LENGTH where `serpentine` rows are not whole: `count` is a multiple of `width` then. */
+/* Write the index of each pixel, with error diffusion as `how` says. pix_diffuse_indexed and
+ * pix_diffuse_indexed_alpha have a strength of 16, and no row goes from right to left there. What
+ * is wanted at a pixel is rounded once, after its share is multiplied. Return PIX_BAD_STRENGTH too
+ * where the strength is above 16, and PIX_BAD_LENGTH where `serpentine` rows are not whole: `count`
+ * is a multiple of `width` then. */
 static inline pix_status pix_diffuse_indexed_by(pix_table table, const pix_srgb8 *pixels, size_t count, size_t width,
                                                 pix_diffusion how, pix_srgb8 *work, uint8_t *indices);
 static inline pix_status pix_diffuse_indexed_by_alpha(pix_table table, const pix_srgba8 *pixels, size_t count, size_t width,
@@ -615,14 +624,15 @@ static inline pix_status pix_unpack_row(uint32_t bits, const uint8_t *bytes, siz
 /* A table of `len` colors with an alpha, from 1 to 256. */
 typedef struct { const pix_srgba8 *entries; size_t len; } pix_table_rgba;
 
+/* A table of these entries, which stay where they are. Its calls test `len`. */
 static inline pix_table_rgba pix_table_rgba_of(const pix_srgba8 *entries, size_t len);
 
-/* Does what pix_quantize_refined does, with a table of colors with an alpha. Of pixels that are
- * seen alike the first one counts. Where there is room for all of these, they are the table, just
- * as they are. Otherwise boxes are cut by the alpha too, after red, green and blue over black. In a
- * round an entry also stays where the mean of its colors would make their squared error greater.
- * What is found is divided by its alpha in the end, and is still seen as just that. `work` has
- * pix_quantize_work(count) pixels. */
+/* Writes a table of colors with an alpha, and refines it, as pix_quantize_refined does. Of pixels
+ * that are seen alike the first one counts. Where there is room for all of these, they are the
+ * table, just as they are. Otherwise boxes are cut by the alpha too, after red, green and blue over
+ * black. In a round an entry also stays where the mean of its colors would make their squared error
+ * greater. What is found is divided by its alpha in the end, and is still seen as just that. `work`
+ * has pix_quantize_work(count) pixels. */
 static inline pix_status pix_quantize_rgba(const pix_srgba8 *pixels, size_t count, uint8_t rounds, pix_srgba8 *work,
                                            pix_srgba8 *entries, size_t len, size_t *made);
 
@@ -630,10 +640,11 @@ static inline pix_status pix_quantize_rgba(const pix_srgba8 *pixels, size_t coun
  * equals. Returns what pix_map_indexed does. */
 static inline pix_status pix_map_indexed_rgba(pix_table_rgba table, const pix_srgba8 *pixels, size_t count, uint8_t *indices);
 
-/* Does what pix_diffuse_indexed_by does, with a table of colors with an alpha. Errors are those of
- * the colors over black and of the alpha. What is wanted of a color is at most what is wanted of
- * the alpha. A clear pixel (alpha 0) gets the entry that is seen nearest to it, takes no share, and
- * passes on no error. `work` has pix_diffuse_indexed_work(width) pixels. */
+/* Writes the index of each pixel, with error diffusion to a table of colors with an alpha, as
+ * pix_diffuse_indexed_by does. Errors are those of the colors over black and of the alpha. What is
+ * wanted of a color is at most what is wanted of the alpha. A clear pixel (alpha 0) gets the entry
+ * that is seen nearest to it, takes no share, and passes on no error. `work` has
+ * pix_diffuse_indexed_work(width) pixels. */
 static inline pix_status pix_diffuse_indexed_rgba(pix_table_rgba table, const pix_srgba8 *pixels, size_t count, size_t width,
                                                   pix_diffusion how, pix_srgba8 *work, uint8_t *indices);
 
@@ -642,6 +653,7 @@ static inline pix_status pix_look_up_rgba(pix_table_rgba table, const uint8_t *i
 
 /* ---- The other kinds of pixels ---- */
 
+/* Commands on the other kinds of images. Make them with functions too. */
 typedef struct {
     uint32_t kind, op;
     pix_region to, from;
@@ -690,8 +702,8 @@ typedef struct {
     X(SRC_IN, SrcIn) X(DEST_IN, DestIn) X(SRC_ATOP, SrcAtop) X(DEST_ATOP, DestAtop) X(XOR, Xor) X(CLEAR, Clear)        \
     X(PLUS, Plus)
 
-/* A kind of commands: its name behind PIX_KIND_, and that of the function that makes such a command,
- * behind pix_. */
+/* A kind of commands: its name behind PIX_KIND_, and that of the function that makes such a
+ * command, behind pix_. */
 #define PIX_EACH_KIND(X)                                                                                               \
     X(CLEAR, clear) X(COPY_COLOR, copy_color) X(COPY_IMAGE, copy_image) X(COMPOSITE_COLOR, composite_color)            \
     X(COMPOSITE_IMAGE, composite_image) X(COMPOSITE_MATTE, composite_matte)                                            \
@@ -933,8 +945,8 @@ static inline const char *pix_status_text(pix_status status) {
     if (matte.values || command.matte_count)                                                                           \
         command.mattes = matte.values
 
-/* The views and commands of one kind of pixels: the end of their names, the pixel, the matte and its
- * values. */
+/* The views and commands of one kind of pixels: the end of their names, the pixel, the matte and
+ * its values. */
 #define PIX_COMMANDS_(S, PIXEL, MATTE, VALUE)                                                                          \
     static inline pix_image##S pix_image_of##S(PIXEL *pixels, uint32_t width, uint32_t height) {                       \
         pix_image##S image = {pixels, width, height, width};                                                           \
@@ -1340,8 +1352,8 @@ static inline size_t pix_diffuse_indexed_work(size_t width) {
     return width > (size_t)PTRDIFF_MAX / 16 ? SIZE_MAX : 4 * width;
 }
 
-/* Tests what a table is made of and in. Each of the pixels is so many bytes, and so is each color of
- * the work memory and of the entries. */
+/* Tests what a table is made of and in. Each of the pixels is so many bytes, and so is each color
+ * of the work memory and of the entries. */
 static inline pix_status pix_quantizes_(const void *pixels, size_t size, size_t count, const void *work, const void *entries,
                                         size_t color_size, size_t len, const size_t *made) {
     size_t bytes, work_bytes, table_bytes;
