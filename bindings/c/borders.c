@@ -154,6 +154,8 @@ static void bitmaps(void) {
     CHECK(pix_convert_bitmap(source, low) == PIX_BAD_SIZE && pix_convert_in_place(low, low.format) == PIX_BAD_SIZE);
     CHECK(pix_convert_bitmap(pix_bitmap_view_of_bitmap(low), same) == PIX_BAD_SOURCE);
     CHECK(pix_convert_in_place(pix_part_of_bitmap(low, pix_region_of(1, 1, 2, 2)), low.format) == PIX_BAD_SIZE);
+    low.stride = -32; /* the lowest row would be at null */
+    CHECK(pix_convert_bitmap(source, low) == PIX_BAD_SIZE && pix_convert_in_place(low, low.format) == PIX_BAD_SIZE);
     low.width = 41, low.height = 7;
     CHECK(pix_convert_in_place(low, low.format) == PIX_BAD_SIZE);
     high.stride = -(PTRDIFF_MAX / 4);

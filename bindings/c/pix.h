@@ -1131,7 +1131,7 @@ static inline pix_bytes_ pix_bytes_of_(pix_bitmap_view image) {
     if (image.height > 1 && apart > ((uint64_t)PTRDIFF_MAX - wide) / (image.height - 1))
         return bytes;
     before = (image.height - 1) * apart;
-    if (bytes.stride < 0 && bytes.lowest && before > (uintptr_t)bytes.lowest)
+    if (bytes.stride < 0 && bytes.lowest && before >= (uintptr_t)bytes.lowest)
         return bytes;
     bytes.length = (size_t)(before + wide);
     if (bytes.stride < 0 && bytes.lowest)

@@ -144,8 +144,8 @@ fn refined_tables() {
     assert_eq!(made(0), [90, 165].map(gray));
     assert_eq!(made(1), [77, 153].map(gray));
     assert_eq!(made(255), [77, 153].map(gray));
-    let alphas = [130, 100, 160, 60, 170, 70, 77];
-    let alphas = alphas.map(|v| Srgba8::new(v, v, v, 50 + u8::from(v != 77)));
+    let alphas = [130, 100, 160, 60, 170, 70, 10];
+    let alphas = alphas.map(|v| Srgba8::new(v, v, v, 50 + u8::from(v != 10)));
     let made = quantize_refined_alpha(&alphas, 51, 1, &mut work, &mut entries[..2]).unwrap();
     assert_eq!(made, [77, 153].map(gray));
     let before = (work, entries);
