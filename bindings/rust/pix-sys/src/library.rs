@@ -37,6 +37,10 @@ static ANSWER: AtomicU8 = AtomicU8::new(UNKNOWN);
 
 /// Says so where this processor or the archive that is linked is not the right one. The functions of the archive test
 /// neither: a program asks this before it calls them.
+///
+/// # Errors
+///
+/// `Processor` where the processor is another one, and else `Archive` where the archive is.
 #[inline]
 pub fn check_library() -> Result<(), LibraryFault> {
     let mut answer = ANSWER.load(Ordering::Relaxed);

@@ -151,6 +151,18 @@ impl<'a, P: Pixel> Command<'a, P> {
     /// Composites the pixels of `from` in a source, multiplied by the values of `mask_from` in a mask, with those of `to`:
     /// soft edges. All three corners are paired, and a point is changed where all three regions and all of image, source
     /// and mask have it.
+    ///
+    /// ```
+    /// use pix::{Command, Image, ImageMut, Op, Region, Rgba8};
+    ///
+    /// let (photo, all) = ([Rgba8::new(200, 100, 0, 255); 3], Region::new(0, 0, 3, 1));
+    /// let (photo, edge) = (Image::new(&photo, 3, 1), Image::new(&[0, 102, 255], 3, 1));
+    /// let mut pixels = [Rgba8::default(); 3];
+    /// let soft = Command::composite_image_matte(all, photo, all, edge, all, Op::SrcOver);
+    /// ImageMut::new(&mut pixels, 3, 1).run(&[soft])?;
+    /// assert_eq!(pixels, [Rgba8::default(), Rgba8::new(80, 40, 0, 102), Rgba8::new(200, 100, 0, 255)]);
+    /// # Ok::<(), pix::Error>(())
+    /// ```
     pub fn composite_image_matte(
         to: Region,
         source: Image<'a, P>,

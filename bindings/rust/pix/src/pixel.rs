@@ -82,6 +82,16 @@ pub fn bytes<P: Pixel>(pixels: &[P]) -> &[u8] {
 }
 
 /// The bytes of pixels, to be written: [`convert`](crate::convert) decodes a picture into them.
+///
+/// ```
+/// use pix::{Format, Rgba8, bytes, bytes_mut, convert};
+///
+/// let mut pixels = [Rgba8::default(); 2];
+/// convert(Format::SGray8, &[188, 255], Format::Rgba8p, bytes_mut(&mut pixels))?;
+/// assert_eq!(pixels, [Rgba8::new(128, 128, 128, 255), Rgba8::new(255, 255, 255, 255)]);
+/// assert_eq!(bytes(&pixels)[3..5], [255, 255]);
+/// # Ok::<(), pix::Error>(())
+/// ```
 pub fn bytes_mut<P: Pixel>(pixels: &mut [P]) -> &mut [u8] {
     // SAFETY: as in `bytes`; any bytes are pixels, and the borrow is exclusive.
     unsafe { slice::from_raw_parts_mut(pixels.as_mut_ptr().cast(), size_of_val(pixels)) }
