@@ -10,7 +10,7 @@
  *     pix_command list[2];
  *     list[0] = pix_copy_color(pix_region_of(0, 0, 64, 64), pix_rgba8_of(0, 0, 64, 255));
  *     list[1] = pix_composite_color(pix_region_of(50, -8, 20, 20), pix_rgba8_of(90, 40, 0, 128), PIX_OP_SRC_OVER);
- *     if (pix_run(image, list, 2, NULL) != PIX_OK) ..
+ *     pix_status status = pix_run(image, list, 2, NULL);
  *
  * Pixels. Compositing works on premultiplied, linear pixels: the colors are multiplied by the
  * alpha, and they are proportional to light. Images in files are mostly sRGB and not premultiplied.
@@ -337,11 +337,22 @@ static inline pix_command pix_copy_image(pix_region to, pix_view source, pix_reg
 /* Composites a color with the pixels of `to`. */
 static inline pix_command pix_composite_color(pix_region to, pix_rgba8 color, pix_op op);
 
-/* Composites the pixels of `from` in a source with those of `to`: a sprite. */
+/* Composites the pixels of `from` in a source with those of `to`: a sprite.
+ *
+ *     pix_view sprite = pix_view_of(sprite_pixels, 16, 16);
+ *     pix_region at = pix_region_of(20, 40, 16, 16), all = pix_region_of(0, 0, 16, 16);
+ *     pix_status status = pix_do(image, pix_composite_image(at, sprite, all, PIX_OP_SRC_OVER));
+ */
 static inline pix_command pix_composite_image(pix_region to, pix_view source, pix_region from, pix_op op);
 
 /* Composites a color, multiplied by the values of `from` in a matte, with the pixels of `to`: a
- * glyph. */
+ * glyph.
+ *
+ *     pix_matte glyph = pix_matte_of(values, 8, 12);
+ *     pix_region at = pix_region_of(30, 7, 8, 12), all = pix_region_of(0, 0, 8, 12);
+ *     pix_rgba8 ink = pix_rgba8_of(0, 0, 0, 255);
+ *     pix_status status = pix_do(image, pix_composite_matte(at, glyph, all, ink, PIX_OP_SRC_OVER));
+ */
 static inline pix_command pix_composite_matte(pix_region to, pix_matte matte, pix_region from, pix_rgba8 color,
                                               pix_op op);
 
@@ -392,7 +403,7 @@ static inline pix_status pix_run(pix_image image, const pix_command *commands, s
 static inline pix_status pix_run_window(pix_image window, uint32_t left, uint32_t top, const pix_command *commands,
                                         size_t count, size_t *done);
 
-/* Runs one command. */
+/* Runs one command, as pix_run does. */
 static inline pix_status pix_do(pix_image image, pix_command command);
 
 /* Returns how many bytes a pixel of a format has, from 1 to 8, and 0 where there is no such format.
@@ -417,6 +428,17 @@ static inline pix_status pix_convert(pix_format from, pix_format to, const void 
  * divided and then encoded. So take a picture in SRGBA8 to RGBA16P, paint on it, and take it back:
  * it is the picture it was where nothing was painted and the alpha is 13 or more. Below that the
  * alpha is as it was, and the colors may be others. At alpha 0 they are 0.
+ *
+ *     pix_bitmap photo = pix_bitmap_of(bytes, 64, 64, PIX_FORMAT_SRGBA8);
+ *     pix_image_rgba16 light = pix_image_of_rgba16(pixels, 64, 64);
+ *     pix_bitmap decoded = pix_bitmap_of_image_rgba16(light);
+ *     pix_rgba16 gray = pix_rgba16_of(9000, 9000, 9000, 32768);
+ *     pix_region band = pix_region_of(0, 48, 64, 16);
+ *     pix_status status = pix_convert_bitmap(pix_bitmap_view_of_bitmap(photo), decoded);
+ *     if (status == PIX_OK)
+ *         status = pix_do_rgba16(light, pix_composite_color_rgba16(band, gray, PIX_OP_SRC_OVER));
+ *     if (status == PIX_OK)
+ *         status = pix_convert_bitmap(pix_bitmap_view_of_bitmap(decoded), photo);
  *
  * All other pairs are converted as pix_convert does. To premultiply and no more, pass the formats
  * without S, also for bytes that are sRGB.
@@ -524,7 +546,13 @@ static inline pix_status pix_quantize_alpha(const pix_srgba8 *pixels, size_t cou
  * first of equals. Each entry goes to the mean of its colors, rounded, and stays where it has none.
  * No round makes the sum of the squared errors greater. A round takes about as long as
  * pix_map_indexed of the distinct colors, so less than that of the pixels where colors come again.
- * Six are enough for most pictures. */
+ * Six are enough for most pictures.
+ *
+ *     size_t made = 0;
+ *     pix_status status = pix_quantize_refined(colors, count, 6, work, entries, 16, &made);
+ *     if (status == PIX_OK)
+ *         status = pix_map_indexed(pix_table_of(entries, made), colors, count, indices);
+ */
 static inline pix_status pix_quantize_refined(const pix_srgb8 *pixels, size_t count, uint8_t rounds, pix_srgb8 *work,
                                               pix_srgb8 *entries, size_t len, size_t *made);
 static inline pix_status pix_quantize_refined_alpha(const pix_srgba8 *pixels, size_t count, uint8_t alpha, uint8_t rounds,

@@ -1,0 +1,149 @@
+/* The examples of pix.h, each as it stands there, with what they make. The program reads the header and itself, which stand in one
+ * folder: a line of an example that doesn't stand here is told. */
+#include "pix.h"
+#include <ctype.h>
+#include <stdio.h>
+#include <string.h>
+
+enum { LONGEST = 300 };
+static int failures;
+
+static void check(int holds, const char *what) {
+    if (!holds) {
+        printf("examples: %s\n", what);
+        failures++;
+    }
+}
+
+static int is_pixel(pix_rgba8 pixel, int r, int g, int b, int a) {
+    return pixel.r == r && pixel.g == g && pixel.b == b && pixel.a == a;
+}
+
+static void first(void) {
+    pix_rgba8 pixels[64 * 64];
+    pix_image image = pix_image_of(pixels, 64, 64);
+    pix_command list[2];
+    list[0] = pix_copy_color(pix_region_of(0, 0, 64, 64), pix_rgba8_of(0, 0, 64, 255));
+    list[1] = pix_composite_color(pix_region_of(50, -8, 20, 20), pix_rgba8_of(90, 40, 0, 128), PIX_OP_SRC_OVER);
+    pix_status status = pix_run(image, list, 2, NULL);
+    check(status == PIX_OK && is_pixel(pixels[0], 0, 0, 64, 255) && is_pixel(pixels[63], 90, 40, 32, 255), "the first one");
+}
+
+static void a_sprite(void) {
+    static pix_rgba8 pixels[64 * 64], sprite_pixels[16 * 16];
+    pix_image image = pix_image_of(pixels, 64, 64);
+    memset(sprite_pixels, 255, sizeof sprite_pixels);
+    pix_view sprite = pix_view_of(sprite_pixels, 16, 16);
+    pix_region at = pix_region_of(20, 40, 16, 16), all = pix_region_of(0, 0, 16, 16);
+    pix_status status = pix_do(image, pix_composite_image(at, sprite, all, PIX_OP_SRC_OVER));
+    check(status == PIX_OK && is_pixel(pixels[40 * 64 + 20], 255, 255, 255, 255) && is_pixel(pixels[39], 0, 0, 0, 0), "a sprite");
+}
+
+static void a_glyph(void) {
+    static pix_rgba8 pixels[64 * 64];
+    static uint8_t values[8 * 12];
+    pix_image image = pix_image_of(pixels, 64, 64);
+    memset(values, 100, sizeof values);
+    pix_matte glyph = pix_matte_of(values, 8, 12);
+    pix_region at = pix_region_of(30, 7, 8, 12), all = pix_region_of(0, 0, 8, 12);
+    pix_rgba8 ink = pix_rgba8_of(0, 0, 0, 255);
+    pix_status status = pix_do(image, pix_composite_matte(at, glyph, all, ink, PIX_OP_SRC_OVER));
+    check(status == PIX_OK && is_pixel(pixels[18 * 64 + 37], 0, 0, 0, 100) && !pixels[19 * 64 + 37].a, "a glyph");
+}
+
+static void a_photo(void) {
+    static uint8_t bytes[64 * 64 * 4];
+    static pix_rgba16 pixels[64 * 64];
+    memset(bytes, 188, sizeof bytes);
+    pix_bitmap photo = pix_bitmap_of(bytes, 64, 64, PIX_FORMAT_SRGBA8);
+    pix_image_rgba16 light = pix_image_of_rgba16(pixels, 64, 64);
+    pix_bitmap decoded = pix_bitmap_of_image_rgba16(light);
+    pix_rgba16 gray = pix_rgba16_of(9000, 9000, 9000, 32768);
+    pix_region band = pix_region_of(0, 48, 64, 16);
+    pix_status status = pix_convert_bitmap(pix_bitmap_view_of_bitmap(photo), decoded);
+    if (status == PIX_OK)
+        status = pix_do_rgba16(light, pix_composite_color_rgba16(band, gray, PIX_OP_SRC_OVER));
+    if (status == PIX_OK)
+        status = pix_convert_bitmap(pix_bitmap_view_of_bitmap(decoded), photo);
+    check(status == PIX_OK && bytes[48 * 256 - 1] == 188 && bytes[0] == 188 && bytes[48 * 256] < 188, "a photo");
+}
+
+static void a_table(void) {
+    enum { COUNT = 1000 };
+    static pix_srgb8 colors[COUNT], work[COUNT], entries[16];
+    static uint8_t indices[COUNT];
+    const size_t count = COUNT;
+    for (size_t i = 0; i < count; i++)
+        colors[i].g = (uint8_t)(i / 4);
+    size_t made = 0;
+    pix_status status = pix_quantize_refined(colors, count, 6, work, entries, 16, &made);
+    if (status == PIX_OK)
+        status = pix_map_indexed(pix_table_of(entries, made), colors, count, indices);
+    check(status == PIX_OK && made == 16 && indices[0] == 0 && indices[COUNT - 1] == 15, "a table");
+}
+
+#define TEXT_OF(NAME, WORD) #WORD,
+static const char *const texts[PIX_OP_COUNT] = {PIX_EACH_OP(TEXT_OF)};
+
+/* The words of a line, without what stands before and behind them. */
+static char *trimmed(char *line) {
+    char *end = line + strlen(line);
+    while (end > line && isspace((unsigned char)end[-1]))
+        *--end = 0;
+    while (isspace((unsigned char)*line))
+        line++;
+    return line;
+}
+
+/* Whether a line of the header is one of an example: in a comment, far to the right, and code by its first or its last sign. */
+static int is_example(const char *line) {
+    const size_t length = strlen(line);
+    return !strncmp(line, " *     ", 7) && (line[7] == '#' || (length && strchr(";{}", line[length - 1])) || !strncmp(line + 7, "if (", 4));
+}
+
+/* Whether a line stands in this file. */
+static int stands_here(const char *wanted) {
+    char line[LONGEST];
+    FILE *file = fopen(__FILE__, "r");
+    int found = 0;
+    while (file && !found && fgets(line, sizeof line, file))
+        found = !strcmp(trimmed(line), wanted);
+    if (file)
+        fclose(file);
+    return found;
+}
+
+/* Compares the lines of all examples; answers how many there are. */
+static int compare_lines(void) {
+    char line[LONGEST], name[LONGEST * 4];
+    const char *end = strrchr(__FILE__, '/');
+    int lines = 0;
+    snprintf(name, sizeof name, "%.*spix.h", end ? (int)(end + 1 - __FILE__) : 0, __FILE__);
+    FILE *file = fopen(name, "r");
+    check(file != NULL, "no pix.h beside this file");
+    while (file && fgets(line, sizeof line, file)) {
+        char *last = line + strlen(line);
+        while (last > line && isspace((unsigned char)last[-1]))
+            *--last = 0;
+        if (!is_example(line))
+            continue;
+        lines++;
+        check(stands_here(trimmed(line + 2)), line);
+    }
+    if (file)
+        fclose(file);
+    return lines;
+}
+
+int main(void) {
+    first();
+    a_sprite();
+    a_glyph();
+    a_photo();
+    a_table();
+    check(!strcmp(texts[PIX_OP_SRC_OVER], "SrcOver"), "words of operators");
+    const int lines = compare_lines();
+    check(lines > 25, "too few lines of examples");
+    printf("examples: %d lines of pix.h, %d failures\n", lines, failures);
+    return failures != 0;
+}
