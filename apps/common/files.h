@@ -39,8 +39,16 @@ int file_is_named_so(const char *name);
 void file_turn(const void *from, uint32_t width, uint32_t height, size_t size, int orientation,
                void *to);
 
-/* Writes a PNG file. Answers 1, or 0 with a sentence. */
+/* Writes a PNG file. Answers 1, or 0 with a sentence, and then a file that was there is as it was. */
 int file_write_png(const char *name, const file_picture *picture, char sentence[FILE_SENTENCE]);
+
+/* Keeps the numbers of the standard files from others: where one is closed, what is written there
+ * fails. Call it first. */
+void file_begin(void);
+
+/* Prints what waits on standard output. Answers 1, or 0 with a sentence where something could not be
+ * printed. */
+int file_end_output(char sentence[FILE_SENTENCE]);
 
 #ifdef __cplusplus
 }

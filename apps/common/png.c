@@ -1,4 +1,5 @@
 #include "readers.h"
+#include "write.h"
 
 #include <errno.h>
 #include <png.h>
@@ -98,11 +99,11 @@ int file_write_png(const char *name, const file_picture *picture, char sentence[
     png.width = picture->width;
     png.height = picture->height;
     png.format = PNG_FORMAT_RGBA;
-    FILE *file = fopen(name, "wb");
-    if (!file)
+    file_new file;
+    if (!file_new_open(&file, name))
         return file_refuse(sentence, name, strerror(errno));
-    int is_written = png_image_write_to_stdio(&png, file, 0, picture->bytes, 0, NULL);
-    if (fclose(file) && is_written)
-        return file_refuse(sentence, name, strerror(errno));
-    return is_written ? 1 : file_refuse(sentence, name, png.message);
+    const int is_written = png_image_write_to_stdio(&png, file.file, 0, picture->bytes, 0, NULL);
+    if (file_new_close(&file, is_written))
+        return 1;
+    return file_refuse(sentence, name, is_written ? strerror(errno) : png.message);
 }

@@ -5,6 +5,7 @@ APPS in the environment names the folder with the programs. With --help a script
 
 import os
 import pathlib
+import resource
 import subprocess
 import sys
 import tempfile
@@ -91,6 +92,33 @@ class Trial(unittest.TestCase):
         with open("/dev/full", "w") as full:
             ran = subprocess.run([*map(str, self.program), "--help"], stdout=full, stderr=subprocess.PIPE)
         self.assertNotEqual(ran.returncode, 0)
+
+    def says_no_room(self, *words):
+        """What can't be printed is said in one line, with the status 1, where standard output is full and where it is closed."""
+        for room in (">/dev/full", ">&-"):
+            command = ["sh", "-c", f'exec "$@" {room}', "sh", *map(str, (*self.program, *words))]
+            ran = subprocess.run(command, capture_output=True, text=True, timeout=60, stdin=subprocess.DEVNULL, env={"SDL_VIDEODRIVER": "dummy", **os.environ})
+            self.assertEqual((ran.returncode, ran.stderr.count("\n")), (1, 1), f"{words} {room}: {ran.stderr}")
+            self.assertIn("standard output", ran.stderr)
+
+    def keeps_old(self, *words):
+        """A file that can't be written whole stays as it was, and one that can is another then, with its mode; words name it `OLD`."""
+        old, link = self.file("old.png", b"old"), self.folder / "link.png"
+        old.chmod(0o640)
+        if not link.is_symlink():
+            link.symlink_to("old.png")
+        words = [str(word).replace("OLD", str(link)) for word in (*self.program, *words)]
+        files = sorted(self.folder.iterdir())
+        for most, status in ((1000, 1), (resource.RLIM_INFINITY, 0)):
+            ran = subprocess.run(
+                words, capture_output=True, text=True, timeout=60, stdin=subprocess.DEVNULL, env={"SDL_VIDEODRIVER": "dummy", **os.environ},
+                restore_signals=False, preexec_fn=lambda: resource.setrlimit(resource.RLIMIT_FSIZE, (most, resource.RLIM_INFINITY)),
+            )  # fmt: skip
+            self.assertEqual((ran.returncode, ran.stderr.count("\n")), (status, status), ran.stderr)
+            self.assertEqual(old.read_bytes() == b"old", bool(status))
+            self.assertEqual(sorted(self.folder.iterdir()), files)
+            self.assertTrue(link.is_symlink())
+            self.assertEqual(old.stat().st_mode & 0o777, 0o640)
 
 
 def open_picture(path):

@@ -73,13 +73,21 @@ void set_option(Options &options, const std::string &word, const std::string &va
         throw UsageError("there is no option " + word);
 }
 
+// Prints what waits on standard output, or throws what is wrong.
+void end_output() {
+    char sentence[FILE_SENTENCE];
+    if (!file_end_output(sentence))
+        throw std::runtime_error(sentence);
+}
+
 Options read_options(int argc, char **argv) {
     Options options;
     for (int i = 1; i < argc; i++) {
         const std::string word = argv[i];
         if (word == "--help") {
-            std::cout << usage << "It was built to read " << file_kinds() << ".\n" << std::flush;
-            std::exit(std::cout ? EXIT_SUCCESS : EXIT_FAILURE);
+            std::printf("%sIt was built to read %s.\n", usage, file_kinds());
+            end_output();
+            std::exit(EXIT_SUCCESS);
         } else if (word == "--light")
             options.in_light = true;
         else if (word.rfind("--", 0) == 0 && i + 1 == argc)
@@ -231,8 +239,10 @@ void run(const Options &options) {
 
 int main(int argc, char **argv) {
     try {
+        file_begin();
         run(read_options(argc, argv));
-        return std::fflush(stdout) ? EXIT_FAILURE : EXIT_SUCCESS;
+        end_output();
+        return EXIT_SUCCESS;
     } catch (const UsageError &error) {
         std::cerr << "sprites: " << error.what() << "\nsprites: try sprites --help\n";
         return 2;

@@ -107,6 +107,8 @@ class Sprites(Trial):
 
     def test_help(self):
         self.has_help()
+        self.says_no_room("--help")
+        self.says_no_room("--frames", 1, "--count", 1, "--size", "8x8", ATLAS)
 
     def test_wrong_uses(self):
         for sentence, *words in [
@@ -124,6 +126,7 @@ class Sprites(Trial):
             self.refuses(1, str(file), "--frames", "1", file)
         for file in (self.folder, self.folder / "none/out.png", "/dev/full"):
             self.refuses(1, str(file), "--frames", "1", "--count", "1", "--size", "8x8", "--save", file, ATLAS)
+        self.keeps_old("--frames", 1, "--count", 99, "--size", "300x200", "--save", "OLD", ATLAS)
 
 
 if __name__ == "__main__":

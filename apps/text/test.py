@@ -248,6 +248,8 @@ class Text(Trial):
 
     def test_help(self):
         self.has_help()
+        self.says_no_room("--help")
+        self.says_no_room("--report", "--photo", LAKE, "--save", self.folder / "out.png", "a")
 
     def test_wrong_uses(self):
         out = self.folder / "out.png"
@@ -270,6 +272,8 @@ class Text(Trial):
             ("/dev/full", "--photo", LAKE, "--save", out, "--atlas", "/dev/full"),
         ]:  # fmt: skip
             self.refuses(1, str(file), *use, "a")
+        self.keeps_old("--photo", LAKE, "--save", "OLD", "a")
+        self.keeps_old("--photo", LAKE, "--save", "/dev/null", "--atlas", "OLD", "--size", 90, "abcdefgh")
 
 
 if __name__ == "__main__":

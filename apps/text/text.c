@@ -48,6 +48,13 @@ static void fail(int status, const char *about, const char *what) {
     exit(status);
 }
 
+/* Prints what waits on standard output, or ends the program with a sentence. */
+static void end_output(void) {
+    char sentence[FILE_SENTENCE];
+    if (!file_end_output(sentence))
+        fail(1, "", sentence);
+}
+
 static void insist(pix_status status) {
     if (status != PIX_OK)
         fail(1, "", pix_status_text(status));
@@ -91,7 +98,8 @@ static options read_options(int argc, char **argv) {
             printf("It was built to read %s; %s FriBidi, which puts directions in\n"
                    "order; and %s fontconfig, which finds other fonts.\n",
                    file_kinds(), direction_is_there() ? "with" : "without", fallback_is_there() ? "with" : "without");
-            exit(fflush(stdout) ? 1 : 0);
+            end_output();
+            exit(0);
         } else if (!strcmp(argv[i], "--no-kerning")) {
             it.has_kerning = 0;
         } else if (!strcmp(argv[i], "--report")) {
@@ -245,6 +253,7 @@ static void save_atlas(const char *name, pix_matte atlas) {
 }
 
 int main(int argc, char **argv) {
+    file_begin();
     options chosen = read_options(argc, argv);
     file_picture photo;
     font letters;
@@ -271,5 +280,6 @@ int main(int argc, char **argv) {
     free(lines);
     free(photo.bytes);
     font_close(&letters);
-    return fflush(stdout) ? 1 : 0;
+    end_output();
+    return 0;
 }

@@ -46,6 +46,12 @@ void fail(int status, const char *about, const char *what) {
     exit(status);
 }
 
+void end_output(void) {
+    char sentence[FILE_SENTENCE];
+    if (!file_end_output(sentence))
+        fail(1, "", sentence);
+}
+
 /* Whether a text is a width and a height with an `x` between them, from 1 to 16384. */
 static int read_size(const char *text, int *width, int *height) {
     char rest;
@@ -125,7 +131,8 @@ options options_of(int argc, char **argv) {
     for (int i = 1; i < argc; i++) {
         if (!strcmp(argv[i], "--help")) {
             printf(usage, file_kinds());
-            exit(fflush(stdout) ? 1 : 0);
+            end_output();
+            exit(0);
         } else if (set_value(&it, argv[i], i + 1 < argc ? argv[i + 1] : NULL)) {
             i++;
         } else if (argv[i][0] != '-' || !argv[i][1]) {

@@ -26,4 +26,7 @@ options options_of(int argc, char **argv);
 /* Ends the program with a sentence. */
 void fail(int status, const char *about, const char *what);
 
+/* Prints what waits on standard output, or ends the program with a sentence. */
+void end_output(void);
+
 #endif

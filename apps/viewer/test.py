@@ -344,6 +344,8 @@ class Viewer(Trial):
 
     def test_help(self):
         self.has_help()
+        self.says_no_room("--help")
+        self.says_no_room("--play", "", "--report", LEAF)
 
     def test_wrong_uses(self):
         for sentence, *words in [
@@ -373,6 +375,7 @@ class Viewer(Trial):
         for file in (self.folder, self.folder / "none/out.png", "/dev/full"):
             for picture in (LEAF, self.picture("dot.png", self.noisy(1, 1))):
                 self.refuses(1, str(file), "--play", "", "--size", "9x9", "--save", file, picture)
+        self.keeps_old("--play", "", "--save", "OLD", LEAF)
 
 
 if __name__ == "__main__":

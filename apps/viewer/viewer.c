@@ -274,6 +274,7 @@ static void open_window(viewer *it, const options *chosen) {
 }
 
 int main(int argc, char **argv) {
+    file_begin();
     options chosen = options_of(argc, argv);
     viewer it = {.reports = chosen.reports};
     insist(pix_check_library());
@@ -293,5 +294,6 @@ int main(int argc, char **argv) {
     free(chosen.actions);
     SDL_DestroyWindow(it.window);
     SDL_Quit();
-    return fflush(stdout) ? 1 : 0;
+    end_output();
+    return 0;
 }
