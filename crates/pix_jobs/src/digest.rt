@@ -11,6 +11,10 @@ use std::alloc::Global;
 #[derive(Drop)]
 pub(crate) struct Digest {
     pub(crate) value: u64,
+
+    /// The sum of squared errors of images in tables that were made of pictures, if it is asked
+    /// for. Then these images don't change the digest.
+    pub(crate) error: Option<u64>,
 }
 
 impl Digest {
@@ -18,7 +22,25 @@ impl Digest {
     pub(crate) fn new() -> Digest {
         Digest {
             value: 14695981039346656037,
+            error: None,
         }
+    }
+
+    /// Makes the digest of nothing, beside which squared errors are summed.
+    pub(crate) fn with_errors() -> Digest {
+        let mut digest = Digest::new();
+        digest.error = Some(0);
+        digest
+    }
+
+    /// Returns whether squared errors are summed.
+    pub(crate) fn sums_errors(&self) -> bool {
+        self.error.is_some()
+    }
+
+    /// Adds a squared error to the sum.
+    pub(crate) fn add_error(&mut self, error: u64) {
+        self.error = Some(self.error.unwrap_or(0).wrapping_add(error));
     }
 
     /// Adds a number.

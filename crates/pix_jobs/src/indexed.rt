@@ -4,6 +4,8 @@ use crate::digest::Digest;
 use crate::pictures::{self, Shade};
 use crate::random::Random;
 use crate::size::Size;
+use crate::{calls, errors};
+use pix::gray::Gray8;
 use pix::{ColorModel, ColorTable, Raster};
 use std::alloc::Global;
 
@@ -33,11 +35,28 @@ fn encode<M: ColorModel>(
     picture: &Raster<Shade<M>>,
     digest: &mut Digest,
 ) -> Option<()> {
-    let table = ColorTable::quantize(alloc, picture, 256, 0).ok()??;
+    let table = calls::quantize(alloc, picture).ok()??;
     let nearest = table.map_indexed(alloc, picture).ok()??;
-    digest.add_raster(alloc, &nearest)?;
+    add(alloc, picture, &table, &nearest, digest)?;
     let diffused = table.diffuse_indexed(alloc, picture, 0, 0).ok()??;
-    digest.add_raster(alloc, &diffused)?;
+    add(alloc, picture, &table, &diffused, digest)?;
+    if digest.sums_errors() {
+        return Some(());
+    }
     let shown = table.look_up(alloc, &diffused).ok()??;
     digest.add_raster(alloc, &shown)
+}
+
+/// Adds an image of indices in a table, or its squared error.
+fn add<M: ColorModel>(
+    alloc: Global,
+    picture: &Raster<Shade<M>>,
+    table: &ColorTable,
+    image: &Raster<Gray8>,
+    digest: &mut Digest,
+) -> Option<()> {
+    if digest.sums_errors() {
+        return errors::add(alloc, picture, table, image, digest);
+    }
+    digest.add_raster(alloc, image)
 }

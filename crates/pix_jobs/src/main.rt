@@ -4,10 +4,16 @@
 //! Three arguments say what is done: the name of a job, `whole` or `small`, and the seed of its
 //! inputs. A line is printed with the name and a digest of all results. `all` does each job. Each
 //! part of the tables is a job with a name too.
+//!
+//! With `error` as a fourth argument each job is done again. Another line has the sum of the
+//! squared errors of all images in tables that were made of pictures, and a digest of the other
+//! results.
 #![tactic(auto)]
 
+mod calls;
 mod convert;
 mod digest;
+mod errors;
 mod indexed;
 mod light;
 mod pictures;
@@ -35,7 +41,7 @@ fn main(rt: HostRuntime) -> ExitCode {
     match run(&rt) {
         Ok(true) => ExitCode::SUCCESS,
         Ok(false) => {
-            let _ = println!(rt; "usage: pix_jobs JOB whole|small SEED");
+            let _ = println!(rt; "usage: pix_jobs JOB whole|small SEED [error]");
             ExitCode::FAILURE
         }
         Err(error) => {
@@ -59,32 +65,69 @@ fn run(rt: &HostRuntime) -> io::Result<bool> {
     let Ok(seed) = seed.as_str().parse::<u64>() else {
         return Ok(false);
     };
+    let with_errors = match words.next() {
+        None => false,
+        Some(word) if word.as_str() == "error" => true,
+        Some(_) => return Ok(false),
+    };
+    print_jobs(rt, job.as_str(), size, seed, with_errors)
+}
+
+/// Does the jobs of a name. Returns whether there is one.
+fn print_jobs(
+    rt: &HostRuntime,
+    job: &str,
+    size: Size,
+    seed: u64,
+    with_errors: bool,
+) -> io::Result<bool> {
     let mut known = false;
     for name in JOBS {
-        if job.as_str() == name || job.as_str() == "all" {
+        if job == name || job == "all" {
             known = true;
-            print_job(rt, name, size, seed)?;
+            print_job(rt, name, size, seed, with_errors)?;
         }
     }
     for name in tables::PARTS {
-        if job.as_str() == name {
+        if job == name {
             known = true;
-            print_job(rt, name, size, seed)?;
+            print_job(rt, name, size, seed, with_errors)?;
         }
     }
     Ok(known)
 }
 
-/// Does a job, and prints its digest.
-fn print_job(rt: &HostRuntime, name: &str, size: Size, seed: u64) -> io::Result<()> {
-    let mut digest = Digest::new();
+/// Does a job, and prints its digest. With errors it does the job once more, and prints their sum.
+fn print_job(
+    rt: &HostRuntime,
+    name: &str,
+    size: Size,
+    seed: u64,
+    with_errors: bool,
+) -> io::Result<()> {
+    print_results(rt, name, size, seed, Digest::new())?;
+    if with_errors {
+        print_results(rt, name, size, seed, Digest::with_errors())?;
+    }
+    Ok(())
+}
+
+/// Does a job, and prints what was kept of its results.
+fn print_results(
+    rt: &HostRuntime,
+    name: &str,
+    size: Size,
+    seed: u64,
+    mut digest: Digest,
+) -> io::Result<()> {
     let mut random = Random::new(seed);
-    match done(rt.alloc(), name, size, &mut random, &mut digest) {
-        Some(()) => {
-            let value = digest.value;
-            println!(rt; "{name} {value:016x}")
-        }
-        None => println!(rt; "{name}: out of memory"),
+    if done(rt.alloc(), name, size, &mut random, &mut digest).is_none() {
+        return println!(rt; "{name}: out of memory");
+    }
+    let value = digest.value;
+    match digest.error {
+        None => println!(rt; "{name} {value:016x}"),
+        Some(error) => println!(rt; "{name} squared error {error}, others {value:016x}"),
     }
 }
 

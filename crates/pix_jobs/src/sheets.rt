@@ -1,5 +1,6 @@
 //! Palettes of many colors, and palettes whose colors stand for those near them.
 
+use crate::calls;
 use crate::digest::Digest;
 use crate::pictures::{self, Shade, color_of};
 use crate::random::Random;
@@ -88,7 +89,7 @@ fn few<M: ColorModel>(
 ) -> Option<()> {
     let mut table = ColorTable::new(alloc, 256, threshold).ok()?;
     digest.add(table.len() as u64);
-    match table.index_pixels(alloc, picture).ok()? {
+    match calls::index_pixels(alloc, &mut table, picture).ok()? {
         Some(image) => {
             digest.add_raster(alloc, &image)?;
             let shown = table.look_up(alloc, &image).ok()??;

@@ -4,6 +4,8 @@ use crate::digest::Digest;
 use crate::pictures::{self, Shade, color_of};
 use crate::random::Random;
 use crate::size::Size;
+use crate::{calls, errors};
+use pix::gray::Gray8;
 use pix::rgb::Rgb;
 use pix::{ColorModel, ColorTable, Raster};
 use std::alloc::Global;
@@ -62,33 +64,58 @@ fn small<M: ColorModel>(
     digest: &mut Digest,
 ) -> Option<()> {
     let photo = pictures::photo::<M>(alloc, 240, 200, random)?;
-    let of_photo = ColorTable::quantize(alloc, &photo, 256, 0).ok()??;
+    let of_photo = calls::quantize(alloc, &photo).ok()??;
     let noise = pictures::noise::<M>(alloc, 16, 16, random)?;
-    let by_chance = ColorTable::quantize(alloc, &noise, 256, 0).ok()??;
+    let by_chance = calls::quantize(alloc, &noise).ok()??;
     for _ in 0..count_of(side, size).div_ceil(2) {
         let noise = pictures::noise::<M>(alloc, side, side, random)?;
-        match_picture(alloc, &by_chance, &noise, how, digest)?;
+        match_made(alloc, &by_chance, &noise, how, digest)?;
         let photo = pictures::photo::<M>(alloc, side, side, random)?;
-        match_picture(alloc, &of_photo, &photo, how, digest)?;
+        match_made(alloc, &of_photo, &photo, how, digest)?;
     }
     Some(())
 }
 
-/// Matches a picture in one way.
-fn match_picture<M: ColorModel>(
+/// Matches a picture in one way to a table that was made of a picture.
+fn match_made<M: ColorModel>(
     alloc: Global,
     table: &ColorTable,
     picture: &Raster<Shade<M>>,
     how: Way,
     digest: &mut Digest,
 ) -> Option<()> {
-    let image = match how {
-        Way::Nearest => table.map_indexed(alloc, picture).ok()??,
-        Way::ByAlpha => table.map_indexed_alpha(alloc, picture, 128, 0).ok()??,
-        Way::Diffused => table.diffuse_indexed(alloc, picture, 128, 0).ok()??,
-    };
+    let image = matched(alloc, table, picture, how)?;
+    if digest.sums_errors() {
+        return errors::add(alloc, picture, table, &image, digest);
+    }
     digest.add_indices(&image);
     Some(())
+}
+
+/// Matches a picture to a table that was set.
+fn match_picture<M: ColorModel>(
+    alloc: Global,
+    table: &ColorTable,
+    picture: &Raster<Shade<M>>,
+    digest: &mut Digest,
+) -> Option<()> {
+    let image = matched(alloc, table, picture, Way::Nearest)?;
+    digest.add_indices(&image);
+    Some(())
+}
+
+/// Returns the indices of a picture, matched in one way.
+fn matched<M: ColorModel>(
+    alloc: Global,
+    table: &ColorTable,
+    picture: &Raster<Shade<M>>,
+    how: Way,
+) -> Option<Raster<Gray8>> {
+    match how {
+        Way::Nearest => table.map_indexed(alloc, picture).ok()?,
+        Way::ByAlpha => table.map_indexed_alpha(alloc, picture, 128, 0).ok()?,
+        Way::Diffused => table.diffuse_indexed(alloc, picture, 128, 0).ok()?,
+    }
 }
 
 /// Makes the table of 256 grays.
@@ -111,7 +138,7 @@ fn grays<M: ColorModel>(
     let table = gray_table(alloc)?;
     for _ in 0..count_of(side, size) {
         let noise = pictures::noise::<M>(alloc, side, side, random)?;
-        match_picture(alloc, &table, &noise, Way::Nearest, digest)?;
+        match_picture(alloc, &table, &noise, digest)?;
     }
     Some(())
 }
@@ -126,7 +153,7 @@ fn gray_photo<M: ColorModel>(
     let table = gray_table(alloc)?;
     for _ in 0..size.times(4) {
         let photo = pictures::photo::<M>(alloc, 200, 200, random)?;
-        match_picture(alloc, &table, &photo, Way::Nearest, digest)?;
+        match_picture(alloc, &table, &photo, digest)?;
     }
     Some(())
 }
@@ -140,7 +167,7 @@ fn gray_noise<M: ColorModel>(
 ) -> Option<()> {
     let table = gray_table(alloc)?;
     let noise = pictures::noise::<M>(alloc, size.of(256), size.of(256), random)?;
-    match_picture(alloc, &table, &noise, Way::Nearest, digest)
+    match_picture(alloc, &table, &noise, digest)
 }
 
 /// Matches a dark picture to a table of sixteen colors and 240 that are nearly black.
@@ -163,5 +190,5 @@ fn dark<M: ColorModel>(
         let shade = |at: u32| ((bits >> at) & 31) as u8;
         *pixel = Shade::<M>::new(shade(8), shade(16), shade(24));
     }
-    match_picture(alloc, &table, &picture, Way::Nearest, digest)
+    match_picture(alloc, &table, &picture, digest)
 }

@@ -1,5 +1,6 @@
 //! Photographs in tables with a threshold that have room for all their colors.
 
+use crate::calls;
 use crate::digest::Digest;
 use crate::pictures::{self, color_of};
 use crate::random::Random;
@@ -22,7 +23,7 @@ pub(crate) fn run<M: ColorModel>(
             let apart = least.saturating_add(10 * more);
             let near = color_of(apart, apart, apart);
             let mut table = ColorTable::new(alloc, 256, near).ok()?;
-            if let Some(image) = table.index_pixels(alloc, &photo).ok()? {
+            if let Some(image) = calls::index_pixels(alloc, &mut table, &photo).ok()? {
                 digest.add(table.len() as u64);
                 digest.add_indices(&image);
                 break;

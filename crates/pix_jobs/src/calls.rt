@@ -1,0 +1,30 @@
+//! The calls of the library that have other names or shapes at some of the commits that the
+//! benchmark is laid over. All other files of this program are the same over each of them.
+//!
+//! `bench/start` puts a file of `bench/calls` in the place of this one where that one fits: see
+//! there.
+//!
+//! Fits where pix_palette has: pub fn quantize<S>(
+//! Fits where pix_palette has: pub fn index_pixels<S>(
+
+use crate::pictures::Shade;
+use pix::gray::Gray8;
+use pix::{ColorModel, ColorTable, Raster, RasterFault};
+use std::alloc::Global;
+
+/// Makes a table of at most 256 colors of a picture.
+pub(crate) fn quantize<M: ColorModel>(
+    alloc: Global,
+    picture: &Raster<Shade<M>>,
+) -> Result<Option<ColorTable>, RasterFault> {
+    ColorTable::quantize(alloc, picture, 256, 0)
+}
+
+/// Indexes a picture by a table, to which the colors that it lacks are added.
+pub(crate) fn index_pixels<M: ColorModel>(
+    alloc: Global,
+    table: &mut ColorTable,
+    picture: &Raster<Shade<M>>,
+) -> Result<Option<Raster<Gray8>>, RasterFault> {
+    table.index_pixels(alloc, picture)
+}
