@@ -29,9 +29,9 @@ fn squared<M: ColorModel>(picture: &Raster<Shade<M>>, shown: &Raster<SRgb8>) -> 
     let mut sum = 0_u64;
     for (wanted, found) in picture.pixels().iter().zip(shown.pixels()) {
         let (wanted, found) = (wanted.channels(), found.channels());
-        for k in 0..3 {
-            sum = sum.wrapping_add(square(wanted[k], found[k]));
-        }
+        sum = sum.wrapping_add(square(wanted[0], found[0]));
+        sum = sum.wrapping_add(square(wanted[1], found[1]));
+        sum = sum.wrapping_add(square(wanted[2], found[2]));
     }
     sum
 }

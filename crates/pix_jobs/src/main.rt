@@ -67,8 +67,12 @@ fn run(rt: &HostRuntime) -> io::Result<bool> {
     };
     let with_errors = match words.next() {
         None => false,
-        Some(word) if word.as_str() == "error" => true,
-        Some(_) => return Ok(false),
+        Some(word) => {
+            if word.as_str() != "error" {
+                return Ok(false);
+            }
+            true
+        }
     };
     print_jobs(rt, job.as_str(), size, seed, with_errors)
 }
