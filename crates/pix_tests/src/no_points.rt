@@ -9,8 +9,8 @@ use std::alloc::Global;
 use std::process::Abort;
 use std::test::Fail;
 
-/// Sizes without a point.
-const SIZES: [(u32, u32); 3] = [(0, 7), (7, 0), (0, 0)];
+/// Sizes without a point. Memory for a row of the widest has no room.
+const SIZES: [(u32, u32); 5] = [(0, 7), (7, 0), (0, 0), (2147483647, 0), (0, 2147483647)];
 
 /// Whether an answer is an image that has the size of a picture, and no pixel.
 fn is_image<S: Pixel, P: Pixel>(
