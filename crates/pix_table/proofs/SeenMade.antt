@@ -65,13 +65,6 @@ seen_moved rounds room xs ys first new table moved made are less e =
     )
 
 -- what a list of seen colors is divided by its alphas is seen as that list
-seen_again : (colors : List (List ℕ)) → All AreSeen colors → map seen (map straight colors) ≡ colors
+pub seen_again : (colors : List (List ℕ)) → All AreSeen colors → map seen (map straight colors) ≡ colors
 seen_again [] h = refl
 seen_again (c ∷ colors) h = ap₂ (λ x xs. x ∷ xs) (seen_straight c (All-head AreSeen c colors h)) (seen_again colors (All-tail AreSeen c colors h))
-
--- so the entries that are written are seen as the table
-pub seen_as : (rounds room : ℕ) (pixels colors table : List (List ℕ)) → All AreSeen colors → table ≡ map straight colors
-    → IsSeenTable rounds room pixels colors → IsSeenTable rounds room pixels (map seen table) × (table ≡ map straight (map seen table))
-seen_as rounds room pixels colors table all e made =
-    let same : map seen table ≡ colors = ap (map seen) e ∙ seen_again colors all in
-    (subst (IsSeenTable rounds room pixels) (sym same) made, e ∙ ap (map straight) (sym same))

@@ -11,7 +11,7 @@ use Rattle.pix_table.proofs.RefinedTables.{rounds_moved, error_moved, round_fall
 -- no rounds leave the table of the cut
 pub unrefined : (room : ℕ) (colors table : List (List ℕ)) → IsQuantizedRefined 0 room colors table → IsQuantized room colors table
 unrefined room colors table (inl fit) = inl fit
-unrefined room colors table (inr h) = inr (h.0, subst (IsCutTable room colors) (sym h.3) h.2)
+unrefined room colors table (inr h) = inr (h.0, subst (IsCutTable room colors) (sym h.1.2) h.1.1)
 
 -- what holds of the number of an answer, since something else does
 pub of_some : (P : Type 0) (Q R : ℕ → Type 0) → ((n : ℕ) → Q n → R n) → (answer : Option ℕ) → MatchOption answer P Q → MatchOption answer P R

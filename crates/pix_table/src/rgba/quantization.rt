@@ -251,6 +251,8 @@ fn write_straight(table: &[Seen], entries: &mut [RgbaColor])
     ensures many { length entries.new ≡ length entries.old }
     ensures written { map rgba_numbers (take (length table.now) entries.new)
         ≡ map straight (map seen_numbers table.now) }
+    ensures shown { map seen (map rgba_numbers (take (length table.now) entries.new))
+        ≡ map seen_numbers table.now }
 {
     for i in 0..table.len() {
         entries[i] = straight(table[i]);

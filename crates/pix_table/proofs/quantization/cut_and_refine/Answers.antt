@@ -1,9 +1,10 @@
 -- Of `cut_and_refine`: that there is a pair, and that all counts make no more than the pixels.
-use Rattle.std.proofs.Common.{◌≡◌, ◌++◌, ◌<◌, map, take, drop, sum_by, arith, sym, ◌∙◌, subst, take_all, length-take}
+use Rattle.std.proofs.Common.{◌≡◌, ◌++◌, ◌<◌, length, map, take, drop, sum_by, arith, sym, ◌∙◌, subst, take_all, length-take}
 use Rattle.std.specs.Simd.{first_chunks}
 use Rattle.std.proofs.lemmas.List.{length-map, take-append-le}
 use Rattle.pix_table.specs.Items.{pair_items, times_of}
 use Rattle.pix_table.specs.Nearest.{numbers}
+use Rattle.pix_table.specs.Refine.{IsRefinedCut}
 use Rattle.pix_table.proofs.PairItems.{some_pairs, times_in_all}
 use Rattle.pix_table.proofs.quantization.cut_and_refine.Goals as goal
 
@@ -28,3 +29,8 @@ refined_of_pairs-requires-clause-count g c =
       long,
       c.ranges.count.fits,
     ))
+
+pub returns-in-None-clause-table : goal.returns-in-None-clause-table
+returns-in-None-clause-table g c =
+    subst (λ l. IsRefinedCut c.args.rounds (length c.args.entries.now) l (map numbers (take c.refined_of_colors.result c.refined_of_colors.new.entries)))
+    c.gather-again.ensures.shown c.refined_of_colors.ensures.table

@@ -1,10 +1,11 @@
 -- Of `cut_and_refine`: that there is a pair, that the colors of the pairs are seen ones, and that all counts make no more than the pixels.
-use Rattle.std.proofs.Common.{map, arith}
+use Rattle.std.proofs.Common.{length, map, take, arith, subst}
 use Rattle.std.specs.Simd.{first_chunks}
 use Rattle.std.proofs.lemmas.List.{length-map}
 use Rattle.std.proofs.lemmas.List.Sorted.{All-permutation}
 use Rattle.pix_table.specs.Items.{pair_items, spread}
 use Rattle.pix_table.specs.Seen.{AreSeen, seen_numbers}
+use Rattle.pix_table.specs.SeenTables.{IsSeenTable}
 use Rattle.pix_table.proofs.PairItems.{some_pairs, times_in_all}
 use Rattle.pix_table.proofs.rgba.quantization.cut_and_refine.Goals as goal
 
@@ -26,3 +27,8 @@ refined_of_pairs-requires-clause-count g c =
           c.in-Some.ensures.2,
       length-map c.gather.new.colors seen_numbers,
     )
+
+pub returns-in-None-clause-table : goal.returns-in-None-clause-table
+returns-in-None-clause-table g c =
+    subst (λ l. IsSeenTable c.args.rounds (length c.args.entries.now) l (map seen_numbers (take c.refined_of_colors.result c.refined_of_colors.new.entries)))
+    c.gather-in-None.ensures.gathered c.refined_of_colors.ensures.table
