@@ -9,3 +9,4 @@ pub mod Finders
 pub mod PaletteBlocksMore
 pub mod Entries
 pub mod Cells
+pub mod NoPoints

@@ -203,6 +203,7 @@ impl ColorTable {
         ensures limit { limit_of self.new ≡ limit_of self.old }
         ensures threshold { self.new.threshold ≡ self.old.threshold }
     {
+        let pixels = raster.pixels();
         match Raster::with_clear(alloc, raster.width(), raster.height()) {
             Err(_) => Err(RasterFault::Memory),
             Ok(mut image) => {
@@ -210,7 +211,7 @@ impl ColorTable {
                     &mut self.slots,
                     self.len,
                     self.threshold,
-                    raster.pixels(),
+                    pixels,
                     image.pixels_mut(),
                 );
                 if !all {

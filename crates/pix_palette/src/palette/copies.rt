@@ -10,11 +10,7 @@ use std::alloc::Global;
 /// # Errors
 ///
 /// `Memory` on allocation failure. There is no error for a count of 0.
-pub(super) fn copies<T: Copy>(
-    alloc: Global,
-    value: T,
-    count: usize,
-) -> Result<Vec<T>, RasterFault>
+pub(super) fn copies<T: Copy>(alloc: Global, value: T, count: usize) -> Result<Vec<T>, RasterFault>
     ensures items { IfOk result (λ list. list.items ≡ replicate count value) }
     ensures memory { IfErr result (λ fault. fault ≡ RasterFault.Memory) }
     ensures no_room { count ≡ 0 → IsOk result }

@@ -56,10 +56,11 @@ impl ColorTable {
         if colors.is_empty() || colors.len() > ENTRIES {
             return Ok(None);
         }
+        let pixels = raster.pixels();
         match Raster::with_clear(alloc, raster.width(), raster.height()) {
             Err(_) => Err(RasterFault::Memory),
             Ok(mut image) => {
-                map_pixels(colors, raster.pixels(), image.pixels_mut());
+                map_pixels(colors, pixels, image.pixels_mut());
                 Ok(Some(image))
             }
         }
@@ -93,10 +94,11 @@ impl ColorTable {
         ensures memory { IfErr result (λ fault. fault ≡ RasterFault.Memory) }
         ensures no_room { length indices.now.pixels ≡ 0 → IsOk result }
     {
+        let pixels = indices.pixels();
         match Raster::with_clear(alloc, indices.width(), indices.height()) {
             Err(_) => Err(RasterFault::Memory),
             Ok(mut image) => {
-                if look_up_pixels(self.colors(), indices.pixels(), image.pixels_mut()) {
+                if look_up_pixels(self.colors(), pixels, image.pixels_mut()) {
                     Ok(Some(image))
                 } else {
                     Ok(None)

@@ -286,10 +286,11 @@ impl RgbaTable {
         ensures memory { IfErr result (λ fault. fault ≡ RasterFault.Memory) }
         ensures no_room { length indices.now.pixels ≡ 0 → IsOk result }
     {
+        let pixels = indices.pixels();
         match Raster::with_clear(alloc, indices.width(), indices.height()) {
             Err(_) => Err(RasterFault::Memory),
             Ok(mut image) => {
-                if look_up_pixels(self.colors(), indices.pixels(), image.pixels_mut()) {
+                if look_up_pixels(self.colors(), pixels, image.pixels_mut()) {
                     Ok(Some(image))
                 } else {
                     Ok(None)

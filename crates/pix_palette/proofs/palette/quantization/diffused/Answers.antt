@@ -1,6 +1,6 @@
--- Of `diffused`: that there is no index where a row has no pixel.
-use Rattle.std.proofs.Common.{◌≡◌, List, ℕ, [], ◌∷◌, length, map, refl, arith}
-use Rattle.std.proofs.lemmas.List.{length-map}
+-- Of `diffused`: that there is no index without pixels.
+use Rattle.std.proofs.Common.{◌≡◌, ◌∙◌, List, ℕ, [], ◌∷◌, length, map, refl, arith, ap, rules}
+use Rattle.std.proofs.lemmas.List.{length-map, length-replicate}
 use Rattle.pix_table.specs.Diffusion.{AreDiffusedBy, none}
 use Rattle.pix_table.specs.SrgbColor.{srgba_numbers}
 use Rattle.pix_table.specs.declared.diffuse.ScanOrder.{ScanOrder}
@@ -13,7 +13,9 @@ none_diffused scan strength entries alpha transparent_index width [] [] e f = re
 none_diffused scan strength entries alpha transparent_index width (p ∷ pixels) indices e f = absurd (omega arith)
 none_diffused scan strength entries alpha transparent_index width [] (i ∷ indices) e f = absurd (omega arith)
 
-pub returns-then-how-eq0-clause-diffused : goal.returns-then-how-eq0-clause-diffused
-returns-then-how-eq0-clause-diffused c =
+pub returns-then-is_empty-2-clause-diffused : goal.returns-then-is_empty-2-clause-diffused
+returns-then-is_empty-2-clause-diffused c =
+    let none : length c.args.pixels.now ≡ 0 = search rules in
     none_diffused c.args.how.scan c.args.how.strength (map numbers c.args.colors.now) c.args.how.alpha c.args.how.transparent_index c.args.how.width (map srgba_numbers c.args.pixels.now) c.in_ok-indices.indices.items
-    (omega (arith, c.requires.row, length-map c.args.pixels.now srgba_numbers)) (omega (arith, c.requires.row, c.in_ok-indices.ensures.len))
+    (length-map c.args.pixels.now srgba_numbers ∙ none)
+    (ap length c.in_ok-indices.ensures.items ∙ length-replicate (length c.args.pixels.now) 0 ∙ none)

@@ -1,5 +1,5 @@
--- Of `rgba_diffused`: that rows without a pixel have no index, whatever their width.
-use Rattle.std.proofs.Common.{◌≡◌, ◌<◌, ℕ, zero, suc, List, [], ◌∷◌, ◌++◌, length, map, take, drop, refl, ap, ◌∙◌, subst, arith}
+-- Of `rgba_diffused`: that without pixels there is no index, whatever the width of a row.
+use Rattle.std.proofs.Common.{◌≡◌, ℕ, List, [], ◌∷◌, ◌++◌, length, map, take, drop, refl, ap, ◌∙◌, arith, rules}
 use Rattle.std.proofs.lemmas.List.{length-map, take-append-le}
 use Rattle.std.proofs.Math.Seq.{take-length}
 use Rattle.pix_table.specs.Seen.{seen}
@@ -19,19 +19,20 @@ no_pixels scan strength w width entries [] [] e h = record {
   diffused = record { wanted = []; found = []; along = []; diffused = none; whole = refl; many = refl; each = λ k less. absurd (omega arith) };
 }
 
-narrow : (scan : ScanOrder) (strength w width : ℕ) (entries pixels : List (List ℕ)) (indices : List ℕ) → (0 < width → w ≡ width)
-    → (width ≡ 0 → length pixels ≡ 0) → AreSeenDiffused scan strength w entries pixels indices → AreSeenDiffused scan strength width entries pixels indices
-narrow scan strength w zero entries pixels indices same e h = no_pixels scan strength w zero entries pixels indices (e refl) h
-narrow scan strength w (suc n) entries pixels indices same e h = subst (λ v. AreSeenDiffused scan strength v entries pixels indices) (same (omega arith)) h
-
 refilled : (n : ℕ) (xs ws : List ℕ) → n ≡ length ws → take n (ws ++ drop (length ws) xs) ≡ ws
 refilled n xs ws e = take-append-le n ws (drop (length ws) xs) (omega arith) ∙ ap (λ m. take m ws) e ∙ take-length ws
 
-pub returns-clause-diffused : goal.returns-clause-diffused
-returns-clause-diffused c =
+pub returns-then-is_empty-2-clause-diffused : goal.returns-then-is_empty-2-clause-diffused
+returns-then-is_empty-2-clause-diffused c =
+    let none : length c.args.pixels.now ≡ 0 = search rules in
     let indices : List ℕ = c.diffuse_indexed_rgba.new.indices in
     let long : c.in_ok-indices.indices.len ≡ length indices = cc in
     rw (refilled c.in_ok-indices.indices.len c.in_ok-indices.indices.items indices long)
-    (narrow c.args.how.scan c.args.how.strength c.max-width.result c.args.how.width _ (map srgba_numbers c.args.pixels.now) indices
-    (λ some. omega (arith, c.max-width.ensures)) (λ none. omega (arith, c.requires.row none, length-map c.args.pixels.now srgba_numbers))
-    c.diffuse_indexed_rgba.ensures)
+    (no_pixels c.args.how.scan c.args.how.strength 1 c.args.how.width _ (map srgba_numbers c.args.pixels.now) indices
+    (length-map c.args.pixels.now srgba_numbers ∙ none) c.diffuse_indexed_rgba.ensures)
+
+pub returns-clause-diffused : goal.returns-clause-diffused
+returns-clause-diffused c =
+    let indices : List ℕ = c.diffuse_indexed_rgba-2.new.indices in
+    let long : c.in_ok-indices.indices.len ≡ length indices = cc in
+    rw (refilled c.in_ok-indices.indices.len c.in_ok-indices.indices.items indices long) c.diffuse_indexed_rgba-2.ensures
