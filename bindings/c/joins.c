@@ -95,7 +95,7 @@ static size_t see(int way, size_t count, uint8_t alpha) {
 /* So many entries that there is none for some color: few, as many as just too few, or any number. */
 static size_t room_below(size_t differ) {
     const unsigned most = (unsigned)(differ - 1);
-    return any(6) == 0 ? most : 1 + any(any(2) && most > 8 ? 8 : most);
+    return any(12) == 0 ? most : 1 + any(any(4) && most > 8 ? 8 : most);
 }
 
 /* Makes the table. Returns how many entries it has, and none where it is refused. */
@@ -145,11 +145,11 @@ int main(int count, char **words) {
     unsigned long failures = 0;
     unsigned compared = 0;
     seed = count > 2 ? strtoull(words[2], NULL, 10) : 1;
-    for (unsigned long i = 0; i < pictures; i++) {
+    for (unsigned long i = 0; i < pictures && failures < 10; i++) {
         const uint64_t before = seed;
         const size_t many = paint();
         for (int way = 0; way < 3; way++)
-            if (!is_same(way, many, &compared) && failures++ < 10)
+            if (!is_same(way, many, &compared) && ++failures)
                 printf("joins: picture %lu, from seed %llu: table %d is another one\n", i, (unsigned long long)before, way);
     }
     printf("joins: %lu of %u tables of %lu random pictures with more colors than entries differ from the model\n", failures, compared,

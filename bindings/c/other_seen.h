@@ -203,7 +203,7 @@ static inline uint64_t seen_cost(const seen_box *p, const seen_box *q) {
 
 /* Joins the two boxes that cost least, the first of equals, again and again. The costs of all pairs are kept. */
 static inline size_t join_seen(seen_box *boxes, size_t used, size_t room) {
-    uint64_t (*costs)[320] = zeros(320, sizeof *costs);
+    uint64_t (*costs)[320] = zeros(used, sizeof *costs);
     for (size_t j = 1; j < used; j++)
         for (size_t i = 0; i < j; i++)
             costs[i][j] = seen_cost(&boxes[i], &boxes[j]);
