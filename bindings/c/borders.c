@@ -6,6 +6,7 @@
 #include <stdio.h>
 
 static int failures;
+static volatile uint32_t greatest = UINT32_MAX;
 
 static void check(int holds, const char *what, int line) {
     if (!holds) {
@@ -106,9 +107,14 @@ enum { WIDE = 3, HIGH = 3, APART = 5, LENGTH = APART * (HIGH - 1) + WIDE, ALL = 
     /* A part of an image that no memory holds, and of none, is refused as the image is. */                            \
     static void parts##S(void) {                                                                                       \
         PIXEL one = ONE;                                                                                               \
-        pix_image##S image = pix_image_of##S(&one, UINT32_MAX, UINT32_MAX), part;                                      \
+        pix_image##S image = pix_image_of##S(&one, greatest, greatest), part;                                          \
         part = pix_part_of##S(image, pix_region_of(1, INT32_MAX, 5, 5));                                               \
         CHECK(pix_do##S(part, pix_clear##S()) == PIX_BAD_SIZE);                                                        \
+        part = pix_part_of##S(pix_image_of##S(&one, greatest - 9, 1), pix_region_of(0, 0, 1, 1));                      \
+        CHECK(pix_do##S(part, pix_clear##S()) != PIX_OK);                                                              \
+        image = pix_image_of##S(&one, 3, 1);                                                                           \
+        image.stride = 2;                                                                                              \
+        CHECK(pix_do##S(pix_part_of##S(image, pix_region_of(0, 0, 1, 1)), pix_clear##S()) != PIX_OK);                  \
         part = pix_part_of##S(pix_image_of##S(NULL, 8, 8), pix_region_of(3, 2, 4, 4));                                 \
         CHECK(part.width == 4 && part.height == 4 && pix_do##S(part, pix_clear##S()) == PIX_NULL);                     \
         part = pix_part_of##S(pix_image_of##S(NULL, 8, 8), pix_region_of(8, 9, 4, 4));                                 \

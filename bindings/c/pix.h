@@ -921,6 +921,12 @@ static inline size_t pix_extent_(uint32_t width, uint32_t height, uint32_t strid
     return extent <= (uint64_t)PTRDIFF_MAX / element ? (size_t)extent : 0;
 }
 
+/* Whether an image has a size that calls take. */
+static inline int pix_is_sized_(uint32_t width, uint32_t height, uint32_t stride, size_t element) {
+    return width <= INT32_MAX && height <= INT32_MAX && width <= stride
+           && (!height || !width || pix_extent_(width, height, stride, element));
+}
+
 /* Tests what is read beside what is written: both lengths are in bytes. */
 static inline pix_status pix_apart_(const void *written, size_t written_bytes, const void *read, size_t read_bytes) {
     uintptr_t w = (uintptr_t)written, r = (uintptr_t)read;
@@ -1251,7 +1257,7 @@ static inline pix_region pix_copy_of_(pix_region to, uint32_t width, uint32_t he
         pix_cut_(region.y, region.height, image.height, &top, &part.height);                                           \
         if (!part.width || !part.height || !image.pixels)                                                              \
             return part;                                                                                               \
-        if (!pix_extent_(image.width, image.height, part.stride, sizeof(PIXEL)))                                       \
+        if (!pix_is_sized_(image.width, image.height, part.stride, sizeof(PIXEL)))                                     \
             return image; /* which is refused as a whole */                                                            \
         part.pixels += (size_t)top * part.stride + left;                                                               \
         return part;                                                                                                   \
