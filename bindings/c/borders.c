@@ -154,7 +154,8 @@ static void conversions(void) {
 static void bitmaps(void) {
     static uint8_t bytes[64], others[64];
     const pix_bitmap_view source = pix_bitmap_view_of(bytes, 4, 3, PIX_FORMAT_GRAY8);
-    pix_bitmap low = pix_bitmap_of((void *)(uintptr_t)64, 4, 3, PIX_FORMAT_GRAY8), high = pix_bitmap_of(others, 1, 3, PIX_FORMAT_GRAY8);
+    pix_bitmap low = pix_bitmap_of((void *)(uintptr_t)64, 4, 3, PIX_FORMAT_GRAY8);
+    pix_bitmap high = pix_bitmap_of(others, 1, 3, PIX_FORMAT_GRAY8);
     pix_bitmap same = pix_bitmap_of(others, 4, 3, PIX_FORMAT_GRAY8);
     low.stride = -40;
     CHECK(pix_convert_bitmap(source, low) == PIX_BAD_SIZE && pix_convert_in_place(low, low.format) == PIX_BAD_SIZE);

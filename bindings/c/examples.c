@@ -1,5 +1,5 @@
-/* The examples of pix.h, each as it stands there, with what they make. The program reads the header and itself, which stand in one
- * folder: a line of an example that doesn't stand here is told. */
+/* The examples of pix.h, each as it stands there, with what they make. The program reads the header and
+ * itself, which stand in one folder: a line of an example that doesn't stand here is told. */
 #include "pix.h"
 #include <ctype.h>
 #include <stdio.h>
@@ -95,10 +95,12 @@ static char *trimmed(char *line) {
     return line;
 }
 
-/* Whether a line of the header is one of an example: in a comment, far to the right, and code by its first or its last sign. */
+/* Whether a line of the header is one of an example: in a comment, far to the right, and code by its first
+ * or its last sign. */
 static int is_example(const char *line) {
-    const size_t length = strlen(line);
-    return !strncmp(line, " *     ", 7) && (line[7] == '#' || (length && strchr(";{}", line[length - 1])) || !strncmp(line + 7, "if (", 4));
+    if (strncmp(line, " *     ", 7))
+        return 0;
+    return line[7] == '#' || !strncmp(line + 7, "if (", 4) || strchr(";{}", line[strlen(line) - 1]);
 }
 
 /* Whether a line stands in this file. */

@@ -1,9 +1,10 @@
-/* Tables of pictures that have more colors than there are entries, beside a plain model: boxes of colors are cut, more of them than
- * entries, and then joined; and rounds follow.
+/* Tables of pictures that have more colors than there are entries, beside a plain model: boxes of colors
+ * are cut, more of them than entries, and then joined; and rounds follow.
  *
  *     joins [PICTURES [SEED]]
  *
- * So many random pictures, 20000 without the word, have a table without alphas, one of those pixels that count, and one with alphas. */
+ * So many random pictures, 20000 without the word, have a table without alphas, one of those pixels that
+ * count, and one with alphas. */
 #include "other_seen.h"
 #include <stdio.h>
 
@@ -47,8 +48,10 @@ static uint8_t between(int from, int to, size_t k, size_t count) {
     return (uint8_t)(from + (to - from) * (int)k / (int)count);
 }
 
-/* Pixel number k of a picture of one kind: any levels, few colors again and again, heaps of colors, or a gradient with noise. */
-static pix_srgba8 pixel_of(unsigned kind, const pix_srgba8 *some, unsigned many, unsigned levels, unsigned spread, size_t k, size_t count) {
+/* Pixel number k of a picture of one kind: any levels, few colors again and again, heaps of colors, or a
+ * gradient with noise. */
+static pix_srgba8 pixel_of(unsigned kind, const pix_srgba8 *some, unsigned many, unsigned levels,
+                           unsigned spread, size_t k, size_t count) {
     pix_srgba8 pixel = some[any(1 + any(many))];
     switch (kind) {
     case 0: return random_pixel(levels);
@@ -67,8 +70,8 @@ static pix_srgba8 pixel_of(unsigned kind, const pix_srgba8 *some, unsigned many,
 static size_t paint(void) {
     static const unsigned all_levels[] = {2, 3, 4, 6, 16, 256};
     const size_t count = 2 + any(any(60) ? 70 : MOST - 1);
-    const unsigned levels = all_levels[any(6)], kind = any(4), many = 2 + any(kind == 2 ? 9 : 400), spread = 1 + any(any(2) ? 4 : 40);
-    const unsigned alphas = any(3);
+    const unsigned levels = all_levels[any(6)], kind = any(4), many = 2 + any(kind == 2 ? 9 : 400);
+    const unsigned spread = 1 + any(any(2) ? 4 : 40), alphas = any(3);
     pix_srgba8 some[402];
     for (unsigned i = 0; i < many; i++)
         some[i] = random_pixel(levels);
@@ -80,7 +83,8 @@ static size_t paint(void) {
     return count;
 }
 
-/* How many of the pixels a table is made of, as they are seen by it: all, or those that count, without their alphas; or all with them. */
+/* How many of the pixels a table is made of, as they are seen by it: all, or those that count, without
+ * their alphas; or all with them. */
 static size_t see(int way, size_t count, uint8_t alpha) {
     size_t left = 0;
     for (size_t k = 0; k < count; k++) {
@@ -152,7 +156,7 @@ int main(int count, char **words) {
             if (!is_same(way, many, &compared) && ++failures)
                 printf("joins: picture %lu, from seed %llu: table %d is another one\n", i, (unsigned long long)before, way);
     }
-    printf("joins: %lu of %u tables of %lu random pictures with more colors than entries differ from the model\n", failures, compared,
-           pictures);
+    printf("joins: %lu of %u tables of %lu random pictures with more colors than entries differ from the model\n",
+           failures, compared, pictures);
     return failures != 0;
 }

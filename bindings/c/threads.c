@@ -86,8 +86,8 @@ static void paint_in_handler(int number) {
         refused = 1;
 }
 
-/* Whether an image that is painted again and again, while a handler paints another one, is the image that is painted in peace, and so
- * is the other. */
+/* Whether an image that is painted again and again, while a handler paints another one, is the image that
+ * is painted in peace, and so is the other. */
 static int try_handler(void) {
     static pix_rgba8 peaceful[SIDE * SIDE];
     const struct itimerval often = {{0, 50}, {0, 50}}, never = {{0, 0}, {0, 0}};
