@@ -9,7 +9,6 @@ from pix._bitmap import Bitmap, new_array, write
 from pix._command import Command
 from pix._files import opened, saved, shown
 from pix._fresh import zeros
-from pix._library import LONG
 from pix._list import CommandList, PreparedList
 from pix._memory import MOST, Buffer, is_a, refuse_gone
 from pix._pillow import facts_of, image_of, picture_of
@@ -249,7 +248,7 @@ class Image(View):
                 raise PixError(Status.BAD_SIZE)
             count = left = top = width = height = stride = 0
         arguments = memory.address, count, left, top, width, height, stride, prepared.address, size, done
-        is_long = width * height * size > LONG
+        is_long = type._is_long(size, width * height)
         status = turns.take(is_long, type._calls[is_long], arguments, [memory], prepared.sources)
         if status == Status.BAD_SIZE:
             raise PixError(Status.BAD_SIZE)

@@ -180,9 +180,9 @@ def quantize(
     target, room = Memory(entries), Memory(bytearray(3 * count))
     own = room.address, count, target.address, most, made
     if size == 3:
-        _refined(count * rounds, source, rounds, *own) if rounds else _quantize(count, source, *own)
+        _refined(count * (1 + rounds), source, rounds, *own) if rounds else _quantize(count, source, *own)
     elif rounds:
-        _refined_alpha(count * rounds, source, alpha, rounds, *own)
+        _refined_alpha(count * (1 + rounds), source, alpha, rounds, *own)
     else:
         _quantize_alpha(count, source, alpha, *own)
     return entries[: 3 * made.value]
@@ -318,7 +318,8 @@ def index_pixels(
         raise PixError(Status.BAD_LENGTH)
     made, indices = padded(entries, 3 * most), bytearray(count)
     near, written = Memory(limits), Memory(indices)
-    _index(count, made, used, near.address, source, written.address, count)
+    # Each entry of the table may be a candidate for each pixel.
+    _index(count * (1 + most // 2), made, used, near.address, source, written.address, count)
     return bytearray(made.room)[: 3 * used.value], indices
 
 

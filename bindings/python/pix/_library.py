@@ -10,7 +10,8 @@ from typing import Any, List, Optional, Set
 # From how many nanoseconds on, by the table, a call is long: it lets the interpreter's lock go.
 LONG = 500_000
 
-# What a pixel costs, in nanoseconds or so, and what the library's functions take, in order. A word says how a caller's memory
+# What a command costs at least, and what a pixel costs at most, in nanoseconds or so: of the pictures, tables and operators
+# that take longest. And what the library's functions take, in order. A word says how a caller's memory
 # is used, which is an address and a count of elements of so many bytes: a call takes its turn by just that.
 #
 #   read:n, write:n   read, or written
@@ -18,32 +19,33 @@ LONG = 500_000
 #   image:n           written by commands, which read their sources
 #
 # The others are numbers; `own` is memory that nobody else knows, and `count` a number there.
+PER_COMMAND = 64
 _RUN = "u32 u32 u32 u32 u32 own size count"
 CALLS = {
     "pix_layout": (0, "size"),
     "pix_raw_format_size": (0, "u32"),
-    "pix_raw_run_window": (1, f"image:4 {_RUN}"),
-    "pix_raw_run_window_rgba16": (1, f"image:8 {_RUN}"),
+    "pix_raw_run_window": (2, f"image:4 {_RUN}"),
+    "pix_raw_run_window_rgba16": (4, f"image:8 {_RUN}"),
     "pix_raw_run_window_graya8": (1, f"image:2 {_RUN}"),
-    "pix_raw_convert": (4, "u32 u32 read:1 write:1 size"),
-    "pix_raw_convert_bitmap": (24, "u32 u32 read:1 write:1 i64 i64 u32 u32"),
-    "pix_raw_map_indexed": (16, "table:3 read:3 write:1"),
-    "pix_raw_map_indexed_alpha": (16, "table:3 read:4 u8 u8 write:1"),
-    "pix_raw_quantize": (32, "read:3 own size own size count"),
-    "pix_raw_quantize_alpha": (32, "read:4 u8 own size own size count"),
-    "pix_raw_quantize_refined": (48, "read:3 u8 own size own size count"),
-    "pix_raw_quantize_refined_alpha": (48, "read:4 u8 u8 own size own size count"),
-    "pix_raw_diffuse_indexed_by": (48, "table:3 read:3 size u8 u8 own size write:1"),
-    "pix_raw_diffuse_indexed_by_alpha": (48, "table:3 read:4 size u8 u8 u8 u8 own size write:1"),
+    "pix_raw_convert": (16, "u32 u32 read:1 write:1 size"),
+    "pix_raw_convert_bitmap": (96, "u32 u32 read:1 write:1 i64 i64 u32 u32"),
+    "pix_raw_map_indexed": (128, "table:3 read:3 write:1"),
+    "pix_raw_map_indexed_alpha": (128, "table:3 read:4 u8 u8 write:1"),
+    "pix_raw_quantize": (192, "read:3 own size own size count"),
+    "pix_raw_quantize_alpha": (192, "read:4 u8 own size own size count"),
+    "pix_raw_quantize_refined": (192, "read:3 u8 own size own size count"),
+    "pix_raw_quantize_refined_alpha": (192, "read:4 u8 u8 own size own size count"),
+    "pix_raw_diffuse_indexed_by": (160, "table:3 read:3 size u8 u8 own size write:1"),
+    "pix_raw_diffuse_indexed_by_alpha": (160, "table:3 read:4 size u8 u8 u8 u8 own size write:1"),
     "pix_raw_index_pixels": (16, "table:3 count own read:3 own size"),
-    "pix_raw_look_up": (1, "table:3 read:1 write:3"),
-    "pix_raw_quantize_rgba": (48, "read:4 u8 own size own size count"),
-    "pix_raw_map_indexed_rgba": (24, "table:4 read:4 write:1"),
-    "pix_raw_diffuse_indexed_rgba": (64, "table:4 read:4 size u8 u8 own size write:1"),
-    "pix_raw_look_up_rgba": (1, "table:4 read:1 write:4"),
+    "pix_raw_look_up": (2, "table:3 read:1 write:3"),
+    "pix_raw_quantize_rgba": (600, "read:4 u8 own size own size count"),
+    "pix_raw_map_indexed_rgba": (256, "table:4 read:4 write:1"),
+    "pix_raw_diffuse_indexed_rgba": (256, "table:4 read:4 size u8 u8 own size write:1"),
+    "pix_raw_look_up_rgba": (2, "table:4 read:1 write:4"),
     "pix_raw_count_indices": (1, "read:1 own size"),
-    "pix_raw_pack_row": (1, "u32 read:1 write:1"),
-    "pix_raw_unpack_row": (1, "u32 read:1 write:1"),
+    "pix_raw_pack_row": (2, "u32 read:1 write:1"),
+    "pix_raw_unpack_row": (2, "u32 read:1 write:1"),
 }
 
 _TYPES = {"size": ctypes.c_size_t, "u8": ctypes.c_uint8, "u32": ctypes.c_uint32, "i64": ctypes.c_int64}

@@ -9,6 +9,7 @@ from typing import Any, Dict, Iterator, List, Sequence, Tuple
 from pix._command import Command, made
 from pix._memory import NOWHERE, Alive, Memory, refuse_gone
 from pix._pixels import RGBA8, PixelType, kind_of
+from pix._turns import turns
 from pix._values import PixError, Status
 
 
@@ -63,7 +64,9 @@ class CommandList(Sequence):
     def __init__(self, *commands: Command, type: PixelType = RGBA8) -> None:
         prepared, done = PreparedList(commands, kind_of(type)), ctypes.c_size_t()
         # On an image of no pixels all commands are tested, and none paints.
-        status = type._calls[0](NOWHERE, 0, 0, 0, 0, 0, 0, prepared.address, len(commands), done)
+        empty = NOWHERE, 0, 0, 0, 0, 0, 0, prepared.address, len(commands), done
+        is_long = type._is_long(len(commands), 0)
+        status = turns.take(is_long, type._calls[is_long], empty, [], [])
         if status:
             raise PixError(Status(status), done.value)
         self._prepared = prepared

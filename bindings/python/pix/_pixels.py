@@ -6,7 +6,7 @@ import ctypes
 from enum import Enum
 from typing import Any, List
 
-from pix._library import libraries
+from pix._library import CALLS, LONG, PER_COMMAND, libraries
 from pix._memory import is_a
 from pix._values import Format
 
@@ -39,6 +39,7 @@ class PixelType(Enum):
         self._channel = channel
         self._color = channel * channels
         self._calls = [getattr(library, call) for library in libraries]
+        self._cost = CALLS[call][0]
         self._command = command_record(f"Command{self.name}", self._color, channel)
 
     @property
@@ -50,6 +51,10 @@ class PixelType(Enum):
     def max(self) -> int:
         """The greatest number of a channel: 255 or 65535."""
         return 256 ** ctypes.sizeof(self._channel) - 1
+
+    def _is_long(self, commands: int, pixels: int) -> bool:
+        """Whether so many commands on an image of so many pixels are a long call."""
+        return commands * (PER_COMMAND + pixels * self._cost) > LONG
 
     def __repr__(self) -> str:
         return self.name
