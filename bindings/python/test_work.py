@@ -54,7 +54,7 @@ class Keeping(unittest.TestCase):
             middle = (low + high + 1) // 2
             kept = self.seconds(lambda: call(middle), False)
             low, high = (middle, high) if kept else (low, middle - 1)
-        times = [self.seconds(lambda: call(low)) for _ in range(3)]
+        times = [self.seconds(lambda: call(low)) for _ in range(2)]
         self.assertLess(min(times), SHORT, f"{name} of {low}")
 
     def test_tables(self):
@@ -103,11 +103,12 @@ class Keeping(unittest.TestCase):
             source = pix.Image(bytearray(noise(size << 16)), 256, 256, type=type)
             image, to = pix.Image.new(256, 256, type), (0, 0, 256, 256)
             one = pix.composite_image_alpha(to, source, alpha8=77, op=pix.Op.XOR)
-            self.is_short(f"{type} of {size}", lambda n: image.run(*[one] * n), 1 << 9)
-            for wide, high in ((1, 1), (0, 5), (5, 0)):
-                small = pix.Image.new(wide, high, type)
-                self.is_short(f"{type}", lambda n: small.run(*[one] * n), 1 << 13)
-            self.is_short("list", lambda n: pix.CommandList(*[one] * n, type=type), 1 << 13)
+            self.is_short(f"{type} of {size}", lambda n: image.run(*[one] * n), 1 << 5)
+            many = [one] * 20_000  # which take more than a millisecond on no pixel at all
+            for size in ((1, 1), (0, 5), (5, 0)):
+                small = pix.Image.new(*size, type)
+                self.assertEqual(self.seconds(lambda: small.run(*many), False), 0)
+            self.assertEqual(self.seconds(lambda: pix.CommandList(*many, type=type), False), 0)
 
 
 def room(count, format):

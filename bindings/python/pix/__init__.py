@@ -40,10 +40,15 @@ memory once, and pinned as long as a view of it lives: a bytearray can't be resi
 interpreter's lock go, so that two threads work at once; a call that needs memory which another one is writing waits for
 it. The handler of a signal may paint, and an interrupt leaves nothing behind.
 
+A handler or a __del__ that paints runs inside a call, maybe. Where two threads do so, and each paints what the other's
+outer call paints, one of them is refused by a RuntimeError. It must not itself wait for another thread that paints: that
+one may wait for the outer call. What a collection has begun to clear is refused by a ReferenceError.
+
 Your program has to keep other code from the buffers of a call in another thread. Such code assigns to a bytearray, or
 uses memory that has two addresses, such as a file that is mapped twice; no test of overlaps sees that. Otherwise pixels
-come out wrong, and nothing else is touched. Memory must not move or end under a view. ctypes.resize() and numpy's
-resize(refcheck=False) move it although it is pinned. A file that is mapped must not be made shorter.
+come out wrong, and nothing else is touched. Memory must not move or end under a view. ctypes.resize() moves it although
+it is pinned, and so do numpy's array.resize(refcheck=False), array.data = .. and array.__setstate__(). A file that is
+mapped must not be made shorter.
 
 The package looks for the shared object libpix_c.so at the path PIX_LIBRARY of the environment. Without it, it looks in
 its own folder and in the one above. On a processor of x86-64-v3, libpix_c-v3.so of this package comes first, which a
