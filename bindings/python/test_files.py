@@ -1,7 +1,6 @@
 """Picture files: each odd one is what Pillow makes of it, with Pillow and without; what is
 saved comes back; refusals say why."""
 
-import doctest
 import io
 import os
 import pathlib
@@ -16,7 +15,7 @@ from unittest import mock
 
 import odd_files
 import pix
-from pix import Format, _image, _png
+from pix import Format, _png
 
 try:
     from PIL import Image as pillow
@@ -370,13 +369,6 @@ class Png(Trial):
         for end in range(len(exif) - 2):
             self.assertEqual(_png.orientation(exif[:end]), 1)
         self.assertEqual(_png.orientation(exif.replace(b"\6", b"\x09")), 1)
-
-
-def load_tests(loader, tests, pattern):
-    """The examples of the docstrings, too, some of which need Pillow."""
-    if pillow is not None:
-        tests.addTests(doctest.DocTestSuite(_image, {"pix": pix}))
-    return tests
 
 
 if __name__ == "__main__":

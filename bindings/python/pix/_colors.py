@@ -175,7 +175,7 @@ def color_of(format: Format, pixel: Iterable[SupportsIndex], type: PixelType = R
     """A pixel in a format, given by its numbers, as a color to paint with.
 
     >>> pix.color_of(pix.SRGBA8, (200, 120, 40, 255))  # the light of a color of sRGB
-    pix.Color((37852, 12282, 1390, 65535), pix.RGBA16)
+    pix.Color((37852, 12309, 1391, 65535), pix.RGBA16)
     """
     format, given = Format(format), tuple(map(index, pixel))
     if len(given) != format.samples or not all(0 <= number < 1 << format.bits for number in given):

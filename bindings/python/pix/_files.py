@@ -9,7 +9,7 @@ import struct
 import sys
 import zlib
 from array import array
-from contextlib import contextmanager
+from contextlib import contextmanager, suppress
 from copy import copy
 from typing import Any, Callable, Iterator, Optional
 
@@ -103,6 +103,8 @@ def upright(picture: Any) -> Any:
 def opened_alone(file: Any, white: Optional[float], new: Callable[[int, int], Any]) -> Any:
     """The same without Pillow."""
     if hasattr(file, "read"):
+        with suppress(AttributeError, io.UnsupportedOperation):
+            file.seek(0)  # as Pillow does
         data = file.read()
     else:
         with open(file, "rb") as stream:

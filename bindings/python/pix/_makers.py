@@ -38,7 +38,7 @@ def copy_color(to: _Region, color: _Color) -> Command:
 
     >>> image = pix.Image.new(2, 1, pix.RGBA16)
     >>> image.run(pix.copy_color((0, 0, 1, 1), pix.srgb("#c87828")))
-    >>> image.run(pix.copy_color((1, 0, 1, 1), (37852, 12282, 1390, 65535)))  # the same
+    >>> image.run(pix.copy_color((1, 0, 1, 1), (37852, 12309, 1391, 65535)))  # the same
     """
     return Command(1, to, color)
 
