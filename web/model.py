@@ -7,7 +7,7 @@ import re
 from fractions import Fraction
 
 MAX = 255
-WIDTH, SIDE, RADIUS, SQUARE = 120, 56, 12, 8
+WIDTH, SIDE, RADIUS, SQUARE, LEAST = 120, 56, 12, 8, 32
 GRAYS = {"light": (255, 226), "dark": (64, 44)}
 
 
@@ -144,6 +144,12 @@ def shown(rows, scheme, is_light, over, square=SQUARE):
         return bytes([*[encoded(channel) if is_light else channel for channel in color[:3]], color[3]])
 
     return b"".join(on(pixel, grays[(x // square + y // square) % 2]) for y, row in enumerate(rows) for x, pixel in enumerate(row))
+
+
+def enlarged(rows):
+    """Returns the rows of a picture whose pixels are squares, as the page shows a small one: so large that the longer side has LEAST of its own."""
+    factor = max(1, -(-LEAST // max(len(rows), len(rows[0]))))
+    return [[pixel for pixel in row for _ in range(factor)] for row in rows for _ in range(factor)]
 
 
 def parsed(text):

@@ -149,7 +149,7 @@ def try_slow_link(browser):
     mine = "image 2 1\nfill 0 0 2 1 0a0b0c0d\n"
     url = browser.run("location.href")
     browser.link(500)
-    browser.open(url, "document.getElementById('parts')?.hidden === false")
+    browser.open(url, "document.getElementById('operators-part')?.hidden === false")
     type_script(browser, mine)
     browser.wait_for(READY)
     wants("what was typed while the page loaded", [of(browser, "script", "value"), of(browser, "example", "selectedOptions[0].text")], [mine, "your own"])
@@ -275,7 +275,7 @@ def try_examples(browser):
         wants(f"the fault of {name}", of(browser, "fault", "textContent"), wanted.rstrip("\n") if is_fault else "")
         wants(f"whether {name} has a picture", of(browser, "picture", "hidden"), is_fault)
         if not is_fault:
-            shown = model.shown(model.parsed(wanted), "light", False, OPERATORS["SrcOver"])
+            shown = model.shown(model.enlarged(model.parsed(wanted)), "light", False, OPERATORS["SrcOver"])
             wants(f"the canvas of {name}", canvas(browser, "painted").hex(), shown.hex())
 
 
@@ -453,6 +453,7 @@ def take(browser, name):
 
 def try_pictures(browser):
     """The pictures of the page look as those in pictures/, but for a pixel in fifty: another browser or other fonts draw letters a little otherwise."""
+    (TOP / "out").mkdir(exist_ok=True)
     for name in PICTURES:
         (TOP / "out" / name).write_bytes(take(browser, name))
         files = [base64.b64encode((TOP / folder / name).read_bytes()).decode() for folder in ("out", "pictures")]
@@ -484,8 +485,21 @@ def try_without_memory64(browser):
     browser.ask("Page.removeScriptToEvaluateOnNewDocument", identifier=made["identifier"])
     wants("whether it is said", "memory64" in of(browser, "state", "textContent"), True)
     wants("whether it is an alert", of(browser, "state", "role"), "alert")
-    for part, is_shown in [("parts", False), ("proof", True), ("hues", True)]:
-        wants(f"whether {part} is shown", of(browser, part, "checkVisibility()"), is_shown)
+    wants_links(browser, False)
+
+
+def wants_links(browser, is_loaded):
+    """Each link at the top leads to something that is shown. What runs the library is shown where it is loaded, and else a sentence in its place."""
+    for part in ("operators", "scripts", "text"):
+        wants(f"whether what runs the library for {part} is shown", of(browser, f"{part}-part", "checkVisibility()"), is_loaded)
+        wants(f"whether it is said for {part}", browser.run(f"document.querySelector('#{part} .absent').checkVisibility()"), not is_loaded)
+    lost = browser.run("[...document.querySelectorAll('nav a, .absent a')].filter((it) => !document.querySelector(it.hash)?.checkVisibility()).map((it) => it.hash)")
+    wants("the links that lead nowhere", lost, [])
+
+
+def try_links(browser):
+    """Each link at the top of the page leads to its part."""
+    wants_links(browser, True)
 
 
 def try_a_module_that_is_missing(browser):
@@ -505,8 +519,7 @@ def try_as_a_file(browser):
     said = of(browser, "state", "textContent")
     wants("whether it says what to do", "opened as a file" in said and f"python3 -m http.server -d '{browser.folder}/'" in said, True)
     wants("whether it is an alert", of(browser, "state", "role"), "alert")
-    for part, is_shown in [("parts", False), ("proof", True)]:
-        wants(f"whether {part} is shown", of(browser, part, "checkVisibility()"), is_shown)
+    wants_links(browser, False)
     browser.faults.clear()
 
 

@@ -62,14 +62,14 @@ END
 
 arm_rust() {
     local target=aarch64-unknown-linux-gnu
-    cd "$work/docs-INSTALL.md-cargo/first" && CARGO_TARGET_AARCH64_UNKNOWN_LINUX_GNU_LINKER=aarch64-linux-gnu-gcc cargo build --offline --target $target \
+    cd "$places/docs-INSTALL.md-cargo/first" && CARGO_TARGET_AARCH64_UNKNOWN_LINUX_GNU_LINKER=aarch64-linux-gnu-gcc cargo build --offline --target $target \
         && "${emulated[@]}" target/$target/debug/first && is_first first.ppm
 }
 
 # The build script alone, where Rust's library for the target is not there.
 arm_script() {
     local script
-    script=$(find "$work/docs-INSTALL.md-cargo/first/target" -path '*pix-proved-sys-*/build-script-build' | head -n 1) && mkdir "$work/arm-out" \
+    script=$(find "$places/docs-INSTALL.md-cargo/first/target" -path '*pix-proved-sys-*/build-script-build' | head -n 1) && mkdir "$work/arm-out" \
         && TARGET=aarch64-unknown-linux-gnu HOST=x86_64-unknown-linux-gnu OUT_DIR=$work/arm-out CARGO_MANIFEST_DIR=$clone/bindings/rust/pix-sys "$script" \
         && aarch64-linux-gnu-gcc -O2 "-I$clone/bindings/c" "$work/program/first.c" "$work/arm-out/libpix_c.a" -o "$work/arm-first" && cd "$work" && "${emulated[@]}" ./arm-first && is_first first.ppm
 }
@@ -84,7 +84,7 @@ else
     step 'aarch64: ./pixpaint' arm_pixpaint
     have 'CMake for aarch64' cmake ctest && step 'aarch64: CMake, and its tests' arm_cmake
     [ -z "${env_python-}" ] || [ ! -x "$env_python" ] || step 'aarch64: the library of the wheel' arm_wheel
-    if [ -d "$work/docs-INSTALL.md-cargo/first/target" ]; then
+    if [ -d "$places/docs-INSTALL.md-cargo/first/target" ]; then
         step 'aarch64: what the build script of Rust makes' arm_script
         if rustc --print target-libdir --target aarch64-unknown-linux-gnu 2>/dev/null | { read -r at && [ -d "$at" ]; }; then
             step 'aarch64: Rust' arm_rust

@@ -15,7 +15,7 @@ installed() {
 
 # The loader takes the build for x86-64-v3 where the processor has that, and a loader that doesn't look for it the other one.
 takes_wide() {
-    local at=$work/docs-INSTALL.md-FetchContent/build/first loader=/lib64/ld-linux-x86-64.so.2
+    local at=$places/docs-INSTALL.md-FetchContent/build/first loader=/lib64/ld-linux-x86-64.so.2
     cd "$work" && LD_DEBUG=libs "$at" 2>&1 | grep 'init: .*/glibc-hwcaps/x86-64-v3/libpix.so' || return
     LD_DEBUG=libs "$loader" --glibc-hwcaps-mask none "$at" >narrow.log 2>&1
     grep 'init: .*/libpix.so' narrow.log && ! grep 'init: .*glibc-hwcaps' narrow.log && is_first first.ppm
@@ -27,13 +27,25 @@ shows() {
     wanted=$(grep -oP '^(?!static|typedef)[a-z][\w *]*?\bpix_\w+(?=\()' "$top/bindings/c/pix.h" | sed "s/.* //" | sort)
     while read -r file; do
         [ "$(nm -D --defined-only "$file" | awk '$2 != "A" { sub(/@.*/, "", $3); print $3 }' | sort)" = "$wanted" ] || { nm -D "$file"; return 1; }
-    done < <(find "$work/docs-INSTALL.md-find_package/prefix" -name 'libpix.so.*' -type f)
+    done < <(find "$places/docs-INSTALL.md-find_package/prefix" -name 'libpix.so.*' -type f)
 }
 
 # CMake in a clone with a space in its path, that can't be written if that can be had, by the compiler that CC names.
 by_compiler() {
     local at="$work/cmake $1"
     CC=$1 cmake -S "$work/a clone" -B "$at" && cmake --build "$at" && (cd "$at" && ctest)
+}
+
+# Over another C library than glibc the program is left out, and so it is where that is asked for; the library is built, and its tests run.
+by_musl() {
+    local at="$work/cmake musl"
+    CC=musl-gcc cmake -S "$clone" -B "$at" | tee "$work/musl.log" && grep -F 'pixpaint stands on glibc, and is left out' "$work/musl.log" \
+        && cmake --build "$at" && (cd "$at" && ctest) && [ ! -e "$at/pixpaint" ]
+}
+
+without_program() {
+    local at="$work/cmake alone"
+    cmake -S "$clone" -B "$at" -DPIX_PROGRAM=OFF && cmake --build "$at" && cmake --install "$at" --prefix "$at/prefix" && [ ! -e "$at/pixpaint" ] && [ -e "$at/libpix.a" ]
 }
 
 # A project that has CMake name another processor or system, no compiler, or a clone without generated/.
@@ -71,5 +83,7 @@ if have 'CMake' cmake ctest; then
     fi
     step 'CMake: a path with spaces, by cc' by_compiler cc
     have 'CMake by clang' clang && step 'CMake: a path with spaces, by clang' by_compiler clang
+    step 'CMake: without the program' without_program
+    have 'CMake by musl-gcc' musl-gcc && step 'CMake: over musl' by_musl
     step 'CMake: another processor and system, no compiler, no generated/' cmake_bad
 fi

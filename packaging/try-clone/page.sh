@@ -34,4 +34,5 @@ elif [ ! -f "$clone/generated/pix_c.wasm" ]; then
     lacks 'generated/pix_c.wasm' 'the page'
 else
     step 'docs/INSTALL.md: page' page_served
+    have 'the trials of the page' chromium && fresh none && step 'tools/web --generated in a new clone' "$work/none/tools/web" --generated
 fi

@@ -50,7 +50,7 @@ if ! "$python" -c 'import venv, ensurepip' 2>/dev/null; then
 else
     try_lines README.md Python python_painted
     try_lines CALLING.md Python task_painted
-    env_python=$work/docs-INSTALL.md-pip/env/bin/python
+    env_python=$places/docs-INSTALL.md-pip/env/bin/python
     if try_lines docs/INSTALL.md pip python_painted; then
         step 'Python: demo, refusals, buffers, threads against the wheel' package_tests
         step 'Python: two wheels of two clones are the same' same_wheels

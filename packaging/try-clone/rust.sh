@@ -7,7 +7,7 @@ rust_painted() {
 
 # Once more nothing is built, and a file of assembly that changed is assembled anew.
 rust_again() {
-    cd "$work/docs-INSTALL.md-cargo/first" && cargo build --offline 2>&1 | tee again.log && ! grep Compiling again.log
+    cd "$places/docs-INSTALL.md-cargo/first" && cargo build --offline 2>&1 | tee again.log && ! grep Compiling again.log
 }
 
 # The crates' own tests, in a clone whose path has spaces.
@@ -27,7 +27,7 @@ rust_bad() {
 
 # A processor without SSE4.1, by an emulator that has none.
 rust_narrow() {
-    refuses 1 'Processor' qemu-x86_64 -cpu core2duo,-sse4.1 "$work/docs-INSTALL.md-cargo/first/target/debug/first"
+    refuses 1 'Processor' qemu-x86_64 -cpu core2duo,-sse4.1 "$places/docs-INSTALL.md-cargo/first/target/debug/first"
 }
 
 if ! have 'the crates of Rust' cargo rustc ar; then

@@ -4,29 +4,29 @@
 # cargo's lines of a page, in a new program whose code is the example of bindings/README.md, without a network and by a user who never had one: no index
 # of a registry is kept. Then cargo alone does, without --offline.
 cargo_lines() {
-    local folder=$work/cargo-${1//\//-}
+    local folder=$places/cargo-${1//\//-}
     ran+=("$1 cargo")
     cargo init --quiet --vcs none --name demo "$folder" && cp "$dist"/*.crate "$folder" && cp "$work/main.rs" "$folder/src" \
-        && CARGO_HOME=$work/cargo-home run_lines "$1" cargo "$folder" \
-        && (cd "$folder" && touch src/main.rs && CARGO_HOME=$work/cargo-home "${alone[@]}" cargo run)
+        && CARGO_HOME=$places/cargo-home run_lines "$1" cargo "$folder" \
+        && (cd "$folder" && touch src/main.rs && CARGO_HOME=$places/cargo-home "${alone[@]}" cargo run)
 }
 
 # Runs cargo in the program of the lines of docs/INSTALL.md.
 in_program() {
-    cd "$work/cargo-docs-INSTALL.md" && CARGO_NET_OFFLINE=true "$@"
+    cd "$places/cargo-docs-INSTALL.md" && CARGO_NET_OFFLINE=true "$@"
 }
 
 crate_demo() {
-    cp "$top/bindings/rust/pix/examples/demo.rs" "$work/cargo-docs-INSTALL.md/src/main.rs" && in_program cargo run --quiet --release -- "$work/rust.ppm"
+    cp "$top/bindings/rust/pix/examples/demo.rs" "$places/cargo-docs-INSTALL.md/src/main.rs" && in_program cargo run --quiet --release -- "$work/rust.ppm"
 }
 
 # The crates' own tests, out of the packages.
 crate_tests() {
     local crate
     for crate in pix-proved-sys pix-proved; do
-        (cd "$work/cargo-docs-INSTALL.md/$crate-$version" && sha256sum -c --quiet PROVENANCE) || return
+        (cd "$places/cargo-docs-INSTALL.md/$crate-$version" && sha256sum -c --quiet PROVENANCE) || return
     done
-    cp -r "$work/cargo-docs-INSTALL.md/pix-proved-$version" "$work/tests" && cd "$work/tests" \
+    cp -r "$places/cargo-docs-INSTALL.md/pix-proved-$version" "$work/tests" && cd "$work/tests" \
         && printf '\n[patch.crates-io]\npix-proved-sys = { path = "../cargo-docs-INSTALL.md/pix-proved-sys-%s" }\n[workspace]\n' "$version" >>Cargo.toml \
         && CARGO_NET_OFFLINE=true CARGO_TARGET_DIR=$work/tests/target cargo test --quiet
 }
@@ -35,7 +35,7 @@ crate_tests() {
 crate_with_another() {
     mkdir -p "$work/other-archive" && cc -std=c99 -O1 -fPIC -DOTHER_FACT=0 -I "$top/bindings/c" -c "$top/bindings/c/other.c" -o "$work/other-archive/other.o" \
         && ar rcs "$work/other-archive/libpix_c.a" "$work/other-archive/other.o" || return
-    cp "$work/main.rs" "$work/cargo-docs-INSTALL.md/src/main.rs"
+    cp "$work/main.rs" "$places/cargo-docs-INSTALL.md/src/main.rs"
     RUSTFLAGS=-lm PIX_LIB_DIR=$work/other-archive refuses 'Library' in_program cargo run --quiet --target-dir "$work/other-target"
 }
 
@@ -48,18 +48,18 @@ crate_on_another() {
 crate_targets() {
     local said
     refuses 'there is no proved archive for riscv64gc-unknown-linux-gnu' in_program cargo check --quiet --target riscv64gc-unknown-linux-gnu || return
-    said=$(cd "$work" && TARGET=aarch64-unknown-linux-gnu CARGO_MANIFEST_DIR=$work/cargo-docs-INSTALL.md/pix-proved-sys-$version \
-        "$(find "$work/cargo-docs-INSTALL.md/target" -path '*pix-proved-sys-*/build-script-build' | head -n 1)") || return
-    grep -F "native=$work/cargo-docs-INSTALL.md/pix-proved-sys-$version/lib/aarch64-unknown-linux-gnu" <<<"$said" || return
+    said=$(cd "$work" && TARGET=aarch64-unknown-linux-gnu CARGO_MANIFEST_DIR=$places/cargo-docs-INSTALL.md/pix-proved-sys-$version \
+        "$(find "$places/cargo-docs-INSTALL.md/target" -path '*pix-proved-sys-*/build-script-build' | head -n 1)") || return
+    grep -F "native=$places/cargo-docs-INSTALL.md/pix-proved-sys-$version/lib/aarch64-unknown-linux-gnu" <<<"$said" || return
     tar xzOf "$dist/pix-$version-aarch64-linux-gnu.tar.gz" "pix-$version-aarch64-linux-gnu/lib/libpix.a" \
-        | cmp - "$work/cargo-docs-INSTALL.md/pix-proved-sys-$version/lib/aarch64-unknown-linux-gnu/libpix_c.a"
+        | cmp - "$places/cargo-docs-INSTALL.md/pix-proved-sys-$version/lib/aarch64-unknown-linux-gnu/libpix_c.a"
 }
 
 crate_aarch64() {
-    cp "$top/bindings/rust/pix/examples/demo.rs" "$work/cargo-docs-INSTALL.md/src/main.rs" || return
+    cp "$top/bindings/rust/pix/examples/demo.rs" "$places/cargo-docs-INSTALL.md/src/main.rs" || return
     local target=aarch64-unknown-linux-gnu
     CARGO_TARGET_AARCH64_UNKNOWN_LINUX_GNU_LINKER=aarch64-linux-gnu-gcc in_program cargo build --quiet --release --target $target \
-        && qemu-aarch64 -L /usr/aarch64-linux-gnu "$work/cargo-docs-INSTALL.md/target/$target/release/demo" "$work/rust-aarch64.ppm" && same rust-aarch64
+        && qemu-aarch64 -L /usr/aarch64-linux-gnu "$places/cargo-docs-INSTALL.md/target/$target/release/demo" "$work/rust-aarch64.ppm" && same rust-aarch64
 }
 
 if ! have 'the Rust crates' cargo rustc cc; then

@@ -2,7 +2,7 @@
 # shellcheck shell=bash disable=SC2016,SC2154
 
 # The Python of the environment that pip's lines made.
-env_python=$work/lines-docs-INSTALL.md-pip/env/bin/python
+env_python=$places/lines-docs-INSTALL.md-pip/env/bin/python
 
 # Its tests and its demo against the wheel alone.
 wheel_tests() {
@@ -99,7 +99,7 @@ elif step 'the files of the wheels have the sums of their PROVENANCE' wheel_sums
     try_lines_if_there README.md pip
     ran+=('docs/INSTALL.md which library')
     lines=$(lines_of docs/INSTALL.md 'which library')
-    step 'docs/INSTALL.md: which library' sh -c "cd '$work/lines-docs-INSTALL.md-pip' && $lines | grep '/env/lib/.*/pix/libpix_c.*\.so\$'"
+    step 'docs/INSTALL.md: which library' sh -c "cd '$places/lines-docs-INSTALL.md-pip' && $lines | grep '/env/lib/.*/pix/libpix_c.*\.so\$'"
     if have 'the wheel for aarch64' qemu-aarch64 apt-get dpkg-deb; then
         if python_aarch64 >"$work/python.log" 2>&1; then
             step 'aarch64: Python: demo and refusals against the wheel, the picture, and a library of x86-64' wheel_aarch64

@@ -29,7 +29,7 @@ async function start() {
     showOperators(await Library.of(module));
     showText(await Library.of(module));
     const scripts = showScripts(await Library.of(module));
-    element('parts').hidden = false;
+    for (const part of document.querySelectorAll('.part')) part.hidden = false;
     element('state').textContent = 'The library is loaded.';
     await scripts.catch((error) => { element('state').textContent += ` Its examples are not: ${error.message}`; });
     document.documentElement.dataset.ready = 'yes';

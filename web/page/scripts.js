@@ -2,6 +2,7 @@
 import { decimal, distance } from './exact.js';
 import { EXAMPLES } from './facts.js';
 import { historyOf } from './history.js';
+import { copyColor } from './library.js';
 import { paint, printed } from './painting.js';
 import { checkerboard, element, fetched, onTheme, onceAFrame, show } from './view.js';
 
@@ -10,6 +11,9 @@ const STEPS = { ArrowLeft: [-1, 0], ArrowRight: [1, 0], ArrowUp: [0, -1], ArrowD
 const MOST = 1000;
 const SHOWN = 200;
 const SQUARE = 8;
+// How long the longer side of what is shown is at least. The pixels of a smaller picture are shown as squares of pixels, so
+// that a checkerboard is seen through each.
+const LEAST = 32;
 // What the page shows: a painting, or null where the script has a fault or makes no picture; and the image of a script
 // without a fault, or null.
 let painting = null, image = null;
@@ -63,12 +67,29 @@ function print(library) {
     element('printed').textContent = element('print').open ? printed(library, image) : '';
 }
 
+// Answers an image whose pixels are squares, where the picture is small, and else the picture itself.
+function enlarged(library, small) {
+    const factor = Math.ceil(LEAST / Math.max(small.width, small.height));
+    if (factor <= 1) return small;
+    const pixels = Array.from(library.pixels(small));
+    const large = library.image(factor * small.width, factor * small.height);
+    const commands = [];
+    for (let y = 0, at = 0; y < small.height; y++) {
+        for (let x = 0; x < small.width; x++, at += 4) {
+            commands.push(copyColor([factor * x, factor * y, factor, factor], pixels.slice(at, at + 4)));
+        }
+    }
+    library.run(large, commands);
+    return large;
+}
+
 // Shows the picture, as large as it goes by whole factors, and its pixel.
 function showPicture(library) {
     for (const part of ['picture', 'pixel', 'steps']) element(part).hidden = !painting;
     if (!painting) return;
     const top = library.top;
-    show(library, image, checkerboard(library, image.width, image.height, false, SQUARE), element('painted'), false);
+    const large = enlarged(library, image);
+    show(library, large, checkerboard(library, large.width, large.height, false, SQUARE), element('painted'), false);
     library.top = top;
     const factor = Math.max(1, Math.floor(576 / Math.max(image.width, image.height)));
     element('frame').style.width = `${image.width * factor}px`;
@@ -155,8 +176,8 @@ function listen(redraw) {
     const canvas = element('painted');
     const point = (event) => {
         const box = canvas.getBoundingClientRect();
-        choose(Math.floor(((event.clientX - box.left) * canvas.width) / box.width),
-            Math.floor(((event.clientY - box.top) * canvas.height) / box.height), redraw);
+        choose(Math.floor(((event.clientX - box.left) * image.width) / box.width),
+            Math.floor(((event.clientY - box.top) * image.height) / box.height), redraw);
     };
     canvas.addEventListener('pointermove', point);
     canvas.addEventListener('pointerdown', point);
