@@ -162,10 +162,13 @@ uint32_t pix_raw_map_indexed(const pix_srgb8 *entries, size_t len, const pix_srg
 
 uint32_t pix_raw_map_indexed_alpha(const pix_srgb8 *entries, size_t len, const pix_srgba8 *pixels, size_t pixel_count,
                                    uint8_t alpha, uint8_t transparent_index, uint8_t *indices, size_t index_count) {
-    if (!len || len > 256)
+    if (len > 256)
         return PIX_BAD_TABLE;
     if (index_count != pixel_count)
         return PIX_BAD_LENGTH;
+    for (size_t i = 0; !len && i < pixel_count; i++)
+        if (pixels[i].a >= alpha)
+            return PIX_BAD_TABLE;
     for (size_t i = 0; i < pixel_count; i++) {
         pix_srgb8 color = {pixels[i].r, pixels[i].g, pixels[i].b};
         indices[i] = pixels[i].a < alpha ? transparent_index : plain_nearest(entries, len, color);

@@ -1340,17 +1340,6 @@ static inline pix_status pix_map_indexed(pix_table table, const pix_srgb8 *pixel
     return (pix_status)pix_raw_map_indexed(table.entries, table.len, pixels, count, indices, count);
 }
 
-/* Writes the index of each pixel where there is no entry: all of them are below `alpha`. */
-static inline pix_status pix_map_none_(const pix_srgba8 *pixels, size_t count, uint8_t alpha, uint8_t transparent_index,
-                                       uint8_t *indices) {
-    size_t i;
-    for (i = 0; i < count; i++)
-        if (pixels[i].a >= alpha)
-            return PIX_BAD_TABLE;
-    memset(indices, transparent_index, count);
-    return PIX_OK;
-}
-
 static inline pix_status pix_map_indexed_alpha(pix_table table, const pix_srgba8 *pixels, size_t count, uint8_t alpha,
                                                uint8_t transparent_index, uint8_t *indices) {
     const pix_srgba8 none = {0, 0, 0, 0};
@@ -1372,8 +1361,6 @@ static inline pix_status pix_map_indexed_alpha(pix_table table, const pix_srgba8
         status = pix_apart_(indices, count, pixels, count * sizeof *pixels);
     if (status != PIX_OK)
         return status;
-    if (!table.len)
-        return pix_map_none_(pixels, count, alpha, transparent_index, indices);
     return (pix_status)pix_raw_map_indexed_alpha(table.entries, table.len, pixels, count, alpha, transparent_index, indices,
                                                  count);
 }
@@ -1545,7 +1532,7 @@ static inline pix_status pix_diffuse_indexed_alpha(pix_table table, const pix_sr
     if (status != PIX_OK)
         return status;
     if (!table.len)
-        return pix_map_none_(pixels, count, alpha, transparent_index, indices);
+        return (pix_status)pix_raw_map_indexed_alpha(table.entries, 0, pixels, count, alpha, transparent_index, indices, count);
     return (pix_status)pix_raw_diffuse_indexed_alpha(table.entries, table.len, pixels, count, width, alpha, transparent_index,
                                                      work, work_len, indices, count);
 }
@@ -1595,7 +1582,7 @@ static inline pix_status pix_diffuse_indexed_by_alpha(pix_table table, const pix
     if (status != PIX_OK)
         return status;
     if (!table.len)
-        return pix_map_none_(pixels, count, alpha, transparent_index, indices);
+        return (pix_status)pix_raw_map_indexed_alpha(table.entries, 0, pixels, count, alpha, transparent_index, indices, count);
     return (pix_status)pix_raw_diffuse_indexed_by_alpha(table.entries, table.len, pixels, count, width, alpha,
                                                         transparent_index, how.strength, how.serpentine, work, work_len,
                                                         indices, count);

@@ -82,24 +82,6 @@ def _table_rgba(buffer: Any) -> Memory:
     return memory
 
 
-def _without_entries(match: Any) -> Any:
-    """What a function that matches does where there is no entry: it takes pixels that are all below the alpha."""
-
-    def fill(table: int, _: int, pixels: int, count: int, alpha: int, index: int, indices: int, size: int) -> int:
-        seen = (ctypes.c_ubyte * count)()
-        match(table, 1, pixels, count, alpha, 1, ctypes.addressof(seen), count)
-        if 0 in bytes(seen):
-            return Status.BAD_TABLE
-        ctypes.memset(indices, index, size)
-        return 0
-
-    return fill
-
-
-_map_none = Call("pix_raw_map_indexed_alpha")
-_map_none.both = tuple(map(_without_entries, _map_none.both))
-
-
 def _indices(indices: Any, count: int, *read: Memory) -> Tuple[Any, Memory]:
     """The buffer that as many indices are written to, which is made where there is none, and its memory."""
     if indices is None:
@@ -147,7 +129,7 @@ def map_indexed(
     if size == 3:
         _map(count, entries, source, target)
     else:
-        (_map_alpha if entries.length else _map_none)(count, entries, source, alpha, transparent_index, target)
+        _map_alpha(count, entries, source, alpha, transparent_index, target)
     return indices
 
 
@@ -216,7 +198,7 @@ def diffuse_indexed(
     across, count = _across(share, across, source, size), _count(source, size)
     indices, target = _indices(indices, count, entries, source)
     if not entries.length:
-        _map_none(count, entries, source, alpha, transparent_index, target)
+        _map_alpha(count, entries, source, alpha, transparent_index, target)
         return indices
     room = Memory(bytearray(3 * 4 * across))
     how = share, back, room.address, 4 * across
