@@ -132,7 +132,7 @@ def of_one_size(pictures):
 
     def middle(picture):
         left, top = (width - picture.size[0]) // 2, (height - picture.size[1]) // 2
-        sheet = pix.Image.new(width, height)
+        sheet = pix.Image.new(width, height, pix.RGBA8)
         sheet.run(pix.copy_image((left, top, *picture.size), pix.Image(picture.pixels, *picture.size)))
         return Picture((width, height), bytes(sheet.pixels), picture.time)
 

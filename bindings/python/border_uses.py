@@ -116,7 +116,7 @@ def read_by(buffer, type):
 
 
 def masked_by(buffer):
-    pix.Image.new(WIDE, HIGH).run(
+    pix.Image.new(WIDE, HIGH, pix.RGBA8).run(
         pix.composite_matte(WHOLE, pix.Matte(buffer, WIDE, 40), (9, 9, 9, 9))
     )
 
@@ -251,7 +251,7 @@ TAKEN = [
     ),
     (
         "Image.run",
-        lambda it, n: pix.Image.new(4, 4).run(
+        lambda it, n: pix.Image.new(4, 4, pix.RGBA8).run(
             pix.copy_image((0, 0, 4, 4), pix.Image(it.read(64), n(4), n(4)))
         ),
     ),

@@ -25,14 +25,14 @@ LETTER = """
 
 def new_sky():
     """Returns a picture with the color of the sky."""
-    picture = pix.Image.new(64, 36)
+    picture = pix.Image.new(64, 36, pix.RGBA8)
     picture.run(pix.copy_color((0, 0, 64, 36), SKY))
     return picture
 
 
 def new_ball():
     """Returns a sprite of 16 by 16 pixels: a ball, and clear around it."""
-    ball = pix.Image.new(16, 16)
+    ball = pix.Image.new(16, 16, pix.RGBA8)
     for y in range(16):
         for x in range(16):
             if (2 * x - 15) ** 2 + (2 * y - 15) ** 2 < 256:
@@ -71,7 +71,7 @@ def index_picture(picture):
 
 def draw_by_tiles(picture, commands):
     """Draws a list of commands on a picture of 64 by 36 pixels, a tile of 32 by 18 at a time."""
-    tile = pix.Image.new(32, 18)
+    tile = pix.Image.new(32, 18, pix.RGBA8)
     for top in (0, 18):
         for left in (0, 32):
             tile.run(*commands, origin=(left, top))
@@ -115,7 +115,7 @@ def main(lake):
         pix.composite_image((-6, 4, 16, 16), ball),
         pix.composite_image((56, 26, 16, 16), ball),
     ]
-    picture = pix.Image.new(64, 36)
+    picture = pix.Image.new(64, 36, pix.RGBA8)
     draw_by_tiles(picture, commands)
     picture.save("tiles.ppm")
 

@@ -133,7 +133,7 @@ class Patterns(unittest.TestCase):
         source = pix.Image(tile, 6, 5)
         regions = [(-3, -5, 20, 18, 2, 3), (4, 2, 7, 8, 3, 3), (30, 0, 5, 5, 1, 1), (0, 0, 9, 9, 0, 2), (0, 0, 0, 9, 2, 2)]
         for x, y, width, height, wide, high in regions:
-            image = pix.Image.new(15, 11)
+            image = pix.Image.new(15, 11, pix.RGBA8)
             image.run(*pix.repeat_image((x, y, width, height), source, (1, 2, wide, high)))
             for row in range(11):
                 for column in range(15):
@@ -200,7 +200,7 @@ class Pictures(unittest.TestCase):
         self.assertEqual(pix.Image.from_pillow(palette).type, pix.RGBA16)
         self.assertEqual(pix.Image.from_pillow(pillow.new("RGBA", (0, 3))).to_pillow().size, (0, 3))
         with self.assertRaises(ValueError):
-            pix.Image.new(1, 1).to_pillow("CMYK")
+            pix.Image.new(1, 1, pix.RGBA8).to_pillow("CMYK")
 
 
 if __name__ == "__main__":

@@ -55,7 +55,7 @@ class OneWayIn(unittest.TestCase):
         self.assertLessEqual(names, {name for name, _ in TAKEN})
 
     def test_objects_that_say_they_are_others(self):
-        asked, image = [], pix.Image.new(4, 4)
+        asked, image = [], pix.Image.new(4, 4, pix.RGBA8)
         for kind in (pix.Command, pix.CommandList, pix.Image, pix.Matte, pix.PixelType):
             class_of = property(lambda self, kind=kind: asked.append(kind) or kind)
             given = type(
@@ -259,8 +259,8 @@ class NoPixels(unittest.TestCase):
                 self.soon(lambda: copy.copy(image))
                 self.soon(lambda: image.to_array(a))
             self.soon(lambda: pix.Image.from_array(b"", a, size=size))
-            full = pix.Image.new(9, 9)
-            self.soon(lambda: full.run(pix.composite_image((0, 0, *size), pix.Image.new(*size))))
+            full = pix.Image.new(9, 9, pix.RGBA8)
+            self.soon(lambda: full.run(pix.composite_image((0, 0, *size), pix.Image.new(*size, pix.RGBA8))))
             self.soon(
                 lambda: full.run(
                     pix.composite_matte((0, 0, most, most), pix.Matte(b"", *size), (9, 9, 9, 9))
@@ -269,7 +269,7 @@ class NoPixels(unittest.TestCase):
         for width, height in ((0, 3 * 10**7), (0, 2**32 - 1), (2**32 - 1, 0)):
             self.soon(
                 lambda: self.assertEqual(
-                    pix.repeat_image((0, 0, width, height), pix.Image.new(1, 1)), []
+                    pix.repeat_image((0, 0, width, height), pix.Image.new(1, 1, pix.RGBA8)), []
                 )
             )
 
@@ -310,7 +310,7 @@ class NoPixels(unittest.TestCase):
         with mock.patch.object(_image, "zeros", side_effect=AssertionError("memory is made")):
             for size in ((2**31, 1), (1, 2**31), (2**31, 0), (2**32 - 1, 2**32 - 1)):
                 with self.assertRaises(pix.PixError) as caught:
-                    pix.Image.new(*size)
+                    pix.Image.new(*size, pix.RGBA8)
                 self.assertEqual(caught.exception.status, pix.Status.BAD_SIZE)
         self.assertRaises(MemoryError, pix.Image.new, 2**31 - 1, 2**31 - 1, pix.RGBA16)
 

@@ -74,7 +74,7 @@ class Collected(unittest.TestCase):
 
     def test_nothing_runs_on_memory_that_was_let_go(self):
         for kind in (bytearray, OwnBytes):
-            pixels, target, ran = kind(LENGTH), pix.Image.new(8, 8), []
+            pixels, target, ran = kind(LENGTH), pix.Image.new(8, 8, pix.RGBA8), []
             uses = (
                 (lambda image: image.run(pix.clear()), lambda image: image.to_array(pix.SRGBA8),
                  copy.copy, lambda image: target.run(pix.copy_image(WHOLE, image)),
@@ -108,7 +108,7 @@ class Collected(unittest.TestCase):
         del cycle
         gc.collect()
         image.run(pix.clear())
-        pix.Image.new(8, 8).run(commands)
+        pix.Image.new(8, 8, pix.RGBA8).run(commands)
 
     def test_a_cycle_through_the_buffer_is_freed(self):
         buffer = OwnBytes(LENGTH)

@@ -55,7 +55,7 @@ class Colors(unittest.TestCase):
 
     def test_what_is_no_color(self):
         for wrong in (
-            "red",
+            "reddish",
             "c87828",
             "#c8782",
             "#c8782g",
@@ -290,7 +290,7 @@ class Arrays(unittest.TestCase):
         self.assertEqual(
             (matte.shape, matte.dtype, matte.flags.writeable), ((2, 3), numpy.dtype("u2"), False)
         )
-        self.assertEqual(numpy.asarray(pix.Image.new(0, 7)).shape, (7, 0, 4))
+        self.assertEqual(numpy.asarray(pix.Image.new(0, 7, pix.RGBA8)).shape, (7, 0, 4))
         for sizes in ((4, 5), (4, 4, 5), (4, 4, 3), (2**31, 2**31)):
             with self.assertRaises(pix.PixError):
                 numpy.asarray(pix.Image(bytearray(64), *sizes))

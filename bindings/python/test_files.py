@@ -267,7 +267,7 @@ class Saved(Trial):
     def test_refusals(self):
         image = fan()
         self.assertRaisesRegex(
-            ValueError, "0 x 3 pixels is no file", pix.Image.new(0, 3).save, self.folder / "a.png"
+            ValueError, "0 x 3 pixels is no file", pix.Image.new(0, 3, pix.RGBA8).save, self.folder / "a.png"
         )
         self.assertRaises(ValueError, image.save, self.folder / "a.nothing")
         self.assertRaises(OSError, image.save, self.folder / "none" / "a.png")
@@ -302,7 +302,7 @@ class Saved(Trial):
             with alone(is_alone):
                 shown = fan()._repr_png_()
                 self.assertEqual(straight(pix.Image.open(io.BytesIO(shown))), straight(fan()))
-                self.assertIsNone(pix.Image.new(0, 4)._repr_png_())
+                self.assertIsNone(pix.Image.new(0, 4, pix.RGBA8)._repr_png_())
 
 
 class Readme(Trial):

@@ -257,7 +257,7 @@ class Modes(unittest.TestCase):
 
     def test_a_size_that_malloc_does_not_keep(self):
         """Memory of large pages is as any other: writable, zero at first, and let go."""
-        image = pix.Image.new(1100, 1000)
+        image = pix.Image.new(1100, 1000, pix.RGBA8)
         self.assertIsNot(type(image.pixels.obj), bytearray)
         self.assertEqual((len(image.pixels), any(image.pixels)), (4_400_000, False))
         image.run(pix.copy_color((0, 0, 1100, 1000), pix.srgb("#fff")))
@@ -333,7 +333,7 @@ class Indexed(unittest.TestCase):
         )
         for color, level in zip(shown.getdata(), source.getdata()):
             self.assertTrue(level[3] == 0 or color == level)
-        clear = pix.Image.new(3, 2)
+        clear = pix.Image.new(3, 2, pix.RGBA8)
         self.assertEqual(
             list(clear.to_pillow("P").convert("RGBA").getchannel("A").getdata()), [0] * 6
         )
@@ -374,14 +374,14 @@ class Indexed(unittest.TestCase):
                 self.assertEqual(picture.convert("RGBA").tobytes(), shown)
         opaque = pix.Image.from_pillow(gradient("RGB")).to_pillow("P", keep_alpha=True)
         self.assertNotIn("transparency", opaque.info)
-        self.assertEqual(pix.Image.new(0, 3).to_pillow("P", keep_alpha=True).size, (0, 3))
+        self.assertEqual(pix.Image.new(0, 3, pix.RGBA8).to_pillow("P", keep_alpha=True).size, (0, 3))
         for wrong in (b"", bytes(3), bytes(4 * 257), []):
             self.assertRaises(ValueError, image.to_pillow, "P", wrong, keep_alpha=True)
         self.assertRaises(ValueError, image.to_pillow, "RGBA", keep_alpha=True)
 
     def test_what_is_refused(self):
-        image = pix.Image.new(2, 2)
-        for wrong in (b"", bytes(4), bytes(771), [], ["red"], [(1, 2)]):
+        image = pix.Image.new(2, 2, pix.RGBA8)
+        for wrong in (b"", bytes(4), bytes(771), [], ["reddish"], [(1, 2)]):
             self.assertRaises(ValueError, image.to_pillow, "P", wrong)
         made = mock.patch.object(_pillow, "pixels_of", side_effect=AssertionError("all pixels"))
         for more in ({}, {"keep_alpha": True}):

@@ -39,7 +39,7 @@ class Refusals(unittest.TestCase):
     def setUp(self):
         self.pixels = bytearray(range(64))
         self.image = pix.Image(self.pixels, 4, 4)
-        self.other = pix.Image.new(4, 4)
+        self.other = pix.Image.new(4, 4, pix.RGBA8)
 
     def tearDown(self):
         self.assertEqual(self.pixels, bytes(range(64)))
@@ -82,7 +82,7 @@ class Refusals(unittest.TestCase):
         with self.assertRaises(pix.PixError) as caught:
             self.image.run(far, pix.composite_color(WHOLE, COLOR, NO_OPERATOR), origin=(LONG - 5, 0))
         self.assertEqual((caught.exception.status, caught.exception.index), (pix.Status.BAD_OP, 1))
-        last = pix.Image.new(4, 4)
+        last = pix.Image.new(4, 4, pix.RGBA8)
         last.run(far, origin=[LONG - 5, 0])
         self.assertEqual(bytes(last.pixels), bytes(COLOR) * 4 + bytes(48))
 
@@ -105,19 +105,19 @@ class Refusals(unittest.TestCase):
         good = pix.copy_color(WHOLE, COLOR)
         for bad, status in ((pix.Command(99), pix.Status.BAD_KIND), (pix.composite_color(WHOLE, COLOR, NO_OPERATOR), pix.Status.BAD_OP)):
             with self.assertRaises(pix.PixError) as caught:
-                pix.CommandList(good, bad)
+                pix.CommandList(good, bad, type=pix.RGBA8)
             self.assertEqual((caught.exception.status, caught.exception.index), (status, 1))
-        for wrong in (None, [good], pix.CommandList(good)):
+        for wrong in (None, [good], pix.CommandList(good, type=pix.RGBA8)):
             self.assertRaisesRegex(TypeError, "is not a Command", pix.CommandList, wrong)
         self.assertRaises(ValueError, pix.CommandList, good, type=pix.GRAYA8)
         self.assertRaises(TypeError, pix.CommandList, good, type=8)
-        prepared = pix.CommandList(good)
+        prepared = pix.CommandList(good, type=pix.RGBA8)
         for wrong in ((prepared, prepared), (good, prepared)):
             self.assertRaisesRegex(TypeError, "is not a Command", self.image.run, *wrong)
         for other in (pix.GRAYA8, pix.RGBA16):
             self.assertRaisesRegex(TypeError, "a list for RGBA8", pix.Image.new(4, 4, other).run, prepared)
         self.assertRaises(TypeError, pix.Image(bytes(64), 4, 4).run, prepared)
-        near, far = pix.Image(memoryview(self.pixels)[60:], 1, 1), pix.Image.new(1, 1)
+        near, far = pix.Image(memoryview(self.pixels)[60:], 1, 1), pix.Image.new(1, 1, pix.RGBA8)
         for sources, number in (((near, far), 0), ((far, near), 1), ((far, near, near, far), 1)):
             shared = pix.CommandList(*(pix.copy_image((9, 9, 1, 1), source) for source in sources))
             self.assertRaisesRegex(ValueError, f"command {number}: its source shares", self.image.run, shared)
@@ -139,7 +139,7 @@ class Refusals(unittest.TestCase):
             with self.assertRaisesRegex(TypeError, "made once"):
                 again()
         self.assertEqual((self.image.type, source.width, matte.bits), (pix.RGBA8, 4, 8))
-        self.assertRaises(TypeError, pix.Image(bytearray(16), 2, 1, type=pix.RGBA16).run, pix.composite_matte(WHOLE, matte, COLOR))
+        self.assertEqual((matte.bits, matte.width), (8, 4))
 
     def test_kinds_of_pixels(self):
         self.assertRaises((TypeError, ValueError), pix.PixelType, "RGB8", 1, ctypes.c_uint8, "pix_raw_run_window")
@@ -222,7 +222,7 @@ class Number:
 
 class Borders(unittest.TestCase):
     def test_a_view_that_is_released(self):
-        image = pix.Image.new(16, 16)
+        image = pix.Image.new(16, 16, pix.RGBA8)
         with image.pixels as view:
             self.assertEqual(len(view), 1024)
         image.pixels.release()
@@ -232,7 +232,7 @@ class Borders(unittest.TestCase):
 
     def test_a_number_that_exchanges_the_source(self):
         pixels = bytearray(64)
-        image, other = pix.Image(pixels, 4, 4), pix.Image.new(4, 4)
+        image, other = pix.Image(pixels, 4, 4), pix.Image.new(4, 4, pix.RGBA8)
         commands = []
         number = Number(0, lambda: commands and setattr(commands[0], "_source", image))
         commands.append(pix.copy_image(WHOLE, other))
@@ -284,9 +284,9 @@ class Borders(unittest.TestCase):
         for same in (pix.GRAYA8, pix.Image, pix.Op.XOR, pix.Format.SGRAY8, pix.Status.BAD_OP, pix.convert):
             self.assertIs(pickle.loads(pickle.dumps(same)), same)
             self.assertIs(copy.deepcopy(same), same)
-        empty = copy.copy(pix.Image.new(0, 7))
+        empty = copy.copy(pix.Image.new(0, 7, pix.RGBA8))
         self.assertEqual((empty.width, empty.height), (0, 7))
-        painted = [pix.Image.new(3, 3), pix.Image.new(3, 3)]
+        painted = [pix.Image.new(3, 3, pix.RGBA8), pix.Image.new(3, 3, pix.RGBA8)]
         command = pix.composite_image((0, 0, 3, 3), image, op=pix.Op.PLUS)
         painted[0].run(command)
         painted[1].run(*pickle.loads(pickle.dumps([command])))
@@ -302,7 +302,7 @@ class Borders(unittest.TestCase):
         self.assertEqual(repr(prepared), "<pix.CommandList of 2, RGBA8>")
         for value in (7, 200):  # what the source has is read at each run
             source.run(pix.copy_color((1, 1, 1, 1), (value,) * 4))
-            one, all = pix.Image.new(3, 3), pix.Image.new(3, 3)
+            one, all = pix.Image.new(3, 3, pix.RGBA8), pix.Image.new(3, 3, pix.RGBA8)
             one.run(*commands, origin=(1, 0))
             all.run(prepared, origin=(1, 0))
             self.assertEqual(one.pixels, all.pixels)
@@ -310,12 +310,12 @@ class Borders(unittest.TestCase):
         gc.collect()
         again = pickle.loads(pickle.dumps(prepared))
         self.assertEqual((len(again), again.type, again[1].source.pixels), (2, pix.RGBA8, prepared[1].source.pixels))
-        other = pix.Image.new(3, 3)
+        other = pix.Image.new(3, 3, pix.RGBA8)
         other.run(again, origin=(1, 0))
         self.assertEqual(other.pixels, all.pixels)
         wide = pickle.loads(pickle.dumps(pix.CommandList(pix.copy_color((0, 0, 1, 1), (1, 2, 3, 65535)), type=pix.RGBA16)))
         self.assertEqual(wide.type, pix.RGBA16)
-        pix.Image.new(1, 1).run(pix.CommandList())
+        pix.Image.new(1, 1, pix.RGBA8).run(pix.CommandList(type=pix.RGBA8))
 
     def test_texts(self):
         image, matte = pix.Image.new(3, 2, pix.RGBA16), pix.Matte(bytes(6), 3, 2)
@@ -391,7 +391,7 @@ class Threads(unittest.TestCase):
         return max(pause, time.perf_counter() - last), took[0]
 
     def test_the_lock_is_let_go(self):
-        image = pix.Image.new(512, 512)
+        image = pix.Image.new(512, 512, pix.RGBA8)
         commands = self.long_list(image)
         # On a busy machine a thread may stand still for other reasons: one try in ten is enough.
         self.assertTrue(any(pause < took / 2 for pause, took in (self.longest_pause(image, commands) for _ in range(10))))
@@ -409,15 +409,15 @@ class Threads(unittest.TestCase):
         return most
 
     def test_two_threads_paint_at_once(self):
-        images = [pix.Image.new(512, 512) for _ in range(2)]
-        commands = self.long_list(pix.Image.new(512, 512))
+        images = [pix.Image.new(512, 512, pix.RGBA8) for _ in range(2)]
+        commands = self.long_list(pix.Image.new(512, 512, pix.RGBA8))
         # On a busy machine one may end before the other begins: one try in ten is enough.
         self.assertTrue(any(self.most_at_once(images, commands) == 2 for _ in range(10)))
         self.assertEqual(images[0].pixels, images[1].pixels)
 
     def test_threads_paint_bands_of_one_image(self):
-        whole, buffer = pix.Image.new(512, 512), bytearray(4 * 512 * 512)
-        commands = self.long_list(pix.Image.new(512, 512)) + [
+        whole, buffer = pix.Image.new(512, 512, pix.RGBA8), bytearray(4 * 512 * 512)
+        commands = self.long_list(pix.Image.new(512, 512, pix.RGBA8)) + [
             pix.composite_color((-9, 100, 300, 200), (9, 8, 7, 99)), pix.composite_color((200, 99, 999, 300), (50, 0, 9, 60)),
         ]  # fmt: skip
         whole.run(*commands)
@@ -434,7 +434,7 @@ class Threads(unittest.TestCase):
         self.assertEqual(buffer, whole.pixels)
 
     def test_one_waits_for_what_another_writes(self):
-        image, source = pix.Image.new(4, 4), pix.Image.new(4, 4)
+        image, source = pix.Image.new(4, 4, pix.RGBA8), pix.Image.new(4, 4, pix.RGBA8)
         painted, read = image._rows.memory, source._rows.memory
         for others in (([painted], []), ([read], []), ([], [painted])):
             done = threading.Event()
@@ -450,7 +450,7 @@ class Threads(unittest.TestCase):
 
     def test_one_that_begins_inside_another_runs_at_once(self):
         # As in the handler of a signal, which comes before or after what the library does.
-        image = pix.Image.new(4, 4)
+        image = pix.Image.new(4, 4, pix.RGBA8)
         inner = lambda: image.run(pix.copy_color(WHOLE, COLOR)) or 0
         for is_long in (False, True):
             turns.take(is_long, inner, (), [image._rows.memory], [])
@@ -462,12 +462,12 @@ class Threads(unittest.TestCase):
             raise KeyboardInterrupt
 
         for is_long in (False, True):
-            self.assertRaises(KeyboardInterrupt, turns.take, is_long, interrupted, (), [pix.Image.new(1, 1)._rows.memory], [])
+            self.assertRaises(KeyboardInterrupt, turns.take, is_long, interrupted, (), [pix.Image.new(1, 1, pix.RGBA8)._rows.memory], [])
         self.assertFalse(turns.running)
 
     def test_a_turn_whose_end_was_left_out(self):
         # As where an interrupt came before the last line of a call: what tells that it is over is its lock alone.
-        image, left = pix.Image.new(4, 4), []
+        image, left = pix.Image.new(4, 4, pix.RGBA8), []
         with another_call([image._rows.memory], []):
             left += turns.running
         turns.running.update(left)
@@ -479,7 +479,7 @@ class Threads(unittest.TestCase):
 
     @unittest.skipIf(not hasattr(os, "fork"), "no fork")
     def test_a_child_process_has_no_turns(self):
-        image = pix.Image.new(4, 4)
+        image = pix.Image.new(4, 4, pix.RGBA8)
         with another_call([image._rows.memory], []):
             child = os.fork()
             if child == 0:
@@ -488,7 +488,7 @@ class Threads(unittest.TestCase):
             self.assertEqual(os.waitpid(child, 0)[1], 0)
 
     def test_one_image_from_many_threads(self):
-        image, source = pix.Image.new(512, 512), pix.Image.new(512, 512)
+        image, source = pix.Image.new(512, 512, pix.RGBA8), pix.Image.new(512, 512, pix.RGBA8)
         whole = (0, 0, 512, 512)
         source.run(pix.copy_color(whole, (1, 0, 0, 0)))
         command = pix.composite_image(whole, source, op=pix.Op.PLUS)

@@ -168,7 +168,7 @@ class Replaced(Trial):
             environment = {**os.environ, "PYTHONPATH": folder}
             subprocess.run([sys.executable, "-c", code], stdout=file, env=environment, check=True)
             self.assertEqual(os.fstat(file.fileno()).st_nlink, 1)
-        self.is_picture(path, pix.Image.new(3, 2))
+        self.is_picture(path, pix.Image.new(3, 2, pix.RGBA8))
 
     def test_a_folder_where_nothing_may_be_added(self):
         real = open

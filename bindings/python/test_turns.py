@@ -120,7 +120,7 @@ class Turns(unittest.TestCase):
                 lambda it: it.run(*paints),
                 taken,
                 lambda it, seen: seen,
-                lambda: pix.Image.new(400, 400),
+                lambda: pix.Image.new(400, 400, pix.RGBA8),
             )
 
 
@@ -158,7 +158,7 @@ class Circles(unittest.TestCase):
 
     def test_each_inside_a_call_on_what_the_next_paints(self):
         for count in (2, 3, 5):
-            images = [pix.Image.new(4, 4) for _ in range(count)]
+            images = [pix.Image.new(4, 4, pix.RGBA8) for _ in range(count)]
             calls = [
                 lambda *how, i=i: self.inside(images[i], images[(i + 1) % count], *how)
                 for i in range(count)
@@ -170,7 +170,7 @@ class Circles(unittest.TestCase):
 
     def test_one_that_has_just_begun(self):
         """The other one can't begin, since this one holds what calls begin under."""
-        image, free, other = (pix.Image.new(4, 4) for _ in range(3))
+        image, free, other = (pix.Image.new(4, 4, pix.RGBA8) for _ in range(3))
         paints, begun = threading.Event(), threading.Event()
 
         def outer(meet, said):
@@ -195,7 +195,7 @@ class Circles(unittest.TestCase):
 
     def test_what_is_no_circle_waits(self):
         """Both wait for one that paints on, and neither for the other."""
-        images = [pix.Image.new(4, 4) for _ in range(3)]
+        images = [pix.Image.new(4, 4, pix.RGBA8) for _ in range(3)]
         go, begun = threading.Event(), threading.Event()
         stay = lambda: (begun.set(), go.wait(10), 0)[2]
         memory = images[2]._rows.memory
@@ -249,7 +249,7 @@ class Interrupts(unittest.TestCase):
 
         self.handled(interrupt)
         sprite, chance, interrupts, pixels = (
-            pix.Image.new(64, 64),
+            pix.Image.new(64, 64, pix.RGBA8),
             random.Random(3),
             0,
             bytearray(4 * 64 * 64),
@@ -275,7 +275,7 @@ class Interrupts(unittest.TestCase):
         self.assertGreater(interrupts, 20)
 
     def test_a_handler_may_paint(self):
-        image, other, painted, inside = pix.Image.new(64, 64), pix.Image.new(64, 64), [], []
+        image, other, painted, inside = pix.Image.new(64, 64, pix.RGBA8), pix.Image.new(64, 64, pix.RGBA8), [], []
 
         def paint(*_):
             if inside:

@@ -50,17 +50,17 @@ class RowsCopy(Copy):
 
     def make(self, is_long: bool) -> None:
         """Copies the rows."""
-        move_rows(is_long, self.address, self.source, self.rows, self.wide, self.apart)
+        move_rows(is_long, self.address, self.source.address, self.rows, self.wide, self.apart)
 
 
 def move_rows(
-    is_long: bool, target: int, source: Memory, rows: int, wide: int, apart: int
+    is_long: bool, target: int, source: int, rows: int, wide: int, apart: int
 ) -> int:
     """Copies rows of `wide` bytes, which lie `apart`, to an address, without gaps."""
     if wide == apart:
         wide, rows = wide * rows, 1
     for row in range(rows):
-        _MOVES[is_long](target + row * wide, source.address + row * apart, wide)
+        _MOVES[is_long](target + row * wide, source + row * apart, wide)
     return 0
 
 
@@ -73,8 +73,8 @@ def padded(table: Memory, length: int, size: int = 3) -> Copy:
     return Copy(table, _TABLES[size](), length)
 
 
-def copied_rows(memory: Memory, wide: int, apart: int, rows: int) -> bytearray:
-    """A copy of rows of `wide` bytes, which lie `apart`, without what lies between them.
+def copied_rows(memory: Memory, wide: int, apart: int, rows: int, first: int = 0) -> bytearray:
+    """A copy of rows of `wide` bytes, which lie `apart` from a place on, without what lies between.
 
     It is made in a turn of its own.
     """
@@ -83,7 +83,7 @@ def copied_rows(memory: Memory, wide: int, apart: int, rows: int) -> bytearray:
         return copy
     refuse_gone(memory)
     is_long, target = len(copy) > LONG, Memory(copy)
-    how = is_long, target.address, memory, rows, wide, apart
+    how = is_long, target.address, memory.address + first, rows, wide, apart
     turns.take(is_long, move_rows, how, [], [memory])
     return copy
 

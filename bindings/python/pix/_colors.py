@@ -8,6 +8,7 @@ from functools import lru_cache
 from typing import Any, Iterable, Optional, SupportsIndex, Tuple, Union
 
 from pix._bitmap import Bitmap, write
+from pix._names import NAMES
 from pix._numbers import index
 from pix._pixels import RGBA16, PixelType, kind_of
 from pix._values import Format
@@ -38,6 +39,18 @@ class Color(tuple):
     def type(self) -> PixelType:
         """The kind of pixels that it goes with."""
         return self._type
+
+    @property
+    def srgb(self) -> Srgb:
+        """The color of sRGB that is nearest.
+
+        >>> pix.srgb("#c87828").of(pix.RGBA16).srgb
+        pix.srgb("#c87828")
+        """
+        made, wide = bytearray(4), "H" if self._type.max > 255 else "B"
+        source = Bitmap(array(wide, self), Format[f"{self._type}P"], 1, 1)
+        write(Bitmap(made, Format.SRGBA8, 1, 1), source)
+        return Srgb(*made)
 
     def __repr__(self) -> str:
         return f"pix.Color({tuple(self)}, pix.{self._type})"
@@ -113,7 +126,8 @@ def srgb(
     *color: Any, alpha: Optional[SupportsIndex] = None, opacity: Optional[float] = None
 ) -> Srgb:
     """A color of sRGB to paint with, on images of all kinds: by a text "#c87828", "#c8782880",
-    "#fa0" or "#fa08", by three or four numbers from 0 to 255, or by a tuple of them.
+    "#fa0" or "#fa08", by a name that CSS has, as "tomato", by three or four numbers from 0 to 255,
+    or by a tuple of them.
 
     The alpha is straight: the colors aren't multiplied by it. It is the fourth number, or `alpha`,
     from 0 to 255, or `opacity`, from 0 to 1; without them it is opaque.
@@ -150,17 +164,19 @@ def srgb(
 
 
 def _of_text(text: str) -> Tuple[int, ...]:
-    """The channels of a text such as "#c87828"."""
-    digits = text[1:]
+    """The channels of a text such as "#c87828" or "tomato"."""
+    name = text.replace(" ", "").lower()
+    digits = NAMES.get(name, text[1:])
     try:
-        if text[:1] != "#" or len(digits) not in (3, 4, 6, 8) or not digits.isalnum():
+        if (text[:1] != "#" and name not in NAMES) or len(digits) not in (3, 4, 6, 8) or not digits.isalnum():
             raise ValueError
         return tuple(
             bytes.fromhex("".join(2 * digit for digit in digits) if len(digits) < 5 else digits)
         )
     except ValueError:
         raise ValueError(
-            f'{text!r} is no color of sRGB: write one as "#c87828", or "#c8782880" with an alpha'
+            f'{text!r} is no color of sRGB: write one as "#c87828", "#c8782880" with an alpha, or a'
+            ' name of CSS, as "tomato"'
         ) from None
 
 

@@ -9,7 +9,8 @@ from pix._memory import NOWHERE, Memory, is_a, name_of
 from pix._numbers import index
 from pix._pixels import PixelType, RegionRecord
 from pix._values import Op, Region, region_of, u32
-from pix._views import Rows, View
+from pix._views import MASK8, Rows, View
+from pix._wide import WideMask, WideMasks
 
 NAMES = ("clear", "copy_color", "copy_image", "composite_color", "composite_image", "composite_matte",
          "composite_image_matte", "composite_image_alpha")  # fmt: skip
@@ -100,8 +101,9 @@ def _all_of(view: Optional[View]) -> Region:
     return region_of((0, 0, 0, 0) if view is None else (0, 0, view.width, view.height))
 
 
-def made(command: Command, type: PixelType) -> Tuple[Any, List[Memory]]:
-    """The command as the library reads it, for an image of this type, and the memory that it reads.
+def made(command: Command, type: PixelType, wide: WideMasks) -> Tuple[Any, List[Memory]]:
+    """The command as the library reads it, for an image of this type, and the memory that it reads. Masks that are to be
+    widened first are added to `wide`.
 
     It runs no code of the caller: all numbers and buffers were taken when the command was made.
     """
@@ -111,9 +113,9 @@ def made(command: Command, type: PixelType) -> Tuple[Any, List[Memory]]:
     record.to, record.from_ = RegionRecord(*command._to), RegionRecord(*command._from)
     record.pixels = record.mattes = NOWHERE
     color, source = command._color, command._source
-    read = [] if source is None else [note(record, source._rows, type)]
+    read = [] if source is None else [note(record, source._rows, type, wide)]
     if command._mask is not None:
-        read.append(note_mask(record, command._mask._rows, command._mask_from, type))
+        read.append(note_mask(record, command._mask._rows, command._mask_from, type, wide))
     if not 0 <= command._alpha <= type.max:
         raise ValueError(f"{command._alpha} is no opacity of {type}")
     record.alpha = command._alpha
@@ -122,28 +124,37 @@ def made(command: Command, type: PixelType) -> Tuple[Any, List[Memory]]:
     return record, read
 
 
-def note(record: Any, rows: Rows, type: PixelType) -> Memory:
+def note(record: Any, rows: Rows, type: PixelType, wide: WideMasks) -> Memory:
     """Notes a source in a command for an image of this type, and returns the memory that is read."""
     record.width, record.height, record.stride = rows.width, rows.height, rows.stride
     if rows.type is not None:
         if rows.type is not type:
-            raise TypeError(f"a source of {rows.type} doesn't go with {type}")
+            raise TypeError(
+                f"a source of {rows.type} doesn't go with an image of {type}: write source.copy(pix.{type}), or make the"
+                f" image with pix.{rows.type}"
+            )
         record.pixels, record.pixel_count = rows.memory.address, rows.elements
     else:
-        note_mattes(record, rows, type)
+        note_mattes(record, rows, type, wide)
     return rows.memory
 
 
-def note_mattes(record: Any, rows: Rows, type: PixelType) -> None:
-    """Notes the values of a matte in a command for an image of this type."""
-    if rows.type is not None or rows.element is not type._channel:
-        raise TypeError(f"a matte of other bits doesn't go with {type}")
-    record.mattes, record.matte_count = rows.memory.address, rows.elements
+def note_mattes(record: Any, rows: Rows, type: PixelType, wide: WideMasks) -> None:
+    """Notes the values of a matte in a command for an image of this type: those of 8 bits go with all images."""
+    address = rows.memory.address
+    if rows.element is not type._channel:
+        if rows.type is not None or rows.element is not MASK8:
+            raise TypeError(f"a mask of 16 bits doesn't go with an image of {type}: make it of bytes, with bits=8")
+        place = address, rows.elements, rows.width, rows.height, rows.stride
+        if place not in wide:
+            wide[place] = WideMask(rows)
+        address = wide[place].address
+    record.mattes, record.matte_count = address, rows.elements
 
 
-def note_mask(record: Any, rows: Rows, from_: Region, type: PixelType) -> Memory:
+def note_mask(record: Any, rows: Rows, from_: Region, type: PixelType, wide: WideMasks) -> Memory:
     """Notes the mask of an image in a command, and returns the memory that is read."""
     record.mask = RegionRecord(*from_)
     record.mask_width, record.mask_height, record.mask_stride = rows.width, rows.height, rows.stride
-    note_mattes(record, rows, type)
+    note_mattes(record, rows, type, wide)
     return rows.memory

@@ -6,15 +6,18 @@ import ctypes
 from typing import Any, Iterable, Optional, SupportsIndex, Tuple, Union
 
 from pix._bitmap import Bitmap, new_array, write
+from pix._calls import copied_rows
+from pix._colors import Color
 from pix._command import Command
 from pix._files import opened, saved, shown
 from pix._fresh import zeros
 from pix._list import CommandList, PreparedList
-from pix._memory import MOST, Buffer, is_a, refuse_gone
+from pix._memory import MOST, Buffer, is_a, is_held, refuse_gone
+from pix._numbers import index
 from pix._pillow import facts_of, image_of, picture_of
 from pix._pixels import RGBA8, RGBA16, PixelType, kind_of
 from pix._turns import turns
-from pix._values import Format, PixError, Status, origin_of, u32
+from pix._values import Format, PixError, Status, origin_of, region_of, u32
 from pix._views import View, rows_of
 
 
@@ -68,8 +71,11 @@ class Image(View):
         super().__init__(rows)
 
     @classmethod
-    def new(cls, width: SupportsIndex, height: SupportsIndex, type: PixelType = RGBA8) -> Image:
+    def new(cls, width: SupportsIndex, height: SupportsIndex, type: PixelType = RGBA16) -> Image:
         """Makes a transparent image of so many pixels; its buffer is its `pixels`, of bytes.
+
+        Without a `type` it has 16 bits a channel, which keep all colors of sRGB, as open() and
+        from_array() make it. RGBA8 has half the memory, and loses most dark ones.
 
         Raises PixError where a side is above 2147483647, and MemoryError where there is no room.
         """
@@ -139,8 +145,8 @@ class Image(View):
         >>> file = io.BytesIO()
         >>> image = pix.Image.new(3, 2)
         >>> image.save(file, "PNG")
-        >>> pix.Image.open(file, pix.RGBA8)
-        <pix.Image 3 x 2, RGBA8>
+        >>> pix.Image.open(file)
+        <pix.Image 3 x 2, RGBA16>
         """
         saved(self, file, format, options)
 
@@ -189,6 +195,61 @@ class Image(View):
         """
         return picture_of(self, mode, table, diffuse, keep_alpha)
 
+    def copy(self, type: Optional[PixelType] = None) -> Image:
+        """A copy with pixels of its own, without what lies between the rows; of another kind of
+        pixels where a `type` is given."""
+        kind = self.type if type is None else kind_of(type)
+        source = self._bitmap()
+        source.refuse_unheld(Status.BAD_SOURCE)
+        made = Image.new(self.width, self.height, kind)
+        write(made._bitmap(), source)
+        return made
+
+    def part(self, region: Iterable[SupportsIndex]) -> Image:
+        """A part of it as an image: a view of the same pixels.
+
+        Raises ValueError where the region isn't all in the image.
+
+        >>> image = pix.Image.new(64, 64)
+        >>> image.part((16, 16, 8, 8)).run(pix.copy_color((0, 0, 9, 9), pix.srgb("tomato")))
+        >>> image[16, 23].srgb
+        pix.srgb("#ff6347")
+        """
+        x, y, width, height = region_of(region)
+        memory, element, count, wide, high, stride, type = self._rows
+        if not (0 <= x <= wide - width and 0 <= y <= high - height):
+            raise ValueError(f"{(x, y, width, height)} is not all in an image of {wide} x {high}")
+        if memory.has_gaps:
+            raise ValueError("the rows lie apart in an array: slice the array, and make an Image of it")
+        if not is_held(count, wide, high, stride):
+            raise PixError(Status.BAD_SIZE)
+        size = ctypes.sizeof(element)
+        first, many = y * stride + x, (height - 1) * stride + width if width and height else 0
+        held = self.pixels[first * size : (first + many) * size]
+        return Image(held, width, height, stride, type)
+
+    def __getitem__(self, place: Tuple[SupportsIndex, SupportsIndex]) -> Color:
+        """The pixel at (x, y): its channels, premultiplied and linear, and as `srgb` its color.
+
+        >>> image = pix.Image.new(2, 1)
+        >>> image.run(pix.copy_color((1, 0, 1, 1), pix.srgb("#c87828")))
+        >>> image[1, 0]
+        pix.Color((37852, 12309, 1391, 65535), pix.RGBA16)
+        >>> image[1, 0].srgb
+        pix.srgb("#c87828")
+        """
+        if type(place) is not tuple or len(place) != 2:
+            raise TypeError(f"{place!r} is no place: write image[x, y]")
+        x, y = map(index, place)
+        memory, element, count, wide, high, stride, kind = self._rows
+        if not (0 <= x < wide and 0 <= y < high):
+            raise IndexError(f"{(x, y)} is not in an image of {wide} x {high}")
+        if not is_held(count, wide, high, stride):
+            raise PixError(Status.BAD_SIZE)
+        size = ctypes.sizeof(element)
+        held = copied_rows(memory, size, size, 1, (y * stride + x) * size)
+        return Color(memoryview(held).cast("H" if kind.max > 255 else "B"), kind)
+
     def _bitmap(self) -> Bitmap:
         """The rows as a bitmap."""
         rows = self._rows
@@ -233,7 +294,8 @@ class Image(View):
         if len(commands) == 1 and is_a(commands[0], CommandList):
             prepared = commands[0]._prepared
             if prepared.type is not type:
-                raise TypeError(f"a list for {prepared.type} doesn't go with {type}")
+                said = f"a list for {prepared.type} doesn't go with an image of {type}"
+                raise TypeError(f"{said}: write pix.CommandList(.., type=pix.{type})")
         else:
             prepared = PreparedList(commands, type)
         if memory.is_readonly and memory.length:
@@ -248,8 +310,9 @@ class Image(View):
                 raise PixError(Status.BAD_SIZE)
             count = left = top = width = height = stride = 0
         arguments = memory.address, count, left, top, width, height, stride, prepared.address, size, done
-        is_long = type._is_long(size, width * height)
-        status = turns.take(is_long, type._calls[is_long], arguments, [memory], prepared.sources)
+        is_long = prepared.is_long(width * height)
+        call, sources = type._calls[is_long], prepared.sources
+        status = turns.take(is_long, call, arguments, [memory], sources, prepared.wide)
         if status == Status.BAD_SIZE:
             raise PixError(Status.BAD_SIZE)
         if status:

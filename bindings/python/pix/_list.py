@@ -4,22 +4,27 @@ from __future__ import annotations
 
 import ctypes
 from functools import partial
-from typing import Any, Dict, Iterator, List, Sequence, Tuple
+from typing import Any, Dict, Iterator, List, Optional, Sequence, Tuple
 
+from pix._colors import Color
 from pix._command import Command, made
-from pix._memory import NOWHERE, Alive, Memory, refuse_gone
-from pix._pixels import RGBA8, PixelType, kind_of
+from pix._library import LONG
+from pix._memory import NOWHERE, Alive, Memory, is_a, refuse_gone
+from pix._pixels import RGBA16, PixelType, kind_of
 from pix._turns import turns
 from pix._values import PixError, Status
+from pix._wide import WideMasks
 
 
 class PreparedList:
     """Commands as the library reads them, for images of one type: none of it changes, and it pins what they read."""
 
-    __slots__ = ("commands", "type", "address", "sources", "numbers", "low", "high", "alive", "_records")
+    __slots__ = ("commands", "type", "address", "sources", "numbers", "low", "high", "alive", "wide", "_records")
 
     def __init__(self, commands: Sequence[Command], type: PixelType) -> None:
-        taken = [made(command, type) for command in commands]
+        wide: WideMasks = {}
+        taken = [made(command, type, wide) for command in commands]
+        self.wide = tuple(wide.values())
         self.alive = Alive((True,))
         self.commands = tuple(commands)
         self.type = type
@@ -37,6 +42,11 @@ class PreparedList:
         self.low = min((source.address for source in self.sources), default=0)
         self.high = max((source.address + source.length for source in self.sources), default=0)
 
+    def is_long(self, pixels: int) -> bool:
+        """Whether a run on an image of so many pixels is a long call."""
+        masks = sum(mask.pixels for mask in self.wide)
+        return 4 * masks > LONG or self.type._is_long(len(self.commands), pixels)
+
     def refuse_shared(self, memory: Memory) -> None:
         """Raises a ValueError where a command reads this memory."""
         if memory.address + memory.length <= self.low or self.high <= memory.address:
@@ -46,8 +56,20 @@ class PreparedList:
                 raise ValueError(f"command {number}: its source shares memory with the image")
 
 
+def kind_read(commands: Sequence[Command]) -> PixelType:
+    """The kind of pixels of the first image or pix.Color that commands have, and else RGBA16."""
+    for command in commands:
+        if is_a(command, Command):
+            if command._source is not None and command._source._rows.type is not None:
+                return command._source._rows.type
+            if type(command._color) is Color:
+                return command._color.type
+    return RGBA16
+
+
 class CommandList(Sequence):
-    """A list of commands for images of one `type`, which is checked once, when it is made, and run often.
+    """A list of commands for images of one `type`, which is checked once, when it is made, and run often. Without a `type`
+    it is that of the first image that is read, or of a pix.Color, and else RGBA16.
 
     Image.run() takes it in the place of its commands, and then tests nothing again but what depends on the image. It
     stays as it is; what its sources hold is read at each run. A pickle has its commands, with pixels of their own.
@@ -61,12 +83,13 @@ class CommandList(Sequence):
 
     __slots__ = ("_prepared",)
 
-    def __init__(self, *commands: Command, type: PixelType = RGBA8) -> None:
-        prepared, done = PreparedList(commands, kind_of(type)), ctypes.c_size_t()
+    def __init__(self, *commands: Command, type: Optional[PixelType] = None) -> None:
+        kind = kind_read(commands) if type is None else kind_of(type)
+        prepared, done = PreparedList(commands, kind), ctypes.c_size_t()
         # On an image of no pixels all commands are tested, and none paints.
         empty = NOWHERE, 0, 0, 0, 0, 0, 0, prepared.address, len(commands), done
-        is_long = type._is_long(len(commands), 0)
-        status = turns.take(is_long, type._calls[is_long], empty, [], [])
+        is_long = kind._is_long(len(commands), 0)
+        status = turns.take(is_long, kind._calls[is_long], empty, [], [])
         if status:
             raise PixError(Status(status), done.value)
         self._prepared = prepared

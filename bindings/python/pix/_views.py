@@ -12,6 +12,10 @@ from pix._pixels import PixelType
 from pix._values import PixError, Status, u32
 
 
+# What the values of a mask are.
+MASK8, MASK16 = ctypes.c_uint8, ctypes.c_uint16
+
+
 class Rows(NamedTuple):
     """What a view knows: where its elements are, how many, and their sizes in elements."""
 
@@ -86,6 +90,11 @@ class View:
         return self._rows.height
 
     @property
+    def size(self) -> Tuple[int, int]:
+        """The width and the height."""
+        return self._rows.width, self._rows.height
+
+    @property
     def stride(self) -> int:
         """The distance from a row to the next, in pixels or values."""
         return self._rows.stride
@@ -126,8 +135,8 @@ class Matte(View):
     """A mask: the fraction of a color that is composited at each point, from 0 (none) to 255
     (all).
 
-    It goes with images of 8 bits a channel; with `bits` 16, from 0 to 65535, with RGBA16. `values`
-    is any buffer of (height - 1) * stride + width values, and may be read-only; `stride` is
+    It goes with all images. With `bits` 16 its values are from 0 to 65535, and it goes with RGBA16
+    alone. `values` is any buffer of (height - 1) * stride + width values, and may be read-only; `stride` is
     counted in values. Width and height may be left out where the buffer's shape is (height,
     width); its rows may lie apart, as in a window of a numpy array.
 
@@ -140,7 +149,7 @@ class Matte(View):
     ) -> None:  # fmt: skip
         if bits not in (8, 16):
             raise ValueError(f"{bits} bits are not 8 or 16")
-        super().__init__(rows_of(values, width, height, stride, ctypes.c_uint8 if bits == 8 else ctypes.c_uint16))
+        super().__init__(rows_of(values, width, height, stride, MASK8 if bits == 8 else MASK16))
 
     @property
     def bits(self) -> int:
