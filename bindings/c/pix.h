@@ -529,7 +529,8 @@ static inline size_t pix_diffuse_indexed_work(size_t width);
 /* Writes a table of the colors of `count` pixels, of at most `len` entries, and writes into `made`
  * how many it has. Where there are no more distinct colors than `len`, they are the table, in
  * order of first place. Otherwise they are the means of boxes of colors, which are cut again and
- * again where the squared error falls most, and then joined where it rises least. The entries past
+ * again where the squared error falls most, and then joined where it rises least. Both are compared
+ * by quotients rounded down, so of nearly equal ones another may be taken. The entries past
  * `made` may hold anything. `work` has pix_quantize_work(count) colors; for a large picture pass a
  * sample of its pixels. Returns PIX_OK, PIX_BAD_TABLE (`len` is 0 or above 256), PIX_BAD_LENGTH,
  * PIX_NULL or PIX_OVERLAP. */

@@ -144,7 +144,8 @@ def quantize(
 
     The pixels are of the format SRGB8, or of SRGBA8; one whose alpha is below `alpha` does not count. With no more than `length`
     distinct colors the table is just those, in order of first place. Else it has the means of boxes of colors, which are cut again and
-    again where the squared error falls most, and then joined where it rises least. It takes work memory of three bytes a pixel; of a large picture pass a sample, as each
+    again where the squared error falls most, and then joined where it rises least. Both are compared by quotients rounded down, so
+    of nearly equal ones another may be taken. It takes work memory of three bytes a pixel; of a large picture pass a sample, as each
     tenth pixel.
 
     So many `rounds`, 0 to 255, then refine means of boxes. In a round each color goes to its nearest entry, the first of equals. Each

@@ -258,8 +258,9 @@ pub const fn diffuse_indexed_work(width: usize) -> Option<usize> {
 
 /// Makes a table of the colors of `pixels` in the first of `entries`, and returns those. With no more distinct colors than
 /// entries they are the table, in order of first place. Else it has the means of boxes of colors, which are cut again and again
-/// where the squared error falls most, and then joined where it rises least; what the other entries hold is not said. `work` has
-/// as many colors as there are pixels; for a large picture pass a sample of its pixels.
+/// where the squared error falls most, and then joined where it rises least. Both are compared by quotients rounded down, so of
+/// nearly equal ones another may be taken. What the other entries hold is not said. `work` has as many colors as there are pixels;
+/// for a large picture pass a sample of its pixels.
 ///
 /// ```
 /// use pix::{Srgb8, quantize};
