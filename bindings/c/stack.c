@@ -300,7 +300,7 @@ static void count_signal(int number) {
 
 /* Runs a call again and again, until a handler has run 300 times on the stack of this thread. */
 static void *run_interrupted(void *call) {
-    const struct itimerval often = {{0, 20}, {0, 20}}, never = {{0, 0}, {0, 0}};
+    const struct itimerval often = {{0, 100}, {0, 100}}, never = {{0, 0}, {0, 0}};
     struct sigaction action;
     sigset_t alarms;
     pix_status status = PIX_OK;

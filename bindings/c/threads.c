@@ -90,7 +90,7 @@ static void paint_in_handler(int number) {
  * is painted in peace, and so is the other. */
 static int try_handler(void) {
     static pix_rgba8 peaceful[SIDE * SIDE];
-    const struct itimerval often = {{0, 50}, {0, 50}}, never = {{0, 0}, {0, 0}};
+    struct itimerval once = {{0, 0}, {0, 0}};
     struct sigaction action;
     int is_well = 1;
     fill_list(handler_list);
@@ -98,12 +98,16 @@ static int try_handler(void) {
         return 0;
     memset(&action, 0, sizeof action);
     action.sa_handler = paint_in_handler;
-    if (sigaction(SIGALRM, &action, NULL) || setitimer(ITIMER_REAL, &often, NULL))
+    if (sigaction(SIGALRM, &action, NULL))
         return 0;
-    for (int i = 0; i < 200 * ROUNDS && handled < 200 && is_well; i++)
-        is_well = pix_run(pix_image_of(images[0], SIDE, SIDE), handler_list, 4, NULL) == PIX_OK
+    for (int i = 0; i < 200 * ROUNDS && handled < 200 && is_well; i++) {
+        once.it_value.tv_usec = 1 + i % 50;
+        is_well = !setitimer(ITIMER_REAL, &once, NULL)
+                  && pix_run(pix_image_of(images[0], SIDE, SIDE), handler_list, 4, NULL) == PIX_OK
                   && memcmp(images[0], peaceful, sizeof peaceful) == 0;
-    if (setitimer(ITIMER_REAL, &never, NULL))
+    }
+    once.it_value.tv_usec = 0;
+    if (setitimer(ITIMER_REAL, &once, NULL))
         return 0;
     return is_well && handled > 0 && !refused && memcmp(images[1], peaceful, sizeof peaceful) == 0;
 }
