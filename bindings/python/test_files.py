@@ -92,9 +92,9 @@ class OddFiles(Trial):
                     continue
                 image, wanted = pix.Image.open(file.path), odd_files.pillow_picture(file.path)
                 self.assertEqual((image.width, image.height), file.size)
-                self.alike(
-                    straight(image), wanted.tobytes(), 1 if file.path.suffix == ".pgm" else 0
-                )
+                # Of 16 bits Pillow cuts the lower ones off, and this package rounds.
+                deep = file.path.suffix == ".pgm" or "16" in file.path.name
+                self.alike(straight(image), wanted.tobytes(), 1 if deep else 0)
                 if file.rgba:
                     self.alike(straight(image), file.rgba, 1)
 

@@ -15,6 +15,7 @@ from typing import Any, Callable, Iterator, Optional
 
 from pix._bitmap import Bitmap, write
 from pix._convert import convert
+from pix._deep import deep_png, image_of_both, kept_as, lower_of
 from pix._fresh import lit, scaled
 from pix._pillow import Facts, facts_of, image_of, picture_of, pixels_of
 from pix._pixels import GRAYA8
@@ -84,11 +85,21 @@ def opened(file: Any, white: Optional[float], new: Callable[[int, int], Any]) ->
     with reading(file):
         picture = pillow.open(file)
     with picture:
+        if kept_as(picture) == "LA;16B" or kept_as(picture) == "RGB;16B" and is_clear(picture):
+            return opened_alone(file, white, new)
         facts = facts_of(picture, white)
         with reading(file):
+            lower = lower_of(picture, lambda: pillow.open(file))
             picture.load()
+            if lower is not None:
+                return image_of_both(upright(picture), upright(lower), new)
             picture = upright(picture)
         return image_of(picture, facts, new)
+
+
+def is_clear(picture: Any) -> bool:
+    """Whether a color of a picture is clear."""
+    return picture.info.get("transparency") is not None
 
 
 def upright(picture: Any) -> Any:
@@ -166,7 +177,10 @@ def saved(image: Any, file: Any, format: Optional[str], options: Any) -> None:
         raise TypeError(f"{format!r} is no kind of file: write format='PNG'")
     suffix = os.path.splitext(file)[1].lower() if isinstance(file, str) else ""
     kind = format.upper() if format is not None else _OWN.get(suffix)
-    if pillow_of() is None or kind in ("PPM", "PGM"):
+    bits = options.pop("bits", 8)
+    if bits != 8:
+        put(file, saved_deep(image, kind, bits, options))
+    elif pillow_of() is None or kind in ("PPM", "PGM"):
         put(file, saved_alone(image, suffix, kind, options))
     else:
         put(file, saved_by_pillow(image, file, format, options))
@@ -181,6 +195,16 @@ def saved_alone(image: Any, suffix: str, kind: Optional[str], options: Any) -> b
     if options:
         raise TypeError(f"{kind} takes no options: {', '.join(options)}")
     return encoded(image, str(kind))
+
+
+def saved_deep(image: Any, kind: Optional[str], bits: Any, options: Any) -> bytes:
+    """The bytes of a PNG of 16 bits."""
+    if kind != "PNG" or bits != 16:
+        raise ValueError(f"a PNG has bits=8 or bits=16, and other files have 8: not {bits}")
+    if options:
+        raise TypeError(f"a PNG of 16 bits takes no other options: {', '.join(options)}")
+    format = Format.GRAYA16 if image.type is GRAYA8 else Format.RGBA16
+    return deep_png(image.width, image.height, pixels_of(image, format), format.samples)
 
 
 class _Named(io.BytesIO):

@@ -39,6 +39,18 @@ def light_table() -> array[int]:
     return array("H", dark + bright)
 
 
+@lru_cache(maxsize=None)
+def level_table() -> array[int]:
+    """The level of sRGB, from 0 to 65535, that is nearest to each light from 0 to 65535."""
+    most, low = 65535, int(65535 * 0.04045 / 12.92)
+    dark = [round(light * 12.92) for light in range(low + 1)]
+    bright = [
+        round(most * (1.055 * (light / most) ** (1 / 2.4) - 0.055))
+        for light in range(low + 1, most + 1)
+    ]
+    return array("H", dark + bright)
+
+
 def looked_up(table: array[int], levels: array[int]) -> Any:
     """The entry of a table of 65536 words for each level: an array, or one of numpy where that
     is there."""
@@ -52,6 +64,11 @@ def looked_up(table: array[int], levels: array[int]) -> Any:
 def lit(levels: array[int]) -> Any:
     """The light of levels of sRGB from 0 to 65535."""
     return looked_up(light_table(), levels)
+
+
+def levels_of(light: array[int]) -> Any:
+    """The levels of sRGB of light from 0 to 65535."""
+    return looked_up(level_table(), light)
 
 
 def scaled(numbers: Any, white: float) -> array[int]:

@@ -120,8 +120,7 @@ class Image(View):
         first picture in it, turned as its EXIF says.
 
         Pillow reads it where that is there, as from_pillow() says; and else PNG, PPM and PGM files
-        are read. Levels of 16 bits are kept, but for colors of 16 bits that Pillow reads, of which
-        it keeps the upper bytes. Profiles of colors aren't looked at: the numbers are taken as
+        are read. Levels of 16 bits in PNG files, and in gray ones, are kept. Profiles of colors aren't looked at: the numbers are taken as
         sRGB, and four inks (CMYK) are converted as Pillow does, by their products.
 
         Raises OSError where there is no such file or no whole picture in it, and ValueError where
@@ -136,7 +135,8 @@ class Image(View):
         The kind of file is what its name ends in, or what `format` names as Pillow does: .png, .ppm
         and .pgm, and with Pillow all that it writes, with its options.
 
-        Its colors are sRGB of 8 bits. Where all pixels are opaque, no alpha is written.
+        Its colors are sRGB of 8 bits, or in a PNG with bits=16 of 16. Where all pixels are opaque,
+        no alpha is written.
 
         Raises ValueError where the file can't have an alpha and the image has one, or is of a kind
         that can't be written.

@@ -224,7 +224,8 @@ def pixels_of(image: Any, format: Format) -> Any:
     source = image._bitmap()
     source.refuse_unheld(Status.BAD_SOURCE)
     data = zeros(source.pixels * format.size)
-    write(Bitmap(data, format, source.width, source.height), source)
+    rows: Any = memoryview(data).cast("H") if format.bits == 16 else data
+    write(Bitmap(rows, format, source.width, source.height), source)
     return data
 
 

@@ -87,18 +87,18 @@ def chunk(kind: bytes, data: bytes) -> bytes:
 
 def png(width: int, height: int, format: Format, data: Any) -> bytes:
     """The bytes of a file of these pixels, which are SRGB8, SRGBA8, SGRAY8 or SGRAYA8."""
-    color = {
-        Format.SGRAY8: _GRAY,
-        Format.SRGB8: _COLOR,
-        Format.SGRAYA8: _GRAY_ALPHA,
-        Format.SRGBA8: _COLOR_ALPHA,
-    }[format]
-    row, pack = width * format.size, zlib.compressobj(6)
+    return png_of_rows(width, height, 8, format.samples, data)
+
+
+def png_of_rows(width: int, height: int, bits: int, samples: int, data: Any) -> bytes:
+    """The bytes of a file of rows of so many samples a pixel, of 8 or 16 bits."""
+    color = (_GRAY, _GRAY_ALPHA, _COLOR, _COLOR_ALPHA)[samples - 1]
+    row, pack = width * samples * bits // 8, zlib.compressobj(6)
     parts = []
     with memoryview(data) as view:
         for y in range(height):
             parts += [pack.compress(b"\0"), pack.compress(view[y * row : (y + 1) * row])]
-    head = struct.pack(">IIBBBBB", width, height, 8, color, 0, 0, 0)
+    head = struct.pack(">IIBBBBB", width, height, bits, color, 0, 0, 0)
     pixels = b"".join([*parts, pack.flush()])
     return SIGNATURE + chunk(b"IHDR", head) + chunk(b"IDAT", pixels) + chunk(b"IEND", b"")
 
