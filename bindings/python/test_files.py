@@ -8,6 +8,7 @@ import struct
 import subprocess
 import sys
 import tempfile
+import time
 import unittest
 import warnings
 import zlib
@@ -182,6 +183,47 @@ class OddFiles(Trial):
                     with self.assertRaises(OSError) as caught:
                         pix.Image.open(io.BytesIO(data))
                     self.assertRegex(str(caught.exception), "^the picture: ....")
+
+
+class Limits(Trial):
+    """A picture of more pixels than are allowed is refused at its head."""
+
+    def heads(self, width, height):
+        """Files of so many pixels, of which there is the head and little more."""
+        head = struct.pack(">IIBBBBB", width, height, 8, 2, 0, 0, 0)
+        data = odd_files.chunk(b"IHDR", head) + odd_files.chunk(b"IDAT", zlib.compress(bytes(9999)))
+        yield b"\x89PNG\r\n\x1a\n" + data + odd_files.chunk(b"IEND", b"")
+        yield b"P6 %d %d 255\n" % (width, height) + bytes(99)
+
+    def test_it_is_refused_at_the_head(self):
+        for size in ((30_000, 30_000), (100_000, 100_000), (2**31 - 1, 2**31 - 1), (13378, 13378)):
+            for data in self.heads(*size):
+                for is_alone in (True, False):
+                    started = time.process_time()
+                    with alone(is_alone), self.assertRaises(OSError) as caught:
+                        pix.Image.open(io.BytesIO(data))
+                    self.assertLess(time.process_time() - started, 1)
+                    self.assertRegex(str(caught.exception), "pixels.*limit=")
+
+    def test_it_can_be_set(self):
+        file = io.BytesIO()
+        fan((40, 30)).save(file, "PNG")
+        for is_alone in (True, False):
+            with alone(is_alone):
+                with self.assertRaisesRegex(OSError, "1200 pixels are more than 1199.*limit="):
+                    pix.Image.open(file, limit=1199)
+                for limit in (1200, 10**12, None):
+                    self.assertEqual(pix.Image.open(file, limit=limit).width, 40)
+
+    @unittest.skipIf(pillow is None, "Pillow is not there")
+    def test_beyond_what_pillow_allows(self):
+        file = io.BytesIO()
+        fan((40, 30)).save(file, "PNG")
+        with mock.patch.object(pillow, "MAX_IMAGE_PIXELS", 100):
+            self.assertRaisesRegex(OSError, "limit=", pix.Image.open, file)
+            for limit in (1200, None):
+                self.assertEqual(pix.Image.open(file, limit=limit).width, 40)
+                self.assertEqual(pillow.MAX_IMAGE_PIXELS, 100)
 
 
 class Saved(Trial):

@@ -11,6 +11,7 @@ import zlib
 from array import array
 from contextlib import contextmanager, suppress
 from copy import copy
+from threading import Lock
 from typing import Any, Callable, Iterator, Optional
 
 from pix._bitmap import Bitmap, write
@@ -19,7 +20,7 @@ from pix._deep import deep_png, image_of_both, kept_as, lower_of
 from pix._fresh import lit, scaled
 from pix._pillow import Facts, facts_of, image_of, picture_of, pixels_of
 from pix._pixels import GRAYA8
-from pix._png import SIGNATURE, Fault, Pixels, png, read_png, woven
+from pix._png import LIMIT, SIGNATURE, Fault, Pixels, png, read_png, refuse_many, woven
 from pix._put import put
 from pix._values import Format
 
@@ -56,6 +57,9 @@ def name_of(file: Any) -> str:
     return file if isinstance(file, str) else "the picture"
 
 
+# Held while Pillow has another limit of pixels than its own.
+_limits = Lock()
+
 # What Pillow raises for files that are none, beside OSError.
 _FAULTS = (SyntaxError, EOFError, LookupError, ValueError, TypeError, AttributeError,
            ArithmeticError, NotImplementedError, AssertionError, struct.error, zlib.error)  # fmt: skip
@@ -70,26 +74,50 @@ def reading(file: Any) -> Iterator[None]:
         yield
     except pillow.UnidentifiedImageError as fault:
         raise OSError(f"{name_of(file)}: it is no picture of a kind that Pillow reads") from fault
-    except (OSError, pillow.DecompressionBombError, *_FAULTS) as fault:
+    except pillow.DecompressionBombError as fault:
+        raise OSError(f"{name_of(file)}: {fault} limit=None allows any") from fault
+    except (OSError, Fault, *_FAULTS) as fault:
         if isinstance(fault, OSError) and fault.errno is not None:
             raise
         said = fault or "the file ends before its picture does"
         raise OSError(f"{name_of(file)}: {said}") from fault
 
 
-def opened(file: Any, white: Optional[float], new: Callable[[int, int], Any]) -> Any:
+def opened_by_pillow(file: Any, limit: Optional[int]) -> Any:
+    """A picture of Pillow, whose own limit counts where no other one is given."""
+    from PIL import Image as pillow
+
+    if limit == LIMIT:
+        return pillow.open(file)
+    with _limits:
+        kept, pillow.MAX_IMAGE_PIXELS = pillow.MAX_IMAGE_PIXELS, None
+        try:
+            picture = pillow.open(file)
+        finally:
+            pillow.MAX_IMAGE_PIXELS = kept
+    try:
+        refuse_many(*picture.size, limit)
+    except Fault:
+        picture.close()
+        raise
+    return picture
+
+
+def opened(
+    file: Any, white: Optional[float], limit: Optional[int], new: Callable[[int, int], Any]
+) -> Any:
     """An image, which `new` makes, of the first picture in a file."""
-    pillow, file = pillow_of(), path_of(file, "read")
-    if pillow is None:
-        return opened_alone(file, white, new)
+    file = path_of(file, "read")
+    if pillow_of() is None:
+        return opened_alone(file, limit, new)
     with reading(file):
-        picture = pillow.open(file)
+        picture = opened_by_pillow(file, limit)
     with picture:
         if kept_as(picture) == "LA;16B" or kept_as(picture) == "RGB;16B" and is_clear(picture):
-            return opened_alone(file, white, new)
+            return opened_alone(file, limit, new)
         facts = facts_of(picture, white)
         with reading(file):
-            lower = lower_of(picture, lambda: pillow.open(file))
+            lower = lower_of(picture, lambda: opened_by_pillow(file, limit))
             picture.load()
             if lower is not None:
                 return image_of_both(upright(picture), upright(lower), new)
@@ -111,7 +139,7 @@ def upright(picture: Any) -> Any:
     return picture if turn is None else picture.transpose(turn)
 
 
-def opened_alone(file: Any, white: Optional[float], new: Callable[[int, int], Any]) -> Any:
+def opened_alone(file: Any, limit: Optional[int], new: Callable[[int, int], Any]) -> Any:
     """The same without Pillow."""
     if hasattr(file, "read"):
         with suppress(AttributeError, io.UnsupportedOperation):
@@ -122,9 +150,9 @@ def opened_alone(file: Any, white: Optional[float], new: Callable[[int, int], An
             data = stream.read()
     try:
         if data.startswith(SIGNATURE):
-            pixels = read_png(data)
+            pixels = read_png(data, limit)
         elif data[:2] in (b"P5", b"P6"):
-            pixels = read_pnm(data)
+            pixels = read_pnm(data, limit)
         else:
             raise Fault(
                 "it is neither PNG nor PPM nor PGM, and what else there is needs Pillow: install"
@@ -138,7 +166,7 @@ def opened_alone(file: Any, white: Optional[float], new: Callable[[int, int], An
     return image
 
 
-def read_pnm(file: bytes) -> Pixels:
+def read_pnm(file: bytes, limit: Optional[int] = LIMIT) -> Pixels:
     """The picture of a PPM or PGM file of bytes or of words."""
     space = rb"(?:\s|#[^\n]*\n)+"
     found = re.match(
@@ -150,6 +178,7 @@ def read_pnm(file: bytes) -> Pixels:
     kind, width, height, white = map(int, found.groups())
     if not 0 < width < 2**31 or not 0 < height < 2**31 or not 0 < white < 65536:
         raise Fault(f"a picture of {width} x {height} pixels up to {white} is none")
+    refuse_many(width, height, limit)
     count = width * height * (3 if kind == 6 else 1)
     data = file[found.end() : found.end() + count * (2 if white > 255 else 1)]
     if len(data) < count * (2 if white > 255 else 1):

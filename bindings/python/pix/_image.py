@@ -16,6 +16,7 @@ from pix._memory import MOST, Buffer, is_a, is_held, refuse_gone
 from pix._numbers import index
 from pix._pillow import facts_of, image_of, picture_of
 from pix._pixels import RGBA8, RGBA16, PixelType, kind_of
+from pix._png import LIMIT
 from pix._turns import turns
 from pix._values import Format, PixError, Status, origin_of, region_of, u32
 from pix._views import View, rows_of
@@ -115,7 +116,9 @@ class Image(View):
         return array
 
     @classmethod
-    def open(cls, file: Any, type: PixelType = RGBA16, white: Optional[float] = None) -> Image:
+    def open(
+        cls, file: Any, type: PixelType = RGBA16, white: Optional[float] = None, limit: Optional[int] = LIMIT
+    ) -> Image:
         """Makes an image of a picture file, given by its path or open for reading bytes: of the
         first picture in it, turned as its EXIF says.
 
@@ -123,11 +126,13 @@ class Image(View):
         are read. Levels of 16 bits in PNG files, and in gray ones, are kept. Profiles of colors aren't looked at: the numbers are taken as
         sRGB, and four inks (CMYK) are converted as Pillow does, by their products.
 
+        A picture of more than `limit` pixels is refused at its head; None allows any.
+
         Raises OSError where there is no such file or no whole picture in it, and ValueError where
         a file of numbers of 32 bits doesn't tell which is `white`.
         """
         kind = kind_of(type)
-        return opened(file, white, lambda width, height: cls.new(width, height, kind))
+        return opened(file, white, limit, lambda width, height: cls.new(width, height, kind))
 
     def save(self, file: Any, format: Optional[str] = None, **options: Any) -> None:
         """Writes the picture into a file, which is a path or is open for writing bytes.

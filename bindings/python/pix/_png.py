@@ -50,6 +50,17 @@ class Fault(Exception):
     """What is wrong with a file."""
 
 
+# How many pixels a picture in a file has at most where no other limit is given: as in Pillow.
+LIMIT = 178_956_970
+
+
+def refuse_many(width: int, height: int, limit: Optional[int]) -> None:
+    """Raises a Fault for a picture of too many pixels."""
+    if limit is not None and width * height > limit:
+        said = f"{width} x {height}, or {width * height} pixels are more than {limit}"
+        raise Fault(f"{said}: limit={width * height} allows so many")
+
+
 class _Head(NamedTuple):
     """How a file has its pixels."""
 
@@ -122,7 +133,7 @@ def chunks(file: bytes) -> Iterator[Tuple[bytes, bytes]]:
         at += 12 + length
 
 
-def read_png(file: bytes) -> Pixels:
+def read_png(file: bytes, limit: Optional[int] = LIMIT) -> Pixels:
     """The picture of a file: SRGBA8, or RGBA16 where it has 16 bits; turned as its EXIF says."""
     found: Dict[bytes, bytes] = {}
     packed: List[bytes] = []
@@ -133,6 +144,8 @@ def read_png(file: bytes) -> Pixels:
             raise Fault(f"a chunk {kind!r} is not known")
         else:
             found.setdefault(kind, data)
+        if kind == b"IHDR" and len(data) == 13:
+            refuse_many(*struct.unpack_from(">II", data), limit)
     head = head_of(found)
     rows = rows_of(head, b"".join(packed))
     code = "I" if head.bits < 16 else "Q"
