@@ -170,7 +170,9 @@ class Arrays(unittest.TestCase):
                 pix.convert_bitmap(pix.SRGBA8, one, pix.SRGBA8, two)
         for rows in (numpy.broadcast_to(both[:1], (4, 4, 4)), both[:, ::-1], both[:, ::2], numpy.asfortranarray(both[:3])):
             with self.assertRaises(ValueError):
-                pix.Image.from_array(rows, pix.SRGBA8)
+                pix.convert_bitmap(pix.SRGBA8, rows, pix.SRGBA8)
+            with self.assertRaises(ValueError):
+                pix.Image(rows, type=pix.RGBA8)
         for other in (both.astype("i1"), both.astype("f4"), both.astype(">u2"), both.astype("u2")):
             with self.assertRaises(TypeError):
                 pix.Image.from_array(other, pix.SRGBA8)

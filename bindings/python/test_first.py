@@ -119,6 +119,112 @@ class Masks(unittest.TestCase):
             image.run(pix.composite_matte(WHOLE, mask, pix.srgb("#fff")))
 
 
+@unittest.skipIf(numpy is None, "no numpy")
+class Arrays(unittest.TestCase):
+    """Arrays whose rows are not whole: from_array() copies anyway."""
+
+    def test_each_is_taken(self):
+        whole = numpy.frombuffer(random.Random(3).randbytes(9 * 7 * 4), "u1").reshape(9, 7, 4)
+        for name, array, format in (
+            ("three of four", whole[..., :3], pix.SRGB8),
+            ("mirrored", whole[:, ::-1], pix.SRGBA8),
+            ("every other", whole[::2, ::3], pix.SRGBA8),
+            ("turned by half", whole[::-1, ::-1], pix.SRGBA8),
+            ("red and blue exchanged", whole[..., [2, 1, 0]][..., ::-1], pix.SRGB8),
+            ("columns first", numpy.asfortranarray(whole), pix.SRGBA8),
+            ("transposed", whole.transpose(1, 0, 2), pix.SRGBA8),
+            ("one channel", whole[..., 1], pix.SGRAY8),
+            ("words", whole.astype("u2")[..., ::-1], pix.Format.RGBA16),
+        ):
+            with self.subTest(name):
+                image = pix.Image.from_array(array, format)
+                wanted = pix.Image.from_array(numpy.ascontiguousarray(array), format)
+                self.assertEqual(bytes(image.pixels), bytes(wanted.pixels))
+                self.assertEqual(image.size, array.shape[1::-1])
+
+    def test_a_view_is_of_whole_rows(self):
+        array = numpy.zeros((4, 4, 4), "u1")
+        for wrong in (array[:, ::-1], array[::-1], numpy.asfortranarray(array)):
+            self.assertRaises(ValueError, pix.Image, wrong, type=pix.RGBA8)
+        wrong = pix.SRGBA8, bytearray(64), pix.SRGBA8, array[:, ::-1], (4, 4)
+        self.assertRaises(ValueError, pix.convert_bitmap, *wrong)
+
+    def test_it_waits_for_one_that_writes(self):
+        array, seen, take = numpy.zeros((6, 5, 4), "u1"), [], turns.take
+        first = array.__array_interface__["data"][0]
+
+        def noted(is_long, function, arguments, written, read, *more):
+            seen.extend((it.address - first, it.length) for it in read)
+            return take(is_long, function, arguments, written, read, *more)
+
+        with mock.patch.object(turns, "take", noted):
+            pix.Image.from_array(array[::-2, ::-2, :3], pix.SRGB8)
+        self.assertIn((20, 4 * 5 * 4 + 4 * 4 + 3), seen)
+
+
+class Hints(unittest.TestCase):
+    """What is refused says what to write."""
+
+    def said(self, hint, call, *given, kind=(TypeError, ValueError), **named):
+        with self.assertRaises(kind) as caught:
+            call(*given, **named)
+        self.assertIn(hint, str(caught.exception))
+
+    def test_operators(self):
+        image = pix.Image.new(4, 4)
+        for text, name in (("SrcOver", "SRC_OVER"), ("src-over", "SRC_OVER"), ("plus", "PLUS"),
+                           ("DestAtop", "DEST_ATOP"), ("nothing", "SRC_OVER")):  # fmt: skip
+            said = f"{text!r} is a text: write pix.Op.{name}"
+            self.said(said, pix.composite_image, WHOLE, image, op=text, kind=TypeError)
+            self.said(said, pix.composite_color, WHOLE, pix.srgb("#fff"), text, kind=TypeError)
+
+    def test_what_is_no_buffer(self):
+        said = "write pix.Image.open('x.png')"
+        for given in ("x.png", pathlib.Path("x.png")):
+            self.said(said, pix.Image, given)
+            self.said(said, pix.Image, given, 3, 2)
+            self.said(said, pix.Image.from_array, given, pix.SRGBA8)
+            self.said(said, pix.copy_image, WHOLE, given)
+        self.said("list is no buffer", pix.Image, [1, 2, 3], 1, 1, kind=TypeError)
+
+    @unittest.skipIf(pillow is None, "Pillow is not there")
+    def test_a_picture_of_pillow(self):
+        picture, said = pillow.new("RGB", (3, 2)), "write pix.Image.from_pillow(picture)"
+        self.said(said, pix.Image, picture)
+        self.said(said, pix.Image.from_array, picture, pix.SRGB8)
+        self.said(said, pix.copy_image, WHOLE, picture)
+        self.said(said, pix.composite_image_matte, WHOLE, pix.Image.new(3, 2), picture)
+
+    @unittest.skipIf(numpy is None, "no numpy")
+    def test_arrays(self):
+        image, said = pix.Image.new(4, 4), "write (255 * array).round().astype('uint8')"
+        for kind in ("f2", "f4", "f8"):
+            array = numpy.zeros((4, 4, 4), kind)
+            self.said(said, pix.Image.from_array, array, pix.SRGBA8)
+            self.said(said, pix.Image, array, type=pix.RGBA8)
+        self.said("write array.astype('uint8')", pix.Image.from_array, numpy.zeros((4, 4, 4), "i8"), pix.SRGBA8)
+        self.said("write array.astype('uint8')", pix.Matte, numpy.zeros((4, 4), "?"))
+        array = numpy.zeros((4, 4, 4), "u1")
+        self.said("write pix.Image.from_array(array, pix.SRGBA8)", pix.copy_image, WHOLE, array)
+        self.said("write pix.Matte(array)", pix.composite_matte, WHOLE, array[..., 0], pix.srgb("#fff"))
+
+    def test_other_pixels(self):
+        small, large = pix.Image.new(4, 4, pix.RGBA8), pix.Image.new(4, 4)
+        self.said("write source.copy(pix.RGBA16)", large.run, pix.copy_image(WHOLE, small))
+        large.run(pix.copy_image(WHOLE, small.copy(pix.RGBA16)))
+        commands = pix.CommandList(pix.clear())
+        self.said("write pix.CommandList(.., type=pix.RGBA8)", small.run, commands)
+
+    def test_regions(self):
+        region = pix.Region(1, 2, 3, 4)
+        self.assertEqual(region, (1, 2, 3, 4))
+        self.assertEqual((region.x, region.y, region.width, region.height), (1, 2, 3, 4))
+        self.assertEqual(pix.copy_color((1, 2, 3, 4), pix.srgb("#fff")).to.width, 3)
+        self.assertIn("to (1, 2, 3, 4)", repr(pix.copy_color(region, pix.srgb("#fff"))))
+        for wrong in ((1, 2, 3), (1, 2, 3, 4, 5), 5):
+            self.said("(x, y, width, height)", pix.copy_color, wrong, pix.srgb("#fff"))
+
+
 class Looks(unittest.TestCase):
     """What a person asks of an image."""
 

@@ -99,7 +99,7 @@ SRGB8, SBGR8, SGRAY8, SGRAYA8 = Format.SRGB8, Format.SBGR8, Format.SGRAY8, Forma
 SRGBX8, SBGRX8 = Format.SRGBX8, Format.SBGRX8
 
 # Users and pickles name them by this package, wherever they are defined.
-for _public in (Op, Format, Status, PixError, PixelType, Image, Matte, Command, CommandList, convert, convert_bitmap):
+for _public in (Op, Region, Format, Status, PixError, PixelType, Image, Matte, Command, CommandList, convert, convert_bitmap):
     _public.__module__ = __name__
 for _public in (Color, Srgb, srgb, color_of):
     _public.__module__ = __name__

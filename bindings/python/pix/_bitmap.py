@@ -5,8 +5,8 @@ from __future__ import annotations
 import importlib
 from typing import Any, Optional, SupportsIndex, Tuple
 
-from pix._calls import Call, RowsCopy
-from pix._memory import Memory, is_held
+from pix._calls import Call, RowsCopy, packed
+from pix._memory import Gaps, Memory, is_held
 from pix._values import Format, PixError, Status, u32
 from pix._views import Rows
 
@@ -17,15 +17,21 @@ class Bitmap:
     """Rows of pixels of a format in a buffer: of (height, width * samples) or (height, width, samples) elements, or of bytes.
 
     Rows may lie apart, and from bottom to top: as in a window of a numpy array, or in one that is turned over. The elements
-    are bytes, or words of 16 bits where the format has 16 bits.
+    are bytes, or words of 16 bits where the format has 16 bits. Where rows aren't whole, it may be of a copy.
     """
 
     def __init__(
-        self, buffer: Any, format: Format, width: Optional[SupportsIndex] = None, height: Optional[SupportsIndex] = None
+        self, buffer: Any, format: Format, width: Optional[SupportsIndex] = None, height: Optional[SupportsIndex] = None,
+        may_copy: bool = False,
     ) -> None:  # fmt: skip
         self.format = Format(format)
         given = None if width is None or height is None else (u32(width, "width"), u32(height, "height"))
-        memory = Memory(buffer, self.format.bits == 16, turned=True)
+        try:
+            memory = Memory(buffer, self.format.bits == 16, turned=True)
+        except Gaps as gaps:
+            if not may_copy:
+                raise
+            memory = Memory(packed(gaps.view), self.format.bits == 16)
         shape, size = memory.shape, self.format.size
         if given is None:
             wide = memory.row

@@ -6,7 +6,7 @@ import ctypes
 from typing import Any, List
 
 from pix._library import CALLS, LONG, libraries
-from pix._memory import Memory, refuse_gone
+from pix._memory import Memory, Span, refuse_gone
 from pix._turns import turns
 from pix._values import PixError, Status
 
@@ -86,6 +86,15 @@ def copied_rows(memory: Memory, wide: int, apart: int, rows: int, first: int = 0
     how = is_long, target.address, memory.address + first, rows, wide, apart
     turns.take(is_long, move_rows, how, [], [memory])
     return copy
+
+
+def packed(view: memoryview) -> memoryview:
+    """A copy of a buffer of any strides, in order and without gaps, made in a turn of its own."""
+    made: List[bytes] = []
+    is_long = view.nbytes > LONG
+    copy = lambda: made.append(view.tobytes()) or 0  # type: ignore[func-returns-value]
+    turns.take(is_long, copy, (), [], [Span(view)])
+    return memoryview(made[0]).cast("B" if view.itemsize == 1 else "H", view.shape)
 
 
 class Call:

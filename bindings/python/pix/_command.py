@@ -8,7 +8,7 @@ from pix._colors import AnyColor, Color, Srgb, fitted, taken
 from pix._memory import NOWHERE, Memory, is_a, name_of
 from pix._numbers import index
 from pix._pixels import PixelType, RegionRecord
-from pix._values import Op, Region, region_of, u32
+from pix._values import Op, Region, op_of, region_of, u32
 from pix._views import MASK8, Rows, View
 from pix._wide import WideMask, WideMasks
 
@@ -30,7 +30,7 @@ class Command:
             if view is not None and not is_a(view, View):
                 raise TypeError(f"{type(view).__name__} is neither an Image nor a Matte")
         self._kind = u32(kind, "kind")
-        self._op = u32(op, "operator")
+        self._op = op_of(op)
         self._to = region_of(to)
         self._color = taken(color)
         self._source = source

@@ -98,8 +98,8 @@ def opened_by_pillow(file: Any, limit: Optional[int]) -> Any:
     try:
         refuse_many(*picture.size, limit)
     except Fault:
-        picture.close()
-        raise
+        with picture:
+            raise
     return picture
 
 

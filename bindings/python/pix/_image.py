@@ -92,7 +92,7 @@ class Image(View):
     ) -> Image:
         """Makes an image of the picture in an array, or another buffer, of (height, width,
         samples) or (height, width * samples) elements in a format; rows may lie apart, and from
-        bottom to top. Of a buffer of one dimension, such as bytes, `size` is the width and the
+        bottom to top, and arrays of other strides are copied first. Of a buffer of one dimension, such as bytes, `size` is the width and the
         height.
 
         An sRGB picture in an image of RGBA16 is in light: to_array() in the same format gives it
@@ -100,7 +100,7 @@ class Image(View):
         comes back, and the colors may be others: at an alpha of 0 they are 0.
         """
         width, height = (None, None) if size is None else size
-        source = Bitmap(array, format, width, height)
+        source = Bitmap(array, format, width, height, may_copy=True)
         source.refuse_unheld(Status.BAD_SOURCE)
         image = cls.new(source.width, source.height, type)
         write(image._bitmap(), source)

@@ -7,10 +7,10 @@ from typing import Any, Iterable, List, Optional, SupportsIndex
 from pix._colors import AnyColor, fraction_of
 from pix._command import Command
 from pix._image import Image
-from pix._memory import is_a
+from pix._memory import instead_of, is_a
 from pix._numbers import index
 from pix._values import Op, region_of
-from pix._views import Matte
+from pix._views import Matte, View
 
 _Region = Iterable[SupportsIndex]
 _Color = AnyColor
@@ -19,7 +19,9 @@ _Color = AnyColor
 def _source(source: Any, wanted: Any) -> Any:
     """The source, if it is of the wanted class."""
     if not is_a(source, wanted):
-        raise TypeError(f"{type(source).__name__} is not {'an Image' if wanted is Image else 'a Matte'}")
+        if is_a(source, View):
+            raise TypeError(f"{type(source).__name__} is not {'an Image' if wanted is Image else 'a Matte'}")
+        raise TypeError(instead_of(source, wanted is Matte))
     return source
 
 

@@ -7,6 +7,7 @@ conversion of the caller's object runs: what is read of it is read at the addres
 from __future__ import annotations
 
 import ctypes
+import os
 import sys
 from pickle import PickleBuffer
 from typing import TYPE_CHECKING, Any
@@ -55,6 +56,42 @@ def name_of(given: Any) -> str:
     return type(given).__name__
 
 
+class Gaps(ValueError):
+    """A buffer whose rows aren't whole, which only a copy may be made of."""
+
+    def __init__(self, view: memoryview, why: str) -> None:
+        super().__init__(why)
+        self.view = view
+
+
+def of_pillow(given: Any) -> bool:
+    """Whether an object is a picture of Pillow."""
+    return any(str(kind.__module__).startswith("PIL.") for kind in type.mro(type(given)))
+
+
+def instead_of(given: Any, matte: bool = False) -> str:
+    """What an object is that is no buffer and no image, and what to write for it."""
+    kind = type(given)
+    if issubclass(kind, (str, os.PathLike)):
+        path = os.fspath(given)
+        return f"{path!r} is a text: for a picture file write pix.Image.open({path!r})"
+    if of_pillow(given):
+        return "this is a picture of Pillow: write pix.Image.from_pillow(picture)"
+    try:
+        memoryview(given).release()
+    except (TypeError, ValueError, BufferError):
+        return f"{name_of(given)} is no buffer: pass bytes, a bytearray or an array"
+    made = "pix.Matte(array)" if matte else "pix.Image.from_array(array, pix.SRGBA8)"
+    return f"{name_of(given)} is a buffer: write {made}"
+
+
+def elements_instead(code: str) -> str:
+    """What to write for an array of elements that aren't taken."""
+    if code[-1:] in "efdg":
+        return "; for fractions from 0 to 1 write (255 * array).round().astype('uint8')"
+    return "; for numbers from 0 to 255 write array.astype('uint8')"
+
+
 class Alive(list):
     """What tells whether an object is whole: it is true until that is collected.
 
@@ -73,6 +110,22 @@ def refuse_gone(*given: Any) -> None:
     for one in given:
         if not getattr(one, "alive", None):
             raise ReferenceError("a collection has let go of its memory")
+
+
+class Span:
+    """Memory of any shape: where a view of it begins and ends."""
+
+    __slots__ = ("address", "length")
+
+    def __init__(self, view: memoryview) -> None:
+        held = PickleBuffer(view)
+        first = ctypes.c_void_p.from_address(_record_of(held)).value or NOWHERE
+        ends = [(count - 1) * step for count, step in zip(view.shape, view.strides)]
+        before = -sum(end for end in ends if end < 0)
+        self.address = first - before
+        self.length = before + sum(end for end in ends if end > 0) + view.itemsize
+        if not view.nbytes:
+            self.length = 0
 
 
 class Memory:
@@ -98,7 +151,10 @@ class Memory:
     )
 
     def __init__(self, buffer: Any, words: bool = False, turned: bool = False) -> None:
-        self._view = view = memoryview(buffer)
+        try:
+            self._view = view = memoryview(buffer)
+        except TypeError as fault:
+            raise TypeError(instead_of(buffer)) from fault
         self._held = PickleBuffer(view)
         self.alive = Alive((True,))
         self.is_readonly = view.readonly
@@ -106,7 +162,8 @@ class Memory:
         size, code = view.itemsize, view.format
         if not (size == 1 and code[-1:] in _BYTES) and not (words and code.lstrip(_ORDER) == _WORD):
             what = "bytes, or words of 16 bits in the machine's order" if words else "bytes"
-            raise TypeError(f"the buffer has elements of format {code!r}: pass {what}")
+            instead = elements_instead(code)
+            raise TypeError(f"the buffer has elements of format {code!r}: pass {what}{instead}")
         if len(shape) == 1 and view.c_contiguous:
             self.rows, self.row, self.step = shape[0], size, size
         else:
@@ -128,16 +185,15 @@ class Memory:
         self.row = view.itemsize
         for i in range(len(shape) - 1, 0, -1):
             if shape[i] > 1 and strides[i] != self.row and held:
-                raise ValueError(
-                    "the buffer has gaps inside its rows: only whole rows may lie apart"
-                )
+                why = "the buffer has gaps inside its rows: only whole rows may lie apart"
+                raise Gaps(view, why)
             self.row *= shape[i]
         self.rows = shape[0] if shape else 1
         self.step = strides[0] if self.rows > 1 and held else self.row
         if self.step != self.row and len(shape) == 1:
-            raise ValueError("the buffer has gaps: pass all of it, with a stride")
+            raise Gaps(view, "the buffer has gaps: pass all of it, with a stride")
         if (abs(self.step) if turned else self.step) < self.row:
-            raise ValueError("the rows of the buffer run backwards, or share memory")
+            raise Gaps(view, "the rows of the buffer run backwards, or share memory")
 
     @property
     def has_gaps(self) -> bool:

@@ -3,12 +3,21 @@
 from __future__ import annotations
 
 from enum import IntEnum
-from typing import Iterable, Optional, SupportsIndex, Tuple
+from typing import Iterable, NamedTuple, Optional, SupportsIndex, Tuple
 
 from pix._numbers import index
 
-# (x, y, width, height) in pixels; x grows to the right and y downwards.
-Region = Tuple[int, int, int, int]
+class Region(NamedTuple):
+    """A region in pixels: x grows to the right and y downwards. A tuple (x, y, width, height) is as
+    good."""
+
+    x: int
+    y: int
+    width: int
+    height: int
+
+    def __repr__(self) -> str:
+        return tuple.__repr__(self)
 
 
 class Op(IntEnum):
@@ -219,8 +228,20 @@ def origin_of(origin: Iterable[SupportsIndex]) -> Tuple[int, int]:
 
 def region_of(region: Iterable[SupportsIndex]) -> Region:
     """The numbers of a region (x, y, width, height)."""
-    x, y, width, height = map(index, region)
+    sides = tuple(region) if hasattr(region, "__iter__") else ()
+    if len(sides) != 4:
+        raise (ValueError if sides else TypeError)(f"{region!r} is no region (x, y, width, height)")
+    x, y, width, height = map(index, sides)
     for corner in (x, y):
         if not -(2**31) <= corner < 2**31:
             raise ValueError(f"coordinate {corner} is not from {-(2**31)} to {2**31 - 1}")
-    return x, y, u32(width, "side"), u32(height, "side")
+    return Region(x, y, u32(width, "side"), u32(height, "side"))
+
+
+def op_of(op: SupportsIndex) -> int:
+    """The number of an operator."""
+    if issubclass(type(op), str):
+        names = {each.name.replace("_", ""): each.name for each in Op}
+        said = "".join(letter for letter in str(op).upper() if letter.isalnum())
+        raise TypeError(f"{op!r} is a text: write pix.Op.{names.get(said, 'SRC_OVER')}")
+    return u32(op, "operator")
