@@ -7,6 +7,7 @@ import subprocess
 import sys
 import tempfile
 import unittest
+from unittest import mock
 
 from pix import _library, _pixels
 
@@ -67,6 +68,42 @@ class Libraries(unittest.TestCase):
                 env = {key: value for key, value in os.environ.items() if key != "PIX_LIBRARY"}
                 done = subprocess.run([sys.executable, "-c", code, *has], env=env, cwd=folder, capture_output=True, text=True)
                 self.assertEqual(done.stdout.strip(), wanted, done.stderr)
+
+    def test_a_library_that_is_installed(self):
+        """The package of a clone, which has none, finds that of an installed one: the folder of a script comes first."""
+        with tempfile.TemporaryDirectory() as folder:
+            clone, installed = (os.path.join(folder, name) for name in ("clone", "site-packages"))
+            shutil.copytree(os.path.dirname(_library.__file__), os.path.join(clone, "pix"), ignore=shutil.ignore_patterns("lib*"))
+            os.makedirs(os.path.join(installed, "pix"))
+            shutil.copy(_library.path_of_library(), os.path.join(installed, "pix/libpix_c.so"))
+            script = os.path.join(clone, "script.py")
+            with open(script, "w") as file:
+                file.write("import pix; print(pix.__file__); pix.Image.new(1, 1).run(pix.clear())")
+            env = {key: value for key, value in os.environ.items() if key != "PIX_LIBRARY"}
+            ran = subprocess.run([sys.executable, script], env={**env, "PYTHONPATH": installed}, capture_output=True, text=True)
+            self.assertEqual((ran.stdout.strip(), ran.stderr), (os.path.join(clone, "pix/__init__.py"), ""))
+
+    @unittest.skipIf(_library.machine() != "x86-64", "another processor")
+    def test_the_processor_is_asked_itself(self):
+        """What the system says of the host may be wrong for the processor that a program sees, as under qemu."""
+        own = {"sse4_1", *_library.V3}
+        for has, wanted in ((own, None), (own - {"sse4_1"}, "the library needs a processor with SSE4.1, which this one lacks")):
+            with mock.patch.object(_library, "asked", lambda has=has: has):
+                with mock.patch.object(_library, "flags", lambda: own | {"fpu"}):
+                    self.assertEqual(_library.instructions(), has)
+                    self.assertEqual(_library.processor_fault("x86-64", _library.instructions()), wanted)
+        for told in ((None, {"fpu"}), ({"avx"}, None), (None, None)):
+            with mock.patch.object(_library, "asked", lambda: told[0]), mock.patch.object(_library, "flags", lambda: told[1]):
+                self.assertEqual(_library.instructions(), told[0] or told[1])
+
+    @unittest.skipIf(not shutil.which("qemu-x86_64") or _library.machine() != "x86-64", "no qemu")
+    def test_another_processor_under_qemu(self):
+        """The library for wide processors was taken on one that is none: SIGILL."""
+        code = "import pix; from pix import _library as it; print(sorted(it.V3 & it.instructions()))"
+        for kind, wanted, status in (("Nehalem", "[]", 0), ("Conroe", "needs a processor with SSE4.1", 1)):
+            ran = subprocess.run(["qemu-x86_64", "-cpu", kind, sys.executable, "-c", code], capture_output=True, text=True)
+            self.assertEqual(ran.returncode, status, ran.stderr)
+            self.assertIn(wanted, ran.stdout + ran.stderr)
 
     @unittest.skipIf("PIX_OTHER" not in os.environ, "no PIX_OTHER")
     def test_another_library(self):

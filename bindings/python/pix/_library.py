@@ -5,6 +5,7 @@ from __future__ import annotations
 import ctypes
 import os
 import platform
+import sys
 from typing import Any, List, Optional, Set
 
 # From how many nanoseconds on, by the table, a call is long: it lets the interpreter's lock go.
@@ -62,6 +63,11 @@ def types_of(takes: str) -> List[Any]:
 
 # What Linux calls, in /proc/cpuinfo, the instructions that x86-64-v3 has beyond those of x86-64-v2.
 V3 = {"abm", "avx", "avx2", "bmi1", "bmi2", "f16c", "fma", "movbe", "xsave"}
+# Where glibc, from 2.33 on, notes the instructions that the processor has and the system lets run: a leaf, a word, and a bit.
+_BITS = {
+    "sse4_1": (0, 6, 19), "fma": (0, 6, 12), "movbe": (0, 6, 22), "xsave": (0, 6, 26), "avx": (0, 6, 28), "f16c": (0, 6, 29),
+    "bmi1": (1, 5, 3), "avx2": (1, 5, 5), "bmi2": (1, 5, 8), "abm": (2, 6, 5),
+}  # fmt: skip
 # The processors by their numbers in the head of a shared object.
 MACHINES = {62: "x86-64", 183: "aarch64"}
 NAMES = {"x86_64": "x86-64", "amd64": "x86-64", "arm64": "aarch64"}
@@ -83,6 +89,23 @@ def flags(cpuinfo: str = "/proc/cpuinfo") -> Optional[Set[str]]:
     return set.intersection(*found) if found else None
 
 
+def asked() -> Optional[Set[str]]:
+    """Those of the instructions above that the processor itself says it has, or None where no function tells."""
+    try:
+        leaf = getattr(ctypes.CDLL(None), "__x86_get_cpuid_feature_leaf")
+    except (AttributeError, OSError):
+        return None
+    leaf.argtypes, leaf.restype = [ctypes.c_uint], ctypes.POINTER(ctypes.c_uint32 * 8)
+    words = [list(leaf(number).contents) for number in range(3)]
+    return {name for name, (number, word, bit) in _BITS.items() if words[number][word] >> bit & 1}
+
+
+def instructions() -> Optional[Set[str]]:
+    """The instructions that both the processor and the system tell: under an emulator the system may tell of another one."""
+    own, told = asked(), flags()
+    return told if own is None else own if told is None else own & told
+
+
 def processor_fault(kind: str, has: Optional[Set[str]]) -> Optional[str]:
     """Why the library can't run on a processor of this kind with these instructions, as far as the system tells."""
     if kind not in MACHINES.values():
@@ -94,15 +117,22 @@ def processor_fault(kind: str, has: Optional[Set[str]]) -> Optional[str]:
 
 def path_of_library(has: Optional[Set[str]] = None) -> str:
     """Where the shared object is: PIX_LIBRARY, or in this folder, the one for x86-64-v3 where the processor has these
-    instructions, or in the folder above."""
+    instructions, or in the folder above, or in an installed package."""
     named = os.environ.get("PIX_LIBRARY")
     if named:
         return os.path.abspath(named)
     here = os.path.dirname(os.path.abspath(__file__))
-    wide, inside = (os.path.join(here, name) for name in ("libpix_c-v3.so", "libpix_c.so"))
-    if has is not None and V3 <= has and os.path.exists(wide):
-        return wide
-    return inside if os.path.exists(inside) else os.path.join(os.path.dirname(here), "libpix_c.so")
+    above = os.path.join(os.path.dirname(here), "libpix_c.so")
+    # A package of sources finds the library of one that is installed, which it stands before.
+    for folder in (here, *(os.path.join(each, "pix") for each in sys.path if os.path.isabs(each))):
+        wide, inside = (os.path.join(folder, name) for name in ("libpix_c-v3.so", "libpix_c.so"))
+        if has is not None and V3 <= has and os.path.exists(wide):
+            return wide
+        if os.path.exists(inside):
+            return inside
+        if folder == here and os.path.exists(above):
+            return above
+    return above
 
 
 def why_not(path: str) -> str:
@@ -120,7 +150,7 @@ def why_not(path: str) -> str:
 
 def load(kind: Any) -> Any:
     """Loads the shared object, and declares its functions."""
-    path = path_of_library(flags() if machine() == "x86-64" else None)
+    path = path_of_library(instructions() if machine() == "x86-64" else None)
     try:
         library = kind(path)
     except OSError as fault:
@@ -134,7 +164,7 @@ def load(kind: Any) -> Any:
     return library
 
 
-_fault = processor_fault(machine(), flags())
+_fault = processor_fault(machine(), instructions() if machine() == "x86-64" else None)
 if _fault:
     raise ImportError(f"pix: {_fault}")
 
