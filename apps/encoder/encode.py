@@ -26,11 +26,28 @@ import os
 import pathlib
 import sys
 
+
+
+class OutputError(Exception):
+    """What can't be printed."""
+
+
+def say(text):
+    """Prints a text; where that fails, nothing more is printed, and no rest of it at the end."""
+    if sys.stdout is None:
+        raise OutputError("the standard output: it is closed")
+    try:
+        print(text, flush=True)
+    except OSError as error:
+        os.dup2(os.open(os.devnull, os.O_WRONLY), sys.stdout.fileno())
+        raise OutputError(f"the standard output: {error.strerror}") from None
+
+
 try:
     import files
     import table
 except ImportError as error:
-    if "--help" in sys.argv[1:]:
+    if "--help" in sys.argv[1:] and sys.stdout is not None:
         print(__doc__, end="", flush=True)
         sys.exit()
     print(f"encode.py: {error}: it stands on pix and Pillow", file=sys.stderr)
@@ -145,7 +162,7 @@ def tell(progress, name, frames, count, error):
     many = f"{len(frames)} frames, " if len(frames) > 1 else ""
     progress.end()
     said = f"{name}: {width}x{height}, {many}{len(frames[0].table)} colors, {count} bytes, mean squared error {error:.2f}"
-    print(said, flush=True)
+    say(said)
 
 
 def encode_each(options, progress):
@@ -187,7 +204,7 @@ def main(words):
     progress = Progress(1)
     try:
         if "--help" in words:
-            print(__doc__, end="", flush=True)
+            say(__doc__.rstrip("\n"))
             return 0
         options = Options(words)
         progress = Progress(len(options.files) * (2 if options.gif else 1))
@@ -196,7 +213,7 @@ def main(words):
     except UsageError as error:
         print(f"encode.py: {error}\nencode.py: try encode.py --help", file=sys.stderr)
         return 2
-    except (OSError, files.PictureError) as error:
+    except (OSError, OutputError, files.PictureError) as error:
         progress.end()
         print(f"encode.py: {error}", file=sys.stderr)
         return 1

@@ -18,7 +18,7 @@ import subprocess
 import sys
 
 sys.path.insert(0, str(pathlib.Path(__file__).resolve().parent.parent / "common"))
-from trial import PICTURES, Image, Trial, main, open_picture  # noqa: E402
+from trial import PICTURES, TOP, Image, Trial, main, open_picture  # noqa: E402
 
 ENCODER = pathlib.Path(__file__).resolve().parent / "encode.py"
 LEAF, LAKE = PICTURES / "leaf.png", PICTURES / "lake.jpg"
@@ -275,6 +275,31 @@ class Encoder(Trial):
             self.assertRegex(ran.stderr, f"^encode.py: {old}: File too large\n$")
             self.assertEqual(old.read_bytes(), b"what was there before")
             self.assertEqual([path.name for path in self.folder.glob(".*")], [])
+
+
+def ends_of(program, *words):
+    """Yields the status and the sentences of a program that can't print, in a clean environment: with a full standard output and
+    with a closed one, which Python writes at once or at its end."""
+    kept = {name: os.environ[name] for name in ("PATH", "PIX_LIBRARY", "PYTHONPATH") if name in os.environ}
+    for more in ({}, {"PYTHONUNBUFFERED": "1"}):
+        for way in ("exec >/dev/full", "exec >&-"):
+            command = ["sh", "-c", way + '; exec "$@"', "sh", *map(str, program), *map(str, words)]
+            ran = subprocess.run(command, env={**kept, **more}, stderr=subprocess.PIPE, text=True)
+            yield ran.returncode, ran.stderr
+
+
+class Output(Trial):
+    """Where nothing can be printed, a sentence says so, and the status is 1: it was 120 with three lines, 0, or a traceback."""
+
+    def test_it_is_full_or_closed(self):
+        other = TOP / "bindings/python/encode.py"
+        for program, words in (
+            ((sys.executable, ENCODER), ["--help"]), ((sys.executable, ENCODER), ["--into", self.folder, LEAF]),
+            ((sys.executable, ENCODER), ["--gif", self.folder / "a.gif", LEAF]), ((sys.executable, other), [LEAF, self.folder / "a.png"]),
+        ):  # fmt: skip
+            for status, said in ends_of(program, *words):
+                self.assertRegex(said, r"\Aencode.py: the standard output: .*\n\Z")
+                self.assertEqual(status, 1)
 
 
 def blocks_of(data, at):

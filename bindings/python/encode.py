@@ -16,6 +16,7 @@ and then the file, whose pixels are compared. Needs Pillow. Prints what was made
 are seen: that over black and that over white, averaged. Answers 1 where the pixels differ, and 2 after a wrong use.
 """
 
+import os
 import struct
 import sys
 import zlib
@@ -198,7 +199,8 @@ def options(words: List[str]) -> Tuple[List[str], int, Optional[Dict[str, Any]]]
     return names, numbers["--rounds"], None if "--nearest" in words else diffusion
 
 
-def main(words: List[str]) -> int:
+def made(words: List[str]) -> Tuple[bool, str]:
+    """Makes the file; answers whether Pillow reads the same pixels, and what there is to say."""
     names, rounds, diffusion = options(words)
     name, colors = names[1], int(names[2]) if len(names) == 3 else 256
     picture = read(names[0])
@@ -208,7 +210,7 @@ def main(words: List[str]) -> int:
         data = gif(size, table, indices, picture.times, picture.loop)
     elif len(picture.frames) > 1:
         print(f"{names[0]} has {len(picture.frames)} frames, and a PNG has one: name a FILE that ends in .gif", file=sys.stderr)
-        return 2
+        sys.exit(2)
     else:
         table, index = with_alphas(picture.frames[0], colors, rounds, diffusion)
         indices, data = [index], png(size, table, index)
@@ -220,11 +222,29 @@ def main(words: List[str]) -> int:
     same = [frame.tobytes() for frame in back.frames] == [frame.tobytes() for frame in shown]
     same = same and (len(shown) == 1 or back.times == [(time + 5) // 10 * 10 for time in picture.times])
     frames = f", {len(shown)} frames" if len(shown) > 1 else ""
-    print(
+    return same, (
         f"{name}: {size[0]}x{size[1]}{frames}, {len(table) // 4} colors, {len(data)} bytes, mean squared error"
         f" {mean_squared_error(picture.frames, shown):.1f}, Pillow reads {'the same' if same else 'OTHER'} pixels"
     )
-    return not same
+
+
+def main(words: List[str]) -> int:
+    """Makes the file, and prints what was made, or why not."""
+    try:
+        same, said = made(words)
+    except OSError as fault:
+        print(f"encode.py: {fault}", file=sys.stderr)
+        return 1
+    why = "it is closed"
+    try:
+        if sys.stdout is not None:
+            print(said, flush=True)
+            return not same
+    except OSError as fault:
+        why = str(fault.strerror)
+        os.dup2(os.open(os.devnull, os.O_WRONLY), 1)  # no rest of it is written at the end
+    print(f"encode.py: the standard output: {why}", file=sys.stderr)
+    return 1
 
 
 if __name__ == "__main__":

@@ -51,9 +51,10 @@ it is pinned, and so do numpy's array.resize(refcheck=False), array.data = .. an
 mapped must not be made shorter.
 
 The package looks for the shared object libpix_c.so at the path PIX_LIBRARY of the environment. Without it, it looks in
-its own folder, in the one above, and where another package pix is installed. On a processor of x86-64-v3, libpix_c-v3.so of this package comes first, which a
-release has. It needs CPython 3.10 on Linux, on a processor of x86-64 with SSE4.1 or of aarch64. An import on another one,
-or over a library of another version or layout, raises ImportError.
+its own folder, in the one above, and where another package pix is installed. On a processor of x86-64-v3,
+libpix_c-v3.so of this package comes first, which a release has. It needs CPython 3.10 on Linux, on a processor of
+x86-64 with SSE4.1 or of aarch64. An import on another one, or over a library of another version or layout, raises
+ImportError.
 
 docs/PROMISES.md of the repository lists all calls in four languages, and what is proved of each.
 """
