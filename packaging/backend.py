@@ -15,13 +15,14 @@ import tempfile
 
 sys.path.insert(0, str(pathlib.Path(__file__).resolve().parent))
 
-from common import PROCESSORS, TOP, Release, provenance, put, read, version_of_calls  # noqa: E402
+from common import PROCESSORS, TOP, Release, copy, files_below, pack, provenance, put, read, version_of_calls  # noqa: E402
 from tree import shared_by  # noqa: E402
 from wheel import metadata, put_about, put_package, write  # noqa: E402
 
 
-class UnsupportedOperation(Exception):
-    """What this backend does not do."""
+# What an archive of sources has, beside Python's package and these files: what the wheel is built of, and what its documents say.
+SOURCES = ["pyproject.toml", "VERSION", "LICENSE", "README.md", "bindings/README.md", "bindings/c/pix.h", "bindings/first/first.py"]
+SOURCES += ["docs/INSTALL.md", "docs/FORMATS.md", "docs/PROMISES.md", "pictures/first.png", "packaging/pix.map", "generated/README.md"]
 
 
 def compiler():
@@ -64,17 +65,24 @@ def release_in(folder, said):
     return Release(read("VERSION").strip(), version_of_calls(), "that of the clone", epoch, folder, said, folder)
 
 
-def build_wheel(wheel_directory, config_settings=None, metadata_directory=None):
-    """Builds the wheel into a folder, and returns its name."""
-    it, words = processor(), compiler()
-    files = files_for(it)
+def built_of(words, files):
+    """Returns what a wheel says of how it was built."""
     said = [f"built of a clone's generated/ by {called([*words, '--version'], '').splitlines()[0]}"]
     for file in files.values():
-        said += [f"{file}: {line[3:]}" for line in (TOP / "generated" / file).read_text(encoding="utf-8")[:2000].splitlines() if line.startswith((" * sources:", " * kit:", " * verdict:"))]
+        head = (TOP / "generated" / file).read_text(encoding="utf-8")[:2000].splitlines()
+        said += [f"{file}: {line[3:]}" for line in head if line.startswith((" * sources:", " * kit:", " * verdict:"))]
+    return said
+
+
+def built(wheel_directory, put_modules):
+    """Builds the wheel of the libraries, and of what a function puts beside them; returns its name."""
+    it, words = processor(), compiler()
+    files = files_for(it)
+    said = built_of(words, files)
     with tempfile.TemporaryDirectory() as name:
         folder = pathlib.Path(name)
         release, root = release_in(folder, said), folder / "wheel"
-        put_package(root)
+        put_modules(root)
         for library, file in files.items():
             called(shared_by(release.calls, words, [TOP / "generated" / file], root / "pix" / library), file)
             (root / "pix/pix.map").unlink()
@@ -86,6 +94,16 @@ def build_wheel(wheel_directory, config_settings=None, metadata_directory=None):
     return target.name
 
 
+def build_wheel(wheel_directory, config_settings=None, metadata_directory=None):
+    """Builds the wheel into a folder, and returns its name."""
+    return built(wheel_directory, put_package)
+
+
+def build_editable(wheel_directory, config_settings=None, metadata_directory=None):
+    """Builds the wheel of pip install -e: the libraries, and the path of the clone's package, which finds them."""
+    return built(wheel_directory, lambda root: put(root / "pix_proved.pth", f"{TOP / 'bindings/python'}\n"))
+
+
 def prepare_metadata_for_build_wheel(metadata_directory, config_settings=None):
     """Writes what the wheel will say of itself, and returns the name of its folder."""
     release = release_in(pathlib.Path(metadata_directory), [])
@@ -94,6 +112,20 @@ def prepare_metadata_for_build_wheel(metadata_directory, config_settings=None):
     return info.name
 
 
+prepare_metadata_for_build_editable = prepare_metadata_for_build_wheel
+
+
 def build_sdist(sdist_directory, config_settings=None):
-    """Builds no archive of sources: a clone or a tag of the repository is one."""
-    raise UnsupportedOperation("pix has no archive of sources for pip: take a clone or a tag of the repository")
+    """Builds the archive of sources for pip: what the wheel is built of, with generated/ for all processors. Returns its name."""
+    with tempfile.TemporaryDirectory() as name:
+        release = release_in(pathlib.Path(name), [])
+        root = release.dist / f"pix_proved-{release.version}"
+        named = [TOP / path for path in SOURCES] + sorted((TOP / "packaging").glob("*.py")) + sorted((TOP / "generated").glob("pix-*.s"))
+        modules = [path for path in files_below(TOP / "bindings/python/pix") if path.suffix in (".py", ".typed")]
+        for path in named + modules:
+            copy(path, root / path.relative_to(TOP))
+        put(root / "PKG-INFO", metadata(release))
+        pack(release, root)
+        target = pathlib.Path(sdist_directory) / f"{root.name}.tar.gz"
+        shutil.copyfile(release.dist / target.name, target)
+    return target.name

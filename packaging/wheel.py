@@ -25,6 +25,8 @@ Classifier: License :: OSI Approved :: MIT License
 Classifier: Operating System :: POSIX :: Linux
 Classifier: Programming Language :: Python :: 3
 Classifier: Typing :: Typed
+Provides-Extra: pillow
+Requires-Dist: pillow; extra == "pillow"
 Description-Content-Type: text/markdown
 
 {read("bindings/README.md")}"""

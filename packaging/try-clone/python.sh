@@ -34,6 +34,23 @@ same_wheels() {
     chmod -R u+w "$work/another clone" && cmp "$work"/wheels/*.whl "$work"/wheels2/*.whl
 }
 
+# A program of the clone finds the library that pip has put, though its folder has the package without one.
+clone_programs() {
+    mkdir "$work/programs" && cd "$work/programs" && "$env_python" "$clone/bindings/python/calling.py" "$clone/pictures/lake.ppm" && [ -s tiles.ppm ]
+}
+
+# An archive of sources is built, twice the same, and installed with the extra for Pillow named; and a clone is installed as it stands.
+other_installs() {
+    local python at=$work/other pip
+    python3 -m venv "$at/env" && python=$at/env/bin/python && mkdir "$at/one" "$at/two" || return
+    pip=("$python" -m pip install -q --no-index --no-build-isolation)
+    (cd "$clone" && PYTHONPATH=packaging "$python" -B -c 'import backend, sys; [backend.build_sdist(each) for each in sys.argv[1:]]' "$at/one" "$at/two") \
+        && cmp "$at"/one/*.tar.gz "$at"/two/*.tar.gz && "${pip[@]}" "$at"/one/*.tar.gz && cd "$at" \
+        && "$python" -c 'import importlib.metadata as it, pix; pix.Image.new(1, 1).run(pix.clear()); assert "pillow" in it.metadata("pix-proved").get_all("Provides-Extra")' \
+        && "$python" -m pip uninstall -q -y pix-proved && "${pip[@]}" -e "$clone" \
+        && "$python" -c 'import pix, sys; pix.Image.new(1, 1).run(pix.clear()); sys.exit(not pix.__file__.startswith(sys.argv[1]))' "$clone"
+}
+
 # No compiler, one that fails, another processor, no generated/, and what the backend does not make.
 python_bad() {
     local pip=("$env_python" -m pip)
@@ -54,6 +71,8 @@ else
     if try_lines docs/INSTALL.md pip python_painted; then
         step 'Python: demo, refusals, buffers, threads against the wheel' package_tests
         step 'Python: two wheels of two clones are the same' same_wheels
+        step 'Python: a program of the clone over the library of the wheel' clone_programs
+        step 'Python: an archive of sources, and an install of the clone as it stands' other_installs
         step 'Python: no compiler, another processor, no generated/' python_bad
     fi
 fi
