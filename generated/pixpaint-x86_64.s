@@ -1,9 +1,9 @@
 /* pix 0.3.0: the program pixpaint, for x86-64-v2 under Linux.
  * The code was proved before it was compiled; generated/README.md says what that means. Nobody edits this file: tools/generate makes it.
  *
- * sources: 29570e3e1de9a13cc34ca9b51d347fe688108954d62f58af85c455677eb98650, as tools/sources --sum pixpaint prints it
- * kit: rattle-kit-13f logic dac8208d650f15bf
- * verdict: logic=proved functions=1 axioms=6 target=x86_64-unknown-linux-gnu cpu=x86-64-v2 sum=dac8208d650f15bf native=nat,char,string logic-built=trusted libraries-built=trusted statements=trusted
+ * sources: 6a656bd56a0dfc649c055c0f6be7b1c41540845e74e494bd78496052e52130a3, as tools/sources --sum pixpaint prints it
+ * kit: rattle-kit-13b logic dac8208d650f15bf
+ * verdict: logic=proved functions=1 axioms=6 target=x86_64-unknown-linux-gnu cpu=x86-64-v2 sum=dac8208d650f15bf native=nat,char,string logic-built=trusted libraries-built=trusted statements=trusted incremental=trusted
  * made by: rattle build of crates/pixpaint, with clang -S -fno-verbose-asm -fno-addrsig in the place of clang -c
  * flags: --target=x86_64-unknown-linux-gnu -march=x86-64-v2
  */
