@@ -43,6 +43,7 @@ class Defaults(unittest.TestCase):
         image, photo = pix.Image.new(8, 8), pix.Image.open(file)
         image.run(pix.copy_image(WHOLE, photo))
         self.assertEqual(straight(image), straight(photo))
+        image.run(pix.composite_image_alpha(WHOLE, photo, opacity=0.5))
         for list_of in ([pix.copy_image(WHOLE, photo)], [pix.clear()], [pix.copy_color(WHOLE, pix.srgb(9, 9, 9))]):
             image.run(pix.CommandList(*list_of))
 
