@@ -8,6 +8,10 @@
 import os
 import sys
 
+sys.path.insert(0, os.path.join(os.path.dirname(os.path.realpath(__file__)), "..", "tools"))
+sys.dont_write_bytecode = True
+import endings  # noqa: E402, F401
+
 if sys.argv[1:]:
     print(__doc__.strip(), file=sys.stdout if sys.argv[1:] == ["--help"] else sys.stderr)
     sys.exit(0 if sys.argv[1:] == ["--help"] else 2)
