@@ -26,9 +26,9 @@ crate_tests() {
     for crate in pix-proved-sys pix-proved; do
         (cd "$places/cargo-docs-INSTALL.md/$crate-$version" && sha256sum -c --quiet PROVENANCE) || return
     done
-    cp -r "$places/cargo-docs-INSTALL.md/pix-proved-$version" "$work/tests" && cd "$work/tests" \
+    cp -r "$places/cargo-docs-INSTALL.md/pix-proved-$version" "$places/tests" && cd "$places/tests" \
         && printf '\n[patch.crates-io]\npix-proved-sys = { path = "../cargo-docs-INSTALL.md/pix-proved-sys-%s" }\n[workspace]\n' "$version" >>Cargo.toml \
-        && CARGO_NET_OFFLINE=true CARGO_TARGET_DIR=$work/tests/target cargo test --quiet
+        && CARGO_NET_OFFLINE=true CARGO_TARGET_DIR=$places/tests/target cargo test --quiet
 }
 
 # Another archive in the place of the package's: each call says so.
