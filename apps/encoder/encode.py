@@ -43,13 +43,22 @@ def say(text):
         raise OutputError(f"the standard output: {error.strerror}") from None
 
 
+def say_help():
+    """Prints what this does, and returns the status."""
+    try:
+        say(__doc__.rstrip("\n"))
+    except OutputError as error:
+        print(f"encode.py: {error}", file=sys.stderr)
+        return 1
+    return 0
+
+
 try:
     import files
     import table
 except ImportError as error:
-    if "--help" in sys.argv[1:] and sys.stdout is not None:
-        print(__doc__, end="", flush=True)
-        sys.exit()
+    if "--help" in sys.argv[1:]:
+        sys.exit(say_help())
     print(f"encode.py: {error}: it stands on pix and Pillow", file=sys.stderr)
     sys.exit(2)
 
@@ -204,8 +213,7 @@ def main(words):
     progress = Progress(1)
     try:
         if "--help" in words:
-            say(__doc__.rstrip("\n"))
-            return 0
+            return say_help()
         options = Options(words)
         progress = Progress(len(options.files) * (2 if options.gif else 1))
         (encode_all if options.gif else encode_each)(options, progress)
