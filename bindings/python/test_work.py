@@ -11,8 +11,11 @@ import pix
 from pix import Format
 from pix._turns import turns
 
-# How many seconds a call may keep it, on a machine that does other things too.
+# How many seconds a call may keep it, on a machine that adds up ADDITIONS in ADDED seconds. A
+# slower one, or one that does other things too, may take longer.
 SHORT = 0.004
+ADDITIONS, ADDED = range(1 << 17), 0.0026
+TRIES = 5
 CHANCE = random.Random(8)
 
 
@@ -28,6 +31,13 @@ def sphere():
         at = math.sin(tilt) * math.cos(turn), math.sin(tilt) * math.sin(turn), math.cos(tilt)
         colors += bytes(128 + round(120 * side) for side in at)
     return bytes(colors)
+
+
+def pace():
+    """How many times as long as ADDED the additions take here and now, and at least once."""
+    before = time.thread_time()
+    sum(ADDITIONS)
+    return max(1, (time.thread_time() - before) / ADDED)
 
 
 class Keeping(unittest.TestCase):
@@ -54,7 +64,7 @@ class Keeping(unittest.TestCase):
             middle = (low + high + 1) // 2
             kept = self.seconds(lambda: call(middle), False)
             low, high = (middle, high) if kept else (low, middle - 1)
-        times = [self.seconds(lambda: call(low)) for _ in range(2)]
+        times = [self.seconds(lambda: call(low)) / pace() for _ in range(TRIES)]
         self.assertLess(min(times), SHORT, f"{name} of {low}")
 
     def test_tables(self):
