@@ -26,10 +26,10 @@ def convert(from_: Format, src: Buffer, to: Format, dst: Target) -> Target: ...
 def convert(from_: Format, src: Any, to: Format, dst: Any = None) -> Any:
     """Converts all pixels of the buffer `src` to the format of `dst`, which has room for just as many; returns `dst`.
 
-    Both are buffers of bytes without gaps, and the formats are those up to SGRAY8. Without `dst` a new bytearray is returned. An alpha that `from_` lacks is
-    255. One that `to` lacks is dropped, and colors that were multiplied by it stay so from RGBA8P and SRGBA8P to RGB8
-    and SRGB8; to all others they are divided by it. Raises PixError where the lengths don't fit, TypeError where `dst`
-    is read-only and ValueError where the two overlap.
+    Both are buffers of bytes without gaps, and the formats are those up to SGRAY8. Without `dst` a new bytearray is
+    returned. An alpha that `from_` lacks is 255. One that `to` lacks is dropped, and colors that were multiplied by it
+    stay so from RGBA8P and SRGBA8P to RGB8 and SRGB8; to all others they are divided by it. Raises PixError where the
+    lengths don't fit, TypeError where `dst` is read-only and ValueError where the two overlap.
     """
     from_, to = Format(from_), Format(to)
     if max(from_, to) > Format.SGRAY8:
