@@ -7,8 +7,8 @@ Writes pictures that Pillow reads as indexed ones: each as a PNG, or all as the 
   --colors N       at most so many colors, from 2 to 256 (256)
   --rounds N       refine the table by so many rounds, from 0 to 255 (6)
   --dither         spread the error of each pixel over those that come after it
-  --strength N     with --dither, spread so many sixteenths of it, from 0 to 16 (16)
-  --serpentine     with --dither, go from right to left in every other row
+  --strength N     with --dither, spread so many sixteenths of it, from 0 to 16 (12)
+  --left-to-right  with --dither, go so in all rows; else every other row goes from right to left
   --ground RRGGBB  composite transparent pictures over this color; else their alphas stay
   --delay MS       how long the GIF shows each still picture, in steps of 10 (100)
   --help           print this
@@ -74,12 +74,12 @@ class Options:
 
     def __init__(self, words):
         self.values = {"--into": ".", "--gif": None, "--colors": "256", "--rounds": "6", "--ground": None}
-        self.values.update({"--delay": "100", "--strength": "16"})
+        self.values.update({"--delay": "100", "--strength": "12"})
         self.flags, self.files = set(), []
         words = list(words)
         while words:
             word = words.pop(0)
-            if word in ("--dither", "--serpentine"):
+            if word in ("--dither", "--left-to-right"):
                 self.flags.add(word)
             elif word == "--":
                 self.files, words = self.files + words, []
@@ -107,7 +107,7 @@ class Options:
 
     def spreading(self):
         """Returns how errors are spread, or None."""
-        diffusion = table.Diffusion(self.number("--strength"), "--serpentine" in self.flags)
+        diffusion = table.Diffusion(self.number("--strength"), "--left-to-right" not in self.flags)
         return diffusion if "--dither" in self.flags else None
 
     def color(self):

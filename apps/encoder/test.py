@@ -116,23 +116,25 @@ class Encoder(Trial):
         """Squares of sixteen by sixteen have the mean of the original more nearly, in just as many colors."""
         ramp = Image.linear_gradient("L").rotate(90).resize((128, 32)).convert("RGBA")
         apart = []
-        for words in ([], ["--dither"]):
+        for words in ([], ["--dither"], ["--dither", "--strength", "16"]):
             made, _ = self.png(ramp, "--colors", "4", *words)
             self.assertLessEqual(len(made.getcolors()), 4)
             sums = [[sum(it.convert("L").crop((x, 0, x + 16, 32)).getdata()) for x in range(0, 128, 16)] for it in (made, ramp)]
             apart.append(sum(abs(a - b) for a, b in zip(*sums)))
-        self.assertLess(apart[1], apart[0] / 2)
+        self.assertLess(apart[1], apart[0] * 0.65)
+        self.assertLess(apart[2], apart[0] * 0.55)
 
     def test_errors_are_handed_on(self):
         """Each pixel has the color that is seen nearest to its own and what it gets of the errors before it, by Floyd and
-        Steinberg; with less strength it gets less, and with --serpentine every other row is mirrored."""
+        Steinberg: 12 sixteenths unless --strength says it. Every other row is mirrored, but for --left-to-right."""
         photo = open_picture(LAKE).crop((200, 150, 223, 165))
         photo.paste((0, 0, 0, 0), (5, 5, 9, 8))
-        for strength, words in ((16, []), (16, ["--serpentine"]), (9, ["--strength", 9]), (5, ["--strength", 5, "--serpentine"])):
+        turned = "--left-to-right"
+        for strength, words in ((12, []), (12, [turned]), (16, ["--strength", 16]), (5, ["--strength", 5, turned])):
             made, _ = self.png(photo, "--colors", 6, "--dither", *words)
             self.assertEqual(made.info["transparency"], 0)
             colors = [(0, 0, 0, 0), *((*made.getpalette()[i : i + 3], 255) for i in range(3, 18, 3))]
-            self.diffused(photo, made, colors, strength, "--serpentine" in words)
+            self.diffused(photo, made, colors, strength, turned not in words)
 
     def diffused(self, photo, made, colors, strength, serpentine):
         """Looks at each pixel of a picture that is opaque or clear: the first color is clear, and the others are opaque."""
@@ -151,7 +153,7 @@ class Encoder(Trial):
             self.assertEqual(index, apart.index(min(apart)), (x, y))
             for down, across, part in ((0, way, 7), (1, -way, 3), (1, 0, 5), (1, way, 1)):
                 to = (x + across, y + down)
-                got[to] = [e + part * (a - b) for e, a, b in zip(got.get(to, (0, 0, 0, 0)), wanted, colors[index])]
+                got[to] = [e + part * min(24, max(-24, a - b)) for e, a, b in zip(got.get(to, (0, 0, 0, 0)), wanted, colors[index])]
 
     def test_over_a_color(self):
         """What is half transparent is composited in light: half of white over black is 188."""

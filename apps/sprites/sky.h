@@ -38,8 +38,8 @@ inline std::vector<pix_srgb8> colors() {
 }
 
 // Returns the rows of the sky. A gray ramp is diffused among as many grays as there are colors, and
-// each gray is looked up as a color: so points of two colors mix where one would end at a row. A
-// little noise is in the ramp, since else all points of a row would change at once.
+// each gray is looked up as a color: so points of two colors mix where one would end at a row. All of
+// each error is passed on, since the grays are near to each other and in even steps. A little noise is in the ramp, since else all points of a row would change at once.
 inline std::vector<pix_srgb8> paint(int width, int height) {
     const std::size_t columns = width, rows = height;
     std::vector<pix_srgb8> pixels(columns * rows), grays(TONES), work(pix_diffuse_indexed_work(columns));
@@ -55,8 +55,8 @@ inline std::vector<pix_srgb8> paint(int width, int height) {
         grays[i] = {gray, gray, gray};
     }
     const std::vector<pix_srgb8> tones = colors();
-    insist(pix_diffuse_indexed(pix_table_of(grays.data(), TONES), pixels.data(), pixels.size(), columns,
-                               work.data(), indices.data()));
+    insist(pix_diffuse_indexed_by(pix_table_of(grays.data(), TONES), pixels.data(), pixels.size(), columns,
+                                  pix_diffusion{16, false}, work.data(), indices.data()));
     insist(pix_look_up(pix_table_of(tones.data(), TONES), indices.data(), indices.size(), pixels.data()));
     return pixels;
 }

@@ -87,7 +87,7 @@ static void a_table(void) {
     for (size_t i = 0; i < count; i++)
         colors[i].g = (uint8_t)(i / 4);
     size_t made = 0;
-    pix_status status = pix_quantize_refined(colors, count, 6, work, entries, 16, &made);
+    pix_status status = pix_quantize(colors, count, work, entries, 16, &made);
     if (status == PIX_OK)
         status = pix_map_indexed(pix_table_of(entries, made), colors, count, indices);
     check(status == PIX_OK && made == 16 && indices[0] == 0 && indices[COUNT - 1] == 15, "a table");

@@ -51,9 +51,9 @@
  * Stack. A call allocates nothing: its work memory is on the stack of its thread. These are the KiB
  * that a thread's stack needs for each call:
  *
- *     272   pix_quantize_refined, pix_map_indexed, pix_diffuse_indexed, pix_diffuse_indexed_by,
- *           and all four with _alpha
- *     128   pix_quantize, pix_quantize_alpha, pix_quantize_rgba
+ *     272   pix_quantize, pix_quantize_refined, pix_map_indexed, pix_diffuse_indexed,
+ *           pix_diffuse_indexed_by, and all five with _alpha
+ *     128   pix_quantize_rgba
  *      48   pix_index_pixels, pix_map_indexed_rgba, pix_diffuse_indexed_rgba
  *      24   all others
  *
@@ -525,14 +525,23 @@ static inline pix_status pix_map_indexed_alpha(pix_table table, const pix_srgba8
 static inline size_t pix_quantize_work(size_t count);
 static inline size_t pix_diffuse_indexed_work(size_t width);
 
+/* How many rounds refine a table where a call doesn't say it. */
+enum { PIX_DEFAULT_ROUNDS = 6 };
+
 /* Writes a table of the colors of `count` pixels, of at most `len` entries, and writes into `made`
  * how many it has. Where there are no more distinct colors than `len`, they are the table, in
- * order of first place. Otherwise they are the means of boxes of colors. Boxes are split, always by
- * the split that reduces the squared error most, and then those pairs are merged that raise it
- * least. Both are compared by quotients rounded down, so of nearly equal ones another may be taken.
- * The entries past `made` may hold anything. `work` has pix_quantize_work(count) colors; for a
- * large picture pass a sample of its pixels. Returns PIX_OK, PIX_BAD_TABLE (`len` is 0 or above
- * 256), PIX_BAD_LENGTH, PIX_NULL or PIX_OVERLAP. */
+ * order of first place. Otherwise they are the means of boxes of colors, which six rounds then
+ * refine. Boxes are split, always by the split that reduces the squared error most, and then those
+ * pairs are merged that raise it least. Both are compared by quotients rounded down, so of nearly
+ * equal ones another may be taken. The entries past `made` may hold anything. `work` has
+ * pix_quantize_work(count) colors; for a large picture pass a sample of its pixels. Returns PIX_OK,
+ * PIX_BAD_TABLE (`len` is 0 or above 256), PIX_BAD_LENGTH, PIX_NULL or PIX_OVERLAP.
+ *
+ *     size_t made = 0;
+ *     pix_status status = pix_quantize(colors, count, work, entries, 16, &made);
+ *     if (status == PIX_OK)
+ *         status = pix_map_indexed(pix_table_of(entries, made), colors, count, indices);
+ */
 static inline pix_status pix_quantize(const pix_srgb8 *pixels, size_t count, pix_srgb8 *work, pix_srgb8 *entries, size_t len,
                                       size_t *made);
 
@@ -541,18 +550,12 @@ static inline pix_status pix_quantize(const pix_srgb8 *pixels, size_t count, pix
 static inline pix_status pix_quantize_alpha(const pix_srgba8 *pixels, size_t count, uint8_t alpha, pix_srgb8 *work,
                                             pix_srgb8 *entries, size_t len, size_t *made);
 
-/* Write a table as pix_quantize and pix_quantize_alpha do. If there are more distinct colors than
- * `len`, `rounds` rounds then refine it. In a round each color goes to its nearest entry, the first
- * if several are equal. Each entry goes to the mean of its colors, rounded, and stays where it has
- * none. No round makes the sum of the squared errors greater. A round takes about as long as
- * pix_map_indexed of the distinct colors, so less than that of the pixels where colors come again.
- * Six are enough for most pictures.
- *
- *     size_t made = 0;
- *     pix_status status = pix_quantize_refined(colors, count, 6, work, entries, 16, &made);
- *     if (status == PIX_OK)
- *         status = pix_map_indexed(pix_table_of(entries, made), colors, count, indices);
- */
+/* Write a table as pix_quantize and pix_quantize_alpha do, with another number of rounds. In a round
+ * each color goes to its nearest entry, the first if several are equal. Each entry goes to the mean
+ * of its colors, rounded, and stays where it has none. No round makes the sum of the squared errors
+ * greater. A round takes about as long as pix_map_indexed of the distinct colors, so less than that
+ * of the pixels where colors come again. PIX_DEFAULT_ROUNDS are enough for most pictures; without a
+ * round a table is made sooner, and fits the picture less. */
 static inline pix_status pix_quantize_refined(const pix_srgb8 *pixels, size_t count, uint8_t rounds, pix_srgb8 *work,
                                               pix_srgb8 *entries, size_t len, size_t *made);
 static inline pix_status pix_quantize_refined_alpha(const pix_srgba8 *pixels, size_t count, uint8_t alpha, uint8_t rounds,
@@ -566,12 +569,15 @@ static inline pix_status pix_quantize_refined_alpha(const pix_srgba8 *pixels, si
  *   - A pixel's error is the target less the chosen entry, and at most 24 either way in each
  *     channel. It is a whole number. So no target is further than 24 from its pixel: errors of a
  *     table that lacks a color don't run away.
- *   - Of it, 7/16 go to the pixel on the right. In the next row, 3/16 go to the pixel on the left,
- *     5/16 to the one below, and 1/16 to the one on the right. Shares past the sides of a row are
- *     lost.
+ *   - 12/16 of it are passed on. Of these, 7/16 go to the pixel on the right. In the next row, 3/16
+ *     go to the pixel on the left, 5/16 to the one below, and 1/16 to the one on the right. Shares
+ *     past the sides of a row are lost.
+ *   - Every second row goes from right to left, from the second on. Left and right are exchanged
+ *     there.
  *
- * `work` has pix_diffuse_indexed_work(width) colors. Returns what pix_map_indexed does, and
- * PIX_BAD_LENGTH too where `width` is 0 or more than memory holds. */
+ * So rows are whole: `count` is a multiple of `width`. `work` has pix_diffuse_indexed_work(width)
+ * colors. Returns what pix_map_indexed does, and PIX_BAD_LENGTH too where `width` is 0 or more than
+ * memory holds, or a row isn't whole. */
 static inline pix_status pix_diffuse_indexed(pix_table table, const pix_srgb8 *pixels, size_t count, size_t width,
                                              pix_srgb8 *work, uint8_t *indices);
 
@@ -591,11 +597,13 @@ static inline pix_status pix_diffuse_indexed_alpha(pix_table table, const pix_sr
  *     rows that all go one way. */
 typedef struct { uint8_t strength; bool serpentine; } pix_diffusion;
 
-/* Write the index of each pixel, with error diffusion as `how` says. pix_diffuse_indexed and
- * pix_diffuse_indexed_alpha have a strength of 16, and no row goes from right to left there. The
- * target at a pixel is rounded once, after its share is multiplied. Return PIX_BAD_STRENGTH too
- * where the strength is above 16, and PIX_BAD_LENGTH where `serpentine` rows are not whole: `count`
- * is a multiple of `width` then. */
+/* The way of pix_diffuse_indexed and pix_diffuse_indexed_alpha: a strength of 12, and serpentine. */
+static inline pix_diffusion pix_default_diffusion(void);
+
+/* Write the index of each pixel, with error diffusion as `how` says. The target at a pixel is
+ * rounded once, after its share is multiplied. Return PIX_BAD_STRENGTH too where the strength is
+ * above 16, and PIX_BAD_LENGTH where `serpentine` rows are not whole: `count` is a multiple of
+ * `width` then. Rows that all go one way may end in a part of one. */
 static inline pix_status pix_diffuse_indexed_by(pix_table table, const pix_srgb8 *pixels, size_t count, size_t width,
                                                 pix_diffusion how, pix_srgb8 *work, uint8_t *indices);
 static inline pix_status pix_diffuse_indexed_by_alpha(pix_table table, const pix_srgba8 *pixels, size_t count, size_t width,
@@ -1451,36 +1459,6 @@ static inline pix_status pix_quantizes_(const void *pixels, size_t size, size_t 
     return status;
 }
 
-static inline pix_status pix_quantize(const pix_srgb8 *pixels, size_t count, pix_srgb8 *work, pix_srgb8 *entries, size_t len,
-                                      size_t *made) {
-    const pix_srgb8 none = {0, 0, 0};
-    pix_srgb8 nothing = {0, 0, 0};
-    pix_status status;
-    if (!count) {
-        pixels = &none;
-        work = &nothing;
-    }
-    status = pix_quantizes_(pixels, sizeof *pixels, count, work, entries, sizeof *entries, len, made);
-    if (status != PIX_OK)
-        return status;
-    return (pix_status)pix_raw_quantize(pixels, count, work, count, entries, len, made);
-}
-
-static inline pix_status pix_quantize_alpha(const pix_srgba8 *pixels, size_t count, uint8_t alpha, pix_srgb8 *work,
-                                            pix_srgb8 *entries, size_t len, size_t *made) {
-    const pix_srgba8 none = {0, 0, 0, 0};
-    pix_srgb8 nothing = {0, 0, 0};
-    pix_status status;
-    if (!count) {
-        pixels = &none;
-        work = &nothing;
-    }
-    status = pix_quantizes_(pixels, sizeof *pixels, count, work, entries, sizeof *entries, len, made);
-    if (status != PIX_OK)
-        return status;
-    return (pix_status)pix_raw_quantize_alpha(pixels, count, alpha, work, count, entries, len, made);
-}
-
 static inline pix_status pix_quantize_refined(const pix_srgb8 *pixels, size_t count, uint8_t rounds, pix_srgb8 *work,
                                               pix_srgb8 *entries, size_t len, size_t *made) {
     const pix_srgb8 none = {0, 0, 0};
@@ -1511,6 +1489,21 @@ static inline pix_status pix_quantize_refined_alpha(const pix_srgba8 *pixels, si
     return (pix_status)pix_raw_quantize_refined_alpha(pixels, count, alpha, rounds, work, count, entries, len, made);
 }
 
+static inline pix_status pix_quantize(const pix_srgb8 *pixels, size_t count, pix_srgb8 *work, pix_srgb8 *entries, size_t len,
+                                      size_t *made) {
+    return pix_quantize_refined(pixels, count, PIX_DEFAULT_ROUNDS, work, entries, len, made);
+}
+
+static inline pix_status pix_quantize_alpha(const pix_srgba8 *pixels, size_t count, uint8_t alpha, pix_srgb8 *work,
+                                            pix_srgb8 *entries, size_t len, size_t *made) {
+    return pix_quantize_refined_alpha(pixels, count, alpha, PIX_DEFAULT_ROUNDS, work, entries, len, made);
+}
+
+static inline pix_diffusion pix_default_diffusion(void) {
+    const pix_diffusion how = {12, true};
+    return how;
+}
+
 /* Tests how errors are diffused, and the lengths. */
 static inline pix_status pix_diffuses_by_(pix_diffusion how, size_t count, size_t width) {
     const size_t work_len = pix_diffuse_indexed_work(width);
@@ -1534,57 +1527,6 @@ static inline pix_status pix_diffuses_(const void *entries, size_t table_bytes, 
     if (status == PIX_OK)
         status = pix_apart_(work, work_bytes, pixels, bytes);
     return status;
-}
-
-static inline pix_status pix_diffuse_indexed(pix_table table, const pix_srgb8 *pixels, size_t count, size_t width,
-                                             pix_srgb8 *work, uint8_t *indices) {
-    const pix_diffusion how = {16, false};
-    const pix_srgb8 none = {0, 0, 0};
-    const size_t work_len = pix_diffuse_indexed_work(width);
-    uint8_t nothing = 0;
-    pix_status status = pix_diffuses_by_(how, count, width);
-    if (!table.len || table.len > 256)
-        return PIX_BAD_TABLE;
-    if (status != PIX_OK)
-        return status;
-    if (!count) {
-        pixels = &none;
-        indices = &nothing;
-    }
-    status = pix_diffuses_(table.entries, table.len * sizeof *table.entries, pixels, count * sizeof *pixels, work,
-                           work_len * sizeof *work, indices, count);
-    if (status != PIX_OK)
-        return status;
-    return (pix_status)pix_raw_diffuse_indexed(table.entries, table.len, pixels, count, width, work, work_len, indices, count);
-}
-
-static inline pix_status pix_diffuse_indexed_alpha(pix_table table, const pix_srgba8 *pixels, size_t count, size_t width,
-                                                   uint8_t alpha, uint8_t transparent_index, pix_srgb8 *work,
-                                                   uint8_t *indices) {
-    const pix_diffusion how = {16, false};
-    const pix_srgba8 none = {0, 0, 0, 0};
-    const pix_srgb8 no_entry = {0, 0, 0};
-    const size_t work_len = pix_diffuse_indexed_work(width);
-    uint8_t nothing = 0;
-    pix_status status = pix_diffuses_by_(how, count, width);
-    if (table.len > 256)
-        return PIX_BAD_TABLE;
-    if (status != PIX_OK)
-        return status;
-    if (!table.len)
-        table.entries = &no_entry;
-    if (!count) {
-        pixels = &none;
-        indices = &nothing;
-    }
-    status = pix_diffuses_(table.entries, table.len * sizeof *table.entries, pixels, count * sizeof *pixels, work,
-                           work_len * sizeof *work, indices, count);
-    if (status != PIX_OK)
-        return status;
-    if (!table.len)
-        return (pix_status)pix_raw_map_indexed_alpha(table.entries, 0, pixels, count, alpha, transparent_index, indices, count);
-    return (pix_status)pix_raw_diffuse_indexed_alpha(table.entries, table.len, pixels, count, width, alpha, transparent_index,
-                                                     work, work_len, indices, count);
 }
 
 static inline pix_status pix_diffuse_indexed_by(pix_table table, const pix_srgb8 *pixels, size_t count, size_t width,
@@ -1636,6 +1578,18 @@ static inline pix_status pix_diffuse_indexed_by_alpha(pix_table table, const pix
     return (pix_status)pix_raw_diffuse_indexed_by_alpha(table.entries, table.len, pixels, count, width, alpha,
                                                         transparent_index, how.strength, how.serpentine, work, work_len,
                                                         indices, count);
+}
+
+static inline pix_status pix_diffuse_indexed(pix_table table, const pix_srgb8 *pixels, size_t count, size_t width,
+                                             pix_srgb8 *work, uint8_t *indices) {
+    return pix_diffuse_indexed_by(table, pixels, count, width, pix_default_diffusion(), work, indices);
+}
+
+static inline pix_status pix_diffuse_indexed_alpha(pix_table table, const pix_srgba8 *pixels, size_t count, size_t width,
+                                                   uint8_t alpha, uint8_t transparent_index, pix_srgb8 *work,
+                                                   uint8_t *indices) {
+    return pix_diffuse_indexed_by_alpha(table, pixels, count, width, alpha, transparent_index, pix_default_diffusion(), work,
+                                        indices);
 }
 
 static inline pix_status pix_index_pixels(pix_srgb8 *entries, size_t len, size_t *used, pix_srgb8 threshold,

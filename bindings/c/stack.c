@@ -162,8 +162,8 @@ static pix_status colors_of(void) {
 EACH_TABLE_(find, pix_nearest(table, colors[count - 1], indices))
 EACH_TABLE_(map, pix_map_indexed(table, colors, count, indices))
 EACH_TABLE_(map_alpha, pix_map_indexed_alpha(table, shades, count, 128, 255, indices))
-EACH_TABLE_(diffuse, pix_diffuse_indexed(table, colors, count, SIDE, work, indices))
-EACH_TABLE_(diffuse_alpha, pix_diffuse_indexed_alpha(table, shades, count, SIDE, 128, 255, work, indices))
+EACH_TABLE_(diffuse, pix_diffuse_indexed(table, colors, count, (count + 1) / 2, work, indices))
+EACH_TABLE_(diffuse_alpha, pix_diffuse_indexed_alpha(table, shades, count, (count + 1) / 2, 128, 255, work, indices))
 #define ODD_ (pix_diffusion){11, false}
 #define TURNING_ (pix_diffusion){(uint8_t)(count % 17), true}
 EACH_TABLE_(diffuse_by, pix_diffuse_indexed_by(table, colors, count, SIDE, ODD_, work, indices))
@@ -192,17 +192,34 @@ static pix_status look_up_rgba(void) {
 static pix_status make(void) {
     static pix_srgb8 made[ENTRIES];
     size_t len = 0;
-    pix_status status = pix_quantize(grays, ENTRIES, work, made, ENTRIES, &len);
+    uint32_t status = pix_raw_quantize(grays, ENTRIES, work, ENTRIES, made, ENTRIES, &len);
     if (status == PIX_OK)
-        status = pix_quantize(repeated, COUNT, work, made, ENTRIES, &len);
-    return status == PIX_OK ? pix_quantize(colors, COUNT, work, made, ENTRIES, &len) : status;
+        status = pix_raw_quantize(repeated, COUNT, work, COUNT, made, ENTRIES, &len);
+    if (status == PIX_OK)
+        status = pix_raw_quantize(colors, COUNT, work, COUNT, made, ENTRIES, &len);
+    return (pix_status)status;
 }
 
 static pix_status make_alpha(void) {
     static pix_srgb8 made[ENTRIES];
     size_t len = 0;
-    const pix_status status = pix_quantize_alpha(repeated_shades, COUNT, 128, work, made, ENTRIES, &len);
-    return status == PIX_OK ? pix_quantize_alpha(shades, COUNT, 128, work, made, ENTRIES, &len) : status;
+    uint32_t status = pix_raw_quantize_alpha(repeated_shades, COUNT, 128, work, COUNT, made, ENTRIES, &len);
+    if (status == PIX_OK)
+        status = pix_raw_quantize_alpha(shades, COUNT, 128, work, COUNT, made, ENTRIES, &len);
+    return (pix_status)status;
+}
+
+static pix_status make_by_default(void) {
+    static pix_srgb8 made[ENTRIES];
+    size_t len = 0;
+    pix_status status = pix_quantize(repeated, COUNT, work, made, ENTRIES, &len);
+    return status == PIX_OK ? pix_quantize(colors, COUNT, work, made, ENTRIES, &len) : status;
+}
+
+static pix_status make_alpha_by_default(void) {
+    static pix_srgb8 made[ENTRIES];
+    size_t len = 0;
+    return pix_quantize_alpha(shades, COUNT, 128, work, made, ENTRIES, &len);
 }
 
 static pix_status refine(void) {
@@ -283,8 +300,10 @@ static const struct { const char *name; size_t kibibytes; pix_status (*call)(voi
     {"pix_convert_in_place", FEW, convert_in_place},
     {"pix_color_of", FEW, colors_of},
     {"pix_nearest", FEW, find},
-    {"pix_quantize", MAKING, make},
-    {"pix_quantize_alpha", MAKING, make_alpha},
+    {"pix_raw_quantize", MAKING, make},
+    {"pix_raw_quantize_alpha", MAKING, make_alpha},
+    {"pix_quantize", MATCHING, make_by_default},
+    {"pix_quantize_alpha", MATCHING, make_alpha_by_default},
     {"pix_look_up", FEW, look_up},
     {"pix_count_indices", FEW, count_all},
     {"pix_pack_row", FEW, pack},

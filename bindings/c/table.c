@@ -82,11 +82,24 @@ static void made(size_t count, size_t room, unsigned levels) {
             shown[left++] = pixels[i];
     }
     want = plain_table(pixels, count, plain, room);
-    check(pix_quantize(pixels, count, work, entries, room, &got) == PIX_OK, "a table is made");
+    check(pix_raw_quantize(pixels, count, work, count, entries, room, &got) == PIX_OK, "a table is made");
     check(got == want && !memcmp(entries, plain, want * sizeof *plain), "a table that is made is another one");
     want = plain_table(shown, left, plain, room);
-    check(pix_quantize_alpha(with_alpha, count, 128, work, entries, room, &got) == PIX_OK, "a table of pixels with an alpha is made");
+    check(pix_raw_quantize_alpha(with_alpha, count, 128, work, count, entries, room, &got) == PIX_OK, "with an alpha");
     check(got == want && !memcmp(entries, plain, want * sizeof *plain), "a table of pixels with an alpha is another one");
+}
+
+/* A call without rounds refines by six. */
+static void made_by_default(size_t count, size_t room) {
+    pix_srgb8 entries[ROOM], plain[ROOM];
+    size_t got = 999, want = 999;
+    check(PIX_DEFAULT_ROUNDS == 6, "rounds by default");
+    check(pix_quantize_refined(pixels, count, 6, work, plain, room, &want) == PIX_OK, "a table of six rounds");
+    check(pix_quantize(pixels, count, work, entries, room, &got) == PIX_OK, "a table by default");
+    check(got == want && !memcmp(entries, plain, want * sizeof *plain), "a table by default is another one");
+    check(pix_quantize_refined_alpha(with_alpha, count, 128, 6, work, plain, room, &want) == PIX_OK, "six rounds, with an alpha");
+    check(pix_quantize_alpha(with_alpha, count, 128, work, entries, room, &got) == PIX_OK, "by default, with an alpha");
+    check(got == want && !memcmp(entries, plain, want * sizeof *plain), "a table with an alpha by default is another one");
 }
 
 /* Whether a refined table is the one of the plain loops. */
@@ -120,8 +133,8 @@ static void refined(size_t count, size_t room, unsigned levels) {
         if (with_alpha[i].a >= 128)
             shown[left++] = pixels[i];
     }
-    check(pix_quantize(pixels, count, work, plain, room, &len) == PIX_OK, "a table is made");
-    check(pix_quantize(shown, left, work, plain_alpha, room, &len_alpha) == PIX_OK, "a table of what is shown is made");
+    check(pix_quantize_refined(pixels, count, 0, work, plain, room, &len) == PIX_OK, "a table is made");
+    check(pix_quantize_refined(shown, left, 0, work, plain_alpha, room, &len_alpha) == PIX_OK, "a table of what is shown is made");
     for (rounds = 0; rounds <= 5; rounds++) {
         check(is_refined(count, room, rounds, plain, len), "a refined table is another one");
         check(is_refined_alpha(count, room, rounds, plain_alpha, len_alpha), "a refined table with an alpha is another one");
@@ -152,10 +165,11 @@ static void refined_refused(void) {
     check(pix_quantize_refined(NULL, 0, 255, NULL, entries, 2, &count) == PIX_OK && count == 0, "a refined table of no pixels");
 }
 
-/* Errors are diffused as by the plain loops, and as before where the strength is 16 and no row goes to the left. Rows from
- * right to left are whole. */
+/* Errors are diffused as by the plain loops: in the archive at full strength and without a row to the left, by default at 12 of
+ * 16 and to and fro, and in any order. Rows from right to left are whole. */
 static void diffused(size_t len, size_t width, size_t count, pix_diffusion how) {
-    const pix_diffusion old = {16, false};
+    const pix_diffusion full = {16, false}, usual = {12, true};
+    const size_t whole = count - count % width;
     pix_srgb8 entries[ROOM];
     size_t i;
     pix_table table = pix_table_of(entries, len);
@@ -173,12 +187,19 @@ static void diffused(size_t len, size_t width, size_t count, pix_diffusion how) 
         pixels[i].b = with_alpha[i].b;
     }
     check(pix_diffuse_indexed_work(width) <= PIXELS, "work memory of the test");
-    plain_diffuse(entries, len, with_alpha, count, width, 0, 0, old, unpacked);
-    check(pix_diffuse_indexed(table, pixels, count, width, work, indices) == PIX_OK, "errors are diffused");
-    check(!memcmp(indices, unpacked, count), "an index by error diffusion is another one");
-    plain_diffuse(entries, len, with_alpha, count, width, 150, 99, old, unpacked);
-    check(pix_diffuse_indexed_alpha(table, with_alpha, count, width, 150, 99, work, indices) == PIX_OK, "with an alpha");
-    check(!memcmp(indices, unpacked, count), "an index by error diffusion with an alpha is another one");
+    plain_diffuse(entries, len, with_alpha, count, width, 0, 0, full, unpacked);
+    check(pix_raw_diffuse_indexed(entries, len, pixels, count, width, work, 4 * width, indices, count) == PIX_OK, "at full strength");
+    check(!memcmp(indices, unpacked, count), "an index at full strength is another one");
+    plain_diffuse(entries, len, with_alpha, count, width, 150, 99, full, unpacked);
+    check(pix_raw_diffuse_indexed_alpha(entries, len, with_alpha, count, width, 150, 99, work, 4 * width, indices, count) == PIX_OK,
+          "at full strength, with an alpha");
+    check(!memcmp(indices, unpacked, count), "an index at full strength with an alpha is another one");
+    plain_diffuse(entries, len, with_alpha, whole, width, 0, 0, usual, unpacked);
+    check(pix_diffuse_indexed(table, pixels, whole, width, work, indices) == PIX_OK, "errors are diffused");
+    check(!memcmp(indices, unpacked, whole), "an index by error diffusion is another one");
+    plain_diffuse(entries, len, with_alpha, whole, width, 150, 99, usual, unpacked);
+    check(pix_diffuse_indexed_alpha(table, with_alpha, whole, width, 150, 99, work, indices) == PIX_OK, "with an alpha");
+    check(!memcmp(indices, unpacked, whole), "an index by error diffusion with an alpha is another one");
     plain_diffuse(entries, len, with_alpha, count, width, 0, 0, how, unpacked);
     check(pix_diffuse_indexed_by(table, pixels, count, width, how, work, indices) == PIX_OK, "in an order");
     check(!memcmp(indices, unpacked, count), "an index by error diffusion in an order is another one");
@@ -255,6 +276,7 @@ static void made_refused(void) {
     check(pix_diffuse_indexed(pix_table_of(entries, 0), some, 2, 2, room, index) == PIX_BAD_TABLE, "no entry to diffuse to");
     check(pix_diffuse_indexed(table, some, 2, 0, room, index) == PIX_BAD_LENGTH, "rows of no pixel");
     check(pix_diffuse_indexed(table, some, 2, SIZE_MAX / 4 + 2, room, index) == PIX_BAD_LENGTH, "rows of too many pixels");
+    check(pix_diffuse_indexed(table, some, 3, 2, room, index) == PIX_BAD_LENGTH, "a row by default that is not whole");
     check(pix_diffuse_indexed_work(SIZE_MAX / 4 + 2) == SIZE_MAX, "work memory of rows of too many pixels");
     check(pix_diffuse_indexed_work(5) == 20 && pix_quantize_work(5) == 5, "work memory");
     check(pix_diffuse_indexed(table, some, 2, 2, NULL, index) == PIX_NULL, "no work memory to diffuse in");
@@ -464,6 +486,8 @@ int main(void) {
             packed(depths[i], j < 20 ? j : j * 37);
     for (i = 0; i < 60; i++)
         made(i < 30 ? i : i * 61, i % 3 ? 1 + i * 4 : 1 + i % 7, levels[i % 3]);
+    for (i = 1; i < 100; i += 9)
+        made_by_default(i * 30, i);
     made(3, 3, 2);
     for (i = 0; i < 40; i++)
         refined(i < 15 ? i : i * 23, i % 3 ? 1 + i * 2 : 1 + i % 7, levels[i % 3]);

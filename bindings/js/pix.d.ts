@@ -100,6 +100,7 @@ export class Matte {
 
 /** Rows of pixels in any format. The stride is in bytes; if it is negative, `data` begins with the bottom row. */
 export interface Bitmap { data: ArrayBufferView | Image; width: number; height: number; format: AnyFormat; stride?: number; }
+/** How errors are diffused: so many sixteenths of them, 12 by default, and by default every other row from right to left. */
 export interface Diffusion { strength?: number; serpentine?: boolean; }
 export interface WithAlpha { format?: 'SRGB8' | 'SRGBA8' | number; alpha?: number; transparentIndex?: number; }
 
@@ -124,6 +125,7 @@ export class Pix {
     convert(from: AnyFormat, to: AnyFormat, pixels: ArrayBufferView): Uint8Array | Uint16Array;
     /** Tables have three bytes a color, in sRGB. So have the pixels that go with them, or four with the format SRGBA8. */
     nearest(table: Bytes, color: readonly number[]): number;
+    /** A table of at most `length` colors (256), which `rounds` refine (6). */
     quantize(pixels: Bytes, length?: number, options?: { format?: WithAlpha['format']; alpha?: number; rounds?: number }): Uint8Array;
     mapIndexed<T extends Bytes = Uint8Array>(table: Bytes, pixels: Bytes, options?: WithAlpha & { indices?: T }): T;
     diffuseIndexed<T extends Bytes = Uint8Array>(table: Bytes, pixels: Bytes, width: number,

@@ -5,6 +5,8 @@ import { bad, formatOf, PixError, shown, STATUS, whole } from './values.js';
 import { FORMATS } from './facts.js';
 
 const ENTRIES = 256;
+// How many rounds refine a table, and how many sixteenths of an error are passed on, unless a call says it.
+const ROUNDS = 6, STRENGTH = 12;
 const refuse = (status) => { throw new PixError(STATUS.indexOf(status)); };
 
 // An array that a call reads or writes, and how many elements of a size it has. A single element has no count.
@@ -52,7 +54,7 @@ function indicesOf(indices, count) {
 }
 
 // How errors are diffused, and the work memory of a row of colors of a size.
-function diffusion({ strength = 16, serpentine = false }, width, { count }, size) {
+function diffusion({ strength = STRENGTH, serpentine = true }, width, { count }, size) {
     if (!Number.isInteger(strength) || strength < 0 || strength > 16) refuse('BAD_STRENGTH');
     whole(width, 'width', 2147483647, 1);
     if (count % width) throw new RangeError(`${count} pixels are no whole rows of ${width}`);
@@ -67,8 +69,8 @@ export function nearest(table, color) {
     return index[0];
 }
 
-// Makes a table of at most `length` colors of the pixels; `rounds` refine it. Pixels with an alpha below `alpha` don't count.
-export function quantize(pixels, length = ENTRIES, { format = 'SRGB8', alpha = 0, rounds = 0 } = {}) {
+// Makes a table of at most `length` colors of the pixels; so many `rounds` refine it. Pixels with an alpha below `alpha` don't count.
+export function quantize(pixels, length = ENTRIES, { format = 'SRGB8', alpha = 0, rounds = ROUNDS } = {}) {
     const size = sizeOf(format), from = read(pixels, size, 'the array of pixels');
     const numbers = [...(size === 4 ? [byte(alpha, 'alpha')] : []), byte(rounds, 'rounds')];
     return quantized(this, `quantize_refined${size === 4 ? '_alpha' : ''}`, from, numbers, length, 3);
@@ -92,7 +94,7 @@ export function mapIndexed(table, pixels, { indices, format = 'SRGB8', alpha = 0
     return target.array;
 }
 
-// The same with error diffusion, in rows of `width` pixels.
+// The same with error diffusion, in rows of `width` pixels: by default 12 of 16 of each error, and every other row from right to left.
 export function diffuseIndexed(table, pixels, width, { indices, format = 'SRGB8', alpha = 0, transparentIndex = 0, ...how } = {}) {
     const size = sizeOf(format), from = read(pixels, size, 'the array of pixels'), target = indicesOf(indices, from.count);
     const { across, strength, rows, work } = diffusion(how, width, from, 3);
@@ -107,7 +109,7 @@ export function diffuseIndexed(table, pixels, width, { indices, format = 'SRGB8'
 }
 
 // The same three for tables of colors with an alpha. Pixels are SRGBA8, and are compared by their look over black and white.
-export function quantizeRgba(pixels, length = ENTRIES, { rounds = 0 } = {}) {
+export function quantizeRgba(pixels, length = ENTRIES, { rounds = ROUNDS } = {}) {
     return quantized(this, 'quantize_rgba', read(pixels, 4, 'the array of pixels'), [byte(rounds, 'rounds')], length, 4);
 }
 

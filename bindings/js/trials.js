@@ -154,9 +154,12 @@ export const trials = {
         same(pix.mapIndexed(table, pixels), wanted, 'map');
         same(pix.diffuseIndexed(table, pixels, 20, { strength: 0 }), wanted, 'diffusion of strength 0');
         same(pix.diffuseIndexed(table, pixels, 20), diffusedBy(table, pixels, 20, nearest), 'diffusion');
+        const whole = { strength: 16, serpentine: false };
+        same(pix.diffuseIndexed(table, pixels, 20, whole), diffusedBy(table, pixels, 20, nearest, whole), 'diffusion of whole errors');
         check(pix.nearest(table, [1, 2, 3]) === nearest(table, [1, 2, 3]), 'nearest');
         same(pix.quantize(pix.lookUp(table, Uint8Array.of(3, 1, 3, 0)), 4), pix.lookUp(table, Uint8Array.of(3, 1, 0)), 'few colors');
-        check(pix.quantize(pixels, 16, { rounds: 6 }).length === 48, 'sixteen colors');
+        same(pix.quantize(pixels, 16), pix.quantize(pixels, 16, { rounds: 6 }), 'six rounds by default');
+        check(pix.quantize(pixels, 16, { rounds: 0 }).length === 48, 'sixteen colors');
         const clearAt = Uint8Array.of(1, 2, 3, 0, 9, 9, 9, 255);
         same(pix.quantize(clearAt, 4, { format: 'SRGBA8', alpha: 128 }), [9, 9, 9], 'pixels with an alpha');
         same(pix.mapIndexed(Uint8Array.of(0, 0, 0, 9, 9, 9), clearAt, { format: 'SRGBA8', alpha: 128, transparentIndex: 7 }), [7, 1], 'map');
@@ -237,16 +240,17 @@ export const trials = {
 };
 
 // Error diffusion by Floyd and Steinberg, as documented in pix.h.
-function diffusedBy(table, pixels, width, nearest) {
-    const made = [], errors = new Map();
+function diffusedBy(table, pixels, width, nearest, { strength, serpentine } = { strength: 12, serpentine: true }) {
+    const made = new Uint8Array(pixels.length / 3), errors = new Map();
     const owed = (x, y) => errors.get(`${x},${y}`) ?? [0, 0, 0];
     for (let i = 0; i < pixels.length / 3; i += 1) {
-        const x = i % width, y = Math.floor(i / width);
-        const wanted = owed(x, y).map((share, c) => Math.min(255, Math.max(0, pixels[3 * i + c] + Math.floor((share + 8) / 16))));
+        const y = Math.floor(i / width), way = serpentine && y % 2 ? -1 : 1, x = way > 0 ? i % width : width - 1 - (i % width);
+        const place = y * width + x, target = (share, c) => pixels[3 * place + c] + Math.floor((strength * share + 128) / 256);
+        const wanted = owed(x, y).map((share, c) => Math.min(255, Math.max(0, target(share, c))));
         const index = nearest(table, wanted);
-        made.push(index);
+        made[place] = index;
         for (const [dx, dy, part] of [[1, 0, 7], [-1, 1, 3], [0, 1, 5], [1, 1, 1]]) {
-            const at = [x + dx, y + dy];
+            const at = [x + way * dx, y + dy];
             if (at[0] >= 0 && at[0] < width) {
                 // An error is at most 24 either way.
                 const held = (c) => Math.min(24, Math.max(-24, wanted[c] - table[3 * index + c]));

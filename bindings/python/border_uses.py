@@ -165,8 +165,6 @@ USES = [
         True,
         lambda it: pix.map_indexed(bytes(3), bytes(4 * SIZE), it, pix.SRGBA8),
     ),
-    ("pix_raw_quantize", False, lambda it: pix.quantize(it)),
-    ("pix_raw_quantize_alpha", False, lambda it: pix.quantize(it, format=pix.SRGBA8)),
     ("pix_raw_quantize_refined", False, lambda it: pix.quantize(it, rounds=1)),
     ("pix_raw_quantize_refined_alpha", False, lambda it: pix.quantize(it, format=pix.SRGBA8, rounds=1)),
     (

@@ -7,8 +7,8 @@ GIF a pixel is opaque or clear: those that are more clear than opaque get one en
 frames becomes a GIF with all of them and their times, and one table.
 
 --nearest         each pixel has the nearest color; else errors are diffused
---strength=N      so many sixteenths of an error are passed on, 0 to 16 (16)
---serpentine      every other row goes from right to left
+--strength=N      so many sixteenths of an error are passed on, 0 to 16 (12)
+--left-to-right   all rows go from left to right; else every other row goes from right to left
 --rounds=N        so many rounds refine the table, 0 to 255 (6)
 
 The file is written by this program itself, and the library makes its table, its indices and its rows; Pillow reads the picture,
@@ -33,8 +33,8 @@ from pix._put import put  # how the package writes its own files
 
 # A pixel whose alpha is below this is transparent in a GIF.
 CLEAR = 128
-# How many rounds refine a table where none are named.
-ROUNDS = 6
+# What is taken where nothing is named, as the library's calls do.
+ROUNDS, STRENGTH = 6, 12
 # How hard zlib tries. Level 9 takes three times as long and more, for one or two hundredths of the size.
 LEVEL = 6
 
@@ -187,19 +187,19 @@ def gif(size: Tuple[int, int], table: bytes, frames: List[bytes], times: List[in
 
 def options(words: List[str]) -> Tuple[List[str], int, Optional[Dict[str, Any]]]:
     """The names among the words, the rounds, and how errors are diffused, or None."""
-    names, numbers, most = [], {"--rounds": ROUNDS, "--strength": 16}, {"--rounds": 255, "--strength": 16}
+    names, numbers, most = [], {"--rounds": ROUNDS, "--strength": STRENGTH}, {"--rounds": 255, "--strength": 16}
     for word in words:
         option, _, number = word.partition("=")
         if number.isdecimal() and int(number) <= most.get(option, -1):
             numbers[option] = int(number)
-        elif word not in ("--nearest", "--serpentine"):
+        elif word not in ("--nearest", "--left-to-right"):
             names.append(word)
     wrong = [word for word in names if word.startswith("--")] + names[3:]
     wrong += [word for word in names[2:3] if not word.isdecimal() or not 2 <= int(word) <= 256]
     if wrong or len(names) < 2 or not names[1].endswith((".gif", ".png")):
         print(__doc__, file=sys.stderr)
         sys.exit(2)
-    diffusion = {"strength": numbers["--strength"], "serpentine": "--serpentine" in words}
+    diffusion = {"strength": numbers["--strength"], "serpentine": "--left-to-right" not in words}
     return names, numbers["--rounds"], None if "--nearest" in words else diffusion
 
 

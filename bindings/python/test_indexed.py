@@ -228,7 +228,7 @@ class Tables(unittest.TestCase):
         self.assertEqual(pix.quantize(few, 3), firsts)
         self.assertEqual(len(pix.quantize(few, 2)), 6)
         halves = joined([(0, 0, 0)] * 3 + [(1, 1, 1)] + [(200, 0, 0), (201, 0, 0)] * 2)
-        self.assertEqual(pix.quantize(halves, 2), joined([(0, 0, 0), (201, 0, 0)]))
+        self.assertEqual(pix.quantize(halves, 2, rounds=0), joined([(0, 0, 0), (201, 0, 0)]))
         clear = joined([(1, 2, 3, 128), (4, 5, 6, 127), (1, 2, 3, 255)])
         self.assertEqual(pix.quantize(clear, format=pix.Format.SRGBA8, alpha=128), b"\1\2\3")
         self.assertEqual(pix.quantize(b""), b"")
@@ -244,7 +244,7 @@ class Tables(unittest.TestCase):
             levels, room = chance.choice([2, 3, 9, 256]), chance.randrange(1, 12)
             step, count = 255 // (levels - 1), chance.randrange(1, 40)
             colors = [tuple(step * chance.randrange(levels) for _ in range(3)) for _ in range(count)]
-            self.assertEqual(pix.quantize(joined(colors), room), joined(plain_table(colors, room)))
+            self.assertEqual(pix.quantize(joined(colors), room, rounds=0), joined(plain_table(colors, room)))
 
     def test_refined(self):
         chance = random.Random(5)
@@ -264,13 +264,30 @@ class Tables(unittest.TestCase):
             with self.assertRaises(ValueError):
                 pix.quantize(b"abc", rounds=rounds)
 
+    def test_defaults(self):
+        """Six rounds, and twelve sixteenths of each error in rows that go to and fro."""
+        chance = random.Random(11)
+        pixels = joined(any_pixels(chance, 600))
+        colors = joined(pixels[i : i + 3] for i in range(0, len(pixels), 4))
+        rgba = pix.Format.SRGBA8
+        table, kept = pix.quantize(colors, 7), pix.quantize_rgba(pixels, 7)
+        self.assertEqual(table, pix.quantize(colors, 7, rounds=6))
+        self.assertNotEqual(table, pix.quantize(colors, 7, rounds=0))
+        self.assertEqual(pix.quantize(pixels, 7, rgba, 9), pix.quantize(pixels, 7, rgba, 9, 6))
+        self.assertEqual(kept, pix.quantize_rgba(pixels, 7, 6))
+        how = {"strength": 12, "serpentine": True}
+        self.assertEqual(pix.diffuse_indexed(table, colors, 30), pix.diffuse_indexed(table, colors, 30, **how))
+        self.assertNotEqual(pix.diffuse_indexed(table, colors, 30), pix.diffuse_indexed(table, colors, 30, serpentine=False))
+        self.assertEqual(pix.diffuse_indexed_rgba(kept, pixels, 30), pix.diffuse_indexed_rgba(kept, pixels, 30, **how))
+
     def test_diffused(self):
         grays = joined([(0, 0, 0), (255, 255, 255)])
         half = bytes([128]) * 3 * 64
         self.assertEqual(pix.diffuse_indexed(grays, bytes(3 * 64), 8), bytes(64))
         self.assertEqual(sum(pix.diffuse_indexed(grays, half, 64)), 32)
         self.assertIn(sum(pix.diffuse_indexed(grays, half, 8)), range(28, 37))
-        # By hand: 120 is black and hands on 7 sixteenths of 24, so that 120 and 10.5 are 131, which is white, and so on.
+        # By hand: 120 is black and hands on 7 sixteenths of 24, of which 12 of 16 are passed on: 120 and 7.875 are 128, which is
+        # white; and so on.
         self.assertEqual(pix.diffuse_indexed(grays, bytes([120]) * 12, 4), b"\0\1\0\1")
         # What is wanted of 100 is at most 124, which is black.
         self.assertEqual(pix.diffuse_indexed(grays, bytes([100]) * 12, 4), bytes(4))
@@ -296,7 +313,6 @@ class Tables(unittest.TestCase):
         noise = bytes(chance.randrange(256) for _ in range(300))
         some = noise[:12]
         self.assertEqual(pix.diffuse_indexed(some, noise, 10, strength=0), pix.map_indexed(some, noise))
-        self.assertEqual(pix.diffuse_indexed(some, noise, 10, strength=16), pix.diffuse_indexed(some, noise, 10))
 
     def test_seen_nearest(self):
         chance = random.Random(7)

@@ -189,8 +189,8 @@ class Image(View):
         of colors.
 
         `table` is a buffer of three bytes for each color, or has texts and tuples as srgb() takes
-        them. Without it, a table is made from the picture's colors. With `diffuse` the error of each
-        pixel is passed on to its neighbors. Pixels with an alpha below 128 get an entry of their own,
+        them. Without it, a table is made as quantize() does by default. With `diffuse` the error of each
+        pixel is passed on to its neighbors, as diffuse_indexed() does by default. Pixels with an alpha below 128 get an entry of their own,
         which is transparent. With `keep_alpha` each color has an alpha as a fourth byte: PNG keeps
         it, and GIF has no such colors.
 

@@ -10,8 +10,7 @@ from pix._memory import Buffer, Memory
 from pix._numbers import index
 from pix._values import Format, PixError, Status
 
-_quantize, _quantize_alpha = Call("pix_raw_quantize"), Call("pix_raw_quantize_alpha")
-_refined, _refined_alpha = Call("pix_raw_quantize_refined"), Call("pix_raw_quantize_refined_alpha")
+_quantize, _quantize_alpha = Call("pix_raw_quantize_refined"), Call("pix_raw_quantize_refined_alpha")
 _map, _map_alpha = Call("pix_raw_map_indexed"), Call("pix_raw_map_indexed_alpha")
 _diffuse, _diffuse_alpha = Call("pix_raw_diffuse_indexed_by"), Call("pix_raw_diffuse_indexed_by_alpha")
 _quantize_rgba, _map_rgba = Call("pix_raw_quantize_rgba"), Call("pix_raw_map_indexed_rgba")
@@ -19,6 +18,9 @@ _diffuse_rgba, _look_up_rgba = Call("pix_raw_diffuse_indexed_rgba"), Call("pix_r
 _index, _look_up, _count_indices = Call("pix_raw_index_pixels"), Call("pix_raw_look_up"), Call("pix_raw_count_indices")
 _pack, _unpack = Call("pix_raw_pack_row"), Call("pix_raw_unpack_row")
 _COUNTS = ctypes.c_size_t * ENTRIES
+
+# How many rounds refine a table, and how many sixteenths of an error are passed on, unless a call says it.
+_ROUNDS, _STRENGTH = 6, 12
 
 # The formats of pixels that go with a table of colors: sRGB, and not multiplied by an alpha.
 _PIXELS = {Format.SRGB8: 3, Format.SRGBA8: 4}
@@ -137,7 +139,7 @@ def quantize(
     length: SupportsIndex = 256,
     format: Format = Format.SRGB8,
     alpha: SupportsIndex = 0,
-    rounds: SupportsIndex = 0,
+    rounds: SupportsIndex = _ROUNDS,
 ) -> bytearray:
     """Makes a table of at most `length` colors of the pixels, three bytes each: red, green and blue in sRGB.
 
@@ -147,9 +149,9 @@ def quantize(
     the boxes. Errors are compared by quotients rounded down, so of nearly equal ones another may be chosen. It allocates work
     memory of three bytes a pixel; for a large picture pass a sample, such as every tenth pixel.
 
-    `rounds`, 0 to 255, is how often such means are then refined. In a round each color goes to its nearest entry, the first if
-    several are equal. Each entry goes to the mean of its colors, rounded, and stays if it has none. No round makes the sum of the
-    squared errors greater.
+    `rounds`, 0 to 255, is how often such means are then refined: six times, unless it says another number. In a round each color
+    goes to its nearest entry, the first if several are equal. Each entry goes to the mean of its colors, rounded, and stays if it
+    has none. No round makes the sum of the squared errors greater.
 
     The table is empty if no pixel counts. Raises PixError if `length` is not from 1 to 256, or the pixels don't fit.
     """
@@ -163,11 +165,9 @@ def quantize(
     target, room = Memory(entries), Memory(bytearray(3 * count))
     own = room.address, count, target.address, most, made
     if size == 3:
-        _refined(count * (1 + rounds), source, rounds, *own) if rounds else _quantize(count, source, *own)
-    elif rounds:
-        _refined_alpha(count * (1 + rounds), source, alpha, rounds, *own)
+        _quantize(count * (1 + rounds), source, rounds, *own)
     else:
-        _quantize_alpha(count, source, alpha, *own)
+        _quantize_alpha(count * (1 + rounds), source, alpha, rounds, *own)
     return entries[: 3 * made.value]
 
 
@@ -179,8 +179,8 @@ def diffuse_indexed(
     format: Format = Format.SRGB8,
     alpha: SupportsIndex = 0,
     transparent_index: SupportsIndex = 0,
-    strength: SupportsIndex = 16,
-    serpentine: bool = False,
+    strength: SupportsIndex = _STRENGTH,
+    serpentine: bool = True,
 ) -> Any:
     """Does what `map_indexed` does, for a picture of rows of `width` pixels, by error diffusion.
 
@@ -188,8 +188,9 @@ def diffuse_indexed(
     left, 5/16 to the one below, and 1/16 to the one below on the right (Floyd and Steinberg). The target is a whole number in each
     channel: a half is rounded up, and it is clamped to 0..255. A pixel with an alpha below `alpha` passes on no error.
 
-    `strength` is how many sixteenths of the errors are passed on: 16 are all of them, and with 0 each pixel has the nearest entry.
-    With `serpentine` every other row, from the second on, goes from right to left, and the shares are mirrored there.
+    `strength` is how many sixteenths of the errors are passed on: 12 unless it says another number. 16 are all of them, and with 0
+    each pixel has the nearest entry. With `serpentine`, which is the default, every other row, from the second on, goes from right
+    to left, and the shares are mirrored there.
 
     Raises PixError if the table, the strength, the width or the lengths don't fit, and leaves `indices` as they were.
     """
@@ -210,7 +211,7 @@ def diffuse_indexed(
     return indices
 
 
-def quantize_rgba(pixels: Buffer, length: SupportsIndex = 256, rounds: SupportsIndex = 0) -> bytearray:
+def quantize_rgba(pixels: Buffer, length: SupportsIndex = 256, rounds: SupportsIndex = _ROUNDS) -> bytearray:
     """Makes a table of at most `length` colors with an alpha of the pixels, four bytes each, for pictures whose alphas are kept.
 
     The pixels and the entries are of the format SRGBA8: red, green and blue, not multiplied by the alpha. They are compared by
@@ -254,8 +255,8 @@ def diffuse_indexed_rgba(
     pixels: Buffer,
     width: SupportsIndex,
     indices: Any = None,
-    strength: SupportsIndex = 16,
-    serpentine: bool = False,
+    strength: SupportsIndex = _STRENGTH,
+    serpentine: bool = True,
 ) -> Any:
     """Does what `map_indexed_rgba` does, for a picture of rows of `width` pixels, by error diffusion.
 

@@ -32,8 +32,6 @@ CALLS = {
     "pix_raw_convert_bitmap": (96, "u32 u32 read:1 write:1 i64 i64 u32 u32"),
     "pix_raw_map_indexed": (128, "table:3 read:3 write:1"),
     "pix_raw_map_indexed_alpha": (128, "table:3 read:4 u8 u8 write:1"),
-    "pix_raw_quantize": (192, "read:3 own size own size count"),
-    "pix_raw_quantize_alpha": (192, "read:4 u8 own size own size count"),
     "pix_raw_quantize_refined": (192, "read:3 u8 own size own size count"),
     "pix_raw_quantize_refined_alpha": (192, "read:4 u8 u8 own size own size count"),
     "pix_raw_diffuse_indexed_by": (160, "table:3 read:3 size u8 u8 own size write:1"),

@@ -4,14 +4,14 @@ use crate::error::Error;
 use crate::table::{ColorTable, Srgb8, Srgba8, done};
 use pix_sys::check_library;
 
-/// How errors are diffused. The default is like [`ColorTable::diffuse_indexed`]: all of each error, and no row from right to
-/// left.
+/// How errors are diffused. The default is like [`ColorTable::diffuse_indexed`]: 12/16 of each error, and every second row from
+/// right to left.
 ///
 /// ```
 /// use pix::Diffusion;
 ///
-/// let calm = Diffusion { strength: 12, ..Diffusion::default() };
-/// assert_eq!((calm.strength, calm.serpentine), (12, false));
+/// let whole = Diffusion { strength: 16, ..Diffusion::default() };
+/// assert_eq!((whole.strength, whole.serpentine), (16, true));
 /// ```
 #[derive(Clone, Copy, Debug, PartialEq, Eq, Hash)]
 pub struct Diffusion {
@@ -26,8 +26,8 @@ pub struct Diffusion {
 impl Default for Diffusion {
     fn default() -> Diffusion {
         Diffusion {
-            strength: 16,
-            serpentine: false,
+            strength: 12,
+            serpentine: true,
         }
     }
 }
@@ -44,7 +44,7 @@ impl ColorTable<'_> {
     /// let entries = [gray(0), gray(255)];
     /// let (table, mut indices) = (ColorTable::new(&entries)?, [9; 4]);
     /// let mut work = vec![gray(0); diffuse_indexed_work(2).unwrap()];
-    /// let how = Diffusion { serpentine: true, ..Diffusion::default() };
+    /// let how = Diffusion { strength: 16, ..Diffusion::default() };
     /// table.diffuse_indexed_by(&[gray(120); 4], 2, how, &mut work, &mut indices)?;
     /// assert_eq!(indices, [0, 1, 1, 0]);
     /// # Ok::<(), pix::Error>(())
@@ -52,8 +52,8 @@ impl ColorTable<'_> {
     ///
     /// # Errors
     ///
-    /// `Strength` if the strength is above 16. `Length` as in [`diffuse_indexed`](ColorTable::diffuse_indexed), and if serpentine
-    /// rows are not whole. The indices are unchanged.
+    /// `Strength` if the strength is above 16. `Length` as in [`diffuse_indexed`](ColorTable::diffuse_indexed); only serpentine
+    /// rows have to be whole. The indices are unchanged.
     pub fn diffuse_indexed_by(
         &self,
         pixels: &[Srgb8],

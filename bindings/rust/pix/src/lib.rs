@@ -66,6 +66,6 @@ pub use crate::pixel::{Graya8, Pixel, Region, Rgba8, Rgba16, bytes, bytes_mut};
 pub use crate::rgba_table::{RgbaTable, quantize_rgba};
 pub use crate::rows::{IndexDepth, count_indices, pack_row, unpack_row};
 pub use crate::table::{
-    ColorTable, Srgb8, Srgba8, diffuse_indexed_work, index_pixels, quantize, quantize_alpha,
-    quantize_refined, quantize_refined_alpha,
+    ColorTable, DEFAULT_ROUNDS, Srgb8, Srgba8, diffuse_indexed_work, index_pixels, quantize,
+    quantize_alpha, quantize_refined, quantize_refined_alpha,
 };

@@ -1,5 +1,6 @@
 //! Tables of colors, for images of indices.
 
+use crate::diffusion::Diffusion;
 use crate::error::Error;
 pub use pix_sys::{Srgb8, Srgba8};
 use pix_sys::{check_library, status};
@@ -140,9 +141,10 @@ impl<'a> ColorTable<'a> {
 
     /// Sets the index of each pixel of rows of `width` by error diffusion, to the entry nearest to its target. The target is,
     /// in each channel, the pixel's number plus its shares of earlier errors. It is rounded to the nearest, a half up, and
-    /// clamped to 0..255. An error is the target less the chosen entry. Of it, 7/16 go to the pixel on the right, 3/16 to the
-    /// one below on the left, 5/16 to the one below, and 1/16 to the one below on the right. Shares past the sides of a row
-    /// are lost. `work` has exactly [`diffuse_indexed_work`] colors.
+    /// clamped to 0..255. An error is the target less the chosen entry, and at most 24 either way. 12/16 of it are passed on
+    /// ([`Diffusion`]). Of these, 7/16 go to the pixel on the right, 3/16 to the one below on the left, 5/16 to the one below,
+    /// and 1/16 to the one below on the right. Shares past the sides of a row are lost. Every second row goes from right to
+    /// left, with left and right exchanged. `work` has exactly [`diffuse_indexed_work`] colors.
     ///
     /// ```
     /// use pix::{ColorTable, Srgb8, diffuse_indexed_work};
@@ -157,8 +159,8 @@ impl<'a> ColorTable<'a> {
     ///
     /// # Errors
     ///
-    /// `Length` if a row has no pixel, if `work` has another length, or if there are not as many indices as pixels. The
-    /// indices are unchanged.
+    /// `Length` if a row has no pixel or isn't whole, if `work` has another length, or if there are not as many indices as
+    /// pixels. The indices are unchanged.
     pub fn diffuse_indexed(
         &self,
         pixels: &[Srgb8],
@@ -166,21 +168,7 @@ impl<'a> ColorTable<'a> {
         work: &mut [Srgb8],
         indices: &mut [u8],
     ) -> Result<(), Error> {
-        check_library()?;
-        // SAFETY: pointers and lengths come from four slices, and the exclusive ones share no byte with another.
-        done(unsafe {
-            pix_sys::pix_raw_diffuse_indexed(
-                self.entries.as_ptr(),
-                self.entries.len(),
-                pixels.as_ptr(),
-                pixels.len(),
-                width,
-                work.as_mut_ptr(),
-                work.len(),
-                indices.as_mut_ptr(),
-                indices.len(),
-            )
-        })
+        self.diffuse_indexed_by(pixels, width, Diffusion::default(), work, indices)
     }
 
     /// Sets the index of each pixel by error diffusion, like [`diffuse_indexed`](ColorTable::diffuse_indexed), for pixels with
@@ -198,23 +186,8 @@ impl<'a> ColorTable<'a> {
         work: &mut [Srgb8],
         indices: &mut [u8],
     ) -> Result<(), Error> {
-        check_library()?;
-        // SAFETY: pointers and lengths come from four slices, and the exclusive ones share no byte with another.
-        done(unsafe {
-            pix_sys::pix_raw_diffuse_indexed_alpha(
-                self.entries.as_ptr(),
-                self.entries.len(),
-                pixels.as_ptr(),
-                pixels.len(),
-                width,
-                alpha,
-                transparent_index,
-                work.as_mut_ptr(),
-                work.len(),
-                indices.as_mut_ptr(),
-                indices.len(),
-            )
-        })
+        let how = Diffusion::default();
+        self.diffuse_indexed_by_alpha(pixels, width, alpha, transparent_index, how, work, indices)
     }
 
     /// Sets each pixel to the entry of the index in the same place.
@@ -255,10 +228,13 @@ pub const fn diffuse_indexed_work(width: usize) -> Option<usize> {
     width.checked_mul(4)
 }
 
+/// How many rounds refine a table where a call doesn't say it.
+pub const DEFAULT_ROUNDS: u8 = 6;
+
 /// Makes a table of the colors of `pixels` in the first of `entries`, and returns those. If there are no more distinct colors
 /// than entries, they are the table, in order of first place. Otherwise, the colors are split into boxes, always by the split
 /// that reduces the squared error most. Then the pairs of boxes that raise it least are merged, and the entries are the means
-/// of the boxes. Errors are compared by quotients rounded down, so of nearly equal ones another may be chosen. The contents of
+/// of the boxes, which six rounds refine ([`quantize_refined`]). Errors are compared by quotients rounded down, so of nearly equal ones another may be chosen. The contents of
 /// the other entries are unspecified. `work` has exactly as many colors as there are pixels; for a large picture pass a sample
 /// of its pixels.
 ///
@@ -280,21 +256,7 @@ pub fn quantize<'a>(
     work: &mut [Srgb8],
     entries: &'a mut [Srgb8],
 ) -> Result<&'a [Srgb8], Error> {
-    check_library()?;
-    let mut made = 0;
-    // SAFETY: pointers and lengths come from three slices and a value, and the exclusive ones share no byte with another.
-    done(unsafe {
-        pix_sys::pix_raw_quantize(
-            pixels.as_ptr(),
-            pixels.len(),
-            work.as_mut_ptr(),
-            work.len(),
-            entries.as_mut_ptr(),
-            entries.len(),
-            &mut made,
-        )
-    })?;
-    Ok(&entries[..made])
+    quantize_refined(pixels, DEFAULT_ROUNDS, work, entries)
 }
 
 /// Makes a table of the colors of pixels with an alpha, like [`quantize`]. Pixels with an alpha below `alpha` do not count. If
@@ -322,26 +284,11 @@ pub fn quantize_alpha<'a>(
     work: &mut [Srgb8],
     entries: &'a mut [Srgb8],
 ) -> Result<&'a [Srgb8], Error> {
-    check_library()?;
-    let mut made = 0;
-    // SAFETY: pointers and lengths come from three slices and a value, and the exclusive ones share no byte with another.
-    done(unsafe {
-        pix_sys::pix_raw_quantize_alpha(
-            pixels.as_ptr(),
-            pixels.len(),
-            alpha,
-            work.as_mut_ptr(),
-            work.len(),
-            entries.as_mut_ptr(),
-            entries.len(),
-            &mut made,
-        )
-    })?;
-    Ok(&entries[..made])
+    quantize_refined_alpha(pixels, alpha, DEFAULT_ROUNDS, work, entries)
 }
 
-/// Makes a table as [`quantize`] does. If there are more distinct colors than entries, `rounds` rounds then refine it. In a
-/// round each color goes to its nearest entry, the first if several are equal. Each entry goes to the mean of its colors,
+/// Makes a table as [`quantize`] does, with another number of rounds than [`DEFAULT_ROUNDS`]. They refine it if there are more
+/// distinct colors than entries. In a round each color goes to its nearest entry, the first if several are equal. Each entry goes to the mean of its colors,
 /// rounded, and stays if it has none. No round makes the sum of the squared errors greater.
 ///
 /// ```
@@ -350,8 +297,8 @@ pub fn quantize_alpha<'a>(
 /// let gray = |v| Srgb8::new(v, v, v);
 /// let pixels = [130, 100, 160, 60, 170, 70].map(gray);
 /// let (mut work, mut entries) = ([Srgb8::default(); 6], [Srgb8::default(); 2]);
-/// assert_eq!(quantize(&pixels, &mut work, &mut entries)?, [90, 165].map(gray));
-/// assert_eq!(quantize_refined(&pixels, 4, &mut work, &mut entries)?, [77, 153].map(gray));
+/// assert_eq!(quantize_refined(&pixels, 0, &mut work, &mut entries)?, [90, 165].map(gray));
+/// assert_eq!(quantize(&pixels, &mut work, &mut entries)?, [77, 153].map(gray));
 /// # Ok::<(), pix::Error>(())
 /// ```
 ///

@@ -56,9 +56,11 @@ fn tables_are_refined_and_matched_to() {
 
 #[test]
 fn tables_are_made() {
-    in_thread(128, || {
+    in_thread(272, || {
         let (mut work, mut entries) = (colors(), [Srgb8::default(); 256]);
-        quantize(&colors(), &mut work, &mut entries)?;
+        quantize(&colors(), &mut work, &mut entries).map(|_| ())
+    });
+    in_thread(128, || {
         let (mut work, mut entries) = (shades(), [Srgba8::default(); 256]);
         quantize_rgba(&shades(), 2, &mut work, &mut entries).map(|_| ())
     });

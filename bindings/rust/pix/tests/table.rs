@@ -1,9 +1,9 @@
 //! Tables of colors beside plain loops, and what is refused.
 
 use pix::{
-    ColorTable, Diffusion, Error, IndexDepth, RgbaTable, Srgb8, Srgba8, count_indices,
-    diffuse_indexed_work, index_pixels, pack_row, quantize, quantize_alpha, quantize_refined,
-    quantize_refined_alpha, quantize_rgba, unpack_row,
+    ColorTable, DEFAULT_ROUNDS, Diffusion, Error, IndexDepth, RgbaTable, Srgb8, Srgba8,
+    count_indices, diffuse_indexed_work, index_pixels, pack_row, quantize, quantize_alpha,
+    quantize_refined, quantize_refined_alpha, quantize_rgba, unpack_row,
 };
 
 /// Bytes that look random.
@@ -137,6 +137,8 @@ fn refined_tables() {
     // By hand: the joined boxes are 60, 70, 100 and 130, whose mean is 90, and 160 and 170. 130 is
     // nearer to 165, and goes there.
     let pixels = [130, 100, 160, 60, 170, 70].map(gray);
+    let by_default = quantize(&pixels, &mut work, &mut entries[..2]).unwrap();
+    assert_eq!((by_default, DEFAULT_ROUNDS), (&[77, 153].map(gray)[..], 6));
     let mut made = |rounds| {
         let made = quantize_refined(&pixels, rounds, &mut work, &mut entries[..2]);
         made.unwrap().to_vec()
@@ -147,6 +149,8 @@ fn refined_tables() {
     let alphas = [130, 100, 160, 60, 170, 70, 10];
     let alphas = alphas.map(|v| Srgba8::new(v, v, v, 50 + u8::from(v != 10)));
     let made = quantize_refined_alpha(&alphas, 51, 1, &mut work, &mut entries[..2]).unwrap();
+    assert_eq!(made, [77, 153].map(gray));
+    let made = quantize_alpha(&alphas, 51, &mut work, &mut entries[..2]).unwrap();
     assert_eq!(made, [77, 153].map(gray));
     let before = (work, entries);
     let mut large = [gray(5); 257];
@@ -175,7 +179,8 @@ fn diffused_errors() {
         .diffuse_indexed(&[gray(100); 4], 4, &mut work, &mut indices)
         .unwrap();
     assert_eq!(indices, [0; 4]);
-    // 120 is black and hands on 7 sixteenths of 24, so that 120 and 10.5 are 131, which is white, and so on.
+    // 120 is black and hands on 7 sixteenths of 24, of which 12 of 16 are passed on: 120 and 7.875 are 128, which is white; and
+    // so on.
     table
         .diffuse_indexed(&[gray(120); 4], 4, &mut work, &mut indices)
         .unwrap();
@@ -194,7 +199,7 @@ fn diffused_errors() {
         )
         .unwrap();
     assert_eq!(two, [9, 0]);
-    for (width, room, count) in [(0, 0, 4), (4, 15, 4), (4, 16, 3)] {
+    for (width, room, count) in [(0, 0, 4), (4, 15, 4), (4, 16, 3), (3, 12, 4)] {
         let refused = table.diffuse_indexed(
             &[gray(1); 4],
             width,
@@ -249,9 +254,10 @@ fn errors_diffused_in_a_way() {
     let (mut row, mut work) = ([9; 6], vec![gray(0); 12]);
     let pixels = [0, 0, 0, 120, 120, 120].map(|v| Srgba8::new(v, v, v, 255));
     let how = Diffusion {
-        serpentine: true,
+        strength: 16,
         ..Diffusion::default()
     };
+    assert_eq!(Diffusion::default().strength, 12);
     table
         .diffuse_indexed_by_alpha(&pixels, 3, 0, 0, how, &mut work, &mut row)
         .unwrap();
