@@ -15,7 +15,7 @@ import tempfile
 
 sys.path.insert(0, str(pathlib.Path(__file__).resolve().parent))
 
-from common import CALLS, PROCESSORS, TOP, Release, copy, files_below, pack, provenance, put, read, version_of_calls  # noqa: E402
+from common import CALLS, PROCESSORS, TOP, Release, copy, files_below, pack, put, read, version_of_calls  # noqa: E402
 from tree import shared_by  # noqa: E402
 from wheel import metadata, put_about, put_package, write  # noqa: E402
 

@@ -66,9 +66,7 @@ MODULE = Made("pix_c.wasm", "the library, for WebAssembly with SIMD and a 32-bit
 # How it comes from what is proved; built.json says so, since it is no output of the kit.
 HOW = "the module of LLVM that rattle makes for wasm64, compiled by the kit's clang with -msimd128; packaging/wasm.py gave it a 32-bit memory"
 SAID, FACTS = "built.json", "facts.js"
-# The folder of the page, which is served from a clone as it stands, and so has copies of these files.
-PAGE = TOP / "web/page"
-# The JavaScript package, which has one.
+# The JavaScript package, which has a copy of the facts: an engine takes it as it stands.
 PACKAGE = TOP / "bindings/js"
 LARGEST = 4_000_000
 # What compiles in the place of the kit's clang, and writes the assembly too, or another object, and keeps the module and the words: rattle runs it with no
@@ -182,29 +180,21 @@ def sums(folder, files):
 
 
 def copies():
-    """Returns each file of the page and of the JavaScript package that is a copy, with the file that it is a copy of."""
-    made = [(PAGE / name, FOLDER / name) for name in (MODULE.name, SAID) if (FOLDER / name).is_file()]
-    made += [(PACKAGE / FACTS, FOLDER / FACTS)] if (FOLDER / FACTS).is_file() else []
-    examples = [(PAGE / "examples" / path.name, path) for path in sorted((TOP / "examples").glob("*.paint"))]
-    return [*made, *examples, (PAGE / "triangle.png", TOP / "pictures/triangle.png")]
+    """Returns each file that is a copy, with the file that it is a copy of."""
+    return [(PACKAGE / FACTS, FOLDER / FACTS)] if (FOLDER / FACTS).is_file() else []
 
 
 def copy_page():
-    """Makes the copies of the page anew."""
-    shutil.rmtree(PAGE / "examples", ignore_errors=True)
-    (PAGE / "examples").mkdir()
+    """Makes the copies anew."""
     for path, of in copies():
         shutil.copyfile(of, path)
 
 
 def other_copies():
-    """Yields each file of the page that should be a copy and is not."""
+    """Yields each file that should be a copy and is not."""
     for path, of in copies():
         if not path.is_file() or path.read_bytes() != of.read_bytes():
             yield f"{path.relative_to(TOP)} is no copy of {of.relative_to(TOP)}: tools/generate --page makes it"
-    for path in sorted((PAGE / "examples").glob("*")):
-        if not (TOP / "examples" / path.name).is_file():
-            yield f"{path.relative_to(TOP)} is a copy of nothing: tools/generate --page removes it"
 
 
 def stale(line=None):

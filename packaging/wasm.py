@@ -293,7 +293,7 @@ def narrowed(data):
     """Returns a module with a 64-bit memory as one with a 32-bit memory."""
     reader, made, types, functions = Reader(data, 8), [data[:8]], [], []
     while reader.at < reader.end:
-        kind, start = reader.byte(), reader.at
+        kind = reader.byte()
         part = reader.part()
         body = part.rest()
         if kind == 0 and name_of(part) != b"name":

@@ -19,6 +19,8 @@ EXAMPLES = TOP / "examples"
 PICTURES = ["triangle.png"]
 # The JavaScript package: modules of web/page take it from here, those of the assembled page from a folder of theirs.
 PACKAGE = TOP / "bindings/js"
+# What stands elsewhere in a clone, which is served whole, and where the assembled page has it.
+MOVED = {"../../bindings/js/": "./pix/", "../../generated/": "", "../../examples/": "examples/", "../../pictures/": "", "../../": ""}
 # The files that the foot of the page links to.
 LINKED = ["README.md", "LICENSE", "docs/THEOREM.md", "docs/tasks/README.md"]
 TARGET = "wasm64-unknown-unknown"
@@ -157,13 +159,16 @@ def build_module(folder):
 def assemble(module, built, target):
     """Makes the folder to be served: the page, the module, what the page says of it, the examples and the pictures."""
     shutil.rmtree(target, ignore_errors=True)
-    shutil.copytree(TOP / "web/page", target, ignore=shutil.ignore_patterns("examples", "built.json"))
+    shutil.copytree(TOP / "web/page", target)
     (target / "pix").mkdir()
     for path in PACKAGE.glob("*.js"):
         if path.name != "trials.js":
             shutil.copyfile(path, target / "pix" / path.name)
-    for path in target.glob("*.js"):
-        path.write_text(path.read_text(encoding="utf-8").replace("'../../bindings/js/", "'./pix/"), encoding="utf-8")
+    for path in [*target.glob("*.js"), target / "index.html"]:
+        text = path.read_text(encoding="utf-8")
+        for here, there in MOVED.items():
+            text = re.sub(rf"(['\"`]){re.escape(here)}", rf"\g<1>{there}", text)
+        path.write_text(text, encoding="utf-8")
     shutil.copyfile(module, target / "pix_c.wasm")
     data = module.read_bytes()
     built = {**built, "bytes": len(data), "sum": hashlib.sha256(data).hexdigest()}

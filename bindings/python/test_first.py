@@ -225,7 +225,7 @@ class Hints(unittest.TestCase):
 
     @unittest.skipIf(numpy is None, "no numpy")
     def test_arrays(self):
-        image, said = pix.Image.new(4, 4), "write (255 * array).round().astype('uint8')"
+        said = "write (255 * array).round().astype('uint8')"
         for kind in ("f2", "f4", "f8"):
             array = numpy.zeros((4, 4, 4), kind)
             self.said(said, pix.Image.from_array, array, pix.SRGBA8)

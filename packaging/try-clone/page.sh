@@ -19,11 +19,11 @@ def fetched(name, patience=40):
             time.sleep(0.25)
 
 page = fetched("index.html").decode()
-said = json.loads(fetched("built.json"))
-for name in re.findall(r'href="(\.\./\.\./[^"#]+)"', page):
+said = json.loads(fetched("../../generated/built.json"))
+for name in re.findall(r'(?:href|src)="(\.\./\.\./[^"#]+)"', page):
     assert fetched(name), name
-assert hashlib.sha256(fetched("pix_c.wasm")).hexdigest() == said["sum"], said
-for name in ("main.js", "library.js", "../../bindings/js/pix.js", "../../bindings/js/facts.js", "style.css", "triangle.png", "examples/operators.paint", "glazes.paint"):
+assert hashlib.sha256(fetched("../../generated/pix_c.wasm")).hexdigest() == said["sum"], said
+for name in ("main.js", "library.js", "../../bindings/js/pix.js", "../../bindings/js/facts.js", "style.css", "../../examples/operators.paint", "glazes.paint"):
     assert fetched(name), name
 print(said)
 END

@@ -31,7 +31,7 @@ async function start() {
             + 'Chrome and Edge have it from version 91 on, Firefox from 89 on, and Safari from 16.4 on.');
         return;
     }
-    const [file, built] = await Promise.all([fetched('pix_c.wasm'), fetched('built.json')]);
+    const [file, built] = await Promise.all([fetched('../../generated/pix_c.wasm'), fetched('../../generated/built.json')]);
     const module = await WebAssembly.compile(await file.arrayBuffer());
     tell(await built.json());
     showOperators(await Library.of(module));

@@ -236,7 +236,7 @@ function keepOwn() {
 
 // Adds the examples to the list.
 function listExamples() {
-    const options = EXAMPLES.map((name) => Object.assign(node('option', name), { value: `examples/${name}.paint` }));
+    const options = EXAMPLES.map((name) => Object.assign(node('option', name), { value: `../../examples/${name}.paint` }));
     element('example').append(...options);
 }
 

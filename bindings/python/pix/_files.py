@@ -18,7 +18,7 @@ from pix._bitmap import Bitmap, write
 from pix._convert import convert
 from pix._deep import deep_png, image_of_both, kept_as, lower_of
 from pix._fresh import lit, scaled
-from pix._pillow import Facts, facts_of, image_of, picture_of, pixels_of
+from pix._pillow import facts_of, image_of, picture_of, pixels_of
 from pix._pixels import GRAYA8
 from pix._profile import of_pillow, warn
 from pix._png import LIMIT, SIGNATURE, Fault, Pixels, png, read_png, refuse_many, woven

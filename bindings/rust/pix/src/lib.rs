@@ -38,7 +38,7 @@
 //! may borrow, even if it interrupts a call.
 //!
 //! A thread needs a stack of 272 KiB to match pixels to a table ([`ColorTable::map_indexed`], [`ColorTable::diffuse_indexed`]),
-//! and for [`quantize_refined`]. It needs 128 KiB for [`quantize`] and [`quantize_rgba`], 48 for [`index_pixels`] and to match to
+//! and for [`quantize`] and [`quantize_refined`]. It needs 128 KiB for [`quantize_rgba`], 48 for [`index_pixels`] and to match to
 //! a [`RgbaTable`], and 24 for all other calls. Each number includes 8 for a signal handler. Threads of `std` have 2 MiB.
 //!
 //! docs/PROMISES.md of the repository lists all calls in four languages, and their proved promises.
