@@ -86,7 +86,7 @@ another_library() {
     mkdir "$work/other" && echo '#include "pix.h"
 int main(void) { return pix_check_library() == PIX_OK ? 0 : pix_check_library() == PIX_BAD_LIBRARY ? 7 : 1; }' >"$work/src/check.c"
     compile check x86_64 shared check.c cc -std=c99 && LD_LIBRARY_PATH=$work/x86_64/lib "$work/check" || return
-    local options=(-std=c99 -O1 -fPIC -shared -I "$work/x86_64/include" -I "$top/bindings/c" -Wl,-soname,libpix.so.$calls)
+    local options=(-std=c99 -O1 -fPIC -shared -I "$work/x86_64/include" -I "$top/bindings/c" "-Wl,-soname,libpix.so.$calls")
     cc "${options[@]}" "$top/bindings/c/other.c" -o "$work/other/libpix.so.$calls" -lm && LD_LIBRARY_PATH=$work/other "$work/check" || return
     cc "${options[@]}" -DOTHER_FACT=0 "$top/bindings/c/other.c" -o "$work/other/libpix.so.$calls" -lm || return
     LD_LIBRARY_PATH=$work/other "$work/check"

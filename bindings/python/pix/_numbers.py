@@ -2,4 +2,4 @@
 
 from __future__ import annotations
 
-from operator import index as index  # it turns a number of another class into a plain int
+from operator import index as index  # noqa: F401 it turns a number of another class into a plain int
