@@ -16,11 +16,15 @@ from generated import MACOS, WINDOWS, run, stop
 # function makes room on the stack. Windows has a way of its own, which LLVM takes where that is left out.
 ATTRIBUTES = {"frame-pointer", "probe-stack", "stack-probe-size", "target-cpu", "target-features", "tune-cpu", "no-builtins", "no-trapping-math"}
 PROBE = ' "probe-stack"="inline-asm"'
-# What a module may call beside LLVM's own functions, of which some are of a processor, and those of a system are left out: those that the archive may call, and of the program what packaging/kit.c and each C library have.
+# What a module may call beside LLVM's own functions, of which some are of a processor, and those of a system are left out: those that
+# the archive may call, and of the program what packaging/kit.c and each C library have.
 MAY_CALL = {"memset", "memcpy", "memmove", "read", "write", "__write", "__sysv_signal", "__x86_get_cpuid_feature_leaf"}
 MAY_CALL |= {f"rattle_{name}" for name in ("alloc", "realloc", "dealloc", "errno")}
 # Words by which a module would say more of a system, or of how its calls pass what they pass, than its first two lines.
-OTHER_WORDS = r"\b(module asm|asm sideeffect|byval|sret|byref|inalloca|preallocated|thread_local|personality|comdat|dllexport|dllimport|win64cc|x86_64_sysvcc|va_arg|x86_fp80|fp128)\b"
+OTHER_WORDS = (
+    r"\b(module asm|asm sideeffect|byval|sret|byref|inalloca|preallocated|thread_local|personality|comdat|dllexport|dllimport"
+    r"|win64cc|x86_64_sysvcc|va_arg|x86_fp80|fp128)\b"
+)
 # What the calls that others see pass and return: numbers and addresses, each as it is.
 NOT_PLAIN = r"\b(?:i1|i128|half|float|double|zeroext|signext|inreg)\b|[{\[<]"
 
@@ -89,7 +93,8 @@ def words_for(kept, made):
     """Returns the words by which a module is compiled for another system: those that rattle gave, but for the system, the files and -fPIC."""
     words = []
     for word in kept.words:
-        left_out = word.startswith(("--target=", "--sysroot=", "-march=armv8-a")) or word in ("-c", "-fPIC", "-fPIE", "-x", "ir", "-o") or word.endswith((".o", ".bc", ".ll"))
+        left_out = word.startswith(("--target=", "--sysroot=", "-march=armv8-a")) or word.endswith((".o", ".bc", ".ll"))
+        left_out = left_out or word in ("-c", "-fPIC", "-fPIE", "-x", "ir", "-o")
         if not left_out:
             words.append(word)
     return [f"--target={made.target}", *(["-mcpu=generic"] if made.target == MACOS else []), *words, "-fno-verbose-asm", "-fno-addrsig"]
