@@ -7,6 +7,7 @@ ghost use Rattle.pix_table.specs.EntryLanes.{AreLanes};
 
 use crate::chosen::ENTRIES;
 use crate::color::{Color, TableColor, TablePixel};
+use crate::color_block::SIZE;
 use crate::entry_lanes::EntryLanes;
 use crate::inverse_map::{CELLS, CREDIT, InverseMap, LISTS, NONE, RATE, nearest_of};
 use crate::items::place_of;
@@ -14,12 +15,13 @@ use crate::nearest_search::{NearestSearch, SearchVisitor};
 use crate::word::word_of;
 use std::marker::Model;
 
-/// The maximum number of colors that are searched among all entries. For more colors, lists save
-/// more time than they take.
-const FEW_COLORS: usize = 4096;
+/// For more searches than this, entries that equal one before them are left out first.
+const FEW_SEARCHES: usize = 1024;
 
-/// Tables of at most this many entries need no lists.
-const FEW_ENTRIES: usize = 32;
+/// Lists save more time than they take for more searches than this, divided by the number of blocks
+/// of lanes after the first. A block takes the same time in each search, and a list takes most of
+/// its time before it is searched.
+const BLOCK_SEARCHES: usize = 196608;
 
 /// Fewer pixels than this have few places for colors whose index was found, since it takes time to
 /// clear places.
@@ -113,6 +115,14 @@ fn colors_of<C: TableColor>(colors: &[C]) -> [Color; ENTRIES]
     entries
 }
 
+/// Returns whether lists save time in so many searches among some entries.
+fn lists_pay(searches: usize, entries: usize) -> bool
+    requires { 0 < entries }
+{
+    let more_blocks = (entries - 1) / SIZE;
+    more_blocks > 0 && searches > BLOCK_SEARCHES / more_blocks
+}
+
 /// Runs an action on some items that asks for the nearest entries of a table, about `searches`
 /// times.
 ///
@@ -135,8 +145,8 @@ pub fn visit_nearest<C: TableColor, T, V: SearchVisitor<T>>(
     ensures { V.visits visitor.now (map C.channels colors.now) items.old items.new }
 {
     let mut lanes = EntryLanes::new(colors);
-    if searches > FEW_COLORS {
-        visit_many(colors, &lanes, visitor, items, work);
+    if searches > FEW_SEARCHES {
+        visit_many(colors, &lanes, visitor, searches, items, work);
     } else {
         visitor.visit(&mut lanes, items, work);
     }
@@ -147,6 +157,7 @@ fn visit_many<C: TableColor, T, V: SearchVisitor<T>>(
     colors: &[C],
     lanes: &EntryLanes,
     visitor: &V,
+    searches: usize,
     items: &mut [T],
     work: &mut [Color],
 )
@@ -158,7 +169,7 @@ fn visit_many<C: TableColor, T, V: SearchVisitor<T>>(
     ensures { V.visits visitor.now (map C.channels colors.now) items.old items.new }
 {
     let mut distinct = lanes.distinct(colors);
-    if distinct.len > FEW_ENTRIES {
+    if lists_pay(searches, distinct.len) {
         visit_with_lists(colors, distinct, visitor, items, work);
     } else {
         visitor.visit(&mut distinct, items, work);
