@@ -4,7 +4,7 @@
 //! `bench/start` puts a file of `bench/calls` in the place of this one where that one fits: see
 //! there.
 //!
-//! Fits where pix_palette has: pub fn quantize<S>(
+//! Fits where pix_palette has: pub fn quantize_refined<S>(
 //! Fits where pix_palette has: pub fn index_pixels<S>(
 
 use crate::pictures::Shade;
@@ -18,6 +18,15 @@ pub(crate) fn quantize<M: ColorModel>(
     picture: &Raster<Shade<M>>,
 ) -> Result<Option<ColorTable>, RasterFault> {
     ColorTable::quantize(alloc, picture, 256, 0)
+}
+
+/// Makes a table of some colors of a picture, refined by six rounds.
+pub(crate) fn refined<M: ColorModel>(
+    alloc: Global,
+    picture: &Raster<Shade<M>>,
+    limit: usize,
+) -> Result<Option<ColorTable>, RasterFault> {
+    ColorTable::quantize_refined(alloc, picture, limit, 0, 6)
 }
 
 /// Indexes a picture by a table, to which the colors that it lacks are added.

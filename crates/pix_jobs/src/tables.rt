@@ -8,6 +8,7 @@ mod long;
 mod mapped;
 mod narrow;
 mod near;
+mod steps;
 mod tiles;
 
 use crate::digest::Digest;
@@ -16,8 +17,11 @@ use crate::size::Size;
 use pix::ColorModel;
 use std::alloc::Global;
 
+/// How many parts the workload has: the first ones. Those after them are done alone.
+const WHOLE: usize = 36;
+
 /// The parts, in the order in which they are done.
-pub(crate) const PARTS: [&str; 36] = [
+pub(crate) const PARTS: [&str; 44] = [
     "near-90",
     "near-150",
     "near-200",
@@ -54,17 +58,25 @@ pub(crate) const PARTS: [&str; 36] = [
     "narrow-32",
     "narrow-64",
     "narrow-any",
+    "noise-64",
+    "noise-65",
+    "noise-170",
+    "noise-171",
+    "noise-1024",
+    "refined-32",
+    "refined-33",
+    "one-place",
 ];
 
-/// Does all parts.
+/// Does the parts of the workload.
 pub(crate) fn run<M: ColorModel>(
     alloc: Global,
     size: Size,
     random: &mut Random,
     digest: &mut Digest,
 ) -> Option<()> {
-    for part in PARTS {
-        run_part::<M>(alloc, part, size, random, digest)?;
+    for k in 0..WHOLE {
+        run_part::<M>(alloc, PARTS[k], size, random, digest)?;
     }
     Some(())
 }
@@ -95,6 +107,14 @@ pub(crate) fn run_part<M: ColorModel>(
         "narrow-32" => narrow::run(alloc, 32, size, random, digest),
         "narrow-64" => narrow::run(alloc, 64, size, random, digest),
         "narrow-any" => narrow::any(alloc, size, random, digest),
+        "noise-64" => steps::noise::<M>(alloc, 64, size, random, digest),
+        "noise-65" => steps::noise::<M>(alloc, 65, size, random, digest),
+        "noise-170" => steps::noise::<M>(alloc, 170, size, random, digest),
+        "noise-171" => steps::noise::<M>(alloc, 171, size, random, digest),
+        "noise-1024" => steps::noise::<M>(alloc, 1024, size, random, digest),
+        "refined-32" => steps::refined::<M>(alloc, 32, size, random, digest),
+        "refined-33" => steps::refined::<M>(alloc, 33, size, random, digest),
+        "one-place" => steps::one_place::<M>(alloc, size, random, digest),
         _ => mapped::run_part::<M>(alloc, part, size, random, digest),
     }
 }

@@ -21,7 +21,7 @@ const FEW_SEARCHES: usize = 1024;
 /// Lists save more time than they take for more searches than this, divided by the number of blocks
 /// of lanes after the first. A block takes the same time in each search, and a list takes most of
 /// its time before it is searched.
-const BLOCK_SEARCHES: usize = 196608;
+const BLOCK_SEARCHES: usize = 163840;
 
 /// Fewer pixels than this have few places for colors whose index was found, since it takes time to
 /// clear places.
