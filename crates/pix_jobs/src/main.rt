@@ -98,6 +98,12 @@ fn print_jobs(
             print_job(rt, name, size, seed, with_errors)?;
         }
     }
+    for name in tables::ALONE {
+        if job == name {
+            known = true;
+            print_job(rt, name, size, seed, with_errors)?;
+        }
+    }
     Ok(known)
 }
 

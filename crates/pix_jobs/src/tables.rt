@@ -17,11 +17,8 @@ use crate::size::Size;
 use pix::ColorModel;
 use std::alloc::Global;
 
-/// How many parts the workload has: the first ones. Those after them are done alone.
-const WHOLE: usize = 36;
-
 /// The parts, in the order in which they are done.
-pub(crate) const PARTS: [&str; 44] = [
+pub(crate) const PARTS: [&str; 36] = [
     "near-90",
     "near-150",
     "near-200",
@@ -58,6 +55,10 @@ pub(crate) const PARTS: [&str; 44] = [
     "narrow-32",
     "narrow-64",
     "narrow-any",
+];
+
+/// More parts, which are jobs of their own alone.
+pub(crate) const ALONE: [&str; 8] = [
     "noise-64",
     "noise-65",
     "noise-170",
@@ -68,15 +69,15 @@ pub(crate) const PARTS: [&str; 44] = [
     "one-place",
 ];
 
-/// Does the parts of the workload.
+/// Does all parts of the workload.
 pub(crate) fn run<M: ColorModel>(
     alloc: Global,
     size: Size,
     random: &mut Random,
     digest: &mut Digest,
 ) -> Option<()> {
-    for k in 0..WHOLE {
-        run_part::<M>(alloc, PARTS[k], size, random, digest)?;
+    for part in PARTS {
+        run_part::<M>(alloc, part, size, random, digest)?;
     }
     Some(())
 }

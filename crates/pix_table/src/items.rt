@@ -22,7 +22,7 @@ const SHARE: usize = 6;
 
 /// What a key is multiplied by for its place. It was found by trial: of some thousand numbers that
 /// which parts the colors of pictures best.
-const SPREAD: u32 = 1752068787;
+pub(crate) const SPREAD: u32 = 1752068787;
 
 /// A type of color that can be counted.
 pub(crate) trait Counted: Copy {

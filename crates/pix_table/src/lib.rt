@@ -21,6 +21,7 @@ mod entry_lanes;
 mod exchange;
 mod few_sums;
 mod group;
+mod hints;
 mod in_blocks;
 mod index;
 mod inverse_map;

@@ -10,7 +10,8 @@ ghost use Rattle.pix_table.specs.Refine.{IsQuantizedRefined, IsRefinedCut};
 
 use crate::color::{Color, TablePixel};
 use crate::color_items::cut_table;
-use crate::items::{Counted, PLACES, count_pairs, place_of};
+use crate::hints::Hints;
+use crate::items::{Counted, count_pairs};
 use crate::refine::{refine, refine_items};
 
 /// Returns how many colors of work memory [`quantize`] takes for this many pixels, which is the
@@ -203,19 +204,19 @@ fn distinct(colors: &[Color], entries: &mut [Color]) -> Option<usize>
         (λ count. (count ≤ length entries.new)
         × (map numbers (take count entries.new) ≡ distinct (map numbers colors.now))) }
 {
-    let mut hints = [0; PLACES];
+    let mut hints = Hints::new();
     let mut count = 0;
     for i in 0..colors.len() {
         let clr = colors[i];
-        let place = place_of(clr.key());
-        match entry_of(&entries[..count], clr, usize::from(hints[place])) {
-            Some(at) => hints[place] = at as u8,
+        let key = clr.key();
+        match entry_of(&entries[..count], clr, hints.of(key)) {
+            Some(at) => hints.set(key, at),
             None => {
                 if count == entries.len() {
                     return None;
                 }
                 entries[count] = clr;
-                hints[place] = count as u8;
+                hints.set(key, count);
                 count += 1;
             }
         }
@@ -223,16 +224,20 @@ fn distinct(colors: &[Color], entries: &mut [Color]) -> Option<usize>
     Some(count)
 }
 
-/// Returns the place of a color among the entries. It looks at one place first.
+/// Returns the place of a color among the entries. It looks at two places first.
 #[inline(always)]
-fn entry_of(entries: &[Color], clr: Color, first: usize) -> Option<usize>
+fn entry_of(entries: &[Color], clr: Color, hints: (usize, usize)) -> Option<usize>
     ensures { MatchOption result
         (list_any (λ c. same_color c (numbers clr)) (map numbers entries.now) ≡ false)
         (λ at. (at < length entries.now) × (same_color
         (slice_index_or (map numbers entries.now) at []) (numbers clr) ≡ true)) }
 {
+    let (first, second) = hints;
     if first < entries.len() && same(entries[first], clr) {
         return Some(first);
+    }
+    if second < entries.len() && same(entries[second], clr) {
+        return Some(second);
     }
     for i in 0..entries.len() {
         if same(entries[i], clr) {

@@ -10,7 +10,8 @@ ghost use Rattle.pix_table.specs.SeenTables.{four_of, same_seen};
 
 use crate::chosen::ENTRIES;
 use crate::color::TablePixel;
-use crate::items::{Counted, PLACES, count_pairs, place_of};
+use crate::hints::Hints;
+use crate::items::{Counted, count_pairs};
 use crate::rgba::color::{RgbaColor, Seen, same, seen_of, straight};
 use crate::rgba::items::cut_seen_table;
 use crate::rgba::refine::{refine_seen, refine_seen_items};
@@ -81,21 +82,21 @@ fn distinct<P: TablePixel>(pixels: &[P], entries: &mut [RgbaColor]) -> Option<us
         ≡ distinct_pixels (map P.values pixels.now))) }
 {
     let mut table = [Seen::default(); ENTRIES];
-    let mut hints = [0; PLACES];
+    let mut hints = Hints::new();
     let mut count = 0;
     for i in 0..pixels.len() {
         let pixel = pixels[i];
         let clr = seen_of(pixel);
-        let place = place_of(clr.key());
-        match entry_of(&table[..count], clr, usize::from(hints[place])) {
-            Some(at) => hints[place] = at as u8,
+        let key = clr.key();
+        match entry_of(&table[..count], clr, hints.of(key)) {
+            Some(at) => hints.set(key, at),
             None => {
                 if count == entries.len() {
                     return None;
                 }
                 table[count] = clr;
                 entries[count] = rgba_of(pixel);
-                hints[place] = count as u8;
+                hints.set(key, count);
                 count += 1;
             }
         }
@@ -116,16 +117,20 @@ fn rgba_of<P: TablePixel>(pixel: P) -> RgbaColor
     }
 }
 
-/// Returns the place of a color among the entries. It looks at one place first.
+/// Returns the place of a color among the entries. It looks at two places first.
 #[inline(always)]
-fn entry_of(entries: &[Seen], clr: Seen, first: usize) -> Option<usize>
+fn entry_of(entries: &[Seen], clr: Seen, hints: (usize, usize)) -> Option<usize>
     ensures { MatchOption result
         (list_any (λ c. same_seen c (seen_numbers clr)) (map seen_numbers entries.now) ≡ false)
         (λ at. (at < length entries.now) × (same_seen
         (slice_index_or (map seen_numbers entries.now) at []) (seen_numbers clr) ≡ true)) }
 {
+    let (first, second) = hints;
     if first < entries.len() && same(entries[first], clr) {
         return Some(first);
+    }
+    if second < entries.len() && same(entries[second], clr) {
+        return Some(second);
     }
     for i in 0..entries.len() {
         if same(entries[i], clr) {

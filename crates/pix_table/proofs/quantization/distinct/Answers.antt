@@ -41,19 +41,17 @@ loop-i-preserved c =
           let some : list_any (λ e. same_color e (numbers p)) (map numbers (take c.loop-i.count c.loop-i.entries)) ≡ true =
           list_any_at (λ e. same_color e (numbers p)) before w.in-Some.at []
           (omega (arith, found.0, length-map (take c.loop-i.count c.loop-i.entries) numbers)) found.1 in
-          rw (w.count-is, w.entries-is, w.hints-is)
+          rw (w.count-is, w.entries-is)
           (record {
             within = c.loop-i.invariant.within;
-            many = length-set c.loop-i.hints c.place_of-place.result w.in-Some.at ∙ c.loop-i.invariant.many;
             written = known_more same_color _ _ _ (numbers p) more c.loop-i.invariant.written some;
           })
       | in-None+else-count-entries w ↦
           let table : map numbers (take c.loop-i.count c.loop-i.entries) ++ numbers p ∷ [] ≡ distinct (map numbers (take (c.loop-i.i + 1) c.args.colors.now)) =
           new_more same_color _ _ _ (numbers p) more c.loop-i.invariant.written w.in-None.ensures in
-          rw (w.count-is, w.entries-is, w.hints-is)
+          rw (w.count-is, w.entries-is)
           (record {
             within = omega (arith, length-set c.loop-i.entries c.loop-i.count p);
-            many = length-set c.loop-i.hints c.place_of-place.result c.loop-i.count ∙ c.loop-i.invariant.many;
             written = ap (map numbers) (take_more_set c.loop-i.entries c.loop-i.count p (omega arith)) ∙ map-append numbers (take c.loop-i.count c.loop-i.entries) (p ∷ []) ∙ table;
           })
     ]

@@ -8,6 +8,5 @@ use Rattle.pix_table.proofs.quantization.distinct.Given as goal
 abbrev pub invariant-loop-i : goal.invariant-loop-i
 invariant-loop-i l = record {
   within : l.count ≤ length l.entries;
-  many : length l.hints ≡ 4096;
   written : map numbers (take l.count l.entries) ≡ distinct (map numbers (take l.i l.colors));
 }

@@ -38,11 +38,10 @@ loop-i-preserved g c =
           known_by table shown (g.P.TablePixel.values x) (seen_numbers c.seen_of-clr.result) true c.loop-i.invariant.shown c.seen_of-clr.ensures.numbers
           (sym (list_any_at (λ e. same_seen e (seen_numbers c.seen_of-clr.result)) shown w.in-Some.at []
           (omega (arith, found.0, length-map (take count c.loop-i.table) seen_numbers)) found.1)) in
-          rw (w.count-is, w.entries-is, w.table-is, w.hints-is)
+          rw (w.count-is, w.entries-is, w.table-is)
           (record {
             within = c.loop-i.invariant.within;
             many = c.loop-i.invariant.many;
-            hints = length-set c.loop-i.hints c.place_of-place.result w.in-Some.at ∙ c.loop-i.invariant.hints;
             written = pixel_known g.P.TablePixel.values c.args.pixels.now c.loop-i.i x c.loop-i-test.true c.index-pixels-i.is table c.loop-i.invariant.written (sym some);
             shown = c.loop-i.invariant.shown;
           })
@@ -54,11 +53,10 @@ loop-i-preserved g c =
           let written : map rgba_numbers (take (c.loop-i.count + 1) (set c.loop-i.entries c.loop-i.count w.rgba_of.result))
           ≡ map rgba_numbers (take c.loop-i.count c.loop-i.entries) ++ four_of (g.P.TablePixel.values c.index-pixels-i.result) ∷ [] =
           pushed rgba_numbers c.loop-i.entries count y (omega arith) ∙ ap (λ z. table ++ z ∷ []) w.rgba_of.ensures in
-          rw (w.count-is, w.entries-is, w.table-is, w.hints-is)
+          rw (w.count-is, w.entries-is, w.table-is)
           (record {
             within = omega (arith, length-set c.loop-i.entries count y);
             many = length-set c.loop-i.table count c.seen_of-clr.result ∙ c.loop-i.invariant.many;
-            hints = length-set c.loop-i.hints c.place_of-place.result count ∙ c.loop-i.invariant.hints;
             written = written
                 ∙ pixel_new g.P.TablePixel.values c.args.pixels.now c.loop-i.i x c.loop-i-test.true c.index-pixels-i.is table c.loop-i.invariant.written (sym none);
             shown = pushed seen_numbers c.loop-i.table count c.seen_of-clr.result (omega arith)

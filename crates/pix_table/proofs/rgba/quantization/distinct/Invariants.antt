@@ -9,7 +9,6 @@ abbrev pub invariant-loop-i : goal.invariant-loop-i
 invariant-loop-i g l = record {
   within : l.count ≤ length l.entries;
   many : length l.table ≡ 256;
-  hints : length l.hints ≡ 4096;
   written : map rgba_numbers (take l.count l.entries) ≡ distinct_pixels (map g.P.TablePixel.values (take l.i l.pixels));
   shown : map seen_numbers (take l.count l.table) ≡ map seen (map rgba_numbers (take l.count l.entries));
 }
