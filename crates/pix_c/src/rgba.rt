@@ -22,8 +22,9 @@ use pix_table::{
 /// With no more distinct colors than entries, as they are seen, they are the table, in order of
 /// first place. Else it is made by the cut by squared error, and refined by `rounds` rounds. In a
 /// round each color goes to its nearest entry, the first of equals. Each entry goes to the mean of
-/// its colors, rounded, where that makes their squared error no greater. Else it stays. The other
-/// entries may hold anything.
+/// its colors, rounded, where that makes their squared error no greater. Else it stays. After all
+/// rounds each entry becomes opaque whose alpha is at least 250 and more than half of whose colors
+/// are opaque. The other entries may hold anything.
 ///
 /// Returns 0 when it is made. Else nothing is written. The status is then 11 where there is no
 /// entry or more than 256, and otherwise 7, where `work` has fewer colors than there are pixels.

@@ -68,6 +68,8 @@ pub mod SeenColors
 pub mod SeenLaneEntries
 pub mod SeenErrors
 pub mod SeenRounds
+pub mod SeenParts
+pub mod SeenShares
 pub mod SeenItemGroups
 pub mod SeenMade
 pub mod BlockGaps

@@ -156,7 +156,7 @@ module _ (apart : List ℕ → List ℕ → ℕ) (settle : List ℕ → List (Li
   rounds_keep (suc n) colors old new h = rounds_keep n colors h.0 new h.2 ∙ h.1.many
 
   -- the same colors in another order have the same rounds
-  round_moved : (xs ys old new : List (List ℕ)) → IsPermutation xs ys → IsRoundBy apart settle xs old new → IsRoundBy apart settle ys old new
+  pub round_moved : (xs ys old new : List (List ℕ)) → IsPermutation xs ys → IsRoundBy apart settle xs old new → IsRoundBy apart settle ys old new
   round_moved xs ys old new moved round =
       let all : IsPermutation ys (flat_map (λ group. group) round.groups) =
       IsPermutation-trans ys xs (flat_map (λ group. group) round.groups) (IsPermutation-sym xs ys moved) round.are.all in record {

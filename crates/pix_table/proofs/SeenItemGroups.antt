@@ -1,20 +1,19 @@
 -- The sums of the seen colors of the items of each entry, with one item more.
-use Rattle.std.proofs.Common.{◌≡◌, ℕ, ◌+◌, ◌-◌, ◌*◌, ◌<◌, ◌≤◌, Bool, true, false, cond, List, [], ◌∷◌, length, set, replicate, get_or, nat_eq, sum_by, All, refl, arith, sym, ap, ◌∙◌, subst, inl, inr, eq-eqb, ne_eqb, length-set}
-use Rattle.std.proofs.lemmas.Bool.{cases_eq}
-use Rattle.std.proofs.lemmas.List.{get_or-set_same, get_or-set_other, get_or-replicate, length-replicate}
+use Rattle.std.proofs.Common.{◌≡◌, ℕ, ◌+◌, ◌-◌, ◌*◌, ◌<◌, ◌≤◌, Bool, true, false, cond, List, [], ◌∷◌, filter, length, set, replicate, get_or, sum_by, All, refl, arith, sym, ap, ◌∙◌}
 use Rattle.std.proofs.lemmas.List.Elements.{All-filter, All-head, All-tail}
 use Rattle.std.proofs.lemmas.List.Sums.{length-filter, sum_by-cons}
 use Rattle.std.proofs.lemmas.Nat.{mul-le}
 use Rattle.pix_table.specs.Nearest.{IsNearestBy}
 use Rattle.pix_table.specs.Items.{AreItemsOf, item_color, item_count, item_sum}
 use Rattle.pix_table.specs.Seen.{AreSeen, seen_distance, seen_numbers}
-use Rattle.pix_table.specs.SeenGroups.{AreSeenGrouped, AreSeenItemGroups, AreSeenItemSums}
+use Rattle.pix_table.specs.SeenGroups.{AreGroupSums, AreSeenGrouped, AreSeenItemGroups, AreSeenItemSums}
 use Rattle.pix_table.specs.SeenSums.{AreFew}
 use Rattle.pix_table.specs.declared.rgba.color.Seen.{Seen}
 use Rattle.pix_table.specs.declared.rgba.sums.SeenSums.{SeenSums}
 use Rattle.pix_table.proofs.ItemGroups.{left_out, passed, room_for}
 use Rattle.pix_table.proofs.ItemSums.{item_next, item_sum_grows}
-use Rattle.pix_table.proofs.Rounds.{nearest_at, nearest_is_one, sum_kept}
+use Rattle.pix_table.proofs.Rounds.{sum_kept}
+use Rattle.pix_table.proofs.SeenParts.{not_counted, part_at, parts_more, parts_none, parts_then}
 
 -- of items of seen colors one that counts has a seen color
 item_zero : (f : List ℕ → ℕ) (items : List (List ℕ)) (pairs n k : ℕ) → item_sum f items pairs n ≡ 0 → k < n → 0 < item_count items pairs k
@@ -50,24 +49,21 @@ item_seen all items pairs singles k n c of_items seen inside often some is =
 -- the sums of no items
 pub grouped_none : (entries items : List (List ℕ)) (pairs n : ℕ) (none : SeenSums) → n ≡ length entries → none.count ≡ 0 → none.red ≡ 0 → none.green ≡ 0
     → none.blue ≡ 0 → none.alpha ≡ 0 → AreSeenItemGroups entries items pairs 0 (replicate n none)
-grouped_none entries items pairs n none e count red green blue alpha = record {
-  many = length-replicate n none ∙ e;
-  parts = λ at nearest k d inside.
-      subst (AreSeenItemSums (λ c. nat_eq (at c) k) items pairs 0) (sym (get_or-replicate n k none d (omega (arith, e, inside))))
-      (record {
-        few = record {
-          red = omega (arith, red, alpha);
-          green = omega (arith, green, alpha);
-          blue = omega (arith, blue, alpha);
-          alpha = omega (arith, alpha);
-        };
-        count = count;
-        red = red;
-        green = green;
-        blue = blue;
-        alpha = alpha;
-      });
-}
+grouped_none entries items pairs n none e count red green blue alpha =
+    parts_none (λ p s. AreSeenItemSums p items pairs 0 s) entries n none e
+    (λ p. record {
+      few = record {
+        red = omega (arith, red, alpha);
+        green = omega (arith, green, alpha);
+        blue = omega (arith, blue, alpha);
+        alpha = omega (arith, alpha);
+      };
+      count = count;
+      red = red;
+      green = green;
+      blue = blue;
+      alpha = alpha;
+    })
 
 -- the sums of a seen color that stands so often, and those with them
 pub times_few : (n : ℕ) (c : Seen) (new : SeenSums) → AreSeen (seen_numbers c) → new.count ≡ n → new.red ≡ n * c.red → new.green ≡ n * c.green
@@ -118,72 +114,42 @@ pub grouped_more : (entries items : List (List ℕ)) (pairs k n v : ℕ) (sums :
     → new.count ≡ old.count + n → new.red ≡ old.red + n * c.red → new.green ≡ old.green + n * c.green → new.blue ≡ old.blue + n * c.blue
     → new.alpha ≡ old.alpha + n * c.alpha → AreSeenItemGroups entries items pairs k sums → AreSeenItemGroups entries items pairs (k + 1) (set sums v new)
 grouped_more entries items pairs k n v sums c old new often is seen near read count red green blue alpha h =
-    let here : (d : SeenSums) → get_or (set sums v new) v d ≡ new = (λ d. get_or-set_same sums v new d (omega (arith, h.many, near.stands))) in
-    record {
-      many = length-set sums v new ∙ h.many;
-      parts = λ at nearest j d inside.
-          let place : v ≡ at (seen_numbers c) =
-          nearest_is_one seen_distance entries (seen_numbers c) v (at (seen_numbers c)) near (nearest (seen_numbers c)) in
-          elim (cases_eq j v) [
-            | inl e ↦
-                let passes : nat_eq (at (seen_numbers c)) j ≡ true = eq-eqb (at (seen_numbers c)) j (omega (arith, place, e)) in
-                let was : AreSeenItemSums (λ x. nat_eq (at x) j) items pairs k old =
-                subst (λ i. AreSeenItemSums (λ x. nat_eq (at x) i) items pairs k old) (sym e)
-                (subst (AreSeenItemSums (λ x. nat_eq (at x) v) items pairs k) (sym read) (h.parts at nearest v old near.stands)) in
-                subst (AreSeenItemSums (λ x. nat_eq (at x) j) items pairs (k + 1)) (sym (ap (λ i. get_or (set sums v new) i d) e ∙ here d))
-                (sums_with items pairs k n c often is (λ x. nat_eq (at x) j) old new passes seen was count red green blue alpha)
-            | inr apart ↦
-                let fails : nat_eq (at (seen_numbers c)) j ≡ false = ne_eqb (at (seen_numbers c)) j (λ e. apart (omega (arith, place, e))) in
-                subst (AreSeenItemSums (λ x. nat_eq (at x) j) items pairs (k + 1)) (sym (get_or-set_other sums v j new d apart))
-                (sums_without items pairs k n c often is (λ x. nat_eq (at x) j) (get_or sums j d) fails (h.parts at nearest j d inside))
-          ];
-    }
+    parts_more (λ p s. AreSeenItemSums p items pairs k s) (λ p s. AreSeenItemSums p items pairs (k + 1) s) entries (seen_numbers c) v sums old new near read
+    (λ p passes was. sums_with items pairs k n c often is p old new passes seen was count red green blue alpha)
+    (λ p s fails was. sums_without items pairs k n c often is p s fails was) h
 
 -- an item that doesn't count leaves them as they are
-not_counted : (f : List ℕ → ℕ) (items : List (List ℕ)) (pairs k : ℕ) → item_count items pairs k ≡ 0
-    → item_sum f items pairs k ≡ item_sum f items pairs (k + 1)
-not_counted f items pairs k none =
-    let more : item_sum f items pairs (k + 1) ≡ item_sum f items pairs k + 0 * f (item_color items pairs k) =
-    item_next f items pairs k 0 (item_color items pairs k) none refl in
-    omega (arith, more)
-
 pub grouped_same : (entries items : List (List ℕ)) (pairs k : ℕ) (sums : List SeenSums) → item_count items pairs k ≡ 0
     → AreSeenItemGroups entries items pairs k sums → AreSeenItemGroups entries items pairs (k + 1) sums
-grouped_same entries items pairs k sums none h = record {
-  many = h.many;
-  parts = λ at nearest j d inside.
-      let s = h.parts at nearest j d inside in record {
-        few = s.few;
-        count = s.count ∙ not_counted (λ c. cond (nat_eq (at c) j) 1 0) items pairs k none;
-        red = s.red ∙ not_counted (λ c. cond (nat_eq (at c) j) (get_or c 0 0) 0) items pairs k none;
-        green = s.green ∙ not_counted (λ c. cond (nat_eq (at c) j) (get_or c 1 0) 0) items pairs k none;
-        blue = s.blue ∙ not_counted (λ c. cond (nat_eq (at c) j) (get_or c 2 0) 0) items pairs k none;
-        alpha = s.alpha ∙ not_counted (λ c. cond (nat_eq (at c) j) (get_or c 3 0) 0) items pairs k none;
-      };
-}
+grouped_same entries items pairs k sums none h =
+    parts_then (λ p s. AreSeenItemSums p items pairs k s) (λ p s. AreSeenItemSums p items pairs (k + 1) s) entries sums
+    (λ p s was. record {
+      few = was.few;
+      count = was.count ∙ not_counted (λ c. cond (p c) 1 0) items pairs k none;
+      red = was.red ∙ not_counted (λ c. cond (p c) (get_or c 0 0) 0) items pairs k none;
+      green = was.green ∙ not_counted (λ c. cond (p c) (get_or c 1 0) 0) items pairs k none;
+      blue = was.blue ∙ not_counted (λ c. cond (p c) (get_or c 2 0) 0) items pairs k none;
+      alpha = was.alpha ∙ not_counted (λ c. cond (p c) (get_or c 3 0) 0) items pairs k none;
+    }) h
 
 -- what is known of the sums to which an item is added
 pub sums_open : (entries items : List (List ℕ)) (pairs k all n v most : ℕ) (sums : List SeenSums) (d : SeenSums) → v < length entries → k < all
     → item_count items pairs k ≡ n → item_sum (λ c. 1) items pairs all < most → AreSeenItemGroups entries items pairs k sums
     → AreFew (get_or sums v d) × ((get_or sums v d).count + n < most)
 sums_open entries items pairs k all n v most sums d inside more often few h =
-    let at : List ℕ → ℕ = (λ c. (nearest_at seen_distance entries (omega arith) c).0) in
-    let nearest : (c : List ℕ) → IsNearestBy seen_distance entries c (at c) = (λ c. (nearest_at seen_distance entries (omega arith) c).1) in
-    let s : AreSeenItemSums (λ c. nat_eq (at c) v) items pairs k (get_or sums v d) = h.parts at nearest v d inside in
-    (s.few, room_for (λ c. nat_eq (at c) v) items pairs k all n most (get_or sums v d).count more often few s.count)
+    let s = part_at (λ p s. AreSeenItemSums p items pairs k s) entries sums d v inside h in
+    (s.1.few, room_for s.0 items pairs k all n most (get_or sums v d).count more often few s.1.count)
 
 -- the sums of the items are those of the colors
 pub groups_of_items : (entries all items : List (List ℕ)) (pairs singles : ℕ) (sums : List SeenSums) → AreItemsOf all items pairs singles → All AreSeen all
-    → AreSeenItemGroups entries items pairs (pairs + singles) sums → AreSeenGrouped entries all sums
-groups_of_items entries all items pairs singles sums are seen h = λ at nearest. record {
-  many = h.many;
-  each = λ k d inside.
-      let s = h.parts at nearest k d inside in record {
-        seen = All-filter (λ c. nat_eq (at c) k) AreSeen all seen;
-        count = s.count ∙ sym (are (λ c. cond (nat_eq (at c) k) 1 0)) ∙ sym (length-filter (λ c. nat_eq (at c) k) all);
-        red = s.red ∙ sym (are (λ c. cond (nat_eq (at c) k) (get_or c 0 0) 0)) ∙ sum_kept (λ c. nat_eq (at c) k) (λ c. get_or c 0 0) all;
-        green = s.green ∙ sym (are (λ c. cond (nat_eq (at c) k) (get_or c 1 0) 0)) ∙ sum_kept (λ c. nat_eq (at c) k) (λ c. get_or c 1 0) all;
-        blue = s.blue ∙ sym (are (λ c. cond (nat_eq (at c) k) (get_or c 2 0) 0)) ∙ sum_kept (λ c. nat_eq (at c) k) (λ c. get_or c 2 0) all;
-        alpha = s.alpha ∙ sym (are (λ c. cond (nat_eq (at c) k) (get_or c 3 0) 0)) ∙ sum_kept (λ c. nat_eq (at c) k) (λ c. get_or c 3 0) all;
-      };
-}
+    → AreSeenItemGroups entries items pairs (pairs + singles) sums → AreSeenGrouped AreGroupSums entries all sums
+groups_of_items entries all items pairs singles sums are seen h =
+    parts_then (λ p s. AreSeenItemSums p items pairs (pairs + singles) s) (λ p s. AreGroupSums (filter p all) s) entries sums
+    (λ p s was. record {
+      seen = All-filter p AreSeen all seen;
+      count = was.count ∙ sym (are (λ c. cond (p c) 1 0)) ∙ sym (length-filter p all);
+      red = was.red ∙ sym (are (λ c. cond (p c) (get_or c 0 0) 0)) ∙ sum_kept p (λ c. get_or c 0 0) all;
+      green = was.green ∙ sym (are (λ c. cond (p c) (get_or c 1 0) 0)) ∙ sum_kept p (λ c. get_or c 1 0) all;
+      blue = was.blue ∙ sym (are (λ c. cond (p c) (get_or c 2 0) 0)) ∙ sum_kept p (λ c. get_or c 2 0) all;
+      alpha = was.alpha ∙ sym (are (λ c. cond (p c) (get_or c 3 0) 0)) ∙ sum_kept p (λ c. get_or c 3 0) all;
+    }) h

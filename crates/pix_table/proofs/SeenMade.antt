@@ -3,13 +3,12 @@ use Rattle.std.specs.List.{list_any}
 use Rattle.std.proofs.Common.{◌≡◌, ℕ, ◌+◌, ◌<◌, ◌≤◌, Bool, true, false, ◌||◌, List, [], ◌∷◌, ◌++◌, length, map, take, drop, set, get_or, All, IsPermutation, refl, arith, ap, ap₂, subst, sym, ◌∙◌, length-append}
 use Rattle.std.proofs.lemmas.List.{map-append, take_more_set}
 use Rattle.std.proofs.lemmas.List.Elements.{All-head, All-tail}
-use Rattle.pix_table.specs.Refine.{AreRoundsBy, squared_error_by}
 use Rattle.pix_table.specs.Seen.{AreSeen, seen, seen_distance, straight}
 use Rattle.pix_table.specs.SeenCut.{IsSeenCutTable}
-use Rattle.pix_table.specs.SeenTables.{IsSeenTable, distinct_pixels, four_of, same_seen, seen_settled}
+use Rattle.pix_table.specs.SeenTables.{IsSeenRefined, IsSeenTable, distinct_pixels, four_of, opaque_settled, same_seen, seen_settled}
 use Rattle.pix_table.proofs.BoxSpans.{map_more}
 use Rattle.pix_table.proofs.Distinct.{distinct_first, known_more, new_more, parted_at}
-use Rattle.pix_table.proofs.RefinedTables.{error_moved, round_falls, rounds_moved}
+use Rattle.pix_table.proofs.RefinedTables.{error_moved, round_falls, round_moved, rounds_moved}
 use Rattle.pix_table.proofs.SeenColors.{seen_straight}
 use Rattle.pix_table.proofs.SeenErrors.{settled_falls}
 
@@ -51,16 +50,20 @@ module _ {X : Type 0} (f : X → List ℕ) (ps : List X) (i : ℕ) (x : X) (insi
         distinct_first (λ p q. same_seen (seen p) (seen q)) (map four_of (map f ps)) (map four_of (map f (take (i + 1) ps))) (map four_of (map f (drop (i + 1) ps))) parts,
       )
 
--- the rounds are those of the colors in any order
+-- the table is that of the colors in any order
 pub seen_moved : (rounds room : ℕ) (xs ys first new table : List (List ℕ)) → IsPermutation xs ys → IsSeenCutTable room ys first
-    → AreRoundsBy seen_distance seen_settled rounds xs first new → squared_error_by seen_distance new xs ≤ squared_error_by seen_distance first xs → table ≡ new
-    → IsSeenTable rounds room ys table
-seen_moved rounds room xs ys first new table moved made are less e =
+    → IsSeenRefined rounds xs first new → table ≡ new → IsSeenTable rounds room ys table
+seen_moved rounds room xs ys first new table moved made are e =
+    let last : List (List ℕ) = are.0 in
     rw e (
       first,
       made,
-      rounds_moved seen_distance seen_settled rounds xs ys first new moved are,
-      omega (arith, error_moved seen_distance new xs ys moved, error_moved seen_distance first xs ys moved, less),
+      (
+        last,
+        rounds_moved seen_distance seen_settled rounds xs ys first last moved are.1,
+        omega (arith, error_moved seen_distance last xs ys moved, error_moved seen_distance first xs ys moved, are.2),
+        round_moved seen_distance opaque_settled xs ys last new moved are.3,
+      ),
       round_falls seen_distance seen_settled settled_falls ys,
     )
 

@@ -37,5 +37,6 @@ pub mod SeenGroups
 pub mod SeenMatches
 pub mod NearBlocks
 pub mod SeenTables
+pub mod SeenShares
 pub mod SeenDiffusion
 pub mod NearLaws

@@ -48,6 +48,12 @@ straight color =
     over_alpha (slice_index color 0) (slice_index color 3) ∷ over_alpha (slice_index color 1) (slice_index color 3)
     ∷ over_alpha (slice_index color 2) (slice_index color 3) ∷ slice_index color 3 ∷ []
 
+-- a color that is seen, made opaque: divided by its alpha
+abbrev pub made_opaque : List ℕ → List ℕ
+made_opaque color =
+    over_alpha (slice_index color 0) (slice_index color 3) ∷ over_alpha (slice_index color 1) (slice_index color 3)
+    ∷ over_alpha (slice_index color 2) (slice_index color 3) ∷ 255 ∷ []
+
 -- each pixel has the index of the entry that is seen nearest to it, the first of equals
 pub record AreSeenMatched (entries pixels : List (List ℕ)) (indices : List ℕ) : Type 0 where
   pub many : length indices ≡ length pixels

@@ -16,15 +16,15 @@ pub record AreGroupSums (group : List (List ℕ)) (sums : SeenSums) : Type 0 whe
   pub blue : sums.blue ≡ sum_in 2 group
   pub alpha : sums.alpha ≡ sum_in 3 group
 
--- the sums of each group of colors, where a function says in which of so many groups a color is
-pub record AreSumsOf (at : List ℕ → ℕ) (count : ℕ) (colors : List (List ℕ)) (sums : List SeenSums) : Type 0 where
-  pub many : length sums ≡ count
-  pub each : (k : ℕ) (d : SeenSums) → k < count → AreGroupSums (filter (λ color. nat_eq (at color) k) colors) (slice_index_or sums k d)
+-- for each entry what holds of the colors to which it is the nearest, the first of equals
+pub record AreSeenParts {S : Type 0} (holds : (List ℕ → Bool) → S → Type 0) (entries : List (List ℕ)) (sums : List S) : Type 0 where
+  pub many : length sums ≡ length entries
+  pub parts : (at : List ℕ → ℕ) → ((color : List ℕ) → IsNearestBy seen_distance entries color (at color)) → (k : ℕ) (d : S) → k < length entries
+      → holds (λ color. nat_eq (at color) k) (slice_index_or sums k d)
 
--- the sums of the colors of each entry: those to which it is the nearest, the first of equals
-abbrev pub AreSeenGrouped : (entries colors : List (List ℕ)) (sums : List SeenSums) → Type 0
-AreSeenGrouped entries colors sums =
-    (at : List ℕ → ℕ) → ((color : List ℕ) → IsNearestBy seen_distance entries color (at color)) → AreSumsOf at (length entries) colors sums
+-- what are the sums of the colors of each entry, whatever is summed
+abbrev pub AreSeenGrouped : {S : Type 0} (are : List (List ℕ) → S → Type 0) (entries colors : List (List ℕ)) (sums : List S) → Type 0
+AreSeenGrouped are entries colors sums = AreSeenParts (λ p s. are (filter p colors) s) entries sums
 
 -- the numbers of the seen color of a key
 abbrev pub seen_key_numbers : ℕ → List ℕ
@@ -40,10 +40,8 @@ pub record AreSeenItemSums (p : List ℕ → Bool) (items : List (List ℕ)) (pa
   pub alpha : sums.alpha ≡ item_sum (λ color. cond (p color) (slice_index color 3) 0) items pairs n
 
 -- for each entry the sums of those colors of the first n items to which it is the nearest, the first of equals
-pub record AreSeenItemGroups (entries items : List (List ℕ)) (pairs n : ℕ) (sums : List SeenSums) : Type 0 where
-  pub many : length sums ≡ length entries
-  pub parts : (at : List ℕ → ℕ) → ((color : List ℕ) → IsNearestBy seen_distance entries color (at color)) → (k : ℕ) (d : SeenSums) → k < length entries
-      → AreSeenItemSums (λ color. nat_eq (at color) k) items pairs n (slice_index_or sums k d)
+abbrev pub AreSeenItemGroups : (entries items : List (List ℕ)) (pairs n : ℕ) (sums : List SeenSums) → Type 0
+AreSeenItemGroups entries items pairs n sums = AreSeenParts (λ p s. AreSeenItemSums p items pairs n s) entries sums
 
 -- the products of the numbers of two colors over black and over white, added: of each red, green and blue, and what white adds to them
 abbrev pub product_by : (r g b w s t u v : ℕ) → ℕ

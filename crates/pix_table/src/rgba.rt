@@ -6,6 +6,7 @@ pub(crate) mod items;
 pub(crate) mod lanes;
 pub(crate) mod matched;
 pub(crate) mod near_blocks;
+pub(crate) mod opaque;
 pub(crate) mod part_sums;
 pub(crate) mod place;
 pub(crate) mod quantization;

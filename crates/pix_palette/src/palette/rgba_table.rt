@@ -55,7 +55,8 @@ impl RgbaTable {
     /// by squared error, and then `rounds` rounds refine them. In a round each color goes to its
     /// nearest entry, the first of equals. Each entry goes to the mean of its colors, rounded,
     /// where that makes their squared error no greater. No round makes the squared error of all
-    /// greater.
+    /// greater. After all rounds each entry becomes opaque whose alpha is at least 250 and more
+    /// than half of whose colors are opaque.
     ///
     /// # Errors
     ///

@@ -105,7 +105,7 @@ pub(crate) fn straight(color: Seen) -> RgbaColor
 }
 
 /// Returns a channel that is divided by an alpha no less than it, rounded to the nearest, ties up.
-fn over_alpha(number: u8, alpha: u8) -> u8
+pub(crate) fn over_alpha(number: u8, alpha: u8) -> u8
     requires { number ≤ alpha }
     ensures { result ≡ over_alpha number alpha }
 {

@@ -28,6 +28,10 @@ use crate::rgba::refine::{refine_seen, refine_seen_items};
 /// In a round each pixel goes to the entry that is seen nearest to it, the first of equals. Then
 /// each entry goes to the mean of its pixels, where that makes their squared error no greater. An
 /// entry without pixels stays. So no round makes the sum of the squared errors greater.
+///
+/// After all rounds an entry becomes opaque whose alpha is at least 250, where more than half of
+/// its pixels are opaque. Its color stays. So opaque pixels stay opaque, at hardly any squared
+/// error.
 pub fn quantize_rgba<P: TablePixel>(
     pixels: &[P],
     rounds: u8,

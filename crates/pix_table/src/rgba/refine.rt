@@ -1,16 +1,17 @@
 //! Rounds by which a table of seen colors fits a list of them better.
 ghost use Rattle.std.specs.Prelude.{◌≡◌, ◌<◌, ◌≤◌, ◌+◌, ◌*◌, ◌/◌, ◌%◌, ◌^◌, [], ◌∷◌, ℕ, All, IsPermutation, List, false, length, map, sum_by};
 ghost use Rattle.pix_table.specs.Items.{AreItemsOf, IsItem, item_sum, pair_items, spread, times_of};
-ghost use Rattle.pix_table.specs.Refine.{AreRoundsBy, IsRoundBy, squared_error_by};
+ghost use Rattle.pix_table.specs.Refine.{AreRoundsBy, IsRoundBy};
 ghost use Rattle.pix_table.specs.Seen.{AreSeen, seen_distance, seen_numbers};
-ghost use Rattle.pix_table.specs.SeenGroups.{AreSeenGrouped, seen_key_numbers};
-ghost use Rattle.pix_table.specs.SeenTables.{seen_settled};
+ghost use Rattle.pix_table.specs.SeenGroups.{AreGroupSums, AreSeenGrouped, seen_key_numbers};
+ghost use Rattle.pix_table.specs.SeenTables.{IsSeenRefined, seen_settled};
 
 use crate::chosen::ENTRIES;
 use crate::items::{Counted, Items, count_colors};
 use crate::rgba::color::{Seen, same};
 use crate::rgba::groups::settled;
 use crate::rgba::lanes::SeenLanes;
+use crate::rgba::opaque::{has_nearly_opaque, make_opaque};
 use crate::rgba::sums::SeenSums;
 
 impl Counted for Seen {
@@ -56,7 +57,9 @@ impl Counted for Seen {
 
 /// Moves the entries by `rounds` rounds. In each, every color goes to its nearest entry, the first
 /// of equals. Then every entry goes to the mean of its colors, where that makes their squared error
-/// no greater. An entry without colors stays. Items take the place of the colors.
+/// no greater. An entry without colors stays. After all rounds each entry becomes opaque whose
+/// alpha is at least 250 and more than half of whose colors are opaque. Items take the place of the
+/// colors.
 ///
 /// Condition: there are 1 to 256 entries.
 // Out of line, so that the cut before it does not have its sums on the stack.
@@ -66,19 +69,15 @@ pub(crate) fn refine_seen(colors: &mut [Seen], rounds: u8, entries: &mut [Seen])
     requires few { length entries.old ≤ 256 }
     requires colors { All AreSeen (map seen_numbers colors.old) }
     requires entries { All AreSeen (map seen_numbers entries.old) }
-    ensures rounds { AreRoundsBy seen_distance seen_settled rounds (map seen_numbers colors.old)
+    ensures refined { IsSeenRefined rounds (map seen_numbers colors.old)
         (map seen_numbers entries.old) (map seen_numbers entries.new) }
-    ensures no_worse { squared_error_by seen_distance (map seen_numbers entries.new)
-        (map seen_numbers colors.old)
-        ≤ squared_error_by seen_distance (map seen_numbers entries.old)
-        (map seen_numbers colors.old) }
     ensures seen { All AreSeen (map seen_numbers entries.new) }
 {
-    if rounds == 0 {
+    if rounds == 0 && !has_nearly_opaque(entries) {
         return;
     }
     let items = count_colors(colors);
-    refine_seen_by(colors, items, rounds, entries);
+    refine_to_opaque(colors, items, rounds, entries);
 }
 
 /// Does the same by pairs, each of a color and its count.
@@ -91,24 +90,42 @@ pub(crate) fn refine_seen_items(items: &[[Seen; 2]], rounds: u8, entries: &mut [
     requires colors { All AreSeen (spread 4 (pair_items seen_numbers items.now)) }
     requires count { sum_by (times_of 4) (pair_items seen_numbers items.now) < 2 ^ 64 }
     requires entries { All AreSeen (map seen_numbers entries.old) }
-    ensures rounds { (all : List (List ℕ))
+    ensures refined { (all : List (List ℕ))
         → IsPermutation all (spread 4 (pair_items seen_numbers items.now))
-        → AreRoundsBy seen_distance seen_settled rounds all (map seen_numbers entries.old)
+        → IsSeenRefined rounds all (map seen_numbers entries.old)
         (map seen_numbers entries.new) }
-    ensures no_worse { (all : List (List ℕ))
-        → IsPermutation all (spread 4 (pair_items seen_numbers items.now))
-        → squared_error_by seen_distance (map seen_numbers entries.new) all
-        ≤ squared_error_by seen_distance (map seen_numbers entries.old) all }
     ensures seen { All AreSeen (map seen_numbers entries.new) }
 {
     let counted = Items {
         pairs: items.len(),
         singles: 0,
     };
-    refine_seen_by(items.as_flattened(), counted, rounds, entries);
+    refine_to_opaque(items.as_flattened(), counted, rounds, entries);
 }
 
 /// Does the same by the items of the colors.
+fn refine_to_opaque(colors: &[Seen], items: Items, rounds: u8, entries: &mut [Seen])
+    requires some { 0 < length entries.old }
+    requires few { length entries.old ≤ 256 }
+    requires room { 2 * items.pairs + items.singles ≤ length colors.now }
+    requires count { item_sum (λ color. 1) (map seen_numbers colors.now) items.pairs
+        (items.pairs + items.singles) < 2 ^ 64 }
+    requires colors { (all : List (List ℕ))
+        × AreItemsOf all (map seen_numbers colors.now) items.pairs items.singles
+        × All AreSeen all }
+    requires entries { All AreSeen (map seen_numbers entries.old) }
+    ensures refined { (all : List (List ℕ))
+        → AreItemsOf all (map seen_numbers colors.now) items.pairs items.singles
+        → All AreSeen all
+        → IsSeenRefined rounds all (map seen_numbers entries.old)
+        (map seen_numbers entries.new) }
+    ensures seen { All AreSeen (map seen_numbers entries.new) }
+{
+    refine_seen_by(colors, items, rounds, entries);
+    make_opaque(colors, items, entries);
+}
+
+/// Moves the entries by `rounds` rounds of the items of the colors.
 fn refine_seen_by(colors: &[Seen], items: Items, rounds: u8, entries: &mut [Seen])
     requires some { 0 < length entries.old }
     requires few { length entries.old ≤ 256 }
@@ -185,7 +202,7 @@ fn sum_groups(colors: &[Seen], items: Items, entries: &[Seen], sums: &mut [SeenS
     ensures { (all : List (List ℕ))
         → AreItemsOf all (map seen_numbers colors.now) items.pairs items.singles
         → All AreSeen all
-        → AreSeenGrouped (map seen_numbers entries.now) all sums.new }
+        → AreSeenGrouped AreGroupSums (map seen_numbers entries.now) all sums.new }
 {
     let lanes = SeenLanes::of(entries);
     let ends = lanes.ends();

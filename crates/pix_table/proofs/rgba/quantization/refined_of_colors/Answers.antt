@@ -30,7 +30,7 @@ returns-clause-table c =
     (IsPermutation-sym (map seen_numbers c.args.colors.now) (map seen_numbers c.cut_seen_table-count.new.items) (singles_moved seen_numbers 4 (λ x. refl) _ _ c.cut_seen_table-count.ensures.moved))
     (c.cut_seen_table-count.ensures.table (map seen_numbers c.args.colors.now)
     (subst (IsPermutation (map seen_numbers c.args.colors.now)) (sym (spread_singles seen_numbers 4 (λ x. refl) c.args.colors.now))
-    (IsPermutation-refl (map seen_numbers c.args.colors.now)))) c.refine_seen.ensures.rounds c.refine_seen.ensures.no_worse
+    (IsPermutation-refl (map seen_numbers c.args.colors.now)))) c.refine_seen.ensures.refined
     (ap (map seen_numbers)
     (take-append-le count c.refine_seen.new.entries (drop count entries)
     (omega (arith, c.refine_seen.auto.entries, length-take count entries, c.cut_seen_table-count.ensures.within))

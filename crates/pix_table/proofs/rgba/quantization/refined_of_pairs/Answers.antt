@@ -64,7 +64,7 @@ returns-clause-table c = λ all moved.
     (spread-moved 4 items (pair_items seen_numbers c.cut_seen_table-count.new.items) c.cut_seen_table-count.ensures.moved) in
     seen_moved c.args.rounds (length c.args.entries.now) all all (map seen_numbers (take count entries)) (map seen_numbers c.refine_seen_items.new.entries)
     (map seen_numbers (take count (c.refine_seen_items.new.entries ++ drop count entries))) (IsPermutation-refl all) (c.cut_seen_table-count.ensures.table all before)
-    (c.refine_seen_items.ensures.rounds all after) (c.refine_seen_items.ensures.no_worse all after)
+    (c.refine_seen_items.ensures.refined all after)
     (ap (map seen_numbers)
     (take-append-le count c.refine_seen_items.new.entries (drop count entries)
     (omega (arith, c.refine_seen_items.auto.entries, length-take count entries, c.cut_seen_table-count.ensures.within))

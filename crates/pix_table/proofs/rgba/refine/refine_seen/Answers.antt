@@ -1,24 +1,29 @@
--- Of `refine_seen`: that the rounds of the items are those of the colors.
-use Rattle.std.proofs.Common.{map, arith}
+-- Of `refine_seen`: that what is made of the items is made of the colors.
+use Rattle.std.proofs.Common.{◌≤◌, map, arith, refl, subst, sym}
 use Rattle.std.proofs.lemmas.List.{length-map}
+use Rattle.pix_table.specs.Refine.{AreRoundsBy, squared_error_by}
 use Rattle.pix_table.specs.Seen.{seen_distance, seen_numbers}
-use Rattle.pix_table.specs.SeenTables.{seen_settled}
-use Rattle.pix_table.proofs.RefinedTables.{rounds_fall}
-use Rattle.pix_table.proofs.SeenErrors.{settled_falls}
+use Rattle.pix_table.specs.SeenTables.{opaque_settled, seen_settled}
+use Rattle.pix_table.proofs.SeenRounds.{round_stays}
 use Rattle.pix_table.proofs.SumLemmas.{length_sum}
 use Rattle.pix_table.proofs.rgba.refine.refine_seen.Goals as goal
 
-pub refine_seen_by-requires-clause-count : goal.refine_seen_by-requires-clause-count
-refine_seen_by-requires-clause-count c =
+pub refine_to_opaque-requires-clause-count : goal.refine_to_opaque-requires-clause-count
+refine_to_opaque-requires-clause-count c =
     omega (arith, c.count_colors-items.ensures.items (λ q. 1), length_sum (map seen_numbers c.args.colors.now), length-map c.args.colors.now seen_numbers)
 
-pub refine_seen_by-requires-clause-colors : goal.refine_seen_by-requires-clause-colors
-refine_seen_by-requires-clause-colors c = (map seen_numbers c.args.colors.now, c.count_colors-items.ensures.items, c.requires.colors)
+pub refine_to_opaque-requires-clause-colors : goal.refine_to_opaque-requires-clause-colors
+refine_to_opaque-requires-clause-colors c = (map seen_numbers c.args.colors.now, c.count_colors-items.ensures.items, c.requires.colors)
 
-pub returns-clause-rounds : goal.returns-clause-rounds
-returns-clause-rounds c = c.refine_seen_by.ensures.rounds (map seen_numbers c.args.colors.now) c.count_colors-items.ensures.items c.requires.colors
-
-pub returns-clause-no_worse : goal.returns-clause-no_worse
-returns-clause-no_worse c =
-    rounds_fall seen_distance seen_settled settled_falls c.args.rounds (map seen_numbers c.args.colors.now) (map seen_numbers c.args.entries.now)
-    (map seen_numbers c.refine_seen_by.new.entries) (returns-clause-rounds c)
+pub returns-then-not-has_nearly_opaque-clause-refined : goal.returns-then-not-has_nearly_opaque-clause-refined
+returns-then-not-has_nearly_opaque-clause-refined c =
+    let colors = map seen_numbers c.args.colors.now in
+    let entries = map seen_numbers c.args.entries.now in
+    let same : squared_error_by seen_distance (map seen_numbers c.args.entries.now) (map seen_numbers c.args.colors.now)
+    ≤ squared_error_by seen_distance (map seen_numbers c.args.entries.now) (map seen_numbers c.args.colors.now) = omega arith in (
+      entries,
+      subst (λ n. AreRoundsBy seen_distance seen_settled n colors entries entries) (sym c.if-rounds-eq0.true) refl,
+      same,
+      round_stays opaque_settled entries colors (omega (arith, c.requires.some, length-map c.args.entries.now seen_numbers))
+          (c.has_nearly_opaque.ensures c.if-not-has_nearly_opaque.true),
+    )

@@ -1,19 +1,16 @@
--- Of `refine_seen_items`: that the rounds of the pairs are those of their colors.
-use Rattle.std.proofs.Common.{◌≡◌, ℕ, ◌+◌, ◌<◌, List, All, length, map, sum_by, IsPermutation, arith, sym, subst}
+-- Of `refine_seen_items`: that what is made of the pairs is made of their colors.
+use Rattle.std.proofs.Common.{◌≡◌, ◌+◌, ◌<◌, length, map, sum_by, arith, sym, subst}
 use Rattle.std.specs.List.{flat_map}
 use Rattle.std.proofs.lemmas.List.Sorted.{All-permutation, IsPermutation-refl, IsPermutation-sym}
 use Rattle.pix_table.specs.Items.{AreItemsOf, item_sum, pair_items, spread}
-use Rattle.pix_table.specs.Seen.{AreSeen, seen_distance, seen_numbers}
-use Rattle.pix_table.specs.SeenTables.{seen_settled}
+use Rattle.pix_table.specs.Seen.{AreSeen, seen_numbers}
 use Rattle.pix_table.proofs.ItemLists.{length-spread}
 use Rattle.pix_table.proofs.PairItems.{items_of_pairs}
-use Rattle.pix_table.proofs.RefinedTables.{rounds_fall}
-use Rattle.pix_table.proofs.SeenErrors.{settled_falls}
 use Rattle.pix_table.proofs.SumLemmas.{length_sum}
 use Rattle.pix_table.proofs.rgba.refine.refine_seen_items.Goals as goal
 
-pub refine_seen_by-requires-clause-count : goal.refine_seen_by-requires-clause-count
-refine_seen_by-requires-clause-count c =
+pub refine_to_opaque-requires-clause-count : goal.refine_to_opaque-requires-clause-count
+refine_to_opaque-requires-clause-count c =
     let n = length c.args.items.now in
     let colors = spread 4 (pair_items seen_numbers c.args.items.now) in
     let same : sum_by (λ color. 1) (spread 4 (pair_items seen_numbers c.args.items.now))
@@ -22,8 +19,8 @@ refine_seen_by-requires-clause-count c =
     subst (λ l. item_sum (λ color. 1) (map seen_numbers l) n (n + 0) < 18446744073709551616) (sym c.as_flattened.ensures.value)
     (omega (arith, same, length_sum colors, length-spread 4 (pair_items seen_numbers c.args.items.now), c.requires.count))
 
-pub refine_seen_by-requires-clause-colors : goal.refine_seen_by-requires-clause-colors
-refine_seen_by-requires-clause-colors c =
+pub refine_to_opaque-requires-clause-colors : goal.refine_to_opaque-requires-clause-colors
+refine_to_opaque-requires-clause-colors c =
     let colors = spread 4 (pair_items seen_numbers c.args.items.now) in (
       colors,
       subst (λ l. AreItemsOf colors (map seen_numbers l) (length c.args.items.now) 0) (sym c.as_flattened.ensures.value)
@@ -31,15 +28,10 @@ refine_seen_by-requires-clause-colors c =
       c.requires.colors,
     )
 
-pub returns-clause-rounds : goal.returns-clause-rounds
-returns-clause-rounds c = λ all moved.
+pub returns-clause-refined : goal.returns-clause-refined
+returns-clause-refined c = λ all moved.
     let colors = spread 4 (pair_items seen_numbers c.args.items.now) in
-    c.refine_seen_by.ensures.rounds all
+    c.refine_to_opaque.ensures.refined all
     (subst (λ l. AreItemsOf all (map seen_numbers l) (length c.args.items.now) 0) (sym c.as_flattened.ensures.value)
     (items_of_pairs seen_numbers 4 c.args.items.now c.told-items c.requires.items all moved))
     (All-permutation AreSeen colors all (IsPermutation-sym all colors moved) c.requires.colors)
-
-pub returns-clause-no_worse : goal.returns-clause-no_worse
-returns-clause-no_worse c = λ all moved.
-    rounds_fall seen_distance seen_settled settled_falls c.args.rounds all (map seen_numbers c.args.entries.now) (map seen_numbers c.refine_seen_by.new.entries)
-    (returns-clause-rounds c all moved)

@@ -1,0 +1,12 @@
+-- What holds at each turn of the loop over `k` in `count_shares`.
+use Rattle.std.proofs.Common.{◌<◌, length, map}
+use Rattle.pix_table.specs.Seen.{seen_numbers}
+use Rattle.pix_table.specs.SeenShares.{AreItemSharesOf}
+use Rattle.pix_table.proofs.rgba.opaque.count_shares.Given as goal
+
+-- the counts are those of the first k items, and there is an entry at the index
+abbrev pub invariant-loop-k : goal.invariant-loop-k
+invariant-loop-k l = record {
+  groups : AreItemSharesOf (map seen_numbers l.entries) (map seen_numbers l.colors) l.items.pairs l.k l.shares;
+  near : l.near < length l.entries;
+}
