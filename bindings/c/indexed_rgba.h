@@ -280,6 +280,22 @@ static inline void plain_seen_round(const plain_seen *colors, size_t count, plai
     free(group);
 }
 
+/* An entry after all rounds: opaque, where its alpha is at least 250 and more than half of the colors are opaque to which it is seen
+ * nearest. */
+static inline plain_seen plain_seen_last(const plain_seen *colors, size_t count, const plain_seen *entries, size_t used, size_t i) {
+    const plain_seen entry = entries[i];
+    const pix_srgba8 color = plain_straight(entry);
+    pix_srgb8 opaque;
+    size_t more = 0, less = 0, k;
+    for (k = 0; k < count; k++)
+        if (plain_seen_nearest(entries, used, colors[k]) == i)
+            ++*(colors[k].a == 255 ? &more : &less);
+    opaque.r = color.r;
+    opaque.g = color.g;
+    opaque.b = color.b;
+    return entry.a >= 250 && more > less ? plain_seen_of(opaque, 255) : entry;
+}
+
 /* The sum of the squared errors of colors that are shown by the entries that are seen nearest. */
 static inline uint64_t plain_seen_error(const plain_seen *entries, size_t used, const plain_seen *colors, size_t count) {
     uint64_t error = 0;

@@ -71,7 +71,7 @@ static size_t paint(void) {
     static const unsigned all_levels[] = {2, 3, 4, 6, 16, 256};
     const size_t count = 2 + any(any(60) ? 70 : MOST - 1);
     const unsigned levels = all_levels[any(6)], kind = any(4), many = 2 + any(kind == 2 ? 9 : 400);
-    const unsigned spread = 1 + any(any(2) ? 4 : 40), alphas = any(3);
+    const unsigned spread = 1 + any(any(2) ? 4 : 40), alphas = any(4);
     pix_srgba8 some[402];
     for (unsigned i = 0; i < many; i++)
         some[i] = random_pixel(levels);
@@ -79,6 +79,8 @@ static size_t paint(void) {
         pixels[k] = pixel_of(kind, some, many, levels, spread, k, count);
         if (alphas < 2)
             pixels[k].a = alphas ? (uint8_t)(any(2) * 255) : 255;
+        else if (alphas == 2)
+            pixels[k].a = any(3) ? 255 : (uint8_t)(240 + any(16));
     }
     return count;
 }
@@ -136,6 +138,7 @@ static int is_same(int way, size_t count, unsigned *compared) {
     used = cut_seen(copy, left, table, room);
     for (unsigned round = 0; round < rounds; round++)
         round_seen(colors, left, table, used);
+    make_opaque(colors, left, table, used);
     ++*compared;
     if (make(way, count, alpha, rounds, room) != used)
         return 0;

@@ -425,6 +425,8 @@ uint32_t pix_raw_quantize_rgba(const pix_srgba8 *pixels, size_t pixel_count, uin
         *made = cut_seen(colors, pixel_count, table, len);
     for (; is_cut && rounds; rounds--)
         round_seen(colors, pixel_count, table, *made);
+    if (is_cut)
+        make_opaque(colors, pixel_count, table, *made);
     for (size_t i = 0; i < *made; i++)
         entries[i] = is_cut ? straight_of(table[i]) : pixels[places[i]];
     free(colors);

@@ -314,6 +314,22 @@ static inline uint8_t by_alpha(int number, int alpha) {
     return (uint8_t)(alpha ? (510 * number + alpha) / (2 * alpha) : 0);
 }
 
+/* The last step, after the rounds: an entry becomes opaque whose alpha is at least 250, where more than half of the colors to which
+ * it is the nearest are opaque. */
+static inline void make_opaque(const seen *colors, size_t count, seen *entries, size_t used) {
+    size_t all[256] = {0}, opaque[256] = {0};
+    for (size_t i = 0; i < count; i++) {
+        const size_t at = seen_nearest(entries, used, colors[i]);
+        all[at]++;
+        opaque[at] += colors[i].n[3] == 255;
+    }
+    for (size_t i = 0; i < used; i++) {
+        const int alpha = entries[i].n[3];
+        for (int k = 0; k < 4 && alpha >= 250 && 2 * opaque[i] > all[i]; k++)
+            entries[i].n[k] = by_alpha(entries[i].n[k], alpha);
+    }
+}
+
 /* The pixel that is seen as a color. */
 static inline pix_srgba8 straight_of(seen color) {
     const int *n = color.n;

@@ -670,8 +670,9 @@ static inline pix_table_rgba pix_table_rgba_of(const pix_srgba8 *entries, size_t
  * that are seen alike the first one counts. Where there is room for all of these, they are the
  * table, just as they are. Otherwise boxes are cut by the alpha too, after red, green and blue over
  * black. In a round an entry also stays where the mean of its colors would make their squared error
- * greater. The result is divided by its alpha at the end; this doesn't change its look. `work` has
- * pix_quantize_work(count) pixels. */
+ * greater. After all rounds an entry whose alpha is at least 250 becomes opaque, where more than
+ * half of the colors to which it is the nearest are opaque. The result is divided by its alpha at
+ * the end; this doesn't change its look. `work` has pix_quantize_work(count) pixels. */
 static inline pix_status pix_quantize_rgba(const pix_srgba8 *pixels, size_t count, uint8_t rounds, pix_srgba8 *work,
                                            pix_srgba8 *entries, size_t len, size_t *made);
 

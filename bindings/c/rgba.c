@@ -33,17 +33,20 @@ static pix_srgba8 pixels[MOST], work[4 * MOST];
 static plain_seen seen[MOST];
 
 /* Pixels of few or many levels, or such as differ by a few units, of which a mean may fit worse than its entry does. Their alphas
- * are any, the ends, or all of them. */
+ * are any, the ends, or all of them, or most of them are opaque and the others nearly. */
 static size_t random_pixels(int is_opaque) {
     static const unsigned counts[] = {2, 3, 6, 52, 256};
     const size_t count = any(MOST + 1);
     const unsigned levels = counts[any(5)], shades = counts[any(5)], near = any(3) ? 0 : 2 + any(6), base = any(248);
+    const int is_solid = any(4) == 0;
     size_t i;
     for (i = 0; i < count; i++) {
         pixels[i].r = near ? (uint8_t)(base + any(near)) : level(levels);
         pixels[i].g = near ? (uint8_t)(base + any(near)) : level(levels);
         pixels[i].b = near ? (uint8_t)(base + any(near)) : level(any(4) ? levels : 2);
         pixels[i].a = near ? (uint8_t)(247 - base + any(near)) : level(any(3) ? shades : 2);
+        if (is_solid)
+            pixels[i].a = any(3) ? 255 : (uint8_t)(240 + any(16));
         if (is_opaque)
             pixels[i].a = 255;
         seen[i] = plain_see(pixels[i]);
@@ -89,12 +92,22 @@ static void used(const pix_srgba8 *entries, const plain_seen *plain, size_t len,
     check(!memcmp(indices, wanted, count), "an index by error diffusion is another one");
 }
 
+/* Whether a table is that of the plain loops. These are then as the last step leaves them. */
+static int is_made(const pix_srgba8 *entries, plain_seen *plain, size_t len, size_t count, const pix_srgba8 *distinct) {
+    plain_seen last[ROOM];
+    size_t i;
+    for (i = 0; i < len; i++)
+        last[i] = distinct ? plain[i] : plain_seen_last(seen, count, plain, len, i);
+    memcpy(plain, last, len * sizeof *plain);
+    return are_equal(entries, plain, distinct, len);
+}
+
 /* A table is that of the plain loops after each number of rounds, and no round makes its squared error greater. */
 static void made(void) {
     const size_t count = random_pixels(0), room = any(3) ? 1 + any(8) : 1 + any(ROOM);
     const unsigned rounds = any(6);
     pix_srgba8 entries[ROOM], distinct[ROOM];
-    plain_seen plain[ROOM];
+    plain_seen plain[ROOM], last[ROOM];
     size_t len, got = 999;
     uint64_t error = UINT64_MAX;
     unsigned round = 0;
@@ -102,7 +115,8 @@ static void made(void) {
     check(is_cut != plain_seen_distinct(pixels, count, distinct, room, &got), "the plain loops agree");
     for (;;) {
         check(pix_quantize_rgba(pixels, count, (uint8_t)round, work, entries, room, &got) == PIX_OK, "a table is made");
-        check(got == len && are_equal(entries, plain, is_cut ? NULL : distinct, len), "a table is another one");
+        memcpy(last, plain, sizeof last);
+        check(got == len && is_made(entries, last, len, count, is_cut ? NULL : distinct), "a table is another one");
         check(plain_seen_error(plain, len, seen, count) <= error, "a round made the squared error greater");
         error = plain_seen_error(plain, len, seen, count);
         check(is_cut || !error, "a color has no entry, though there is room");
@@ -112,7 +126,7 @@ static void made(void) {
             plain_seen_round(seen, count, plain, len);
     }
     if (len)
-        used(entries, plain, len, count);
+        used(entries, last, len, count);
 }
 
 /* Opaque pixels have just the answers of the calls without an alpha. */

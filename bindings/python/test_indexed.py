@@ -139,7 +139,16 @@ def seen_table(pixels, room, rounds):
         for color in colors:
             groups[seen_nearest(entries, color)].append(color)
         entries = [settled(entry, group) for entry, group in zip(entries, groups)]
-    return list(map(straight, entries))
+    return list(map(straight, opaque_entries(entries, colors)))
+
+
+def opaque_entries(entries, colors):
+    """The entries after the last step: those become opaque whose alpha is at least 250, and most of whose colors are opaque."""
+    alphas = [[] for _ in entries]
+    for color in colors:
+        alphas[seen_nearest(entries, color)].append(color[3])
+    mostly = [entry[3] >= 250 and 2 * of.count(255) > len(of) for entry, of in zip(entries, alphas)]
+    return [(*straight(entry)[:3], 255) if is_opaque else entry for entry, is_opaque in zip(entries, mostly)]
 
 
 def settled(entry, group):
@@ -331,6 +340,8 @@ class Tables(unittest.TestCase):
         for _ in range(40):
             room, rounds = chance.randrange(1, 10), chance.randrange(4)
             pixels = any_pixels(chance, chance.randrange(1, 40))
+            if chance.random() < 0.5:
+                pixels = [(*pixel[:3], chance.choice((255, 255, pixel[3] // 16 + 240))) for pixel in pixels]
             made = pix.quantize_rgba(joined(pixels), room, rounds)
             self.assertEqual(made, joined(seen_table(pixels, room, rounds)))
         self.assertEqual(pix.quantize_rgba(b""), b"")

@@ -217,8 +217,9 @@ def quantize_rgba(pixels: Buffer, length: SupportsIndex = 256, rounds: SupportsI
     The pixels and the entries are of the format SRGBA8: red, green and blue, not multiplied by the alpha. They are compared by
     their look over black and over white. So all transparent pixels are one color, and the color of a nearly transparent pixel
     hardly counts. If there are at most `length` distinct looks, the table has the first pixel of each, unchanged and in order.
-    Otherwise, it is made by cuts and refined by `rounds` rounds, like a table of quantize(). For opaque pixels it has the same
-    colors as quantize(). It allocates work memory of four bytes a pixel.
+    Otherwise, it is made by cuts and refined by `rounds` rounds, like a table of quantize(). Then an entry whose alpha is at
+    least 250 becomes opaque if more than half of its pixels are. For opaque pixels it has the same colors as quantize(). It
+    allocates work memory of four bytes a pixel.
 
     Raises PixError if `length` is not from 1 to 256, or the pixels don't fit.
     """

@@ -126,7 +126,8 @@ impl<'a> RgbaTable<'a> {
 /// Makes a table of colors with an alpha, and refines it by `rounds` rounds, like
 /// [`quantize_refined`](crate::quantize_refined). If several pixels look alike, the first one counts. If there is room for all
 /// of these, they are the table, unchanged. Otherwise, boxes are split by red, green and blue over black and by the alpha, and
-/// then merged. In a round an entry also stays if the mean of its colors would make their squared error greater. The result is
+/// then merged. In a round an entry also stays if the mean of its colors would make their squared error greater. After all rounds
+/// an entry whose alpha is at least 250 becomes opaque, if more than half of the colors nearest to it are opaque. The result is
 /// divided by its alpha at the end; this doesn't change its look. `work` is exactly as long as `pixels`.
 ///
 /// ```
