@@ -30,8 +30,8 @@ use crate::rgba::refine::{refine_seen, refine_seen_items};
 /// entry without pixels stays. So no round makes the sum of the squared errors greater.
 ///
 /// After all rounds an entry becomes opaque whose alpha is at least 250, where more than half of
-/// its pixels are opaque. Its color stays. So opaque pixels stay opaque, at hardly any squared
-/// error.
+/// its pixels are opaque. Its color stays. So fewer opaque pixels become translucent. This step is
+/// no round, and may make the sum greater.
 pub fn quantize_rgba<P: TablePixel>(
     pixels: &[P],
     rounds: u8,
