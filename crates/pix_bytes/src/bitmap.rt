@@ -155,14 +155,10 @@ fn convert_numbered(
     requires dst { length dst.old ≡ count * pixel_size (stored_of to) }
     ensures { IsConvertedBitmap (stored_of from) (stored_of to) count src.now dst.new }
 {
-    // The steps are faster for premultiplied pixels and opaque or gray ones, which they know.
-    let are_faster = matches!((number, to_number), (3, 6) | (6 | 7, 1 | 3) | (2 | 4, 1));
-    if !are_faster {
-        if number < 12 {
-            if to_number < 12 {
-                convert_usual(number, to_number, from.count, to.count, src, dst, count);
-                return;
-            }
+    if number < 12 {
+        if to_number < 12 {
+            convert_usual(number, to_number, from.count, to.count, src, dst, count);
+            return;
         }
     }
     convert_row(from, to, src, dst, count);
