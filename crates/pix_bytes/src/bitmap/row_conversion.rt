@@ -1,8 +1,8 @@
 //! Rows of pixels that are converted from one format to another, where both are known only at run
 //! time.
-ghost use Rattle.std.specs.Prelude.{◌≡◌, ◌≤◌, ◌+◌, ◌*◌, length, true, if◌then◌else◌};
+ghost use Rattle.std.specs.Prelude.{◌≡◌, ◌≤◌, ◌+◌, ◌*◌, length, true};
 ghost use Rattle.pix_bytes.specs.Bitmap.{IsConvertedBitmap};
-ghost use Rattle.pix_bytes.specs.Rows.{IsEach, IsRow, format_at, stored_of, is_sound};
+ghost use Rattle.pix_bytes.specs.Rows.{IsEach, format_at, stored_of, is_sound};
 ghost use Rattle.pix_bytes.specs.declared.bitmap.format.Depth.{Depth};
 ghost use Rattle.pix_bytes.specs.BitmapFormats.{sample_size, pixel_size};
 
@@ -31,7 +31,9 @@ fn convert_row_pixels<C: Sample, D: Sample, W: PixelConversion<C, D>>(
     requires to_sound { is_sound to ≡ true }
     requires src { length src.now ≡ count * ((from.count + from.spare) * sample_size C.max) }
     requires dst { length dst.old ≡ count * ((to.count + to.spare) * sample_size D.max) }
-    ensures { IsRow C.max D.max W.makes from to count src.now dst.new }
+    ensures { IsEach C.max D.max from.count (to.count + to.spare)
+        ((from.count + from.spare) * sample_size C.max) ((to.count + to.spare) * sample_size D.max)
+        (W.makes (format_at C.max from) (format_at D.max to)) src.now dst.new count }
 {
     let size = (from.count + from.spare) * C::size();
     let to_size = (to.count + to.spare) * D::size();
@@ -94,78 +96,94 @@ fn convert_known<C: Sample, D: Sample, W: PixelConversion<C, D>>(
     requires to_sound { is_sound to ≡ true }
     requires src { length src.now ≡ count * ((from.count + from.spare) * sample_size C.max) }
     requires dst { length dst.old ≡ count * ((to.count + to.spare) * sample_size D.max) }
-    ensures { IsRow C.max D.max W.makes from to count src.now dst.new }
+    ensures { IsEach C.max D.max from.count (to.count + to.spare)
+        ((from.count + from.spare) * sample_size C.max) ((to.count + to.spare) * sample_size D.max)
+        (W.makes (format_at C.max from) (format_at D.max to)) src.now dst.new count }
 {
     convert_row_pixels(conversion, known, to_known, src, dst, count);
 }
 
-/// Does what [`convert_known`] does, where one of both formats, `usual`, is known, and the other is
-/// `painted`. The usual one is the format of `dst` where `IS_TO` is true.
+/// Does what [`convert_known`] does, with a loop of its own for each format that pictures mostly
+/// come in.
 #[inline(always)]
-fn convert_pair<const IS_TO: bool, C: Sample, D: Sample, W: PixelConversion<C, D>>(
+fn convert_from_usual<C: Sample, D: Sample, W: PixelConversion<C, D>>(
     conversion: &W,
-    usual: FormatParts,
-    painted: FormatParts,
     from: FormatParts,
+    to_known: FormatParts,
     to: FormatParts,
     src: &[u8],
     dst: &mut [u8],
     count: usize,
 )
-    requires usual { usual ≡ (if IS_TO then to else from) }
-    requires painted { painted ≡ (if IS_TO then from else to) }
+    requires to_same { to_known ≡ to }
     requires sound { is_sound from ≡ true }
     requires to_sound { is_sound to ≡ true }
     requires src { length src.now ≡ count * ((from.count + from.spare) * sample_size C.max) }
     requires dst { length dst.old ≡ count * ((to.count + to.spare) * sample_size D.max) }
-    ensures { IsRow C.max D.max W.makes from to count src.now dst.new }
+    ensures { IsEach C.max D.max from.count (to.count + to.spare)
+        ((from.count + from.spare) * sample_size C.max) ((to.count + to.spare) * sample_size D.max)
+        (W.makes (format_at C.max from) (format_at D.max to)) src.now dst.new count }
 {
-    if IS_TO {
-        convert_known(conversion, painted, usual, from, to, src, dst, count);
+    if let Some(known) = from.known(Rgb, 4, false, 0) {
+        convert_known(conversion, known, to_known, from, to, src, dst, count);
+    } else if let Some(known) = from.known(Bgr, 4, false, 0) {
+        convert_known(conversion, known, to_known, from, to, src, dst, count);
+    } else if let Some(known) = from.known(Bgr, 4, true, 0) {
+        convert_known(conversion, known, to_known, from, to, src, dst, count);
+    } else if let Some(known) = from.known(Rgb, 3, false, 0) {
+        convert_known(conversion, known, to_known, from, to, src, dst, count);
+    } else if let Some(known) = from.known(Bgr, 3, false, 0) {
+        convert_known(conversion, known, to_known, from, to, src, dst, count);
+    } else if let Some(known) = from.known(Rgb, 3, false, 1) {
+        convert_known(conversion, known, to_known, from, to, src, dst, count);
+    } else if let Some(known) = from.known(Bgr, 3, false, 1) {
+        convert_known(conversion, known, to_known, from, to, src, dst, count);
+    } else if let Some(known) = from.known(Gray, 1, false, 0) {
+        convert_known(conversion, known, to_known, from, to, src, dst, count);
     } else {
-        convert_known(conversion, usual, painted, from, to, src, dst, count);
+        convert_known(conversion, from, to_known, from, to, src, dst, count);
     }
 }
 
-/// Does what [`convert_pair`] does, with a loop of its own for each format that pictures mostly
-/// have.
+/// Does what [`convert_known`] does, with a loop of its own for each format that pictures mostly go
+/// to.
 #[inline(always)]
-fn convert_usual<const IS_TO: bool, C: Sample, D: Sample, W: PixelConversion<C, D>>(
+fn convert_to_usual<C: Sample, D: Sample, W: PixelConversion<C, D>>(
     conversion: &W,
-    usual: FormatParts,
-    painted: FormatParts,
+    from_known: FormatParts,
     from: FormatParts,
     to: FormatParts,
     src: &[u8],
     dst: &mut [u8],
     count: usize,
 )
-    requires usual { usual ≡ (if IS_TO then to else from) }
-    requires painted { painted ≡ (if IS_TO then from else to) }
+    requires same { from_known ≡ from }
     requires sound { is_sound from ≡ true }
     requires to_sound { is_sound to ≡ true }
     requires src { length src.now ≡ count * ((from.count + from.spare) * sample_size C.max) }
     requires dst { length dst.old ≡ count * ((to.count + to.spare) * sample_size D.max) }
-    ensures { IsRow C.max D.max W.makes from to count src.now dst.new }
+    ensures { IsEach C.max D.max from.count (to.count + to.spare)
+        ((from.count + from.spare) * sample_size C.max) ((to.count + to.spare) * sample_size D.max)
+        (W.makes (format_at C.max from) (format_at D.max to)) src.now dst.new count }
 {
-    if let Some(known) = usual.known(Rgb, 4, false, 0) {
-        convert_pair::<IS_TO, C, D, W>(conversion, known, painted, from, to, src, dst, count);
-    } else if let Some(known) = usual.known(Bgr, 4, false, 0) {
-        convert_pair::<IS_TO, C, D, W>(conversion, known, painted, from, to, src, dst, count);
-    } else if let Some(known) = usual.known(Bgr, 4, true, 0) {
-        convert_pair::<IS_TO, C, D, W>(conversion, known, painted, from, to, src, dst, count);
-    } else if let Some(known) = usual.known(Rgb, 3, false, 0) {
-        convert_pair::<IS_TO, C, D, W>(conversion, known, painted, from, to, src, dst, count);
-    } else if let Some(known) = usual.known(Bgr, 3, false, 0) {
-        convert_pair::<IS_TO, C, D, W>(conversion, known, painted, from, to, src, dst, count);
-    } else if let Some(known) = usual.known(Rgb, 3, false, 1) {
-        convert_pair::<IS_TO, C, D, W>(conversion, known, painted, from, to, src, dst, count);
-    } else if let Some(known) = usual.known(Bgr, 3, false, 1) {
-        convert_pair::<IS_TO, C, D, W>(conversion, known, painted, from, to, src, dst, count);
-    } else if let Some(known) = usual.known(Gray, 1, false, 0) {
-        convert_pair::<IS_TO, C, D, W>(conversion, known, painted, from, to, src, dst, count);
+    if let Some(known) = to.known(Rgb, 4, false, 0) {
+        convert_known(conversion, from_known, known, from, to, src, dst, count);
+    } else if let Some(known) = to.known(Bgr, 4, false, 0) {
+        convert_known(conversion, from_known, known, from, to, src, dst, count);
+    } else if let Some(known) = to.known(Bgr, 4, true, 0) {
+        convert_known(conversion, from_known, known, from, to, src, dst, count);
+    } else if let Some(known) = to.known(Rgb, 3, false, 0) {
+        convert_known(conversion, from_known, known, from, to, src, dst, count);
+    } else if let Some(known) = to.known(Bgr, 3, false, 0) {
+        convert_known(conversion, from_known, known, from, to, src, dst, count);
+    } else if let Some(known) = to.known(Rgb, 3, false, 1) {
+        convert_known(conversion, from_known, known, from, to, src, dst, count);
+    } else if let Some(known) = to.known(Bgr, 3, false, 1) {
+        convert_known(conversion, from_known, known, from, to, src, dst, count);
+    } else if let Some(known) = to.known(Gray, 1, false, 0) {
+        convert_known(conversion, from_known, known, from, to, src, dst, count);
     } else {
-        convert_pair::<IS_TO, C, D, W>(conversion, usual, painted, from, to, src, dst, count);
+        convert_known(conversion, from_known, to, from, to, src, dst, count);
     }
 }
 
@@ -184,12 +202,14 @@ fn convert_painted<C: Sample, D: Sample, W: PixelConversion<C, D>>(
     requires to_sound { is_sound to ≡ true }
     requires src { length src.now ≡ count * ((from.count + from.spare) * sample_size C.max) }
     requires dst { length dst.old ≡ count * ((to.count + to.spare) * sample_size D.max) }
-    ensures { IsRow C.max D.max W.makes from to count src.now dst.new }
+    ensures { IsEach C.max D.max from.count (to.count + to.spare)
+        ((from.count + from.spare) * sample_size C.max) ((to.count + to.spare) * sample_size D.max)
+        (W.makes (format_at C.max from) (format_at D.max to)) src.now dst.new count }
 {
     if let Some(known) = to.known(Rgb, 4, true, 0) {
-        convert_usual::<false, C, D, W>(conversion, from, known, from, to, src, dst, count);
+        convert_from_usual(conversion, from, known, to, src, dst, count);
     } else if let Some(known) = from.known(Rgb, 4, true, 0) {
-        convert_usual::<true, C, D, W>(conversion, to, known, from, to, src, dst, count);
+        convert_to_usual(conversion, known, from, to, src, dst, count);
     } else {
         convert_row_pixels(conversion, from, to, src, dst, count);
     }
