@@ -1,7 +1,7 @@
 """Builds the wheel of a clone for pip: Python's package, and the shared libraries of generated/, which the machine's C compiler assembles and links.
 
 It stands on Python's standard library alone, so that pip install . needs no network and no other package, with --no-build-isolation and without. The
-wheel is for the processor of this Python, and for Linux. CC names another compiler than cc.
+wheel is for the processor of this Python, and for Linux or Windows. CC names another compiler than cc, or under Windows than gcc of mingw-w64.
 """
 
 import os
@@ -15,11 +15,13 @@ import tempfile
 
 sys.path.insert(0, str(pathlib.Path(__file__).resolve().parent))
 
-from common import PROCESSORS, TOP, Release, copy, files_below, pack, provenance, put, read, version_of_calls  # noqa: E402
+from common import CALLS, PROCESSORS, TOP, Release, copy, files_below, pack, provenance, put, read, version_of_calls  # noqa: E402
 from tree import shared_by  # noqa: E402
 from wheel import metadata, put_about, put_package, write  # noqa: E402
 
 
+# Python's name of Windows on x86-64.
+WINDOWS = "win-amd64"
 # What an archive of sources has, beside Python's package and these files: what the wheel is built of, and what its documents say.
 SOURCES = ["pyproject.toml", "VERSION", "LICENSE", "README.md", "bindings/README.md", "bindings/c/pix.h", "bindings/first/first.py"]
 SOURCES += ["docs/INSTALL.md", "docs/FORMATS.md", "docs/PROMISES.md", "pictures/first.png", "packaging/pix.map", "generated/README.md"]
@@ -27,24 +29,28 @@ SOURCES += ["docs/INSTALL.md", "docs/FORMATS.md", "docs/PROMISES.md", "pictures/
 
 def compiler():
     """Returns the words that begin a call of the C compiler."""
-    words = shlex.split(os.environ.get("CC", "")) or ["cc"]
+    words = shlex.split(os.environ.get("CC", "")) or ["gcc" if sys.platform == "win32" else "cc"]
     if not shutil.which(words[0]):
         sys.exit(f"pix: this machine lacks {words[0]}, a C compiler, as in the package gcc: it builds the shared libraries of generated/")
     return words
 
 
-def processor():
-    """Returns the processor of this Python, if the library is for it."""
-    system, _, machine = sysconfig.get_platform().partition("-")
-    for each in PROCESSORS:
-        if system == "linux" and each.name == machine:
-            return each
-    sys.exit(f"pix: the library is for x86_64 and aarch64 under Linux, and this Python is for {sysconfig.get_platform()}")
+def system():
+    """Returns the tag of this Python's system, if the library is for it."""
+    it = sysconfig.get_platform()
+    if it == WINDOWS or it in [f"linux-{each.name}" for each in PROCESSORS]:
+        return it
+    sys.exit(f"pix: the library is for x86_64 and aarch64 under Linux and for x86_64 under Windows, and this Python is for {it}")
 
 
 def files_for(it):
-    """Returns the files of assembly for a processor, by the names of the libraries that are made of them."""
-    files = {"libpix_c.so": f"pix-{it.name}.s", **({"libpix_c-v3.so": f"pix-{it.wide.replace('x86-64', 'x86_64')}.s"} if it.wide else {})}
+    """Returns the files of assembly for a system, by the names of the libraries that are made of them."""
+    if it == WINDOWS:
+        files = {"pix.dll": "pix-x86_64-windows.s"}
+    else:
+        processor = next(each for each in PROCESSORS if it == f"linux-{each.name}")
+        wide = {"libpix_c-v3.so": f"pix-{processor.wide.replace('x86-64', 'x86_64')}.s"} if processor.wide else {}
+        files = {"libpix_c.so": f"pix-{processor.name}.s", **wide}
     lacking = [name for name in files.values() if not (TOP / "generated" / name).is_file()]
     if lacking:
         sys.exit(f"pix: there is no generated/{lacking[0]}: take a commit or a tag that has it")
@@ -74,9 +80,22 @@ def built_of(words, files):
     return said
 
 
-def built(wheel_directory, put_modules):
+def link(release, words, file, path):
+    """Links a shared library, which shows the calls of the header alone."""
+    if path.suffix == ".dll":
+        names = path.parent / "pix.def"
+        put(names, "EXPORTS\n" + "".join(f"{name}\n" for name in CALLS))
+        called([*words, "-shared", "-static", "-s", "-Wl,--no-insert-timestamp", "-o", path, TOP / "generated" / file, names], file)
+    else:
+        names = path.parent / "pix.map"
+        called(shared_by(release.calls, words, [TOP / "generated" / file], path), file)
+    names.unlink()
+    path.chmod(0o644)
+
+
+def built(wheel_directory, put_modules, it=None, words=None):
     """Builds the wheel of the libraries, and of what a function puts beside them; returns its name."""
-    it, words = processor(), compiler()
+    it, words = it or system(), words or compiler()
     files = files_for(it)
     said = built_of(words, files)
     with tempfile.TemporaryDirectory() as name:
@@ -84,10 +103,8 @@ def built(wheel_directory, put_modules):
         release, root = release_in(folder, said), folder / "wheel"
         put_modules(root)
         for library, file in files.items():
-            called(shared_by(release.calls, words, [TOP / "generated" / file], root / "pix" / library), file)
-            (root / "pix/pix.map").unlink()
-            (root / "pix" / library).chmod(0o644)
-        tag = f"py3-none-linux_{it.name}"
+            link(release, words, file, root / "pix" / library)
+        tag = f"py3-none-{it.replace('-', '_')}"
         put_about(release, root, tag, "packaging/backend.py")
         target = pathlib.Path(wheel_directory) / f"pix_proved-{release.version}-{tag}.whl"
         write(release, root, target)
@@ -97,6 +114,11 @@ def built(wheel_directory, put_modules):
 def build_wheel(wheel_directory, config_settings=None, metadata_directory=None):
     """Builds the wheel into a folder, and returns its name."""
     return built(wheel_directory, put_package)
+
+
+def build_for_windows(wheel_directory):
+    """Builds the wheel for Windows from another system, by gcc of mingw-w64, and returns its name."""
+    return built(wheel_directory, put_package, WINDOWS, shlex.split(os.environ.get("CC", "")) or ["x86_64-w64-mingw32-gcc"])
 
 
 def build_editable(wheel_directory, config_settings=None, metadata_directory=None):

@@ -24,12 +24,14 @@ TOP = pathlib.Path(__file__).resolve().parent.parent
 FOLDER = TOP / "generated"
 SUMS = "SHA256SUMS"
 X86, ARM, WASM = "x86_64-unknown-linux-gnu", "aarch64-unknown-linux-gnu", "wasm64-unknown-unknown"
+WINDOWS, MACOS = "x86_64-pc-windows-gnu", "arm64-apple-macos11"
 # How many bytes of a file hold its head.
 HEAD = 2000
 
 
 class Made(NamedTuple):
-    """A file: its name, what it is, the crate that it is made of, the processor's system and name, and how rattle's words name both."""
+    """A file: its name, what it is, the crate that it is made of, the processor's system and name, how rattle's words name both, and, if it is for a system
+    that rattle doesn't know, the file of whose module of LLVM it is compiled."""
 
     name: str
     what: str
@@ -37,6 +39,7 @@ class Made(NamedTuple):
     target: str
     cpu: str
     words: tuple
+    of: str = ""
 
     @property
     def is_program(self):
@@ -51,26 +54,40 @@ MADE = [
     Made("pixpaint-x86_64.s", "the program pixpaint, for x86-64-v2 under Linux", "pixpaint", X86, "x86-64-v2", ()),
     Made("pixpaint-aarch64.s", "the program pixpaint, for aarch64 under Linux", "pixpaint", ARM, "generic", ("--target", ARM)),
 ]
-# The module of the page, and what the page says of it; a larger one is left out.
-MODULE = Made("pix_c.wasm", "the library, for WebAssembly with 64-bit memories", "pix_c", WASM, "lime1", ("--target", WASM))
+# For each of these the kit's clang compiles the module of another file anew (packaging/systems.py).
+OTHERS = [
+    Made("pix-x86_64-windows.s", "the library, for x86-64-v2 under Windows", "pix_c", WINDOWS, "x86-64-v2", (), "pix-x86_64.s"),
+    Made("pix-x86_64-windows-v3.s", "the library, for x86-64-v3 under Windows", "pix_c", WINDOWS, "x86-64-v3", ("--cpu=x86-64-v3",), "pix-x86_64-v3.s"),
+    Made("pixpaint-x86_64-windows.s", "the program pixpaint, for x86-64-v2 under Windows", "pixpaint", WINDOWS, "x86-64-v2", (), "pixpaint-x86_64.s"),
+    Made("pix-arm64-macos.s", "the library, for arm64 under macOS", "pix_c", MACOS, "generic", ("--target", ARM), "pix-aarch64.s"),
+]
+# The module of the page and of JavaScript, and what the page says of it; a larger one is left out.
+MODULE = Made("pix_c.wasm", "the library, for WebAssembly with SIMD and a 32-bit memory", "pix_c", WASM, "lime1", ("--target", WASM))
+# How it comes from what is proved; built.json says so, since it is no output of the kit.
+HOW = "the module of LLVM that rattle makes for wasm64, compiled by the kit's clang with -msimd128; packaging/wasm.py gave it a 32-bit memory"
 SAID, FACTS = "built.json", "facts.js"
 # The folder of the page, which is served from a clone as it stands, and so has copies of these files.
 PAGE = TOP / "web/page"
-LARGEST = 2_000_000
-# What compiles in the place of the kit's clang, and writes the assembly too: rattle runs it with no environment, so the folder beside it is where that goes. For
-# aarch64 a first call prints the module as text, and a second one compiles what rattle made of it: only a call that writes an object counts.
+# The JavaScript package, which has one.
+PACKAGE = TOP / "bindings/js"
+LARGEST = 4_000_000
+# What compiles in the place of the kit's clang, and writes the assembly too, or another object, and keeps the module and the words: rattle runs it with no
+# environment, so the folder beside it is where that goes. For aarch64 a first call prints the module as text, and a second one compiles what rattle made of
+# it: only a call that writes an object counts.
 COMPILER = """#!/bin/bash
-words=() out=
+words=() out= module=
 for word in "$@"; do
     case $word in
     -c | -o) ;;
     *.o) out=$word ;;
+    *.bc | *.ll) words+=("$word") module=$word ;;
     *) words+=("$word") ;;
     esac
 done
 case " $* " in *' -c '*) ;; *) out= ;; esac
 if [ -n "$out" ]; then
-    "@REAL@" "${words[@]}" -fno-verbose-asm -fno-addrsig -S -o "@KEEP@" &
+    cat "$module" >"@KEEP@.module" && printf '%s\\n' "$@" >"@KEEP@.words" || exit
+    "@REAL@" "${words[@]}" @WORDS@ -o "@KEEP@" &
     written=$!
     (exec -a "$0" "@REAL@" "$@") && wait "$written"
 else
@@ -115,23 +132,34 @@ def version():
     return (TOP / "VERSION").read_text(encoding="utf-8").strip()
 
 
-def head(made, line, sources, verdict):
+def head(made, line, sources, verdict, more=""):
     """Returns what stands at the head of a file of assembly."""
+    also = f"""
+ * compiled for: {made.target}, which is another system than the target of the verdict, of the module of LLVM by which {made.of} was made{more}""" if made.of else ""
     return f"""/* pix {version()}: {made.what}.
  * The code was proved before it was compiled; generated/README.md says what that means. Nobody edits this file: tools/generate makes it.
  *
  * sources: {sources}, as tools/sources --sum {made.crate} prints it
  * kit: {line}
- * verdict: {verdict}
+ * verdict: {verdict}{also}
  * made by: rattle build {' '.join(made.words)}{' ' if made.words else ''}of crates/{made.crate}, with clang -S -fno-verbose-asm -fno-addrsig in the place of clang -c
  * flags: --target={made.target} {march(made)}
  */
 """
 
 
+def stable(text):
+    """Returns assembly whose local labels name their function by a sum of its name, and not by its place in the file. The code is the same; where a
+    function is new, the labels of those after it stay, so that git finds more of an earlier version in it."""
+    names = {number: sum_of(name.encode())[:6] for number, name in re.findall(r'^\.Lfunc_end(\d+):\n\t\.size\t("[^"]*"|[^,\n]+), ', text, re.M)}
+    if len({*names.values()}) != len(names):
+        return text
+    return re.sub(r"(\.L(?:BB|CPI|JTI|func_end|func_begin))(\d+)(?=_|\b)", lambda match: f"{match[1]}_{names[match[2]]}" if match[2] in names else match[0], text)
+
+
 def march(made):
     """Returns the flag by which an assembler pads as the compiler of the object did."""
-    return f"-march={made.cpu}" if made.target == X86 else "-mcpu=generic"
+    return f"-march={made.cpu}" if made.target.startswith("x86_64") else "-mcpu=generic"
 
 
 def facts_of(path):
@@ -154,8 +182,9 @@ def sums(folder, files):
 
 
 def copies():
-    """Returns each file of the page that is a copy, with the file that it is a copy of."""
-    made = [(PAGE / name, FOLDER / name) for name in (MODULE.name, SAID, FACTS) if (FOLDER / name).is_file()]
+    """Returns each file of the page and of the JavaScript package that is a copy, with the file that it is a copy of."""
+    made = [(PAGE / name, FOLDER / name) for name in (MODULE.name, SAID) if (FOLDER / name).is_file()]
+    made += [(PACKAGE / FACTS, FOLDER / FACTS)] if (FOLDER / FACTS).is_file() else []
     examples = [(PAGE / "examples" / path.name, path) for path in sorted((TOP / "examples").glob("*.paint"))]
     return [*made, *examples, (PAGE / "triangle.png", TOP / "pictures/triangle.png")]
 
@@ -180,7 +209,7 @@ def other_copies():
 
 def stale(line=None):
     """Yields each way in which the files of generated/ are not whole, or not of just these sources; without a line, a file's own kit is taken for this one."""
-    lacking = [name for name in [*(made.name for made in MADE), FACTS, SUMS] if not (FOLDER / name).is_file()]
+    lacking = [name for name in [*(made.name for made in [*MADE, *OTHERS]), FACTS, SUMS] if not (FOLDER / name).is_file()]
     if lacking:
         yield f"generated/ lacks {', '.join(lacking)}: tools/generate makes it"
         return
@@ -200,7 +229,7 @@ def logic_of(line):
 
 def other_sources(line):
     """Yields each file that is not of just these sources, this version and, where a line is given, the logic of this line's kit."""
-    for made in [*MADE, *([MODULE] if (FOLDER / MODULE.name).is_file() else [])]:
+    for made in [*MADE, *OTHERS, *([MODULE] if (FOLDER / MODULE.name).is_file() else [])]:
         path = FOLDER / (SAID if made is MODULE else made.name)
         said = facts_of(path) if path.is_file() else {}
         if line and logic_of(said.get("kit", "")) != logic_of(line):
@@ -291,8 +320,11 @@ class Copy:
         return verdict
 
 
-def toolchain_in(room, folder, keep):
-    """Makes a folder in the place of the kit's toolchain, whose compiler also writes assembly to a file, and returns it."""
+ASSEMBLY, SIMD = "-fno-verbose-asm -fno-addrsig -S", "-msimd128 -c"
+
+
+def toolchain_in(room, folder, keep, words=ASSEMBLY):
+    """Makes a folder in the place of the kit's toolchain, whose compiler also compiles to a file by other words, and returns it."""
     home = room / "toolchain"
     (home / "bin").mkdir(parents=True)
     for path in folder.joinpath("toolchain").iterdir():
@@ -302,6 +334,6 @@ def toolchain_in(room, folder, keep):
         if path.name != "clang":
             (home / "bin" / path.name).symlink_to(path)
     compiler = home / "bin/clang"
-    compiler.write_text(COMPILER.replace("@REAL@", str(folder / "toolchain/bin/clang")).replace("@KEEP@", str(keep)))
+    compiler.write_text(COMPILER.replace("@REAL@", str(folder / "toolchain/bin/clang")).replace("@KEEP@", str(keep)).replace("@WORDS@", words))
     compiler.chmod(0o755)
     return home

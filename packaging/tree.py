@@ -92,11 +92,16 @@ def program(release, processor):
     root = release.dist / f"pixpaint-{release.version}-{processor.triple}"
     copy(release.built / processor.name / "pixpaint", root / "pixpaint", 0o755)
     copy(TOP / "tools/picture", root / "pix-picture", 0o755)
+    more = ["linked with packaging/kit.c, which is not proved, in the place of the kit's libraries, which are for x86-64 alone"]
+    put_program(release, root, more if processor.name == "aarch64" else ())
+
+
+def put_program(release, root, more):
+    """Puts what comes with the program into its folder, and packs it."""
     for name in MANUAL:
         put(root / "share/man/man1" / name, fill(f"man/{name}.in", VERSION=release.version, OPERATORS=operators()))
     put_documents(root, ["LICENSE", "docs/SCRIPTS.md", *[f"examples/{path.name}" for path in sorted((TOP / "examples").iterdir())]])
-    more = ["linked with packaging/kit.c, which is not proved, in the place of the kit's libraries, which are for x86-64 alone"]
-    put(root / "PROVENANCE", provenance(release, root, more if processor.name == "aarch64" else ()))
+    put(root / "PROVENANCE", provenance(release, root, more))
     pack(release, root)
 
 

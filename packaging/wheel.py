@@ -23,6 +23,7 @@ License: MIT
 Requires-Python: >=3.10
 Classifier: License :: OSI Approved :: MIT License
 Classifier: Operating System :: POSIX :: Linux
+Classifier: Operating System :: Microsoft :: Windows
 Classifier: Programming Language :: Python :: 3
 Classifier: Typing :: Typed
 Provides-Extra: pillow

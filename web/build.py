@@ -9,10 +9,18 @@ import subprocess
 import sys
 
 TOP = pathlib.Path(__file__).resolve().parent.parent
+sys.path.insert(0, str(TOP / "packaging"))
+
+import wasm  # noqa: E402
+
 HEADER = "bindings/c/pix.h"
 OPERATORS = "crates/pix_ops/specs/Operators.antt"
 EXAMPLES = TOP / "examples"
 PICTURES = ["triangle.png"]
+# The JavaScript package: modules of web/page take it from here, those of the assembled page from a folder of theirs.
+PACKAGE = TOP / "bindings/js"
+# The files that the foot of the page links to.
+LINKED = ["README.md", "LICENSE", "docs/THEOREM.md", "docs/tasks/README.md"]
 TARGET = "wasm64-unknown-unknown"
 
 
@@ -125,8 +133,9 @@ def stand_in(archive):
 
 
 def link(archive, module):
-    """Links an archive for WebAssembly into a module."""
+    """Links an archive for WebAssembly into a module, whose memory has 32 bits."""
     run(kit() / "bin/rattle-link", "--target", TARGET, "--toolchain", kit() / "toolchain", "-o", module, archive)
+    module.write_bytes(wasm.narrowed(module.read_bytes()))
 
 
 def build_module(folder):
@@ -141,20 +150,30 @@ def build_module(folder):
     commit = f"commit {run('git', 'log', '-1', '--format=%H', cwd=TOP).strip()}"
     if run("git", "status", "--porcelain", "--", "crates", "crates.txt", "bindings", "web", cwd=TOP):
         commit += ", with changes that no commit has"
-    return {"commit": commit, "kit": run("rt", "version").strip(), "verdict": (folder / "VERDICT").read_text().strip()}
+    made = "rt lib, without SIMD; packaging/wasm.py gave it a 32-bit memory"
+    return {"commit": commit, "kit": run("rt", "version").strip(), "made": made, "verdict": (folder / "VERDICT").read_text().strip()}
 
 
 def assemble(module, built, target):
     """Makes the folder to be served: the page, the module, what the page says of it, the examples and the pictures."""
     shutil.rmtree(target, ignore_errors=True)
     shutil.copytree(TOP / "web/page", target, ignore=shutil.ignore_patterns("examples", "built.json"))
+    (target / "pix").mkdir()
+    for path in PACKAGE.glob("*.js"):
+        if path.name != "trials.js":
+            shutil.copyfile(path, target / "pix" / path.name)
+    for path in target.glob("*.js"):
+        path.write_text(path.read_text(encoding="utf-8").replace("'../../bindings/js/", "'./pix/"), encoding="utf-8")
     shutil.copyfile(module, target / "pix_c.wasm")
     data = module.read_bytes()
     built = {**built, "bytes": len(data), "sum": hashlib.sha256(data).hexdigest()}
     (target / "built.json").write_text(json.dumps(built, indent=1) + "\n")
-    (target / "facts.js").write_text(facts_module(read(HEADER)))
+    (target / "pix/facts.js").write_text(facts_module(read(HEADER)))
     (target / "examples").mkdir()
     for path in sorted(EXAMPLES.glob("*.paint")):
         shutil.copyfile(path, target / "examples" / path.name)
     for name in PICTURES:
         shutil.copyfile(TOP / "pictures" / name, target / name)
+    for name in LINKED:
+        (target / name).parent.mkdir(parents=True, exist_ok=True)
+        shutil.copyfile(TOP / name, target / name)

@@ -295,7 +295,7 @@ def try_rows(browser):
         const library = await Library.of(module);
         const bytes = (text) => Uint8Array.from(atob(text), (letter) => letter.charCodeAt(0));
         return {json.dumps(scripts)}.map((script) => {{
-            try {{ return {{ text: printed(library, paint(library, bytes(script)).image) }}; }}
+            try {{ return {{ text: printed(paint(library, bytes(script)).image) }}; }}
             catch (fault) {{ return {{ fault: fault.message }}; }}
         }});
     }})""")
@@ -400,20 +400,20 @@ def try_text(browser):
 
 def try_library(browser):
     """A library of another version, with one fact more or of another field is refused."""
-    code = """Promise.all([import('./library.js'), import('./facts.js')]).then(([{ layoutOf }, { CALLS, FACTS }]) => {
+    code = """Promise.all([import('./pix/layout.js'), import('./pix/facts.js')]).then(([{ layoutOf }, { CALLS, FACTS }]) => {
         const answer = (index) => index === 0 ? CALLS : index < FACTS.length ? 4 : 0xffffffff;
         const isTaken = (answer) => { try { layoutOf(answer); return true; } catch { return false; } };
         return [isTaken(answer), isTaken((index) => answer(index) + (index === 0)), isTaken((index) => index === FACTS.length ? 4 : answer(index))];
     })"""
     wants("which libraries are taken", browser.run(code), [True, False, False])
-    code = """import('./library.js').then(async ({ Library, copyImage, whole }) => {
-        const bytes = await (await fetch('pix_c.wasm')).arrayBuffer();
-        const library = await Library.of(await WebAssembly.compile(bytes));
-        const image = library.image(2, 2);
-        const said = (command) => { try { library.run(image, [command]); return 'done'; } catch (error) { return error.message; } };
-        return [said(copyImage(whole(image), image, whole(image))), said({ kind: 99 }), said({ kind: 3, op: 13, to: whole(image), color: [0, 0, 0, 0] })];
+    code = """import('./pix/pix.js').then(async ({ clear, compositeColor, copyImage, load }) => {
+        const image = (await load('pix_c.wasm')).newImage(2, 2), all = [0, 0, 2, 2];
+        const said = (command) => { try { image.run(command()); return 'done'; } catch (error) { return error.status ?? error.message; } };
+        return [said(() => copyImage(all, image)), said(() => ({ ...clear(), kind: 99 })), said(() => ({ ...clear(), kind: 3, op: 13 })),
+            said(() => compositeColor(all, [0, 0, 0, 0], { op: 13 }))];
     })"""
-    wants("what is refused", browser.run(code), ["An image is its own source.", "no such kind of command", "no such operator"])
+    refused = ["OVERLAP", "BAD_KIND", "BAD_OP", "13 is no operator: write Op.SrcOver or 'SrcOver'"]
+    wants("what is refused", browser.run(code), refused)
 
 
 def try_looks(browser):
@@ -477,13 +477,13 @@ def try_alone(browser):
     wants("what is fetched from elsewhere", outside, [])
 
 
-def try_without_memory64(browser):
-    """Where memories of 64 bits are missing, the page says so, shows no field that does nothing, and keeps what needs no library."""
+def try_without_simd(browser):
+    """Where WebAssembly has no SIMD, the page says so, shows no field that does nothing, and keeps what needs no library."""
     made = browser.ask("Page.addScriptToEvaluateOnNewDocument", source="WebAssembly.validate = () => false;")
     url = browser.run("location.href")
     browser.open(url, "document.getElementById('state')?.className === 'bad'")
     browser.ask("Page.removeScriptToEvaluateOnNewDocument", identifier=made["identifier"])
-    wants("whether it is said", "memory64" in of(browser, "state", "textContent"), True)
+    wants("whether it is said", "SIMD" in of(browser, "state", "textContent"), True)
     wants("whether it is an alert", of(browser, "state", "role"), "alert")
     wants_links(browser, False)
 

@@ -1,12 +1,12 @@
 #!/usr/bin/env python3
-"""Makes the pictures of docs/GALLERY.md again, each by the command beside it, and compares them with those that stand there.
+"""Makes the pictures of docs/GALLERY.md again, each by its command, and compares them with the ones there.
 
     apps/common/gallery.py [--pictures]
 
-A picture is followed by its command, as an indented block: it writes a file of the picture's name into out/gallery. With --pictures what is made is put
-in the place of what stands there. A picture has to be the same, but where fonts or JPEG files were read: another version of FreeType, HarfBuzz, the font or
-libjpeg may draw it a little otherwise, and then it has to be near. So may another pngquant; where there is none, its pictures are left as they are. Needs
-Pillow, and the programs in apps/out, which tools/apps builds. The status is 1 where one is another.
+A picture is followed by its command, as an indented block: it writes a file of the picture's name into out/gallery. With --pictures the new pictures
+replace the old ones. A picture has to be the same, except if fonts or JPEG files were read: another version of FreeType, HarfBuzz, the font or
+libjpeg may draw it a little differently, and then it has to be near. So may another pngquant; without it, its pictures are left as they are. Needs
+Pillow, and the programs in apps/out, which tools/apps builds. The status is 1 if one differs.
 """
 
 import os

@@ -42,20 +42,59 @@ static void png_warned(png_structp png, png_const_charp what) {
     (void)what;
 }
 
-/* Asks for sRGB of 8 bits with a straight alpha, whatever the file has. Its values are sRGB too,
- * those of 16 bits among them, where it says nothing else. */
+/* Asks for bytes with a straight alpha, whatever the file has. They are taken as sRGB. */
 static void ask_for_bytes(png_structp png) {
-    png_set_alpha_mode(png, PNG_ALPHA_PNG, PNG_DEFAULT_sRGB);
     png_set_expand(png);
     png_set_scale_16(png);
     png_set_gray_to_rgb(png);
     png_set_add_alpha(png, 255, PNG_FILLER_AFTER);
 }
 
+/* Whether bytes have the word sRGB, as the name of a profile has it. */
+static int names_srgb(png_const_bytep bytes, png_uint_32 length) {
+    for (png_uint_32 i = 0; i + 4 <= length; i++)
+        if (!memcmp(bytes + i, "sRGB", 4) || (i + 7 <= length && !memcmp(bytes + i, "s\0R\0G\0B", 7)))
+            return 1;
+    return 0;
+}
+
+/* Whether places of white, red, green and blue are others than those of sRGB. */
+static int are_others(const double places[8]) {
+    static const double own[8] = {0.3127, 0.329, 0.64, 0.33, 0.3, 0.6, 0.15, 0.06};
+    for (int i = 0; i < 8; i++)
+        if (places[i] - own[i] > 0.001 || own[i] - places[i] > 0.001)
+            return 1;
+    return 0;
+}
+
+/* Warns where the file says that its colors are no sRGB: by its profile, else by sRGB, else by gAMA
+ * and cHRM, which is the order in which PNG has them count. */
+static void warn_of_colors(png_structp png, png_infop info, const char *name) {
+    char text[64] = "", *profile_name;
+    int packed, intent;
+    png_bytep profile;
+    png_uint_32 length;
+    double gamma = 0, at[8];
+    if (png_get_iCCP(png, info, &profile_name, &packed, &profile, &length)) {
+        if (!names_srgb(profile, length))
+            snprintf(text, sizeof text, "a profile of their own (iCCP)");
+    } else if (!png_get_sRGB(png, info, &intent)) {
+        if (png_get_gAMA(png, info, &gamma) && (gamma > 0.45505 || gamma < 0.45405))
+            snprintf(text, sizeof text, "gAMA %.5f", gamma);
+        if (png_get_cHRM(png, info, at, at + 1, at + 2, at + 3, at + 4, at + 5, at + 6, at + 7) &&
+            are_others(at))
+            snprintf(text + strlen(text), sizeof text - strlen(text), "%sa cHRM of their own",
+                     *text ? " and " : "");
+    }
+    if (*text)
+        fprintf(stderr, "%s: its colors have %s, and are read as sRGB\n", name, text);
+}
+
 /* Decodes into memory that stands in `picture` whatever happens. libpng's simplified interface is
  * of no use here: some versions of it mix up the rows of interlaced files of 16 bits. */
-static int decode_png(png_structp png, png_infop info, file_picture *picture) {
+static int decode_png(png_structp png, png_infop info, const char *name, file_picture *picture) {
     png_read_info(png, info);
+    warn_of_colors(png, info, name);
     ask_for_bytes(png);
     const int passes = png_set_interlace_handling(png);
     png_read_update_info(png, info);
@@ -78,7 +117,7 @@ int file_read_png(FILE *file, const char *name, file_picture *picture, int *orie
     png_infop info = png ? png_create_info_struct(png) : NULL;
     if (info && !setjmp(errors.back)) {
         png_init_io(png, file);
-        is_read = decode_png(png, info, picture);
+        is_read = decode_png(png, info, name, picture);
     }
     png_destroy_read_struct(&png, &info, NULL);
     if (is_read) {

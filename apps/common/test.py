@@ -1,7 +1,7 @@
 #!/usr/bin/env python3
-"""Tries all programs on odd files: what they draw of one is what Pillow makes of it.
+"""Tries all programs on odd files: they must draw the same picture as Pillow reads.
 
-Each program is to draw of a file what it draws of a plain PNG of Pillow's picture.
+Each program must draw the same for a file as for a plain PNG of Pillow's picture.
 
     apps/common/test.py [TEST..]
 

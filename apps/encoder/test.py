@@ -1,5 +1,5 @@
 #!/usr/bin/env python3
-"""Tries the encoder: what its files have when they are read back, the bar, and what it refuses.
+"""Tries the encoder: its files when they are read back, the bar, and the errors.
 
     apps/encoder/test.py [TEST..]
 

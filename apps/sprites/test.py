@@ -1,5 +1,5 @@
 #!/usr/bin/env python3
-"""Tries the sprites: where they are painted, that they move, that bands by threads are the whole, and what is refused.
+"""Tries the sprites: that they are painted in place and move, that bands by threads are the whole, and the errors.
 
     apps/sprites/test.py [TEST..]
 

@@ -1,5 +1,5 @@
 #!/usr/bin/env python3
-"""Tries the text: kerning, shaping, directions, rows, other fonts, the atlas, what each way does to thin letters, and what is refused.
+"""Tries the text: kerning, shaping, directions, rows, other fonts, the atlas, thin letters in each mode, and the errors.
 
     apps/text/test.py [TEST..]
 

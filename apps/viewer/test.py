@@ -1,5 +1,5 @@
 #!/usr/bin/env python3
-"""Tries the viewer: what it shows, how much of it is painted, and what it refuses.
+"""Tries the viewer: its picture, how much of it is painted, and the errors.
 
     apps/viewer/test.py [TEST..]
 

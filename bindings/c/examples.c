@@ -51,6 +51,17 @@ static void a_glyph(void) {
     check(status == PIX_OK && is_pixel(pixels[18 * 64 + 37], 0, 0, 0, 100) && !pixels[19 * 64 + 37].a, "a glyph");
 }
 
+static void a_glyph_of_16_bits(void) {
+    uint8_t coverage[3] = {0, 128, 255};
+    pix_rgba16 line[3] = {{0, 0, 0, 0}, {0, 0, 0, 0}, {0, 0, 0, 0}};
+    pix_rgba16 ink = pix_rgba16_of(0, 0, 0, 65535);
+    pix_region all = pix_region_of(0, 0, 3, 1);
+    pix_command_rgba16 text =
+        pix_composite_matte8_rgba16(all, pix_matte_of(coverage, 3, 1), all, ink, PIX_OP_SRC_OVER);
+    pix_status status = pix_do_rgba16(pix_image_of_rgba16(line, 3, 1), text);
+    check(status == PIX_OK && !line[0].a && line[1].a == 32896 && line[2].a == 65535, "a glyph of 16 bits");
+}
+
 static void a_photo(void) {
     static uint8_t bytes[64 * 64 * 4];
     static pix_rgba16 pixels[64 * 64];
@@ -141,6 +152,7 @@ int main(void) {
     first();
     a_sprite();
     a_glyph();
+    a_glyph_of_16_bits();
     a_photo();
     a_table();
     check(!strcmp(texts[PIX_OP_SRC_OVER], "SrcOver"), "words of operators");

@@ -32,6 +32,9 @@ static const int64_t other[FIELDS] = {2, 12, 3, 0, 4, 2, 1, 0, 3, 2, 60, 40, 20,
 
 static int failures;
 
+/* Whether the mattes of a command have 8 bits, whatever the channels have. */
+static int are_bytes;
+
 /* Whether the list is run on a window, whose place is that of `first` too unless one of the two is tried. */
 static int is_window;
 
@@ -78,10 +81,11 @@ static outcome model(const plain_kind *kind, const int64_t *n) {
     image.bytes = (unsigned char *)it.after.image + (size_t)n[IMAGE] * size;
     image.width = (uint64_t)n[IMAGE_WIDTH], image.height = (uint64_t)n[IMAGE_HEIGHT];
     image.stride = (uint64_t)n[IMAGE_STRIDE];
-    source.bytes = is_matte ? (unsigned char *)it.after.mattes + (size_t)n[MATTES] * kind->bytes
+    size_t matte = are_bytes ? 1 : kind->bytes;
+    source.bytes = is_matte ? (unsigned char *)it.after.mattes + (size_t)n[MATTES] * matte
                             : (unsigned char *)it.after.pixels + (size_t)n[PIXELS] * size;
     source.width = (uint64_t)n[WIDTH], source.height = (uint64_t)n[HEIGHT], source.stride = (uint64_t)n[STRIDE];
-    mask.bytes = (unsigned char *)it.after.mattes + (size_t)n[MATTES] * kind->bytes;
+    mask.bytes = (unsigned char *)it.after.mattes + (size_t)n[MATTES] * matte;
     mask.width = (uint64_t)n[MASK_WIDTH], mask.height = (uint64_t)n[MASK_HEIGHT];
     mask.stride = (uint64_t)n[MASK_STRIDE];
     if ((image.height - 1) * image.stride + image.width > (uint64_t)n[IMAGE_COUNT]) {
@@ -103,7 +107,7 @@ static outcome model(const plain_kind *kind, const int64_t *n) {
     list[0].from.width = n[FROM_WIDTH], list[0].from.height = n[FROM_HEIGHT];
     list[0].mask_from.x = n[MASK_X], list[0].mask_from.y = n[MASK_Y];
     list[0].mask_from.width = n[MASK_REGION_WIDTH], list[0].mask_from.height = n[MASK_REGION_HEIGHT];
-    list[0].mask = &mask, list[0].alpha = (uint64_t)n[OPACITY];
+    list[0].mask = &mask, list[0].alpha = (uint64_t)n[OPACITY], list[0].are_bytes = are_bytes;
     for (size_t i = 0; i < kind->channels; i++)
         list[0].color[i] = (uint64_t)n[i + 1 == kind->channels ? (int)ALPHA : COLOR + (int)i];
     list[1].kind = list[2].kind = PLAIN_CLEAR;
@@ -112,8 +116,8 @@ static outcome model(const plain_kind *kind, const int64_t *n) {
     return it;
 }
 
-/* What the library makes of them, for one kind of pixels. */
-#define RUN_OF(S, PIXEL, VALUE, COLORS)                                                                                \
+/* What the library makes of them, for one kind of pixels; MORE changes the command. */
+#define RUN_OF(S, PIXEL, VALUE, COLORS, MORE)                                                                          \
     static outcome run##S(const int64_t *n) {                                                                          \
         outcome it;                                                                                                    \
         pix_command##S list[3];                                                                                        \
@@ -146,6 +150,7 @@ static outcome model(const plain_kind *kind, const int64_t *n) {
         list[0].mask_height = (uint32_t)n[MASK_HEIGHT];                                                                \
         list[0].mask_stride = (uint32_t)n[MASK_STRIDE];                                                                \
         list[0].alpha = (VALUE)n[OPACITY];                                                                             \
+        MORE                                                                                                           \
         it.done = 77;                                                                                                  \
         if (is_window)                                                                                                 \
             it.status = pix_raw_run_window##S((PIXEL *)(void *)it.after.image + n[IMAGE], (size_t)n[IMAGE_COUNT],      \
@@ -163,9 +168,17 @@ static outcome model(const plain_kind *kind, const int64_t *n) {
 #define CHANNEL(c, VALUE, number) list[0].color.c = (VALUE)n[number]
 #define FOUR(VALUE)                                                                                                    \
     CHANNEL(r, VALUE, COLOR), CHANNEL(g, VALUE, GREEN), CHANNEL(b, VALUE, BLUE), CHANNEL(a, VALUE, ALPHA)
-RUN_OF(, pix_rgba8, uint8_t, FOUR(uint8_t))
-RUN_OF(_rgba16, pix_rgba16, uint16_t, FOUR(uint16_t))
-RUN_OF(_graya8, pix_graya8, uint8_t, (CHANNEL(value, uint8_t, COLOR), CHANNEL(a, uint8_t, ALPHA)))
+/* The mattes have 8 bits, and what a command has of 16 besides is not read: it is less than what is needed. */
+#define BYTES                                                                                                          \
+    if (are_bytes) {                                                                                                   \
+        list[0].mattes8 = (const uint8_t *)it.after.mattes + n[MATTES];                                                \
+        list[0].matte8_count = (size_t)n[MATTE_COUNT];                                                                 \
+        list[0].mattes = (const uint16_t *)(const void *)it.after.pixels;                                              \
+        list[0].matte_count = 1;                                                                                       \
+    }
+RUN_OF(, pix_rgba8, uint8_t, FOUR(uint8_t), )
+RUN_OF(_rgba16, pix_rgba16, uint16_t, FOUR(uint16_t), BYTES)
+RUN_OF(_graya8, pix_graya8, uint8_t, (CHANNEL(value, uint8_t, COLOR), CHANNEL(a, uint8_t, ALPHA)), )
 
 /* Whether the outcome of a command of this kind can show the field. */
 static int is_read(const plain_kind *kind, int64_t command, int field) {
@@ -274,6 +287,11 @@ int main(void) {
                 continue;
             snprintf(name, sizeof name, "%s, %s", pixels[i % 3].name, shown(kind));
             try_fields(name, &pixels[i % 3].kind, pixels[i % 3].run, kind);
+            are_bytes = pixels[i % 3].kind.bytes == 2 && (kind == PIX_KIND_COMPOSITE_MATTE || kind == PIX_KIND_COMPOSITE_IMAGE_MATTE);
+            if (are_bytes)
+                try_fields(kind == PIX_KIND_COMPOSITE_MATTE ? "rgba16, matte of 8 bits" : "rgba16, mask of 8 bits",
+                           &pixels[i % 3].kind, pixels[i % 3].run, kind);
+            are_bytes = 0;
         }
     conversions();
     printf("fields: %d failures\n", failures);

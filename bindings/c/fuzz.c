@@ -5,15 +5,20 @@
  *
  * Every byte of every buffer is compared after each list, those between and around the rows too. A buffer ends or
  * begins at a page that may not be touched. Each list in four has a fault, whose status and place are compared, and
- * which must leave all bytes as they were. LISTS is 20000 and SEED 1 where they aren't given.
+ * which must leave all bytes as they were. LISTS is 20000 and SEED 1 where they aren't given. The last line has a sum
+ * of all bytes, by which two builds are compared: it is the same on each system.
  */
 #define _DEFAULT_SOURCE
 #include "each.h"
 #include "plain.h"
 #include <stdio.h>
 #include <stdlib.h>
+#ifdef _WIN32
+#include <windows.h>
+#else
 #include <sys/mman.h>
 #include <unistd.h>
+#endif
 
 enum { KINDS = 3, SOURCES = 3, MATTES = 2, COMMANDS = 12, PAGES = 5 };
 
@@ -48,15 +53,49 @@ typedef struct {
 
 static size_t page;
 
+#ifdef _WIN32
+static size_t size_of_page(void) {
+    SYSTEM_INFO it;
+    GetSystemInfo(&it);
+    return it.dwPageSize;
+}
+
+/* So many bytes between two pages that may not be touched, or null. */
+static unsigned char *pages_of(size_t length) {
+    unsigned char *all = (unsigned char *)VirtualAlloc(NULL, length + 2 * page, MEM_RESERVE, PAGE_NOACCESS);
+    return all ? (unsigned char *)VirtualAlloc(all + page, length, MEM_COMMIT, PAGE_READWRITE) : NULL;
+}
+#else
+static size_t size_of_page(void) {
+    return (size_t)sysconf(_SC_PAGESIZE);
+}
+
+/* So many bytes between two pages that may not be touched, or null. */
+static unsigned char *pages_of(size_t length) {
+    unsigned char *all = (unsigned char *)mmap(NULL, length + 2 * page, PROT_NONE, MAP_PRIVATE | MAP_ANONYMOUS, -1, 0);
+    return all == MAP_FAILED || mprotect(all + page, length, PROT_READ | PROT_WRITE) ? NULL : all + page;
+}
+#endif
+
 static void make_buffer(buffer *it) {
-    unsigned char *all = (unsigned char *)mmap(NULL, (PAGES + 2) * page, PROT_NONE, MAP_PRIVATE | MAP_ANONYMOUS, -1, 0);
     it->length = PAGES * page;
+    it->pages = pages_of(it->length);
     it->copy = (unsigned char *)malloc(it->length);
-    if (all == MAP_FAILED || !it->copy || mprotect(all + page, it->length, PROT_READ | PROT_WRITE)) {
+    if (!it->pages || !it->copy) {
         perror("fuzz");
         exit(2);
     }
-    it->pages = all + page;
+}
+
+/* A sum of all bytes that were written (FNV-1a of Fowler, Noll and Vo, by words of 64 bits). */
+static uint64_t sum = UINT64_C(0xcbf29ce484222325);
+
+static void add_bytes(const buffer *it) {
+    for (size_t i = 0; i < it->length; i += sizeof(uint64_t)) {
+        uint64_t word;
+        memcpy(&word, it->pages + i, sizeof word);
+        sum = (sum ^ word) * UINT64_C(0x100000001b3);
+    }
 }
 
 /* Lays rows of elements of that size at the start or at the end of the pages, and fills all with random bytes. */
@@ -79,7 +118,7 @@ static void lay_rows(buffer *it, size_t size, size_t align) {
 
 /* ---- Random commands ---- */
 
-static buffer image, sources[SOURCES], mattes[MATTES];
+static buffer image, sources[SOURCES], mattes[MATTES], bytes[MATTES];
 
 static int64_t coordinate(void) {
     static const int64_t ends[] = {INT32_MIN, INT32_MIN + 1, INT32_MAX, INT32_MAX - 1, 0, -1, 1};
@@ -111,8 +150,10 @@ static plain_command random_command(const plain_kind *kind, size_t *read) {
         it.color[i] = one_in(4) ? below(kind->max + 1) : plain_product(kind->max, below(kind->max + 1), alpha);
     it.color[kind->channels - 1] = alpha;
     *read = below(it.kind == PLAIN_MATTE ? MATTES : SOURCES);
-    it.source = it.kind == PLAIN_MATTE ? &mattes[*read].model : &sources[*read].model;
-    it.mask = &mattes[*read % MATTES].model;
+    it.are_bytes = kind->bytes == 2 && one_in(2);
+    const buffer *covers = it.are_bytes ? bytes : mattes;
+    it.source = it.kind == PLAIN_MATTE ? &covers[*read].model : &sources[*read].model;
+    it.mask = &covers[*read % MATTES].model;
     return it;
 }
 
@@ -217,15 +258,15 @@ static list random_list(const plain_kind *kind) {
     return it;
 }
 
-/* The run of a list by the header's calls for one kind of pixels. */
-#define RUN_OF(S, PIXEL, VALUE, MATTE, COLOR)                                                                          \
-    static pix_command##S command##S(const list *all, size_t i) {                                                      \
+/* A command of a list by the header's functions, for one kind of pixels and of mattes, which lie in COVERS. */
+#define COMMAND_OF(NAME, S, PIXEL, VALUE, ALPHA, MATTE, COVERS, MAKE, COLOR)                                           \
+    static pix_command##S NAME(const list *all, size_t i) {                                                            \
         const plain_command *it = &all->commands[i];                                                                   \
-        const plain_rows *rows = it->kind == PLAIN_MATTE ? &mattes[all->read[i]].rows : &sources[all->read[i]].rows;   \
+        const plain_rows *rows = it->kind == PLAIN_MATTE ? &COVERS[all->read[i]].rows : &sources[all->read[i]].rows;   \
         pix_view##S source = {(const PIXEL *)(const void *)rows->bytes, (uint32_t)rows->width,                         \
                               (uint32_t)rows->height, (uint32_t)rows->stride};                                         \
         MATTE matte = {(const VALUE *)(const void *)rows->bytes, source.width, source.height, source.stride};          \
-        const plain_rows *covers = &mattes[all->read[i] % MATTES].rows;                                                \
+        const plain_rows *covers = &COVERS[all->read[i] % MATTES].rows;                                                \
         MATTE mask = {(const VALUE *)(const void *)covers->bytes, (uint32_t)covers->width, (uint32_t)covers->height,   \
                       (uint32_t)covers->stride};                                                                       \
         fault has = i == all->at ? all->fault : NONE;                                                                  \
@@ -250,14 +291,16 @@ static list random_list(const plain_kind *kind) {
         matte.values = has == SOURCE_NULL ? NULL : has == OVERLAP ? (const VALUE *)(const void *)image.rows.bytes      \
                                                                   : matte.values;                                      \
         pix_op op = (pix_op)(has == OPERATOR ? PIX_OP_COUNT + below(9) : it->op);                                      \
-        pix_command##S made = command_of##S((pix_kind)it->kind, to, source, from, it->kind == PLAIN_MATTE ? matte : mask, \
-                                            mask_from, COLOR, (VALUE)it->alpha, op);                                   \
+        pix_command##S made = MAKE((pix_kind)it->kind, to, source, from, it->kind == PLAIN_MATTE ? matte : mask,       \
+                                   mask_from, COLOR, (ALPHA)it->alpha, op);                                              \
         made.to = to;                                                                                                  \
         made.op = (uint32_t)op;                                                                                        \
         made.kind = has == KIND ? PIX_KIND_COUNT + (uint32_t)below(9) : made.kind;                                     \
         return made;                                                                                                   \
-    }                                                                                                                  \
-                                                                                                                       \
+    }
+
+/* The run of a list by the header's calls for one kind of pixels. */
+#define RUN_OF(S, PIXEL)                                                                                               \
     static pix_status run##S(const list *all, size_t *done) {                                                          \
         pix_command##S made[COMMANDS + 1];                                                                             \
         for (size_t i = 0; i < all->count; i++)                                                                        \
@@ -278,11 +321,34 @@ static list random_list(const plain_kind *kind) {
         return pix_run##S(whole, commands, all->count, done);                                                          \
     }
 
-RUN_OF(, pix_rgba8, uint8_t, pix_matte,
-       pix_rgba8_of((uint8_t)it->color[0], (uint8_t)it->color[1], (uint8_t)it->color[2], (uint8_t)it->color[3]))
-RUN_OF(_rgba16, pix_rgba16, uint16_t, pix_matte16,
-       pix_rgba16_of((uint16_t)it->color[0], (uint16_t)it->color[1], (uint16_t)it->color[2], (uint16_t)it->color[3]))
-RUN_OF(_graya8, pix_graya8, uint8_t, pix_matte, pix_graya8_of((uint8_t)it->color[0], (uint8_t)it->color[1]))
+#define FOUR(VALUE) (VALUE)it->color[0], (VALUE)it->color[1], (VALUE)it->color[2], (VALUE)it->color[3]
+
+/* A command of 16 bits through a mask of 8. */
+static pix_command_rgba16 with_bytes(pix_kind kind, pix_region to, pix_view_rgba16 source, pix_region from,
+                                     pix_matte matte, pix_region mask_from, pix_rgba16 color, uint16_t alpha,
+                                     pix_op op) {
+    if (kind == PIX_KIND_COMPOSITE_MATTE)
+        return pix_composite_matte8_rgba16(to, matte, from, color, op);
+    if (kind == PIX_KIND_COMPOSITE_IMAGE_MATTE)
+        return pix_composite_image_matte8_rgba16(to, source, from, matte, mask_from, op);
+    return command_of_rgba16(kind, to, source, from, pix_matte16_of(NULL, 0, 0), mask_from, color, alpha, op);
+}
+
+COMMAND_OF(command, , pix_rgba8, uint8_t, uint8_t, pix_matte, mattes, command_of, pix_rgba8_of(FOUR(uint8_t)))
+COMMAND_OF(wide_rgba16, _rgba16, pix_rgba16, uint16_t, uint16_t, pix_matte16, mattes, command_of_rgba16,
+           pix_rgba16_of(FOUR(uint16_t)))
+COMMAND_OF(narrow_rgba16, _rgba16, pix_rgba16, uint8_t, uint16_t, pix_matte, bytes, with_bytes,
+           pix_rgba16_of(FOUR(uint16_t)))
+COMMAND_OF(command_graya8, _graya8, pix_graya8, uint8_t, uint8_t, pix_matte, mattes, command_of_graya8,
+           pix_graya8_of((uint8_t)it->color[0], (uint8_t)it->color[1]))
+
+static pix_command_rgba16 command_rgba16(const list *all, size_t i) {
+    return all->commands[i].are_bytes ? narrow_rgba16(all, i) : wide_rgba16(all, i);
+}
+
+RUN_OF(, pix_rgba8)
+RUN_OF(_rgba16, pix_rgba16)
+RUN_OF(_graya8, pix_graya8)
 
 /* ---- Comparing ---- */
 
@@ -308,7 +374,7 @@ static void try_list(uint64_t number) {
     for (size_t i = 0; i < SOURCES; i++)
         lay_rows(&sources[i], size, kind->bytes);
     for (size_t i = 0; i < MATTES; i++)
-        lay_rows(&mattes[i], kind->bytes, kind->bytes);
+        lay_rows(&mattes[i], kind->bytes, kind->bytes), lay_rows(&bytes[i], 1, 1);
     list all = random_list(kind);
     pix_status status = which == 0 ? run(&all, &done) : which == 1 ? run_rgba16(&all, &done) : run_graya8(&all, &done);
     size_t at = all.fault == NONE ? all.count : faults[all.fault].of_command ? all.at : 0;
@@ -322,7 +388,7 @@ static void try_list(uint64_t number) {
     for (size_t i = 0; i < SOURCES; i++)
         compare(number, &sources[i], "a source");
     for (size_t i = 0; i < MATTES; i++)
-        compare(number, &mattes[i], "a matte");
+        compare(number, &mattes[i], "a matte"), compare(number, &bytes[i], "a matte of 8 bits");
 }
 
 static void try_conversion(uint64_t number) {
@@ -346,18 +412,19 @@ static void try_conversion(uint64_t number) {
 int main(int count, char **words) {
     uint64_t lists = count > 1 ? strtoull(words[1], NULL, 10) : 20000;
     state = (count > 2 ? strtoull(words[2], NULL, 10) : 1) * UINT64_C(0x9E3779B97F4A7C15) | 1;
-    page = (size_t)sysconf(_SC_PAGESIZE);
+    page = size_of_page();
     make_buffer(&image);
     for (size_t i = 0; i < SOURCES; i++)
         make_buffer(&sources[i]);
     for (size_t i = 0; i < MATTES; i++)
-        make_buffer(&mattes[i]);
+        make_buffer(&mattes[i]), make_buffer(&bytes[i]);
     for (uint64_t number = 0; number < lists; number++) {
         try_list(number);
         if (number % 4 == 0)
             try_conversion(number);
+        add_bytes(&image);
     }
-    printf("fuzz: %llu lists and %llu conversions are as the model has them\n", (unsigned long long)lists,
-           (unsigned long long)((lists + 3) / 4));
+    printf("fuzz: %llu lists and %llu conversions are as the model has them: sum %016llx\n", (unsigned long long)lists,
+           (unsigned long long)((lists + 3) / 4), (unsigned long long)sum);
     return 0;
 }

@@ -323,7 +323,12 @@ static inline uint8_t plain_corrected(int number, int sixteenths, int strength) 
     return (uint8_t)(sum < 0 ? 0 : sum / 256 > 255 ? 255 : sum / 256);
 }
 
-/* Indices by error diffusion: each pixel hands its error on to those that come after it. */
+/* What is handed on of an error: at most 24 either way, so that no color that is looked up is further from its pixel. */
+static inline int plain_bounded(int error) {
+    return error < -24 ? -24 : error > 24 ? 24 : error;
+}
+
+/* Indices by error diffusion: each pixel hands its error on to those that come after it, within a bound. */
 static inline void plain_diffuse(const pix_srgb8 *entries, size_t len, const pix_srgba8 *pixels, size_t count, size_t width,
                                  uint8_t alpha, uint8_t transparent_index, pix_diffusion how, uint8_t *indices) {
     int(*errors)[4] = (int(*)[4])calloc(count + 1, sizeof *errors);
@@ -343,9 +348,9 @@ static inline void plain_diffuse(const pix_srgb8 *entries, size_t len, const pix
         wanted.g = plain_corrected(pixels[k].g, errors[k][1], how.strength);
         wanted.b = plain_corrected(pixels[k].b, errors[k][2], how.strength);
         indices[k] = plain_nearest(entries, len, wanted);
-        error[0] = wanted.r - entries[indices[k]].r;
-        error[1] = wanted.g - entries[indices[k]].g;
-        error[2] = wanted.b - entries[indices[k]].b;
+        error[0] = plain_bounded(wanted.r - entries[indices[k]].r);
+        error[1] = plain_bounded(wanted.g - entries[indices[k]].g);
+        error[2] = plain_bounded(wanted.b - entries[indices[k]].b);
         plain_hand_all(errors, count, width, k, ahead, error);
     }
     free(errors);

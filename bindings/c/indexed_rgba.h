@@ -356,7 +356,7 @@ static inline void plain_seen_diffuse(const plain_seen *entries, size_t len, con
         if (!pixels[k].a)
             continue;
         for (channel = 0; channel < 4; channel++)
-            error[channel] = (int)plain_seen_number(wanted, channel) - (int)plain_seen_number(entries[indices[k]], channel);
+            error[channel] = plain_bounded((int)plain_seen_number(wanted, channel) - (int)plain_seen_number(entries[indices[k]], channel));
         plain_hand_all(errors, count, width, k, ahead, error);
     }
     free(errors);

@@ -18,5 +18,5 @@ int main(void) {
         }
     }
     printf("library: %u facts, %d failures\n", (unsigned)count, failures);
-    return failures != 0 || count != 63;
+    return failures != 0 || count != 65;
 }

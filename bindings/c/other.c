@@ -40,7 +40,12 @@ static plain_region plain(pix_region it) {
     return same;
 }
 
-#define OTHER_(S, PIXEL, KIND, COLOR)                                                                                  \
+/* Whether a command reads mattes of 8 bits. */
+static int has_bytes(const pix_command_rgba16 *it) {
+    return it->matte8_count && (it->kind == PLAIN_MATTE || it->kind == PLAIN_MASKED);
+}
+
+#define OTHER_(S, PIXEL, KIND, COLOR, BYTES, MATTES, COUNT)                                                            \
     static uint32_t fault##S(const pix_command##S *it) {                                                               \
         if (it->kind >= PLAIN_KINDS)                                                                                   \
             return PIX_BAD_KIND;                                                                                       \
@@ -50,9 +55,9 @@ static plain_region plain(pix_region it) {
             return PIX_BAD_OP;                                                                                         \
         if (it->kind == PLAIN_COPY || it->kind >= PLAIN_SOURCE)                                                        \
             if (!is_sized(it->width, it->height, it->stride,                                                           \
-                          it->kind == PLAIN_MATTE ? it->matte_count : it->pixel_count))                                \
+                          it->kind == PLAIN_MATTE ? COUNT : it->pixel_count))                                          \
                 return PIX_BAD_SOURCE;                                                                                 \
-        if (it->kind == PLAIN_MASKED && !is_sized(it->mask_width, it->mask_height, it->mask_stride, it->matte_count))  \
+        if (it->kind == PLAIN_MASKED && !is_sized(it->mask_width, it->mask_height, it->mask_stride, COUNT))            \
             return PIX_BAD_SOURCE;                                                                                     \
         return PIX_OK;                                                                                                 \
     }                                                                                                                  \
@@ -71,12 +76,11 @@ static plain_region plain(pix_region it) {
                 return fault##S(&commands[*done]);                                                                     \
         for (size_t i = 0; i < command_count; i++) {                                                                   \
             const pix_command##S *it = &commands[i];                                                                   \
-            const void *read = it->kind == PLAIN_MATTE ? (const void *)it->mattes : (const void *)it->pixels;          \
+            const void *mattes = MATTES, *read = it->kind == PLAIN_MATTE ? mattes : (const void *)it->pixels;          \
             plain_rows source = {(unsigned char *)(uintptr_t)read, it->width, it->height, it->stride};                 \
-            plain_rows mask = {(unsigned char *)(uintptr_t)(const void *)it->mattes, it->mask_width, it->mask_height,  \
-                               it->mask_stride};                                                                       \
+            plain_rows mask = {(unsigned char *)(uintptr_t)mattes, it->mask_width, it->mask_height, it->mask_stride};  \
             plain_command same = {it->kind, it->op,    plain(it->to), plain(it->from), plain(it->mask),                \
-                                  COLOR,    it->alpha, &source,       &mask};                                          \
+                                  COLOR,    it->alpha, &source,       &mask,           BYTES};                         \
             plain_run_in(&kind, &image, left, top, &same, 1);                                                          \
         }                                                                                                              \
         return PIX_OK;                                                                                                 \
@@ -91,9 +95,11 @@ static plain_region plain(pix_region it) {
 #define RGBA8_ {255, 1, 4}
 #define RGBA16_ {65535, 2, 4}
 #define GRAYA8_ {255, 1, 2}
-OTHER_(, pix_rgba8, RGBA8_, FOUR_)
-OTHER_(_rgba16, pix_rgba16, RGBA16_, FOUR_)
-OTHER_(_graya8, pix_graya8, GRAYA8_, TWO_)
+OTHER_(, pix_rgba8, RGBA8_, FOUR_, 0, it->mattes, it->matte_count)
+OTHER_(_rgba16, pix_rgba16, RGBA16_, FOUR_, has_bytes(it),
+       has_bytes(it) ? (const void *)it->mattes8 : (const void *)it->mattes,
+       has_bytes(it) ? it->matte8_count : it->matte_count)
+OTHER_(_graya8, pix_graya8, GRAYA8_, TWO_, 0, it->mattes, it->matte_count)
 
 uint32_t pix_raw_convert(uint32_t from, uint32_t to, const uint8_t *src, size_t src_len, uint8_t *dst, size_t dst_len,
                          size_t count) {

@@ -84,6 +84,15 @@ static inline int shared(const diffusion *it, size_t k, int channel) {
     return sum < 0 ? 0 : sum / 256 > 255 ? 255 : sum / 256;
 }
 
+/* The number that counts as found: the entry's, brought to one that is no further than 24 from what was wanted. */
+static inline int brought(int found, int wanted) {
+    while (found > wanted + 24)
+        found--;
+    while (found < wanted - 24)
+        found++;
+    return found;
+}
+
 static inline void diffuse_at(const diffusion *it, size_t k, uint8_t *indices) {
     seen *wanted = &it->wanted[k];
     if (it->is_apart[k]) {
@@ -97,7 +106,8 @@ static inline void diffuse_at(const diffusion *it, size_t k, uint8_t *indices) {
         wanted->n[channel] = number < wanted->n[3] ? number : wanted->n[3];
     }
     indices[k] = seen_nearest(it->entries, it->len, *wanted);
-    it->found[k] = it->entries[indices[k]];
+    for (int channel = 0; channel < 4; channel++)
+        it->found[k].n[channel] = brought(it->entries[indices[k]].n[channel], wanted->n[channel]);
 }
 
 static inline void diffuse_all(diffusion *it, uint8_t *indices) {

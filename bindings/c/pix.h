@@ -15,8 +15,8 @@
  * Pixels. Compositing works on premultiplied, linear pixels: the colors are multiplied by the
  * alpha, and they are proportional to light. Images in files are mostly sRGB and not premultiplied.
  * pix_convert_bitmap turns one into the other. To images of 16 bits a channel it loses nothing of
- * pixels whose alpha is 13 or more. There are three kinds of images, and each function on them is
- * there three times:
+ * pixels with an alpha of at least 13. There are three kinds of images, and each function on them
+ * is there three times:
  *
  *     pix_image          pix_rgba8    8 bits a channel: red, green, blue, alpha
  *     pix_image_rgba16   pix_rgba16   16 bits a channel; its functions and types end in _rgba16
@@ -24,7 +24,7 @@
  *
  * The first kind is documented; the others differ only in their types.
  *
- * Regions lie anywhere, also partly or wholly outside an image. Only points inside are read and
+ * Regions may be anywhere, also partly or wholly outside an image. Only points inside are read and
  * written.
  *
  * Statuses. A call that returns PIX_OK has done all that was asked for. A call that returns
@@ -34,23 +34,22 @@
  * Duties of the caller, which no function can test. They are all here, and breaking one is
  * undefined behavior:
  *
- *   - A pointer is valid for as many elements as the sizes beside it say, and aligned for its type.
+ *   - A pointer is valid for as many elements as its sizes say, and aligned for its type.
  *     An image has (height - 1) * stride + width pixels, from its first to its last one, and none
  *     where its height is 0.
- *   - What a call writes belongs to it until it returns: an image with what lies between its rows,
- *     a table, work memory, indices, counts. No other thread, signal handler, process or device
+ *   - The memory that a call writes belongs to it until it returns: an image with its padding, a
+ *     table, work memory, indices, counts. No other thread, signal handler, process or device
  *     reads or writes it meanwhile.
- *   - What a call only reads may be read by others meanwhile, and nobody writes it. A call looks at
- *     commands and at indices twice: it tests all of them, and then trusts them. If one changes in
- *     between, the call may read or write memory that nobody passed to it.
+ *   - Memory that a call only reads may be read by others meanwhile, and nobody writes it. A call
+ *     looks at commands and at indices twice: it tests all of them, and then trusts them. If one
+ *     changes in between, the call may read or write memory that nobody passed to it.
  *   - Memory with two addresses, such as a file that is mapped twice, is passed to a call with one
  *     of them, unless the call only reads it. The test of overlaps compares addresses.
- *   - Commands are made by the functions of this header. What they point to lives until they have
- *     run.
+ *   - Commands are made by the functions of this header. Their pixels live until they have run.
  *   - The thread has the stack that the call needs: see below.
  *
- * Stack. A call takes no memory, so what it works with is on the stack of its thread. These are the
- * KiB that a thread's stack needs for each call:
+ * Stack. A call allocates nothing: its work memory is on the stack of its thread. These are the KiB
+ * that a thread's stack needs for each call:
  *
  *     272   pix_quantize_refined, pix_map_indexed, pix_diffuse_indexed, pix_diffuse_indexed_by,
  *           and all four with _alpha
@@ -65,16 +64,17 @@
  * Main threads have much more, and so have new threads under glibc. Under musl a new thread has 128
  * KiB unless it asks for more (pthread_attr_setstacksize). The calls with 272 need that.
  *
- * Threads. Calls may run at once in different threads where none of them writes what another one
- * reads or writes. They may share sources, tables and lists of commands.
+ * Threads. Calls may run at once in different threads if none of them writes memory that another
+ * one reads or writes. They may share sources, tables and lists of commands.
  *
- * Signals. A signal handler may make calls too, also one that interrupts a call, where neither
- * writes what the other one reads or writes: no call takes a lock. What the handler calls needs its
- * own stack besides. A call that a handler leaves by longjmp has written a part of what it writes.
+ * Signals. A signal handler may make calls too, also while it interrupts one, if neither writes
+ * memory that the other one reads or writes: no call takes a lock. The calls of the handler need
+ * their own stack besides. A call that a handler leaves by longjmp has written a part of its
+ * result.
  *
  * A source must not share memory with the image that is written. That is tested: see PIX_OVERLAP.
  *
- * Promises. docs/PROMISES.md in the repository says what each call promises, and what of it is
+ * Promises. docs/PROMISES.md in the repository lists the promise of each call, and whether it is
  * proved.
  *
  * The library is built for processors of x86-64 with SSE4.1, and of aarch64, under Linux.
@@ -186,14 +186,14 @@ typedef struct { const pix_graya8 *pixels; uint32_t width, height, stride; } pix
 
 /* An image in any format, as files, windows and other libraries have it. `stride` is the distance
  * from a row to the next, in bytes. 0 means rows without gaps. A negative stride is for rows from
- * bottom to top: `pixels` still points to the top row, which is the last one in memory. What lies
- * between the rows is not changed. */
+ * bottom to top: `pixels` still points to the top row, which is the last one in memory. Bytes between
+ * the rows are not changed. */
 typedef struct { void *pixels; uint32_t width, height; ptrdiff_t stride; pix_format format; } pix_bitmap;
 typedef struct { const void *pixels; uint32_t width, height; ptrdiff_t stride; pix_format format; } pix_bitmap_view;
 
 /* A mask: the fraction of a color or of a source that is composited at each point. It goes from 0
- * (none) to 255 (all), or to 65535 in pix_matte16. pix_matte goes with images of 8 bits a channel,
- * and pix_matte16 with those of 16. The stride is counted in values. */
+ * (none) to 255 (all), or to 65535 in pix_matte16. pix_matte goes with all images, and pix_matte16
+ * with those of 16 bits a channel. The stride is counted in values. */
 typedef struct { const uint8_t *values; uint32_t width, height, stride; } pix_matte;
 typedef struct { const uint16_t *values; uint32_t width, height, stride; } pix_matte16;
 
@@ -275,7 +275,7 @@ static inline pix_region pix_region_of(int32_t x, int32_t y, uint32_t width, uin
 static inline pix_image pix_image_of(pix_rgba8 *pixels, uint32_t width, uint32_t height);
 static inline pix_view pix_view_of(const pix_rgba8 *pixels, uint32_t width, uint32_t height);
 
-/* A mask whose rows have no padding. Set `stride` afterwards where they have some. */
+/* A mask with rows without padding. Set `stride` afterwards where they have some. */
 static inline pix_matte pix_matte_of(const uint8_t *values, uint32_t width, uint32_t height) {
     pix_matte matte = {values, width, height, width};
     return matte;
@@ -295,9 +295,9 @@ static inline pix_view pix_view_of_image(pix_image image);
  * A command has the pointers of its source, and not the pixels. Making one tests nothing; pix_run
  * does.
  *
- * Where there are two regions, their upper left corners are paired, even where one lies outside its
- * image. Each point of `to` gets the point of `from` that is as far from its corner. A point is
- * changed where both regions and both images have it. */
+ * If there are two regions, their upper left corners are paired, even if one is outside its image.
+ * Each point of `to` gets the point of `from` that is as far from its corner. A point is changed if
+ * both regions and both images have it. */
 
 /* What a command does. */
 typedef enum {
@@ -378,9 +378,9 @@ static inline pix_status pix_check_library(void);
 /* Runs a list of `count` commands on an image, in order, or none of them.
  *
  * `done` may be null. After PIX_OK it is set to `count`. Otherwise it is set to the index of the
- * first command that was refused, or to 0 where the image or the list itself was refused. A `done`
- * in the image is PIX_OVERLAP, and stays as it was. Pointers and overlaps are tested for the whole
- * list before all else. `commands` may be null where `count` is 0.
+ * first bad command, or to 0 if the image or the list itself is bad. A `done` in the image is
+ * PIX_OVERLAP, and stays as it was. Pointers and overlaps are tested for the whole list before all
+ * else. `commands` may be null where `count` is 0.
  *
  * Returns PIX_OK, PIX_BAD_SIZE, PIX_BAD_KIND, PIX_BAD_REGION, PIX_BAD_OP, PIX_BAD_SOURCE,
  * PIX_BAD_LENGTH, PIX_NULL or PIX_OVERLAP. */
@@ -388,15 +388,14 @@ static inline pix_status pix_run(pix_image image, const pix_command *commands, s
 
 /* Runs a list of commands on a window of a picture. `window` has the pixels of a part of the
  * picture, whose upper left pixel is the picture's point (left, top). The regions of the commands
- * are those of the picture. Each pixel becomes what pix_run would make of it on the whole picture.
- * So pictures painted tile by tile are the picture painted whole. Tiles need never be in memory
- * together, and their order is free. Bands of rows of one image may be painted in several threads
- * at once.
+ * are those of the picture. Each pixel gets its value of pix_run on the whole picture. So pictures
+ * painted tile by tile are the picture painted whole. Tiles need never be in memory together, and
+ * their order is free. Bands of rows of one image may be painted in several threads at once.
  *
  * Windows of one image that are painted at once must be bands of whole rows, as wide as the image.
- * What lies between the rows of a window belongs to its call, so columns side by side share memory.
- * The tests of overlaps see the window alone. No source, matte, list or `done` may lie in another
- * window of the image while that is painted.
+ * The padding of a window belongs to its call, so columns side by side share memory. The tests of
+ * overlaps see the window alone. No source, matte, list or `done` may be in another window of the
+ * image while that is painted.
  *
  * Returns what pix_run does, and PIX_BAD_SIZE too where left + width or top + height is above
  * 2147483647. */
@@ -425,9 +424,9 @@ static inline pix_status pix_convert(pix_format from, pix_format to, const void 
  *
  * Between sRGB of 8 bits and linear channels of 16 bits a pixel goes through light. Each color is
  * decoded by the sRGB curve to 16 bits and then multiplied by the alpha. On the way back it is
- * divided and then encoded. So take a picture in SRGBA8 to RGBA16P, paint on it, and take it back:
- * it is the picture it was where nothing was painted and the alpha is 13 or more. Below that the
- * alpha is as it was, and the colors may be others. At alpha 0 they are 0.
+ * divided and then encoded. So convert a picture from SRGBA8 to RGBA16P, paint on it, and convert
+ * it back: unpainted pixels with an alpha of at least 13 are unchanged. Below that the alpha is as
+ * it was, and the colors may be others. At alpha 0 they are 0.
  *
  *     pix_bitmap photo = pix_bitmap_of(bytes, 64, 64, PIX_FORMAT_SRGBA8);
  *     pix_image_rgba16 light = pix_image_of_rgba16(pixels, 64, 64);
@@ -471,17 +470,17 @@ static inline pix_rgba8 pix_color_of(pix_format format, const void *pixel);
 static inline pix_rgba16 pix_color_of_rgba16(pix_format format, const void *pixel);
 static inline pix_graya8 pix_color_of_graya8(pix_format format, const void *pixel);
 
-/* The part of an image that lies in a region, clipped to the image. It has no points where the
- * region lies outside. Its first pixel is the point (0, 0) of the part; to paint in coordinates of
- * the whole image use pix_run_window. A part of an image that is refused for its size is refused
- * too, and so is one of an image without memory (null). */
+/* The part of an image in a region, clipped to the image. It has no points if the region is
+ * outside. Its first pixel is the point (0, 0) of the part; to paint in coordinates of the whole
+ * image use pix_run_window. If an image has a bad size or no memory (null), calls on its parts fail
+ * too. */
 static inline pix_image pix_part_of(pix_image image, pix_region region);
 static inline pix_image_rgba16 pix_part_of_rgba16(pix_image_rgba16 image, pix_region region);
 static inline pix_image_graya8 pix_part_of_graya8(pix_image_graya8 image, pix_region region);
 static inline pix_bitmap pix_part_of_bitmap(pix_bitmap image, pix_region region);
 
 /* Writes a pattern: the commands that composite the region `from` of a source over all of `to`. The
- * copies lie side by side from its upper left corner on, row by row, and are cut at its other
+ * copies are side by side from its upper left corner on, row by row, and are cut at its other
  * sides. It writes the first `room` commands, and returns how many there are. `commands` may be
  * null where `room` is 0. A copy that begins past 2147483647 is in no image, and is left out. */
 static inline uint64_t pix_repeat_image(pix_command *commands, uint64_t room, pix_region to, pix_view source,
@@ -491,8 +490,8 @@ static inline uint64_t pix_repeat_image(pix_command *commands, uint64_t room, pi
  *
  * Colors here are as files of indexed images have them: sRGB, and not multiplied by an alpha. The
  * bytes of pix_srgb8 are those of a color table of a GIF or of the chunk PLTE of a PNG. pix_convert
- * makes such pixels from others (PIX_FORMAT_SRGB8, PIX_FORMAT_SRGBA8). What is written must share
- * no memory with what is read. A call that is refused changes nothing. */
+ * makes such pixels from others (PIX_FORMAT_SRGB8, PIX_FORMAT_SRGBA8). Written memory must not
+ * overlap with read memory. A call that fails changes nothing. */
 
 /* A color of 8 bits a channel, and a pixel with an alpha. */
 typedef struct { uint8_t r, g, b; } pix_srgb8;
@@ -504,9 +503,9 @@ typedef struct { const pix_srgb8 *entries; size_t len; } pix_table;
 /* A table of these entries, which stay where they are. Its calls test `len`. */
 static inline pix_table pix_table_of(const pix_srgb8 *entries, size_t len);
 
-/* Writes the index of the entry that is nearest to a color, the first of equals. The nearest one
- * has the least sum of the squares of the differences in red, green and blue. Returns PIX_OK,
- * PIX_BAD_TABLE, PIX_NULL or PIX_OVERLAP. */
+/* Writes the index of the entry that is nearest to a color, the first if several are equal. The
+ * nearest one has the least sum of the squares of the differences in red, green and blue. Returns
+ * PIX_OK, PIX_BAD_TABLE, PIX_NULL or PIX_OVERLAP. */
 static inline pix_status pix_nearest(pix_table table, pix_srgb8 color, uint8_t *index);
 
 /* Writes the index of the nearest entry of each of `count` pixels. Returns PIX_OK, PIX_BAD_TABLE,
@@ -528,12 +527,12 @@ static inline size_t pix_diffuse_indexed_work(size_t width);
 
 /* Writes a table of the colors of `count` pixels, of at most `len` entries, and writes into `made`
  * how many it has. Where there are no more distinct colors than `len`, they are the table, in
- * order of first place. Otherwise they are the means of boxes of colors, which are cut again and
- * again where the squared error falls most, and then joined where it rises least. Both are compared
- * by quotients rounded down, so of nearly equal ones another may be taken. The entries past
- * `made` may hold anything. `work` has pix_quantize_work(count) colors; for a large picture pass a
- * sample of its pixels. Returns PIX_OK, PIX_BAD_TABLE (`len` is 0 or above 256), PIX_BAD_LENGTH,
- * PIX_NULL or PIX_OVERLAP. */
+ * order of first place. Otherwise they are the means of boxes of colors. Boxes are split, always by
+ * the split that reduces the squared error most, and then those pairs are merged that raise it
+ * least. Both are compared by quotients rounded down, so of nearly equal ones another may be taken.
+ * The entries past `made` may hold anything. `work` has pix_quantize_work(count) colors; for a
+ * large picture pass a sample of its pixels. Returns PIX_OK, PIX_BAD_TABLE (`len` is 0 or above
+ * 256), PIX_BAD_LENGTH, PIX_NULL or PIX_OVERLAP. */
 static inline pix_status pix_quantize(const pix_srgb8 *pixels, size_t count, pix_srgb8 *work, pix_srgb8 *entries, size_t len,
                                       size_t *made);
 
@@ -542,10 +541,10 @@ static inline pix_status pix_quantize(const pix_srgb8 *pixels, size_t count, pix
 static inline pix_status pix_quantize_alpha(const pix_srgba8 *pixels, size_t count, uint8_t alpha, pix_srgb8 *work,
                                             pix_srgb8 *entries, size_t len, size_t *made);
 
-/* Write a table as pix_quantize and pix_quantize_alpha do. Where there are more distinct colors
- * than `len`, so many rounds then refine it. In a round each color goes to its nearest entry, the
- * first of equals. Each entry goes to the mean of its colors, rounded, and stays where it has none.
- * No round makes the sum of the squared errors greater. A round takes about as long as
+/* Write a table as pix_quantize and pix_quantize_alpha do. If there are more distinct colors than
+ * `len`, `rounds` rounds then refine it. In a round each color goes to its nearest entry, the first
+ * if several are equal. Each entry goes to the mean of its colors, rounded, and stays where it has
+ * none. No round makes the sum of the squared errors greater. A round takes about as long as
  * pix_map_indexed of the distinct colors, so less than that of the pixels where colors come again.
  * Six are enough for most pictures.
  *
@@ -562,11 +561,14 @@ static inline pix_status pix_quantize_refined_alpha(const pix_srgba8 *pixels, si
 /* Writes the index of each of `count` pixels, in rows of `width`, with error diffusion (Floyd and
  * Steinberg). It is the index of the entry that is nearest to the color that is wanted there.
  *
- *   - What is wanted is, in each channel, the pixel's number and its share of the errors before it.
+ *   - The target is, in each channel, the pixel's number plus its share of the errors before it.
  *     It is rounded to the nearest, a half up, and clamped to 0 to 255.
- *   - A pixel's error is what was wanted there less the entry that was found. It is a whole number.
- *   - 7 sixteenths of it go to the pixel on the right, 3 to the one below on the left, 5 to the one
- *     below, and 1 to the one below on the right. What would go past the sides of a row is lost.
+ *   - A pixel's error is the target less the chosen entry, and at most 24 either way in each
+ *     channel. It is a whole number. So no target is further than 24 from its pixel: errors of a
+ *     table that lacks a color don't run away.
+ *   - Of it, 7/16 go to the pixel on the right. In the next row, 3/16 go to the pixel on the left,
+ *     5/16 to the one below, and 1/16 to the one on the right. Shares past the sides of a row are
+ *     lost.
  *
  * `work` has pix_diffuse_indexed_work(width) colors. Returns what pix_map_indexed does, and
  * PIX_BAD_LENGTH too where `width` is 0 or more than memory holds. */
@@ -590,8 +592,8 @@ static inline pix_status pix_diffuse_indexed_alpha(pix_table table, const pix_sr
 typedef struct { uint8_t strength; bool serpentine; } pix_diffusion;
 
 /* Write the index of each pixel, with error diffusion as `how` says. pix_diffuse_indexed and
- * pix_diffuse_indexed_alpha have a strength of 16, and no row goes from right to left there. What
- * is wanted at a pixel is rounded once, after its share is multiplied. Return PIX_BAD_STRENGTH too
+ * pix_diffuse_indexed_alpha have a strength of 16, and no row goes from right to left there. The
+ * target at a pixel is rounded once, after its share is multiplied. Return PIX_BAD_STRENGTH too
  * where the strength is above 16, and PIX_BAD_LENGTH where `serpentine` rows are not whole: `count`
  * is a multiple of `width` then. */
 static inline pix_status pix_diffuse_indexed_by(pix_table table, const pix_srgb8 *pixels, size_t count, size_t width,
@@ -601,14 +603,14 @@ static inline pix_status pix_diffuse_indexed_by_alpha(pix_table table, const pix
                                                       pix_srgb8 *work, uint8_t *indices);
 
 /* Sets the color of each of `count` pixels in a table, one after the other, and writes its index.
- * That is the index of the entry that stands for the color, or of the next entry, which is then set
- * to the color. `entries` has room for `len` of them. `used` is how many are used, before and
+ * That is the index of the entry that matches the color, or of the next entry, which is then set to
+ * the color. `entries` has room for `len` of them. `used` is how many are used, before and
  * afterwards, so one table may serve several pictures.
  *
- * The entry that stands for a color is its match, if that differs from the color by no more than
- * `threshold` in each of red, green and blue. With a threshold of 0 it is the color itself. The
- * match is the last of the candidates: entry 0, and then each later entry that differs by no more
- * than the candidate before it in each channel, and by less in one.
+ * The entry that matches a color is its nearest candidate, if that differs from the color by no more
+ * than `threshold` in each of red, green and blue. With a threshold of 0 it is the color itself. The
+ * match is the last candidate. Entry 0 is the first candidate; each later entry replaces it that is
+ * no worse in each channel and better in one.
  *
  * Returns PIX_OK, PIX_BAD_TABLE (`len` is 0 or above 256), PIX_BAD_LENGTH (too many pixels, or
  * `used` is above `len`), PIX_FULL_TABLE where there is no room for a color, PIX_NULL or
@@ -641,14 +643,14 @@ static inline pix_status pix_unpack_row(uint32_t bits, const uint8_t *bytes, siz
 
 /* ---- Tables of colors with an alpha ----
  *
- * For files whose tables have alphas, such as a PNG with the chunks PLTE and tRNS. Entries and
+ * For files with alphas in their tables, such as a PNG with the chunks PLTE and tRNS. Entries and
  * pixels are as there: sRGB, and not multiplied by the alpha.
  *
  * Two pixels are compared as they are seen, over black and over white, in 8 bits. Over black a
  * color is its product with the alpha, rounded to the nearest. Over white it is that and 255 less
  * the alpha. The distance of two pixels is the sum of the squares of their six differences. So the
- * color of a clear pixel does not count, and where all are opaque each call does what the one
- * without _rgba does. */
+ * color of a transparent pixel does not count, and if all are opaque each call does the same as the
+ * one without _rgba. */
 
 /* A table of `len` colors with an alpha, from 1 to 256. */
 typedef struct { const pix_srgba8 *entries; size_t len; } pix_table_rgba;
@@ -660,19 +662,19 @@ static inline pix_table_rgba pix_table_rgba_of(const pix_srgba8 *entries, size_t
  * that are seen alike the first one counts. Where there is room for all of these, they are the
  * table, just as they are. Otherwise boxes are cut by the alpha too, after red, green and blue over
  * black. In a round an entry also stays where the mean of its colors would make their squared error
- * greater. What is found is divided by its alpha in the end, and is still seen as just that. `work`
- * has pix_quantize_work(count) pixels. */
+ * greater. The result is divided by its alpha at the end; this doesn't change its look. `work` has
+ * pix_quantize_work(count) pixels. */
 static inline pix_status pix_quantize_rgba(const pix_srgba8 *pixels, size_t count, uint8_t rounds, pix_srgba8 *work,
                                            pix_srgba8 *entries, size_t len, size_t *made);
 
-/* Writes for each of `count` pixels the index of the entry that is seen nearest to it, the first of
- * equals. Returns what pix_map_indexed does. */
+/* Writes for each of `count` pixels the index of the entry that looks nearest to it, the first if
+ * several are equal. Returns what pix_map_indexed does. */
 static inline pix_status pix_map_indexed_rgba(pix_table_rgba table, const pix_srgba8 *pixels, size_t count, uint8_t *indices);
 
 /* Writes the index of each pixel, with error diffusion to a table of colors with an alpha, as
- * pix_diffuse_indexed_by does. Errors are those of the colors over black and of the alpha. What is
- * wanted of a color is at most what is wanted of the alpha. A clear pixel (alpha 0) gets the entry
- * that is seen nearest to it, takes no share, and passes on no error. `work` has
+ * pix_diffuse_indexed_by does. Errors are those of the colors over black and of the alpha, at most
+ * 24 either way. A target color is clamped to the target alpha. A clear pixel (alpha 0) gets the
+ * entry that is seen nearest to it, takes no share, and passes on no error. `work` has
  * pix_diffuse_indexed_work(width) pixels. */
 static inline pix_status pix_diffuse_indexed_rgba(pix_table_rgba table, const pix_srgba8 *pixels, size_t count, size_t width,
                                                   pix_diffusion how, pix_srgba8 *work, uint8_t *indices);
@@ -693,6 +695,7 @@ typedef struct {
     pix_region mask;
     uint32_t mask_width, mask_height, mask_stride;
     uint16_t alpha;
+    const uint8_t *mattes8; size_t matte8_count;
 } pix_command_rgba16;
 
 typedef struct {
@@ -714,12 +717,32 @@ typedef struct {
  * pix_run_window_rgba16, pix_do_rgba16 and pix_repeat_image_rgba16. The same are there with _graya8
  * (through a pix_matte, at a uint8_t). They are defined below, together with those above. */
 
+/* Composites a color with an image of 16 bits a channel through a mask of 8 bits, as a rasterizer of
+ * glyphs makes it: 255 is all of the color. Each value counts as 257 times itself in a pix_matte16.
+ * The mask is read in place, and one list may have commands with both kinds of masks.
+ *
+ *     uint8_t coverage[3] = {0, 128, 255};
+ *     pix_rgba16 line[3] = {{0, 0, 0, 0}, {0, 0, 0, 0}, {0, 0, 0, 0}};
+ *     pix_rgba16 ink = pix_rgba16_of(0, 0, 0, 65535);
+ *     pix_region all = pix_region_of(0, 0, 3, 1);
+ *     pix_command_rgba16 text =
+ *         pix_composite_matte8_rgba16(all, pix_matte_of(coverage, 3, 1), all, ink, PIX_OP_SRC_OVER);
+ *     pix_status status = pix_do_rgba16(pix_image_of_rgba16(line, 3, 1), text);
+ */
+static inline pix_command_rgba16 pix_composite_matte8_rgba16(pix_region to, pix_matte matte, pix_region from,
+                                                             pix_rgba16 color, pix_op op);
+
+/* The same of an image, as pix_composite_image_matte does it. */
+static inline pix_command_rgba16 pix_composite_image_matte8_rgba16(pix_region to, pix_view_rgba16 source,
+                                                                   pix_region from, pix_matte mask,
+                                                                   pix_region mask_from, pix_op op);
+
 /* ---- Lists ----
  *
- * For programs that go over all operators, kinds of commands or formats: PIX_EACH_OP(X) stands for
- * X(..) of each operator, in the order of their numbers, and PIX_EACH_KIND and PIX_EACH_FORMAT for
- * the same of the kinds and the formats. A table that is made of them has a line for each, also
- * when a later version has more:
+ * For programs that go over all operators, kinds of commands or formats: PIX_EACH_OP(X) is X(..) of
+ * each operator, in the order of their numbers. PIX_EACH_KIND and PIX_EACH_FORMAT do the same for
+ * kinds and formats. A table that is made of them has a line for each, also when a later version
+ * has more:
  *
  *     #define TEXT_OF(NAME, WORD) #WORD,
  *     static const char *const texts[PIX_OP_COUNT] = {PIX_EACH_OP(TEXT_OF)};
@@ -842,8 +865,8 @@ uint32_t pix_layout(size_t index);
 
 /* The version of the binary interface. It changes where a call, a number or a layout changes; a
  * program that was compiled with an older header then does not run. It is the number in the soname,
- * libpix.so.2, and pix_layout(0) returns it. */
-#define PIX_ABI_VERSION 2
+ * libpix.so.3, and pix_layout(0) returns it. */
+#define PIX_ABI_VERSION 3
 
 /* ---- Definitions. Nothing below is for callers. ---- */
 
@@ -868,7 +891,7 @@ PIX_ASSERT_(region, sizeof(pix_region) == 16 && offsetof(pix_region, width) == 8
  * command. */
 #define PIX_ROUND_(n) (((n) + sizeof(void *) - 1) / sizeof(void *) * sizeof(void *))
 #define PIX_WORD_(n, PIXEL) (PIX_ROUND_(40 + sizeof(PIXEL)) + (n) * sizeof(void *))
-#define PIX_LAYOUT_(command, PIXEL)                                                                                    \
+#define PIX_LAYOUT_(command, PIXEL, WORDS)                                                                             \
     PIX_ASSERT_(kind_##command, offsetof(command, kind) == 0 && offsetof(command, op) == 4);                           \
     PIX_ASSERT_(to_##command, offsetof(command, to) == 8 && offsetof(command, from) == 24);                            \
     PIX_ASSERT_(color_##command, offsetof(command, color) == 40);                                                      \
@@ -884,11 +907,15 @@ PIX_ASSERT_(region, sizeof(pix_region) == 16 && offsetof(pix_region, width) == 8
     PIX_ASSERT_(mask_height_##command, offsetof(command, mask_height) == PIX_WORD_(4, PIXEL) + 32);                    \
     PIX_ASSERT_(mask_stride_##command, offsetof(command, mask_stride) == PIX_WORD_(4, PIXEL) + 36);                    \
     PIX_ASSERT_(alpha_##command, offsetof(command, alpha) == PIX_WORD_(4, PIXEL) + 40);                                \
-    PIX_ASSERT_(size_of_##command, sizeof(command) == PIX_ROUND_(PIX_WORD_(4, PIXEL) + 42))
+    PIX_ASSERT_(size_of_##command,                                                                                     \
+                sizeof(command) == PIX_ROUND_(PIX_WORD_(4, PIXEL) + 42) + (WORDS) * sizeof(void *))
 
-PIX_LAYOUT_(pix_command, pix_rgba8);
-PIX_LAYOUT_(pix_command_rgba16, pix_rgba16);
-PIX_LAYOUT_(pix_command_graya8, pix_graya8);
+PIX_LAYOUT_(pix_command, pix_rgba8, 0);
+PIX_LAYOUT_(pix_command_rgba16, pix_rgba16, 2);
+PIX_LAYOUT_(pix_command_graya8, pix_graya8, 0);
+PIX_ASSERT_(mattes8, offsetof(pix_command_rgba16, mattes8) == PIX_ROUND_(PIX_WORD_(4, pix_rgba16) + 42));
+PIX_ASSERT_(matte8_count,
+            offsetof(pix_command_rgba16, matte8_count) == offsetof(pix_command_rgba16, mattes8) + sizeof(void *));
 
 /* What pix_layout returns, from 0 on. */
 #define PIX_COMMAND_FACTS_(command)                                                                                    \
@@ -900,7 +927,9 @@ PIX_LAYOUT_(pix_command_graya8, pix_graya8);
 #define PIX_FACTS_                                                                                                     \
     PIX_ABI_VERSION, sizeof(pix_rgba8), sizeof(pix_rgba16), sizeof(pix_graya8), sizeof(pix_region),                    \
         offsetof(pix_region, x), offsetof(pix_region, y), offsetof(pix_region, width), offsetof(pix_region, height),   \
-        PIX_COMMAND_FACTS_(pix_command), PIX_COMMAND_FACTS_(pix_command_rgba16), PIX_COMMAND_FACTS_(pix_command_graya8)
+        PIX_COMMAND_FACTS_(pix_command), PIX_COMMAND_FACTS_(pix_command_rgba16),                                       \
+        offsetof(pix_command_rgba16, mattes8), offsetof(pix_command_rgba16, matte8_count),                             \
+        PIX_COMMAND_FACTS_(pix_command_graya8)
 
 static inline pix_status pix_check_library(void) {
     static const uint32_t facts[] = {PIX_FACTS_};
@@ -947,12 +976,12 @@ static inline const char *pix_status_text(pix_status status) {
     case PIX_BAD_OP: return "no such operator";
     case PIX_BAD_SOURCE: return "a source has a side above 2147483647, a stride below its width, or too many pixels";
     case PIX_BAD_FORMAT: return "no such format";
-    case PIX_BAD_LENGTH: return "too many pixels or commands, or lengths that do not go together";
+    case PIX_BAD_LENGTH: return "too many pixels or commands, or lengths that do not match";
     case PIX_NULL: return "a pointer is null";
-    case PIX_OVERLAP: return "a source, a matte, the list or `done` shares memory with what is written";
-    case PIX_BAD_LIBRARY: return "the library has another version or layout than this header";
-    case PIX_BAD_TABLE: return "a table has no entry, or more than 256";
-    case PIX_BAD_INDEX: return "an index is past the end, or takes more bits than it is to have";
+    case PIX_OVERLAP: return "the written memory overlaps a source, a matte, the list or `done`";
+    case PIX_BAD_LIBRARY: return "the version or layout of the library differs from that of this header";
+    case PIX_BAD_TABLE: return "a table must have 1 to 256 entries";
+    case PIX_BAD_INDEX: return "an index is past the end, or needs more bits than it has";
     case PIX_BAD_DEPTH: return "indices take 1, 2, 4 or 8 bits";
     case PIX_FULL_TABLE: return "a table has no room for a color";
     case PIX_BAD_STRENGTH: return "errors are diffused with a strength of 0 to 16";
@@ -970,19 +999,19 @@ static inline const char *pix_status_text(pix_status status) {
         command.elements = source.source_elements
 
 /* Notes a mask in `command` likewise. */
-#define PIX_NOTE_MASK_(matte, region)                                                                                  \
+#define PIX_NOTE_MASK_(matte, region, elements, count)                                                                 \
     command.mask = region;                                                                                             \
     command.mask_width = matte.width;                                                                                  \
     command.mask_height = matte.height;                                                                                \
     command.mask_stride = matte.stride ? matte.stride : matte.width;                                                   \
-    command.matte_count =                                                                                              \
-        pix_extent_(command.mask_width, command.mask_height, command.mask_stride, sizeof *command.mattes);             \
-    if (matte.values || command.matte_count)                                                                           \
-        command.mattes = matte.values
+    command.count =                                                                                                    \
+        pix_extent_(command.mask_width, command.mask_height, command.mask_stride, sizeof *command.elements);           \
+    if (matte.values || command.count)                                                                                 \
+        command.elements = matte.values
 
 /* The views and commands of one kind of pixels: the end of their names, the pixel, the matte and
- * its values. */
-#define PIX_COMMANDS_(S, PIXEL, MATTE, VALUE)                                                                          \
+ * its values, and what a command without a source has besides. */
+#define PIX_COMMANDS_(S, PIXEL, MATTE, VALUE, MORE)                                                                    \
     static inline pix_image##S pix_image_of##S(PIXEL *pixels, uint32_t width, uint32_t height) {                       \
         pix_image##S image = {pixels, width, height, width};                                                           \
         return image;                                                                                                  \
@@ -1005,6 +1034,7 @@ static inline const char *pix_status_text(pix_status status) {
         command.from = from;                                                                                           \
         command.pixels = (const PIXEL *)(const void *)&pix_nothing_;                                                   \
         command.mattes = (const VALUE *)(const void *)&pix_nothing_;                                                   \
+        MORE                                                                                                           \
         return command;                                                                                                \
     }                                                                                                                  \
     static inline pix_command##S pix_clear##S(void) {                                                                  \
@@ -1042,7 +1072,7 @@ static inline const char *pix_status_text(pix_status status) {
                                                               MATTE matte, pix_region matte_from, pix_op op) {         \
         pix_command##S command = pix_command_of_##S(PIX_KIND_COMPOSITE_IMAGE_MATTE, op, to, from);                     \
         PIX_NOTE_(source, pixels, pixels, pixel_count);                                                                \
-        PIX_NOTE_MASK_(matte, matte_from);                                                                             \
+        PIX_NOTE_MASK_(matte, matte_from, mattes, matte_count);                                                        \
         return command;                                                                                                \
     }                                                                                                                  \
     static inline pix_command##S pix_composite_image_alpha##S(pix_region to, pix_view##S source, pix_region from,      \
@@ -1053,14 +1083,15 @@ static inline const char *pix_status_text(pix_status status) {
         return command;                                                                                                \
     }
 
-/* The calls of one kind of pixels. */
-#define PIX_CALLS_(S, PIXEL, VALUE)                                                                                    \
+/* The calls of one kind of pixels, with the test of what else a command may read. */
+#define PIX_CALLS_(S, PIXEL, VALUE, TEST)                                                                              \
     /* Tests the pointers of a command beside the bytes that are written. */                                           \
     static inline pix_status pix_beside_##S(const void *written, size_t bytes, const pix_command##S *command) {        \
         pix_status status = pix_apart_(written, bytes, command->pixels, command->pixel_count * sizeof(PIXEL));         \
         if (status != PIX_OK)                                                                                          \
             return status;                                                                                             \
-        return pix_apart_(written, bytes, command->mattes, command->matte_count * sizeof(VALUE));                      \
+        status = pix_apart_(written, bytes, command->mattes, command->matte_count * sizeof(VALUE));                    \
+        return status != PIX_OK ? status : TEST;                                                                       \
     }                                                                                                                  \
     /* Runs a list on an image, and where `corner` is not null on the window of a picture at that point. */            \
     static inline pix_status pix_call_##S(pix_image##S image, const uint32_t *corner, const pix_command##S *commands,  \
@@ -1103,12 +1134,30 @@ static inline const char *pix_status_text(pix_status status) {
         return pix_run##S(image, &command, 1, NULL);                                                                   \
     }
 
-PIX_COMMANDS_(, pix_rgba8, pix_matte, uint8_t)
-PIX_COMMANDS_(_rgba16, pix_rgba16, pix_matte16, uint16_t)
-PIX_COMMANDS_(_graya8, pix_graya8, pix_matte, uint8_t)
-PIX_CALLS_(, pix_rgba8, uint8_t)
-PIX_CALLS_(_rgba16, pix_rgba16, uint16_t)
-PIX_CALLS_(_graya8, pix_graya8, uint8_t)
+PIX_COMMANDS_(, pix_rgba8, pix_matte, uint8_t, )
+PIX_COMMANDS_(_rgba16, pix_rgba16, pix_matte16, uint16_t,
+              command.mattes8 = (const uint8_t *)(const void *)&pix_nothing_;)
+PIX_COMMANDS_(_graya8, pix_graya8, pix_matte, uint8_t, )
+PIX_CALLS_(, pix_rgba8, uint8_t, PIX_OK)
+PIX_CALLS_(_rgba16, pix_rgba16, uint16_t, pix_apart_(written, bytes, command->mattes8, command->matte8_count))
+PIX_CALLS_(_graya8, pix_graya8, uint8_t, PIX_OK)
+
+static inline pix_command_rgba16 pix_composite_matte8_rgba16(pix_region to, pix_matte matte, pix_region from,
+                                                             pix_rgba16 color, pix_op op) {
+    pix_command_rgba16 command = pix_command_of__rgba16(PIX_KIND_COMPOSITE_MATTE, op, to, from);
+    command.color = color;
+    PIX_NOTE_(matte, mattes8, values, matte8_count);
+    return command;
+}
+
+static inline pix_command_rgba16 pix_composite_image_matte8_rgba16(pix_region to, pix_view_rgba16 source,
+                                                                   pix_region from, pix_matte mask,
+                                                                   pix_region mask_from, pix_op op) {
+    pix_command_rgba16 command = pix_command_of__rgba16(PIX_KIND_COMPOSITE_IMAGE_MATTE, op, to, from);
+    PIX_NOTE_(source, pixels, pixels, pixel_count);
+    PIX_NOTE_MASK_(mask, mask_from, mattes8, matte8_count);
+    return command;
+}
 
 static inline size_t pix_format_size(pix_format format) {
     return pix_raw_format_size((uint32_t)format);

@@ -28,12 +28,14 @@ enum {
     PLAIN_CLEAR, PLAIN_COPY_COLOR, PLAIN_COPY, PLAIN_COLOR, PLAIN_SOURCE, PLAIN_MATTE, PLAIN_MASKED, PLAIN_FADED, PLAIN_KINDS
 };
 
-/* A command; `source` has the pixels or the mattes that it reads, and `mask` the mattes of an image. */
+/* A command; `source` has the pixels or the mattes that it reads, and `mask` the mattes of an image. With `are_bytes` its
+ * mattes have 8 bits, whatever the channels have. */
 typedef struct {
     uint32_t kind, op;
     plain_region to, from, mask_from;
     uint64_t color[4], alpha;
     const plain_rows *source, *mask;
+    int are_bytes;
 } plain_command;
 
 /* The coefficients of the operators, by their numbers: 0, 1, the other side's alpha (a), or one minus it (m). */
@@ -112,12 +114,18 @@ static inline const unsigned char *plain_paired(const plain_region *to, const pl
     return source->bytes + ((uint64_t)row * source->stride + (uint64_t)column) * size;
 }
 
+/* A matte in the channels of an image: as many of their greatest number as it is of its own. */
+static inline uint64_t plain_matte(const plain_kind *kind, const plain_command *command, const unsigned char *at) {
+    return command->are_bytes ? *at * kind->max / 255 : plain_channel(kind, at, 0);
+}
+
 /* What a command makes of the pixel at a point: it stays where the command does not reach it. */
 static inline void plain_step(const plain_kind *kind, const plain_command *command, int64_t x, int64_t y, uint64_t *pixel) {
     uint64_t src[4] = {0, 0, 0, 0};
     int64_t column, row;
     const unsigned char *paired, *covered = NULL;
-    size_t size = kind->bytes * (command->kind == PLAIN_MATTE ? 1 : kind->channels);
+    size_t matte = command->are_bytes ? 1 : kind->bytes;
+    size_t size = command->kind == PLAIN_MATTE ? matte : kind->bytes * kind->channels;
     switch (command->kind) {
     case PLAIN_COPY_COLOR:
     case PLAIN_COLOR:
@@ -133,15 +141,15 @@ static inline void plain_step(const plain_kind *kind, const plain_command *comma
     case PLAIN_FADED:
         paired = plain_paired(&command->to, command->source, &command->from, size, x, y);
         if (command->kind == PLAIN_MASKED)
-            covered = plain_paired(&command->to, command->mask, &command->mask_from, kind->bytes, x, y);
+            covered = plain_paired(&command->to, command->mask, &command->mask_from, matte, x, y);
         if (!paired || (command->kind == PLAIN_MASKED && !covered))
             return;
         for (size_t i = 0; i < kind->channels; i++)
             src[i] = command->kind == PLAIN_MATTE
-                ? plain_product(kind->max, command->color[i], plain_channel(kind, paired, 0))
+                ? plain_product(kind->max, command->color[i], plain_matte(kind, command, paired))
                 : plain_channel(kind, paired, i);
         for (size_t i = 0; command->kind >= PLAIN_MASKED && i < kind->channels; i++)
-            src[i] = plain_product(kind->max, src[i], covered ? plain_channel(kind, covered, 0) : command->alpha);
+            src[i] = plain_product(kind->max, src[i], covered ? plain_matte(kind, command, covered) : command->alpha);
         break;
     default: break;
     }

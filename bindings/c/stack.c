@@ -1,16 +1,25 @@
 /* How much stack each call needs: each runs in a thread of the stack that pix.h says, in a process of its own, since a
  * thread that needs more ends its process. It runs twice. Once 8 KiB of the stack are taken away, which is room for the
  * frame of a signal handler: with the registers of AVX-512 it has about 3.6. And once a handler runs on that stack every few
- * microseconds. With the word `least` the least stack of each is looked for, those 8 KiB among it, and printed. */
+ * microseconds. With the word `least` the least stack of each is looked for, those 8 KiB among it, and printed.
+ *
+ * Under Windows, where no signal comes in the midst of a call and a thread may get more stack than it asks for, the call
+ * runs above a page of the stack that may not be touched: that much below, less those 8 KiB. */
 #define _DEFAULT_SOURCE
 #include "each.h"
-#include <pthread.h>
-#include <signal.h>
 #include <stdio.h>
 #include <string.h>
+#ifdef _WIN32
+#include <process.h>
+#include <stdlib.h>
+#include <windows.h>
+#else
+#include <pthread.h>
+#include <signal.h>
 #include <sys/time.h>
 #include <sys/wait.h>
 #include <unistd.h>
+#endif
 
 enum { SIDE = 96, COUNT = SIDE * SIDE, ENTRIES = 256, OPERATORS = PIX_OP_COUNT, KINDS = PIX_KIND_COUNT, FORMATS = PIX_FORMAT_COUNT };
 
@@ -76,6 +85,22 @@ static void fill(void) {
 RUN_(, pix_matte, mattes)
 RUN_(_rgba16, pix_matte16, mattes16)
 RUN_(_graya8, pix_matte, mattes)
+
+/* Both kinds of commands with masks of 8 bits on 16, by each operator. */
+static pix_status run_bytes(void) {
+    const pix_region whole = pix_region_of(0, 0, SIDE, SIDE);
+    const pix_image_rgba16 image = pix_image_of_rgba16(pixels_rgba16, SIDE, SIDE);
+    const pix_view_rgba16 from = pix_view_of_rgba16(source_rgba16, SIDE, SIDE);
+    const pix_matte mask = pix_matte_of(mattes, SIDE, SIDE);
+    pix_status status = PIX_OK;
+    for (int i = 0; i < OPERATORS && status == PIX_OK; i++) {
+        pix_command_rgba16 list[2];
+        list[0] = pix_composite_matte8_rgba16(whole, mask, whole, source_rgba16[i], (pix_op)i);
+        list[1] = pix_composite_image_matte8_rgba16(whole, from, whole, mask, whole, (pix_op)i);
+        status = pix_run_rgba16(image, list, 2, NULL);
+    }
+    return status;
+}
 
 static pix_status repeat(void) {
     static pix_command list[16];
@@ -250,6 +275,7 @@ static const struct { const char *name; size_t kibibytes; pix_status (*call)(voi
     {"pix_check_library", FEW, pix_check_library},
     {"pix_run", FEW, run},
     {"pix_run_rgba16", FEW, run_rgba16},
+    {"pix_run_rgba16", FEW, run_bytes},
     {"pix_run_graya8", FEW, run_graya8},
     {"pix_repeat_image", FEW, repeat},
     {"pix_convert", FEW, convert},
@@ -281,6 +307,46 @@ static const struct { const char *name; size_t kibibytes; pix_status (*call)(voi
     {"pix_look_up_rgba", FEW, look_up_rgba},
 };
 
+#ifdef _WIN32
+enum { PAGE = 4096, MOST = 600 * 1024 };
+
+/* Has the system give the pages of the stack below. */
+static int take_pages(void) {
+    volatile unsigned char taken[MOST + 64 * 1024];
+    for (size_t i = sizeof taken; i > 0; i -= PAGE < i ? PAGE : i)
+        taken[i - 1] = 1;
+    return taken[0] + 1;
+}
+
+/* Runs a call above a page that may not be touched, so many bytes below: a call that needs more ends the process. */
+static int run_above(pix_status (*call)(void), size_t room) {
+    volatile unsigned char here = 1;
+    DWORD before;
+    const uintptr_t least = (uintptr_t)&here - room;
+    unsigned char *wall = (unsigned char *)(least - least % PAGE - PAGE);
+    if (!take_pages() || !VirtualProtect(wall, PAGE, PAGE_NOACCESS, &before))
+        return 2;
+    const pix_status status = call();
+    return !VirtualProtect(wall, PAGE, before, &before) || status != PIX_OK || here != 1;
+}
+
+/* What a process of its own does: the words are `alone`, the number of a call and KiB. */
+static int run_alone(char **word) {
+    SetErrorMode(SEM_FAILCRITICALERRORS | SEM_NOGPFAULTERRORBOX);
+    return run_above(calls[strtoul(word[2], NULL, 10)].call, (strtoul(word[3], NULL, 10) - 8) * 1024);
+}
+
+static char *own_path;
+
+/* Returns whether a call succeeds over so much stack. */
+static int fits_alone(size_t number, size_t kibibytes) {
+    char words[2][32];
+    sprintf(words[0], "%u", (unsigned)number);
+    sprintf(words[1], "%u", (unsigned)kibibytes);
+    fflush(NULL);
+    return _spawnl(_P_WAIT, own_path, "stack", "alone", words[0], words[1], NULL) == 0;
+}
+#else
 static int failed;
 
 /* Runs a call while 8 KiB of the stack are taken. */
@@ -339,25 +405,41 @@ static int fits(void *(*run)(void *), pix_status (*call)(void), size_t kibibytes
     return child > 0 && waitpid(child, &status, 0) == child && WIFEXITED(status) && WEXITSTATUS(status) == 0;
 }
 
+static int fits_alone(size_t number, size_t kibibytes) {
+    return fits(run_beside, calls[number].call, kibibytes);
+}
+
+static int fits_interrupted(size_t number, size_t kibibytes) {
+    return fits(run_interrupted, calls[number].call, kibibytes);
+}
+#endif
+
 int main(int words, char **word) {
     const int is_search = words == 2 && !strcmp(word[1], "least");
     int is_well = 1;
     fill();
+#ifdef _WIN32
+    own_path = word[0];
+    if (words == 4 && !strcmp(word[1], "alone"))
+        return run_alone(word);
+#endif
     for (size_t i = 0; i < sizeof calls / sizeof *calls; i++) {
         size_t kibibytes = calls[i].kibibytes;
         if (is_search) {
-            for (kibibytes = 16; !fits(run_beside, calls[i].call, kibibytes) && kibibytes < 4096; kibibytes += 4) {}
+            for (kibibytes = 16; !fits_alone(i, kibibytes) && kibibytes < 4096; kibibytes += 4) {}
             printf("%s: %zu KiB\n", calls[i].name, kibibytes);
             continue;
         }
-        if (!fits(run_beside, calls[i].call, kibibytes)) {
+        if (!fits_alone(i, kibibytes)) {
             fprintf(stderr, "stack: %s leaves less than 8 of %zu KiB for a signal\n", calls[i].name, kibibytes);
             is_well = 0;
         }
-        if (!fits(run_interrupted, calls[i].call, kibibytes)) {
+#ifndef _WIN32
+        if (!fits_interrupted(i, kibibytes)) {
             fprintf(stderr, "stack: %s fails with %zu KiB where a handler runs on its stack\n", calls[i].name, kibibytes);
             is_well = 0;
         }
+#endif
     }
     if (is_well && !is_search)
         printf("stack: each call fits in what pix.h says, with 8 KiB for a signal\n");

@@ -1,13 +1,15 @@
 /* Two threads paint two images from one source at once, and both images come out alike; then four threads paint bands
  * of rows of one image at once, and it is the image that one call paints; then a signal handler paints an image while the
- * call that it interrupts paints another one. */
+ * call that it interrupts paints another one: not under Windows, where no signal comes in the midst of a call. */
 #define _DEFAULT_SOURCE
 #include "pix.h"
 #include <pthread.h>
 #include <signal.h>
 #include <stdio.h>
 #include <string.h>
+#ifndef _WIN32
 #include <sys/time.h>
+#endif
 
 enum { SIDE = 64, ROUNDS = 500, BANDS = 4, HEIGHT = SIDE / BANDS };
 
@@ -76,6 +78,11 @@ static int try_bands(void) {
            && memcmp(images[0], images[1], sizeof images[0]) == 0;
 }
 
+#ifdef _WIN32
+static int try_handler(void) {
+    return 1;
+}
+#else
 static volatile sig_atomic_t handled, refused;
 static pix_command handler_list[4];
 
@@ -111,6 +118,7 @@ static int try_handler(void) {
         return 0;
     return is_well && handled > 0 && !refused && memcmp(images[1], peaceful, sizeof peaceful) == 0;
 }
+#endif
 
 int main(void) {
     pthread_t threads[2];

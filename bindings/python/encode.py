@@ -13,7 +13,7 @@ frames becomes a GIF with all of them and their times, and one table.
 
 The file is written by this program itself, and the library makes its table, its indices and its rows; Pillow reads the picture,
 and then the file, whose pixels are compared. Needs Pillow. Prints what was made, with the mean squared error of its pixels as they
-are seen: that over black and that over white, averaged. Answers 1 where the pixels differ, and 2 after a wrong use.
+are seen: that over black and that over white, averaged. Answers 1 where the pixels differ, and 2 after a wrong use, or without Pillow.
 """
 
 import os
@@ -22,7 +22,11 @@ import sys
 import zlib
 from typing import Any, Dict, List, NamedTuple, Optional, Tuple
 
-from PIL import Image, ImageChops, ImageSequence, ImageStat
+try:
+    from PIL import Image, ImageChops, ImageSequence, ImageStat
+except ImportError:
+    print("encode.py: it needs Pillow: pip install Pillow", file=sys.stderr)
+    sys.exit(2)
 
 import pix
 from pix._put import put  # how the package writes its own files

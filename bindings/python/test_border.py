@@ -286,14 +286,13 @@ class NoPixels(unittest.TestCase):
             tracemalloc.stop()
 
     def test_refusals_come_first(self):
-        status, far = pix.Status, pix.Image(bytearray(8), 1, 50_000_000)
+        status = pix.Status
         self.refused(
             status.BAD_SOURCE,
             lambda: pix.Image.from_array(b"1234", pix.SRGBA8, size=(10000, 10000)),
         )
-        self.refused(status.BAD_SIZE, lambda: pickle.dumps(far))
-        self.refused(status.BAD_SIZE, lambda: copy.copy(pix.Image(bytearray(800), 10, 10, 3)))
-        self.refused(status.BAD_SOURCE, lambda: far.to_array(pix.SRGBA8))
+        self.refused(status.BAD_SIZE, lambda: pix.Image(bytearray(8), 1, 50_000_000))
+        self.refused(status.BAD_SIZE, lambda: pix.Image(bytearray(800), 10, 10, 3))
         self.refused(
             status.BAD_SOURCE,
             lambda: pix.convert_bitmap(pix.SRGBA8, b"1234", RGBA8, None, (10000, 10000)),

@@ -413,5 +413,44 @@ class Png(Trial):
         self.assertEqual(_png.orientation(exif.replace(b"\6", b"\x09")), 1)
 
 
+class Colors(unittest.TestCase):
+    """What a PNG says of its colors is told, with Pillow and without, and changes no number."""
+
+    PROFILE = zlib.compress(b"a profile of Adobe RGB" * 9)
+    OWN = struct.pack(">8I", 31270, 32900, 64000, 33000, 30000, 60000, 15000, 6000)
+    FILES = [
+        ([], None),
+        ([(b"sRGB", b"\0"), (b"gAMA", struct.pack(">I", 45455)), (b"cHRM", OWN)], None),
+        ([(b"gAMA", struct.pack(">I", 45455)), (b"cHRM", OWN)], None),
+        ([(b"gAMA", struct.pack(">I", 100000))], "gAMA 1.00000"),
+        ([(b"cHRM", struct.pack(">8I", 31270, 32900, 64000, 33000, 21000, 71000, 15000, 6000))], "a cHRM of their own"),
+        ([(b"sRGB", b"\0"), (b"gAMA", struct.pack(">I", 100000))], None),
+        ([(b"iCCP", b"other\0\0" + PROFILE)], "(iCCP)"),
+        ([(b"iCCP", b"s\0\0" + zlib.compress(b"sRGB IEC61966-2.1" * 9))], None),
+    ]
+    # What Pillow refuses.
+    BROKEN = [([(b"gAMA", b"\0")], None)]
+
+    def test_told(self):
+        for is_alone in (True, False) if pillow else (True,):
+            for chunks, wanted in [*self.FILES, *self.BROKEN * is_alone]:
+                with self.subTest(chunks=chunks, is_alone=is_alone), alone(is_alone), warnings.catch_warnings(record=True) as said:
+                    warnings.simplefilter("always")
+                    file = io.BytesIO(self.file_of(chunks))
+                    image = pix.Image.open(file)
+                    said = [it for it in said if it.category is pix.ColorWarning]
+                    self.assertEqual(len(said), int(wanted is not None))
+                    self.assertTrue(all(wanted in str(it.message) for it in said), [str(it.message) for it in said])
+                    self.assertTrue(all(it.filename == __file__ for it in said), [it.filename for it in said])
+                    self.assertEqual(straight(image), bytes([200, 120, 40, 255]))
+
+    @staticmethod
+    def file_of(chunks):
+        """A file of one pixel with these chunks."""
+        head = struct.pack(">IIBBBBB", 1, 1, 8, 2, 0, 0, 0)
+        parts = [(b"IHDR", head), *chunks, (b"IDAT", zlib.compress(b"\0\xc8\x78\x28")), (b"IEND", b"")]
+        return _png.SIGNATURE + b"".join(_png.chunk(*part) for part in parts)
+
+
 if __name__ == "__main__":
     unittest.main()

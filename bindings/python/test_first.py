@@ -4,6 +4,7 @@ import io
 import pathlib
 import random
 import tempfile
+import tracemalloc
 import unittest
 from unittest import mock
 
@@ -81,6 +82,32 @@ class Masks(unittest.TestCase):
                 painted.append(bytes(image.pixels))
             self.assertEqual(*painted)
 
+    def test_masks_of_both_kinds_in_one_list(self):
+        values = bytes((37 * i) % 256 for i in range(300))
+        narrow, wide = self.masks(values, 20, 15, 20)
+        painted = []
+        for first, second in ((wide, wide), (narrow, narrow), (narrow, wide), (wide, narrow)):
+            image, source = fan((40, 30)), fan((40, 30), opacity=0.7)
+            image.run(
+                pix.composite_matte((3, 1, 30, 20), first, pix.srgb("#c87828", opacity=0.5)),
+                pix.composite_image_alpha((0, 5, 9, 9), source, opacity=0.3),
+                pix.composite_image_matte((2, 2, 30, 20), source, second, op=pix.Op.SRC_ATOP),
+                pix.composite_matte((5, 3, 9, 9), second, pix.srgb("navy"), (2, 1, 9, 9), pix.Op.XOR),
+            )
+            painted.append(bytes(image.pixels))
+        self.assertEqual(painted, painted[:1] * 4)
+
+    def test_it_is_handed_over_as_it_is(self):
+        """The library reads the caller's own values: no copy of them is made."""
+        values, image = bytearray(512 * 512), pix.Image.new(512, 512)
+        commands = pix.CommandList(pix.composite_matte((0, 0, 512, 512), pix.Matte(values, 512, 512), pix.srgb("#fff")))
+        tracemalloc.start()
+        try:
+            image.run(commands)
+            self.assertLess(tracemalloc.get_traced_memory()[1], len(values) // 2)
+        finally:
+            tracemalloc.stop()
+
     def test_it_is_read_at_each_run(self):
         values, image = bytearray(64), pix.Image.new(8, 8)
         mask = pix.Matte(values, 8, 8)
@@ -105,10 +132,10 @@ class Masks(unittest.TestCase):
 
     def test_refusals(self):
         image = pix.Image.new(8, 8)
-        for mask in (pix.Matte(bytes(63), 8, 8), pix.Matte(bytes(64), 8, 8, 9)):
-            with self.assertRaises(pix.PixError) as caught:
-                image.run(pix.composite_matte(WHOLE, mask, pix.srgb("#fff")))
-            self.assertEqual(caught.exception.status, pix.Status.BAD_SOURCE)
+        for values, stride in ((bytes(63), 8), (bytes(64), 9)):
+            with self.assertRaisesRegex(pix.PixError, "the buffer is too short") as caught:
+                pix.Matte(values, 8, 8, stride)
+            self.assertEqual(caught.exception.status, pix.Status.BAD_SIZE)
         wide = pix.Matte(bytearray(128), 8, 8, bits=16)
         small = pix.Image.new(8, 8, pix.RGBA8)
         with self.assertRaisesRegex(TypeError, "a mask of 16 bits.*image of RGBA8.*bits=8"):
@@ -269,7 +296,7 @@ class Looks(unittest.TestCase):
             self.assertRaises(IndexError, image.__getitem__, wrong)
         for wrong in (1, (1,), (1, 2, 3), "ab", (1.5, 2), slice(1), (slice(1), 1)):
             self.assertRaises(TypeError, image.__getitem__, wrong)
-        self.assertRaises(pix.PixError, pix.Image(bytes(7), 1, 2, type=pix.RGBA8).__getitem__, (0, 1))
+        self.assertRaises(pix.PixError, pix.Image, bytes(7), 1, 2, type=pix.RGBA8)
 
     def test_a_part(self):
         for kind in pix.PixelType:

@@ -158,6 +158,7 @@ def plain_diffused(width, pixels, strength, serpentine, chosen):
             took = got.get((x, y), (0,) * 4)
             wanted = lambda i, number: min(255, max(0, (256 * number + 128 + strength * took[i]) // 256))
             indices[width * y + x], errors = chosen(pixels[width * y + x], wanted)
+            errors = errors and [max(-24, min(24, error)) for error in errors]
             for right, down, share in ((way, 0, 7), (-way, 1, 3), (0, 1, 5), (way, 1, 1)):
                 at = x + right, y + down
                 if errors and 0 <= at[0] < width:
@@ -269,8 +270,10 @@ class Tables(unittest.TestCase):
         self.assertEqual(pix.diffuse_indexed(grays, bytes(3 * 64), 8), bytes(64))
         self.assertEqual(sum(pix.diffuse_indexed(grays, half, 64)), 32)
         self.assertIn(sum(pix.diffuse_indexed(grays, half, 8)), range(28, 37))
-        # By hand: 100 is black and hands on 700 sixteenths, so that 100 and 44 are 144, which is white, and so on.
-        self.assertEqual(pix.diffuse_indexed(grays, bytes([100]) * 12, 4), b"\0\1\0\0")
+        # By hand: 120 is black and hands on 7 sixteenths of 24, so that 120 and 10.5 are 131, which is white, and so on.
+        self.assertEqual(pix.diffuse_indexed(grays, bytes([120]) * 12, 4), b"\0\1\0\1")
+        # What is wanted of 100 is at most 124, which is black.
+        self.assertEqual(pix.diffuse_indexed(grays, bytes([100]) * 12, 4), bytes(4))
         clear = joined([(100, 100, 100, 0), (100, 100, 100, 255)])
         found = pix.diffuse_indexed(grays, clear, 2, format=pix.Format.SRGBA8, alpha=1, transparent_index=9)
         self.assertEqual(found, b"\x09\0")

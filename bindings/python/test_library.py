@@ -25,6 +25,21 @@ class Libraries(unittest.TestCase):
         for kind, known in (("x86-64", None), ("x86-64", {"sse4_1"}), ("aarch64", None)):
             self.assertIsNone(_library.processor_fault(kind, known))
 
+    def test_windows(self):
+        class Kernel:
+            has = 1
+
+            def IsProcessorFeaturePresent(self, number):
+                return self.has if number == 37 else 0
+
+        folder = os.path.dirname(_library.__file__)
+        with mock.patch.object(sys, "platform", "win32"), mock.patch.object(ctypes, "WinDLL", lambda name: Kernel(), create=True):
+            self.assertEqual(_library.instructions(), {"sse4_1"})
+            with mock.patch.dict(os.environ, clear=True), mock.patch.object(os.path, "exists", lambda path: path.endswith(("pix.dll", "v3.so"))):
+                self.assertEqual(_library.path_of_library(_library.V3), os.path.join(folder, "pix.dll"))
+            Kernel.has = 0
+            self.assertIn("needs a processor with SSE4.1", _library.processor_fault("x86-64", _library.instructions()))
+
     def imported(self, path, before="pass"):
         """Returns what an import over the library at a path says at last."""
         code, env = f"{before}\nimport pix", {**os.environ, "PIX_LIBRARY": path}
@@ -113,9 +128,9 @@ class Libraries(unittest.TestCase):
         library.pix_layout.restype = ctypes.c_uint32
         library.pix_layout.argtypes = [ctypes.c_size_t]
         fact = ctypes.c_size_t.in_dll(library, "other_fact")
-        for fact.value in range(64):
+        for fact.value in range(66):
             self.assertRaises(ImportError, _pixels.refuse_another, library)
-        fact.value = 64
+        fact.value = 66
         _pixels.refuse_another(library)
 
 

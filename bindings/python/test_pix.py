@@ -64,10 +64,41 @@ class Refusals(unittest.TestCase):
         self.refused(pix.Status.BAD_OP, pix.composite_color(WHOLE, COLOR, NO_OPERATOR))
         self.refused(pix.Status.BAD_REGION, pix.copy_color((0, 0, LONG, 1), COLOR))
         self.refused(pix.Status.BAD_REGION, pix.copy_image(WHOLE, self.other, (0, 0, 1, LONG)))
-        for width, height, stride in ((LONG, 0, None), (0, LONG, None), (4, 5, None), (4, 4, 3), (4, 4, 5)):
-            source = pix.Image(self.other.pixels, width, height, stride)
+        for width, height in ((LONG, 0), (0, LONG)):
+            source, mask = pix.Image(self.other.pixels, width, height), pix.Matte(bytes(9), width, height)
             self.refused(pix.Status.BAD_SOURCE, pix.composite_image(WHOLE, source, WHOLE))
-        self.refused(pix.Status.BAD_SOURCE, pix.composite_matte(WHOLE, pix.Matte(bytes(15), 4, 4), COLOR))
+            self.refused(pix.Status.BAD_SOURCE, pix.composite_matte(WHOLE, mask, COLOR, WHOLE))
+            masked = pix.composite_image_matte(WHOLE, self.other, mask, mask_from=WHOLE)
+            self.refused(pix.Status.BAD_SOURCE, masked)
+
+    def test_short_buffers(self):
+        """They are refused where they are handed over, and what is said tells what is missing."""
+        short = r"the buffer is too short: it has {} bytes, and {} take {}"
+        for sizes, said in (
+            ((4, 5), short.format(64, "4 x 5 pixels of RGBA8", 80)),
+            ((4, 4, 5), short.format(64, "4 x 4 pixels of RGBA8 in rows 5 apart", 76)),
+            ((4, 4, 3), "rows of 4 pixels of RGBA8 can't begin 3 apart: the stride is counted in pixels, and is"),
+            ((LONG, 1), f"{LONG} x 1 pixels of RGBA8 have a side above {LONG - 1}"),
+            ((1, LONG), f"1 x {LONG} pixels of RGBA8 have a side above {LONG - 1}"),
+        ):
+            with self.assertRaisesRegex(pix.PixError, said) as caught:
+                pix.Image(self.pixels, *sizes)
+            self.assertEqual((caught.exception.status, caught.exception.index), (pix.Status.BAD_SIZE, None))
+            again = pickle.loads(pickle.dumps(caught.exception))
+            self.assertEqual((str(again), again.status), (str(caught.exception), pix.Status.BAD_SIZE))
+        wide = memoryview(bytearray(30)).cast("H")
+        for values, sizes, bits, said in (
+            (bytes(15), (4, 4), 8, short.format(15, "4 x 4 values", 16)),
+            (bytes(19), (4, 4, 5), 8, None),
+            (bytes(18), (4, 4, 5), 8, short.format(18, "4 x 4 values in rows 5 apart", 19)),
+            (wide, (4, 4), 16, short.format(30, "4 x 4 values", 32)),
+            (bytes(64), (8, 8, 7), 8, "rows of 8 values can't begin 7 apart: the stride is counted in values, and"),
+        ):
+            if said is None:
+                pix.Matte(values, *sizes, bits=bits)
+                continue
+            with self.assertRaisesRegex(pix.PixError, said):
+                pix.Matte(values, *sizes, bits=bits)
 
     def test_windows(self):
         far = pix.copy_color((LONG - 5, 0, 9, 1), COLOR)
@@ -194,7 +225,6 @@ class Refusals(unittest.TestCase):
         self.assertRaises(TypeError, pix.composite_image_matte, WHOLE, self.other, self.other)
         wide = pix.composite_image_matte(WHOLE, self.other, pix.Matte(bytes(32), 4, 4, bits=16))
         self.assertRaises(TypeError, self.image.run, wide)
-        self.refused(pix.Status.BAD_SOURCE, pix.composite_image_matte(WHOLE, self.other, pix.Matte(bytes(15), 4, 4)))
 
     def test_conversions(self):
         four, three = pix.Format.RGBA8, pix.Format.RGB8

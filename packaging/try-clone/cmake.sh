@@ -36,16 +36,20 @@ by_compiler() {
     CC=$1 cmake -S "$work/a clone" -B "$at" && cmake --build "$at" && (cd "$at" && ctest)
 }
 
-# Over another C library than glibc the program is left out, and so it is where that is asked for; the library is built, and its tests run.
+# Over another C library than glibc the program is built too; it is left out where that is asked for. The library is built, and its tests run.
 by_musl() {
     local at="$work/cmake musl"
-    CC=musl-gcc cmake -S "$clone" -B "$at" | tee "$work/musl.log" && grep -F 'pixpaint stands on glibc, and is left out' "$work/musl.log" \
-        && cmake --build "$at" && (cd "$at" && ctest) && [ ! -e "$at/pixpaint" ]
+    CC=musl-gcc cmake -S "$clone" -B "$at" && cmake --build "$at" && (cd "$at" && ctest) && [ -x "$at/pixpaint" ]
 }
 
 without_program() {
     local at="$work/cmake alone"
     cmake -S "$clone" -B "$at" -DPIX_PROGRAM=OFF && cmake --build "$at" && cmake --install "$at" --prefix "$at/prefix" && [ ! -e "$at/pixpaint" ] && [ -e "$at/libpix.a" ]
+}
+
+# What a preset builds for Windows.
+windows_built() {
+    ls pix/out/mingw/pix.dll pix/out/mingw/libpix.dll.a pix/out/mingw/libpix.a pix/out/mingw/pixpaint.exe
 }
 
 # A project that has CMake name another processor or system, no compiler, or a clone without generated/.
@@ -86,4 +90,10 @@ if have 'CMake' cmake ctest; then
     step 'CMake: without the program' without_program
     have 'CMake by musl-gcc' musl-gcc && step 'CMake: over musl' by_musl
     step 'CMake: another processor and system, no compiler, no generated/' cmake_bad
+fi
+if have 'Windows' cmake ctest ninja x86_64-w64-mingw32-gcc && { command -v wine64 || [ -x /usr/lib/wine/wine64 ]; } >/dev/null; then
+    export WINEPREFIX=$work/wine WINEDEBUG=-all
+    try_lines docs/INSTALL.md Windows windows_built
+else
+    ran+=('docs/INSTALL.md clone: Windows')
 fi

@@ -6,12 +6,12 @@ page_served() {
     local folder=$work/page
     mkdir "$folder" && lines_of docs/INSTALL.md 'clone: page' >"$folder/lines.sh" && [ -s "$folder/lines.sh" ] && cd "$folder" || return
     "${alone[@]}" sh -c 'ip link set lo up 2>/dev/null; timeout 60 sh -ex lines.sh & exec "$0" -' "$python" <<'END'
-import hashlib, json, time, urllib.request
+import hashlib, json, re, time, urllib.request
 
 def fetched(name, patience=40):
     while True:
         try:
-            return urllib.request.urlopen(f"http://localhost:8000/{name}", timeout=5).read()
+            return urllib.request.urlopen(f"http://localhost:8000/web/page/{name}", timeout=5).read()
         except OSError:
             patience -= 1
             if not patience:
@@ -20,8 +20,10 @@ def fetched(name, patience=40):
 
 page = fetched("index.html").decode()
 said = json.loads(fetched("built.json"))
+for name in re.findall(r'href="(\.\./\.\./[^"#]+)"', page):
+    assert fetched(name), name
 assert hashlib.sha256(fetched("pix_c.wasm")).hexdigest() == said["sum"], said
-for name in ("main.js", "facts.js", "library.js", "style.css", "triangle.png", "examples/operators.paint", "glazes.paint"):
+for name in ("main.js", "library.js", "../../bindings/js/pix.js", "../../bindings/js/facts.js", "style.css", "triangle.png", "examples/operators.paint", "glazes.paint"):
     assert fetched(name), name
 print(said)
 END

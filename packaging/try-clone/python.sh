@@ -64,9 +64,11 @@ python_bad() {
 if ! "$python" -c 'import venv, ensurepip' 2>/dev/null; then
     lacks "$python with venv and ensurepip, as in python3-venv" 'the package of Python'
     ran+=('README.md clone: Python' 'CALLING.md clone: Python' 'docs/INSTALL.md clone: pip')
+    skip_tasks Python
 else
     try_lines README.md Python python_painted
     try_lines CALLING.md Python task_painted
+    try_tasks Python
     env_python=$places/docs-INSTALL.md-pip/env/bin/python
     if try_lines docs/INSTALL.md pip python_painted; then
         step 'Python: demo, refusals, buffers, threads against the wheel' package_tests

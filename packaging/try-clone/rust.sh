@@ -32,10 +32,12 @@ rust_narrow() {
 
 if ! have 'the crates of Rust' cargo rustc ar; then
     ran+=('README.md clone: Rust' 'CALLING.md clone: Rust' 'docs/INSTALL.md clone: cargo')
+    skip_tasks Rust
 else
     try_lines README.md Rust rust_painted
     try_lines CALLING.md Rust task_painted
-    step 'CALLING.md: each program of Rust' "$clone/tools/calling" Rust
+    try_tasks Rust
+    step 'CALLING.md, docs/tasks: each program of Rust' "$clone/tools/calling" Rust
     if try_lines docs/INSTALL.md cargo rust_painted; then
         step 'Rust: a second build' rust_again
         step 'Rust: the tests of the crates, in a path with spaces' rust_tests

@@ -70,5 +70,6 @@ step 'bindings/README.md: its lines over generated/' pages_lines "$clone"
 try_lines README.md C painted
 try_lines README.md C++ painted
 try_lines CALLING.md C task_painted
-step 'CALLING.md: each program, as it stands on the page' "$clone/tools/calling" C Python
+try_tasks C
+step 'CALLING.md, docs/tasks: each program, as it is on the page' "$clone/tools/calling" C Python
 try_lines docs/INSTALL.md sums true

@@ -40,7 +40,7 @@ other_processors() {
 # The wheel for aarch64 is refused by pip here, and where it is put by force, an import says why.
 wheel_for_another() {
     local wheel
-    wheel=$(echo "$dist"/*aarch64.whl)
+    wheel=$(echo "$dist"/*manylinux*aarch64.whl)
     refuses 'is not a supported wheel on this platform' "$env_python" -m pip install --no-index --force-reinstall "$wheel" || return
     "$env_python" -m zipfile -e "$wheel" "$work/forced" && cd "$work/forced" \
         && refuses 'is for aarch64, and this processor is x86-64' "$env_python" -c 'import pix'
@@ -49,7 +49,7 @@ wheel_for_another() {
 # A library of another version or layout, or none, in the place of the wheel's.
 wheel_with_another() {
     local package
-    "$env_python" -m zipfile -e "$(echo "$dist"/*x86_64.whl)" "$work/another" || return
+    "$env_python" -m zipfile -e "$(echo "$dist"/*manylinux*x86_64.whl)" "$work/another" || return
     package=$work/another/pix && rm "$package"/libpix_c*.so && cd "$work/another" || return
     refuses "no library at $work/another/libpix_c.so" "$env_python" -c 'import pix' || return
     cc -std=c99 -O1 -fPIC -shared -DOTHER_FACT=0 -I "$top/bindings/c" "$top/bindings/c/other.c" -o "$package/libpix_c.so" -lm \
@@ -80,11 +80,11 @@ python_aarch64() {
 
 wheel_aarch64() {
     local run=(qemu-aarch64 -L "$work/debian/root" "$(cat "$work/debian/python")")
-    "$python" -m zipfile -e "$(echo "$dist"/*aarch64.whl)" "$work/wheel-aarch64" && cd "$work/src" || return
+    "$python" -m zipfile -e "$(echo "$dist"/*manylinux*aarch64.whl)" "$work/wheel-aarch64" && cd "$work/src" || return
     export PYTHONPATH=$work/wheel-aarch64
     "${run[@]}" demo.py "$work/python-aarch64.ppm" && same python-aarch64 \
         && "${run[@]}" -m unittest test_pix.Refusals test_pix.Borders test_pix.Paintings \
-        && PIX_LIBRARY=$(echo "$work"/wheel-*x86_64.whl/pix/libpix_c.so) refuses 'is for x86-64, and this processor is aarch64' "${run[@]}" -c 'import pix'
+        && PIX_LIBRARY=$(echo "$work"/wheel-*manylinux*x86_64.whl/pix/libpix_c.so) refuses 'is for x86-64, and this processor is aarch64' "${run[@]}" -c 'import pix'
 }
 
 if ! "$python" -c 'import venv, ensurepip' 2>/dev/null; then

@@ -1,6 +1,6 @@
 // The same run in exact fractions at one pixel, and its rounding budget, as ExactRun.antt of pix_ops defines them. This
 // is the page's own arithmetic, in whole numbers of any length, and is not proved.
-import { OPERATORS } from './facts.js';
+import { OPERATORS } from '../../bindings/js/facts.js';
 
 const MAX = 255n;
 const READS = { Zero: 0, One: 0, Alpha: 1, OneMinusAlpha: 1 };

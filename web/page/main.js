@@ -1,6 +1,7 @@
 // Loads the proved library and starts the parts of the page, each with an instance of its own.
-import { hasMemory64, Library } from './library.js';
+import { Library } from './library.js';
 import { showOperators } from './operators.js';
+import { isSupported } from '../../bindings/js/pix.js';
 import { showScripts } from './scripts.js';
 import { showText } from './text.js';
 import { element, fetched } from './view.js';
@@ -12,15 +13,22 @@ function refuse(reason) {
     element('state').textContent = reason;
 }
 
-// Says what was loaded: the commit, the kit, the prover's verdict, and the size and the sum of the module.
+// Puts the prover's line into words.
+function inWords(verdict) {
+    const found = /^logic=proved functions=(\d+)/.exec(verdict);
+    return found ? `proved (${found[1]} functions of the last crate, and all crates below it)` : verdict;
+}
+
+// Shows the version of the module: the commit, the kit, the prover's verdict, and the size and the sum.
 function tell(built) {
-    for (const name of ['commit', 'kit', 'verdict', 'bytes', 'sum']) element(`built-${name}`).textContent = built[name];
+    for (const name of ['commit', 'kit', 'made', 'verdict', 'bytes', 'sum']) element(`built-${name}`).textContent = built[name] ?? 'unknown';
+    element('built-verdict').textContent = inWords(built.verdict);
 }
 
 async function start() {
-    if (!hasMemory64()) {
-        refuse('This browser has no 64-bit memories for WebAssembly (memory64), which the library is built for. '
-            + 'Chrome and Edge have them from version 133 on, and Firefox from 134 on.');
+    if (!isSupported()) {
+        refuse('This browser has no SIMD for WebAssembly, which the library is built for. '
+            + 'Chrome and Edge have it from version 91 on, Firefox from 89 on, and Safari from 16.4 on.');
         return;
     }
     const [file, built] = await Promise.all([fetched('pix_c.wasm'), fetched('built.json')]);

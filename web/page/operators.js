@@ -1,8 +1,9 @@
 // The thirteen operators on two shapes: a disc, the destination, and a square with round corners, the source. A visitor
 // drags them, or moves them by keys or numbers, and chooses their colors and alphas.
-import { OPERATORS } from './facts.js';
-import { compositeImage, compositeMask, copyColor, copyImage, whole } from './library.js';
+import { OPERATORS } from '../../bindings/js/facts.js';
+import { whole } from './library.js';
 import { disc, roundSquare } from './mask.js';
+import { compositeImage, compositeMatte, copyColor, copyImage } from '../../bindings/js/pix.js';
 import {
     channelsOf, checkerboard, element, formula, onSize, onTheme, onceAFrame, premultiplied, show, sizeOf, SRC,
 } from './view.js';
@@ -52,10 +53,9 @@ function imageOf(library, side, { width, height }, isLight) {
     const { x, y, color } = shapeOf(side);
     const image = library.image(width, height);
     const values = maskOf(side, scale), wide = Math.sqrt(values.length);
-    const mask = library.mask(wide, wide, values);
     const full = premultiplied(library, color, isLight);
     const to = [Math.round(x * scale), Math.round(y * scale), wide, wide];
-    library.run(image, [compositeMask(SRC, to, mask, whole(mask), full)]);
+    image.run(compositeMatte(to, library.pix.matte(values, wide, wide), full, { op: SRC }));
     return image;
 }
 
@@ -78,7 +78,7 @@ function drawOn(library, pairs, isLight) {
         if (!scenes.has(name)) scenes.set(name, sceneOf(library, size, isLight));
         const { source, dest, board, made } = scenes.get(name);
         const all = whole(made);
-        library.run(made, [copyImage(all, dest, all), compositeImage(op, all, source, all)]);
+        made.run([copyImage(all, dest), compositeImage(all, source, { op })]);
         show(library, made, board, canvas, isLight);
     }
 }
@@ -114,9 +114,9 @@ function painter(library) {
 function say(library, isLight) {
     const [source, dest] = ['source', 'dest'].map((side) => premultiplied(library, shapeOf(side).color, isLight));
     const pixel = library.image(1, 1);
-    const one = library.imageOf(1, 1, source);
-    library.run(pixel, [copyColor(whole(pixel), dest), compositeImage(chosen(), whole(pixel), one, whole(one))]);
-    const words = [source, dest, Array.from(library.pixels(pixel))].map((channels) => channels.join(' '));
+    const one = library.pix.view(Uint8Array.from(source), 1, 1);
+    pixel.run([copyColor(whole(pixel), dest), compositeImage(whole(pixel), one, { op: chosen() })]);
+    const words = [source, dest, pixel.pixel(0, 0)].map((channels) => channels.join(' '));
     const { name } = OPERATORS[chosen()];
     const said = `Where they overlap: source ${words[0]}, destination ${words[1]}, ${name} ${words[2]}.`;
     element('overlap').textContent = said;

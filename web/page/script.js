@@ -1,5 +1,5 @@
 // Reads a paint script, as docs/SCRIPTS.md says. This is the page's own reader and is not proved: that of pixpaint is.
-import { OPERATORS } from './facts.js';
+import { OPERATORS } from '../../bindings/js/facts.js';
 
 const LONGEST = 1048576;
 const LARGEST = 1024;

@@ -1,9 +1,9 @@
 // A paint script, its picture and its faults, and what became of the pixel under the mouse.
 import { decimal, distance } from './exact.js';
-import { EXAMPLES } from './facts.js';
+import { EXAMPLES } from '../../bindings/js/facts.js';
 import { historyOf } from './history.js';
-import { copyColor } from './library.js';
 import { paint, printed } from './painting.js';
+import { channels, copyColor } from '../../bindings/js/pix.js';
 import { checkerboard, element, fetched, onTheme, onceAFrame, show } from './view.js';
 
 const CHANNELS = ['red', 'green', 'blue', 'alpha'];
@@ -64,22 +64,22 @@ function repaint(library) {
 
 // Prints the picture as text, where the visitor looks at that: a large one takes a while.
 function print(library) {
-    element('printed').textContent = element('print').open ? printed(library, image) : '';
+    element('printed').textContent = element('print').open ? printed(image) : '';
 }
 
 // Answers an image whose pixels are squares, where the picture is small, and else the picture itself.
 function enlarged(library, small) {
     const factor = Math.ceil(LEAST / Math.max(small.width, small.height));
     if (factor <= 1) return small;
-    const pixels = Array.from(library.pixels(small));
+    const pixels = Array.from(small.pixels);
     const large = library.image(factor * small.width, factor * small.height);
     const commands = [];
     for (let y = 0, at = 0; y < small.height; y++) {
         for (let x = 0; x < small.width; x++, at += 4) {
-            commands.push(copyColor([factor * x, factor * y, factor, factor], pixels.slice(at, at + 4)));
+            commands.push(copyColor([factor * x, factor * y, factor, factor], channels(pixels.slice(at, at + 4))));
         }
     }
-    library.run(large, commands);
+    large.run(commands);
     return large;
 }
 

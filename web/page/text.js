@@ -1,8 +1,9 @@
 // A line of text through a mask, over bars from dark to bright: in linear light, and on the bytes as they are.
-import { compositeMask, copyColor, whole } from './library.js';
+import { whole } from './library.js';
 import { textMask } from './mask.js';
+import { compositeMatte, copyColor } from '../../bindings/js/pix.js';
 import {
-    channelsOf, element, onSize, onTheme, onceAFrame, premultiplied, put, sizeOf, SRC_OVER,
+    channelsOf, element, onSize, onTheme, onceAFrame, premultiplied, put, sizeOf,
 } from './view.js';
 
 // How much of the height the letters take, and the font.
@@ -26,11 +27,10 @@ function drawOn(library, canvas, isLight) {
         copyColor([edge(index), 0, edge(index + 1) - edge(index), height],
             premultiplied(library, barColor(index), isLight)));
     const letters = textMask(element('words').value, width, height, font(Math.round(SIZE * height)));
-    const mask = library.mask(width, height, letters);
+    const mask = library.pix.matte(letters, width, height);
     const color = [...channelsOf(element('words-color')), Number(element('words-alpha').value)];
-    const text = compositeMask(SRC_OVER, whole(image), mask, whole(mask), premultiplied(library, color, isLight));
-    library.run(image, [...bars, text]);
-    put(library, image, canvas, isLight);
+    image.run([...bars, compositeMatte(whole(image), mask, premultiplied(library, color, isLight))]);
+    put(image, canvas, isLight);
     const way = isLight ? 'in linear light' : 'on the bytes as they are';
     const words = element('words').value;
     canvas.setAttribute('aria-label', `The text “${words}” over bars from dark to bright, composited ${way}.`);

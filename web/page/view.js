@@ -1,10 +1,9 @@
 // What the parts of the page share: how colors go in and pictures come out, and small helpers of the document.
-import { copyColor, compositeImage, copyImage, whole } from './library.js';
-import { OPERATORS } from './facts.js';
+import { whole } from './library.js';
+import { compositeImage, copyColor, copyImage, Op } from '../../bindings/js/pix.js';
 
 export const element = (id) => document.getElementById(id);
-export const SRC = OPERATORS.findIndex(({ name }) => name === 'Src');
-export const SRC_OVER = OPERATORS.findIndex(({ name }) => name === 'SrcOver');
+export const SRC = Op.Src, SRC_OVER = Op.SrcOver;
 
 const darkness = matchMedia('(prefers-color-scheme: dark)');
 
@@ -67,8 +66,7 @@ export const channelsOf = (field) => field.value.match(/[0-9a-f]{2}/g).map((digi
 
 // A straight color of the page as a premultiplied one: decoded into linear light, or its bytes as they are.
 export function premultiplied(library, color, isLight) {
-    const straight = library.imageOf(1, 1, color);
-    return Array.from(library.pixels(library.converted(straight, isLight ? 'SRGBA8' : 'RGBA8', 'RGBA8P')));
+    return Array.from(library.pix.convert(isLight ? 'SRGBA8' : 'RGBA8', 'RGBA8P', Uint8Array.from(color)));
 }
 
 // A checkerboard of two grays, on which transparent pixels are shown: its squares are so many pixels wide.
@@ -82,7 +80,7 @@ export function checkerboard(library, width, height, isLight, square) {
             commands.push(copyColor([x, y, square, square], odd));
         }
     }
-    library.run(board, commands);
+    board.run(commands);
     return board;
 }
 
@@ -91,17 +89,17 @@ export function show(library, image, board, canvas, isLight) {
     const top = library.top;
     const shown = library.image(image.width, image.height);
     const all = whole(image);
-    library.run(shown, [copyImage(all, board, all), compositeImage(SRC_OVER, all, image, all)]);
-    put(library, shown, canvas, isLight);
+    shown.run([copyImage(all, board), compositeImage(all, image)]);
+    put(shown, canvas, isLight);
     library.top = top;
 }
 
 // Puts an opaque image on a canvas: encoded from linear light, or its bytes as they are.
-export function put(library, image, canvas, isLight) {
-    const encoded = isLight ? library.converted(image, 'RGBA8P', 'SRGBA8') : image;
+export function put(image, canvas, isLight) {
+    const bytes = isLight ? image.toArray('SRGBA8') : image.pixels.slice();
     const { width, height } = image;
     if (canvas.width !== width || canvas.height !== height) Object.assign(canvas, { width, height });
-    canvas.getContext('2d').putImageData(new ImageData(library.pixels(encoded).slice(), width, height), 0, 0);
+    canvas.getContext('2d').putImageData(new ImageData(new Uint8ClampedArray(bytes.buffer), width, height), 0, 0);
 }
 
 // Answers a function that calls `draw` once before the next frame, however often it is called.

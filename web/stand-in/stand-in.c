@@ -11,12 +11,22 @@ SHOWN_(pix_layout);
 SHOWN_(pix_raw_run);
 SHOWN_(pix_raw_run_window);
 SHOWN_(pix_raw_convert);
+SHOWN_(pix_raw_convert_bitmap);
+SHOWN_(pix_raw_format_size);
 
 #include "other.c"
 
 void *memcpy(void *to, const void *from, size_t count) {
     for (size_t i = 0; i < count; i++)
         ((volatile char *)to)[i] = ((const char *)from)[i];
+    return to;
+}
+
+void *memmove(void *to, const void *from, size_t count) {
+    if (to <= from)
+        return memcpy(to, from, count);
+    for (size_t i = count; i > 0; i--)
+        ((volatile char *)to)[i - 1] = ((const char *)from)[i - 1];
     return to;
 }
 

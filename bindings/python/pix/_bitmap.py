@@ -16,8 +16,8 @@ _convert_bitmap = Call("pix_raw_convert_bitmap")
 class Bitmap:
     """Rows of pixels of a format in a buffer: of (height, width * samples) or (height, width, samples) elements, or of bytes.
 
-    Rows may lie apart, and from bottom to top: as in a window of a numpy array, or in one that is turned over. The elements
-    are bytes, or words of 16 bits where the format has 16 bits. Where rows aren't whole, it may be of a copy.
+    There may be gaps between rows, and they may go from bottom to top, as in a window of a numpy array or a flipped one. The
+    elements are bytes, or words of 16 bits if the format has 16 bits. If the rows aren't whole, this may view a copy.
     """
 
     def __init__(
@@ -63,17 +63,17 @@ class Bitmap:
 
     @property
     def is_held(self) -> bool:
-        """Whether its memory holds the rows, and they share no byte."""
+        """Whether its memory is long enough for the rows, and no two rows share a byte."""
         return is_held(self.memory.length, self.width, self.height, abs(self.stride), self.format.size)
 
     def refuse_unheld(self, status: Status) -> None:
-        """Raises a PixError where its memory doesn't hold it; before any other memory is made."""
+        """Raises a PixError if its memory is too short. Call this before allocating any other memory."""
         if not self.is_held:
             raise PixError(status)
 
 
 def write(target: Bitmap, source: Bitmap) -> None:
-    """Writes each pixel of a bitmap from that of another at its point, in its format."""
+    """Writes each pixel of a bitmap from the same point of another one, in its own format."""
     if (target.width, target.height) != (source.width, source.height):
         raise ValueError(f"{source.width} x {source.height} pixels are not {target.width} x {target.height}")
     if target.memory.is_readonly and target.memory.length:
@@ -90,7 +90,7 @@ def write(target: Bitmap, source: Bitmap) -> None:
 
 
 def write_in_place(image: Bitmap, to: Format) -> None:
-    """Writes each pixel of a bitmap in its own place, in another format of no more bytes, from a copy of its rows."""
+    """Converts each pixel of a bitmap in place, from a copy of its rows, to a format with no more bytes a pixel."""
     if to.size > image.format.size:
         raise PixError(Status.BAD_FORMAT)
     if image.memory.is_readonly and image.memory.length:
@@ -108,13 +108,13 @@ def convert_bitmap(
 ) -> Any:
     """Converts the picture in the buffer `src` to the format of `dst`, and returns `dst`.
 
-    The sizes are those of the buffers' shapes, (height, width, samples) or (height, width * samples), or `size`, (width,
-    height), where a buffer has one dimension. Rows may lie apart and from bottom to top. Without `dst` a new bytearray is
-    returned; where `dst` is `src` itself, the pixels are converted in place.
+    The sizes are the buffers' shapes: (height, width, samples) or (height, width * samples). For a buffer of one dimension
+    pass `size` as (width, height). There may be gaps between rows, and they may go from bottom to top. Without `dst` a new
+    bytearray is returned. If `dst` is `src` itself, the pixels are converted in place.
 
-    Between sRGB formats of 8 bits and linear ones of 16 bits a pixel goes through light, and comes back as it was where its
-    alpha is 13 or more. Below that, colors that are multiplied by it may come back as others: at an alpha of 0 they are 0.
-    All other pairs are converted as by convert().
+    Between sRGB formats of 8 bits and linear ones of 16 bits, a pixel with an alpha of at least 13 comes back unchanged.
+    Below that, colors that are multiplied by the alpha may change: at an alpha of 0 they are 0. All other pairs are
+    converted as by convert().
     """
     from_, to = Format(from_), Format(to)
     width, height = (None, None) if size is None else size
@@ -132,7 +132,7 @@ def convert_bitmap(
 
 
 def new_array(width: int, height: int, format: Format) -> Any:
-    """A numpy array of the pixels of a format, or a bytearray where numpy is missing."""
+    """A numpy array of the pixels of a format, or a bytearray without numpy."""
     try:
         numpy = importlib.import_module("numpy")
     except ImportError:

@@ -1,4 +1,4 @@
-"""The calls of the library: each takes its turn by what it reads and writes, as the table says."""
+"""The calls of the library: each takes turns by the memory it reads and writes, as the table says."""
 
 from __future__ import annotations
 
@@ -10,20 +10,20 @@ from pix._memory import Memory, Span, refuse_gone
 from pix._turns import turns
 from pix._values import PixError, Status
 
-# How many colors a table has at most, and the memory that they take, by the bytes of each.
+# The most colors that a table has, and the memory that they take, by the bytes of each.
 ENTRIES = 256
 _TABLES = {size: ctypes.c_ubyte * (size * ENTRIES) for size in (3, 4)}
 
-# Copies bytes, and keeps the interpreter's lock or lets it go.
+# Copies bytes, and keeps the interpreter's lock or releases it.
 _MOVES = [kind(None).memmove for kind in (ctypes.PyDLL, ctypes.CDLL)]
 for _move in _MOVES:
     _move.argtypes, _move.restype = [ctypes.c_void_p, ctypes.c_void_p, ctypes.c_size_t], None
 
 
 class Copy:
-    """A copy of a caller's memory in a room of its own, which a call makes in its turn and reads.
+    """A copy of a caller's memory in a buffer of its own, which a call makes in its turn and reads.
 
-    The call is told that it has `length` bytes.
+    The call is passed a length of `length` bytes.
     """
 
     __slots__ = ("source", "room", "address", "length")
@@ -33,14 +33,14 @@ class Copy:
         self.address = ctypes.addressof(room)
 
     def make(self, is_long: bool) -> None:
-        """Copies the bytes that the room has place for."""
+        """Copies as many bytes as the buffer has room for."""
         _MOVES[is_long](
             self.address, self.source.address, min(self.source.length, ctypes.sizeof(self.room))
         )
 
 
 class RowsCopy(Copy):
-    """A copy of rows of `wide` bytes, which lie `apart`, without what lies between them."""
+    """A copy of rows of `wide` bytes, which begin `apart` bytes apart, without the gaps."""
 
     __slots__ = ("rows", "wide", "apart")
 
@@ -56,7 +56,7 @@ class RowsCopy(Copy):
 def move_rows(
     is_long: bool, target: int, source: int, rows: int, wide: int, apart: int
 ) -> int:
-    """Copies rows of `wide` bytes, which lie `apart`, to an address, without gaps."""
+    """Copies rows of `wide` bytes, which begin `apart` bytes apart, to an address, without gaps."""
     if wide == apart:
         wide, rows = wide * rows, 1
     for row in range(rows):
@@ -65,16 +65,16 @@ def move_rows(
 
 
 def padded(table: Memory, length: int, size: int = 3) -> Copy:
-    """A copy of a table of entries of some bytes, with room for each entry that an index can be.
+    """A copy of a table, with room for an entry of every index from 0 to 255.
 
-    A call is told that it has `length` bytes. So an index that changes under the call, after the
-    library has tested it, is that of a wrong color, and of no other memory.
+    A call is passed a length of `length` bytes. So an index that changes during the call, after the
+    library has tested it, gives a wrong color, but reads no other memory.
     """
     return Copy(table, _TABLES[size](), length)
 
 
 def copied_rows(memory: Memory, wide: int, apart: int, rows: int, first: int = 0) -> bytearray:
-    """A copy of rows of `wide` bytes, which lie `apart` from a place on, without what lies between.
+    """A copy of rows of `wide` bytes, which begin `apart` bytes apart, without the gaps.
 
     It is made in a turn of its own.
     """
@@ -100,8 +100,8 @@ def packed(view: memoryview) -> memoryview:
 class Call:
     """A function of the library, in its turn.
 
-    It is called with the number of pixels that it is about, and with what its row of CALLS says:
-    for memory a Memory, or a Copy of one that is read.
+    You call it with the number of pixels that it works on, and the arguments in its row of CALLS. An
+    argument of memory is a Memory, or a Copy of one that is read.
     """
 
     __slots__ = ("name", "both", "takes", "cost")
@@ -116,7 +116,7 @@ class Call:
         ]
 
     def __call__(self, pixels: int, *given: Any) -> None:
-        """Calls it; raises PixError where it refuses."""
+        """Calls it; raises PixError if it fails."""
         arguments: List[Any] = []
         read: List[Memory] = []
         written: List[Memory] = []

@@ -1,4 +1,4 @@
-"""Colors: those of one kind of pixels, those of sRGB, and what can't be told apart."""
+"""Colors: of one kind of pixels, of sRGB, and the ambiguous ones."""
 
 from __future__ import annotations
 
@@ -17,9 +17,8 @@ from pix._values import Format
 class Color(tuple):
     """A color of one kind of pixels: its channels, premultiplied and linear, the alpha last.
 
-    It goes with images of its `type` alone, so that no channels of 8 bits are taken for ones of
-    16. A command takes it as it is, where it would refuse a plain tuple that may be of another
-    kind.
+    It goes only with images of its `type`, so that no channels of 8 bits are taken for ones of 16.
+    A command takes it as it is. A plain tuple that may be of another kind raises an error.
 
     >>> pix.Color((0, 0, 64, 255), pix.RGBA8)
     pix.Color((0, 0, 64, 255), pix.RGBA8)
@@ -42,7 +41,7 @@ class Color(tuple):
 
     @property
     def srgb(self) -> Srgb:
-        """The color of sRGB that is nearest.
+        """The nearest color of sRGB.
 
         >>> pix.srgb("#c87828").of(pix.RGBA16).srgb
         pix.srgb("#c87828")
@@ -97,11 +96,11 @@ class Srgb:
 
     @property
     def alpha(self) -> int:
-        """The alpha, which the others are not multiplied by."""
+        """The alpha; the others are not multiplied by it."""
         return self._bytes[3]
 
     def of(self, type: PixelType) -> Color:
-        """The light of it, as a color of a kind of pixels."""
+        """Its light, as a color of a kind of pixels."""
         return _light(Format.SRGBA8, tuple(self._bytes), kind_of(type))
 
     def __eq__(self, other: object) -> bool:
@@ -118,19 +117,19 @@ class Srgb:
         return Srgb, tuple(self._bytes)
 
 
-# What a command takes as a color.
+# The types that a command takes as a color.
 AnyColor = Union[Iterable[SupportsIndex], Color, Srgb]
 
 
 def srgb(
     *color: Any, alpha: Optional[SupportsIndex] = None, opacity: Optional[float] = None
 ) -> Srgb:
-    """A color of sRGB to paint with, on images of all kinds: by a text "#c87828", "#c8782880",
-    "#fa0" or "#fa08", by a name that CSS has, as "tomato", by three or four numbers from 0 to 255,
-    or by a tuple of them.
+    """A color of sRGB to paint with, on images of all kinds. Pass a text such as "#c87828",
+    "#c8782880", "#fa0" or "#fa08", a CSS name such as "tomato", three or four numbers from 0 to
+    255, or a tuple of them.
 
     The alpha is straight: the colors aren't multiplied by it. It is the fourth number, or `alpha`,
-    from 0 to 255, or `opacity`, from 0 to 1; without them it is opaque.
+    from 0 to 255, or `opacity`, from 0 to 1. Without an alpha the color is opaque.
 
     >>> pix.srgb("#c87828") == pix.srgb(200, 120, 40) == pix.srgb((200, 120, 40, 255))
     True
@@ -188,7 +187,7 @@ def fraction_of(opacity: Any) -> float:
 
 
 def color_of(format: Format, pixel: Iterable[SupportsIndex], type: PixelType = RGBA16) -> Color:
-    """A pixel in a format, given by its numbers, as a color to paint with.
+    """The pixel with these numbers in a format, as a color to paint with.
 
     >>> pix.color_of(pix.SRGBA8, (200, 120, 40, 255))  # the light of a color of sRGB
     pix.Color((37852, 12309, 1391, 65535), pix.RGBA16)
@@ -212,7 +211,7 @@ def _light(format: Format, given: Tuple[int, ...], type: PixelType) -> Color:
 
 
 def taken(color: Any) -> Any:
-    """What a command keeps of a color: numbers alone, so that no code of the caller runs later."""
+    """The part of a color that a command keeps: only numbers, so that no user code runs later."""
     if color is None or type(color) in (Color, Srgb):
         return color
     if isinstance(color, str):
@@ -227,7 +226,7 @@ def taken(color: Any) -> Any:
 
 
 def refuse_another(color: Tuple[int, ...], kind: PixelType) -> None:
-    """Raises where the numbers aren't channels of a kind of pixels."""
+    """Raises an error if the numbers aren't channels of a kind of pixels."""
     most = kind.max
     if len(color) != kind.channels or min(color) < 0 or max(color) > most:
         what = f"{kind.channels} channels from 0 to {most}"
@@ -238,9 +237,9 @@ def refuse_another(color: Tuple[int, ...], kind: PixelType) -> None:
 
 
 def fitted(color: Any, kind: PixelType) -> Tuple[int, ...]:
-    """The channels of a color that was taken, for an image of this kind of pixels.
+    """The channels of a color that a command keeps, for an image of this kind of pixels.
 
-    Refuses one whose own kind may be mistaken.
+    Raises an error for an ambiguous tuple.
     """
     if type(color) is Srgb:
         return color.of(kind)
@@ -253,8 +252,8 @@ def fitted(color: Any, kind: PixelType) -> Tuple[int, ...]:
 
 
 def refuse_mistaken(color: Tuple[int, ...], kind: PixelType) -> None:
-    """Raises where plain numbers may be of 8 bits on an image of 16, or not multiplied by their
-    alpha."""
+    """Raises an error if plain numbers on an image of 16 bits may be of 8 bits, or if they aren't
+    multiplied by their alpha."""
     most, alpha = max(color), color[-1]
     if kind.max > 255 and 0 < most <= 255:
         why = f"may be of 8 bits, and is hardly seen where channels go to {kind.max}"
@@ -272,8 +271,8 @@ def refuse_mistaken(color: Tuple[int, ...], kind: PixelType) -> None:
 
 
 def table_of(table: Any, size: int = 3) -> bytes:
-    """The bytes of a table of at most 256 colors: a buffer of three bytes each, or of four with an
-    alpha, or texts and tuples as srgb() takes them."""
+    """The bytes of a table of at most 256 colors. It is given as a buffer with three bytes each, or
+    four with an alpha, or as texts and tuples as srgb() takes them."""
     try:
         entries = memoryview(table).tobytes()
     except TypeError:

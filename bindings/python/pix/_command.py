@@ -10,7 +10,6 @@ from pix._numbers import index
 from pix._pixels import PixelType, RegionRecord
 from pix._values import Op, Region, op_of, region_of, u32
 from pix._views import MASK8, Rows, View
-from pix._wide import WideMask, WideMasks
 
 NAMES = ("clear", "copy_color", "copy_image", "composite_color", "composite_image", "composite_matte",
          "composite_image_matte", "composite_image_alpha")  # fmt: skip
@@ -41,7 +40,7 @@ class Command:
 
     @property
     def kind(self) -> int:
-        """0 clears, 1 and 2 copy a color and an image, 3 to 5 composite a color, an image and a matte, 6 and 7 an image through a mask and at an opacity."""
+        """0 clears; 1 and 2 copy a color and an image; 3 to 5 composite a color, an image and a matte, and 6 and 7 an image through a mask and at an opacity."""
         return self._kind
 
     @property
@@ -56,12 +55,12 @@ class Command:
 
     @property
     def color(self) -> Union[Tuple[int, ...], Color, Srgb, None]:
-        """The color as it was given, where there is one: a number for each channel of a pixel, or what pix.srgb() made."""
+        """The color as it was given, if there is one: a number for each channel of a pixel, or a color made by pix.srgb()."""
         return self._color
 
     @property
     def source(self) -> Any:
-        """The Image or the Matte that is read, where there is one."""
+        """The Image or the Matte that is read, if there is one."""
         return self._source
 
     @property
@@ -71,7 +70,7 @@ class Command:
 
     @property
     def mask(self) -> Any:
-        """The Matte through which an image is composited, where there is one."""
+        """The Matte through which an image is composited, if there is one."""
         return self._mask
 
     @property
@@ -97,25 +96,26 @@ class Command:
 
 
 def _all_of(view: Optional[View]) -> Region:
-    """The region of all of a view, and none where there is none."""
+    """The region of a whole view, or an empty one without a view."""
     return region_of((0, 0, 0, 0) if view is None else (0, 0, view.width, view.height))
 
 
-def made(command: Command, type: PixelType, wide: WideMasks) -> Tuple[Any, List[Memory]]:
-    """The command as the library reads it, for an image of this type, and the memory that it reads. Masks that are to be
-    widened first are added to `wide`.
+def made(command: Command, type: PixelType) -> Tuple[Any, List[Memory]]:
+    """The command as the library reads it, for an image of this type, and the memory that it reads.
 
-    It runs no code of the caller: all numbers and buffers were taken when the command was made.
+    It runs no user code: all numbers and buffers were taken when the command was made.
     """
     if not is_a(command, Command):
         raise TypeError(f"{name_of(command)} is not a Command: pass commands one by one, as in run(*commands)")
     record = type._command(kind=command._kind, op=command._op)
     record.to, record.from_ = RegionRecord(*command._to), RegionRecord(*command._from)
     record.pixels = record.mattes = NOWHERE
+    if hasattr(record, "mattes8"):
+        record.mattes8 = NOWHERE
     color, source = command._color, command._source
-    read = [] if source is None else [note(record, source._rows, type, wide)]
+    read = [] if source is None else [note(record, source._rows, type)]
     if command._mask is not None:
-        read.append(note_mask(record, command._mask._rows, command._mask_from, type, wide))
+        read.append(note_mask(record, command._mask._rows, command._mask_from, type))
     if not 0 <= command._alpha <= type.max:
         raise ValueError(f"{command._alpha} is no opacity of {type}")
     record.alpha = command._alpha
@@ -124,8 +124,8 @@ def made(command: Command, type: PixelType, wide: WideMasks) -> Tuple[Any, List[
     return record, read
 
 
-def note(record: Any, rows: Rows, type: PixelType, wide: WideMasks) -> Memory:
-    """Notes a source in a command for an image of this type, and returns the memory that is read."""
+def note(record: Any, rows: Rows, type: PixelType) -> Memory:
+    """Sets the source in a command for an image of this type, and returns the memory that is read."""
     record.width, record.height, record.stride = rows.width, rows.height, rows.stride
     if rows.type is not None:
         if rows.type is not type:
@@ -135,26 +135,23 @@ def note(record: Any, rows: Rows, type: PixelType, wide: WideMasks) -> Memory:
             )
         record.pixels, record.pixel_count = rows.memory.address, rows.elements
     else:
-        note_mattes(record, rows, type, wide)
+        note_mattes(record, rows, type)
     return rows.memory
 
 
-def note_mattes(record: Any, rows: Rows, type: PixelType, wide: WideMasks) -> None:
-    """Notes the values of a matte in a command for an image of this type: those of 8 bits go with all images."""
-    address = rows.memory.address
-    if rows.element is not type._channel:
-        if rows.type is not None or rows.element is not MASK8:
-            raise TypeError(f"a mask of 16 bits doesn't go with an image of {type}: make it of bytes, with bits=8")
-        place = address, rows.elements, rows.width, rows.height, rows.stride
-        if place not in wide:
-            wide[place] = WideMask(rows)
-        address = wide[place].address
-    record.mattes, record.matte_count = address, rows.elements
+def note_mattes(record: Any, rows: Rows, type: PixelType) -> None:
+    """Sets the matte in a command for an image of this type. A matte of 8 bits goes with all images."""
+    if rows.element is type._channel:
+        record.mattes, record.matte_count = rows.memory.address, rows.elements
+    elif rows.type is None and rows.element is MASK8:
+        record.mattes8, record.matte8_count = rows.memory.address, rows.elements
+    else:
+        raise TypeError(f"a mask of 16 bits doesn't go with an image of {type}: make it of bytes, with bits=8")
 
 
-def note_mask(record: Any, rows: Rows, from_: Region, type: PixelType, wide: WideMasks) -> Memory:
-    """Notes the mask of an image in a command, and returns the memory that is read."""
+def note_mask(record: Any, rows: Rows, from_: Region, type: PixelType) -> Memory:
+    """Sets the mask of an image in a command, and returns the memory that is read."""
     record.mask = RegionRecord(*from_)
     record.mask_width, record.mask_height, record.mask_stride = rows.width, rows.height, rows.stride
-    note_mattes(record, rows, type, wide)
+    note_mattes(record, rows, type)
     return rows.memory

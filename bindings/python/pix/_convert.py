@@ -1,4 +1,4 @@
-"""Conversions of pictures as files hold them."""
+"""Conversions between the formats of picture files."""
 
 from __future__ import annotations
 
@@ -24,12 +24,12 @@ def convert(from_: Format, src: Buffer, to: Format, dst: Target) -> Target: ...
 
 
 def convert(from_: Format, src: Any, to: Format, dst: Any = None) -> Any:
-    """Converts all pixels of the buffer `src` to the format of `dst`, which has room for just as many; returns `dst`.
+    """Converts all pixels of the buffer `src` to the format of `dst`, with room for just as many, and returns `dst`.
 
     Both are buffers of bytes without gaps, and the formats are those up to SGRAY8. Without `dst` a new bytearray is
-    returned. An alpha that `from_` lacks is 255. One that `to` lacks is dropped, and colors that were multiplied by it
-    stay so from RGBA8P and SRGBA8P to RGB8 and SRGB8; to all others they are divided by it. Raises PixError where the
-    lengths don't fit, TypeError where `dst` is read-only and ValueError where the two overlap.
+    returned. If `from_` has no alpha, it is 255. If `to` has none, the alpha is dropped. Colors that were multiplied
+    by it stay so from RGBA8P and SRGBA8P to RGB8 and SRGB8; to all other formats they are divided by it. Raises
+    PixError if the lengths don't fit, TypeError if `dst` is read-only, and ValueError if the two overlap.
     """
     from_, to = Format(from_), Format(to)
     if max(from_, to) > Format.SGRAY8:

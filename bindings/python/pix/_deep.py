@@ -1,5 +1,5 @@
-"""PNG files of 16 bits: read through Pillow, which keeps the upper byte of each sample, in two
-goes; and written."""
+"""PNG files of 16 bits. They are read through Pillow in two passes, since it keeps only the upper
+byte of each sample; and they are written here."""
 
 from __future__ import annotations
 
@@ -13,20 +13,20 @@ from pix._pillow import STRIP
 from pix._png import png_of_rows
 from pix._values import Format
 
-# How Pillow reads the upper bytes of samples, and how it reads the lower ones as such; and the
-# format of the light.
+# The modes in which Pillow reads the upper bytes of samples, and the lower ones in their place; and
+# the format of the light.
 _LOWER = {"RGB;16B": "RGB;16L", "RGBA;16B": "RGBA;16L"}
 _FORMATS = {"RGB": Format.RGB16, "RGBA": Format.RGBA16}
 
 
 def kept_as(picture: Any) -> str:
-    """How a PNG packs its pixels, in the words of Pillow; nothing of another file."""
+    """Pillow's name for the packing of a PNG's pixels; empty for other files."""
     tiles = getattr(picture, "tile", None)
     return str(tiles[0][3]) if tiles and picture.format == "PNG" else ""
 
 
 def lower_of(picture: Any, again: Callable[[], Any]) -> Optional[Any]:
-    """A picture of the lower bytes of one of colors of 16 bits, which is opened again."""
+    """A picture of the lower bytes of a picture of 16 bits, which is opened again."""
     lower = _LOWER.get(kept_as(picture))
     if lower is None or picture.info.get("transparency") is not None:
         return None
@@ -37,7 +37,7 @@ def lower_of(picture: Any, again: Callable[[], Any]) -> Optional[Any]:
 
 
 def image_of_both(upper: Any, lower: Any, new: Callable[[int, int], Any]) -> Any:
-    """An image, which `new` makes, of the upper and the lower bytes of colors."""
+    """An image, made by `new`, of the upper and the lower bytes of colors."""
     (width, height), samples = upper.size, len(upper.mode)
     image = new(width, height)
     target = image._bitmap()
@@ -59,8 +59,8 @@ def image_of_both(upper: Any, lower: Any, new: Callable[[int, int], Any]) -> Any
 
 
 def deep_png(width: int, height: int, data: Any, samples: int) -> bytes:
-    """The bytes of a PNG of 16 bits, of words of light with a straight alpha: without the alphas
-    where all are opaque."""
+    """The bytes of a PNG of 16 bits, from words of light with a straight alpha. If all pixels are
+    opaque, it has no alpha."""
     light = array("H", bytes(data))
     alphas = light[samples - 1 :: samples]
     levels = array("H", bytes(levels_of(light)))

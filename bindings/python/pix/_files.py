@@ -1,4 +1,4 @@
-"""Picture files: by Pillow where it is there, and else PNG, PPM and PGM."""
+"""Picture files: by Pillow if it is installed, and PNG, PPM and PGM without it."""
 
 from __future__ import annotations
 
@@ -20,11 +20,12 @@ from pix._deep import deep_png, image_of_both, kept_as, lower_of
 from pix._fresh import lit, scaled
 from pix._pillow import Facts, facts_of, image_of, picture_of, pixels_of
 from pix._pixels import GRAYA8
+from pix._profile import of_pillow, warn
 from pix._png import LIMIT, SIGNATURE, Fault, Pixels, png, read_png, refuse_many, woven
 from pix._put import put
 from pix._values import Format
 
-# The tag of EXIF that tells how a picture is turned, and what Pillow calls the turn back: to mirror
+# The tag of EXIF that tells how a picture is turned, and Pillow's names of the turns back: to mirror
 # it, by half a turn, upside down, at its diagonals, and by a quarter to the right and to the left.
 _ORIENTATION = 0x0112
 _TURNS = {2: 0, 3: 3, 4: 1, 5: 5, 6: 4, 7: 6, 8: 2}
@@ -34,7 +35,7 @@ _OWN = {".png": "PNG", ".ppm": "PPM", ".pgm": "PGM"}
 
 
 def pillow_of() -> Any:
-    """Pillow's own module of images, or None where it is missing."""
+    """Pillow's own module of images, or None without it."""
     try:
         from PIL import Image as pillow
     except ImportError:
@@ -43,7 +44,7 @@ def pillow_of() -> Any:
 
 
 def path_of(file: Any, use: str) -> Any:
-    """The path of a file as a text, or a file that is open as it is, to `read` or `write` it."""
+    """The path of a file as a text, or an open file unchanged, to `read` or `write` it."""
     if isinstance(file, (str, bytes, os.PathLike)):
         return os.fsdecode(file)
     if hasattr(file, use):
@@ -53,21 +54,21 @@ def path_of(file: Any, use: str) -> Any:
 
 
 def name_of(file: Any) -> str:
-    """What a sentence calls a file."""
+    """The name of a file in a message."""
     return file if isinstance(file, str) else "the picture"
 
 
-# Held while Pillow has another limit of pixels than its own.
+# Held while Pillow's limit of pixels is replaced.
 _limits = Lock()
 
-# What Pillow raises for files that are none, beside OSError.
+# What Pillow raises for bad files, in addition to OSError.
 _FAULTS = (SyntaxError, EOFError, LookupError, ValueError, TypeError, AttributeError,
            ArithmeticError, NotImplementedError, AssertionError, struct.error, zlib.error)  # fmt: skip
 
 
 @contextmanager
 def reading(file: Any) -> Iterator[None]:
-    """Makes an OSError with a sentence of what Pillow raises for a file that is none."""
+    """Turns the errors that Pillow raises for a bad file into an OSError with a sentence."""
     from PIL import Image as pillow
 
     try:
@@ -84,7 +85,7 @@ def reading(file: Any) -> Iterator[None]:
 
 
 def opened_by_pillow(file: Any, limit: Optional[int]) -> Any:
-    """A picture of Pillow, whose own limit counts where no other one is given."""
+    """A picture of Pillow. Without a limit, Pillow's own one applies."""
     from PIL import Image as pillow
 
     if limit == LIMIT:
@@ -106,7 +107,7 @@ def opened_by_pillow(file: Any, limit: Optional[int]) -> Any:
 def opened(
     file: Any, white: Optional[float], limit: Optional[int], new: Callable[[int, int], Any]
 ) -> Any:
-    """An image, which `new` makes, of the first picture in a file."""
+    """An image, made by `new`, of the first picture in a file."""
     file = path_of(file, "read")
     if pillow_of() is None:
         return opened_alone(file, limit, new)
@@ -116,6 +117,8 @@ def opened(
         if kept_as(picture) == "LA;16B" or kept_as(picture) == "RGB;16B" and is_clear(picture):
             return opened_alone(file, limit, new)
         facts = facts_of(picture, white)
+        if picture.format == "PNG":
+            warn(name_of(file), of_pillow(picture.info))
         with reading(file):
             lower = lower_of(picture, lambda: opened_by_pillow(file, limit))
             picture.load()
@@ -155,11 +158,12 @@ def opened_alone(file: Any, limit: Optional[int], new: Callable[[int, int], Any]
             pixels = read_pnm(data, limit)
         else:
             raise Fault(
-                "it is neither PNG nor PPM nor PGM, and what else there is needs Pillow: install"
+                "it is neither PNG nor PPM nor PGM, and other kinds of files need Pillow: install"
                 " that"
             )
     except Fault as fault:
         raise OSError(f"{name_of(file)}: {fault}") from None
+    warn(name_of(file), pixels.said)
     source = Bitmap(memoryview(pixels.data).cast("B"), pixels.format, pixels.width, pixels.height)
     image = new(source.width, source.height)
     write(image._bitmap(), source)
@@ -195,9 +199,9 @@ def read_pnm(file: bytes, limit: Optional[int] = LIMIT) -> Pixels:
 
 
 def saved(image: Any, file: Any, format: Optional[str], options: Any) -> None:
-    """Writes an image into a file, whose name or `format` tells what it is to be.
+    """Writes an image into a file. Its kind is given by the file's name or by `format`.
 
-    All of it is encoded first, so that a file stays as it was where that is refused.
+    All of it is encoded first, so that the file stays as it was if that fails.
     """
     file = path_of(file, "write")
     if not image.width or not image.height:
@@ -216,7 +220,7 @@ def saved(image: Any, file: Any, format: Optional[str], options: Any) -> None:
 
 
 def saved_alone(image: Any, suffix: str, kind: Optional[str], options: Any) -> bytes:
-    """The bytes of a file that this package makes itself."""
+    """The bytes of a file that this package encodes itself."""
     if kind is None and not suffix:
         raise ValueError("the file has no name that tells its kind: write format='PNG'")
     if kind not in _OWN.values():
@@ -237,7 +241,7 @@ def saved_deep(image: Any, kind: Optional[str], bits: Any, options: Any) -> byte
 
 
 class _Named(io.BytesIO):
-    """A file in memory with the name of another one, by which Pillow tells its kind."""
+    """A file in memory with the name of another one, from which Pillow takes its kind."""
 
     name: Any
 
@@ -270,7 +274,7 @@ def saved_by_pillow(image: Any, file: Any, format: Optional[str], options: Any) 
 
 
 def is_unknown(kind: str) -> bool:
-    """Whether Pillow writes no files of a kind."""
+    """Whether Pillow can't write files of a kind."""
     from PIL import Image as pillow
 
     pillow.init()
@@ -278,14 +282,14 @@ def is_unknown(kind: str) -> bool:
 
 
 def plain(image: Any, picture: Any, is_opaque: bool) -> Any:
-    """The picture without an alpha where all of it is opaque, and gray where the image is."""
+    """The picture, without an alpha if all of it is opaque, and in gray if the image is gray."""
     if image.type is GRAYA8:
         return picture.convert("L" if is_opaque else "LA")
     return picture.convert("RGB") if is_opaque else picture
 
 
 def no_alpha(kind: str) -> str:
-    """The sentence for a picture with an alpha in a file that has none."""
+    """The message for a picture with an alpha in a kind of file without one."""
     ground = (
         "image.run(pix.composite_color((0, 0, image.width, image.height), pix.srgb('#fff'),"
         " pix.Op.DEST_OVER))"
@@ -297,8 +301,8 @@ def no_alpha(kind: str) -> str:
 
 
 def encoded(image: Any, kind: str) -> bytes:
-    """The bytes of a PNG, a PPM or a PGM file. The image is read once, and all else from the copy,
-    since another thread may paint it between two looks."""
+    """The bytes of a PNG, a PPM or a PGM file. The image is read once, and the rest is done on that
+    copy, since another thread may paint it meanwhile."""
     is_gray = image.type is GRAYA8
     if kind == "PGM" and not is_gray:
         image = copy(image)
@@ -323,7 +327,7 @@ def encoded(image: Any, kind: str) -> bytes:
 
 
 def shown(image: Any) -> Optional[bytes]:
-    """The bytes of a PNG for a notebook, and None where there is no pixel."""
+    """The bytes of a PNG for a notebook, or None for an image without pixels."""
     if not image.width or not image.height:
         return None
     if pillow_of() is None:

@@ -8,13 +8,13 @@ from array import array
 from functools import lru_cache
 from typing import Any, Union
 
-# From how many bytes on memory is asked of the system in large pages, which takes a third of the
-# time to be written first.
+# From this many bytes on, memory comes from the system in large pages. The first write to it takes
+# a third of the time.
 LARGE = 4 << 20
 
 
 def zeros(size: int) -> Union[bytearray, mmap.mmap]:
-    """A writable buffer of so many bytes, which are 0."""
+    """A writable buffer of `size` bytes, all 0."""
     if size < LARGE or not hasattr(mmap, "MADV_HUGEPAGE"):
         return bytearray(size)
     try:
@@ -52,8 +52,8 @@ def level_table() -> array[int]:
 
 
 def looked_up(table: array[int], levels: array[int]) -> Any:
-    """The entry of a table of 65536 words for each level: an array, or one of numpy where that
-    is there."""
+    """The entry of a table of 65536 words for each level, as an array, or a numpy array if there is
+    numpy."""
     try:
         numpy = importlib.import_module("numpy")
     except ImportError:
@@ -72,8 +72,8 @@ def levels_of(light: array[int]) -> Any:
 
 
 def scaled(numbers: Any, white: float) -> array[int]:
-    """Numbers of 0 to `white` as levels of 0 to 65535; what is beyond, or no number, is the
-    nearer end, or 0."""
+    """Numbers from 0 to `white` as levels from 0 to 65535. Others are clamped, and NaN becomes
+    0."""
     factor = 65535 / white
     return array(
         "H",

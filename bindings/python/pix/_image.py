@@ -23,7 +23,7 @@ from pix._views import View, rows_of
 
 
 class _Untold:
-    """What stands for a kind of pixels that isn't told, which is RGBA8."""
+    """The default for a kind of pixels that isn't given, which is RGBA8."""
 
     def __repr__(self) -> str:
         return "RGBA8"
@@ -35,15 +35,15 @@ _UNTOLD: Any = _Untold()
 class Image(View):
     """A view of a buffer as rows of pixels, from top to bottom.
 
-    `pixels` is a buffer of (height - 1) * stride + width pixels at least. It may be read-only
-    where the image is only a source. `stride` is the distance from a row to the next, counted in
-    pixels; what lies between the rows is not changed. Width and height may be left out where the
-    buffer's shape is (height, width, channels); its rows may lie apart, as in a window of a numpy
-    array, and then the stride is theirs. Channels of 16 bits have the machine's byte order. While
-    the view lives, a bytearray can't be resized.
+    `pixels` is a buffer of at least (height - 1) * stride + width pixels. It may be read-only if the
+    image is only a source. `stride` is the distance from a row to the next, in pixels; the padding
+    between rows is not changed. You may leave out width and height if the buffer's shape is (height,
+    width, channels). Its rows may have gaps, as in a window of a numpy array; then the stride is
+    taken from it. Channels of 16 bits have the machine's byte order. While the view lives, a
+    bytearray can't be resized.
 
-    `type` is RGBA8 where it is left out. For a buffer of three dimensions it has to be said, since
-    such arrays mostly have sRGB with a straight alpha, which from_array() takes.
+    `type` is RGBA8 by default. You have to give it for a buffer of three dimensions, since most
+    such arrays have sRGB with a straight alpha, which from_array() takes.
 
     np.asarray(image) is the pixels, without a copy.
 
@@ -53,7 +53,7 @@ class Image(View):
     >>> pixels.hex(" ", 4)
     'ffffffff ffffffff 00000000 ffffffff ffffffff 00000000'
 
-    A pickle or a copy of it has pixels of its own, without what lies between the rows.
+    A pickle or a copy of it has pixels of its own, without the padding between rows.
     """
 
     def __init__(
@@ -73,12 +73,12 @@ class Image(View):
 
     @classmethod
     def new(cls, width: SupportsIndex, height: SupportsIndex, type: PixelType = RGBA16) -> Image:
-        """Makes a transparent image of so many pixels; its buffer is its `pixels`, of bytes.
+        """Makes a transparent image of this size; its buffer is its `pixels`, of bytes.
 
-        Without a `type` it has 16 bits a channel, which keep all colors of sRGB, as open() and
-        from_array() make it. RGBA8 has half the memory, and loses most dark ones.
+        Without a `type` it has 16 bits a channel, as open() and from_array() make it. These keep all
+        colors of sRGB. RGBA8 needs half the memory, and loses most dark colors.
 
-        Raises PixError where a side is above 2147483647, and MemoryError where there is no room.
+        Raises PixError if a side is above 2147483647, and MemoryError if there is no memory.
         """
         columns, rows = u32(width, "width"), u32(height, "height")
         size = ctypes.sizeof(kind_of(type)._color)
@@ -91,13 +91,13 @@ class Image(View):
         cls, array: Buffer, format: Format, type: PixelType = RGBA16, size: Optional[Tuple[SupportsIndex, SupportsIndex]] = None
     ) -> Image:
         """Makes an image of the picture in an array, or another buffer, of (height, width,
-        samples) or (height, width * samples) elements in a format; rows may lie apart, and from
-        bottom to top, and arrays of other strides are copied first. Of a buffer of one dimension, such as bytes, `size` is the width and the
-        height.
+        samples) or (height, width * samples) elements in a format. There may be gaps between rows,
+        and they may go from bottom to top; arrays of other strides are copied first. For a buffer of
+        one dimension, such as bytes, pass `size` as (width, height).
 
-        An sRGB picture in an image of RGBA16 is in light: to_array() in the same format gives it
-        back as it was where nothing was painted and the alpha is 13 or more. Below that the alpha
-        comes back, and the colors may be others: at an alpha of 0 they are 0.
+        An sRGB picture becomes light in an image of RGBA16. to_array() in the same format returns
+        unpainted pixels unchanged if their alpha is at least 13. Below that the alpha comes back,
+        but the colors may change: at an alpha of 0 they are 0.
         """
         width, height = (None, None) if size is None else size
         source = Bitmap(array, format, width, height, may_copy=True)
@@ -108,7 +108,7 @@ class Image(View):
 
     def to_array(self, format: Format) -> Any:
         """The picture in a format: a new numpy array of (height, width, samples), or (height,
-        width) where a pixel has one sample; a bytearray where numpy is missing."""
+        width) if a pixel has one sample; a bytearray without numpy."""
         source, format = self._bitmap(), Format(format)
         source.refuse_unheld(Status.BAD_SOURCE)
         array = new_array(source.width, source.height, format)
@@ -119,32 +119,33 @@ class Image(View):
     def open(
         cls, file: Any, type: PixelType = RGBA16, white: Optional[float] = None, limit: Optional[int] = LIMIT
     ) -> Image:
-        """Makes an image of a picture file, given by its path or open for reading bytes: of the
-        first picture in it, turned as its EXIF says.
+        """Makes an image of the first picture in a file, turned as its EXIF says. Pass a path, or a
+        file that is open for reading bytes.
 
-        Pillow reads it where that is there, as from_pillow() says; and else PNG, PPM and PGM files
-        are read. Levels of 16 bits in PNG files, and in gray ones, are kept. Profiles of colors aren't looked at: the numbers are taken as
-        sRGB, and four inks (CMYK) are converted as Pillow does, by their products.
+        Pillow reads it if it is installed, as from_pillow() says. Without Pillow you can read PNG,
+        PPM and PGM files. Levels of 16 bits in PNG files, and in gray ones, are kept. The numbers are
+        taken as sRGB: a PNG file with chunks that say otherwise gets a ColorWarning. CMYK is
+        converted as Pillow does, by the products of the inks.
 
-        A picture of more than `limit` pixels is refused at its head; None allows any.
+        A picture of more than `limit` pixels raises an error before it is decoded; None allows any.
 
-        Raises OSError where there is no such file or no whole picture in it, and ValueError where
-        a file of numbers of 32 bits doesn't tell which is `white`.
+        Raises OSError if there is no such file or no whole picture in it, and ValueError if a file
+        of numbers of 32 bits doesn't tell which is `white`.
         """
         kind = kind_of(type)
         return opened(file, white, limit, lambda width, height: cls.new(width, height, kind))
 
     def save(self, file: Any, format: Optional[str] = None, **options: Any) -> None:
-        """Writes the picture into a file, which is a path or is open for writing bytes.
+        """Writes the picture into a file: a path, or a file that is open for writing bytes.
 
-        The kind of file is what its name ends in, or what `format` names as Pillow does: .png, .ppm
-        and .pgm, and with Pillow all that it writes, with its options.
+        The kind of file is the end of its name, or `format`, by Pillow's names: .png, .ppm and .pgm,
+        and with Pillow every kind that it writes, with its options.
 
-        Its colors are sRGB of 8 bits, or in a PNG with bits=16 of 16. Where all pixels are opaque,
+        Its colors are sRGB of 8 bits, or of 16 bits in a PNG with bits=16. If all pixels are opaque,
         no alpha is written.
 
-        Raises ValueError where the file can't have an alpha and the image has one, or is of a kind
-        that can't be written.
+        Raises ValueError if the image has an alpha and the file can't, or for a kind of file that
+        can't be written.
 
         >>> import io
         >>> file = io.BytesIO()
@@ -156,7 +157,7 @@ class Image(View):
         saved(self, file, format, options)
 
     def _repr_png_(self) -> Optional[bytes]:
-        """What a notebook shows: a PNG file."""
+        """The picture that a notebook shows: a PNG file."""
         return shown(self)
 
     @classmethod
@@ -165,10 +166,10 @@ class Image(View):
     ) -> Image:
         """Makes an image of a picture of Pillow, of any mode that Pillow converts to RGBA.
 
-        Gray of 16 bits, the modes I;16 and I, keeps all of its levels. `white` is the number that
-        is white in a picture of the mode I or F: it has to be told, but for PNG and PPM files, in
-        which it is 65535. A color that the picture calls transparent is clear. The picture isn't
-        turned as its EXIF says, which open() does.
+        Gray of 16 bits, in the modes I;16 and I, keeps all of its levels. `white` is the number for
+        white in a picture of the mode I or F. You have to give it, except for PNG and PPM files, in
+        which it is 65535. If the picture marks a color as transparent, it becomes clear. The picture
+        isn't turned as its EXIF says; open() does that.
 
         >>> from PIL import Image as pillow
         >>> pix.Image.from_pillow(pillow.new("RGB", (3, 2), "#c87828"))
@@ -184,14 +185,14 @@ class Image(View):
         diffuse: bool = False,
         keep_alpha: bool = False,
     ) -> Any:
-        """The picture as one of Pillow, of the mode RGBA, RGB, L or LA; or of P: of indices into a
-        table of colors.
+        """The picture for Pillow, in the mode RGBA, RGB, L or LA, or in P: as indices into a table
+        of colors.
 
         `table` is a buffer of three bytes for each color, or has texts and tuples as srgb() takes
-        them; without it one of the picture's own colors is made. With `diffuse` the error of each
-        pixel is handed on to those beside it. Pixels whose alpha is below 128 become an entry of
-        their own, which is transparent. With `keep_alpha` each color has an alpha, of a fourth
-        byte: PNG keeps them, and GIF has no such colors.
+        them. Without it, a table is made from the picture's colors. With `diffuse` the error of each
+        pixel is passed on to its neighbors. Pixels with an alpha below 128 get an entry of their own,
+        which is transparent. With `keep_alpha` each color has an alpha as a fourth byte: PNG keeps
+        it, and GIF has no such colors.
 
         >>> image = pix.Image.new(2, 1)
         >>> image.run(pix.copy_color((0, 0, 2, 1), pix.srgb("#c87828")))
@@ -201,8 +202,8 @@ class Image(View):
         return picture_of(self, mode, table, diffuse, keep_alpha)
 
     def copy(self, type: Optional[PixelType] = None) -> Image:
-        """A copy with pixels of its own, without what lies between the rows; of another kind of
-        pixels where a `type` is given."""
+        """A copy with pixels of its own, without padding between rows. With a `type` they are
+        converted to that kind of pixels."""
         kind = self.type if type is None else kind_of(type)
         source = self._bitmap()
         source.refuse_unheld(Status.BAD_SOURCE)
@@ -213,7 +214,7 @@ class Image(View):
     def part(self, region: Iterable[SupportsIndex]) -> Image:
         """A part of it as an image: a view of the same pixels.
 
-        Raises ValueError where the region isn't all in the image.
+        Raises ValueError if the region isn't all in the image.
 
         >>> image = pix.Image.new(64, 64)
         >>> image.part((16, 16, 8, 8)).run(pix.copy_color((0, 0, 9, 9), pix.srgb("tomato")))
@@ -246,11 +247,9 @@ class Image(View):
         if type(place) is not tuple or len(place) != 2:
             raise TypeError(f"{place!r} is no place: write image[x, y]")
         x, y = map(index, place)
-        memory, element, count, wide, high, stride, kind = self._rows
+        memory, element, _, wide, high, stride, kind = self._rows
         if not (0 <= x < wide and 0 <= y < high):
             raise IndexError(f"{(x, y)} is not in an image of {wide} x {high}")
-        if not is_held(count, wide, high, stride):
-            raise PixError(Status.BAD_SIZE)
         size = ctypes.sizeof(element)
         held = copied_rows(memory, size, size, 1, (y * stride + x) * size)
         return Color(memoryview(held).cast("H" if kind.max > 255 else "B"), kind)
@@ -267,8 +266,8 @@ class Image(View):
 
     @property
     def pixels(self) -> memoryview:
-        """A new view of the buffer: of its bytes, or of the buffer as it is where its rows lie
-        apart."""
+        """A new view of the buffer: of its bytes, or, if there are gaps between its rows, of the
+        buffer as it is."""
         return self._rows.memory.view()
 
     def __repr__(self) -> str:
@@ -278,21 +277,21 @@ class Image(View):
         return Image, (self._value(), self.width, self.height, None, self.type)
 
     def run(self, *commands: Union[Command, CommandList], origin: Iterable[SupportsIndex] = (0, 0)) -> None:
-        """Runs the commands in order, or none of them; or those of one CommandList, which is
+        """Runs the commands in order, or none of them. Pass commands, or one CommandList, which is
         checked already.
 
-        Where an `origin` is given, this image is a window of a picture: its first pixel is the
-        point (left, top) of the picture, and the regions of the commands are those of the picture.
-        Each pixel becomes what a run on the whole picture would make of it. So pictures painted
-        tile by tile are the picture painted whole, in any order. Tiles may never be in memory
-        together. Several threads may paint bands of rows of one buffer at once, each an image of
-        its own over a slice of a memoryview or an array. Windows side by side in one buffer share
-        the memory between their rows, and wait for each other.
+        With an `origin`, this image is a window of a picture: its first pixel is the point (left,
+        top) of the picture, and the regions of the commands are in the picture's coordinates. Each
+        pixel gets the value that a run on the whole picture would give it. So you can paint a picture
+        tile by tile, in any order, and never have two tiles in memory. Several threads may paint
+        bands of rows of one buffer at once, each an image of its own over a slice of a memoryview or
+        an array. Windows side by side in one buffer share the memory between their rows, and wait for
+        each other.
 
-        Raises PixError where the library refuses one, or where the window ends past 2147483647.
-        Raises TypeError where the buffer is read-only, where something is no Command, or where a
-        source has another type of pixels. Raises ValueError where a source or a matte shares
-        memory with this image, or where a color is none of its type.
+        Raises PixError if a command is bad, or if the window ends past 2147483647. Raises TypeError
+        if the buffer is read-only, if an argument is no Command, or if a source has another type of
+        pixels. Raises ValueError if a source or a matte shares memory with this image, or if a color
+        is none of its type.
         """
         memory, _, count, width, height, stride, type = self._rows
         left, top = origin_of(origin)
@@ -309,7 +308,7 @@ class Image(View):
             refuse_gone(memory, prepared)
         prepared.refuse_shared(memory)
         done, size = ctypes.c_size_t(), len(prepared.commands)
-        if not width or not height:  # no row is gone through: only its size and the commands are tested
+        if not width or not height:  # nothing is painted: only its size and the commands are tested
             bitmap = self._bitmap()
             if not bitmap.is_held or max(left + width, top + height) > MOST:
                 raise PixError(Status.BAD_SIZE)
@@ -317,7 +316,7 @@ class Image(View):
         arguments = memory.address, count, left, top, width, height, stride, prepared.address, size, done
         is_long = prepared.is_long(width * height)
         call, sources = type._calls[is_long], prepared.sources
-        status = turns.take(is_long, call, arguments, [memory], sources, prepared.wide)
+        status = turns.take(is_long, call, arguments, [memory], sources)
         if status == Status.BAD_SIZE:
             raise PixError(Status.BAD_SIZE)
         if status:

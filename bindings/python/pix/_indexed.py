@@ -20,7 +20,7 @@ _index, _look_up, _count_indices = Call("pix_raw_index_pixels"), Call("pix_raw_l
 _pack, _unpack = Call("pix_raw_pack_row"), Call("pix_raw_unpack_row")
 _COUNTS = ctypes.c_size_t * ENTRIES
 
-# The formats of pixels that a table of colors is beside: sRGB, and not multiplied by an alpha.
+# The formats of pixels that go with a table of colors: sRGB, and not multiplied by an alpha.
 _PIXELS = {Format.SRGB8: 3, Format.SRGBA8: 4}
 
 
@@ -33,7 +33,7 @@ def _read(buffer: Any) -> Memory:
 
 
 def _written(buffer: Any, *read: Memory) -> Memory:
-    """The memory of a buffer that is written, apart from those that are read."""
+    """The memory of a buffer that is written, which must not overlap those that are read."""
     memory = _read(buffer)
     if memory.is_readonly and memory.length:
         raise TypeError("the buffer is read-only")
@@ -59,7 +59,7 @@ def _byte(number: SupportsIndex, what: str) -> int:
 
 
 def _pixel_size(format: Any) -> int:
-    """How many bytes a pixel takes that a table of colors is beside."""
+    """How many bytes a pixel takes that goes with a table of colors."""
     size = _PIXELS.get(Format(format))
     if size is None:
         raise PixError(Status.BAD_FORMAT)
@@ -67,7 +67,7 @@ def _pixel_size(format: Any) -> int:
 
 
 def _table(buffer: Any, size: int) -> Memory:
-    """The memory of a table of colors, which may have none where pixels have an alpha: all of them may be below it."""
+    """The memory of a table of colors. It may be empty if the pixels have an alpha: all of them may be below it."""
     memory = _read(buffer)
     if not (size == 3) <= _count(memory, 3) <= ENTRIES:
         raise PixError(Status.BAD_TABLE)
@@ -83,7 +83,7 @@ def _table_rgba(buffer: Any) -> Memory:
 
 
 def _indices(indices: Any, count: int, *read: Memory) -> Tuple[Any, Memory]:
-    """The buffer that as many indices are written to, which is made where there is none, and its memory."""
+    """The buffer for `count` indices, which is made if there is none, and its memory."""
     if indices is None:
         indices = bytearray(count)
     target = _written(indices, *read)
@@ -93,8 +93,8 @@ def _indices(indices: Any, count: int, *read: Memory) -> Tuple[Any, Memory]:
 
 
 def _across(strength: int, width: int, pixels: Memory, size: int) -> int:
-    """The width of the rows in which the errors of pixels of a size are handed on. All rows have to be whole; without
-    pixels any width will do."""
+    """The width of the rows in which errors are passed on. All rows have to be whole; without pixels
+    any width will do."""
     if not 0 <= strength <= 16:
         raise PixError(Status.BAD_STRENGTH)
     count = _count(pixels, size)
@@ -114,12 +114,11 @@ def map_indexed(
     """Writes for each pixel the index of the nearest entry of `table`, and returns `indices`, without which it makes a bytearray.
 
     The table has from 1 to 256 colors of three bytes: red, green and blue in sRGB. The pixels are of the format SRGB8, or of
-    SRGBA8. The nearest entry, the first of equals, is the one with the least sum of the squares of the differences in red, green
-    and blue. A pixel whose alpha is below `alpha` has the index `transparent_index`; of the others the alpha is not looked at. Where
-    all pixels are below it, the table may be empty, as quantize() makes it of them. Where the table has alphas too, take
-    map_indexed_rgba().
+    SRGBA8. The nearest entry has the least sum of the squared differences in red, green and blue; if several are equal, it is the
+    first. A pixel with an alpha below `alpha` gets the index `transparent_index`; for all others the alpha is ignored. If all
+    pixels are below it, the table may be empty, as quantize() makes it. For a table with alphas use map_indexed_rgba().
 
-    Raises PixError where the table or the lengths don't fit, and leaves `indices` as they were.
+    Raises PixError if the table or the lengths don't fit, and leaves `indices` as they were.
     """
     size = _pixel_size(format)
     alpha, transparent_index = _byte(alpha, "alpha"), _byte(transparent_index, "index")
@@ -142,16 +141,17 @@ def quantize(
 ) -> bytearray:
     """Makes a table of at most `length` colors of the pixels, three bytes each: red, green and blue in sRGB.
 
-    The pixels are of the format SRGB8, or of SRGBA8; one whose alpha is below `alpha` does not count. With no more than `length`
-    distinct colors the table is just those, in order of first place. Else it has the means of boxes of colors, which are cut again and
-    again where the squared error falls most, and then joined where it rises least. Both are compared by quotients rounded down, so
-    of nearly equal ones another may be taken. It takes work memory of three bytes a pixel; of a large picture pass a sample, as each
-    tenth pixel.
+    The pixels are of the format SRGB8, or of SRGBA8; pixels with an alpha below `alpha` don't count. If there are at most `length`
+    distinct colors, they are the table, in order of first place. Otherwise, the colors are split into boxes, always by the split
+    that reduces the squared error most. Then the pairs of boxes that raise it least are merged, and the entries are the means of
+    the boxes. Errors are compared by quotients rounded down, so of nearly equal ones another may be chosen. It allocates work
+    memory of three bytes a pixel; for a large picture pass a sample, such as every tenth pixel.
 
-    So many `rounds`, 0 to 255, then refine means of boxes. In a round each color goes to its nearest entry, the first of equals. Each
-    entry goes to the mean of its colors, rounded, and stays where it has none. No round makes the sum of the squared errors greater.
+    `rounds`, 0 to 255, is how often such means are then refined. In a round each color goes to its nearest entry, the first if
+    several are equal. Each entry goes to the mean of its colors, rounded, and stays if it has none. No round makes the sum of the
+    squared errors greater.
 
-    It is empty where no pixel counts. Raises PixError where `length` is not from 1 to 256, or the pixels don't fit.
+    The table is empty if no pixel counts. Raises PixError if `length` is not from 1 to 256, or the pixels don't fit.
     """
     size = _pixel_size(format)
     alpha, rounds, most = _byte(alpha, "alpha"), _byte(rounds, "number of rounds"), index(length)
@@ -184,14 +184,14 @@ def diffuse_indexed(
 ) -> Any:
     """Does what `map_indexed` does, for a picture of rows of `width` pixels, by error diffusion.
 
-    What a pixel's entry leaves of the color that was wanted there is passed on. 7 sixteenths go to the pixel on the right, 3 to the
-    one below on the left, 5 to the one below, and 1 to the one below on the right (Floyd and Steinberg). What is wanted is a whole
-    number in each channel: a half is rounded up, and it is kept from 0 to 255. A pixel whose alpha is below `alpha` passes on none.
+    The error of a pixel is its target color less its entry. 7/16 of it go to the pixel on the right, 3/16 to the one below on the
+    left, 5/16 to the one below, and 1/16 to the one below on the right (Floyd and Steinberg). The target is a whole number in each
+    channel: a half is rounded up, and it is clamped to 0..255. A pixel with an alpha below `alpha` passes on no error.
 
     `strength` is how many sixteenths of the errors are passed on: 16 are all of them, and with 0 each pixel has the nearest entry.
-    With `serpentine` every other row, the second first, goes from right to left, and the shares are mirrored there.
+    With `serpentine` every other row, from the second on, goes from right to left, and the shares are mirrored there.
 
-    Raises PixError where the table, the strength, the width or the lengths don't fit, and leaves `indices` as they were.
+    Raises PixError if the table, the strength, the width or the lengths don't fit, and leaves `indices` as they were.
     """
     size, share, across = _pixel_size(format), index(strength), index(width)
     alpha, transparent_index, back = _byte(alpha, "alpha"), _byte(transparent_index, "index"), int(bool(serpentine))
@@ -213,13 +213,13 @@ def diffuse_indexed(
 def quantize_rgba(pixels: Buffer, length: SupportsIndex = 256, rounds: SupportsIndex = 0) -> bytearray:
     """Makes a table of at most `length` colors with an alpha of the pixels, four bytes each, for pictures whose alphas are kept.
 
-    The pixels, and the entries, are of the format SRGBA8: red, green, blue and alpha, which the colors are not multiplied by. Pixels
-    and entries count as they are seen over black and over white. So all clear pixels are one color, and of nearly clear ones the
-    color hardly counts. Where no more than `length` distinct colors are seen, the table has just the pixels that are seen as none
-    before them, in order and as they are. Else it is made by cuts, and refined by so many `rounds`, as quantize() makes one of
-    colors. Of opaque pixels it has the colors that quantize() makes of them. It takes work memory of four bytes a pixel.
+    The pixels and the entries are of the format SRGBA8: red, green and blue, not multiplied by the alpha. They are compared by
+    their look over black and over white. So all transparent pixels are one color, and the color of a nearly transparent pixel
+    hardly counts. If there are at most `length` distinct looks, the table has the first pixel of each, unchanged and in order.
+    Otherwise, it is made by cuts and refined by `rounds` rounds, like a table of quantize(). For opaque pixels it has the same
+    colors as quantize(). It allocates work memory of four bytes a pixel.
 
-    Raises PixError where `length` is not from 1 to 256, or the pixels don't fit.
+    Raises PixError if `length` is not from 1 to 256, or the pixels don't fit.
     """
     rounds, most = _byte(rounds, "number of rounds"), index(length)
     source = _read(pixels)
@@ -233,14 +233,14 @@ def quantize_rgba(pixels: Buffer, length: SupportsIndex = 256, rounds: SupportsI
 
 
 def map_indexed_rgba(table: Buffer, pixels: Buffer, indices: Any = None) -> Any:
-    """Writes for each pixel the index of the entry that is seen nearest to it, and returns `indices`, without which it makes a
+    """Writes for each pixel the index of the entry that looks nearest to it, and returns `indices`, without which it makes a
     bytearray.
 
     The table has from 1 to 256 colors with an alpha, as quantize_rgba() makes them, and the pixels are of the format SRGBA8. The
-    nearest entry, the first of equals, is the one with the least sum of the squares of the differences in red, green and blue over
-    black and over white.
+    nearest entry has the least sum of the squared differences in red, green and blue, over black and over white. If several are
+    equal, it is the first.
 
-    Raises PixError where the table or the lengths don't fit, and leaves `indices` as they were.
+    Raises PixError if the table or the lengths don't fit, and leaves `indices` as they were.
     """
     entries, source = _table_rgba(table), _read(pixels)
     count = _count(source, 4)
@@ -259,10 +259,10 @@ def diffuse_indexed_rgba(
 ) -> Any:
     """Does what `map_indexed_rgba` does, for a picture of rows of `width` pixels, by error diffusion.
 
-    Errors in the alpha, and in the colors multiplied by it, are passed on as diffuse_indexed() passes on those in the colors. A clear
-    pixel takes none and passes on none.
+    Errors in the alpha, and in the colors multiplied by it, are passed on like the errors of diffuse_indexed(). A transparent pixel
+    takes no errors and passes on none.
 
-    Raises PixError where the table, the strength, the width or the lengths don't fit, and leaves `indices` as they were.
+    Raises PixError if the table, the strength, the width or the lengths don't fit, and leaves `indices` as they were.
     """
     share, across, back = index(strength), index(width), int(bool(serpentine))
     entries, source = _table_rgba(table), _read(pixels)
@@ -281,13 +281,13 @@ def index_pixels(
 ) -> Tuple[bytearray, bytearray]:
     """Sets the color of each pixel in a table, one after the other, and returns the table afterwards and the indices.
 
-    The index is that of the entry that stands for the color, or of the next one, which is added; `table` may be empty, and one that
-    was returned may serve the next picture. What stands for a color is its match, if that differs from it by no more than
-    `threshold` in each of red, green and blue: of 0 that is the color itself. The match is the last of the candidates: entry 0, and
-    each later entry that differs by no more than the candidate before it in each channel, and by less in one.
+    A color gets the index of its match, if that differs from it by no more than `threshold` in each of red, green and blue. With a
+    threshold of 0 that is the color itself. Otherwise, the color is added as the next entry. `table` may be empty, and a returned
+    table may be used for the next picture. The match is the last candidate: entry 0 is the first candidate, and each later entry
+    replaces it that is no worse in each channel and better in one.
 
-    Raises PixError with FULL_TABLE where a color has no room among `length` entries, and also where `length` is not from 1 to 256 or
-    the lengths don't fit.
+    Raises PixError with FULL_TABLE if a color has no room among `length` entries. It raises PixError too if `length` is not from 1
+    to 256 or the lengths don't fit.
     """
     limits = bytes([_byte(channel, "threshold") for channel in threshold])
     if len(limits) != 3:
@@ -307,9 +307,9 @@ def index_pixels(
 
 
 def look_up(table: Buffer, indices: Buffer, pixels: Any = None) -> Any:
-    """Writes the entry of `table` of each index, three bytes each, and returns `pixels`, without which it makes a bytearray.
+    """Writes the entry of `table` for each index, three bytes each, and returns `pixels`, without which it makes a bytearray.
 
-    Raises PixError where an index is past the end of the table, or the lengths don't fit, and leaves `pixels` as they were.
+    Raises PixError if an index is past the end of the table, or the lengths don't fit, and leaves `pixels` as they were.
     """
     return _looked_up(_look_up, 3, table, indices, pixels)
 
@@ -320,7 +320,7 @@ def look_up_rgba(table: Buffer, indices: Buffer, pixels: Any = None) -> Any:
 
 
 def _looked_up(call: Call, size: int, table: Buffer, indices: Buffer, pixels: Any) -> Any:
-    """Writes the entry, of so many bytes, of each index."""
+    """Writes the entry for each index."""
     entries, source = _read(table), _read(indices)
     entry_count = min(_count(entries, size), ENTRIES)
     if pixels is None:
@@ -333,7 +333,7 @@ def _looked_up(call: Call, size: int, table: Buffer, indices: Buffer, pixels: An
 
 
 def count_indices(indices: Buffer, length: SupportsIndex = 256) -> List[int]:
-    """How often each number below `length` stands among the indices. Raises PixError where an index is not below it."""
+    """How often each number below `length` is among the indices. Raises PixError if an index is not below it."""
     size = index(length)
     if size < 0:
         raise ValueError(f"length {size} is below 0")
@@ -351,7 +351,7 @@ def _bits(bits: SupportsIndex) -> int:
 
 
 def row_size(bits: SupportsIndex, count: SupportsIndex) -> int:
-    """How many bytes a row of `count` indices of 1, 2, 4 or 8 bits takes. Raises ValueError where there are less than 0."""
+    """How many bytes a row of `count` indices of 1, 2, 4 or 8 bits takes. Raises ValueError if `count` is below 0."""
     depth, many = _bits(bits), index(count)
     if many < 0:
         raise ValueError(f"count {many} is below 0")
@@ -361,8 +361,8 @@ def row_size(bits: SupportsIndex, count: SupportsIndex) -> int:
 def pack_row(bits: SupportsIndex, indices: Buffer, row: Any = None) -> Any:
     """Packs indices of 1, 2, 4 or 8 bits into the bytes of a row, and returns `row`, without which it makes a bytearray.
 
-    The indices are in order, those of a byte from its most significant bits on, and the bits that are left over in the last byte
-    are 0. Raises PixError where an index takes more bits or the lengths don't fit, and leaves `row` as it was.
+    The indices are in order, in each byte from its most significant bits on. Unused bits of the last byte are 0. Raises PixError if
+    an index takes more bits or the lengths don't fit, and leaves `row` as it was.
     """
     depth = _bits(bits)
     source = _read(indices)
@@ -376,7 +376,7 @@ def pack_row(bits: SupportsIndex, indices: Buffer, row: Any = None) -> Any:
 def unpack_row(bits: SupportsIndex, row: Buffer, indices: Any = None, count: Optional[SupportsIndex] = None) -> Any:
     """Unpacks `count` indices of 1, 2, 4 or 8 bits from the bytes of a row, or fills `indices`, and returns them.
 
-    Raises PixError where the row has not just as many bytes as they take, and leaves `indices` as they were.
+    Raises PixError if the row is not exactly as long as they take, and leaves `indices` as they were.
     """
     depth, many = _bits(bits), None if count is None else index(count)
     source = _read(row)

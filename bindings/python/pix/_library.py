@@ -8,12 +8,12 @@ import platform
 import sys
 from typing import Any, List, Optional, Set
 
-# From how many nanoseconds on, by the table, a call is long: it lets the interpreter's lock go.
+# From this many nanoseconds on, by the table, a call is long: it releases the interpreter's lock.
 LONG = 500_000
 
-# What a command costs at least, and what a pixel costs at most, in nanoseconds or so: of the pictures, tables and operators
-# that take longest. And what the library's functions take, in order. A word says how a caller's memory
-# is used, which is an address and a count of elements of so many bytes: a call takes its turn by just that.
+# The least cost of a command and the greatest cost of a pixel, in nanoseconds or so, for the pictures, tables and operators
+# that take longest; then the arguments of each function, in order. A word says how a caller's memory is used, which is an
+# address and a count of elements of n bytes. A call takes turns by these words alone:
 #
 #   read:n, write:n   read, or written
 #   table:n           read in a copy that has room for 256 colors
@@ -61,15 +61,21 @@ def types_of(takes: str) -> List[Any]:
     return types
 
 
-# What Linux calls, in /proc/cpuinfo, the instructions that x86-64-v3 has beyond those of x86-64-v2.
+# Linux's names, in /proc/cpuinfo, of the instructions that x86-64-v3 has beyond those of x86-64-v2.
 V3 = {"abm", "avx", "avx2", "bmi1", "bmi2", "f16c", "fma", "movbe", "xsave"}
-# Where glibc, from 2.33 on, notes the instructions that the processor has and the system lets run: a leaf, a word, and a bit.
+# The place where glibc, from 2.33 on, has the instructions that the processor and the system allow: a leaf, a word, and a bit.
 _BITS = {
     "sse4_1": (0, 6, 19), "fma": (0, 6, 12), "movbe": (0, 6, 22), "xsave": (0, 6, 26), "avx": (0, 6, 28), "f16c": (0, 6, 29),
     "bmi1": (1, 5, 3), "avx2": (1, 5, 5), "bmi2": (1, 5, 8), "abm": (2, 6, 5),
 }  # fmt: skip
 # The processors by their numbers in the head of a shared object.
 MACHINES = {62: "x86-64", 183: "aarch64"}
+# The library for each system other than Linux; none of these has a build for wider processors.
+NAMES_ELSEWHERE = {"win32": "pix.dll", "darwin": "libpix.dylib"}
+# The build for wider processors, by the name of the other one.
+WIDE = {"libpix_c.so": "libpix_c-v3.so"}
+# Windows's number for SSE4.1.
+_SSE4_1_OF_WINDOWS = 37
 NAMES = {"x86_64": "x86-64", "amd64": "x86-64", "arm64": "aarch64"}
 
 
@@ -80,7 +86,7 @@ def machine() -> str:
 
 
 def flags(cpuinfo: str = "/proc/cpuinfo") -> Optional[Set[str]]:
-    """The instructions that each of the processors has beyond the first ones of x86-64, or None where the system doesn't tell."""
+    """The instructions that each of the processors has beyond the first ones of x86-64, or None if the system doesn't tell."""
     try:
         with open(cpuinfo, encoding="utf-8", errors="replace") as lines:
             found = [set(line.split()) for line in lines if line.startswith("flags")]
@@ -90,7 +96,7 @@ def flags(cpuinfo: str = "/proc/cpuinfo") -> Optional[Set[str]]:
 
 
 def asked() -> Optional[Set[str]]:
-    """Those of the instructions above that the processor itself says it has, or None where no function tells."""
+    """The instructions above that the processor itself reports, or None if no function tells."""
     try:
         leaf = getattr(ctypes.CDLL(None), "__x86_get_cpuid_feature_leaf")
     except (AttributeError, OSError):
@@ -100,8 +106,19 @@ def asked() -> Optional[Set[str]]:
     return {name for name, (number, word, bit) in _BITS.items() if words[number][word] >> bit & 1}
 
 
+def told_by_windows() -> Optional[Set[str]]:
+    """The instructions that Windows reports: only SSE4.1, since the library needs no other."""
+    try:
+        kernel = getattr(ctypes, "WinDLL")("kernel32")
+        return {"sse4_1"} if kernel.IsProcessorFeaturePresent(_SSE4_1_OF_WINDOWS) else set()
+    except (AttributeError, OSError):
+        return None
+
+
 def instructions() -> Optional[Set[str]]:
-    """The instructions that both the processor and the system tell: under an emulator the system may tell of another one."""
+    """The instructions that both the processor and the system report: under an emulator the two may differ."""
+    if sys.platform == "win32":
+        return told_by_windows()
     own, told = asked(), flags()
     return told if own is None else own if told is None else own & told
 
@@ -116,16 +133,17 @@ def processor_fault(kind: str, has: Optional[Set[str]]) -> Optional[str]:
 
 
 def path_of_library(has: Optional[Set[str]] = None) -> str:
-    """Where the shared object is: PIX_LIBRARY, or in this folder, the one for x86-64-v3 where the processor has these
-    instructions, or in the folder above, or in an installed package."""
+    """The path of the shared object: PIX_LIBRARY, or in this folder, in the folder above, or in an installed package. With
+    these instructions, the build for x86-64-v3 in this folder comes first."""
     named = os.environ.get("PIX_LIBRARY")
     if named:
         return os.path.abspath(named)
     here = os.path.dirname(os.path.abspath(__file__))
-    above = os.path.join(os.path.dirname(here), "libpix_c.so")
-    # A package of sources finds the library of one that is installed, which it stands before.
+    name = NAMES_ELSEWHERE.get(sys.platform, "libpix_c.so")
+    above = os.path.join(os.path.dirname(here), name)
+    # A package of sources comes before an installed one on the path, and finds that one's library.
     for folder in (here, *(os.path.join(each, "pix") for each in sys.path if os.path.isabs(each))):
-        wide, inside = (os.path.join(folder, name) for name in ("libpix_c-v3.so", "libpix_c.so"))
+        wide, inside = (os.path.join(folder, each) for each in (WIDE.get(name, name), name))
         if has is not None and V3 <= has and os.path.exists(wide):
             return wide
         if os.path.exists(inside):
@@ -168,5 +186,5 @@ _fault = processor_fault(machine(), instructions() if machine() == "x86-64" else
 if _fault:
     raise ImportError(f"pix: {_fault}")
 
-# The library for short calls, which keep the interpreter's lock, and for long ones, which let it go.
+# The library for short calls, which keep the interpreter's lock, and for long ones, which release it.
 libraries = (load(ctypes.PyDLL), load(ctypes.CDLL))

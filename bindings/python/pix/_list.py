@@ -8,23 +8,19 @@ from typing import Any, Dict, Iterator, List, Optional, Sequence, Tuple
 
 from pix._colors import Color
 from pix._command import Command, made
-from pix._library import LONG
 from pix._memory import NOWHERE, Alive, Memory, is_a, refuse_gone
 from pix._pixels import RGBA16, PixelType, kind_of
 from pix._turns import turns
 from pix._values import PixError, Status
-from pix._wide import WideMasks
 
 
 class PreparedList:
-    """Commands as the library reads them, for images of one type: none of it changes, and it pins what they read."""
+    """Commands as the library reads them, for images of one type. It never changes, and pins the memory that they read."""
 
-    __slots__ = ("commands", "type", "address", "sources", "numbers", "low", "high", "alive", "wide", "_records")
+    __slots__ = ("commands", "type", "address", "sources", "numbers", "low", "high", "alive", "_records")
 
     def __init__(self, commands: Sequence[Command], type: PixelType) -> None:
-        wide: WideMasks = {}
-        taken = [made(command, type, wide) for command in commands]
-        self.wide = tuple(wide.values())
+        taken = [made(command, type) for command in commands]
         self.alive = Alive((True,))
         self.commands = tuple(commands)
         self.type = type
@@ -43,12 +39,11 @@ class PreparedList:
         self.high = max((source.address + source.length for source in self.sources), default=0)
 
     def is_long(self, pixels: int) -> bool:
-        """Whether a run on an image of so many pixels is a long call."""
-        masks = sum(mask.pixels for mask in self.wide)
-        return 4 * masks > LONG or self.type._is_long(len(self.commands), pixels)
+        """Whether a run on an image of this many pixels is a long call."""
+        return self.type._is_long(len(self.commands), pixels)
 
     def refuse_shared(self, memory: Memory) -> None:
-        """Raises a ValueError where a command reads this memory."""
+        """Raises a ValueError if a command reads this memory."""
         if memory.address + memory.length <= self.low or self.high <= memory.address:
             return
         for number, source in zip(self.numbers, self.sources):
@@ -57,7 +52,7 @@ class PreparedList:
 
 
 def kind_read(commands: Sequence[Command]) -> PixelType:
-    """The kind of pixels of the first image or pix.Color that commands have, and else RGBA16."""
+    """The kind of pixels of the commands' first image or pix.Color, or RGBA16 without one."""
     for command in commands:
         if is_a(command, Command):
             if command._source is not None and command._source._rows.type is not None:
@@ -68,17 +63,17 @@ def kind_read(commands: Sequence[Command]) -> PixelType:
 
 
 class CommandList(Sequence):
-    """A list of commands for images of one `type`, which is checked once, when it is made, and run often. Without a `type`
-    it is that of the first image that is read, or of a pix.Color, and else RGBA16.
+    """A list of commands for images of one `type`. It is checked once, when it is made, and can be run often. Without a
+    `type` it takes the one of the first image that is read, or of a pix.Color, and RGBA16 if there is none.
 
-    Image.run() takes it in the place of its commands, and then tests nothing again but what depends on the image. It
-    stays as it is; what its sources hold is read at each run. A pickle has its commands, with pixels of their own.
+    Image.run() takes it in place of its commands, and repeats only the tests that depend on the image. The list never
+    changes; the pixels of its sources are read at each run. A pickle has its commands, with pixels of their own.
 
         screen = pix.CommandList(pix.clear(), pix.composite_image((8, 8, 16, 16), sprite))
         for image in images:
             image.run(screen)
 
-    Raises what Image.run() raises for a command that is refused.
+    Raises what Image.run() raises for a bad command.
     """
 
     __slots__ = ("_prepared",)
@@ -86,7 +81,7 @@ class CommandList(Sequence):
     def __init__(self, *commands: Command, type: Optional[PixelType] = None) -> None:
         kind = kind_read(commands) if type is None else kind_of(type)
         prepared, done = PreparedList(commands, kind), ctypes.c_size_t()
-        # On an image of no pixels all commands are tested, and none paints.
+        # On an image without pixels all commands are tested, and none paints.
         empty = NOWHERE, 0, 0, 0, 0, 0, 0, prepared.address, len(commands), done
         is_long = kind._is_long(len(commands), 0)
         status = turns.take(is_long, kind._calls[is_long], empty, [], [])

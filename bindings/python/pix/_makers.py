@@ -35,8 +35,8 @@ def copy_color(to: _Region, color: _Color) -> Command:
     channels as the image's pixels have, premultiplied and linear.
 
     A region is (x, y, width, height) in pixels. A channel is from 0 to 255, or to 65535 in RGBA16.
-    A tuple that may be of another kind is refused when the command runs: one on RGBA16 with no
-    channel above 255, and one with a channel above its alpha.
+    An ambiguous tuple raises an error when the command runs: one on RGBA16 with no channel above
+    255, and one with a channel above its alpha.
 
     >>> image = pix.Image.new(2, 1, pix.RGBA16)
     >>> image.run(pix.copy_color((0, 0, 1, 1), pix.srgb("#c87828")))
@@ -49,8 +49,8 @@ def copy_image(to: _Region, source: Image, from_: Optional[_Region] = None) -> C
     """Replaces the pixels of `to` by those of the region `from_` of another image; None is all of
     it.
 
-    The point of `from_` that is as far from its upper left corner as a point of `to` is from its
-    own goes there.
+    The corners are paired: a point of `to` gets the pixel of `from_` at the same distance from the
+    upper left corner.
     """
     return Command(2, to, source=_source(source, Image), from_=from_)
 
@@ -80,8 +80,8 @@ def composite_image_matte(
     """Composites the pixels of `from_` in another image, multiplied by the values of `mask_from`
     in a matte, with those of `to`: soft edges.
 
-    All three corners are paired, and a point is changed where all three regions and all of image,
-    source and mask have it.
+    All three corners are paired. A point is changed if it is inside all three regions, and inside
+    image, source and mask.
     """
     return Command(6, to, None, op, _source(source, Image), from_, _source(mask, Matte), mask_from)
 
@@ -94,9 +94,9 @@ def composite_image_alpha(
     """Composites the pixels of `from_` in another image, multiplied by an opacity, with those of
     `to`: a fade.
 
-    The opacity has three names, of which one is given. `opacity` is a fraction from 0 to 1, and
-    `alpha8` a byte from 0 to 255, for images of all kinds. `alpha` is a channel of the image: from
-    0 to 255, or to 65535 in RGBA16. At the greatest one it is composite_image.
+    Give the opacity by one of three names. `opacity` is a fraction from 0 to 1, and `alpha8` a byte
+    from 0 to 255, for images of all kinds. `alpha` is a channel of the image: from 0 to 255, or to
+    65535 in RGBA16. At full opacity this is composite_image.
 
     >>> pix.composite_image_alpha((0, 0, 9, 9), pix.Image.new(9, 9, pix.RGBA16), opacity=0.5).alpha
     32768
@@ -120,11 +120,11 @@ def composite_image_alpha(
 
 
 def repeat_image(to: _Region, source: Image, from_: Optional[_Region] = None, op: Op = Op.SRC_OVER) -> List[Command]:
-    """The commands that composite `from_` in another image over all of `to`, side by side from its
-    upper left corner on and cut at its other sides, row by row: a pattern.
+    """A pattern: the commands that composite copies of `from_` in another image over all of `to`.
+    They are side by side from its upper left corner on, row by row, and cut at its other sides.
     image.run(*repeat_image(..)) paints it.
 
-    A copy that begins past 2147483647 is in no image, and left out.
+    A copy that begins past 2147483647 can't be in any image, and is left out.
     """
     x, y, width, height = region_of(to)
     _source(source, Image)

@@ -1,7 +1,7 @@
-"""The one way in: what a caller hands over as a buffer becomes an address, a length and a kind.
+"""The one way in: a caller's buffer becomes an address, a length and a kind.
 
 A buffer is asked for its memory once, by the buffer protocol. From then on no method, attribute or
-conversion of the caller's object runs: what is read of it is read at the address.
+conversion of the caller's object runs: it is only read at the address.
 """
 
 from __future__ import annotations
@@ -15,18 +15,18 @@ from typing import TYPE_CHECKING, Any
 if TYPE_CHECKING:
     from typing_extensions import Buffer
 else:
-    Buffer = Any  # what has the buffer protocol: only a type checker tells
+    Buffer = Any  # an object with the buffer protocol: only a type checker tells
 
 _NOTHING = (ctypes.c_uint64 * 1)()
 # An address for buffers of no elements, aligned for all of them. It is never read.
 NOWHERE = ctypes.addressof(_NOTHING)
 
-# Where the interpreter keeps what it knows of a buffer; the address of its memory comes first.
+# The interpreter's record of a buffer; the address of the memory comes first.
 _record_of = ctypes.pythonapi.PyPickleBuffer_GetBuffer
 _record_of.argtypes = [ctypes.py_object]
 _record_of.restype = ctypes.c_void_p
 
-# The formats of bytes, and of words of 16 bits, and the signs of the machine's order.
+# The format codes of bytes, and of words of 16 bits, and the signs of the machine's order.
 _BYTES, _WORD = ("B", "c"), "H"
 _ORDER = "@=" + {"little": "<", "big": ">"}[sys.byteorder]
 
@@ -36,9 +36,9 @@ MOST = 2**31 - 1
 
 
 def is_held(length: int, width: int, height: int, apart: int, size: int = 1) -> bool:
-    """Whether so many elements hold rows of `width` pixels of `size` each, that share none.
+    """Whether `length` elements hold the rows of `width` pixels of `size` each, without overlap.
 
-    Rows lie `apart` elements from one to the next.
+    Rows begin `apart` elements apart.
     """
     wide = width * size
     if width > MOST or height > MOST or wide > apart:
@@ -47,7 +47,7 @@ def is_held(length: int, width: int, height: int, apart: int, size: int = 1) -> 
 
 
 def is_a(given: Any, kind: type) -> bool:
-    """Whether an object is of a class: by what it is, and not by what it or a registry says."""
+    """Whether an object is of a class: by its real type, and not by what it or a registry says."""
     return type(given) is kind or type.__subclasscheck__(kind, type(given))
 
 
@@ -57,7 +57,7 @@ def name_of(given: Any) -> str:
 
 
 class Gaps(ValueError):
-    """A buffer whose rows aren't whole, which only a copy may be made of."""
+    """A buffer with gaps inside its rows, which can only be copied."""
 
     def __init__(self, view: memoryview, why: str) -> None:
         super().__init__(why)
@@ -70,7 +70,7 @@ def of_pillow(given: Any) -> bool:
 
 
 def instead_of(given: Any, matte: bool = False) -> str:
-    """What an object is that is no buffer and no image, and what to write for it."""
+    """The error text for an object that is no buffer and no image: its kind, and what to write."""
     kind = type(given)
     if issubclass(kind, (str, os.PathLike)):
         path = os.fspath(given)
@@ -86,19 +86,18 @@ def instead_of(given: Any, matte: bool = False) -> str:
 
 
 def elements_instead(code: str) -> str:
-    """What to write for an array of elements that aren't taken."""
+    """The hint for an array with elements of the wrong type."""
     if code[-1:] in "efdg":
         return "; for fractions from 0 to 1 write (255 * array).round().astype('uint8')"
     return "; for numbers from 0 to 255 write array.astype('uint8')"
 
 
 class Alive(list):
-    """What tells whether an object is whole: it is true until that is collected.
+    """Tells whether an object is whole: it is true until the object is collected.
 
-    A collection calls the `__del__` of all objects of a cycle before it clears the first one. So
-    none is found half cleared with a memory that is another's by then, whatever a weak reference
-    or its callback gets hold of. This `__del__` is no line of Python, which an interrupt could
-    leave out.
+    A collection calls the `__del__` of all objects of a cycle before it clears the first one. So a
+    weak reference or its callback never finds an object that is half cleared, with memory that is
+    used by another one. This `__del__` is no line of Python, which an interrupt could leave out.
     """
 
     __slots__ = ()
@@ -106,14 +105,14 @@ class Alive(list):
 
 
 def refuse_gone(*given: Any) -> None:
-    """Raises a ReferenceError for what a collection has begun to clear."""
+    """Raises a ReferenceError for an object that a collection has begun to clear."""
     for one in given:
         if not getattr(one, "alive", None):
             raise ReferenceError("a collection has let go of its memory")
 
 
 class Span:
-    """Memory of any shape: where a view of it begins and ends."""
+    """Memory of any shape: the first and the last address of a view."""
 
     __slots__ = ("address", "length")
 
@@ -131,10 +130,9 @@ class Span:
 class Memory:
     """The memory of a buffer: `rows` stretches of `row` bytes, `step` bytes apart.
 
-    Where `turned` allows it, the first row may be the last one in memory, and then `step` is
-    negative. It is pinned as long as this object lives: who owns it neither moves nor frees it.
-    What pins it is freed by the interpreter itself and not by a line of Python, which an interrupt
-    could leave out.
+    If `turned` allows it, the first row may be the last one in memory, and then `step` is negative.
+    The memory is pinned as long as this object lives: its owner neither moves nor frees it. The
+    interpreter itself unpins it, and not a line of Python, which an interrupt could leave out.
     """
 
     __slots__ = (
@@ -197,7 +195,7 @@ class Memory:
 
     @property
     def has_gaps(self) -> bool:
-        """Whether rows lie apart."""
+        """Whether there are gaps between rows."""
         return self.step != self.row
 
     def is_apart(self, other: Memory) -> bool:
@@ -210,7 +208,7 @@ class Memory:
         )
 
     def view(self) -> memoryview:
-        """A view of the buffer, of bytes where it has no gaps.
+        """A view of the buffer, of bytes if it has no gaps.
 
         Releasing it releases nothing of this object.
         """
@@ -220,5 +218,5 @@ class Memory:
             return view
         try:
             return view.cast("B")
-        except ValueError:  # a format that no memoryview casts, as those of ctypes
+        except ValueError:  # a format that no memoryview casts, such as the ones of ctypes
             return PickleBuffer(view).raw()

@@ -1,4 +1,4 @@
-"""The names of colors that CSS has, and what they are in sRGB."""
+"""The names of colors in CSS, and their values in sRGB."""
 
 from __future__ import annotations
 

@@ -1,5 +1,5 @@
-"""Numbers that a caller hands over: each is asked for once, and is a plain int from then on."""
+"""Numbers from a caller: each is read once, and is a plain int from then on."""
 
 from __future__ import annotations
 
-from operator import index as index  # of a number of another class it makes a plain int
+from operator import index as index  # it turns a number of another class into a plain int

@@ -1,5 +1,5 @@
-"""Pictures of Pillow: from them strip by strip, and to them over memory that is theirs from
-then on."""
+"""Pictures of Pillow: images are made from them strip by strip, and pictures are made over memory
+that belongs to Pillow from then on."""
 
 from __future__ import annotations
 
@@ -20,15 +20,15 @@ from pix._indexed import (
 )
 from pix._values import Format, Status
 
-# How many bytes of a picture are read at once: they stay in a core's own cache; and where Pillow
-# copies them first, blocks that malloc keeps.
+# How many bytes of a picture are read at once. The first fits in a core's own cache. The other, if
+# Pillow copies them first, is a size of block that malloc keeps.
 STRIP, COPIED = 384 << 10, 96 << 10
 
 # The modes that are packed without a copy, and how. Pixels of four bytes become light the fastest,
-# so that gray is made such pixels too.
+# so gray is packed like that too.
 _PACKED = {"RGBA": "RGBA", "RGB": "RGBX", "RGBX": "RGBX", "L": "L"}
 
-# The modes that images of gray are made of without a detour.
+# The modes that become images of gray directly.
 _GRAY = {"L": Format.SGRAY8, "LA": Format.SGRAYA8}
 
 # The last byte of a pixel of four.
@@ -42,18 +42,18 @@ CLEAR = 128
 
 
 class Facts(NamedTuple):
-    """What a picture's pixels don't tell: which number is white in gray of many bits, and which
-    level or color is clear."""
+    """The facts that a picture's pixels don't tell: which number is white in gray of many bits, and
+    which level or color is clear."""
 
     white: Optional[float]
     clear: Any
 
 
 def facts_of(picture: Any, white: Optional[float]) -> Facts:
-    """What there is to know of a picture, before its pixels are loaded."""
+    """These facts of a picture, before its pixels are loaded."""
     mode, clear = picture.mode, picture.info.get("transparency")
-    # How a file packs its pixels. Pillow makes them 8 bits, but not what the file says of a clear
-    # one.
+    # How a file packs its pixels. Pillow converts them to 8 bits, but not the number that the file
+    # gives for a clear one.
     tiles = getattr(picture, "tile", None)
     kept = str(tiles[0][3]) if tiles else ""
     if mode == "L" and isinstance(clear, int):
@@ -77,8 +77,8 @@ def facts_of(picture: Any, white: Optional[float]) -> Facts:
 
 
 def image_of(picture: Any, facts: Facts, new: Callable[[int, int], Any]) -> Any:
-    """An image, which `new` makes, of a picture: strip by strip, so that no second copy of all
-    of it is made."""
+    """An image, made by `new`, of a picture: strip by strip, so that no second copy of all of it is
+    made."""
     width, height = picture.size
     picture.load()
     image = new(width, height)
@@ -99,11 +99,11 @@ def image_of(picture: Any, facts: Facts, new: Callable[[int, int], Any]) -> Any:
 
 
 def plain_core(picture: Any, facts: Facts) -> Any:
-    """What a picture has inside, if Pillow's own packer makes bytes of some of its rows."""
+    """The core of a picture, if Pillow's own packer can pack its rows into bytes."""
     from PIL import Image as pillow
 
     core = picture.im
-    # Its own mode counts: a packer reads four bytes a pixel, be there one.
+    # The core's own mode counts: a packer reads four bytes a pixel, even if there is only one.
     is_plain = core.mode == picture.mode and core.mode in _PACKED and facts.clear is None
     return core if is_plain and hasattr(pillow, "_getencoder") else None
 
@@ -128,7 +128,7 @@ def read_packed(core: Any, box: Tuple[int, int, int, int], is_gray: bool) -> Tup
 
 
 def opaque(data: bytes) -> Any:
-    """Pixels of four bytes, the last of which may be any, with an alpha of 255."""
+    """Pixels of four bytes with any last byte, now with an alpha of 255."""
     numpy = sys.modules.get("numpy")
     if numpy is not None:
         return (numpy.frombuffer(data, "u4") | numpy.uint32(_ALPHA)).view("u1")
@@ -232,8 +232,8 @@ def pixels_of(image: Any, format: Format) -> Any:
 def mapped_rgb(size: Tuple[int, int], data: Any) -> Any:
     """A picture RGB over memory of four bytes a pixel, as Pillow itself keeps them.
 
-    Pillow's frombuffer() makes none of this mode, so it is asked as that function asks; and where
-    another Pillow has other names, it makes a copy.
+    Pillow's frombuffer() doesn't take this mode, so this calls Pillow as that function does. If a
+    version of Pillow has other names, a copy is made.
     """
     from PIL import Image as pillow
 
@@ -249,8 +249,8 @@ def mapped_rgb(size: Tuple[int, int], data: Any) -> Any:
 
 
 def indexed(image: Any, table: Any, diffuse: bool) -> Any:
-    """A picture of indices into a table of colors, which is made where none is given; one more
-    entry is for clear pixels."""
+    """A picture of indices into a table of colors, which is made if none is given. One more entry
+    is for clear pixels."""
     from PIL import Image as pillow
 
     entries = b"" if table is None else table_of(table)
@@ -282,8 +282,8 @@ def indexed(image: Any, table: Any, diffuse: bool) -> Any:
 
 
 def indexed_rgba(image: Any, table: Any, diffuse: bool) -> Any:
-    """A picture of indices into a table of colors with an alpha, which is made where none is given:
-    then those that are not opaque come first, since a PNG keeps the alphas up to the last of
+    """A picture of indices into a table of colors with an alpha, which is made if none is given.
+    Then the colors that are not opaque come first, since a PNG stores alphas up to the last of
     them."""
     from PIL import Image as pillow
 

@@ -1,4 +1,4 @@
-"""The kinds of pixels, how their commands are laid out, and whether the library lays them out so."""
+"""The kinds of pixels, and the layout of their commands, which must be the library's layout."""
 
 from __future__ import annotations
 
@@ -17,6 +17,10 @@ class RegionRecord(ctypes.Structure):
     _fields_ = [("x", ctypes.c_int32), ("y", ctypes.c_int32), ("width", ctypes.c_uint32), ("height", ctypes.c_uint32)]
 
 
+# Masks of 8 bits, which a command for images of 16 bits has too.
+MATTES8 = [("mattes8", ctypes.c_void_p), ("matte8_count", ctypes.c_size_t)]
+
+
 def command_record(name: str, color: Any, channel: Any) -> Any:
     """Makes the class of a command as the library reads it, with a color and an opacity of these types."""
     fields = [("kind", ctypes.c_uint32), ("op", ctypes.c_uint32), ("to", RegionRecord), ("from_", RegionRecord)]
@@ -25,6 +29,7 @@ def command_record(name: str, color: Any, channel: Any) -> Any:
     fields += [("width", ctypes.c_uint32), ("height", ctypes.c_uint32), ("stride", ctypes.c_uint32)]
     fields += [("mask", RegionRecord), ("mask_width", ctypes.c_uint32), ("mask_height", ctypes.c_uint32)]
     fields += [("mask_stride", ctypes.c_uint32), ("alpha", channel)]
+    fields += MATTES8 if channel is ctypes.c_uint16 else []
     return type(name, (ctypes.Structure,), {"_fields_": fields})
 
 
@@ -44,7 +49,7 @@ class PixelType(Enum):
 
     @property
     def channels(self) -> int:
-        """How many channels a pixel has, the alpha among them, which is the last one."""
+        """How many channels a pixel has, with the alpha, which is the last one."""
         return ctypes.sizeof(self._color) // ctypes.sizeof(self._channel)
 
     @property
@@ -53,7 +58,7 @@ class PixelType(Enum):
         return 256 ** ctypes.sizeof(self._channel) - 1
 
     def _is_long(self, commands: int, pixels: int) -> bool:
-        """Whether so many commands on an image of so many pixels are a long call."""
+        """Whether this many commands on an image of this many pixels are a long call."""
         return commands * (PER_COMMAND + pixels * self._cost) > LONG
 
     def __repr__(self) -> str:
@@ -80,8 +85,8 @@ def kind_of(type: Any) -> PixelType:
     raise TypeError(f"{type!r} is no kind of pixels: write pix.RGBA8, pix.RGBA16 or pix.GRAYA8")
 
 
-# The version of the binary interface, and the fields whose offsets the library answers, in its order.
-ABI_VERSION = 2
+# The version of the binary interface, and the fields with offsets that the library returns, in its order.
+ABI_VERSION = 3
 REGION = "x y width height"
 COMMAND = "kind op to from_ color pixels pixel_count mattes matte_count width height stride mask mask_width mask_height mask_stride alpha"
 
@@ -92,10 +97,11 @@ def layout(structure: Any, names: str) -> List[int]:
 
 
 def refuse_another(library: Any) -> None:
-    """Raises an ImportError if the library has another version or lays out anything otherwise than this package."""
+    """Raises an ImportError if the library has another version or another layout than this package."""
     facts = [ABI_VERSION] + [ctypes.sizeof(type._color) for type in PixelType] + layout(RegionRecord, REGION)
     for type in PixelType:
         facts += layout(type._command, COMMAND)
+        facts += [getattr(type._command, name).offset for name, _ in MATTES8 if hasattr(type._command, name)]
     if [library.pix_layout(i) for i in range(len(facts) + 1)] != facts + [2**32 - 1]:
         raise ImportError("pix: the library has another version or layout than this package")
 

@@ -10,11 +10,12 @@ from typing import Any, Dict, Iterator, List, NamedTuple, Optional, Sequence, Tu
 
 from pix._fresh import lit
 from pix._indexed import row_size, unpack_row
+from pix._profile import of_chunks
 from pix._values import Format
 
 SIGNATURE = b"\x89PNG\r\n\x1a\n"
 
-# The kinds of color: how many samples a pixel has, and of how many bits they may be.
+# The color types: how many samples a pixel has, and how many bits a sample may have.
 _GRAY, _COLOR, _PALETTE, _GRAY_ALPHA, _COLOR_ALPHA = 0, 2, 3, 4, 6
 _SAMPLES = {_GRAY: 1, _COLOR: 3, _PALETTE: 1, _GRAY_ALPHA: 2, _COLOR_ALPHA: 4}
 _BITS = {
@@ -38,19 +39,20 @@ _PASSES = (
 
 
 class Pixels(NamedTuple):
-    """A picture that was read: a buffer in a format."""
+    """A picture that was read: a buffer in a format, and the file's colors if they aren't sRGB."""
 
     width: int
     height: int
     format: Format
     data: Any
+    said: Optional[str] = None
 
 
 class Fault(Exception):
-    """What is wrong with a file."""
+    """An error in a file."""
 
 
-# How many pixels a picture in a file has at most where no other limit is given: as in Pillow.
+# The most pixels that a picture in a file may have, if no other limit is given: as in Pillow.
 LIMIT = 178_956_970
 
 
@@ -62,7 +64,7 @@ def refuse_many(width: int, height: int, limit: Optional[int]) -> None:
 
 
 class _Head(NamedTuple):
-    """How a file has its pixels."""
+    """How a file stores its pixels."""
 
     width: int
     height: int
@@ -81,13 +83,13 @@ class _Head(NamedTuple):
         return [(columns, rows) for columns, rows in passes if columns and rows]
 
     def row(self, columns: int) -> int:
-        """How many bytes a row of so many pixels has."""
+        """How many bytes a row of `columns` pixels has."""
         samples = _SAMPLES[self.color] * columns
         return row_size(self.bits, samples) if self.bits < 8 else samples * self.bits // 8
 
 
 def chunk(kind: bytes, data: bytes) -> bytes:
-    """A chunk: its length, its kind, what is in it, and a checksum."""
+    """A chunk: its length, its kind, its data, and a checksum."""
     return (
         struct.pack(">I", len(data))
         + kind
@@ -102,7 +104,7 @@ def png(width: int, height: int, format: Format, data: Any) -> bytes:
 
 
 def png_of_rows(width: int, height: int, bits: int, samples: int, data: Any) -> bytes:
-    """The bytes of a file of rows of so many samples a pixel, of 8 or 16 bits."""
+    """The bytes of a file of these rows, of 8 or 16 bits a sample."""
     color = (_GRAY, _GRAY_ALPHA, _COLOR, _COLOR_ALPHA)[samples - 1]
     row, pack = width * samples * bits // 8, zlib.compressobj(6)
     parts = []
@@ -134,7 +136,7 @@ def chunks(file: bytes) -> Iterator[Tuple[bytes, bytes]]:
 
 
 def read_png(file: bytes, limit: Optional[int] = LIMIT) -> Pixels:
-    """The picture of a file: SRGBA8, or RGBA16 where it has 16 bits; turned as its EXIF says."""
+    """The picture of a file: SRGBA8, or RGBA16 if it has 16 bits; turned as its EXIF says."""
     found: Dict[bytes, bytes] = {}
     packed: List[bytes] = []
     for kind, data in chunks(file):
@@ -152,7 +154,7 @@ def read_png(file: bytes, limit: Optional[int] = LIMIT) -> Pixels:
     pixels = array(code)
     for columns, lines in head.passes:
         if not pixels:
-            # No sooner than the first rows were unpacked, and all of them are there.
+            # Only after the first rows were unpacked, and if all rows are there.
             rows = iter(list(rows))
             pixels = array(code, bytes(pixels.itemsize)) * (head.width * head.height)
         for y in lines:
@@ -162,11 +164,11 @@ def read_png(file: bytes, limit: Optional[int] = LIMIT) -> Pixels:
     width, height, pixels = turned(
         head.width, head.height, pixels, orientation(found.get(b"eXIf", b""))
     )
-    return Pixels(width, height, format, pixels)
+    return Pixels(width, height, format, pixels, of_chunks(found))
 
 
 def head_of(found: Dict[bytes, bytes]) -> _Head:
-    """What the file says of its pixels, if it is one that there may be."""
+    """How the file stores its pixels, by its head, if the head is valid."""
     if len(found.get(b"IHDR", b"")) != 13:
         raise Fault("the file has no head")
     width, height, bits, color, packing, filters, interlaced = struct.unpack(
@@ -183,7 +185,7 @@ def head_of(found: Dict[bytes, bytes]) -> _Head:
 
 
 def rows_of(head: _Head, packed: bytes) -> Iterator[bytearray]:
-    """The rows of all passes, as they were before they were filtered and packed."""
+    """The rows of all passes, unpacked and unfiltered."""
     sizes = [(head.row(len(columns)), len(rows)) for columns, rows in head.passes]
     size = sum((row + 1) * count for row, count in sizes)
     try:
@@ -202,8 +204,8 @@ def rows_of(head: _Head, packed: bytes) -> Iterator[bytearray]:
 
 
 def unfiltered(kind: int, line: bytearray, above: bytearray, step: int) -> bytearray:
-    """A row, of which each byte is a difference from what a filter expects; a pixel has `step`
-    bytes."""
+    """A row without its filter: each byte was stored as the difference from a prediction. A pixel
+    has `step` bytes."""
     if kind > 4:
         raise Fault("a row has a filter that is none")
     if kind == 1:
@@ -261,7 +263,7 @@ def woven(planes: Sequence[Any]) -> Any:
 
 
 def with_colors(indices: bytearray, palette: bytes, alphas: bytes) -> Any:
-    """The pixels of indices into a palette; one past its end is black, as most readers have it."""
+    """The pixels of indices into a palette; one past its end is black, as in most readers."""
     entries = [palette[i::3].ljust(256, b"\0") for i in range(3)] + [
         alphas.ljust(256, b"\xff")[:256]
     ]
@@ -269,8 +271,8 @@ def with_colors(indices: bytearray, palette: bytes, alphas: bytes) -> Any:
 
 
 def alpha_of(head: _Head, planes: Sequence[Any], clear: bytes) -> Any:
-    """The alphas of pixels that have none: all are opaque, but for those of the color that the
-    file says is clear."""
+    """The alphas of pixels without one: all are opaque, except those of the color that the file
+    marks as clear."""
     opaque = array("H", [65535]) if head.bits == 16 else bytearray(b"\xff")
     alpha = opaque * len(planes[0])
     if len(clear) == 2 * len(planes):
@@ -306,7 +308,7 @@ def turned(width: int, height: int, pixels: Any, how: int) -> Tuple[int, int, An
     if how > 4:
         rows = [pixels[x::width] for x in range(width)]
         width, height = height, width
-    # Which are turned over afterwards: the order of the rows, and each row.
+    # What is reversed afterwards: the order of the rows, and each row.
     if how in (3, 4, 7, 8):
         rows.reverse()
     if how in (2, 3, 6, 7):

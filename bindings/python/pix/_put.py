@@ -11,10 +11,10 @@ from typing import Any, Optional
 def put(file: Any, data: Any) -> None:
     """Writes bytes into a file, which is a path or is open.
 
-    What stands at the path is replaced by a file beside it, once all bytes are in that: who reads
-    the old one reads on, and a full disk leaves it as it was. A link stays one. Written straight
-    are pipes, devices and files that are open (/dev/stdout), files of several names, and those
-    whose folder takes no other file.
+    The bytes go to a new file in the same folder, which then replaces the old one. So a program
+    that reads the old one reads on, and a full disk leaves it as it was. A link stays one. Written
+    directly are pipes, devices, open files (/dev/stdout), files with several names, and files in a
+    folder that takes no other file.
     """
     if hasattr(file, "write"):
         give(file, data)
@@ -26,7 +26,7 @@ def put(file: Any, data: Any) -> None:
 
 
 def give(file: Any, data: bytes) -> None:
-    """Writes bytes into an open file, which may take some of them at a time."""
+    """Writes bytes into an open file, which may take only part of them at a time."""
     count = file.write(data)
     while type(count) is int and 0 < count < len(data):
         data = data[count:]
@@ -34,7 +34,7 @@ def give(file: Any, data: bytes) -> None:
 
 
 def target_of(path: str) -> Optional[str]:
-    """The file that a path leads to by its links, or None where it is one that is open."""
+    """The file that a path leads to by its links, or None for an open file."""
     for _ in range(40):
         if path.startswith(("/dev/", "/proc/")):
             return None
@@ -46,7 +46,7 @@ def target_of(path: str) -> Optional[str]:
 
 
 def replaced(path: str, data: Any) -> bool:
-    """Puts a new file into the place of one, or of none; answers whether that could be done."""
+    """Puts a new file in place of an old one, if there is one; returns whether that worked."""
     try:
         old: Optional[os.stat_result] = os.lstat(path)
     except FileNotFoundError:
@@ -54,7 +54,7 @@ def replaced(path: str, data: Any) -> bool:
     if old is not None:
         if not stat.S_ISREG(old.st_mode) or old.st_nlink > 1:
             return False
-        os.close(os.open(path, os.O_WRONLY | os.O_CLOEXEC))  # raises where it may not be written
+        os.close(os.open(path, os.O_WRONLY | os.O_CLOEXEC))  # raises if it may not be written
     beside = os.path.join(os.path.dirname(path), f".pix-{secrets.token_hex(8)}")
     try:
         stream = open(beside, "xb")
@@ -76,7 +76,7 @@ def replaced(path: str, data: Any) -> bool:
 
 
 def made_like(file: int, old: os.stat_result) -> bool:
-    """Gives an open file the owner and the rights of another one, if it may."""
+    """Gives an open file the owner and the permissions of another one, if allowed."""
     try:
         new = os.fstat(file)
         if (new.st_uid, new.st_gid) != (old.st_uid, old.st_gid):
@@ -88,7 +88,7 @@ def made_like(file: int, old: os.stat_result) -> bool:
 
 
 def renamed(path: str, to: str) -> bool:
-    """Gives a file another name, if it may."""
+    """Gives a file another name, if allowed."""
     try:
         os.replace(path, to)
     except OSError:

@@ -1,7 +1,7 @@
 """Turns: a call that needs memory which another one is writing waits for it.
 
-Nothing here has to be undone by a line of Python, which an interrupt could leave out. A turn is as
-long as a lock is held, and the interpreter itself gives a lock back at the end of its `with`.
+Nothing here has to be undone by a line of Python, which an interrupt could leave out. A turn lasts
+as long as a lock is held, and the interpreter itself releases a lock at the end of its `with`.
 """
 
 from __future__ import annotations
@@ -14,10 +14,10 @@ from typing import Any, Callable, Iterable, List, Optional, Sequence, Set, Tuple
 
 from pix._memory import Memory
 
-# How many seconds a call waits at most before it looks again whether the other one is over.
+# The most seconds that a call waits before it checks again whether the other one is over.
 _WAIT = 0.1
 
-# Tells what began later.
+# Numbers for the order in which turns begin.
 _numbers = count()
 
 
@@ -29,16 +29,15 @@ def _spans(memories: Iterable[Memory]) -> List[Tuple[int, int]]:
 
 
 def _meet(some: Sequence[Tuple[int, int]], others: Sequence[Tuple[int, int]]) -> bool:
-    """Whether a span of the one and a span of the other share a byte."""
+    """Whether a span of one list and a span of the other share a byte."""
     return any(first < end and start < last for first, last in some for start, end in others)
 
 
 class _Turn:
     """A call that runs: its thread, and the spans that it writes, and that it reads or writes.
 
-    It runs as long as its lock `runs` is held, which nobody else takes; who waits for it takes
-    `over`, which it gives back last. It holds numbers only, so that nothing stays pinned by a turn
-    that is over.
+    It runs as long as its lock `runs` is held, which nobody else takes. Others wait for its lock
+    `over`, which it releases last. It holds only numbers, so that a turn that is over pins nothing.
     """
 
     __slots__ = ("thread", "number", "written", "touched", "runs", "over")
@@ -67,18 +66,18 @@ class _Wait:
 def _called(
     function: Any, arguments: Sequence[Any], copies: Sequence[Any], is_long: bool = False
 ) -> int:
-    """Calls a function after what is to be copied is."""
+    """Makes the copies, and then calls a function."""
     for copy in copies:
         copy.make(is_long)
     return function(*arguments)
 
 
 class Turns:
-    """The calls that run now and let go of the interpreter's lock.
+    """The calls that run now without the interpreter's lock.
 
-    Calls of one thread never clash: one that begins inside another, as in a signal's handler, runs
+    Calls of one thread never clash: one that begins inside another, as in a signal handler, runs
     before the outer one has reached the library, or after it has left it. In two threads such calls
-    may each wait for what runs around the other one: then one of them is refused.
+    may each wait for the other one's outer call: then one of them raises an error.
     """
 
     def __init__(self) -> None:
@@ -88,8 +87,8 @@ class Turns:
 
     def _forget(self) -> None:
         """Starts with no call: a child process has none of its parent's threads."""
-        # Held while a call looks for others and begins, or is short. The thread that holds it may
-        # take it again.
+        # Held while a call looks for others and begins, and during a short call. The thread that
+        # holds it may take it again.
         self._begins = RLock()
         self.running: Set[_Turn] = set()
         self.waits: Set[_Wait] = set()
@@ -103,12 +102,12 @@ class Turns:
         read: Sequence[Memory],
         copies: Sequence[Any] = (),
     ) -> int:
-        """Calls a function in its turn, after what is to be copied is, and returns its status.
+        """Makes the copies, calls a function in its turn, and returns its status.
 
-        A short function keeps the interpreter's lock, so that none begins before it ends.
+        A short function keeps the interpreter's lock, so that no other call begins before it ends.
         """
         if sys.is_finalizing():
-            self._begins = RLock()  # a thread that runs no more may hold the other one
+            self._begins = RLock()  # a thread that no longer runs may hold the other one
         if is_long:
             return self._take_long(_Turn(written, read), function, arguments, copies)
         if not self.running:
@@ -121,7 +120,7 @@ class Turns:
     def _take_long(
         self, mine: _Turn, function: Any, arguments: Sequence[Any], copies: Sequence[Any]
     ) -> int:
-        """Calls a function that lets the interpreter's lock go."""
+        """Calls a function that releases the interpreter's lock."""
         with mine.over, mine.runs:
             try:
                 self._begin(lambda: self._clash(mine) or self.running.add(mine))
@@ -130,9 +129,9 @@ class Turns:
                 self.running.discard(mine)
 
     def _begin(self, act: Callable[[], Any]) -> Any:
-        """Returns what a function does, until that is no other call, for which this one waits.
+        """Repeats a function until it returns no other call; waits for each call that it returns.
 
-        No other call begins meanwhile.
+        No other call begins while the function runs.
         """
         while True:
             if any(turn.thread == get_ident() for turn in tuple(self.running)):
@@ -144,12 +143,12 @@ class Turns:
             self._noted(done, lambda turn=done: self._wait(turn))
 
     def _act(self, act: Callable[[], Any]) -> Any:
-        """Does something that no other call begins beside."""
+        """Runs a function; no other call begins meanwhile."""
         with self._begins:
             return act()
 
     def _noted(self, turn: Optional[_Turn], act: Callable[[], Any]) -> Any:
-        """Does something while it is noted that this thread waits for a turn, or to begin."""
+        """Runs a function while this thread is listed as waiting for a turn, or to begin."""
         wait = _Wait(turn)
         self.waits.add(wait)
         try:
@@ -159,13 +158,13 @@ class Turns:
             self.waits.discard(wait)
 
     def _wait(self, other: _Turn) -> None:
-        """Waits until a call is over. It may be interrupted anywhere: its `runs` alone tells."""
+        """Waits until a call is over. An interrupt may come anywhere: only `runs` tells the end."""
         seen: List[_Wait] = []
         while other.runs.locked():
             if sys.is_finalizing():
                 raise RuntimeError("the interpreter ends, and another thread was painting there")
             circle = self._circle(other)
-            if circle and circle == seen:  # twice, since what is looked at changes meanwhile
+            if circle and circle == seen:  # seen twice, since the waits change meanwhile
                 raise RuntimeError(
                     "this call runs inside another one, as in a handler or a finalizer, and would"
                     " wait for ever: another thread paints there, and waits for the outer one"
@@ -175,7 +174,7 @@ class Turns:
                 other.over.release()
 
     def _circle(self, turn: Optional[_Turn]) -> List[_Wait]:
-        """The waits by which a call, or all that can't begin, waits for this thread; or none."""
+        """The chain of waits by which a call, or all that can't begin, waits for this thread."""
         circle: List[_Wait] = []
         while turn is None or turn.thread != get_ident():
             if turn is None:
@@ -195,7 +194,7 @@ class Turns:
     def _clash(self, mine: _Turn) -> Optional[_Turn]:
         """A call of another thread that runs and clashes with this one."""
         for other in tuple(self.running):
-            if not other.runs.locked():  # an interrupt came before it was taken out
+            if not other.runs.locked():  # an interrupt came before it was removed
                 self.running.discard(other)
             elif other.thread != mine.thread and mine.clashes(other):
                 return other

@@ -8,8 +8,8 @@ from typing import Iterable, NamedTuple, Optional, SupportsIndex, Tuple
 from pix._numbers import index
 
 class Region(NamedTuple):
-    """A region in pixels: x grows to the right and y downwards. A tuple (x, y, width, height) is as
-    good."""
+    """A region in pixels: x grows to the right and y downwards. You can also pass a tuple (x, y,
+    width, height)."""
 
     x: int
     y: int
@@ -23,8 +23,8 @@ class Region(NamedTuple):
 class Op(IntEnum):
     """An operator of Porter and Duff, or the sum.
 
-    Each channel of the outcome, the alpha too, is that of the term beside it, where s and d are the channels of source
-    and destination and sa and da the alphas as fractions.
+    The term next to each operator gives each channel of the result, the alpha too. s and d are the channels of source
+    and destination, and sa and da the alphas as fractions.
     """
 
     SRC = 0  # s
@@ -47,8 +47,8 @@ class Format(IntEnum):
 
     S: the colors are encoded by the sRGB curve, as in most files; without it they are linear. P at the end: the colors
     are multiplied by the alpha. X: a byte that is not read, and is written as 255. A channel of 16 bits is a word in the
-    machine's order. RGBA8P, RGBA16P and GRAYA8P are the formats of the pixels RGBA8, RGBA16 and GRAYA8. Those up to
-    SGRAY8 are for convert() too.
+    machine's order. RGBA8P, RGBA16P and GRAYA8P are the formats of the pixels RGBA8, RGBA16 and GRAYA8. convert() takes
+    only the formats up to SGRAY8.
     """
 
     SRGBA8 = 0
@@ -135,7 +135,7 @@ class Format(IntEnum):
 
     @classmethod
     def _missing_(cls, value: object) -> None:
-        """Says what to write for what is no format."""
+        """Raises an error with a hint for a value that is no format."""
         if isinstance(value, str) and value.upper() in cls.__members__:
             raise TypeError(f"{value!r} is a text: write pix.Format.{value.upper()}")
         if type(value).__name__ == "PixelType":
@@ -150,7 +150,7 @@ class Format(IntEnum):
 
     @property
     def samples(self) -> int:
-        """How many numbers of so many bits a pixel has in memory, from 1 to 4."""
+        """How many numbers of `bits` bits a pixel has in memory, from 1 to 4."""
         model = self.name.rstrip("P").rstrip("0123456789")
         alone = {"GRAY": 1, "SGRAY": 1, "GRAYA": 2, "SGRAYA": 2, "MATTE": 1}
         return alone.get(model, 4 if model[-1] in "AX" else 3)
@@ -162,7 +162,7 @@ class Format(IntEnum):
 
 
 class Status(IntEnum):
-    """What the library answers."""
+    """The statuses that the library returns."""
 
     OK = 0
     BAD_SIZE = 1
@@ -186,7 +186,7 @@ _TEXTS = {
     Status.BAD_OP: "no such operator",
     Status.BAD_SOURCE: "its source has a bad size or stride, or a buffer that is too short",
     Status.BAD_FORMAT: "no such format",
-    Status.BAD_LENGTH: "the bytes are not those of so many pixels",
+    Status.BAD_LENGTH: "the lengths of the buffers don't match",
     Status.BAD_TABLE: "a table has no entry, or more than 256",
     Status.BAD_INDEX: "an index is past the end, or takes more bits than it is to have",
     Status.BAD_DEPTH: "indices take 1, 2, 4 or 8 bits",
@@ -196,20 +196,21 @@ _TEXTS = {
 
 
 class PixError(ValueError):
-    """A call that was refused and has changed nothing.
+    """A call that failed and has changed nothing.
 
-    `status` says why; `index` is that of the refused command, and None where the image itself was refused, or the
-    arguments of convert().
+    `status` says why. `index` is the place of the bad command, or None if the error is in the image itself or in the
+    arguments of convert(). `why` is a text in place of the usual one.
     """
 
-    def __init__(self, status: Status, index: Optional[int] = None) -> None:
-        text = _TEXTS.get(status, f"status {int(status)}")
+    def __init__(self, status: Status, index: Optional[int] = None, why: Optional[str] = None) -> None:
+        text = _TEXTS.get(status, f"status {int(status)}") if why is None else why
         super().__init__(text if index is None else f"command {index}: {text}")
         self.status = status
         self.index = index
+        self._why = why
 
     def __reduce__(self) -> tuple:
-        return type(self), (self.status, self.index)
+        return type(self), (self.status, self.index, self._why)
 
 
 def u32(number: SupportsIndex, what: str) -> int:

@@ -7,17 +7,17 @@ import sys
 from typing import Any, Dict, NamedTuple, Optional, SupportsIndex, Tuple
 
 from pix._calls import copied_rows
-from pix._memory import Buffer, Memory, is_held, refuse_gone
+from pix._memory import MOST, Buffer, Memory, is_held, refuse_gone
 from pix._pixels import PixelType
 from pix._values import PixError, Status, u32
 
 
-# What the values of a mask are.
+# The types of a mask's values.
 MASK8, MASK16 = ctypes.c_uint8, ctypes.c_uint16
 
 
 class Rows(NamedTuple):
-    """What a view knows: where its elements are, how many, and their sizes in elements."""
+    """The fields of a view: the place of its elements, their number, and the sizes in elements."""
 
     memory: Memory
     element: Any
@@ -55,11 +55,27 @@ def rows_of(buffer: Any, width: Any, height: Any, stride: Any, element: Any, typ
             raise ValueError(f"an array of {wide} x {high} elements is not one of {said}")
     if memory.address % ctypes.alignment(element):
         raise ValueError("the buffer is not aligned to channels of 16 bits")
-    return Rows(memory, element, memory.length // size, width, height, taken, type)
+    rows = Rows(memory, element, memory.length // size, width, height, taken, type)
+    if width and height and not is_held(rows.elements, width, height, taken):
+        raise PixError(Status.BAD_SIZE, why=unheld(rows))
+    return rows
+
+
+def unheld(rows: Rows) -> str:
+    """The error text for a buffer that doesn't hold the rows: why, and what to pass."""
+    memory, element, count, width, height, stride, type = rows
+    what = "values" if type is None else f"pixels of {type}"
+    if max(width, height) > MOST:
+        return f"{width} x {height} {what} have a side above {MOST}"
+    if stride < width:
+        return f"rows of {width} {what} can't begin {stride} apart: the stride is counted in {what.split()[0]}, and is at least the width"
+    wanted, size = (height - 1) * stride + width, ctypes.sizeof(element)
+    apart = "" if stride == width else f" in rows {stride} apart"
+    return f"the buffer is too short: it has {memory.length} bytes, and {width} x {height} {what}{apart} take {wanted * size}"
 
 
 def untold(shape: Tuple[int, ...], type: Optional[PixelType]) -> str:
-    """Why the shape of a buffer doesn't tell the width and the height, and what to write."""
+    """The error text for a buffer with a shape that doesn't tell the width and the height."""
     formats = {1: "pix.SGRAY8", 2: "pix.SGRAYA8", 3: "pix.SRGB8", 4: "pix.SRGBA8"}
     samples = 1 if len(shape) == 2 else shape[-1] if len(shape) == 3 else 0
     if type is None or samples not in formats:
@@ -75,7 +91,7 @@ class View:
     _rows: Rows
 
     def __init__(self, rows: Rows) -> None:
-        # All of it at once and only once, so that no other size ever goes with this memory.
+        # Set all at once and only once, so that no other size ever goes with this memory.
         if self.__dict__.setdefault("_rows", rows) is not rows:
             raise TypeError("a view is made once")
 
@@ -101,16 +117,12 @@ class View:
 
     @property
     def __array_interface__(self) -> Dict[str, Any]:
-        """What numpy asks for: np.asarray(image) is the image's own memory, of (height, width,
-        channels) elements, or (height, width) for a matte. It may be written where the buffer may,
-        and pins the buffer as the view does.
-
-        Raises PixError where the buffer is too short for the size.
+        """For numpy: np.asarray(image) is the image's own memory, of (height, width, channels)
+        elements, or (height, width) for a matte. You may write to it if the buffer is writable. It
+        pins the buffer as the view does.
         """
-        memory, element, elements, width, height, stride, type = self._rows
+        memory, element, _, width, height, stride, type = self._rows
         refuse_gone(memory)
-        if width and height and not is_held(elements, width, height, stride):
-            raise PixError(Status.BAD_SIZE)
         size = ctypes.sizeof(element)
         channel = size if type is None else size // type.channels
         step = stride * size
@@ -123,7 +135,7 @@ class View:
         return {"version": 3, "shape": shape, "typestr": kind, "data": data, "strides": strides}
 
     def _value(self) -> bytearray:
-        """A copy of the rows without what lies between them."""
+        """A copy of the rows without the padding between them."""
         memory, element, elements, width, height, stride, _ = self._rows
         if not is_held(elements, width, height, stride):
             raise PixError(Status.BAD_SIZE)
@@ -135,12 +147,12 @@ class Matte(View):
     """A mask: the fraction of a color that is composited at each point, from 0 (none) to 255
     (all).
 
-    It goes with all images. With `bits` 16 its values are from 0 to 65535, and it goes with RGBA16
-    alone. `values` is any buffer of (height - 1) * stride + width values, and may be read-only; `stride` is
-    counted in values. Width and height may be left out where the buffer's shape is (height,
-    width); its rows may lie apart, as in a window of a numpy array.
+    It goes with all images. With `bits` 16 its values are from 0 to 65535, and it goes only with
+    RGBA16. `values` is any buffer of (height - 1) * stride + width values, and may be read-only;
+    `stride` is counted in values. You may leave out width and height if the buffer's shape is
+    (height, width). There may be gaps between rows, as in a window of a numpy array.
 
-    A pickle or a copy of it has values of its own, without what lies between the rows.
+    A pickle or a copy of it has values of its own, without the padding between rows.
     """
 
     def __init__(

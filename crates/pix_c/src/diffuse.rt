@@ -2,7 +2,7 @@
 ghost use Rattle.std.specs.Prelude.{◌≡◌, ◌≢◌, length, map};
 ghost use Rattle.pix_table.specs.Nearest.{numbers};
 ghost use Rattle.pix_table.specs.Seen.{rgba_numbers};
-ghost use Rattle.pix_table.specs.Diffusion.{AreDiffused, AreDiffusedBy};
+ghost use Rattle.pix_table.specs.Diffusion.{AreDiffused, AreDiffusedBy, AreShownAround};
 ghost use Rattle.pix_c.specs.Table.{are_rows, diffuse_status, diffuse_by_status, scan_of};
 
 use crate::status::{BAD_LENGTH, DONE};
@@ -18,7 +18,8 @@ pub(crate) const WHOLE: u8 = 16;
 /// Writes for each pixel, in rows of `width`, its index by error diffusion. The index is that of
 /// the entry that is nearest to the pixel plus its share of the errors before it. An error is what
 /// was wanted less the entry that was found. The pixel on the right gets 7 sixteenths of it, the
-/// one below on the left 3, the one below 5, and the one below on the right 1.
+/// one below on the left 3, the one below 5, and the one below on the right 1. It is held to
+/// 24 either way in each channel, so no color that is looked up is further from its pixel.
 ///
 /// Returns 0 when they are written. Else nothing is written. The status is then 11 where there is
 /// no entry or more than 256. Otherwise it is 7, which has three causes: a row has no pixel, `work`
@@ -35,6 +36,8 @@ pub extern "C" fn pix_raw_diffuse_indexed(
         (length work.old) (length indices.old) }
     ensures refused { result ≢ 0 → (work.new ≡ work.old) × (indices.new ≡ indices.old) }
     ensures done { result ≡ 0 → AreDiffused (map numbers entries.now) 0 0 width
+        (map numbers pixels.now) indices.new }
+    ensures near { result ≡ 0 → AreShownAround (map numbers entries.now) 0 0
         (map numbers pixels.now) indices.new }
 {
     let how = Diffusion {
@@ -63,6 +66,8 @@ pub extern "C" fn pix_raw_diffuse_indexed_alpha(
         (length work.old) (length indices.old) }
     ensures refused { result ≢ 0 → (work.new ≡ work.old) × (indices.new ≡ indices.old) }
     ensures done { result ≡ 0 → AreDiffused (map numbers entries.now) alpha transparent_index width
+        (map rgba_numbers pixels.now) indices.new }
+    ensures near { result ≡ 0 → AreShownAround (map numbers entries.now) alpha transparent_index
         (map rgba_numbers pixels.now) indices.new }
 {
     let how = Diffusion {
@@ -98,6 +103,8 @@ pub extern "C" fn pix_raw_diffuse_indexed_by(
     ensures refused { result ≢ 0 → (work.new ≡ work.old) × (indices.new ≡ indices.old) }
     ensures done { result ≡ 0 → AreDiffusedBy (scan_of serpentine) strength
         (map numbers entries.now) 0 0 width (map numbers pixels.now) indices.new }
+    ensures near { result ≡ 0 → AreShownAround (map numbers entries.now) 0 0
+        (map numbers pixels.now) indices.new }
 {
     let how = Diffusion {
         width,
@@ -129,6 +136,8 @@ pub extern "C" fn pix_raw_diffuse_indexed_by_alpha(
     ensures done { result ≡ 0 → AreDiffusedBy (scan_of serpentine) strength
         (map numbers entries.now) alpha transparent_index width (map rgba_numbers pixels.now)
         indices.new }
+    ensures near { result ≡ 0 → AreShownAround (map numbers entries.now) alpha transparent_index
+        (map rgba_numbers pixels.now) indices.new }
 {
     let how = Diffusion {
         width,
@@ -164,6 +173,8 @@ fn diffuse<P: TablePixel>(
     ensures refused { result ≢ 0 → (work.new ≡ work.old) × (indices.new ≡ indices.old) }
     ensures done { result ≡ 0 → AreDiffusedBy how.scan how.strength (map numbers entries.now)
         how.alpha how.transparent_index how.width (map P.values pixels.now) indices.new }
+    ensures near { result ≡ 0 → AreShownAround (map numbers entries.now) how.alpha
+        how.transparent_index (map P.values pixels.now) indices.new }
 {
     if entries.is_empty() || entries.len() > 256 {
         return BAD_TABLE;

@@ -3,7 +3,7 @@ ghost use Rattle.std.specs.Prelude.{◌≡◌, ◌≢◌, ◌≤◌, length, map
 ghost use Rattle.pix_table.specs.LookUp.{AreLookedUp};
 ghost use Rattle.pix_table.specs.Seen.{AreSeenMatched, rgba_numbers};
 ghost use Rattle.pix_table.specs.SeenTables.{IsQuantizedRgba};
-ghost use Rattle.pix_table.specs.SeenDiffusion.{AreSeenDiffused};
+ghost use Rattle.pix_table.specs.SeenDiffusion.{AreSeenAround, AreSeenDiffused};
 ghost use Rattle.pix_c.specs.Table.{diffuse_by_status, look_up_status, quantize_status};
 ghost use Rattle.pix_c.specs.Table.{map_indexed_status};
 ghost use Rattle.pix_c.specs.Table.{scan_of};
@@ -109,8 +109,8 @@ pub extern "C" fn pix_raw_look_up_rgba(
 /// Writes for each pixel, in rows of `width`, its index by error diffusion, as
 /// [`pix_raw_diffuse_indexed_by`](crate::diffuse::pix_raw_diffuse_indexed_by) does: that of the
 /// entry which is seen nearest to the pixel plus its share of the errors before it. Errors are
-/// those of colors times their alphas, and of the alphas. A pixel of the alpha 0 has no share and
-/// hands on no error.
+/// those of colors times their alphas, and of the alphas, held to 24 either way. A pixel of the
+/// alpha 0 has no share and hands on no error.
 ///
 /// The statuses are those of `pix_raw_diffuse_indexed_by`.
 #[unsafe(no_mangle)]
@@ -128,6 +128,8 @@ pub extern "C" fn pix_raw_diffuse_indexed_rgba(
     ensures refused { result ≢ 0 → (work.new ≡ work.old) × (indices.new ≡ indices.old) }
     ensures done { result ≡ 0 → AreSeenDiffused (scan_of serpentine) strength width
         (map rgba_numbers entries.now) (map rgba_numbers pixels.now) indices.new }
+    ensures near { result ≡ 0 → AreSeenAround (map rgba_numbers entries.now)
+        (map rgba_numbers pixels.now) indices.new }
 {
     if entries.is_empty() || entries.len() > 256 {
         return BAD_TABLE;

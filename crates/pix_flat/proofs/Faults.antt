@@ -2,7 +2,6 @@
 use Rattle.std.proofs.Common.{◌≡◌, ℕ, zero, suc, ◌+◌, ◌<◌, ◌≢◌, List, [], ◌∷◌, length, map, get_or, drop, arith, ap, sym, ◌∙◌, refl, false, nat_eq, ◌⊎◌, inl, inr}
 use Rattle.std.proofs.lemmas.List.{drop_more, length-map, get_or-map}
 use Rattle.std.proofs.lemmas.Bool.Decides.{nat_tests}
-use Rattle.std.specs.Prelude.{All}
 use Rattle.pix_flat.specs.declared.command.FlatCommand.{FlatCommand}
 use Rattle.pix_flat.specs.Status.{fault_of, first_fault, count_before_fault}
 
@@ -42,14 +41,7 @@ module _ {D M : Type 0} where
     | inr ne ↦ sym (first_fault_here c cs ne) ∙ e
   ]
 
-  none_at : (cs : List (FlatCommand D M)) (i : ℕ) (d : FlatCommand D M) → first_fault cs ≡ 0 → i < length cs → fault_of (get_or cs i d) ≡ 0
+  pub none_at : (cs : List (FlatCommand D M)) (i : ℕ) (d : FlatCommand D M) → first_fault cs ≡ 0 → i < length cs → fault_of (get_or cs i d) ≡ 0
   none_at [] i d e lt = absurd (omega arith)
   none_at (c ∷ cs) zero d e lt = none_first c cs e
   none_at (c ∷ cs) (suc i) d e lt = none_at cs i d (sym (first_fault_on c cs (none_first c cs e)) ∙ e) (omega arith)
-
--- where none is refused, each can be read that is read where it is not refused
-pub all_readable : {D M C : Type 0} (flat : C → FlatCommand D M) (can_read : C → Type 0) → ((c : C) → fault_of (flat c) ≡ 0 → can_read c)
-    → (commands : List C) → first_fault (map flat commands) ≡ 0 → All can_read commands
-all_readable flat can_read readable commands e k d lt =
-    readable (get_or commands k d)
-    (ap fault_of (sym (get_or-map flat commands k d (flat d) lt)) ∙ none_at (map flat commands) k (flat d) e (omega (arith, length-map commands flat)))

@@ -2,4 +2,5 @@
 pub mod Faults
 pub mod Images
 pub mod Channels
+pub mod Narrow
 pub mod Ran

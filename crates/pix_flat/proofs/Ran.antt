@@ -1,5 +1,6 @@
 -- A run on rows in memory, as one on an image.
-use Rattle.std.proofs.Common.{◌≡◌, ℕ, ◌+◌, ◌≤◌, List, [], ◌∷◌, length, map, arith, ap, sym, ◌∙◌, subst, refl}
+use Rattle.std.proofs.Common.{◌≡◌, ℕ, ◌+◌, ◌≤◌, ◌<◌, List, length, map, get_or, arith, ap, sym, ◌∙◌, refl}
+use Rattle.std.proofs.lemmas.List.{length-map, get_or-map}
 use Rattle.pix_el.specs.Pixel.{Layout}
 use Rattle.pix_raster.specs.Region.{limit, whole}
 use Rattle.pix_raster.specs.Run.{run_at}
@@ -18,11 +19,15 @@ use Rattle.pix_flat.specs.declared.command.FlatCommand.{FlatCommand}
 use Rattle.pix_flat.specs.Command.{image_of, command_of}
 use Rattle.pix_flat.specs.Run.{IsRun, IsWindowRun}
 
--- the commands that are read are those in the layout of all formats
-pub commands_told : {D M C : Type 0} (command : C → Command D M) (flat : C → FlatCommand D M) → ((c : C) → command c ≡ command_of (flat c))
-    → (cs : List C) → map command cs ≡ map command_of (map flat cs)
-commands_told command flat told [] = refl
-commands_told command flat told (c ∷ cs) = rw (told c, commands_told command flat told cs) refl
+-- the command at place i of a list, as one of the library
+pub told_at : {D M C : Type 0} (flat : C → FlatCommand D M) (cs : List C) (i : ℕ) (c : C) → i < length cs → c ≡ get_or cs i c
+    → command_of (flat c) ≡ get_or (map command_of (map flat cs)) i (command_of (flat c))
+told_at flat cs i c within is =
+    let there : get_or (map flat cs) i (flat c) ≡ flat c = get_or-map flat cs i c (flat c) within ∙ ap flat (sym is) in
+    sym (get_or-map command_of (map flat cs) i (flat c) (command_of (flat c)) (omega (arith, length-map cs flat)) ∙ ap command_of there)
+
+pub count_told : {D M C : Type 0} (flat : C → FlatCommand D M) (cs : List C) → length (map command_of (map flat cs)) ≡ length cs
+count_told flat cs = length-map (map flat cs) command_of ∙ length-map cs flat
 
 module _ {D M : Type 0} (layout : Layout) (n : D → List ℕ) (m : M → List ℕ) (left top width height stride : ℕ) (commands : List (FlatCommand D M)) (old new : List D) where
   abbrev shape : Shape
@@ -34,9 +39,8 @@ module _ {D M : Type 0} (layout : Layout) (n : D → List ℕ) (m : M → List �
 
   -- and what follows of it
   pub ran_in_window : IsFormat layout n m → left + width ≤ 2147483647 → top + height ≤ 2147483647 → IsShaped shape (length old) → length new ≡ length old
-      → (read : List (Command D M)) → read ≡ map command_of commands → AreDone read → IsWindowRun layout n m left top width height stride commands old new
-  ran_in_window format across down shaped long read told done =
-      let ran : AreDone (map command_of commands) = subst AreDone told done in
+      → AreDone (map command_of commands) → IsWindowRun layout n m left top width height stride commands old new
+  ran_in_window format across down shaped long ran =
       let shaped_new : IsShaped shape (length new) = rw long shaped in
       let cs = map command_of commands in
       let before = image_of width height stride old in

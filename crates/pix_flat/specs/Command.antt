@@ -1,5 +1,6 @@
 -- Commands by their numbers, as commands of the library on images in memory.
-use Rattle.std.specs.Prelude.{ℕ, nat_eq, slice_index_or, if◌then◌else◌}
+use Rattle.std.specs.Prelude.{ℕ, List, map, length, slice_index_or, Bool, not, ◌&&◌, ◌||◌, nat_eq, if◌then◌else◌}
+use denote.Bor.{Bor}
 use Rattle.pix_ops.specs.declared.ops.Op.{Op}
 use Rattle.pix_ops.specs.declared.ops.Op.TheVariants.{Src}
 use Rattle.pix_ops.specs.OperatorNames.{operators}
@@ -15,6 +16,8 @@ use Rattle.pix_flat.specs.declared.command.FlatCommand.{FlatCommand}
 use Rattle.pix_flat.specs.declared.format.PixRgba8.{PixRgba8}
 use Rattle.pix_flat.specs.declared.format.PixRgba16.{PixRgba16}
 use Rattle.pix_flat.specs.declared.format.PixGraya8.{PixGraya8}
+use Rattle.pix_flat.specs.declared.format.PixMatte8.{PixMatte8}
+use Rattle.pix_flat.specs.Format.{widened}
 
 -- the operator of a number; a number that is none is refused
 abbrev pub op_at : ℕ → Op
@@ -39,28 +42,9 @@ command_of c =
     else (if nat_eq c.kind 6 then commands.RasterMatte (rectangle c.to) pixels (rectangle c.from) mask (rectangle c.mask) (op_at c.op)
     else commands.RasterAlpha (rectangle c.to) pixels (rectangle c.from) c.alpha (op_at c.op)))))))
 
--- a command of each format, with the same fields in the layout of all formats
+-- a command of 8 bits, with the same fields in the layout of all formats
 abbrev pub rgba8_command : PixCommand → FlatCommand PixRgba8 ℕ
 rgba8_command c = record {
-  kind = c.kind;
-  op = c.op;
-  to = c.to;
-  from = c.from;
-  color = c.color;
-  pixels = c.pixels;
-  mattes = c.mattes;
-  width = c.width;
-  height = c.height;
-  stride = c.stride;
-  mask = c.mask;
-  mask_width = c.mask_width;
-  mask_height = c.mask_height;
-  mask_stride = c.mask_stride;
-  alpha = c.alpha;
-}
-
-abbrev pub rgba16_command : PixCommandRgba16 → FlatCommand PixRgba16 ℕ
-rgba16_command c = record {
   kind = c.kind;
   op = c.op;
   to = c.to;
@@ -96,3 +80,42 @@ graya8_command c = record {
   mask_stride = c.mask_stride;
   alpha = c.alpha;
 }
+
+-- a command of 16 bits with these mattes, and this opacity
+abbrev pub with_mattes : {M : Type 0} → PixCommandRgba16 → Bor (List M) → M → FlatCommand PixRgba16 M
+with_mattes c mattes alpha = record {
+  kind = c.kind;
+  op = c.op;
+  to = c.to;
+  from = c.from;
+  color = c.color;
+  pixels = c.pixels;
+  mattes = mattes;
+  width = c.width;
+  height = c.height;
+  stride = c.stride;
+  mask = c.mask;
+  mask_width = c.mask_width;
+  mask_height = c.mask_height;
+  mask_stride = c.mask_stride;
+  alpha = alpha;
+}
+
+-- such a command with its own mattes of 16 bits, and with those of 8, for kinds without an opacity
+abbrev pub wide_command : PixCommandRgba16 → FlatCommand PixRgba16 ℕ
+wide_command c = with_mattes c c.mattes c.alpha
+
+abbrev pub narrow_command : PixCommandRgba16 → FlatCommand PixRgba16 PixMatte8
+narrow_command c = with_mattes c c.mattes8 (record { value = 0 })
+
+-- whether such a command reads mattes of 8 bits: it has some, and its kind reads mattes (5 and 6)
+abbrev pub is_narrow : PixCommandRgba16 → Bool
+is_narrow c = not (nat_eq (length c.mattes8.now) 0) && (nat_eq c.kind 5 || nat_eq c.kind 6)
+
+-- the mattes that it reads: those of 8 bits, each as one of 16, or those of 16
+abbrev pub mattes_read : PixCommandRgba16 → Bor (List ℕ)
+mattes_read c = if is_narrow c then record { ref_ptr = (0, 0); now = map widened c.mattes8.now } else c.mattes
+
+-- such a command, with the mattes that it reads
+abbrev pub rgba16_command : PixCommandRgba16 → FlatCommand PixRgba16 ℕ
+rgba16_command c = with_mattes c (mattes_read c) c.alpha

@@ -1,10 +1,11 @@
 -- Pixels and mattes as C lays them out, by the numbers of their channels.
-use Rattle.std.specs.Prelude.{ℕ, List, [], ◌∷◌, map, min}
+use Rattle.std.specs.Prelude.{ℕ, ◌*◌, List, [], ◌∷◌, map, min}
 use Rattle.pix_el.specs.Pixel.{Layout}
 use Rattle.pix_el.specs.Model.{Model, Rgb, Gray, row}
 use Rattle.pix_flat.specs.declared.format.PixRgba8.{PixRgba8}
 use Rattle.pix_flat.specs.declared.format.PixRgba16.{PixRgba16}
 use Rattle.pix_flat.specs.declared.format.PixGraya8.{PixGraya8}
+use Rattle.pix_flat.specs.declared.format.PixMatte8.{PixMatte8}
 
 -- the channels of an 8-bit pixel or matte: each is at most 255 in memory, and here for any number
 abbrev pub bytes : List ℕ → List ℕ
@@ -30,6 +31,14 @@ matte8_numbers value = bytes (value ∷ [])
 
 abbrev pub matte16_numbers : ℕ → List ℕ
 matte16_numbers value = words (value ∷ [])
+
+-- a matte of 8 bits as one of 16: the same fraction of the maximum, since 65535 is 257 * 255
+abbrev pub widened : PixMatte8 → ℕ
+widened matte = 257 * matte.value
+
+-- the number of its channel in 16 bits
+abbrev pub widened_numbers : PixMatte8 → List ℕ
+widened_numbers matte = matte16_numbers (widened matte)
 
 -- the layout of so many channels up to a maximum, as a color model has them
 abbrev pub layout_of : (max count : ℕ) → Model → Layout

@@ -49,10 +49,15 @@ command_facts R = size_of R ∷ offset R 0 ∷ offset R 1 ∷ offset R 2 ∷ off
     ∷ offset R 5 ∷ count_offset R 5 ∷ offset R 6 ∷ count_offset R 6 ∷ offset R 7 ∷ offset R 8 ∷ offset R 9
     ∷ offset R 10 ∷ offset R 11 ∷ offset R 12 ∷ offset R 13 ∷ offset R 14 ∷ []
 
+-- the offsets of the mattes of 8 bits of a command of 16, and of their count
+abbrev pub mattes8_facts : RattleType → List ℕ
+mattes8_facts R = offset R 15 ∷ count_offset R 15 ∷ []
+
 -- the version; the sizes of the pixels; the region; the command of each format, for any lifetime of
 -- its slices
 abbrev pub facts : List ℕ
-facts = 2 ∷ size_of rgba8.the_row ∷ size_of rgba16.the_row ∷ size_of graya8.the_row ∷ region_facts region.the_row
+facts = 3 ∷ size_of rgba8.the_row ∷ size_of rgba16.the_row ∷ size_of graya8.the_row ∷ region_facts region.the_row
     ++ command_facts (command.the_row (record { mir = named 0; lft = [] }))
     ++ command_facts (command_rgba16.the_row (record { mir = named 0; lft = [] }))
+    ++ mattes8_facts (command_rgba16.the_row (record { mir = named 0; lft = [] }))
     ++ command_facts (command_graya8.the_row (record { mir = named 0; lft = [] }))

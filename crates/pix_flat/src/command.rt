@@ -1,12 +1,10 @@
 //! Commands as C lays them out.
-ghost use Rattle.std.specs.Prelude.{◌≡◌, refl};
-ghost use Rattle.pix_flat.specs.declared.command.FlatCommand.{FlatCommand};
-ghost use Rattle.pix_flat.specs.Command.{rgba8_command, rgba16_command, graya8_command};
-ghost use Rattle.pix_flat.specs.Command.{command_of};
-ghost use Rattle.pix_flat.specs.Status.{fault_of};
+ghost use Rattle.std.specs.Prelude.{◌≡◌};
+ghost use Rattle.pix_flat.specs.Command.{rgba8_command, graya8_command};
+ghost use Rattle.pix_flat.specs.Command.{is_narrow, narrow_command, wide_command};
 
-use crate::format::{PixGraya8, PixRgba8, PixRgba16};
-use pix_raster::view::ReadCommand;
+use crate::format::{PixGraya8, PixMatte8, PixRgba8, PixRgba16};
+use crate::kind;
 
 /// A rectangle of points: its left and top coordinates, and its sides of at most 2147483647.
 #[repr(C)]
@@ -81,7 +79,7 @@ pub struct PixCommandRgba16<'a> {
     pub color: PixRgba16,
     /// The pixels of the source.
     pub pixels: &'a [PixRgba16],
-    /// The mattes.
+    /// The mattes of 16 bits.
     pub mattes: &'a [u16],
     /// The width of the source.
     pub width: u32,
@@ -99,6 +97,9 @@ pub struct PixCommandRgba16<'a> {
     pub mask_stride: u32,
     /// The opacity.
     pub alpha: u16,
+    /// Mattes of 8 bits. Where there are any, kinds 5 and 6 read these and not `mattes`, each as
+    /// 257 times its value.
+    pub mattes8: &'a [PixMatte8],
 }
 
 /// A change of an image of 8-bit pixels of gray and alpha. Its fields are those of [`PixCommand`].
@@ -157,25 +158,10 @@ pub struct FlatCommand<'a, D, M> {
     pub(crate) alpha: M,
 }
 
-/// A command as C lays it out for one format.
-pub trait Flatten<D, M>: ReadCommand<D, M> {
-    /// The command in the layout of all formats.
-    ghost flat: { Self → FlatCommand D M };
-
-    /// Returns the command in the layout of all formats.
-    fn flat(&self) -> FlatCommand<'_, D, M>
-        ensures { result ≡ flat self.now };
-
-    /// That is the command that is read.
-    ghost told: { (c : Self) → Self.command c ≡ command_of (flat c) };
-
-    /// It can be read where it is not refused.
-    ghost readable: { (c : Self) → fault_of (flat c) ≡ 0 → Self.can_read c };
-}
-
-/// Writes the command of the same fields in the layout of all formats.
+/// Writes the command of the same fields in the layout of all formats, with these mattes and this
+/// opacity.
 macro_rules! flat_command {
-    ($command:expr) => {
+    ($command:expr, $mattes:expr, $alpha:expr) => {
         FlatCommand {
             kind: $command.kind,
             op: $command.op,
@@ -183,7 +169,7 @@ macro_rules! flat_command {
             from: $command.from,
             color: $command.color,
             pixels: $command.pixels,
-            mattes: $command.mattes,
+            mattes: $mattes,
             width: $command.width,
             height: $command.height,
             stride: $command.stride,
@@ -191,43 +177,56 @@ macro_rules! flat_command {
             mask_width: $command.mask_width,
             mask_height: $command.mask_height,
             mask_stride: $command.mask_stride,
-            alpha: $command.alpha,
+            alpha: $alpha,
         }
     };
 }
 
-impl<'a> Flatten<PixRgba8, u8> for PixCommand<'a> {
-    ghost flat = { rgba8_command };
-
-    fn flat(&self) -> FlatCommand<'_, PixRgba8, u8> {
-        flat_command!(self)
+impl<'a> PixCommand<'a> {
+    /// Returns the command in the layout of all formats.
+    #[inline(always)]
+    pub(crate) fn flat(&self) -> FlatCommand<'_, PixRgba8, u8>
+        ensures { result ≡ rgba8_command self.now }
+    {
+        flat_command!(self, self.mattes, self.alpha)
     }
-
-    ghost told = { λ c. refl };
-
-    ghost readable = { λ c sound. sound };
 }
 
-impl<'a> Flatten<PixRgba16, u16> for PixCommandRgba16<'a> {
-    ghost flat = { rgba16_command };
-
-    fn flat(&self) -> FlatCommand<'_, PixRgba16, u16> {
-        flat_command!(self)
+impl<'a> PixCommandRgba16<'a> {
+    /// Returns whether the command reads mattes of 8 bits.
+    #[inline(always)]
+    pub(crate) fn is_narrow(&self) -> bool
+        ensures { result ≡ is_narrow self.now }
+    {
+        let kind = self.kind;
+        !self.mattes8.is_empty()
+            && (kind == kind::COMPOSITE_MATTE || kind == kind::COMPOSITE_IMAGE_MATTE)
     }
 
-    ghost told = { λ c. refl };
+    /// Returns the command with its mattes of 8 bits, in the layout of all formats. It is for kinds
+    /// without an opacity.
+    #[inline(always)]
+    pub(crate) fn narrow(&self) -> FlatCommand<'_, PixRgba16, PixMatte8>
+        ensures { result ≡ narrow_command self.now }
+    {
+        flat_command!(self, self.mattes8, PixMatte8 { value: 0 })
+    }
 
-    ghost readable = { λ c sound. sound };
+    /// Returns the command with its mattes of 16 bits, in the layout of all formats.
+    #[inline(always)]
+    pub(crate) fn wide(&self) -> FlatCommand<'_, PixRgba16, u16>
+        ensures { result ≡ wide_command self.now }
+    {
+        flat_command!(self, self.mattes, self.alpha)
+    }
 }
 
-impl<'a> Flatten<PixGraya8, u8> for PixCommandGraya8<'a> {
-    ghost flat = { graya8_command };
-
-    fn flat(&self) -> FlatCommand<'_, PixGraya8, u8> {
-        flat_command!(self)
+impl<'a> PixCommandGraya8<'a> {
+    /// Returns the command in the layout of all formats.
+    #[inline(always)]
+    pub(crate) fn flat(&self) -> FlatCommand<'_, PixGraya8, u8>
+        ensures { result ≡ graya8_command self.now }
+    {
+        flat_command!(self, self.mattes, self.alpha)
     }
-
-    ghost told = { λ c. refl };
-
-    ghost readable = { λ c sound. sound };
 }

@@ -1,15 +1,17 @@
-//! Pixels as C lays them out. A matte is a `u8` or a `u16`, which the library reads as it is.
+//! Pixels and mattes as C lays them out. A matte with as many bits as a channel is a `u8` or a
+//! `u16`, which the library reads as it is.
 ghost use Rattle.std.specs.Prelude.{◌≡◌, ℕ, ◌+◌, ◌*◌, ◌≤◌, List, [], ◌∷◌, length, map, refl};
 ghost use Rattle.pix_el.specs.Pixel.{channel};
 ghost use Rattle.pix_el.specs.Stored.{in_pixels};
 ghost use Rattle.pix_flat.specs.Format.{rgba8_numbers, rgba16_numbers, graya8_numbers};
+ghost use Rattle.pix_flat.specs.Format.{widened, widened_numbers};
 ghost use Rattle.pix_flat.specs.FormatLaws.{bytes_fit, words_fit};
 
 use pix_chan::chan::{Ch8, Ch16};
 use pix_color::gray::Graya8p;
 use pix_el::el::Pixel;
 use pix_el::rgb::{Rgba8p, Rgba16p};
-use pix_el::stored::Stored;
+use pix_el::stored::{Coverage, Stored};
 
 /// A pixel of red, green, blue and alpha of eight bits each, premultiplied and linear.
 #[repr(C)]
@@ -228,4 +230,23 @@ impl Stored<Graya8p> for PixGraya8 {
 
 impl FlatPixel<Graya8p> for PixGraya8 {
     ghost has_alpha = { refl };
+}
+
+/// A matte of eight bits for pixels of sixteen. It is the fraction that its value is of 255.
+#[repr(C)]
+#[derive(Clone, Copy, Debug, PartialEq, Eq)]
+pub struct PixMatte8 {
+    /// The value, from 0 (none of a color) to 255 (all of it).
+    pub value: u8,
+}
+
+impl Coverage<Ch16> for PixMatte8 {
+    ghost numbers = { widened_numbers };
+
+    #[inline(always)]
+    fn coverage(&self) -> Ch16 {
+        Ch16::new(257 * u16::from(self.value))
+    }
+
+    ghost fits = { λ it ch. words_fit (widened it ∷ []) ch };
 }

@@ -6,9 +6,11 @@
 #![tactic(auto)]
 
 pub mod command;
+pub mod flatten;
 pub mod format;
 mod kind;
 pub mod layout;
+mod list;
 mod operator;
 mod read;
 pub mod run;

@@ -4,13 +4,12 @@ ghost use Rattle.pix_ops.specs.declared.ops.Op.TheVariants.{Src};
 ghost use Rattle.pix_raster.specs.Run.{op_of};
 ghost use Rattle.pix_raster.specs.Draw.{image_of, image_in, command_in, unplaced, IsSource, IsSound};
 ghost use Rattle.pix_flat.specs.Command.{op_at, rectangle, command_of};
-ghost use Rattle.pix_flat.specs.Command.{rgba8_command, rgba16_command, graya8_command};
+ghost use Rattle.pix_flat.specs.Command.{rgba8_command, graya8_command};
+ghost use Rattle.pix_flat.specs.Command.{is_narrow, narrow_command, wide_command};
 ghost use Rattle.pix_flat.specs.Status.{is_sized, fits, has_pixels, fault_of};
 
-use crate::command::{
-    FlatCommand, Flatten, PixCommand, PixCommandGraya8, PixCommandRgba16, PixRegion,
-};
-use crate::format::{PixGraya8, PixRgba8, PixRgba16};
+use crate::command::{FlatCommand, PixCommand, PixCommandGraya8, PixCommandRgba16, PixRegion};
+use crate::format::{PixGraya8, PixMatte8, PixRgba8, PixRgba16};
 use crate::kind;
 use crate::operator::op_at;
 use crate::size::LIMIT;
@@ -30,7 +29,7 @@ fn region_of(reg: PixRegion) -> Region
 /// Returns the region of the destination of a command of a kind. For a clear it has all points of
 /// any picture. A side above the limit counts as the limit.
 #[inline(always)]
-fn reach_of(kind: u32, to: PixRegion) -> Region {
+pub(crate) fn reach_of(kind: u32, to: PixRegion) -> Region {
     if kind == kind::CLEAR {
         return Region::new(0, 0, LIMIT, LIMIT);
     }
@@ -90,6 +89,35 @@ fn pixels_of<'a, D, M>(c: &FlatCommand<'a, D, M>) -> Source<'a, D>
     source_of(c.pixels, c.width, c.height, c.stride, c.from)
 }
 
+/// Returns the drawing of a command that composites a color through mattes and is not refused.
+#[inline(always)]
+fn matte_of<'a, D, M>(c: &FlatCommand<'a, D, M>, clr: &'a D) -> Draw<'a, D, M>
+    requires kind { c.now.kind ≡ 5 }
+    requires sound { fault_of c.now ≡ 0 }
+    requires color { clr.now ≡ c.now.color }
+    ensures same { command_in (op_of (command_of c.now)) result ≡ unplaced (command_of c.now) }
+    ensures sound { IsSound result }
+{
+    let to = region_of(c.to);
+    let src = source_of(c.mattes, c.width, c.height, c.stride, c.from);
+    Draw::Matte { to, src, clr }
+}
+
+/// Returns the drawing of a command that composites an image through mattes and is not refused.
+#[inline(always)]
+fn masked_of<'a, D, M>(c: &FlatCommand<'a, D, M>) -> Draw<'a, D, M>
+    requires kind { c.now.kind ≡ 6 }
+    requires sound { fault_of c.now ≡ 0 }
+    ensures same { command_in (op_of (command_of c.now)) result ≡ unplaced (command_of c.now) }
+    ensures sound { IsSound result }
+{
+    let to = region_of(c.to);
+    let src = pixels_of(c);
+    let (width, height, stride) = (c.mask_width, c.mask_height, c.mask_stride);
+    let mask = source_of(c.mattes, width, height, stride, c.mask);
+    Draw::ImageMatte { to, src, mask }
+}
+
 /// Returns the drawing of a command that is not refused. Its color and its opacity are lent from
 /// where they lie.
 #[inline(always)]
@@ -113,16 +141,8 @@ fn draw_of<'a, D, M>(c: &FlatCommand<'a, D, M>, clr: &'a D, alpha: &'a M) -> Dra
             let src = pixels_of(c);
             Draw::Image { to, src }
         }
-        kind::COMPOSITE_MATTE => {
-            let src = source_of(c.mattes, c.width, c.height, c.stride, c.from);
-            Draw::Matte { to, src, clr }
-        }
-        kind::COMPOSITE_IMAGE_MATTE => {
-            let src = pixels_of(c);
-            let (width, height, stride) = (c.mask_width, c.mask_height, c.mask_stride);
-            let mask = source_of(c.mattes, width, height, stride, c.mask);
-            Draw::ImageMatte { to, src, mask }
-        }
+        kind::COMPOSITE_MATTE => matte_of(c, clr),
+        kind::COMPOSITE_IMAGE_MATTE => masked_of(c),
         _ => {
             let src = pixels_of(c);
             Draw::ImageAlpha { to, src, alpha }
@@ -154,17 +174,45 @@ impl<'a> ReadCommand<PixRgba8, u8> for PixCommand<'a> {
 }
 
 impl<'a> ReadDraw<PixRgba16, u16> for PixCommandRgba16<'a> {
-    ghost command = { λ c. command_of (rgba16_command c) };
+    ghost command = { λ c. command_of (wide_command c) };
 
-    ghost can_read = { λ c. fault_of (rgba16_command c) ≡ 0 };
+    ghost can_read = { λ c. fault_of (wide_command c) ≡ 0 };
 
     #[inline(always)]
     fn read(&self) -> Draw<'_, PixRgba16, u16> {
-        draw_of(&self.flat(), &self.color, &self.alpha)
+        draw_of(&self.wide(), &self.color, &self.alpha)
     }
 }
 
 impl<'a> ReadCommand<PixRgba16, u16> for PixCommandRgba16<'a> {
+    #[inline(always)]
+    fn op(&self) -> Op {
+        operator_of(self.kind, self.op)
+    }
+
+    #[inline(always)]
+    fn reach(&self) -> Region {
+        reach_of(self.kind, self.to)
+    }
+}
+
+/// The command with its mattes of 8 bits.
+impl<'a> ReadDraw<PixRgba16, PixMatte8> for PixCommandRgba16<'a> {
+    ghost command = { λ c. command_of (narrow_command c) };
+
+    ghost can_read = { λ c. (is_narrow c ≡ true) × (fault_of (narrow_command c) ≡ 0) };
+
+    #[inline(always)]
+    fn read(&self) -> Draw<'_, PixRgba16, PixMatte8> {
+        if self.kind == kind::COMPOSITE_MATTE {
+            matte_of(&self.narrow(), &self.color)
+        } else {
+            masked_of(&self.narrow())
+        }
+    }
+}
+
+impl<'a> ReadCommand<PixRgba16, PixMatte8> for PixCommandRgba16<'a> {
     #[inline(always)]
     fn op(&self) -> Op {
         operator_of(self.kind, self.op)

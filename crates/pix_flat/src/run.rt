@@ -3,14 +3,15 @@ ghost use Rattle.std.specs.Prelude.{◌≡◌, ◌≢◌, length, map};
 ghost use Rattle.pix_flat.specs.Status.{window_status_of, window_done_of};
 ghost use Rattle.pix_flat.specs.Run.{IsWindowRun};
 
-use crate::command::Flatten;
+use crate::flatten::Flatten;
 use crate::format::FlatPixel;
+use crate::list::FlatList;
 use crate::size::is_window;
 use crate::status::{BAD_SIZE, DONE, first_fault};
 use pix_chan::chan::{Linear, Premultiplied};
 use pix_el::el::Pixel;
 use pix_el::stored::Coverage;
-use pix_raster::view::{Commands, Shape, Window, paint_by_bands};
+use pix_raster::view::{Shape, Window, paint_by_bands};
 use std::marker::PhantomData;
 
 /// Runs `commands` in order on the window of a picture in `pixels`, of that width, height and
@@ -25,7 +26,7 @@ pub fn run_window<
     P: Pixel<Alpha = Premultiplied, Gamma = Linear>,
     D: FlatPixel<P>,
     M: Coverage<P::Chan>,
-    C: Flatten<D, M>,
+    C: Flatten<P, D, M>,
 >(
     pixels: &mut [D],
     left: u32,
@@ -48,7 +49,7 @@ pub fn run_window<
         *done = 0;
         return BAD_SIZE;
     }
-    let fault = first_fault(commands, done);
+    let fault = first_fault::<P, D, M, C>(commands, done);
     if fault == DONE {
         let stride = stride as usize;
         let shape = Shape {
@@ -58,7 +59,7 @@ pub fn run_window<
         };
         let window = Window { left, top, shape };
         let formats = PhantomData;
-        let list = Commands::<P, M, C> { commands, formats };
+        let list = FlatList::<P, M, C> { commands, formats };
         paint_by_bands(pixels, window, &list);
     }
     fault

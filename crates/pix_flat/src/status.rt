@@ -3,9 +3,12 @@ ghost use Rattle.std.specs.Prelude.{◌≡◌, map};
 ghost use Rattle.pix_flat.specs.Status.{fits, has_pixels, has_mask, has_source, fault_of};
 ghost use Rattle.pix_flat.specs.Status.{first_fault, count_before_fault};
 
-use crate::command::{FlatCommand, Flatten, PixRegion};
+use crate::command::{FlatCommand, PixRegion};
+use crate::flatten::Flatten;
 use crate::kind;
 use crate::size::{LIMIT, is_sized};
+use pix_el::el::Pixel;
+use pix_el::stored::{Coverage, Stored};
 use pix_ops::ops::Op;
 
 /// All commands of the list are done.
@@ -74,7 +77,7 @@ fn has_source<D, M>(command: &FlatCommand<'_, D, M>) -> bool
 // A call would be passed a copy of the command, by loads of what the caller has just written in
 // parts.
 #[inline(always)]
-fn fault_of<D, M>(command: &FlatCommand<'_, D, M>) -> u32
+pub(crate) fn fault_of<D, M>(command: &FlatCommand<'_, D, M>) -> u32
     ensures { result ≡ fault_of command.now }
 {
     if command.kind > kind::COMPOSITE_IMAGE_ALPHA {
@@ -95,7 +98,7 @@ fn fault_of<D, M>(command: &FlatCommand<'_, D, M>) -> u32
 /// Returns why the first refused command is refused, or 0, and writes to `done` how many come
 /// before it.
 #[inline(always)]
-pub(crate) fn first_fault<D: Copy, M: Copy, C: Flatten<D, M>>(
+pub(crate) fn first_fault<P: Pixel, D: Stored<P>, M: Coverage<P::Chan>, C: Flatten<P, D, M>>(
     commands: &[C],
     done: &mut usize,
 ) -> u32
@@ -103,7 +106,7 @@ pub(crate) fn first_fault<D: Copy, M: Copy, C: Flatten<D, M>>(
     ensures done { done.new ≡ count_before_fault (map C.flat commands.now) }
 {
     for (index, command) in commands.iter().enumerate() {
-        let fault = fault_of(&command.flat());
+        let fault = command.fault();
         if fault != DONE {
             *done = index;
             return fault;

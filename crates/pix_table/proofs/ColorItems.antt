@@ -11,17 +11,13 @@ use Rattle.std.proofs.lemmas.Nat.{mul-le}
 use Rattle.pix_table.specs.Nearest.{numbers}
 use Rattle.pix_table.specs.Places.{CannotBeCutBy, HasBestBy, weight}
 use Rattle.pix_table.specs.BestPlaces.{AreBlockWords, AreBytes, AreSums, AreWords, HasSums, IsBestUpTo, another, is_at, other, sum_of, word_of}
-use Rattle.pix_table.specs.Cut.{IsCutTable, IsCutTableBy, mean}
-use Rattle.pix_table.specs.Joins.{cost_by}
-use Rattle.pix_table.specs.Items.{IsItem, item_mean, item_of, pair_items, spread, times_of, weigh_items}
+use Rattle.pix_table.specs.Items.{IsItem, item_of, pair_items, spread, times_of, weigh_items}
 use Rattle.pix_table.specs.declared.box_sums.Sums.{Sums}
 use Rattle.pix_table.specs.declared.color.Color.{Color}
 use Rattle.pix_table.specs.declared.place.Place.{Place}
 use Rattle.pix_table.proofs.ItemLists.{length-spread, some_spread, spread-append}
 use Rattle.pix_table.proofs.BoxSumLemmas.{are_few}
-use Rattle.pix_table.proofs.ItemTables.{cut_of_items}
-use Rattle.pix_table.proofs.MovedBoxes.{mean_moved, weight_moved}
-use Rattle.pix_table.proofs.ItemCuts.{best_of_items, none_of_items}
+use Rattle.pix_table.proofs.ItemCuts.{place_of_items}
 use Rattle.pix_table.proofs.PlaceSteps.{best_of_all, one_alone}
 
 -- the colors of the first items, with one item more
@@ -136,9 +132,7 @@ few_times p box n c s t bytes h own count red green blue =
 -- the best place of the colors of items
 pub best_place : (items : List (List ℕ)) (best : Option Place) → All (IsItem 3) items → IsBestUpTo (spread 3 items) 3 0 best
     → MatchOption best (CannotBeCutBy 3 items) (λ place. HasBestBy 3 (weigh_items 3 weight) items place.channel place.value place.gain)
-best_place items None are h = none_of_items 3 items are (best_of_all (spread 3 items) None h)
-best_place items (Some place) are h =
-    best_of_items 3 weight items place.channel place.value place.gain are (best_of_all (spread 3 items) (Some place) h)
+best_place items best are h = place_of_items 3 weight items best are (best_of_all (spread 3 items) best h)
 
 -- one item alone can't be cut
 pub one_item : (pairs : List (List Color)) → length pairs < 2 → CannotBeCutBy 3 (pair_items numbers pairs)
@@ -171,27 +165,6 @@ pub block_words : (pairs : List (List Color)) (k : ℕ) (words : List ℕ) → s
 block_words pairs k words few bytes are =
     let short : length (spread 3 (pair_items numbers pairs)) ≤ 65535 = omega (arith, few, length-spread 3 (pair_items numbers pairs)) in
     (short, bytes, are)
-
--- two boxes of items are as many colors as fit, where their counts do
-pub fit_together : (a b : List (List ℕ)) → sum_by (times_of 3) a + sum_by (times_of 3) b < 2 ^ 64 → length (spread 3 a) + length (spread 3 b) < 2 ^ 64
-fit_together a b few = omega (arith, few, length-spread 3 a, length-spread 3 b)
-
--- two boxes of items cost what their colors cost
-pub cost_same : (a b : List (List ℕ)) → cost_by weight (spread 3 a) (spread 3 b) ≡ cost_by (weigh_items 3 weight) a b
-cost_same a b = ap (λ l. weight (spread 3 a) + weight (spread 3 b) - weight l) (sym (spread-append 3 a b))
-
--- the table of some items, whose first colors are taken, is that of their colors
-pub table_of_items : (given room : ℕ) (items : List (List ℕ)) (new more : List (List Color)) (n : ℕ) (entries : List Color) → given ≡ room
-    → All (IsItem 3) items → n ≤ length new → map numbers (take n entries) ≡ map (take 3) (take n (pair_items numbers (new ++ more)))
-    → IsCutTableBy 3 (weigh_items 3 weight) (item_mean 3 mean) given items (pair_items numbers (take n new))
-    → (colors : List (List ℕ)) → IsPermutation colors (spread 3 items) → IsCutTable room colors (map numbers (take n entries))
-table_of_items given room items new more n entries e are inside h made colors moved =
-    let first : take n (pair_items numbers (new ++ more)) ≡ pair_items numbers (take n new) =
-    take-map (λ pair. item_of (map numbers pair)) n (new ++ more) ∙ ap (pair_items numbers) (take-append-le n new more inside) in
-    let taken : map numbers (take n entries) ≡ map (take 3) (pair_items numbers (take n new)) = h ∙ ap (map (take 3)) first in
-    subst (IsCutTable room colors) (sym taken)
-    (subst (λ r. IsCutTable r colors (map (take 3) (pair_items numbers (take n new)))) e
-    (cut_of_items 3 weight mean weight_moved mean_moved (λ box. refl) given items colors (pair_items numbers (take n new)) are moved made))
 
 -- a block of items behind those so far
 module _ (pairs : List (List Color)) (start n : ℕ) (inside : n ≤ length (take (length pairs - start) (drop start pairs))) where

@@ -5,7 +5,7 @@ use Rattle.std.proofs.lemmas.Bool.{cases_lt, lt-ltb, leb-true}
 use Rattle.std.proofs.Math.Nat.{zero-mod, mod-le}
 use Rattle.std.proofs.lemmas.List.{length-map, map-set, get_or_append_left, get_or_push, get_or-reverse, get_or-set_same, get_or-set_other}
 use Rattle.pix_table.specs.Nearest.{IsNearestBy, alpha_of}
-use Rattle.pix_table.specs.Diffusion.{IsDiffused, none, clear, shown, in_picture, number_above, wanted_at, part, handed, share_before, share_next}
+use Rattle.pix_table.specs.Diffusion.{IsDiffused, none, clear, shown, held_to, in_picture, number_above, wanted_at, part, handed, share_before, share_next}
 use Rattle.pix_table.specs.Done.{AreLatest, AreDone, AreNeighborErrors, IsColorErrorAbove, IsColorError}
 use Rattle.pix_table.specs.declared.diffuse.ScanOrder.{ScanOrder}
 use Rattle.pix_table.specs.declared.diffuse.ScanOrder.TheVariants.{LeftToRight, Serpentine}
@@ -93,7 +93,7 @@ sum_of LeftToRight left left_above above right_above a b c d w x y z e f g h = o
 sum_of Serpentine left left_above above right_above a b c d w x y z e f g h = omega arith
 
 -- a pixel's share is that of four parts
-in_parts : (scan : ScanOrder) (colors : List (List ℕ)) (width first place c : ℕ)
+pub in_parts : (scan : ScanOrder) (colors : List (List ℕ)) (width first place c : ℕ)
     → handed scan width colors first place c
     ≡ 7 * part (nat_lt 0 place) 1 (get_or colors (first + place - 1) []) c
     + share_before scan * part (nat_lt 0 place && nat_le width first) 1 (get_or colors (number_above scan width first (place - 1)) []) c
@@ -251,7 +251,7 @@ module _ (color : (ℕ → ℕ) → List ℕ) (apart : List ℕ → List ℕ →
 
   pub shown_done : (w g : List ℕ) (i : ℕ) (next_wanted next_found : List (List ℕ))
       → w ≡ wanted_at color scan strength width h.all_wanted h.all_found (k - k % width) (k % width) (get_or pixels (in_picture scan width k) [])
-      → alpha ≤ alpha_of (get_or pixels (in_picture scan width k) []) → IsNearestBy apart entries w i → g ≡ get_or entries i [] → IsColorError true w g left
+      → alpha ≤ alpha_of (get_or pixels (in_picture scan width k) []) → IsNearestBy apart entries w i → g ≡ held_to w (get_or entries i []) → IsColorError true w g left
       → ((ws : List (List ℕ)) → AreLatest scan ws width (k - k % width) (k % width + 1) (set wanted (k % width) w)
       → AreLatest scan ws width (k + 1 - (k + 1) % width) ((k + 1) % width) next_wanted)
       → ((gs : List (List ℕ)) → AreLatest scan gs width (k - k % width) (k % width + 1) (set found (k % width) g)

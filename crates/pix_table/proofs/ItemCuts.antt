@@ -1,6 +1,6 @@
 -- Cuts of items are cuts of their colors, and the other way round.
 use Rattle.std.specs.List.{filter}
-use Rattle.std.specs.Prelude.{false, nat_lt, not, true}
+use Rattle.std.specs.Prelude.{MatchOption, None, Option, Some, false, nat_lt, not, true}
 use Rattle.std.proofs.Common.{◌≡◌, ℕ, ◌+◌, ◌<◌, ◌≤◌, List, ◌++◌, length, take, get_or, All, IsPermutation, refl, arith, sym, ap, ◌∙◌, subst, lt-ltb, le-ltb}
 use Rattle.std.proofs.lemmas.Bool.{ltb-true, ltb-false, not-true}
 use Rattle.std.proofs.lemmas.List.{drop_at, take_at}
@@ -10,6 +10,7 @@ use Rattle.std.proofs.lemmas.List.Sorted.{All-permutation, IsPermutation-filter_
 use Rattle.std.proofs.lemmas.List.Sums.{length-filter}
 use Rattle.pix_table.specs.Items.{IsItem, spread, weigh_items}
 use Rattle.pix_table.specs.Places.{CannotBeCutBy, HasBestBy, IsCutBy, below}
+use Rattle.pix_table.specs.declared.place.Place.{Place}
 use Rattle.pix_table.proofs.ItemLists.{All-spread, filter-spread, item_channel, some_items, some_spread, spread-append, spread-moved}
 use Rattle.pix_table.proofs.Moved.{pass_first, pass_second}
 
@@ -147,3 +148,10 @@ pub none_of_items : (channels : ℕ) (items : List (List ℕ)) → All (IsItem c
     → CannotBeCutBy channels items
 none_of_items channels items are h = λ c v low high is.
     h c v _ _ (cut_spread channels c v items low high (spread channels items) are (IsPermutation-refl (spread channels items)) is)
+
+-- the best place of the colors of items is that of the items
+pub place_of_items : (channels : ℕ) (weigh : List (List ℕ) → ℕ) (items : List (List ℕ)) (best : Option Place) → All (IsItem channels) items
+    → MatchOption best (CannotBeCutBy channels (spread channels items)) (λ p. HasBestBy channels weigh (spread channels items) p.channel p.value p.gain)
+    → MatchOption best (CannotBeCutBy channels items) (λ p. HasBestBy channels (weigh_items channels weigh) items p.channel p.value p.gain)
+place_of_items channels weigh items None are h = none_of_items channels items are h
+place_of_items channels weigh items (Some p) are h = best_of_items channels weigh items p.channel p.value p.gain are h

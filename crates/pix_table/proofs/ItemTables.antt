@@ -6,7 +6,7 @@ use Rattle.std.proofs.lemmas.List.{take_at}
 use Rattle.std.proofs.lemmas.List.Elements.{All-append, All-cons, All-head, All-nil, All-tail}
 use Rattle.std.proofs.lemmas.List.Sorted.{All-permutation, IsPermutation-append, IsPermutation-refl, length_permutation}
 use Rattle.pix_table.specs.Cut.{AreBoxesBy, IsCutTableBy, IsNextCutBy, more_boxes, cut, one}
-use Rattle.pix_table.specs.Items.{IsItem, item_mean, spread, weigh_items}
+use Rattle.pix_table.specs.Items.{IsItem, IsItemTable, spread, weigh_items}
 use Rattle.pix_table.specs.Joins.{AreJoinedBy, IsNextPairBy, cost_at, cost_by, join, none}
 use Rattle.pix_table.specs.Places.{CannotBeCutBy, IsCutBy, gain_by}
 use Rattle.pix_table.proofs.ItemCuts.{all_left, all_right, cut_items, cut_spread, high_spread, highs, low_spread, lows}
@@ -69,12 +69,6 @@ record IsSpread (channels : ℕ) (items colors : List (List ℕ)) : Type 0 where
 module _ (channels : ℕ) (weigh : List (List ℕ) → ℕ) (same_weight : (a b : List (List ℕ)) → IsPermutation a b → weigh a ≡ weigh b) where
   abbrev Stand : (bs cs : List (List (List ℕ))) → Type 0
   Stand bs cs = AllZip (IsSpread channels) bs cs
-
-  two_spread : (p q a b : List (List ℕ)) → IsSpread channels p a → IsSpread channels q b → IsSpread channels (p ++ q) (a ++ b)
-  two_spread p q a b h g = record {
-    are = All-append (IsItem channels) p q h.are g.are;
-    moved = subst (IsPermutation (a ++ b)) (sym (spread-append channels p q)) (IsPermutation-append a (spread channels p) b (spread channels q) h.moved g.moved);
-  }
 
   -- the parts of a cut
   parts_spread : (box low high : List (List ℕ)) (c v : ℕ) → All (IsItem channels) box → IsCutBy channels box c v low high
@@ -151,20 +145,22 @@ module _ (channels : ℕ) (weigh : List (List ℕ) → ℕ) (same_weight : (a b 
             (parts.0, (parts.1, s.backs)),
       )
 
-  -- joins of boxes of the colors
-  cost_same : (p q a b : List (List ℕ)) → IsSpread channels p a → IsSpread channels q b → cost_by weigh a b ≡ cost_by (weigh_items channels weigh) p q
-  cost_same p q a b h g =
-      ap₂ (λ (m n : ℕ). m + n - weigh (a ++ b)) (same_weight a (spread channels p) h.moved) (same_weight b (spread channels q) g.moved)
-      ∙ ap (λ n. weigh (spread channels p) + weigh (spread channels q) - n)
-      (same_weight (a ++ b) (spread channels (p ++ q)) (let both : IsSpread channels (p ++ q) (a ++ b) = two_spread p q a b h g in both.moved))
+  -- joins of boxes of the same colors in another order
+  abbrev Moved : (p a : List (List ℕ)) → Type 0
+  Moved p a = IsPermutation a p
 
-  pair_spread : (bs cs : List (List (List ℕ))) (i j : ℕ) → Stand bs cs → IsNextPairBy (weigh_items channels weigh) bs i j → IsNextPairBy weigh cs i j
-  pair_spread bs cs i j stand next =
-      let long : length cs ≡ length bs = zip_long (IsSpread channels) bs cs stand in
-      let at : (k : ℕ) → k < length bs → IsSpread channels (get_or bs k []) (get_or cs k []) = (λ k b. zip_at (IsSpread channels) bs cs k [] [] stand b) in
-      let same : (k l : ℕ) → k < l → l < length bs → cost_at weigh cs k l ≡ cost_at (weigh_items channels weigh) bs k l =
+  cost_same : (p q a b : List (List ℕ)) → IsPermutation a p → IsPermutation b q → cost_by weigh a b ≡ cost_by weigh p q
+  cost_same p q a b h g =
+      ap₂ (λ (m n : ℕ). m + n - weigh (a ++ b)) (same_weight a p h) (same_weight b q g)
+      ∙ ap (λ n. weigh p + weigh q - n) (same_weight (a ++ b) (p ++ q) (IsPermutation-append a p b q h g))
+
+  pair_moved : (bs cs : List (List (List ℕ))) (i j : ℕ) → AllZip Moved bs cs → IsNextPairBy weigh bs i j → IsNextPairBy weigh cs i j
+  pair_moved bs cs i j stand next =
+      let long : length cs ≡ length bs = zip_long Moved bs cs stand in
+      let at : (k : ℕ) → k < length bs → Moved (get_or bs k []) (get_or cs k []) = (λ k b. zip_at Moved bs cs k [] [] stand b) in
+      let same : (k l : ℕ) → k < l → l < length bs → cost_at weigh cs k l ≡ cost_at weigh bs k l =
       (λ k l a b. cost_same (get_or bs k []) (get_or bs l []) (get_or cs k []) (get_or cs l []) (at k (omega arith)) (at l b)) in
-      let here : cost_at weigh cs i j ≡ cost_at (weigh_items channels weigh) bs i j = same i j next.order next.within in
+      let here : cost_at weigh cs i j ≡ cost_at weigh bs i j = same i j next.order next.within in
       record {
         order = next.order;
         within = omega (arith, next.within, long);
@@ -176,26 +172,32 @@ module _ (channels : ℕ) (weigh : List (List ℕ) → ℕ) (same_weight : (a b 
             omega (arith, here, same k l a inside, next.first k l a inside earlier);
       }
 
-  joined_spread : (cs boxes groups : List (List (List ℕ))) → Stand boxes cs → AreJoinedBy (weigh_items channels weigh) boxes groups
-      → (ds : List (List (List ℕ))) × AreJoinedBy weigh cs ds × Stand groups ds
-  joined_spread cs _ _ stand (none boxes) = (cs, none cs, stand)
-  joined_spread cs _ _ stand (join boxes before between after p q are next) =
-      let h = joined_spread cs boxes (before ++ p ∷ (between ++ q ∷ after)) stand are in
-      let s : Parts (IsSpread channels) before p (between ++ q ∷ after) h.0 = zip_parts (IsSpread channels) before p (between ++ q ∷ after) h.0 h.2 in
-      let t : Parts (IsSpread channels) between q after s.back = zip_parts (IsSpread channels) between q after s.back s.backs in
+  joined_moved : (cs boxes groups : List (List (List ℕ))) → AllZip Moved boxes cs → AreJoinedBy weigh boxes groups
+      → (ds : List (List (List ℕ))) × AreJoinedBy weigh cs ds × AllZip Moved groups ds
+  joined_moved cs _ _ stand (none boxes) = (cs, none cs, stand)
+  joined_moved cs _ _ stand (join boxes before between after p q are next) =
+      let h = joined_moved cs boxes (before ++ p ∷ (between ++ q ∷ after)) stand are in
+      let s : Parts Moved before p (between ++ q ∷ after) h.0 = zip_parts Moved before p (between ++ q ∷ after) h.0 h.2 in
+      let t : Parts Moved between q after s.back = zip_parts Moved between q after s.back s.backs in
       let is : s.front ++ s.mid ∷ (t.front ++ t.mid ∷ t.back) ≡ h.0 = ap (λ l. s.front ++ s.mid ∷ l) t.is ∙ s.is in
-      let first : length s.front ≡ length before = zip_long (IsSpread channels) before s.front s.fronts in
-      let second : length t.front ≡ length between = zip_long (IsSpread channels) between t.front t.fronts in
+      let first : length s.front ≡ length before = zip_long Moved before s.front s.fronts in
+      let second : length t.front ≡ length between = zip_long Moved between t.front t.fronts in
       let pair : IsNextPairBy weigh h.0 (length s.front) (length s.front + 1 + length t.front) =
       subst (λ n. IsNextPairBy weigh h.0 n (n + 1 + length t.front)) (sym first)
       (subst (λ n. IsNextPairBy weigh h.0 (length before) (length before + 1 + n)) (sym second)
-      (pair_spread (before ++ p ∷ (between ++ q ∷ after)) h.0 (length before) (length before + 1 + length between) h.2 next)) in (
+      (pair_moved (before ++ p ∷ (between ++ q ∷ after)) h.0 (length before) (length before + 1 + length between) h.2 next)) in (
         s.front ++ (s.mid ++ t.mid) ∷ (t.front ++ t.back),
         join cs s.front t.front t.back s.mid t.mid (subst (AreJoinedBy weigh cs) (sym is) h.1)
             (subst (λ l. IsNextPairBy weigh l (length s.front) (length s.front + 1 + length t.front)) (sym is) pair),
-        zip-append (IsSpread channels) before ((p ++ q) ∷ (between ++ after)) s.front ((s.mid ++ t.mid) ∷ (t.front ++ t.back)) s.fronts
-            (two_spread p q s.mid t.mid s.mids t.mids, zip-append (IsSpread channels) between after t.front t.back t.fronts t.backs),
+        zip-append Moved before ((p ++ q) ∷ (between ++ after)) s.front ((s.mid ++ t.mid) ∷ (t.front ++ t.back)) s.fronts
+            (IsPermutation-append s.mid p t.mid q s.mids t.mids, zip-append Moved between after t.front t.back t.fronts t.backs),
       )
+
+  colors_moved : (bs cs : List (List (List ℕ))) → Stand bs cs → AllZip Moved (map (spread channels) bs) cs
+  colors_moved [] [] h = tt
+  colors_moved [] (c ∷ cs) h = absurd h
+  colors_moved (b ∷ bs) [] h = absurd h
+  colors_moved (b ∷ bs) (c ∷ cs) h = let first : IsSpread channels b c = h.0 in (first.moved, colors_moved bs cs h.1)
 
   -- a box that cannot be cut
   whole_spread : (box colors : List (List ℕ)) → IsSpread channels box colors → CannotBeCutBy channels box → CannotBeCutBy channels colors
@@ -203,17 +205,13 @@ module _ (channels : ℕ) (weigh : List (List ℕ) → ℕ) (same_weight : (a b 
       h c v (lows c v box) (highs c v box) (cut_items channels c v box colors low high stand.moved is)
 
 -- the means
-means_spread : (channels : ℕ) (middle : List (List ℕ) → List ℕ) → ((a b : List (List ℕ)) → IsPermutation a b → middle a ≡ middle b)
-    → ((box : List (List ℕ)) → length (middle box) ≡ channels) → (bs cs : List (List (List ℕ))) → AllZip (IsSpread channels) bs cs
-    → map (take channels) (map (item_mean channels middle) bs) ≡ map middle cs
-means_spread channels middle same long [] [] h = refl
-means_spread channels middle same long [] (c ∷ cs) h = absurd h
-means_spread channels middle same long (b ∷ bs) [] h = absurd h
-means_spread channels middle same long (b ∷ bs) (c ∷ cs) h =
-    let first : IsSpread channels b c = h.0 in
-    ap₂ (λ (m : List ℕ) (l : List (List ℕ)). m ∷ l)
-    (take_at (middle (spread channels b)) (1 ∷ []) channels (long (spread channels b)) ∙ sym (same c (spread channels b) first.moved))
-    (means_spread channels middle same long bs cs h.1)
+means_moved : (middle : List (List ℕ) → List ℕ) → ((a b : List (List ℕ)) → IsPermutation a b → middle a ≡ middle b) → (bs cs : List (List (List ℕ)))
+    → AllZip (λ (b c : List (List ℕ)). IsPermutation c b) bs cs → map middle bs ≡ map middle cs
+means_moved middle same [] [] h = refl
+means_moved middle same [] (c ∷ cs) h = absurd h
+means_moved middle same (b ∷ bs) [] h = absurd h
+means_moved middle same (b ∷ bs) (c ∷ cs) h =
+    ap₂ (λ (m : List ℕ) (l : List (List ℕ)). m ∷ l) (sym (same c b h.0)) (means_moved middle same bs cs h.1)
 
 -- the first box has a color
 some_boxes : {channels : ℕ} {weigh : List (List ℕ) → ℕ} (items : List (List ℕ)) (boxes : List (List (List ℕ))) → AreBoxesBy channels weigh items boxes
@@ -221,12 +219,11 @@ some_boxes : {channels : ℕ} {weigh : List (List ℕ) → ℕ} (items : List (L
 some_boxes _ _ (one items some) = some
 some_boxes _ _ (cut items box low high before after are next) = some_boxes items (before ++ box ∷ after) are
 
-pub cut_of_items : (channels : ℕ) (weigh : List (List ℕ) → ℕ) (middle : List (List ℕ) → List ℕ)
+pub table_of_items : (channels : ℕ) (weigh : List (List ℕ) → ℕ) (middle : List (List ℕ) → List ℕ)
     → ((a b : List (List ℕ)) → IsPermutation a b → weigh a ≡ weigh b) → ((a b : List (List ℕ)) → IsPermutation a b → middle a ≡ middle b)
-    → ((box : List (List ℕ)) → length (middle box) ≡ channels) → (room : ℕ) (items colors table : List (List ℕ)) → All (IsItem channels) items
-    → IsPermutation colors (spread channels items) → IsCutTableBy channels (weigh_items channels weigh) (item_mean channels middle) room items table
-    → IsCutTableBy channels weigh middle room colors (map (take channels) table)
-cut_of_items channels weigh middle same_weight same_middle long room items colors table are moved is =
+    → (room : ℕ) (items table : List (List ℕ)) → All (IsItem channels) items → IsItemTable channels weigh middle room items table
+    → (colors : List (List ℕ)) → IsPermutation colors (spread channels items) → IsCutTableBy channels weigh middle room colors table
+table_of_items channels weigh middle same_weight same_middle room items table are is colors moved =
     let stand : IsSpread channels items colors = record { are = are; moved = moved } in
     let some : 0 < length colors =
     omega (
@@ -235,9 +232,10 @@ cut_of_items channels weigh middle same_weight same_middle long room items color
       length_permutation colors (spread channels items) moved,
     ) in
     let b = boxes_spread channels weigh same_weight colors items is.boxes stand some is.are in
-    let j = joined_spread channels weigh same_weight b.0 is.boxes is.groups b.2 is.joined in
+    let j = joined_moved channels weigh same_weight b.0 (map (spread channels) is.boxes) is.groups
+    (colors_moved channels weigh same_weight is.boxes b.0 b.2) is.joined in
     let many : length b.0 ≡ length is.boxes = zip_long (IsSpread channels) is.boxes b.0 b.2 in
-    let fewer : length j.0 ≡ length is.groups = zip_long (IsSpread channels) is.groups j.0 j.2 in
+    let fewer : length j.0 ≡ length is.groups = zip_long (λ (p a : List (List ℕ)). IsPermutation a p) is.groups j.0 j.2 in
     record {
       boxes = b.0;
       are = b.1;
@@ -250,5 +248,5 @@ cut_of_items channels weigh middle same_weight same_middle long room items color
       groups = j.0;
       joined = j.1;
       many = fewer ∙ is.many ∙ ap (min room) (sym many);
-      means = ap (map (take channels)) is.means ∙ means_spread channels middle same_middle long is.groups j.0 j.2;
+      means = is.means ∙ means_moved middle same_middle is.groups j.0 j.2;
     }

@@ -42,6 +42,7 @@ pub mod Rows
 pub mod ScanOrders
 pub mod WholeErrors
 pub mod Diffused
+pub mod NearErrors
 pub mod Corners
 pub mod LaneSquares
 pub mod LaneNumbers
@@ -73,3 +74,4 @@ pub mod BlockGaps
 pub mod FewGroups
 pub mod BlockKeys
 pub mod GapLanes
+pub mod Singles

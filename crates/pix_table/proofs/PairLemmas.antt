@@ -268,28 +268,28 @@ module _ (before between after : List (List (List ℕ))) (p q : List (List ℕ))
   }
 
   -- how often the colors stand, of which a function says how often each does
-  pub colors_apart : (times : List ℕ → ℕ) → all_colors times (before ++ (p ++ q) ∷ (between ++ after)) ≡ all_colors times (before ++ p ∷ (between ++ q ∷ after))
-  colors_apart times =
+  pub colors_apart : all_colors (before ++ (p ++ q) ∷ (between ++ after)) ≡ all_colors (before ++ p ∷ (between ++ q ∷ after))
+  colors_apart =
       omega (
         arith,
-        sum_by-append (λ (b : List (List ℕ)). sum_by times b) before ((p ++ q) ∷ (between ++ after)),
-        sum_by-cons (λ (b : List (List ℕ)). sum_by times b) (p ++ q) (between ++ after),
-        sum_by-append (λ (b : List (List ℕ)). sum_by times b) between after,
-        sum_by-append (λ (b : List (List ℕ)). sum_by times b) before (p ∷ (between ++ q ∷ after)),
-        sum_by-cons (λ (b : List (List ℕ)). sum_by times b) p (between ++ q ∷ after),
-        sum_by-append (λ (b : List (List ℕ)). sum_by times b) between (q ∷ after),
-        sum_by-cons (λ (b : List (List ℕ)). sum_by times b) q after,
-        sum_by-append times p q,
+        sum_by-append (λ (b : List (List ℕ)). length b) before ((p ++ q) ∷ (between ++ after)),
+        sum_by-cons (λ (b : List (List ℕ)). length b) (p ++ q) (between ++ after),
+        sum_by-append (λ (b : List (List ℕ)). length b) between after,
+        sum_by-append (λ (b : List (List ℕ)). length b) before (p ∷ (between ++ q ∷ after)),
+        sum_by-cons (λ (b : List (List ℕ)). length b) p (between ++ q ∷ after),
+        sum_by-append (λ (b : List (List ℕ)). length b) between (q ∷ after),
+        sum_by-cons (λ (b : List (List ℕ)). length b) q after,
+        length-append p q,
       )
 
-  pub two_apart : (times : List ℕ → ℕ) → sum_by times p + sum_by times q ≤ all_colors times (before ++ p ∷ (between ++ q ∷ after))
-  two_apart times =
+  pub two_apart : length p + length q ≤ all_colors (before ++ p ∷ (between ++ q ∷ after))
+  two_apart =
       omega (
         arith,
-        sum_by-append (λ (b : List (List ℕ)). sum_by times b) before (p ∷ (between ++ q ∷ after)),
-        sum_by-cons (λ (b : List (List ℕ)). sum_by times b) p (between ++ q ∷ after),
-        sum_by-append (λ (b : List (List ℕ)). sum_by times b) between (q ∷ after),
-        sum_by-cons (λ (b : List (List ℕ)). sum_by times b) q after,
+        sum_by-append (λ (b : List (List ℕ)). length b) before (p ∷ (between ++ q ∷ after)),
+        sum_by-cons (λ (b : List (List ℕ)). length b) p (between ++ q ∷ after),
+        sum_by-append (λ (b : List (List ℕ)). length b) between (q ∷ after),
+        sum_by-cons (λ (b : List (List ℕ)). length b) q after,
       )
 
 -- any two places of a list
@@ -333,12 +333,12 @@ module _ (boxes : List (List (List ℕ))) (i j : ℕ) (order : i < j) (within : 
       (subst (λ n. IsJoinOf (ls ++ here ∷ (ms ++ there ∷ rs)) (join_at boxes i j) n j) ls_long
       (subst (λ n. IsJoinOf (ls ++ here ∷ (ms ++ there ∷ rs)) (join_at boxes i j) (length (take i boxes)) n) place_is (joined_apart ls ms rs here there)))
 
-  pub join_colors : (times : List ℕ → ℕ) → all_colors times (join_at boxes i j) ≡ all_colors times boxes
-  join_colors times = colors_apart ls ms rs here there times ∙ ap (λ b. all_colors times b) parts_are
+  pub join_colors : all_colors (join_at boxes i j) ≡ all_colors boxes
+  join_colors = colors_apart ls ms rs here there ∙ ap (λ b. all_colors b) parts_are
 
-  pub two_few : (times : List ℕ → ℕ) → sum_by times (get_or boxes i []) + sum_by times (get_or boxes j []) ≤ all_colors times boxes
-  two_few times =
-      subst (λ b. sum_by times (get_or boxes i []) + sum_by times (get_or boxes j []) ≤ all_colors times b) parts_are (two_apart ls ms rs here there times)
+  pub two_few : length (get_or boxes i []) + length (get_or boxes j []) ≤ all_colors boxes
+  two_few =
+      subst (λ b. length (get_or boxes i []) + length (get_or boxes j []) ≤ all_colors b) parts_are (two_apart ls ms rs here there)
 
   pub join_more : (weigh : List (List ℕ) → ℕ) (start : List (List (List ℕ))) → AreJoinedBy weigh start boxes → IsNextPairBy weigh boxes i j
       → AreJoinedBy weigh start (join_at boxes i j)
@@ -415,15 +415,15 @@ joined_moved _ _ (join boxes before between after p q are next) =
     (one_moved before between after p q)
 
 -- two boxes that stand apart may be joined
-pub may_join : {G : Type 0} (is_group : List (List ℕ) → G → Type 0) (times : List ℕ → ℕ) (boxes : List (List (List ℕ))) (groups : List G) (count k l : ℕ) (p q : G)
-    → AreGroupsOf is_group boxes groups count → all_colors times boxes < 18446744073709551616 → k < l → l < count → p ≡ get_or groups k p → q ≡ get_or groups l q
-    → (a : List (List ℕ)) × (b : List (List ℕ)) × is_group a p × is_group b q × (sum_by times a + sum_by times b < 18446744073709551616)
-may_join is_group times boxes groups count k l p q are few order inside read other = (
+pub may_join : {G : Type 0} (is_group : List (List ℕ) → G → Type 0) (boxes : List (List (List ℕ))) (groups : List G) (count k l : ℕ) (p q : G)
+    → AreGroupsOf is_group boxes groups count → all_colors boxes < 18446744073709551616 → k < l → l < count → p ≡ get_or groups k p → q ≡ get_or groups l q
+    → (a : List (List ℕ)) × (b : List (List ℕ)) × is_group a p × is_group b q × (length a + length b < 18446744073709551616)
+may_join is_group boxes groups count k l p q are few order inside read other = (
   get_or boxes k [],
   get_or boxes l [],
   subst (is_group (get_or boxes k [])) (sym read) (are.each k p (omega (arith, order, inside))),
   subst (is_group (get_or boxes l [])) (sym other) (are.each l q inside),
-  omega (arith, two_few boxes k l order (omega (arith, are.many, inside)) times, few),
+  omega (arith, two_few boxes k l order (omega (arith, are.many, inside)), few),
 )
 
 pub group_is : {G : Type 0} (is_group : List (List ℕ) → G → Type 0) (boxes : List (List (List ℕ))) (groups : List G) (count k : ℕ) (p : G)

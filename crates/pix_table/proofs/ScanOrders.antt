@@ -136,3 +136,27 @@ same_test k width place some is = elim (cases_lt k width) [
       let past : width ≤ k - place = omega (arith, row_above k width some b, is) in
       grind (arith, nat_tests)
 ]
+
+-- the place of a place: within its row, from the other end and back again
+twice : (b c : Bool) (j k width : ℕ) → 0 < width → b ≡ c → j / width ≡ k / width → j ≡ (if b then k - k % width + (width - (k % width + 1)) else k)
+    → (if c then j - j % width + (width - (j % width + 1)) else j) ≡ k
+twice true true j k width some same row is =
+    let r : j / width * width ≡ k / width * width = ap (λ n. n * width) row in
+    omega (arith, r, is, div-add-mod' j width, div-add-mod' k width, mod-lt j {m = width} some, mod-lt k {m = width} some)
+twice false false j k width some same row is = is
+twice true false j k width some same row is = cc
+twice false true j k width some same row is = cc
+
+-- a place of a row is in the row
+in_row : (b : Bool) (k width : ℕ) → 0 < width → (if b then k - k % width + (width - (k % width + 1)) else k) / width ≡ k / width
+in_row true k width some =
+    let less : k % width < width = mod-lt k {m = width} some in
+    let e : k - k % width + (width - (k % width + 1)) ≡ k / width * width + (width - (k % width + 1)) = omega (arith, div-add-mod' k width) in
+    ap (λ n. n / width) e ∙ div-mul-add (k / width) width (width - (k % width + 1)) (omega arith)
+in_row false k width some = refl
+
+pub in_picture_twice : (scan : ScanOrder) (width k : ℕ) → 0 < width → in_picture scan width (in_picture scan width k) ≡ k
+in_picture_twice scan width k some =
+    let row : in_picture scan width k / width ≡ k / width = in_row (is_back scan width k) k width some in
+    twice (is_back scan width k) (is_back scan width (in_picture scan width k)) (in_picture scan width k) k width some
+    (sym (same_scan scan width (in_picture scan width k) k row)) row refl

@@ -3,24 +3,17 @@ use Rattle.std.proofs.Common.{◌≡◌, ℕ, ◌+◌, ◌*◌, ◌<◌, ◌≤�
 use Rattle.std.proofs.lemmas.List.{drop_at, get_or-map, get_or-replicate, length-map, length-replicate, length-take-le, map-set, take-append-le, take-map, take_at}
 use Rattle.std.proofs.lemmas.List.Elements.{All-cons, All-drop, All-head, All-map, All-nil, All-replicate, All-tail, All-take}
 use Rattle.std.proofs.lemmas.List.Sums.{sum_by-append, sum_by-cons}
-use Rattle.pix_table.specs.Cut.{IsCutTableBy}
 use Rattle.pix_table.specs.BestPlaces.{is_at, sum_of}
-use Rattle.pix_table.specs.Items.{IsItem, item_mean, item_of, pair_items, spread, times_of, weigh_items}
-use Rattle.pix_table.specs.Places.{CannotBeCutBy, HasBestBy}
+use Rattle.pix_table.specs.Items.{IsItem, item_of, pair_items, spread, times_of}
 use Rattle.pix_table.specs.PartSums.{AreNone}
 use Rattle.pix_table.specs.Seen.{AreSeen, seen_numbers}
-use Rattle.pix_table.specs.SeenCut.{IsSeenCutTable, seen_mean, seen_weight}
 use Rattle.pix_table.specs.SeenItems.{IsSeenItem}
 use Rattle.pix_table.specs.SeenSums.{AreFew, AreSeenByValue, AreSeenSums, IsSummed}
-use Rattle.pix_table.specs.declared.place.Place.{Place}
 use Rattle.pix_table.specs.declared.rgba.color.Seen.{Seen}
 use Rattle.pix_table.specs.declared.rgba.sums.SeenSums.{SeenSums}
 use Rattle.pix_table.proofs.BoxSpans.{map_more}
 use Rattle.pix_table.proofs.GroupLemmas.{seen_joined}
-use Rattle.pix_table.proofs.ItemCuts.{best_of_items, none_of_items}
 use Rattle.pix_table.proofs.ItemLists.{All-spread, item_channel, length-spread, some_spread, spread-append, spread-parts, sum_by-spread}
-use Rattle.pix_table.proofs.ItemTables.{cut_of_items}
-use Rattle.pix_table.proofs.MovedBoxes.{seen_mean_moved, seen_weight_moved}
 use Rattle.pix_table.proofs.PartedSums.{parted_by_grown}
 use Rattle.pix_table.proofs.SeenSumLemmas.{are_few}
 
@@ -137,13 +130,6 @@ few_summed xs all some few are whole k parts values =
 pub item_at : (k v : ℕ) (item : List ℕ) → k < 4 → v ≡ get_or item k 0 → is_at k v (take 4 item) ≡ true
 item_at k v item channel e = eq-eqb (get_or (take 4 item) k 0) v (item_channel 4 k item channel ∙ sym e)
 
--- the best place of the colors is that of the items
-pub place_of_items : (items : List (List ℕ)) (best : Option Place) → All IsSeenItem items
-    → MatchOption best (CannotBeCutBy 4 (spread 4 items)) (λ p. HasBestBy 4 seen_weight (spread 4 items) p.channel p.value p.gain)
-    → MatchOption best (CannotBeCutBy 4 items) (λ p. HasBestBy 4 (weigh_items 4 seen_weight) items p.channel p.value p.gain)
-place_of_items items None are h = none_of_items 4 items (items_are items are) h
-place_of_items items (Some p) are h = best_of_items 4 seen_weight items p.channel p.value p.gain (items_are items are) h
-
 -- the first items of some pairs
 pub first_items : (xs : List (List Seen)) (i : ℕ) → All IsSeenItem (pair_items seen_numbers xs) → All IsSeenItem (pair_items seen_numbers (take i xs))
 first_items xs i h =
@@ -212,19 +198,3 @@ item_values_more whole k v box item parts old part new channel h is small there 
     (is ∙ sym (item_channel 4 k item channel)) small kept
     (λ p here before. seen_joined p box (spread 4 (item ∷ [])) (whole old) (whole part) (whole new) before (own p here) count red green blue alpha)
     (λ p s other before. sums_still p box item s other before))
-
--- the table of some items, whose first colors are taken, is that of their colors
-pub table_of_items : (given room : ℕ) (items : List (List ℕ)) (new more : List (List Seen)) (n : ℕ) (entries : List Seen) → given ≡ room
-    → All (IsItem 4) items → n ≤ length new
-    → map seen_numbers (take (length (take n (new ++ more))) entries) ≡ map (take 4) (pair_items seen_numbers (take n (new ++ more)))
-    → IsCutTableBy 4 (weigh_items 4 seen_weight) (item_mean 4 seen_mean) given items (pair_items seen_numbers (take n new))
-    → (colors : List (List ℕ)) → IsPermutation colors (spread 4 items) → IsSeenCutTable room colors (map seen_numbers (take n entries))
-table_of_items given room items new more n entries e are within h made colors moved =
-    let first : take n (new ++ more) ≡ take n new = take-append-le n new more within in
-    let taken : map seen_numbers (take n entries) ≡ map (take 4) (pair_items seen_numbers (take n new)) =
-    ap (λ k. map seen_numbers (take k entries)) (sym (length-take-le n new within))
-    ∙ subst (λ l. map seen_numbers (take (length l) entries) ≡ map (take 4) (pair_items seen_numbers l)) first h in
-    subst (IsSeenCutTable room colors) (sym taken)
-    (subst (λ r. IsSeenCutTable r colors (map (take 4) (pair_items seen_numbers (take n new)))) e
-    (cut_of_items 4 seen_weight seen_mean seen_weight_moved seen_mean_moved (λ box. refl) given items colors (pair_items seen_numbers (take n new)) are moved
-    made))

@@ -1,23 +1,27 @@
 -- What the program keeps of a box of colors that is joined. No clause of a public call cites this file.
-use Rattle.std.specs.Prelude.{◌≡◌, ℕ, ◌<◌, List, All, length, true}
-use Rattle.pix_table.specs.Places.{weight}
+use Rattle.std.specs.Prelude.{◌≡◌, ℕ, ◌*◌, ◌<◌, ◌≤◌, List, All, length, true}
 use Rattle.pix_table.specs.BestPlaces.{AreBytes, AreSums}
 use Rattle.pix_table.specs.Seen.{AreSeen}
-use Rattle.pix_table.specs.SeenCut.{seen_weight}
 use Rattle.pix_table.specs.SeenSums.{AreSeenSums}
+use Rattle.pix_table.specs.declared.box_sums.Sums.{Sums}
 use Rattle.pix_table.specs.declared.group.Group.{Group}
-use Rattle.pix_table.specs.declared.rgba.group.SeenGroup.{SeenGroup}
+use Rattle.pix_table.specs.declared.rgba.sums.SeenSums.{SeenSums}
 
--- the sums of a box that has a color, and what it weighs
-pub record IsGroup (box : List (List ℕ)) (group : Group) : Type 0 where
+-- the sums of a box, and what it weighs, which is little
+pub record IsGroup {S : Type 0} (are : List (List ℕ) → S → Type 0) (weigh : List (List ℕ) → ℕ) (box : List (List ℕ)) (group : Group S)
+    : Type 0 where
+  pub sums : are box group.sums
+  pub weight : group.weight ≡ weigh box
+  pub little : group.weight ≤ 390150 * length box
+
+-- the sums of a box that has a color
+pub record AreBoxSums (box : List (List ℕ)) (sums : Sums) : Type 0 where
   pub some : 0 < length box
   pub bytes : All AreBytes box
-  pub sums : AreSums (λ color. true) box group.sums
-  pub weight : group.weight ≡ weight box
+  pub whole : AreSums (λ color. true) box sums
 
 -- the same for colors that are seen
-pub record IsSeenGroup (box : List (List ℕ)) (group : SeenGroup) : Type 0 where
+pub record AreSeenBoxSums (box : List (List ℕ)) (sums : SeenSums) : Type 0 where
   pub some : 0 < length box
   pub seen : All AreSeen box
-  pub sums : AreSeenSums (λ color. true) box group.sums
-  pub weight : group.weight ≡ seen_weight box
+  pub whole : AreSeenSums (λ color. true) box sums

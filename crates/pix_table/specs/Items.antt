@@ -1,6 +1,9 @@
 -- Colors that are counted: items, each a color and how often it stands. No clause of a public call cites this file.
-use Rattle.std.specs.Prelude.{◌≡◌, ℕ, zero, suc, ◌+◌, ◌*◌, ◌<◌, List, [], ◌∷◌, ◌++◌, cond, length, map, nat_lt, replicate, slice_index, slice_index_or, sum_by, take}
+use Rattle.std.specs.Prelude.{◌⊎◌, ◌≡◌, ℕ, zero, suc, ◌+◌, ◌*◌, ◌<◌, ◌≤◌, All, List, [], ◌∷◌, ◌++◌, cond, length, map, min, nat_lt, replicate, slice_index, slice_index_or, sum_by, take}
 use Rattle.std.specs.List.{flat_map}
+use Rattle.pix_table.specs.Cut.{AreBoxesBy, more_boxes}
+use Rattle.pix_table.specs.Joins.{AreJoinedBy}
+use Rattle.pix_table.specs.Places.{CannotBeCutBy}
 use Rattle.pix_table.specs.declared.items.ColorCount.{ColorCount}
 
 -- the count that a color stands for, by its first two numbers
@@ -51,11 +54,19 @@ spread channels items = flat_map (λ item. replicate (times_of channels item) (t
 abbrev pub weigh_items : (channels : ℕ) (weigh : List (List ℕ) → ℕ) → List (List ℕ) → ℕ
 weigh_items channels weigh items = weigh (spread channels items)
 
--- their mean, as an item that stands once
-abbrev pub item_mean : (channels : ℕ) (middle : List (List ℕ) → List ℕ) → List (List ℕ) → List ℕ
-item_mean channels middle items = middle (spread channels items) ++ 1 ∷ []
-
 -- an item has a number for each channel, and stands at least once
 pub record IsItem (channels : ℕ) (item : List ℕ) : Type 0 where
   pub long : length item ≡ channels + 1
   pub some : 0 < times_of channels item
+
+-- the table of some items, of at most so many entries: the items are cut into boxes, and then the colors of these are joined
+pub record IsItemTable (channels : ℕ) (weigh : List (List ℕ) → ℕ) (middle : List (List ℕ) → List ℕ) (room : ℕ) (items table : List (List ℕ))
+    : Type 0 where
+  pub boxes : List (List (List ℕ))
+  pub are : AreBoxesBy channels (weigh_items channels weigh) items boxes
+  pub few : length boxes ≤ more_boxes room
+  pub full : (length boxes ≡ more_boxes room) ⊎ All (CannotBeCutBy channels) boxes
+  pub groups : List (List (List ℕ))
+  pub joined : AreJoinedBy weigh (map (spread channels) boxes) groups
+  pub many : length groups ≡ min room (length boxes)
+  pub means : table ≡ map middle groups

@@ -38,3 +38,4 @@ pub mod SeenMatches
 pub mod NearBlocks
 pub mod SeenTables
 pub mod SeenDiffusion
+pub mod NearLaws

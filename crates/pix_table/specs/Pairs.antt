@@ -11,9 +11,9 @@ pub record AreGroupsOf {G : Type 0} (is_group : List (List ℕ) → G → Type 0
   pub within : count ≤ length groups
   pub each : (k : ℕ) (d : G) → k < count → is_group (slice_index_or boxes k []) (slice_index_or groups k d)
 
--- how often the colors of some boxes stand, of which a function says how often each does
-abbrev pub all_colors : (times : List ℕ → ℕ) → List (List (List ℕ)) → ℕ
-all_colors times boxes = sum_by (λ box. sum_by times box) boxes
+-- how many colors some boxes have
+abbrev pub all_colors : List (List (List ℕ)) → ℕ
+all_colors boxes = sum_by (λ box. length box) boxes
 
 -- the least number of a row behind a place and before another, the first of equals, and where it stands
 pub record IsLeastAfter (row : ℕ → ℕ) (from to cost with : ℕ) : Type 0 where

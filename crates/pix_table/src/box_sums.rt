@@ -4,8 +4,7 @@ ghost use Rattle.pix_table.specs.Nearest.{numbers};
 ghost use Rattle.pix_table.specs.BestPlaces.{AreBlockWords, AreByValue, AreBytes, ArePart, AreSums, AreWords};
 ghost use Rattle.pix_table.specs.BestPlaces.{is_at, sum_of, weight_by, word_of};
 
-use crate::color::Color;
-use crate::cut::channel;
+use crate::color::{Color, channel};
 use crate::weight::{square, weight, weight_of_few};
 
 /// The most colors whose words may be added: their count has 16 bits, and each of two sums 24.

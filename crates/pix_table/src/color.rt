@@ -18,6 +18,19 @@ pub struct Color {
     pub blue: u8,
 }
 
+/// Returns the number of a channel: 0 is red, 1 green, 2 blue.
+#[inline(always)]
+pub(crate) fn channel(clr: Color, channel: usize) -> u8
+    ensures { result ≡ slice_index (numbers clr) channel }
+{
+    match channel {
+        0 => clr.red,
+        1 => clr.green,
+        2 => clr.blue,
+        _ => 0,
+    }
+}
+
 /// A type of color that a table may have.
 pub trait TableColor: Copy {
     /// The numbers of red, green and blue.

@@ -4,65 +4,88 @@ ghost use Rattle.pix_table.specs.Nearest.{numbers};
 ghost use Rattle.pix_table.specs.Places.{CannotBeCutBy, HasBestBy, weight};
 ghost use Rattle.pix_table.specs.Cut.{IsCutTable, mean};
 ghost use Rattle.pix_table.specs.BestPlaces.{AreByValue, AreBytes, AreSums, AreWords, IsBestUpTo};
-ghost use Rattle.pix_table.specs.ColorGroups.{IsGroup};
-ghost use Rattle.pix_table.specs.Items.{IsItem, item_mean, item_of, pair_items, spread, times_of, weigh_items};
+ghost use Rattle.pix_table.specs.ColorGroups.{AreBoxSums};
+ghost use Rattle.pix_table.specs.Items.{IsItem, item_of, pair_items, spread, times_of, weigh_items};
 
-use crate::box_sums::{BLOCK, Sums, add_block, total, total_of_words, word};
-use crate::chosen::ENTRIES;
-use crate::color::Color;
-use crate::cut::{channel, cut_colors};
-use crate::cutting::Cutting;
-use crate::group::Group;
+use crate::box_sums::{BLOCK, FEW, Sums, add_block, sums_of, total, total_of_words, word};
+use crate::color::{Color, channel};
+use crate::cut::cut_items;
+use crate::cutting::{Cutting, Item};
+use crate::group::{BoxSums, Group};
 use crate::items::Counted;
 use crate::joins::BOXES;
-use crate::place::{Place, best_in};
+use crate::place::{Place, best_in, best_place};
 
-/// An item: a color, and one that stands for its count.
-impl Cutting for [Color; 2] {
-    type Group = Group;
+impl BoxSums for Sums {
+    ghost are = { AreBoxSums };
 
-    ghost parts = { λ pair. item_of (map numbers pair) };
+    ghost weigh = { weight };
 
-    ghost channels = { 3 };
+    #[inline(always)]
+    fn both(self, other: Sums) -> Sums {
+        self.and(other)
+    }
 
-    ghost weigh = { weigh_items 3 weight };
+    fn box_weight(self) -> u128 {
+        self.weight()
+    }
 
-    ghost times = { times_of 3 };
+    #[inline(always)]
+    fn are_few(self) -> bool {
+        self.count < FEW
+    }
 
-    ghost middle = { item_mean 3 mean };
+    #[inline(always)]
+    fn box_weighs_at_most(self, most: u128) -> bool {
+        self.weighs_at_most(most)
+    }
+}
+
+impl Cutting for Color {
+    type Sums = Sums;
+
+    ghost middle = { mean };
 
     ghost fits = { IsItem 3 };
 
-    ghost is_group = { λ items group. IsGroup (spread 3 items) group };
+    fn mean_color(sums: Sums) -> Color {
+        sums.mean()
+    }
+}
+
+/// A color that stands once.
+impl Item<Color> for Color {
+    ghost numbers = { λ color. numbers color ++ 1 ∷ [] };
+
+    #[inline(always)]
+    fn channel(self, k: usize) -> u8 {
+        channel(self, k)
+    }
+
+    fn best_place(items: &[Color]) -> Option<Place> {
+        best_place(items)
+    }
+
+    fn sums_of(items: &[Color]) -> Sums {
+        sums_of(items)
+    }
+}
+
+/// A color, and one that stands for its count.
+impl Item<Color> for [Color; 2] {
+    ghost numbers = { λ pair. item_of (map numbers pair) };
 
     #[inline(always)]
     fn channel(self, k: usize) -> u8 {
         channel(self[0], k)
     }
 
-    fn best_place(colors: &[[Color; 2]]) -> Option<Place> {
-        best_item_place(colors)
+    fn best_place(items: &[[Color; 2]]) -> Option<Place> {
+        best_item_place(items)
     }
 
-    fn group_of(colors: &[[Color; 2]]) -> Group {
-        Group::of_sums(sums_of_items(colors))
-    }
-
-    fn join(p: Group, q: Group) -> Group {
-        p.join(q)
-    }
-
-    fn cost(p: Group, q: Group) -> u128 {
-        p.cost(q)
-    }
-
-    #[inline(always)]
-    fn costs_more(p: Group, q: Group, most: u128) -> bool {
-        p.costs_more(q, most)
-    }
-
-    fn mean_color(group: Group) -> [Color; 2] {
-        [group.mean(), Color::of_count(1)]
+    fn sums_of(items: &[[Color; 2]]) -> Sums {
+        sums_of_items(items)
     }
 }
 
@@ -72,38 +95,25 @@ impl Cutting for [Color; 2] {
 /// Condition: there is an item, and there are 1 to 256 entries.
 // Out of line, so that its stack and that of the rounds do not add up.
 #[inline(never)]
-pub(crate) fn cut_items(items: &mut [[Color; 2]], entries: &mut [Color]) -> usize
+pub(crate) fn cut_table<I: Item<Color>>(items: &mut [I], entries: &mut [Color]) -> usize
     requires some { 0 < length items.old }
-    requires fit { All (IsItem 3) (pair_items numbers items.old) }
-    requires few { sum_by (times_of 3) (pair_items numbers items.old) < 2 ^ 64 }
+    requires fit { All (IsItem 3) (map I.numbers items.old) }
+    requires few { sum_by (times_of 3) (map I.numbers items.old) < 2 ^ 64 }
     requires room { 0 < length entries.old }
     requires few_entries { length entries.old ≤ 256 }
     ensures some { 0 < result }
     ensures within { result ≤ length entries.new }
-    ensures moved { IsPermutation (pair_items numbers items.old) (pair_items numbers items.new) }
+    ensures moved { IsPermutation (map I.numbers items.old) (map I.numbers items.new) }
     ensures table { (colors : List (List ℕ))
-        → IsPermutation colors (spread 3 (pair_items numbers items.old))
+        → IsPermutation colors (spread 3 (map I.numbers items.old))
         → IsCutTable (length entries.old) colors (map numbers (take result entries.new)) }
 {
-    let mut groups = [Group::none(); BOXES];
-    let mut means = [[Color::default(); 2]; ENTRIES];
-    let room = entries.len();
-    let count = cut_colors(items, &mut groups, &mut means[..room]);
-    write_colors(&means, count, entries);
-    count
-}
-
-/// Writes the colors of the first `count` items into the first of the entries.
-fn write_colors(items: &[[Color; 2]], count: usize, entries: &mut [Color])
-    requires within { count ≤ length items.now }
-    requires room { count ≤ length entries.old }
-    ensures { map numbers (take count entries.new)
-        ≡ map (take 3) (take count (pair_items numbers items.now)) }
-{
-    for i in 0..count {
-        let (clr, _) = item_at(items, i);
-        entries[i] = clr;
-    }
+    let none = Group {
+        sums: Sums::none(),
+        weight: 0,
+    };
+    let mut groups = [none; BOXES];
+    cut_items(items, &mut groups, entries)
 }
 
 /// Returns the color of an item, and its count.

@@ -1,6 +1,13 @@
 //! Error diffusion by Floyd and Steinberg, in whole numbers.
 ghost use Rattle.std.specs.Prelude.{◌≡◌, ℕ, ◌+◌, ◌-◌, ◌*◌, ◌%◌, ◌^◌, ◌<◌, ◌≤◌, List, [], length, map, true, slice_index_or, MatchOption};
-ghost use Rattle.pix_table.specs.Diffusion.{AreDiffusedBy, IsDiffusedScan, in_picture, is_back};
+ghost use Rattle.pix_table.specs.Diffusion.{
+  AreDiffusedBy,
+  AreShownAround,
+  AreShownAroundBy,
+  IsDiffusedScan,
+  in_picture,
+  is_back,
+};
 ghost use Rattle.pix_table.specs.Done.{AreLatest, AreNeighborErrors, IsColorError, IsColorErrorAbove};
 ghost use Rattle.pix_table.specs.declared.diffuse.ScanOrder.{ScanOrder};
 ghost use Rattle.pix_table.specs.declared.diffuse.ScanOrder.TheVariants.{Serpentine, LeftToRight};
@@ -53,6 +60,9 @@ pub fn diffuse_indexed_work(width: usize) -> Option<usize>
 /// the one below the pixel before it 3, the one below it 5, and the one below the next 1. Each gets
 /// `how.strength` sixteenths of its share.
 ///
+/// An error is held to 24 either way in each channel before it is handed on. So the color that is
+/// looked up for a pixel differs from it by at most 24 in each channel, whatever the picture is.
+///
 /// Condition: there is at least one entry and at most 256, a row has a pixel, at most 16 sixteenths
 /// are handed on, there are as many indices as pixels, and `work` has four rows of colors. Where
 /// the scan order is serpentine, the rows are whole.
@@ -70,8 +80,10 @@ pub fn diffuse_indexed<C: TableColor, P: TablePixel>(
     requires whole { how.scan ≡ Serpentine → length pixels.now % how.width ≡ 0 }
     requires work { length work.old ≡ 4 * how.width }
     requires many { length indices.old ≡ length pixels.now }
-    ensures { AreDiffusedBy how.scan how.strength (map C.channels entries.now) how.alpha
+    ensures diffused { AreDiffusedBy how.scan how.strength (map C.channels entries.now) how.alpha
         how.transparent_index how.width (map P.values pixels.now) indices.new }
+    ensures near { AreShownAround (map C.channels entries.now) how.alpha how.transparent_index
+        (map P.values pixels.now) indices.new }
 {
     let diffusing = Diffusing {
         entries,
@@ -100,7 +112,9 @@ impl<C: TableColor, P: TablePixel> SearchVisitor<u8> for Diffusing<'_, C, P> {
     ghost visits = { λ diffusing entries old new. entries ≡ map C.channels diffusing.entries.now
         → AreDiffusedBy diffusing.how.scan diffusing.how.strength entries diffusing.how.alpha
         diffusing.how.transparent_index diffusing.how.width (map P.values diffusing.pixels.now)
-        new };
+        new
+        × AreShownAround entries diffusing.how.alpha diffusing.how.transparent_index
+        (map P.values diffusing.pixels.now) new };
 
     // Out of line. Where it is inlined, a matcher is put together on the stack beside its place.
     #[inline(never)]
@@ -179,9 +193,11 @@ where
     requires found { length found.old ≡ how.width }
     requires many { length indices.old ≡ length pixels.now }
     requires entries { N.among search.old (map C.shown entries.now) }
-    ensures { IsDiffusedScan S.of_channels S.apart how.scan how.strength (map C.shown entries.now)
-        how.alpha how.transparent_index how.width
+    ensures diffused { IsDiffusedScan S.of_channels S.apart how.scan how.strength
+        (map C.shown entries.now) how.alpha how.transparent_index how.width
         (map (λ pixel. S.given (P.values pixel)) pixels.now) indices.new }
+    ensures near { AreShownAroundBy S.apart S.channels (map C.shown entries.now) how.alpha
+        how.transparent_index (map (λ pixel. S.given (P.values pixel)) pixels.now) indices.new }
 {
     let black = S::none();
     let mut near = NeighborErrors {
@@ -204,7 +220,7 @@ where
         } else {
             let color = S::wanted(pixels[at], how, around, right_above);
             let index = search.find(color);
-            let entry = entries[usize::from(index)].shown();
+            let entry = color.held(entries[usize::from(index)].shown());
             indices[at] = index;
             wanted[column] = color;
             found[column] = entry;

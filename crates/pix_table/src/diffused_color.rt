@@ -1,7 +1,18 @@
 //! Colors whose errors are handed on to the pixels around them.
-ghost use Rattle.std.specs.Prelude.{◌≡◌, ℕ, ◌+◌, ◌*◌, ◌≤◌, List, length, true, refl};
+ghost use Rattle.std.specs.Prelude.{◌≡◌, ℕ, ◌+◌, ◌*◌, ◌≤◌, List, length, slice_index, true, refl};
 ghost use Rattle.pix_table.specs.Nearest.{IsNearestBy, alpha_of, distance, numbers};
-ghost use Rattle.pix_table.specs.Diffusion.{corrected, rgb_of, share_before, share_next, wanted_at};
+ghost use Rattle.pix_table.specs.Diffusion.{
+  corrected,
+  AreNear,
+  IsNear,
+  held,
+  held_to,
+  rgb_of,
+  share_before,
+  share_next,
+  wanted_at,
+};
+ghost use Rattle.pix_table.specs.NearLaws.{AreBytes, rgb_near};
 ghost use Rattle.pix_table.specs.Done.{AreNeighborErrors, IsColorError, IsColorErrorAbove};
 
 use crate::color::{Color, TableColor, TablePixel};
@@ -59,9 +70,19 @@ pub(crate) trait DiffusedColor: Copy {
     /// Numbers that a color may have.
     ghost can_be: { List ℕ → Type 0 };
 
+    /// Numbers that the color of a pixel may have.
+    ghost can_be_given: { List ℕ → Type 0 };
+
+    /// How many channels a color has.
+    ghost channels: { ℕ };
+
     /// Returns the color that is wanted and found where no error is handed on.
     fn none() -> Self
         ensures { spread result ≡ of_channels (λ channel. 0) };
+
+    /// Returns what counts as found where this color was wanted, for the color of an entry.
+    fn held(self, entry: Self) -> Self
+        ensures { spread result ≡ held_to (spread self) (spread entry) };
 
     /// Returns the error of a pixel at which this color was wanted and another was found.
     fn missed(self, found: Self) -> ColorError
@@ -76,11 +97,17 @@ pub(crate) trait DiffusedColor: Copy {
     ) -> Self
         requires { how.strength ≤ 16 }
         ensures can { can_be (spread result) }
+        ensures given { can_be_given (given (P.values pixel)) }
         ensures wanted { (width : ℕ) (ws gs : List (List ℕ)) (first place : ℕ)
             → AreNeighborErrors how.scan ws gs width first place near
             → IsColorErrorAbove how.scan ws gs width first place right_above
             → spread result ≡ wanted_at of_channels how.scan how.strength width ws gs first place
             (given (P.values pixel)) };
+
+    /// A color whose numbers are near those of a pixel is near the pixel.
+    ghost stays_near: { (pixel : List ℕ) (number : ℕ → ℕ) → can_be_given pixel
+        → ((c : ℕ) → slice_index pixel c ≤ 255 → IsNear (slice_index pixel c) (number c))
+        → AreNear channels pixel (of_channels number) };
 
     /// The color of a pixel has its alpha.
     ghost same_alpha: { (pixel : List ℕ) → alpha_of (given pixel) ≡ alpha_of pixel };
@@ -139,12 +166,25 @@ impl DiffusedColor for Color {
 
     ghost can_be = { λ color. length color ≡ 3 };
 
+    ghost can_be_given = { AreBytes };
+
+    ghost channels = { 3 };
+
     #[inline(always)]
     fn none() -> Color {
         Color {
             red: 0,
             green: 0,
             blue: 0,
+        }
+    }
+
+    #[inline(always)]
+    fn held(self, entry: Color) -> Color {
+        Color {
+            red: held(self.red, entry.red),
+            green: held(self.green, entry.green),
+            blue: held(self.blue, entry.blue),
         }
     }
 
@@ -204,7 +244,22 @@ impl DiffusedColor for Color {
         }
     }
 
+    ghost stays_near = { rgb_near };
+
     ghost same_alpha = { λ pixel. refl };
+}
+
+/// The greatest error that is handed on in a channel.
+const ERROR_BOUND: u8 = 24;
+
+/// Returns what counts as found in a channel: an entry's number, held to what was wanted.
+#[inline(always)]
+pub(crate) fn held(wanted: u8, found: u8) -> u8
+    ensures { result ≡ held wanted found }
+{
+    let least = wanted.saturating_sub(ERROR_BOUND);
+    let most = wanted.saturating_add(ERROR_BOUND);
+    found.max(least).min(most)
 }
 
 /// Returns a pixel's share in a channel of the errors around it, in sixteenths. Where the scan

@@ -1,8 +1,9 @@
 //! The boxes of a cut: pieces of one slice of colors, one after the other.
 ghost use Rattle.std.specs.Prelude.{◌≡◌, ℕ, ◌+◌, ◌<◌, ◌≤◌, ◌^◌, All, List, [], ◌∷◌, ◌++◌, length, map, take, drop, sum_by};
+ghost use Rattle.pix_table.specs.Items.{times_of, weigh_items};
 ghost use Rattle.pix_table.specs.Pieces.{IsKnown, IsMostOrNone, IsNextOrNone, total};
 
-use crate::cutting::Cutting;
+use crate::cutting::{Cutting, Item};
 use crate::place::Place;
 
 /// A piece of a slice of colors: how many they are, and the place where a cut gains most, if it can
@@ -41,15 +42,16 @@ impl Piece {
     }
 
     /// Returns the piece of some colors.
-    pub(crate) fn of<C: Cutting>(colors: &[C]) -> Piece
-        requires fit { All C.fits (map C.parts colors.now) }
-        requires few { sum_by C.times (map C.parts colors.now) < 2 ^ 64 }
-        ensures all { result.len ≡ length colors.now }
-        ensures known { IsKnown C.channels C.weigh (map C.parts colors.now) result }
+    pub(crate) fn of<C: Cutting, I: Item<C>>(items: &[I]) -> Piece
+        requires fit { All C.fits (map I.numbers items.now) }
+        requires few { sum_by (times_of C.channels) (map I.numbers items.now) < 2 ^ 64 }
+        ensures all { result.len ≡ length items.now }
+        ensures known { IsKnown C.channels (weigh_items C.channels C.Sums.weigh)
+            (map I.numbers items.now) result }
     {
         Piece {
-            len: colors.len(),
-            place: C::best_place(colors),
+            len: items.len(),
+            place: I::best_place(items),
         }
     }
 }

@@ -9,8 +9,7 @@ ghost use Rattle.pix_table.specs.Quantization.{shown, same_color, distinct, IsQu
 ghost use Rattle.pix_table.specs.Refine.{IsQuantizedRefined, IsRefinedCut};
 
 use crate::color::{Color, TablePixel};
-use crate::color_items::cut_items;
-use crate::cut::cut_table;
+use crate::color_items::cut_table;
 use crate::items::{Counted, PLACES, count_pairs, place_of};
 use crate::refine::{refine, refine_items};
 
@@ -174,7 +173,7 @@ fn refined_of_pairs(colors: &mut [Color], pairs: usize, rounds: u8, entries: &mu
 {
     let (chunks, _) = colors.as_chunks_mut::<2>();
     let items = &mut chunks[..pairs];
-    let count = cut_items(items, entries);
+    let count = cut_table(items, entries);
     refine_items(items, rounds, &mut entries[..count]);
     count
 }

@@ -1,8 +1,6 @@
 //! Tables of colors with an alpha.
 pub(crate) mod color;
-pub(crate) mod cut;
 mod diffuse;
-pub(crate) mod group;
 pub(crate) mod groups;
 pub(crate) mod items;
 pub(crate) mod lanes;

@@ -1,23 +1,23 @@
 //! The C interface of the library `pix`: the functions of `libpix_c.a` and the types that cross to it.
 //!
-//! `bindings/c/pix.h` documents it. Programs in Rust use the crate `pix` above this one, which is safe. One that calls
-//! these functions asks [`check_library`] first whether the processor and the archive are the right ones.
+//! `bindings/c/pix.h` documents it. Programs in Rust use the safe crate `pix` above this one. If you call these functions,
+//! call [`check_library`] first: it tests whether the processor and the archive are the right ones.
 //!
 //! # Duties
 //!
-//! What a caller of these functions sees to, and none of them can test. Breaking one is undefined behavior:
+//! A caller of these functions ensures the following, which no function can test. Breaking one is undefined behavior:
 //!
-//! - Pointers are valid for the counts beside them, aligned and not null, also where a count is 0; those in commands too.
-//! - What a call writes shares no byte with anything else that is passed, nor with what commands point to. It belongs to
-//!   the call until that returns: no other thread, signal handler, process or device reads or writes it meanwhile.
-//! - What a call only reads may be read by others meanwhile, and is written by none. A call tests commands and indices,
-//!   and then trusts them: one that changes in between makes it read or write memory that nobody handed over.
+//! - Pointers, also in commands, are valid for their counts, aligned and not null, even if a count is 0.
+//! - Memory that a call writes shares no byte with any other argument, nor with memory that commands point to. It belongs
+//!   to the call until that returns: no other thread, signal handler, process or device reads or writes it meanwhile.
+//! - Memory that a call only reads may be read by others meanwhile, but nobody writes it. A call tests commands and
+//!   indices, and then trusts them: if one changes in between, the call reads or writes memory that was never passed.
 //! - The thread has the stack that the call needs.
 //!
 //! # Stack
 //!
-//! What a call works with is on the stack of its thread, which is to have so many KiB. The thread's first frames are among them,
-//! and 8 KiB for a signal handler that runs meanwhile:
+//! A call's working memory is on the stack of its thread, which needs this many KiB. They include the thread's first frames, and
+//! 8 KiB for a signal handler that runs meanwhile:
 //!
 //! | KiB | calls |
 //! |--:|---|
@@ -40,17 +40,17 @@ pub use crate::table::*;
 
 use core::mem::{offset_of, size_of};
 
-/// A command on pixels `P` with mattes `M`. No pointer is null, also where its count is 0.
+/// A command on pixels `P` with mattes `M`. No pointer is null, even if its count is 0.
 #[repr(C)]
 #[derive(Clone, Copy, Debug)]
 pub struct Command<P, M> {
-    /// What the command does: one of [`kind`].
+    /// The kind of command: one of [`kind`].
     pub kind: u32,
-    /// The number of an operator. 0 where the kind has none.
+    /// The number of an operator. 0 if the kind has none.
     pub op: u32,
-    /// What is changed.
+    /// The region that is changed.
     pub to: Region,
-    /// What is read of the source, or of the matte of [`kind::COMPOSITE_MATTE`].
+    /// The region of the source that is read, or of the matte of [`kind::COMPOSITE_MATTE`].
     pub from: Region,
     /// The color of kinds that have one.
     pub color: P,
@@ -68,7 +68,7 @@ pub struct Command<P, M> {
     pub height: u32,
     /// The distance from a row of it to the next, in elements: at least the width.
     pub stride: u32,
-    /// What is read of the mask of [`kind::COMPOSITE_IMAGE_MATTE`].
+    /// The region of the mask of [`kind::COMPOSITE_IMAGE_MATTE`] that is read.
     pub mask: Region,
     /// The width of the mask.
     pub mask_width: u32,
@@ -78,6 +78,20 @@ pub struct Command<P, M> {
     pub mask_stride: u32,
     /// The opacity of [`kind::COMPOSITE_IMAGE_ALPHA`].
     pub alpha: M,
+}
+
+/// A command on pixels of 16 bits a channel: a [`Command`], and mattes of 8 bits. No pointer is null, even if its count is
+/// 0.
+#[repr(C)]
+#[derive(Clone, Copy, Debug)]
+pub struct CommandRgba16 {
+    /// The command, with mattes of 16 bits.
+    pub command: Command<Rgba16, u16>,
+    /// Mattes of 8 bits. If there are any, the kinds with mattes read these and not the ones of 16 bits, each as 257 times
+    /// its value.
+    pub mattes8: *const u8,
+    /// How many there are.
+    pub matte8_count: usize,
 }
 
 /// Kinds of commands.
@@ -100,7 +114,7 @@ pub mod kind {
     pub const COMPOSITE_IMAGE_ALPHA: u32 = 7;
 }
 
-/// What the functions answer.
+/// The statuses that the functions return.
 pub mod status {
     /// Done.
     pub const OK: u32 = 0;
@@ -112,38 +126,30 @@ pub mod status {
     pub const BAD_REGION: u32 = 3;
     /// No such operator.
     pub const BAD_OP: u32 = 4;
-    /// A source, a matte or a mask: as `BAD_SIZE`.
+    /// The same as `BAD_SIZE` for a source, a matte or a mask.
     pub const BAD_SOURCE: u32 = 5;
-    /// No such format, or none of those that the call takes.
+    /// No such format, or one that the call doesn't take.
     pub const BAD_FORMAT: u32 = 6;
-    /// Lengths do not go together.
+    /// Lengths don't match.
     pub const BAD_LENGTH: u32 = 7;
     /// A table has no entry, or more than 256.
     pub const BAD_TABLE: u32 = 11;
-    /// An index is past the end, or takes more bits than it is to have.
+    /// An index is past the end, or takes more bits than the depth has.
     pub const BAD_INDEX: u32 = 12;
-    /// Indices take 1, 2, 4 or 8 bits.
+    /// The depth of indices is not 1, 2, 4 or 8 bits.
     pub const BAD_DEPTH: u32 = 13;
     /// A table has no room for a color.
     pub const FULL_TABLE: u32 = 14;
-    /// Errors are diffused with a strength of 0 to 16.
+    /// The strength of error diffusion is above 16.
     pub const BAD_STRENGTH: u32 = 15;
 }
 
-/// A function that runs commands on pixels `P` with mattes `M`.
-pub type RunCommands<P, M> = unsafe extern "C" fn(
-    *mut P,
-    usize,
-    u32,
-    u32,
-    u32,
-    *const Command<P, M>,
-    usize,
-    *mut usize,
-) -> u32;
+/// A function that runs commands `C` on pixels `P`.
+pub type RunCommands<P, C> =
+    unsafe extern "C" fn(*mut P, usize, u32, u32, u32, *const C, usize, *mut usize) -> u32;
 
-/// A function that runs commands on a window of a picture, whose place comes behind the count of its pixels.
-pub type RunWindow<P, M> = unsafe extern "C" fn(
+/// A function that runs commands on a window of a picture. The window's place comes after the count of its pixels.
+pub type RunWindow<P, C> = unsafe extern "C" fn(
     *mut P,
     usize,
     u32,
@@ -151,14 +157,14 @@ pub type RunWindow<P, M> = unsafe extern "C" fn(
     u32,
     u32,
     u32,
-    *const Command<P, M>,
+    *const C,
     usize,
     *mut usize,
 ) -> u32;
 
 #[link(name = "pix_c", kind = "static")]
 unsafe extern "C" {
-    /// Runs all commands on an image of `Rgba8`, or none; `done` is their number, or the index of the refused one.
+    /// Runs all commands on an image of `Rgba8`, or none; `done` is their number, or the index of the bad one.
     ///
     /// # Safety
     ///
@@ -185,7 +191,7 @@ unsafe extern "C" {
         width: u32,
         height: u32,
         stride: u32,
-        commands: *const Command<Rgba16, u16>,
+        commands: *const CommandRgba16,
         command_count: usize,
         done: *mut usize,
     ) -> u32;
@@ -206,7 +212,7 @@ unsafe extern "C" {
         done: *mut usize,
     ) -> u32;
 
-    /// Runs all commands on a window of a picture, whose first pixel is the point (`left`, `top`) of the picture.
+    /// Runs all commands on a window of a picture. Its first pixel is the point (`left`, `top`) of the picture.
     ///
     /// # Safety
     ///
@@ -237,7 +243,7 @@ unsafe extern "C" {
         width: u32,
         height: u32,
         stride: u32,
-        commands: *const Command<Rgba16, u16>,
+        commands: *const CommandRgba16,
         command_count: usize,
         done: *mut usize,
     ) -> u32;
@@ -275,8 +281,8 @@ unsafe extern "C" {
         count: usize,
     ) -> u32;
 
-    /// Writes a bitmap from another of the same size, pixel by pixel. Strides are counted in bytes; both buffers begin with the
-    /// row that lies lowest in memory, which is the bottom one where the stride is negative.
+    /// Writes a bitmap from another of the same size, pixel by pixel. Strides are counted in bytes. Both buffers begin with the
+    /// row that is lowest in memory, which is the bottom one if the stride is negative.
     ///
     /// # Safety
     ///
@@ -294,28 +300,29 @@ unsafe extern "C" {
         height: u32,
     ) -> u32;
 
-    /// How many bytes a pixel of a format has, and 0 where there is no such format.
+    /// How many bytes a pixel of a format has, or 0 if there is no such format.
     pub safe fn pix_raw_format_size(format: u32) -> u32;
 
-    /// Fact number `index` of the library: its version, and then the sizes and offsets of [`FACTS`]. `u32::MAX` where
-    /// there are no more.
+    /// Fact number `index` of the library: its version, and then the sizes and offsets of [`FACTS`]. `u32::MAX` if there
+    /// are no more.
     pub safe fn pix_layout(index: usize) -> u32;
 }
 
-/// The version of the binary interface: another one where a call, a number or a layout changes.
-pub const ABI_VERSION: u32 = 2;
+/// The version of the binary interface. It changes if a call, a number or a layout changes.
+pub const ABI_VERSION: u32 = 3;
 
-/// What [`pix_layout`] returns, from 0 on. First comes the version. Then come the sizes of the three kinds of pixels and of
-/// a region, and the offsets of its fields. Last is the size of the command of each kind, and the offsets of its fields.
-pub const FACTS: [u32; 63] = facts();
+/// The numbers that [`pix_layout`] returns, from 0 on. First comes the version. Then come the sizes of the three kinds of
+/// pixels and of a region, and the offsets of its fields. Last is the size of each kind's command, and the offsets of its
+/// fields.
+pub const FACTS: [u32; 65] = facts();
 
-const fn facts() -> [u32; 63] {
+const fn facts() -> [u32; 65] {
     let (four, wide, gray) = (
         command_facts::<Rgba8, u8>(),
         command_facts::<Rgba16, u16>(),
         command_facts::<Graya8, u8>(),
     );
-    let mut all = [ABI_VERSION; 63];
+    let mut all = [ABI_VERSION; 65];
     all[1] = size_of::<Rgba8>() as u32;
     all[2] = size_of::<Rgba16>() as u32;
     all[3] = size_of::<Graya8>() as u32;
@@ -328,9 +335,12 @@ const fn facts() -> [u32; 63] {
     while i < 18 {
         all[9 + i] = four[i] as u32;
         all[27 + i] = wide[i] as u32;
-        all[45 + i] = gray[i] as u32;
+        all[47 + i] = gray[i] as u32;
         i += 1;
     }
+    all[27] = size_of::<CommandRgba16>() as u32;
+    all[45] = offset_of!(CommandRgba16, mattes8) as u32;
+    all[46] = offset_of!(CommandRgba16, matte8_count) as u32;
     all
 }
 
@@ -364,7 +374,7 @@ pub fn is_as_declared() -> bool {
     facts.all(|(index, fact)| pix_layout(index) == *fact) && pix_layout(FACTS.len()) == u32::MAX
 }
 
-/// Whether a command is laid out as the library reads it.
+/// Whether a command has the layout that the library reads.
 const fn is_laid_out<P, M>() -> bool {
     let word = size_of::<usize>();
     let slices = (40 + size_of::<P>()).next_multiple_of(word);
@@ -391,5 +401,12 @@ const fn is_laid_out<P, M>() -> bool {
 
 const _: () = assert!(is_laid_out::<Rgba8, u8>() && size_of::<Rgba8>() == 4);
 const _: () = assert!(is_laid_out::<Rgba16, u16>() && size_of::<Rgba16>() == 8);
+const _: () = assert!(
+    offset_of!(CommandRgba16, command) == 0
+        && offset_of!(CommandRgba16, mattes8) == size_of::<Command<Rgba16, u16>>()
+        && offset_of!(CommandRgba16, matte8_count)
+            == size_of::<Command<Rgba16, u16>>() + size_of::<usize>()
+        && size_of::<CommandRgba16>() == size_of::<Command<Rgba16, u16>>() + 2 * size_of::<usize>()
+);
 const _: () = assert!(is_laid_out::<Graya8, u8>() && size_of::<Graya8>() == 2);
 const _: () = assert!(size_of::<Region>() == 16 && offset_of!(Region, width) == 8);

@@ -1,4 +1,4 @@
-//! Whether the processor and the archive are those that this crate was written for. It is tested once.
+//! Whether the processor and the archive are the ones that this crate was written for. It is tested once.
 
 use crate::is_as_declared;
 use core::fmt;
@@ -7,7 +7,7 @@ use core::sync::atomic::{AtomicU8, Ordering};
 /// Why the archive must not be called.
 #[derive(Clone, Copy, Debug, PartialEq, Eq)]
 pub enum LibraryFault {
-    /// The processor is none of x86-64 with SSE4.1, and none of aarch64.
+    /// The processor is neither x86-64 with SSE4.1 nor aarch64.
     Processor,
     /// The archive has another version or layout than this crate.
     Archive,
@@ -35,12 +35,12 @@ const OTHER_ARCHIVE: u8 = 3;
 
 static ANSWER: AtomicU8 = AtomicU8::new(UNKNOWN);
 
-/// Says so where this processor or the archive that is linked is not the right one. The functions of the archive test
-/// neither: a program asks this before it calls them.
+/// Tests whether this processor and the linked archive are the right ones. The functions of the archive test neither:
+/// call this before you call them.
 ///
 /// # Errors
 ///
-/// `Processor` where the processor is another one, and else `Archive` where the archive is.
+/// `Processor` if the processor is another one. Otherwise `Archive` if the archive is another one.
 #[inline]
 pub fn check_library() -> Result<(), LibraryFault> {
     let mut answer = ANSWER.load(Ordering::Relaxed);
@@ -51,7 +51,7 @@ pub fn check_library() -> Result<(), LibraryFault> {
     meaning(answer)
 }
 
-/// Asks for the processor, and only where it is right for the archive, whose code may need it.
+/// Tests the processor first, and the archive only if the processor is right, since the archive's code may need it.
 fn look(is_served: fn() -> bool, is_as_declared: fn() -> bool) -> u8 {
     if !is_served() {
         NO_PROCESSOR
@@ -79,7 +79,7 @@ fn is_served() -> bool {
     features.ecx & 1 << 19 != 0
 }
 
-/// All processors of aarch64 have those of its archive; there is none for another one, or for big-endian words.
+/// All processors of aarch64 can run its archive. There is no archive for other processors, or for big-endian words.
 #[cfg(not(target_arch = "x86_64"))]
 fn is_served() -> bool {
     cfg!(all(target_arch = "aarch64", target_endian = "little"))

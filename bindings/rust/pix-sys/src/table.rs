@@ -29,7 +29,7 @@ unsafe extern "C" {
         index_count: usize,
     ) -> u32;
 
-    /// The same of pixels with an alpha: one below `alpha` has the index `transparent_index`.
+    /// The same for pixels with an alpha: one below `alpha` gets the index `transparent_index`.
     ///
     /// # Safety
     ///
@@ -60,7 +60,7 @@ unsafe extern "C" {
         made: *mut usize,
     ) -> u32;
 
-    /// The same of pixels with an alpha: those below `alpha` do not count.
+    /// The same for pixels with an alpha: those below `alpha` do not count.
     ///
     /// # Safety
     ///
@@ -76,7 +76,7 @@ unsafe extern "C" {
         made: *mut usize,
     ) -> u32;
 
-    /// Writes what `pix_raw_quantize` does, refined by so many rounds.
+    /// Writes the table of `pix_raw_quantize`, refined by `rounds` rounds.
     ///
     /// # Safety
     ///
@@ -92,7 +92,7 @@ unsafe extern "C" {
         made: *mut usize,
     ) -> u32;
 
-    /// The same of pixels with an alpha: those below `alpha` do not count.
+    /// The same for pixels with an alpha: those below `alpha` do not count.
     ///
     /// # Safety
     ///
@@ -126,7 +126,7 @@ unsafe extern "C" {
         index_count: usize,
     ) -> u32;
 
-    /// The same of pixels with an alpha: one below `alpha` has the index `transparent_index`, and hands on no error.
+    /// The same for pixels with an alpha: one below `alpha` gets the index `transparent_index`, and passes on no error.
     ///
     /// # Safety
     ///
@@ -145,7 +145,7 @@ unsafe extern "C" {
         index_count: usize,
     ) -> u32;
 
-    /// The same with so many sixteenths of each error. Where `serpentine` isn't 0, every second row goes from right to left.
+    /// The same with `strength` sixteenths of each error. If `serpentine` isn't 0, every second row goes from right to left.
     ///
     /// # Safety
     ///
@@ -164,7 +164,7 @@ unsafe extern "C" {
         index_count: usize,
     ) -> u32;
 
-    /// The same of pixels with an alpha.
+    /// The same for pixels with an alpha.
     ///
     /// # Safety
     ///
@@ -201,7 +201,7 @@ unsafe extern "C" {
         index_count: usize,
     ) -> u32;
 
-    /// Writes the entry of each index.
+    /// Writes the entry for each index.
     ///
     /// # Safety
     ///
@@ -215,7 +215,7 @@ unsafe extern "C" {
         pixel_count: usize,
     ) -> u32;
 
-    /// Writes how often each number below `len` stands among the indices.
+    /// Writes how often each number below `len` is among the indices.
     ///
     /// # Safety
     ///
@@ -253,7 +253,7 @@ unsafe extern "C" {
         index_count: usize,
     ) -> u32;
 
-    /// Writes a table of colors with an alpha of pixels, refined by so many rounds, and how many entries it has.
+    /// Writes a table of the colors of pixels, with their alphas, refined by `rounds` rounds, and how many entries it has.
     ///
     /// # Safety
     ///
@@ -269,7 +269,7 @@ unsafe extern "C" {
         made: *mut usize,
     ) -> u32;
 
-    /// Writes the index of the entry that is seen nearest to each pixel.
+    /// Writes the index of the entry that looks nearest to each pixel.
     ///
     /// # Safety
     ///
@@ -302,7 +302,7 @@ unsafe extern "C" {
         index_count: usize,
     ) -> u32;
 
-    /// Writes the entry of each index.
+    /// Writes the entry for each index.
     ///
     /// # Safety
     ///

@@ -1,4 +1,4 @@
-//! Bitmaps: images of any format, as files, windows and other libraries hold them.
+//! Bitmaps: images of any format, as in files, windows and other libraries.
 
 use crate::error::Error;
 use crate::format::Format;
@@ -7,7 +7,7 @@ use pix_sys::status;
 /// A picture in bytes that is read: rows of pixels of a [`Format`].
 ///
 /// Rows begin `stride` bytes apart. A negative stride is for rows from bottom to top: the bytes begin with the bottom row.
-/// Bytes that are too few, a side above 2147483647 and rows that would share bytes are refused when it is converted.
+/// A conversion fails if there are too few bytes, if a side is above 2147483647, or if rows would share bytes.
 #[derive(Clone, Copy, Debug)]
 pub struct Bitmap<'a> {
     bytes: &'a [u8],
@@ -18,13 +18,13 @@ pub struct Bitmap<'a> {
 }
 
 impl<'a> Bitmap<'a> {
-    /// A picture whose rows follow each other without gaps, from top to bottom.
+    /// A picture with rows that follow each other without gaps, from top to bottom.
     pub const fn new(bytes: &'a [u8], width: u32, height: u32, format: Format) -> Bitmap<'a> {
         let stride = width as isize * format.size() as isize;
         Bitmap::with_stride(bytes, width, height, stride, format)
     }
 
-    /// A picture whose rows begin `stride` bytes apart.
+    /// A picture with rows that begin `stride` bytes apart.
     pub const fn with_stride(
         bytes: &'a [u8],
         width: u32,
@@ -53,7 +53,7 @@ pub struct BitmapMut<'a> {
 }
 
 impl<'a> BitmapMut<'a> {
-    /// A picture whose rows follow each other without gaps, from top to bottom.
+    /// A picture with rows that follow each other without gaps, from top to bottom.
     pub const fn new(
         bytes: &'a mut [u8],
         width: u32,
@@ -64,7 +64,7 @@ impl<'a> BitmapMut<'a> {
         BitmapMut::with_stride(bytes, width, height, stride, format)
     }
 
-    /// A picture whose rows begin `stride` bytes apart. What lies between them is not changed.
+    /// A picture with rows that begin `stride` bytes apart. The padding between them is not changed.
     pub const fn with_stride(
         bytes: &'a mut [u8],
         width: u32,
@@ -81,11 +81,11 @@ impl<'a> BitmapMut<'a> {
         }
     }
 
-    /// Writes each pixel from that of a picture of the same size at its point, in this format.
+    /// Writes each pixel from the same point of a picture of the same size, in this format.
     ///
-    /// Between sRGB of 8 bits and linear channels of 16 bits a pixel goes through light. One whose alpha is 13 or more comes back
-    /// as it was. Below that the alpha comes back, and the colors may be others: at alpha 0 they are 0. All other pairs of
-    /// formats are converted as [`convert`](crate::convert) does.
+    /// Between sRGB of 8 bits and linear channels of 16 bits, a pixel with an alpha of at least 13 comes back unchanged. Below
+    /// that the alpha comes back, but the colors may change: at alpha 0 they are 0. All other pairs of formats are converted as
+    /// [`convert`](crate::convert) does.
     ///
     /// ```
     /// use pix::{Bitmap, BitmapMut, Command, Format, ImageMut, Op, Region, Rgba16};
@@ -104,14 +104,14 @@ impl<'a> BitmapMut<'a> {
     ///
     /// # Errors
     ///
-    /// `OtherSize` where the pictures have different sizes, `Size` where this one has a bad size or stride or too few bytes, and
-    /// `Picture` where `src` has. The pixels are unchanged.
+    /// `OtherSize` if the pictures have different sizes. `Size` if this one has a bad size or stride or too few bytes, and
+    /// `Picture` if `src` has. The pixels are unchanged.
     pub fn convert_bitmap(&mut self, src: Bitmap<'_>) -> Result<(), Error> {
         pix_sys::check_library()?;
         if (src.width, src.height) != (self.width, self.height) {
             return Err(Error::OtherSize);
         }
-        // SAFETY: pointers and lengths are those of two slices, and the exclusive one shares no byte with the other.
+        // SAFETY: pointers and lengths come from two slices, and the exclusive one shares no byte with the other.
         let answer = unsafe {
             pix_sys::pix_raw_convert_bitmap(
                 src.format as u32,
@@ -133,8 +133,8 @@ impl<'a> BitmapMut<'a> {
         }
     }
 
-    /// Writes each pixel in its own place, in another format whose pixels are no larger: those of `to` stand at the starts of the
-    /// same rows.
+    /// Converts each pixel in place to a format with pixels that are no larger. The pixels of `to` are at the starts of the same
+    /// rows.
     ///
     /// ```
     /// use pix::{BitmapMut, Format};
@@ -147,8 +147,8 @@ impl<'a> BitmapMut<'a> {
     ///
     /// # Errors
     ///
-    /// `Larger` where a pixel of `to` is larger, and `Size` where the picture has a bad size or stride or too few bytes. The
-    /// pixels are unchanged.
+    /// `Larger` if a pixel of `to` is larger, and `Size` if the picture has a bad size or stride or too few bytes. The pixels are
+    /// unchanged.
     pub fn convert_in_place(self, to: Format) -> Result<(), Error> {
         let (size, to_size) = (self.format.size(), to.size());
         if to_size > size {
@@ -165,10 +165,10 @@ impl<'a> BitmapMut<'a> {
             return Err(Error::Size);
         }
         if width == 0 {
-            // Rows without pixels may be many.
+            // There may be many rows without pixels.
             return Ok(());
         }
-        // A block of pixels is copied, and written from the copy.
+        // A block of pixels is copied, and converted from the copy.
         let mut block = [0; 64 * 8];
         for row in 0..height {
             for first in (0..width).step_by(64) {

@@ -1,16 +1,17 @@
 //! Commands: changes of an image as values.
 
 use crate::image::Image;
-use crate::pixel::{Pixel, Region};
+use crate::pixel::private::Calls;
+use crate::pixel::{Pixel, Region, Rgba16};
 use core::marker::PhantomData;
 use core::ptr::NonNull;
 use pix_sys::kind;
 
 /// An operator of Porter and Duff, or the sum.
 ///
-/// Each channel of the outcome, the alpha too, is that of the term here, where s and d are the channels of source and
-/// destination and sa and da the alphas as fractions. Products are rounded to the nearest, and a sum saturates
-/// at the maximum.
+/// The term at each operator gives each channel of the result, the alpha too. s and d are the channels of source and
+/// destination, and sa and da the alphas as fractions. Products are rounded to the nearest, and a sum saturates at the
+/// maximum.
 #[repr(u32)]
 #[derive(Clone, Copy, Debug, PartialEq, Eq, Hash)]
 pub enum Op {
@@ -63,12 +64,12 @@ impl Op {
 
 /// A change of an image of pixels `P`. It borrows its source until it has run.
 ///
-/// Where there are two regions, the point of `from` that is as far from its upper left corner as a point of `to` is
-/// from its own goes there. A point is changed where both regions and both images have it.
+/// With two regions the corners are paired: a point of `to` gets the point of `from` at the same distance from the upper
+/// left corner. A point is changed if it is inside both regions and both images.
 #[repr(transparent)]
 #[derive(Clone, Copy, Debug)]
 pub struct Command<'a, P: Pixel> {
-    raw: pix_sys::Command<P, P::Matte>,
+    raw: <P as Calls<P::Matte>>::Raw,
     source: PhantomData<(&'a [P], &'a [P::Matte])>,
 }
 
@@ -143,14 +144,15 @@ impl<'a, P: Pixel> Command<'a, P> {
         op: Op,
     ) -> Command<'a, P> {
         let mut command = Command::plain(kind::COMPOSITE_MATTE, op, to, color);
-        command.raw.mattes = matte.pixels.as_ptr();
-        command.raw.matte_count = matte.pixels.len();
+        let raw = P::command(&mut command.raw);
+        raw.mattes = matte.pixels.as_ptr();
+        raw.matte_count = matte.pixels.len();
         command.with_size(matte, from)
     }
 
     /// Composites the pixels of `from` in a source, multiplied by the values of `mask_from` in a mask, with those of `to`:
-    /// soft edges. All three corners are paired, and a point is changed where all three regions and all of image, source
-    /// and mask have it.
+    /// soft edges. All three corners are paired. A point is changed if it is inside all three regions, and inside image,
+    /// source and mask.
     ///
     /// ```
     /// use pix::{Command, Image, ImageMut, Op, Region, Rgba8};
@@ -172,17 +174,14 @@ impl<'a, P: Pixel> Command<'a, P> {
         op: Op,
     ) -> Command<'a, P> {
         let mut command = Command::plain(kind::COMPOSITE_IMAGE_MATTE, op, to, P::default());
-        command.raw.mattes = mask.pixels.as_ptr();
-        command.raw.matte_count = mask.pixels.len();
-        command.raw.mask = mask_from;
-        command.raw.mask_width = mask.width;
-        command.raw.mask_height = mask.height;
-        command.raw.mask_stride = mask.stride;
-        command.with_pixels(source, from)
+        let raw = P::command(&mut command.raw);
+        raw.mattes = mask.pixels.as_ptr();
+        raw.matte_count = mask.pixels.len();
+        command.with_mask(mask, mask_from).with_pixels(source, from)
     }
 
-    /// Composites the pixels of `from` in a source, multiplied by `alpha`, with those of `to`: a fade. At the maximum it is
-    /// [`Command::composite_image`].
+    /// Composites the pixels of `from` in a source, multiplied by `alpha`, with those of `to`: a fade. At the maximum alpha
+    /// this is [`Command::composite_image`].
     ///
     /// ```
     /// use pix::{Command, Image, ImageMut, Op, Region, Rgba8};
@@ -202,12 +201,13 @@ impl<'a, P: Pixel> Command<'a, P> {
         op: Op,
     ) -> Command<'a, P> {
         let mut command = Command::plain(kind::COMPOSITE_IMAGE_ALPHA, op, to, P::default());
-        command.raw.alpha = alpha;
+        P::command(&mut command.raw).alpha = alpha;
         command.with_pixels(source, from)
     }
 
-    /// A pattern: the commands that composite `from` in a source over all of `to`, side by side from its upper left corner
-    /// on and cut at its other sides, row by row. A copy that begins past 2147483647 is in no image, and left out.
+    /// A pattern: the commands that composite copies of `from` in a source over all of `to`. They are side by side from its
+    /// upper left corner on, row by row, and cut at its other sides. A copy that begins past 2147483647 can't be in any
+    /// image, and is left out.
     ///
     /// ```
     /// use pix::{Command, Image, ImageMut, Op, Region, Rgba8};
@@ -268,24 +268,87 @@ impl<'a, P: Pixel> Command<'a, P> {
             alpha: P::Matte::default(),
         };
         Command {
-            raw,
+            raw: P::raw(raw),
             source: PhantomData,
         }
     }
 
     /// The command with a source.
     fn with_pixels(mut self, source: Image<'a, P>, from: Region) -> Command<'a, P> {
-        self.raw.pixels = source.pixels.as_ptr();
-        self.raw.pixel_count = source.pixels.len();
+        let raw = P::command(&mut self.raw);
+        raw.pixels = source.pixels.as_ptr();
+        raw.pixel_count = source.pixels.len();
         self.with_size(source, from)
     }
 
     /// The command with the size of its source.
     fn with_size<T>(mut self, source: Image<'a, T>, from: Region) -> Command<'a, P> {
-        self.raw.from = from;
-        self.raw.width = source.width;
-        self.raw.height = source.height;
-        self.raw.stride = source.stride;
+        let raw = P::command(&mut self.raw);
+        raw.from = from;
+        raw.width = source.width;
+        raw.height = source.height;
+        raw.stride = source.stride;
+        self
+    }
+
+    /// The command with the size of its mask.
+    fn with_mask<T>(mut self, mask: Image<'a, T>, mask_from: Region) -> Command<'a, P> {
+        let raw = P::command(&mut self.raw);
+        raw.mask = mask_from;
+        raw.mask_width = mask.width;
+        raw.mask_height = mask.height;
+        raw.mask_stride = mask.stride;
+        self
+    }
+}
+
+impl<'a> Command<'a, Rgba16> {
+    /// Composites a color, multiplied by the values of `from` in a mask of 8 bits, with the pixels of `to`: a glyph from a
+    /// rasterizer. Each value counts as 257 times itself in a mask of 16 bits, so 255 is all of the color.
+    ///
+    /// ```
+    /// use pix::{Command, Image, ImageMut, Op, Region, Rgba16};
+    ///
+    /// let (coverage, all) = ([0, 128, 255], Region::new(0, 0, 3, 1));
+    /// let (glyph, ink) = (Image::new(&coverage, 3, 1), Rgba16::new(65535, 0, 0, 65535));
+    /// let mut pixels = [Rgba16::default(); 3];
+    /// let text = Command::composite_matte8(all, glyph, all, ink, Op::SrcOver);
+    /// ImageMut::new(&mut pixels, 3, 1).run(&[text])?;
+    /// assert_eq!(pixels, [Rgba16::default(), Rgba16::new(32896, 0, 0, 32896), ink]);
+    /// # Ok::<(), pix::Error>(())
+    /// ```
+    pub fn composite_matte8(
+        to: Region,
+        matte: Image<'a, u8>,
+        from: Region,
+        color: Rgba16,
+        op: Op,
+    ) -> Command<'a, Rgba16> {
+        Command::plain(kind::COMPOSITE_MATTE, op, to, color)
+            .with_mattes8(matte)
+            .with_size(matte, from)
+    }
+
+    /// Composites the pixels of `from` in a source, multiplied by the values of `mask_from` in a mask of 8 bits, with those
+    /// of `to`. [`Command::composite_image_matte`] does it with a mask of 16 bits.
+    pub fn composite_image_matte8(
+        to: Region,
+        source: Image<'a, Rgba16>,
+        from: Region,
+        mask: Image<'a, u8>,
+        mask_from: Region,
+        op: Op,
+    ) -> Command<'a, Rgba16> {
+        Command::plain(kind::COMPOSITE_IMAGE_MATTE, op, to, Rgba16::default())
+            .with_mattes8(mask)
+            .with_mask(mask, mask_from)
+            .with_pixels(source, from)
+    }
+
+    /// The command with mattes of 8 bits.
+    fn with_mattes8(mut self, mattes: Image<'a, u8>) -> Command<'a, Rgba16> {
+        self.raw.mattes8 = mattes.pixels.as_ptr();
+        self.raw.matte8_count = mattes.pixels.len();
         self
     }
 }

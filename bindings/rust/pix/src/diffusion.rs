@@ -4,7 +4,7 @@ use crate::error::Error;
 use crate::table::{ColorTable, Srgb8, Srgba8, done};
 use pix_sys::check_library;
 
-/// How errors are diffused. The default is what [`ColorTable::diffuse_indexed`] does: all of each error, and no row from right to
+/// How errors are diffused. The default is like [`ColorTable::diffuse_indexed`]: all of each error, and no row from right to
 /// left.
 ///
 /// ```
@@ -15,11 +15,11 @@ use pix_sys::check_library;
 /// ```
 #[derive(Clone, Copy, Debug, PartialEq, Eq, Hash)]
 pub struct Diffusion {
-    /// How many sixteenths of an error are passed on, from 0 to 16. With less there is less noise, and areas are less like the
-    /// picture. With 0 each pixel gets its nearest entry.
+    /// How many sixteenths of an error are passed on, from 0 to 16. Lower values give less noise, but areas match the picture
+    /// less. With 0 each pixel gets its nearest entry.
     pub strength: u8,
-    /// Whether every second row goes from right to left: the second, the fourth and so on. Left and right are exchanged there,
-    /// also where an error goes.
+    /// Whether every second row goes from right to left: the second, the fourth and so on. The shares of an error are mirrored
+    /// there.
     pub serpentine: bool,
 }
 
@@ -33,8 +33,8 @@ impl Default for Diffusion {
 }
 
 impl ColorTable<'_> {
-    /// Sets the index of each pixel by error diffusion as `how` says, and else as
-    /// [`diffuse_indexed`](ColorTable::diffuse_indexed). What a pixel gets of the errors before it is multiplied by the
+    /// Sets the index of each pixel by error diffusion with the settings in `how`, and otherwise like
+    /// [`diffuse_indexed`](ColorTable::diffuse_indexed). The sum of the errors that a pixel gets is multiplied by the
     /// strength, and rounded once.
     ///
     /// ```
@@ -45,15 +45,15 @@ impl ColorTable<'_> {
     /// let (table, mut indices) = (ColorTable::new(&entries)?, [9; 4]);
     /// let mut work = vec![gray(0); diffuse_indexed_work(2).unwrap()];
     /// let how = Diffusion { serpentine: true, ..Diffusion::default() };
-    /// table.diffuse_indexed_by(&[gray(100); 4], 2, how, &mut work, &mut indices)?;
+    /// table.diffuse_indexed_by(&[gray(120); 4], 2, how, &mut work, &mut indices)?;
     /// assert_eq!(indices, [0, 1, 1, 0]);
     /// # Ok::<(), pix::Error>(())
     /// ```
     ///
     /// # Errors
     ///
-    /// `Strength` where that is above 16. `Length` as [`diffuse_indexed`](ColorTable::diffuse_indexed), and where serpentine rows
-    /// are not whole. The indices are unchanged.
+    /// `Strength` if the strength is above 16. `Length` as in [`diffuse_indexed`](ColorTable::diffuse_indexed), and if serpentine
+    /// rows are not whole. The indices are unchanged.
     pub fn diffuse_indexed_by(
         &self,
         pixels: &[Srgb8],
@@ -63,7 +63,7 @@ impl ColorTable<'_> {
         indices: &mut [u8],
     ) -> Result<(), Error> {
         check_library()?;
-        // SAFETY: pointers and lengths are those of four slices, and the exclusive ones share no byte with another.
+        // SAFETY: pointers and lengths come from four slices, and the exclusive ones share no byte with another.
         done(unsafe {
             pix_sys::pix_raw_diffuse_indexed_by(
                 self.entries().as_ptr(),
@@ -81,7 +81,7 @@ impl ColorTable<'_> {
         })
     }
 
-    /// Sets the index of each pixel with an alpha by error diffusion as `how` says, and else as
+    /// Sets the index of each pixel with an alpha by error diffusion with the settings in `how`, and otherwise like
     /// [`diffuse_indexed_alpha`](ColorTable::diffuse_indexed_alpha).
     ///
     /// # Errors
@@ -99,7 +99,7 @@ impl ColorTable<'_> {
         indices: &mut [u8],
     ) -> Result<(), Error> {
         check_library()?;
-        // SAFETY: pointers and lengths are those of four slices, and the exclusive ones share no byte with another.
+        // SAFETY: pointers and lengths come from four slices, and the exclusive ones share no byte with another.
         done(unsafe {
             pix_sys::pix_raw_diffuse_indexed_by_alpha(
                 self.entries().as_ptr(),

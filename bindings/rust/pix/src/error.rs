@@ -1,12 +1,12 @@
-//! Why nothing was done.
+//! The errors of calls.
 
 use core::fmt;
 use pix_sys::{LibraryFault, status};
 
-/// Why a call was refused. It has changed nothing then.
+/// Why a call failed. It has changed nothing then.
 ///
-/// `index` is that of the refused command in its list; those before it are as they should be. Every call may also say
-/// `Processor` or `Library`, and then each one does.
+/// `index` is the place of the bad command in its list; the commands before it are fine. Any call can also fail with
+/// `Processor` or `Library`, and then all calls do.
 #[non_exhaustive]
 #[derive(Clone, Copy, Debug, PartialEq, Eq)]
 pub enum Error {
@@ -22,32 +22,32 @@ pub enum Error {
         /// The place of the command in its list.
         index: usize,
     },
-    /// The picture that is to be converted has a side above 2147483647, a stride below its width, or too few bytes.
+    /// The picture to convert has a side above 2147483647, a stride below its width, or too few bytes.
     Picture,
-    /// The picture that is to be converted has another size than the one that is to be written.
+    /// The picture to convert and the picture to write have different sizes.
     OtherSize,
-    /// [`convert`](crate::convert) takes no such format: a [`BitmapMut`](crate::BitmapMut) takes all.
+    /// [`convert`](crate::convert) doesn't take this format. A [`BitmapMut`](crate::BitmapMut) takes all.
     Format,
-    /// In place, a pixel would be larger.
+    /// A conversion in place to a format with larger pixels.
     Larger,
-    /// Lengths don't go together: bytes that are not those of so many whole pixels, more or fewer indices than pixels, work
-    /// memory of another length, or serpentine rows that are not whole.
+    /// Lengths don't match: bytes that aren't whole pixels, more or fewer indices than pixels, work memory of another
+    /// length, or serpentine rows that are not whole.
     Length,
     /// A table of colors has no entry, or more than 256.
     Table,
-    /// An index is past the end of a table or of the counts, or takes more bits than it is to have.
+    /// An index is past the end of a table or of the counts, or takes more bits than the depth has.
     Index,
     /// A table has no room for a color.
     Full,
-    /// Errors are diffused with a strength of 0 to 16.
+    /// The strength of error diffusion is above 16.
     Strength,
-    /// The processor is none of x86-64 with SSE4.1, and none of aarch64.
+    /// The processor is neither x86-64 with SSE4.1 nor aarch64.
     Processor,
     /// The archive has another version or layout than the crate `pix-sys`.
     Library,
     /// A status that this crate doesn't know.
     Unknown {
-        /// The number that the library answered.
+        /// The number that the library returned.
         status: u32,
         /// The place of a command in its list, or 0.
         index: usize,
@@ -104,7 +104,7 @@ impl fmt::Display for Error {
                 f.write_str("`convert` takes formats up to SGray8; a BitmapMut takes all")
             }
             Error::Larger => f.write_str("in place, a pixel would be larger"),
-            Error::Length => f.write_str("the lengths do not go together"),
+            Error::Length => f.write_str("the lengths don't match"),
             Error::Table => f.write_str("a table has no entry, or more than 256"),
             Error::Index => {
                 f.write_str("an index is past the end, or takes more bits than it is to have")

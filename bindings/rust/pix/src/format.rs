@@ -1,4 +1,4 @@
-//! Conversions of pictures as files hold them.
+//! Conversions between the formats of picture files.
 
 use crate::error::Error;
 use pix_sys::status;
@@ -7,7 +7,7 @@ use pix_sys::status;
 ///
 /// `S`: the colors are encoded by the sRGB curve, as in most files; without it they are linear. `p` at the end: the
 /// colors are multiplied by the alpha. `x`: a byte that is not read, and is written as 255. A channel of 16 bits is a
-/// word in the machine's order. [`convert`] takes those up to `SGray8`, and a [`BitmapMut`](crate::BitmapMut) all of them.
+/// word in the machine's order. [`convert`] takes the formats up to `SGray8`, and a [`BitmapMut`](crate::BitmapMut) all.
 #[repr(u32)]
 #[derive(Clone, Copy, Debug, PartialEq, Eq, Hash)]
 pub enum Format {
@@ -189,10 +189,10 @@ impl Format {
     }
 }
 
-/// Converts all pixels of `src` to the format of `dst`, which has room for just as many.
+/// Converts all pixels of `src` to the format of `dst`, which has room for exactly as many.
 ///
-/// An alpha that `from` lacks is 255. One that `to` lacks is dropped, and colors that were multiplied by it stay so
-/// from `Rgba8p` and `SRgba8p` to `Rgb8` and `SRgb8`; to all others they are divided by it.
+/// If `from` has no alpha, it is 255. If `to` has none, the alpha is dropped. Colors that were multiplied by it stay so
+/// from `Rgba8p` and `SRgba8p` to `Rgb8` and `SRgb8`; to all other formats they are divided by it.
 ///
 /// ```
 /// use pix::{Format, convert};
@@ -205,15 +205,15 @@ impl Format {
 ///
 /// # Errors
 ///
-/// `Length` where the bytes are not those of whole pixels, as many of both, and `Format` where a format stands after `SGray8`:
-/// a [`BitmapMut`](crate::BitmapMut) takes those too. The bytes are unchanged.
+/// `Length` if the bytes aren't the same number of whole pixels in both, and `Format` if a format comes after `SGray8`: a
+/// [`BitmapMut`](crate::BitmapMut) takes those too. The bytes are unchanged.
 pub fn convert(from: Format, src: &[u8], to: Format, dst: &mut [u8]) -> Result<(), Error> {
     pix_sys::check_library()?;
     let count = src.len() / from.size();
     if src.len() != count * from.size() || Some(dst.len()) != count.checked_mul(to.size()) {
         return Err(Error::Length);
     }
-    // SAFETY: pointers and lengths are those of two slices, and the exclusive one shares no byte with the other.
+    // SAFETY: pointers and lengths come from two slices, and the exclusive one shares no byte with the other.
     let answer = unsafe {
         pix_sys::pix_raw_convert(
             from as u32,

@@ -10,8 +10,8 @@ use pix_sys::status;
 
 /// An image that is read: rows of pixels from top to bottom, or of a mask's values.
 ///
-/// A slice that is shorter than its sizes say, a side above 2147483647 and a stride below the width are refused when a
-/// command with the image runs.
+/// If the slice is shorter than the sizes say, a side is above 2147483647, or the stride is below the width, the run of a
+/// command with the image fails.
 #[derive(Clone, Copy, Debug)]
 pub struct Image<'a, T> {
     pub(crate) pixels: &'a [T],
@@ -21,13 +21,13 @@ pub struct Image<'a, T> {
 }
 
 impl<'a, T> Image<'a, T> {
-    /// An image whose rows follow each other without padding.
+    /// An image with rows that follow each other without padding.
     pub const fn new(pixels: &'a [T], width: u32, height: u32) -> Image<'a, T> {
         Image::with_stride(pixels, width, height, width)
     }
 
-    /// An image whose rows begin `stride` pixels apart. It has (height - 1) * stride + width pixels. So a part of a picture is an
-    /// image too:
+    /// An image with rows that begin `stride` pixels apart. It has (height - 1) * stride + width pixels. So a part of a picture
+    /// is an image too:
     ///
     /// ```
     /// use pix::{Command, Image, ImageMut, Region, Rgba8};
@@ -78,12 +78,12 @@ pub struct ImageMut<'a, P> {
 }
 
 impl<'a, P: Pixel> ImageMut<'a, P> {
-    /// An image whose rows follow each other without padding.
+    /// An image with rows that follow each other without padding.
     pub const fn new(pixels: &'a mut [P], width: u32, height: u32) -> ImageMut<'a, P> {
         ImageMut::with_stride(pixels, width, height, width)
     }
 
-    /// An image whose rows begin `stride` pixels apart. What lies between them is not changed.
+    /// An image with rows that begin `stride` pixels apart. The padding between them is not changed.
     pub const fn with_stride(
         pixels: &'a mut [P],
         width: u32,
@@ -127,7 +127,7 @@ impl<'a, P: Pixel> ImageMut<'a, P> {
         )
     }
 
-    /// Runs the commands in order, or none of them where one is refused.
+    /// Runs the commands in order, or none of them if one is bad.
     ///
     /// ```
     /// use pix::{Command, Error, ImageMut, Op, Region, Rgba8};
@@ -147,17 +147,17 @@ impl<'a, P: Pixel> ImageMut<'a, P> {
     ///
     /// # Errors
     ///
-    /// `Size` where the image has a side above 2147483647, a stride below its width, or too few pixels. `Region` and `Source`,
-    /// with the index of the command, where one is refused. No pixel has changed then.
+    /// `Size` if the image has a side above 2147483647, a stride below its width, or too few pixels. `Region` or `Source`, with
+    /// the index of the command, if one is bad. No pixel has changed then.
     pub fn run(&mut self, commands: &[Command<'_, P>]) -> Result<(), Error> {
         self.run_window(0, 0, commands)
     }
 
-    /// Runs the commands on this image as a window of a picture, whose first pixel is the point (`left`, `top`) of the
-    /// picture. The regions of the commands are those of the picture.
+    /// Runs the commands on this image as a window of a picture: its first pixel is the point (`left`, `top`) of the
+    /// picture. The regions of the commands are in the picture's coordinates.
     ///
-    /// Each pixel becomes what [`run`](ImageMut::run) would make of it on the whole picture. So pictures painted tile by
-    /// tile are the picture painted whole, in any order, and [`bands`](ImageMut::bands) of one image by several threads.
+    /// Each pixel gets the value that [`run`](ImageMut::run) on the whole picture would give it. So you can paint a picture
+    /// tile by tile, in any order, or [`bands`](ImageMut::bands) of one image in several threads.
     ///
     /// ```
     /// use pix::{Command, ImageMut, Region, Rgba8};
@@ -172,7 +172,7 @@ impl<'a, P: Pixel> ImageMut<'a, P> {
     ///
     /// # Errors
     ///
-    /// As [`run`](ImageMut::run), and `Size` too where `left` plus the width or `top` plus the height is above 2147483647.
+    /// As [`run`](ImageMut::run), and `Size` too if `left` plus the width or `top` plus the height is above 2147483647.
     pub fn run_window(
         &mut self,
         left: u32,
@@ -181,9 +181,9 @@ impl<'a, P: Pixel> ImageMut<'a, P> {
     ) -> Result<(), Error> {
         pix_sys::check_library()?;
         let mut done = 0;
-        // SAFETY: pointers and counts are those of slices that are borrowed until the call is over, those of the
-        // commands too. The exclusive borrow of the pixels shares no byte with the others. A `Command` is laid out as
-        // the `pix_sys::Command` in it.
+        // SAFETY: pointers and counts, also in the commands, come from slices that are borrowed until the call is over.
+        // The exclusive borrow of the pixels shares no byte with the others. A `Command` has the layout of the `Raw` in
+        // it, which the call reads.
         let answer = unsafe {
             <P as Calls<P::Matte>>::RUN(
                 self.pixels.as_mut_ptr(),
@@ -205,10 +205,10 @@ impl<'a, P: Pixel> ImageMut<'a, P> {
         }
     }
 
-    /// Returns the bands of so many rows, at least one, from top to bottom: each with the row of the image where it begins.
-    /// The last one may have fewer. An image without pixels has none.
+    /// Returns bands of this many rows, at least one, from top to bottom: each with the row of the image where it begins.
+    /// The last one may have fewer rows. An image without pixels has no bands.
     ///
-    /// They borrow parts of the image that share nothing, so that threads may paint them at once.
+    /// They borrow parts of the image that share nothing, so threads may paint them at once.
     ///
     /// ```
     /// use pix::{Command, ImageMut, Op, Region, Rgba8};
@@ -229,12 +229,12 @@ impl<'a, P: Pixel> ImageMut<'a, P> {
     /// # Ok::<(), pix::Error>(())
     /// ```
     ///
-    /// Where the image has too few pixels, the bands that lack some are refused when they run.
+    /// If the image has too few pixels, the run of the incomplete bands fails.
     pub fn bands(&mut self, rows: u32) -> Bands<'_, P> {
         Bands {
             pixels: self.pixels,
             width: self.width,
-            // Rows without pixels may be many.
+            // There may be many rows without pixels.
             height: if self.width == 0 { 0 } else { self.height },
             stride: self.stride,
             rows: rows.max(1),

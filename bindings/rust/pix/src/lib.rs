@@ -1,8 +1,8 @@
 //! Compositing of raster images in the caller's own memory.
 //!
-//! A program makes [`Command`]s and runs a list of them on an [`ImageMut`], which borrows its pixels. The pixels are
-//! changed in place; nothing is allocated and nothing is kept. Below stands a static library that is proved to do what
-//! it says, and this crate is a thin and safe layer over it: borrows see to what the library can't test.
+//! You make [`Command`]s and run a list of them on an [`ImageMut`], which borrows its pixels. The pixels are changed in
+//! place; nothing is allocated and nothing is kept. The static library below is proved to meet its contracts. This crate
+//! is a safe layer over it, tested and not proved: the borrow checker ensures the duties that the library can't test.
 //!
 //! ```
 //! use pix::{Command, ImageMut, Op, Region, Rgba8};
@@ -18,30 +18,30 @@
 //! ```
 //!
 //! Pixels are premultiplied and linear: the color channels are multiplied by the alpha and proportional to light.
-//! A [`BitmapMut`] is made of what image files hold, and back: in 16 bits a channel pixels come back as they were where
-//! their alpha is 13 or more. [`convert`] does it in 8 bits. Regions lie anywhere; what is outside an image is
-//! neither read nor written. A list is tested as a whole before its first command runs, so that an [`Error`] means that
-//! no pixel was changed. The archive runs on processors of x86-64 with SSE4.1 and of aarch64, under Linux: another one,
-//! and an archive of another version or layout, is refused at the first call.
+//! A [`BitmapMut`] converts the bytes of image files and back: with 16 bits a channel, pixels with an alpha of at least
+//! 13 come back unchanged. [`convert`] does it in 8 bits. Regions may be anywhere; points outside an image are neither
+//! read nor written. A list is tested as a whole before its first command runs, so an [`Error`] means that no pixel was
+//! changed. The archive runs under Linux on x86-64 with SSE4.1 and on aarch64. On any other processor, or with an archive
+//! of another version or layout, the first call fails.
 //!
-//! A picture may be painted tile by tile, by [`ImageMut::run_window`], and one image by several threads, in
-//! [`bands`](ImageMut::bands) of rows: the outcome is the picture painted whole.
+//! You can paint a picture tile by tile, with [`ImageMut::run_window`], and one image in several threads, in
+//! [`bands`](ImageMut::bands) of rows. The result is the picture painted whole.
 //!
-//! # What is left to a caller
+//! # Duties of a caller
 //!
-//! Borrows see to all that the library can't test, so a program without `unsafe` has no duty. A program that makes a
-//! slice with `unsafe` has the duties of any slice. Such a slice may be of a mapped file, or of memory that another process
-//! or another language has too. Nothing else writes it while it is borrowed. Nothing else reads it while it is borrowed to
-//! be written. Both hold for each address of that memory.
+//! Borrows ensure everything that the library can't test, so a program without `unsafe` has no duty. A program that makes a
+//! slice with `unsafe` has the duties of any slice. Such a slice may be of a mapped file, or of memory that is shared with
+//! another process or another language. While it is borrowed, nothing else may write it. While it is borrowed mutably,
+//! nothing else may read it either. Both hold for each address of that memory.
 //!
-//! No call takes a lock or waits for another one. So a destructor or a signal handler may make calls too, also one that
-//! interrupts a call, on images that it may borrow.
+//! No call takes a lock or waits for another one. So a destructor or a signal handler may make calls too, on images that it
+//! may borrow, even if it interrupts a call.
 //!
 //! A thread needs a stack of 272 KiB to match pixels to a table ([`ColorTable::map_indexed`], [`ColorTable::diffuse_indexed`]),
 //! and for [`quantize_refined`]. It needs 128 KiB for [`quantize`] and [`quantize_rgba`], 48 for [`index_pixels`] and to match to
-//! a [`RgbaTable`], and 24 for all else. 8 of each are for a signal handler. Threads of `std` have 2 MiB.
+//! a [`RgbaTable`], and 24 for all other calls. Each number includes 8 for a signal handler. Threads of `std` have 2 MiB.
 //!
-//! docs/PROMISES.md of the repository lists all calls in four languages, and what is proved of each.
+//! docs/PROMISES.md of the repository lists all calls in four languages, and their proved promises.
 #![no_std]
 #![warn(missing_docs)]
 

@@ -3,7 +3,9 @@
 use crate::bitmap::{Bitmap, BitmapMut};
 use crate::error::Error;
 use crate::format::Format;
+use core::ptr::NonNull;
 use core::slice;
+use pix_sys::RunWindow;
 
 pub use pix_sys::{Graya8, Region, Rgba8, Rgba16};
 
@@ -12,10 +14,10 @@ pub trait Pixel: Copy + Default + private::Calls<Self::Matte> {
     /// A value of a mask, from 0 (none of the color is composited) to the maximum (all of it).
     type Matte: Copy + Default;
 
-    /// The format of such pixels in a bitmap.
+    /// The format of these pixels in a bitmap.
     const FORMAT: Format;
 
-    /// The first pixel of these bytes, which are of a format, as one to paint with.
+    /// The first pixel of these bytes in a format, as a color to paint with.
     ///
     /// ```
     /// use pix::{Format, Pixel, Rgba16};
@@ -27,7 +29,7 @@ pub trait Pixel: Copy + Default + private::Calls<Self::Matte> {
     ///
     /// # Errors
     ///
-    /// `Picture` where there are fewer bytes than a pixel of the format has.
+    /// `Picture` if there are fewer bytes than a pixel of the format has.
     fn color_of(format: Format, pixel: &[u8]) -> Result<Self, Error> {
         let mut color = [Self::default()];
         let source = Bitmap::new(pixel, 1, 1, format);
@@ -37,11 +39,21 @@ pub trait Pixel: Copy + Default + private::Calls<Self::Matte> {
 }
 
 pub(crate) mod private {
-    use pix_sys::RunWindow;
+    use core::fmt::Debug;
+    use pix_sys::{Command, RunWindow};
 
     /// The library's call for a kind of pixels.
     pub trait Calls<M>: Sized {
-        const RUN: RunWindow<Self, M>;
+        /// A command as the call reads it.
+        type Raw: Copy + Debug;
+
+        const RUN: RunWindow<Self, Self::Raw>;
+
+        /// A command with only the fields that all kinds of pixels have.
+        fn raw(command: Command<Self, M>) -> Self::Raw;
+
+        /// The fields of a command that all kinds of pixels have.
+        fn command(raw: &mut Self::Raw) -> &mut Command<Self, M>;
     }
 }
 
@@ -52,7 +64,17 @@ impl Pixel for Rgba8 {
 }
 
 impl private::Calls<u8> for Rgba8 {
-    const RUN: pix_sys::RunWindow<Rgba8, u8> = pix_sys::pix_raw_run_window;
+    type Raw = pix_sys::Command<Rgba8, u8>;
+
+    const RUN: RunWindow<Rgba8, Self::Raw> = pix_sys::pix_raw_run_window;
+
+    fn raw(command: pix_sys::Command<Rgba8, u8>) -> Self::Raw {
+        command
+    }
+
+    fn command(raw: &mut Self::Raw) -> &mut pix_sys::Command<Rgba8, u8> {
+        raw
+    }
 }
 
 impl Pixel for Rgba16 {
@@ -62,7 +84,21 @@ impl Pixel for Rgba16 {
 }
 
 impl private::Calls<u16> for Rgba16 {
-    const RUN: pix_sys::RunWindow<Rgba16, u16> = pix_sys::pix_raw_run_window_rgba16;
+    type Raw = pix_sys::CommandRgba16;
+
+    const RUN: RunWindow<Rgba16, Self::Raw> = pix_sys::pix_raw_run_window_rgba16;
+
+    fn raw(command: pix_sys::Command<Rgba16, u16>) -> Self::Raw {
+        pix_sys::CommandRgba16 {
+            command,
+            mattes8: NonNull::dangling().as_ptr(),
+            matte8_count: 0,
+        }
+    }
+
+    fn command(raw: &mut Self::Raw) -> &mut pix_sys::Command<Rgba16, u16> {
+        &mut raw.command
+    }
 }
 
 impl Pixel for Graya8 {
@@ -72,10 +108,20 @@ impl Pixel for Graya8 {
 }
 
 impl private::Calls<u8> for Graya8 {
-    const RUN: pix_sys::RunWindow<Graya8, u8> = pix_sys::pix_raw_run_window_graya8;
+    type Raw = pix_sys::Command<Graya8, u8>;
+
+    const RUN: RunWindow<Graya8, Self::Raw> = pix_sys::pix_raw_run_window_graya8;
+
+    fn raw(command: pix_sys::Command<Graya8, u8>) -> Self::Raw {
+        command
+    }
+
+    fn command(raw: &mut Self::Raw) -> &mut pix_sys::Command<Graya8, u8> {
+        raw
+    }
 }
 
-/// The bytes of pixels, in the order of their channels; those of a channel of 16 bits in the machine's order.
+/// The bytes of pixels, in the order of their channels. A channel of 16 bits is in the machine's order.
 pub fn bytes<P: Pixel>(pixels: &[P]) -> &[u8] {
     // SAFETY: the three kinds of pixels are numbers without padding, and the slice is borrowed as long as the pixels.
     unsafe { slice::from_raw_parts(pixels.as_ptr().cast(), size_of_val(pixels)) }

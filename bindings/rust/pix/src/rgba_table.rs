@@ -5,12 +5,12 @@ use crate::error::Error;
 use crate::table::{Srgba8, done};
 use pix_sys::check_library;
 
-/// A table of 1 to 256 colors with an alpha, which it borrows, as a PNG with the chunks PLTE and tRNS has it.
+/// A table of 1 to 256 colors with an alpha, which it borrows, as in a PNG with the chunks PLTE and tRNS.
 ///
-/// Two pixels are compared as they are seen, over black and over white, in 8 bits. Over black a color is its product with the
-/// alpha, rounded to the nearest. Over white it is that and 255 less the alpha. The distance of two pixels is the sum of the
-/// squares of their six differences. So the color of a clear pixel does not count, and where all are opaque the indices are those
-/// of a [`ColorTable`](crate::ColorTable).
+/// Two pixels are compared by their look over black and over white, in 8 bits. Over black a color is its product with the
+/// alpha, rounded to the nearest. Over white it is that plus 255 less the alpha. The distance of two pixels is the sum of the
+/// squares of their six differences. So the color of a transparent pixel does not count. If all pixels and entries are opaque,
+/// the indices are the same as with a [`ColorTable`](crate::ColorTable).
 ///
 /// ```
 /// use pix::{RgbaTable, Srgba8};
@@ -32,7 +32,7 @@ impl<'a> RgbaTable<'a> {
     ///
     /// # Errors
     ///
-    /// `Table` where there is none, or more than 256.
+    /// `Table` if there is none, or more than 256.
     pub fn new(entries: &'a [Srgba8]) -> Result<RgbaTable<'a>, Error> {
         if entries.is_empty() || entries.len() > 256 {
             return Err(Error::Table);
@@ -45,14 +45,14 @@ impl<'a> RgbaTable<'a> {
         self.entries
     }
 
-    /// Sets each index to that of the entry that is seen nearest to the pixel of the same place, the first of equals.
+    /// Sets each index to the entry that looks nearest to the pixel in the same place, the first if several are equal.
     ///
     /// # Errors
     ///
-    /// `Length` where there are not as many indices as pixels. They are unchanged.
+    /// `Length` if there are not as many indices as pixels. They are unchanged.
     pub fn map_indexed(&self, pixels: &[Srgba8], indices: &mut [u8]) -> Result<(), Error> {
         check_library()?;
-        // SAFETY: pointers and lengths are those of three slices, and the exclusive one shares no byte with the others.
+        // SAFETY: pointers and lengths come from three slices, and the exclusive one shares no byte with the others.
         done(unsafe {
             pix_sys::pix_raw_map_indexed_rgba(
                 self.entries.as_ptr(),
@@ -65,10 +65,10 @@ impl<'a> RgbaTable<'a> {
         })
     }
 
-    /// Sets the index of each pixel of rows of `width` by error diffusion, as
-    /// [`ColorTable::diffuse_indexed_by`](crate::ColorTable::diffuse_indexed_by) does. Errors are those of the colors over black
-    /// and of the alpha. What is wanted of a color is at most what is wanted of the alpha. A clear pixel (alpha 0) gets the entry
-    /// that is seen nearest to it, takes nothing of other errors, and passes on none. `work` has
+    /// Sets the index of each pixel of rows of `width` by error diffusion, like
+    /// [`ColorTable::diffuse_indexed_by`](crate::ColorTable::diffuse_indexed_by). It diffuses the errors of the colors over
+    /// black and of the alpha. A target color is clamped to the target alpha. A transparent pixel (alpha 0) gets the entry that
+    /// looks nearest to it, takes no errors, and passes on none. `work` has exactly
     /// [`diffuse_indexed_work`](crate::diffuse_indexed_work) pixels.
     ///
     /// # Errors
@@ -83,7 +83,7 @@ impl<'a> RgbaTable<'a> {
         indices: &mut [u8],
     ) -> Result<(), Error> {
         check_library()?;
-        // SAFETY: pointers and lengths are those of four slices, and the exclusive ones share no byte with another.
+        // SAFETY: pointers and lengths come from four slices, and the exclusive ones share no byte with another.
         done(unsafe {
             pix_sys::pix_raw_diffuse_indexed_rgba(
                 self.entries.as_ptr(),
@@ -101,15 +101,15 @@ impl<'a> RgbaTable<'a> {
         })
     }
 
-    /// Sets each pixel to the entry of the index of the same place.
+    /// Sets each pixel to the entry of the index in the same place.
     ///
     /// # Errors
     ///
-    /// `Length` where there are not as many pixels as indices, and `Index` where an index is past the end. The pixels are
+    /// `Length` if there are not as many pixels as indices, and `Index` if an index is past the end. The pixels are
     /// unchanged.
     pub fn look_up(&self, indices: &[u8], pixels: &mut [Srgba8]) -> Result<(), Error> {
         check_library()?;
-        // SAFETY: pointers and lengths are those of three slices, and the exclusive one shares no byte with the others.
+        // SAFETY: pointers and lengths come from three slices, and the exclusive one shares no byte with the others.
         done(unsafe {
             pix_sys::pix_raw_look_up_rgba(
                 self.entries.as_ptr(),
@@ -123,11 +123,11 @@ impl<'a> RgbaTable<'a> {
     }
 }
 
-/// Makes a table of colors with an alpha, and refines it in so many rounds, as [`quantize_refined`](crate::quantize_refined). Of
-/// pixels that are seen alike the first one counts. Where there is room for all of these, they are the table, just as they are.
-/// Else boxes are cut by the alpha too, after red, green and blue over black, and then joined. In a round an entry also stays
-/// where the mean of its colors would make their squared error greater. What is found is divided by its alpha in the end, and
-/// is still seen as just that. `work` is as long as `pixels`.
+/// Makes a table of colors with an alpha, and refines it by `rounds` rounds, like
+/// [`quantize_refined`](crate::quantize_refined). If several pixels look alike, the first one counts. If there is room for all
+/// of these, they are the table, unchanged. Otherwise, boxes are split by red, green and blue over black and by the alpha, and
+/// then merged. In a round an entry also stays if the mean of its colors would make their squared error greater. The result is
+/// divided by its alpha at the end; this doesn't change its look. `work` is exactly as long as `pixels`.
 ///
 /// ```
 /// use pix::{Srgba8, quantize_rgba};
@@ -150,7 +150,7 @@ pub fn quantize_rgba<'a>(
 ) -> Result<&'a [Srgba8], Error> {
     check_library()?;
     let mut made = 0;
-    // SAFETY: pointers and lengths are those of three slices and a value, and the exclusive ones share no byte with another.
+    // SAFETY: pointers and lengths come from three slices and a value, and the exclusive ones share no byte with another.
     done(unsafe {
         pix_sys::pix_raw_quantize_rgba(
             pixels.as_ptr(),

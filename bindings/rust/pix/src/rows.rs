@@ -19,7 +19,7 @@ pub enum IndexDepth {
 }
 
 impl IndexDepth {
-    /// How many bytes a row of so many indices takes.
+    /// How many bytes a row of this many indices takes.
     ///
     /// ```
     /// use pix::IndexDepth;
@@ -31,7 +31,7 @@ impl IndexDepth {
     }
 }
 
-/// Sets the count of each number to how often it stands among the indices.
+/// Counts how often each number is among the indices.
 ///
 /// ```
 /// let mut counts = [0; 4];
@@ -42,10 +42,10 @@ impl IndexDepth {
 ///
 /// # Errors
 ///
-/// `Index` where an index has no count. The counts are unchanged.
+/// `Index` if an index has no count. The counts are unchanged.
 pub fn count_indices(indices: &[u8], counts: &mut [usize]) -> Result<(), Error> {
     check_library()?;
-    // SAFETY: pointers and lengths are those of two slices, and the exclusive one shares no byte with the other.
+    // SAFETY: pointers and lengths come from two slices, and the exclusive one shares no byte with the other.
     done(unsafe {
         pix_sys::pix_raw_count_indices(
             indices.as_ptr(),
@@ -56,8 +56,8 @@ pub fn count_indices(indices: &[u8], counts: &mut [usize]) -> Result<(), Error> 
     })
 }
 
-/// Packs a row of indices into the bytes of a row, in order. Those of a byte begin at its most significant bits, and bits
-/// that are left over in the last byte are 0.
+/// Packs a row of indices into the bytes of a row, in order, in each byte from its most significant bits on. Unused bits
+/// of the last byte are 0.
 ///
 /// ```
 /// use pix::{IndexDepth, pack_row, unpack_row};
@@ -72,11 +72,11 @@ pub fn count_indices(indices: &[u8], counts: &mut [usize]) -> Result<(), Error> 
 ///
 /// # Errors
 ///
-/// `Length` where there are not just as many bytes as the row takes, and `Index` where an index takes more bits. The bytes
+/// `Length` if there are not exactly as many bytes as the row takes, and `Index` if an index takes more bits. The bytes
 /// are unchanged.
 pub fn pack_row(depth: IndexDepth, indices: &[u8], bytes: &mut [u8]) -> Result<(), Error> {
     check_library()?;
-    // SAFETY: pointers and lengths are those of two slices, and the exclusive one shares no byte with the other.
+    // SAFETY: pointers and lengths come from two slices, and the exclusive one shares no byte with the other.
     done(unsafe {
         pix_sys::pix_raw_pack_row(
             depth as u32,
@@ -88,14 +88,14 @@ pub fn pack_row(depth: IndexDepth, indices: &[u8], bytes: &mut [u8]) -> Result<(
     })
 }
 
-/// Unpacks a row of indices from its bytes; bits that are left over in the last byte are not looked at.
+/// Unpacks a row of indices from its bytes. Unused bits of the last byte are ignored.
 ///
 /// # Errors
 ///
-/// `Length` where there are not just as many bytes as the row takes. The indices are unchanged.
+/// `Length` if there are not exactly as many bytes as the row takes. The indices are unchanged.
 pub fn unpack_row(depth: IndexDepth, bytes: &[u8], indices: &mut [u8]) -> Result<(), Error> {
     check_library()?;
-    // SAFETY: pointers and lengths are those of two slices, and the exclusive one shares no byte with the other.
+    // SAFETY: pointers and lengths come from two slices, and the exclusive one shares no byte with the other.
     done(unsafe {
         pix_sys::pix_raw_unpack_row(
             depth as u32,

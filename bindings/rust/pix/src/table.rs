@@ -21,7 +21,7 @@ pub struct ColorTable<'a> {
     entries: &'a [Srgb8],
 }
 
-/// What a status says.
+/// The error of a status, if it is one.
 pub(crate) fn done(answer: u32) -> Result<(), Error> {
     if answer == status::OK {
         Ok(())
@@ -35,7 +35,7 @@ impl<'a> ColorTable<'a> {
     ///
     /// # Errors
     ///
-    /// `Table` where there is none, or more than 256.
+    /// `Table` if there is none, or more than 256.
     pub fn new(entries: &'a [Srgb8]) -> Result<ColorTable<'a>, Error> {
         if entries.is_empty() || entries.len() > 256 {
             return Err(Error::Table);
@@ -48,8 +48,8 @@ impl<'a> ColorTable<'a> {
         self.entries
     }
 
-    /// The index of the entry that is nearest to a color, the first of equals: the one with the least sum of the squares
-    /// of the differences in red, green and blue.
+    /// The index of the entry that is nearest to a color, the first if several are equal. The nearest has the least sum of
+    /// the squares of the differences in red, green and blue.
     ///
     /// ```
     /// use pix::{ColorTable, Srgb8};
@@ -65,7 +65,7 @@ impl<'a> ColorTable<'a> {
     pub fn nearest(&self, color: Srgb8) -> Result<u8, Error> {
         check_library()?;
         let mut index = 0;
-        // SAFETY: the pointers are those of a slice and of two values of this function.
+        // SAFETY: the pointers come from a slice and of two values of this function.
         let answer = unsafe {
             pix_sys::pix_raw_nearest(
                 self.entries.as_ptr(),
@@ -77,14 +77,14 @@ impl<'a> ColorTable<'a> {
         done(answer).map(|()| index)
     }
 
-    /// Sets each index to that of the entry that is nearest to the pixel of the same place.
+    /// Sets each index to the entry that is nearest to the pixel in the same place.
     ///
     /// # Errors
     ///
-    /// `Length` where there are not as many indices as pixels. They are unchanged.
+    /// `Length` if there are not as many indices as pixels. They are unchanged.
     pub fn map_indexed(&self, pixels: &[Srgb8], indices: &mut [u8]) -> Result<(), Error> {
         check_library()?;
-        // SAFETY: pointers and lengths are those of three slices, and the exclusive one shares no byte with the others.
+        // SAFETY: pointers and lengths come from three slices, and the exclusive one shares no byte with the others.
         done(unsafe {
             pix_sys::pix_raw_map_indexed(
                 self.entries.as_ptr(),
@@ -97,9 +97,9 @@ impl<'a> ColorTable<'a> {
         })
     }
 
-    /// Sets each index to that of the entry that is nearest to the pixel of the same place, of pixels with an alpha. One whose
-    /// alpha is below `alpha` has the index `transparent_index`, which may be that of a transparent entry. The alpha of the
-    /// others is not looked at.
+    /// Sets each index to the entry that is nearest to the pixel in the same place, for pixels with an alpha. A pixel with an
+    /// alpha below `alpha` gets the index `transparent_index`, which may point to a transparent entry. For all others the alpha
+    /// is ignored.
     ///
     /// ```
     /// use pix::{ColorTable, Srgb8, Srgba8};
@@ -114,7 +114,7 @@ impl<'a> ColorTable<'a> {
     ///
     /// # Errors
     ///
-    /// `Length` where there are not as many indices as pixels. They are unchanged.
+    /// `Length` if there are not as many indices as pixels. They are unchanged.
     pub fn map_indexed_alpha(
         &self,
         pixels: &[Srgba8],
@@ -123,7 +123,7 @@ impl<'a> ColorTable<'a> {
         indices: &mut [u8],
     ) -> Result<(), Error> {
         check_library()?;
-        // SAFETY: pointers and lengths are those of three slices, and the exclusive one shares no byte with the others.
+        // SAFETY: pointers and lengths come from three slices, and the exclusive one shares no byte with the others.
         done(unsafe {
             pix_sys::pix_raw_map_indexed_alpha(
                 self.entries.as_ptr(),
@@ -138,12 +138,11 @@ impl<'a> ColorTable<'a> {
         })
     }
 
-    /// Sets the index of each pixel of rows of `width` by error diffusion: to that of the entry that is nearest to the pixel and
-    /// what it gets of the errors before it. An error is what was wanted less the entry that was found. 7 sixteenths of it go to
-    /// the pixel on the right, 3 to the one below on the left, 5 to the one below, and 1 to the one below on the right. What
-    /// would go past the sides of a row is lost. What is wanted is, in each channel, the pixel's number and the sum of the
-    /// sixteenths that it gets, rounded to the nearest, a half up, and kept from 0 to 255. `work` has [`diffuse_indexed_work`]
-    /// colors.
+    /// Sets the index of each pixel of rows of `width` by error diffusion, to the entry nearest to its target. The target is,
+    /// in each channel, the pixel's number plus its shares of earlier errors. It is rounded to the nearest, a half up, and
+    /// clamped to 0..255. An error is the target less the chosen entry. Of it, 7/16 go to the pixel on the right, 3/16 to the
+    /// one below on the left, 5/16 to the one below, and 1/16 to the one below on the right. Shares past the sides of a row
+    /// are lost. `work` has exactly [`diffuse_indexed_work`] colors.
     ///
     /// ```
     /// use pix::{ColorTable, Srgb8, diffuse_indexed_work};
@@ -158,8 +157,8 @@ impl<'a> ColorTable<'a> {
     ///
     /// # Errors
     ///
-    /// `Length` where a row has no pixel, where `work` has another length, or where there are not as many indices as pixels.
-    /// The indices are unchanged.
+    /// `Length` if a row has no pixel, if `work` has another length, or if there are not as many indices as pixels. The
+    /// indices are unchanged.
     pub fn diffuse_indexed(
         &self,
         pixels: &[Srgb8],
@@ -168,7 +167,7 @@ impl<'a> ColorTable<'a> {
         indices: &mut [u8],
     ) -> Result<(), Error> {
         check_library()?;
-        // SAFETY: pointers and lengths are those of four slices, and the exclusive ones share no byte with another.
+        // SAFETY: pointers and lengths come from four slices, and the exclusive ones share no byte with another.
         done(unsafe {
             pix_sys::pix_raw_diffuse_indexed(
                 self.entries.as_ptr(),
@@ -184,8 +183,8 @@ impl<'a> ColorTable<'a> {
         })
     }
 
-    /// Sets the index of each pixel by error diffusion, as [`diffuse_indexed`](ColorTable::diffuse_indexed) does, of pixels
-    /// with an alpha. One whose alpha is below `alpha` has the index `transparent_index`, and hands on no error.
+    /// Sets the index of each pixel by error diffusion, like [`diffuse_indexed`](ColorTable::diffuse_indexed), for pixels with
+    /// an alpha. A pixel with an alpha below `alpha` gets the index `transparent_index`, and passes on no error.
     ///
     /// # Errors
     ///
@@ -200,7 +199,7 @@ impl<'a> ColorTable<'a> {
         indices: &mut [u8],
     ) -> Result<(), Error> {
         check_library()?;
-        // SAFETY: pointers and lengths are those of four slices, and the exclusive ones share no byte with another.
+        // SAFETY: pointers and lengths come from four slices, and the exclusive ones share no byte with another.
         done(unsafe {
             pix_sys::pix_raw_diffuse_indexed_alpha(
                 self.entries.as_ptr(),
@@ -218,7 +217,7 @@ impl<'a> ColorTable<'a> {
         })
     }
 
-    /// Sets each pixel to the entry of the index of the same place.
+    /// Sets each pixel to the entry of the index in the same place.
     ///
     /// ```
     /// use pix::{ColorTable, Srgb8};
@@ -232,11 +231,11 @@ impl<'a> ColorTable<'a> {
     ///
     /// # Errors
     ///
-    /// `Length` where there are not as many pixels as indices, and `Index` where an index is past the end. The pixels are
+    /// `Length` if there are not as many pixels as indices, and `Index` if an index is past the end. The pixels are
     /// unchanged.
     pub fn look_up(&self, indices: &[u8], pixels: &mut [Srgb8]) -> Result<(), Error> {
         check_library()?;
-        // SAFETY: pointers and lengths are those of three slices, and the exclusive one shares no byte with the others.
+        // SAFETY: pointers and lengths come from three slices, and the exclusive one shares no byte with the others.
         done(unsafe {
             pix_sys::pix_raw_look_up(
                 self.entries.as_ptr(),
@@ -250,17 +249,18 @@ impl<'a> ColorTable<'a> {
     }
 }
 
-/// How many colors of work memory error diffusion takes for rows of so many pixels; or `None` where they are more than a `usize`
-/// counts.
+/// How many colors of work memory error diffusion takes for rows of this many pixels, or `None` if a `usize` can't hold the
+/// number.
 pub const fn diffuse_indexed_work(width: usize) -> Option<usize> {
     width.checked_mul(4)
 }
 
-/// Makes a table of the colors of `pixels` in the first of `entries`, and returns those. With no more distinct colors than
-/// entries they are the table, in order of first place. Else it has the means of boxes of colors, which are cut again and again
-/// where the squared error falls most, and then joined where it rises least. Both are compared by quotients rounded down, so of
-/// nearly equal ones another may be taken. What the other entries hold is not said. `work` has as many colors as there are pixels;
-/// for a large picture pass a sample of its pixels.
+/// Makes a table of the colors of `pixels` in the first of `entries`, and returns those. If there are no more distinct colors
+/// than entries, they are the table, in order of first place. Otherwise, the colors are split into boxes, always by the split
+/// that reduces the squared error most. Then the pairs of boxes that raise it least are merged, and the entries are the means
+/// of the boxes. Errors are compared by quotients rounded down, so of nearly equal ones another may be chosen. The contents of
+/// the other entries are unspecified. `work` has exactly as many colors as there are pixels; for a large picture pass a sample
+/// of its pixels.
 ///
 /// ```
 /// use pix::{Srgb8, quantize};
@@ -274,7 +274,7 @@ pub const fn diffuse_indexed_work(width: usize) -> Option<usize> {
 ///
 /// # Errors
 ///
-/// `Table` where there is no entry or more than 256, and `Length` where `work` has fewer colors. Both are unchanged.
+/// `Table` if there is no entry or more than 256, and `Length` if `work` has fewer colors. Both are unchanged.
 pub fn quantize<'a>(
     pixels: &[Srgb8],
     work: &mut [Srgb8],
@@ -282,7 +282,7 @@ pub fn quantize<'a>(
 ) -> Result<&'a [Srgb8], Error> {
     check_library()?;
     let mut made = 0;
-    // SAFETY: pointers and lengths are those of three slices and a value, and the exclusive ones share no byte with another.
+    // SAFETY: pointers and lengths come from three slices and a value, and the exclusive ones share no byte with another.
     done(unsafe {
         pix_sys::pix_raw_quantize(
             pixels.as_ptr(),
@@ -297,8 +297,8 @@ pub fn quantize<'a>(
     Ok(&entries[..made])
 }
 
-/// Makes a table of the colors of pixels with an alpha, as [`quantize`]. Those whose alpha is below `alpha` do not count. Where
-/// none counts there is no entry, and so no [`ColorTable`]: the index of each pixel is the transparent one.
+/// Makes a table of the colors of pixels with an alpha, like [`quantize`]. Pixels with an alpha below `alpha` do not count. If
+/// none counts, there is no entry, and so no [`ColorTable`]: then use the transparent index for each pixel.
 ///
 /// ```
 /// use pix::{ColorTable, Srgb8, Srgba8, quantize_alpha};
@@ -324,7 +324,7 @@ pub fn quantize_alpha<'a>(
 ) -> Result<&'a [Srgb8], Error> {
     check_library()?;
     let mut made = 0;
-    // SAFETY: pointers and lengths are those of three slices and a value, and the exclusive ones share no byte with another.
+    // SAFETY: pointers and lengths come from three slices and a value, and the exclusive ones share no byte with another.
     done(unsafe {
         pix_sys::pix_raw_quantize_alpha(
             pixels.as_ptr(),
@@ -340,9 +340,9 @@ pub fn quantize_alpha<'a>(
     Ok(&entries[..made])
 }
 
-/// Makes a table as [`quantize`] does. Where there are more distinct colors than entries, so many rounds then refine it. In a
-/// round each color goes to its nearest entry, the first of equals. Each entry goes to the mean of its colors, rounded, and stays
-/// where it has none. No round makes the sum of the squared errors greater.
+/// Makes a table as [`quantize`] does. If there are more distinct colors than entries, `rounds` rounds then refine it. In a
+/// round each color goes to its nearest entry, the first if several are equal. Each entry goes to the mean of its colors,
+/// rounded, and stays if it has none. No round makes the sum of the squared errors greater.
 ///
 /// ```
 /// use pix::{Srgb8, quantize, quantize_refined};
@@ -366,7 +366,7 @@ pub fn quantize_refined<'a>(
 ) -> Result<&'a [Srgb8], Error> {
     check_library()?;
     let mut made = 0;
-    // SAFETY: pointers and lengths are those of three slices and a value, and the exclusive ones share no byte with another.
+    // SAFETY: pointers and lengths come from three slices and a value, and the exclusive ones share no byte with another.
     done(unsafe {
         pix_sys::pix_raw_quantize_refined(
             pixels.as_ptr(),
@@ -382,7 +382,7 @@ pub fn quantize_refined<'a>(
     Ok(&entries[..made])
 }
 
-/// Makes a table of the colors of pixels with an alpha, and refines it, as [`quantize_refined`]. Those whose alpha is below
+/// Makes a table of the colors of pixels with an alpha, and refines it, like [`quantize_refined`]. Pixels with an alpha below
 /// `alpha` do not count, as in [`quantize_alpha`].
 ///
 /// # Errors
@@ -397,7 +397,7 @@ pub fn quantize_refined_alpha<'a>(
 ) -> Result<&'a [Srgb8], Error> {
     check_library()?;
     let mut made = 0;
-    // SAFETY: pointers and lengths are those of three slices and a value, and the exclusive ones share no byte with another.
+    // SAFETY: pointers and lengths come from three slices and a value, and the exclusive ones share no byte with another.
     done(unsafe {
         pix_sys::pix_raw_quantize_refined_alpha(
             pixels.as_ptr(),
@@ -414,12 +414,11 @@ pub fn quantize_refined_alpha<'a>(
     Ok(&entries[..made])
 }
 
-/// Sets the color of each pixel in a table, one after the other, and its index. The index is that of the entry that stands for
-/// the color, or of the next one, which is set to the color. `used` is how many of the entries are used, before and afterwards,
-/// so one table may serve several pictures. What stands for a color is its match, if that differs from it by no more than
-/// `threshold` in each of red, green and blue. With a threshold of 0 that is the color itself. The match is the last of the
-/// candidates: entry 0, and each later entry that differs by no more than the candidate before it in each channel, and by less in
-/// one.
+/// Sets the color of each pixel in a table, one after the other, and its index. A color gets the index of its match, if that
+/// differs from it by no more than `threshold` in each of red, green and blue. With a threshold of 0 that is the color itself.
+/// Otherwise, the next entry is set to the color. `used` is how many of the entries are used, before and afterwards, so one
+/// table may be used for several pictures. The match is the last candidate: entry 0 is the first candidate, and each later
+/// entry replaces it that is no worse in each channel and better in one.
 ///
 /// ```
 /// use pix::{Srgb8, index_pixels};
@@ -443,7 +442,7 @@ pub fn index_pixels(
     indices: &mut [u8],
 ) -> Result<(), Error> {
     check_library()?;
-    // SAFETY: pointers and lengths are those of three slices and two values, and the exclusive ones share no byte with another.
+    // SAFETY: pointers and lengths come from three slices and two values, and the exclusive ones share no byte with another.
     done(unsafe {
         pix_sys::pix_raw_index_pixels(
             entries.as_mut_ptr(),

@@ -170,11 +170,16 @@ fn diffused_errors() {
     let table = ColorTable::new(&entries).unwrap();
     let mut work = vec![gray(0); diffuse_indexed_work(4).unwrap()];
     let mut indices = [9; 4];
-    // By hand: 100 is black and hands on 700 sixteenths, so that 100 and 44 are 144, which is white.
+    // By hand: 100 is black, and no error that is handed on is above 24, so that all four stay black.
     table
         .diffuse_indexed(&[gray(100); 4], 4, &mut work, &mut indices)
         .unwrap();
-    assert_eq!(indices, [0, 1, 0, 0]);
+    assert_eq!(indices, [0; 4]);
+    // 120 is black and hands on 7 sixteenths of 24, so that 120 and 10.5 are 131, which is white, and so on.
+    table
+        .diffuse_indexed(&[gray(120); 4], 4, &mut work, &mut indices)
+        .unwrap();
+    assert_eq!(indices, [0, 1, 0, 1]);
     let clear = [0, 255].map(|alpha| Srgba8::new(100, 100, 100, alpha));
     let mut two = [7; 2];
     let (width, alpha, transparent_index) = (2, 1, 9);
@@ -198,7 +203,7 @@ fn diffused_errors() {
         );
         assert_eq!(refused, Err(Error::Length));
     }
-    assert_eq!(indices, [0, 1, 0, 0]);
+    assert_eq!(indices, [0, 1, 0, 1]);
     assert_eq!(diffuse_indexed_work(usize::MAX / 2), None);
 }
 
@@ -209,9 +214,9 @@ fn errors_diffused_in_a_way() {
     let table = ColorTable::new(&entries).unwrap();
     let mut work = vec![gray(0); 8];
     let mut indices = [9; 4];
-    let shades = [255, 255, 50, 255].map(|alpha| Srgba8::new(100, 100, 100, alpha));
+    let shades = [255, 255, 50, 255].map(|alpha| Srgba8::new(120, 120, 120, alpha));
     // By hand: two rows of two pixels, and the third of the four set apart by its alpha. Its row goes from right to left where
-    // it is serpentine: the last pixel gets 100 - 555 sixteenths before it. With 8 of 16 it gets 710 sixteenths, halved.
+    // it is serpentine: the last pixel gets 24 - 120 sixteenths before it. With 8 of 16 it gets 24 + 120 sixteenths, halved.
     for (strength, serpentine, wanted) in [
         (16, false, [0, 1, 0, 0]),
         (16, true, [0, 1, 1, 0]),
@@ -223,7 +228,7 @@ fn errors_diffused_in_a_way() {
             serpentine,
         };
         table
-            .diffuse_indexed_by(&[gray(100); 4], 2, how, &mut work, &mut indices)
+            .diffuse_indexed_by(&[gray(120); 4], 2, how, &mut work, &mut indices)
             .unwrap();
         assert_eq!(indices, wanted);
         let (alpha, transparent_index) = (51, 7);
@@ -242,7 +247,7 @@ fn errors_diffused_in_a_way() {
     }
     // Of three pixels in a row that goes from right to left, the one on the left gets what the other two hand on.
     let (mut row, mut work) = ([9; 6], vec![gray(0); 12]);
-    let pixels = [0, 0, 0, 100, 100, 100].map(|v| Srgba8::new(v, v, v, 255));
+    let pixels = [0, 0, 0, 120, 120, 120].map(|v| Srgba8::new(v, v, v, 255));
     let how = Diffusion {
         serpentine: true,
         ..Diffusion::default()

@@ -1,8 +1,8 @@
 //! Tables of the colors of a picture, and images of its indices by alpha and by error diffusion.
 ghost use Rattle.std.specs.Prelude.{◌≡◌, ◌<◌, ◌≤◌, ◌⊎◌, ◌*◌, ◌%◌, ◌∷◌, [], length, map, take};
-ghost use Rattle.std.specs.Prelude.{IfOk, IfErr, IsOk, MatchOption};
+ghost use Rattle.std.specs.Prelude.{IfOk, IfErr, IfSome, IsOk, MatchOption};
 ghost use Rattle.pix_table.specs.Nearest.{numbers as color_numbers, AreMatched};
-ghost use Rattle.pix_table.specs.Diffusion.{AreDiffused, AreDiffusedBy};
+ghost use Rattle.pix_table.specs.Diffusion.{AreDiffused, AreDiffusedBy, AreShownAround};
 ghost use Rattle.pix_table.specs.Quantization.{shown};
 ghost use Rattle.pix_table.specs.SrgbColor.{srgba_numbers};
 ghost use Rattle.pix_palette.specs.Palette.{numbers};
@@ -169,7 +169,8 @@ impl ColorTable {
     ///
     /// The error of a pixel is what was wanted there less the entry that was found. The pixel on
     /// the right gets 7 sixteenths of it, the one below on the left 3, the one below 5, and the one
-    /// below on the right 1.
+    /// below on the right 1. It is held to 24 either way in each channel, so the color that is
+    /// looked up for a pixel differs from it by at most 24 in each channel.
     ///
     /// # Errors
     ///
@@ -199,6 +200,10 @@ impl ColorTable {
             (λ image. IsIndexImage ⟦<Gray8 as Pixel>⟧.numbers raster.now.width raster.now.height
             image × AreDiffused (map numbers (entries_of self.now)) alpha transparent_index
             raster.now.width
+            (shades_of S.format ⟦<S::Gamma as Gamma<Ch8>>⟧.mode S.numbers raster.now.pixels)
+            (values ⟦<Gray8 as Pixel>⟧.numbers image.pixels))) }
+        ensures near { IfOk result (λ answer. IfSome answer (λ image. AreShownAround
+            (map numbers (entries_of self.now)) alpha transparent_index
             (shades_of S.format ⟦<S::Gamma as Gamma<Ch8>>⟧.mode S.numbers raster.now.pixels)
             (values ⟦<Gray8 as Pixel>⟧.numbers image.pixels))) }
         ensures memory { IfErr result (λ fault. fault ≡ RasterFault.Memory) }
@@ -252,6 +257,10 @@ impl ColorTable {
             transparent_index raster.now.width
             (shades_of S.format ⟦<S::Gamma as Gamma<Ch8>>⟧.mode S.numbers raster.now.pixels)
             (values ⟦<Gray8 as Pixel>⟧.numbers image.pixels))) }
+        ensures near { IfOk result (λ answer. IfSome answer (λ image. AreShownAround
+            (map numbers (entries_of self.now)) alpha transparent_index
+            (shades_of S.format ⟦<S::Gamma as Gamma<Ch8>>⟧.mode S.numbers raster.now.pixels)
+            (values ⟦<Gray8 as Pixel>⟧.numbers image.pixels))) }
         ensures memory { IfErr result (λ fault. fault ≡ RasterFault.Memory) }
         ensures no_room { length raster.now.pixels ≡ 0 → IsOk result }
     {
@@ -291,6 +300,10 @@ where
         (λ image. IsIndexImage ⟦<Gray8 as Pixel>⟧.numbers raster.now.width raster.now.height image
         × AreDiffusedBy scan strength (map numbers colors.now) alpha transparent_index
         raster.now.width
+        (shades_of S.format ⟦<S::Gamma as Gamma<Ch8>>⟧.mode S.numbers raster.now.pixels)
+        (values ⟦<Gray8 as Pixel>⟧.numbers image.pixels))) }
+    ensures near { IfOk result (λ answer. IfSome answer (λ image. AreShownAround
+        (map numbers colors.now) alpha transparent_index
         (shades_of S.format ⟦<S::Gamma as Gamma<Ch8>>⟧.mode S.numbers raster.now.pixels)
         (values ⟦<Gray8 as Pixel>⟧.numbers image.pixels))) }
     ensures memory { IfErr result (λ fault. fault ≡ RasterFault.Memory) }
@@ -409,6 +422,9 @@ fn diffused(
         ((length colors.now ≡ 0) ⊎ (256 < length colors.now))
         (λ indices. AreDiffusedBy how.scan how.strength (map numbers colors.now) how.alpha
         how.transparent_index how.width (map srgba_numbers pixels.now) indices.items)) }
+    ensures near { IfOk result (λ answer. IfSome answer (λ indices. AreShownAround
+        (map numbers colors.now) how.alpha how.transparent_index (map srgba_numbers pixels.now)
+        indices.items)) }
     ensures memory { IfErr result (λ fault. fault ≡ RasterFault.Memory) }
     ensures no_room { length pixels.now ≡ 0 → IsOk result }
 {

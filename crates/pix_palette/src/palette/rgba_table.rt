@@ -1,9 +1,9 @@
 //! Tables of colors with an alpha, and images of their indices.
 ghost use Rattle.std.specs.Prelude.{◌≡◌, ◌<◌, ◌≤◌, ◌⊎◌, ◌%◌, [], false, length, map, nat_eq};
-ghost use Rattle.std.specs.Prelude.{IfOk, IfErr, IsOk, MatchOption};
+ghost use Rattle.std.specs.Prelude.{IfOk, IfErr, IfSome, IsOk, MatchOption};
 ghost use Rattle.pix_table.specs.LookUp.{all_below};
 ghost use Rattle.pix_table.specs.Seen.{rgba_numbers, AreSeenMatched};
-ghost use Rattle.pix_table.specs.SeenDiffusion.{AreSeenDiffused};
+ghost use Rattle.pix_table.specs.SeenDiffusion.{AreSeenAround, AreSeenDiffused};
 ghost use Rattle.pix_table.specs.SeenTables.{IsQuantizedRgba};
 ghost use Rattle.pix_table.specs.SrgbColor.{srgba_numbers};
 ghost use Rattle.pix_palette.specs.Indexing.{shades_of, values};
@@ -236,6 +236,10 @@ impl RgbaTable {
             (map srgba_numbers (colors_of_table self.now))
             (shades_of S.format ⟦<S::Gamma as Gamma<Ch8>>⟧.mode S.numbers raster.now.pixels)
             (values ⟦<Gray8 as Pixel>⟧.numbers image.pixels))) }
+        ensures near { IfOk result (λ answer. IfSome answer (λ image. AreSeenAround
+            (map srgba_numbers (colors_of_table self.now))
+            (shades_of S.format ⟦<S::Gamma as Gamma<Ch8>>⟧.mode S.numbers raster.now.pixels)
+            (values ⟦<Gray8 as Pixel>⟧.numbers image.pixels))) }
         ensures memory { IfErr result (λ fault. fault ≡ RasterFault.Memory) }
         ensures no_room { length raster.now.pixels ≡ 0 → IsOk result }
     {
@@ -388,6 +392,8 @@ fn rgba_diffused(
         ((length colors.now ≡ 0) ⊎ (256 < length colors.now))
         (λ indices. AreSeenDiffused how.scan how.strength how.width (map srgba_numbers colors.now)
         (map srgba_numbers pixels.now) indices.items)) }
+    ensures near { IfOk result (λ answer. IfSome answer (λ indices. AreSeenAround
+        (map srgba_numbers colors.now) (map srgba_numbers pixels.now) indices.items)) }
     ensures memory { IfErr result (λ fault. fault ≡ RasterFault.Memory) }
     ensures no_room { length pixels.now ≡ 0 → IsOk result }
 {

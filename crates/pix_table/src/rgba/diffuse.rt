@@ -1,14 +1,15 @@
 //! Error diffusion of colors with an alpha.
 ghost use Rattle.std.specs.Prelude.{◌≡◌, ℕ, ◌*◌, ◌%◌, ◌<◌, ◌≤◌, List, length, map, min, refl};
 ghost use Rattle.pix_table.specs.Seen.{AreSeen, seen, seen_distance, seen_numbers};
-ghost use Rattle.pix_table.specs.SeenDiffusion.{AreSeenDiffused, seen_of_channels};
+ghost use Rattle.pix_table.specs.SeenDiffusion.{AreSeenAround, AreSeenDiffused, seen_of_channels};
+ghost use Rattle.pix_table.specs.NearLaws.{seen_near};
 ghost use Rattle.pix_table.specs.SeenLanes.{AreSeenLanes};
 ghost use Rattle.pix_table.specs.declared.diffuse.ScanOrder.TheVariants.{Serpentine};
 
 use crate::color::TablePixel;
 use crate::diffuse::{Diffusion, ScanOrder, diffuse_all};
 use crate::diffused_color::{
-    ColorError, DiffusedColor, FindsNearest, NeighborErrors, ShownAs, corrected, handed,
+    ColorError, DiffusedColor, FindsNearest, NeighborErrors, ShownAs, corrected, handed, held,
 };
 use crate::rgba::color::{Seen, seen_of};
 use crate::rgba::lanes::SeenLanes;
@@ -29,9 +30,9 @@ pub struct RgbaDiffusion {
 /// colors with an alpha. The index is that of the entry that is seen nearest to the pixel plus its
 /// share of the errors of the pixels before it.
 ///
-/// Errors are handed on in red, green and blue over black, and in the alpha. What is wanted at a
-/// pixel is above its alpha in no channel. A pixel with the alpha 0 takes no share: it gets the
-/// entry that is seen nearest to it, and hands on no error.
+/// Errors are handed on in red, green and blue over black, and in the alpha, each held to 24 either
+/// way. What is wanted at a pixel is above its alpha in no channel. A pixel with the alpha 0 takes
+/// no share: it gets the entry that is seen nearest to it, and hands on no error.
 ///
 /// Condition: there is at least one entry and at most 256, a row has a pixel, at most 16 sixteenths
 /// are handed on, there are as many indices as pixels, and `work` has four rows of colors. Where
@@ -52,8 +53,10 @@ pub fn diffuse_indexed_rgba<E: TablePixel, P: TablePixel>(
     requires whole { how.scan ≡ Serpentine → length pixels.now % how.width ≡ 0 }
     requires work { length work.old ≡ 4 * how.width }
     requires many { length indices.old ≡ length pixels.now }
-    ensures { AreSeenDiffused how.scan how.strength how.width (map E.values entries.now)
+    ensures diffused { AreSeenDiffused how.scan how.strength how.width (map E.values entries.now)
         (map P.values pixels.now) indices.new }
+    ensures near { AreSeenAround (map E.values entries.now) (map P.values pixels.now)
+        indices.new }
 {
     let colors = seen_entries(entries);
     let mut lanes = SeenLanes::of(&colors[..entries.len()]);
@@ -106,6 +109,10 @@ impl DiffusedColor for Seen {
 
     ghost can_be = { AreSeen };
 
+    ghost can_be_given = { AreSeen };
+
+    ghost channels = { 4 };
+
     #[inline(always)]
     fn none() -> Seen {
         Seen {
@@ -113,6 +120,16 @@ impl DiffusedColor for Seen {
             green: 0,
             blue: 0,
             alpha: 0,
+        }
+    }
+
+    #[inline(always)]
+    fn held(self, entry: Seen) -> Seen {
+        Seen {
+            red: held(self.red, entry.red),
+            green: held(self.green, entry.green),
+            blue: held(self.blue, entry.blue),
+            alpha: held(self.alpha, entry.alpha),
         }
     }
 
@@ -168,6 +185,8 @@ impl DiffusedColor for Seen {
             alpha,
         }
     }
+
+    ghost stays_near = { seen_near };
 
     ghost same_alpha = { λ pixel. refl };
 }

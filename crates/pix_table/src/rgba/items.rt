@@ -1,42 +1,84 @@
 //! Items of seen colors, each a color and one that stands for its count: their boxes and their
 //! cut.
 ghost use Rattle.std.specs.Prelude.{◌≡◌, ◌^◌, ◌<◌, ◌≤◌, ◌∷◌, ◌++◌, ◌+◌, [], ℕ, All, Bool, IsPermutation, List, length, map, MatchOption, sum_by, take, true};
-ghost use Rattle.pix_table.specs.Items.{IsItem, count_of, item_mean, item_of, pair_items, spread, times_of, weigh_items};
+ghost use Rattle.pix_table.specs.Items.{count_of, item_of, pair_items, spread, times_of, weigh_items};
 ghost use Rattle.pix_table.specs.Places.{CannotBeCutBy, HasBestBy};
 ghost use Rattle.pix_table.specs.Seen.{AreSeen, seen_numbers};
 ghost use Rattle.pix_table.specs.SeenCut.{IsSeenCutTable, seen_mean, seen_weight};
 ghost use Rattle.pix_table.specs.SeenItems.{IsSeenItem};
 ghost use Rattle.pix_table.specs.SeenSums.{AreFew, AreSeenByValue, AreSeenSums};
-ghost use Rattle.pix_table.specs.ColorGroups.{IsSeenGroup};
+ghost use Rattle.pix_table.specs.ColorGroups.{AreSeenBoxSums};
 
-use crate::chosen::ENTRIES;
-use crate::cut::cut_colors;
-use crate::cutting::Cutting;
+use crate::box_sums::FEW;
+use crate::cut::cut_items;
+use crate::cutting::{Cutting, Item};
+use crate::group::{BoxSums, Group};
 use crate::items::Counted;
 use crate::joins::BOXES;
 use crate::place::Place;
 use crate::rgba::color::Seen;
-use crate::rgba::group::SeenGroup;
 use crate::rgba::part_sums::{FEW_COLORS, FewSums, PartSums, clear};
-use crate::rgba::place::best_in;
-use crate::rgba::sums::{SeenSums, seen_channel};
+use crate::rgba::place::{best_in, best_seen_place};
+use crate::rgba::sums::{SeenSums, seen_channel, seen_sums_of};
 
-impl Cutting for [Seen; 2] {
-    type Group = SeenGroup;
+impl BoxSums for SeenSums {
+    ghost are = { AreSeenBoxSums };
 
-    ghost parts = { λ pair. item_of (map seen_numbers pair) };
+    ghost weigh = { seen_weight };
 
-    ghost channels = { 4 };
+    #[inline(always)]
+    fn both(self, other: SeenSums) -> SeenSums {
+        self.and(other)
+    }
 
-    ghost weigh = { weigh_items 4 seen_weight };
+    fn box_weight(self) -> u128 {
+        self.weight()
+    }
 
-    ghost times = { times_of 4 };
+    #[inline(always)]
+    fn are_few(self) -> bool {
+        self.count < FEW
+    }
 
-    ghost middle = { item_mean 4 seen_mean };
+    #[inline(always)]
+    fn box_weighs_at_most(self, most: u128) -> bool {
+        self.weighs_at_most(most)
+    }
+}
+
+impl Cutting for Seen {
+    type Sums = SeenSums;
+
+    ghost middle = { seen_mean };
 
     ghost fits = { IsSeenItem };
 
-    ghost is_group = { λ items group. IsSeenGroup (spread 4 items) group };
+    fn mean_color(sums: SeenSums) -> Seen {
+        sums.mean()
+    }
+}
+
+/// A color that stands once.
+impl Item<Seen> for Seen {
+    ghost numbers = { λ color. seen_numbers color ++ 1 ∷ [] };
+
+    #[inline(always)]
+    fn channel(self, k: usize) -> u8 {
+        seen_channel(self, k)
+    }
+
+    fn best_place(items: &[Seen]) -> Option<Place> {
+        best_seen_place(items)
+    }
+
+    fn sums_of(items: &[Seen]) -> SeenSums {
+        seen_sums_of(items)
+    }
+}
+
+/// A color, and one that stands for its count.
+impl Item<Seen> for [Seen; 2] {
+    ghost numbers = { λ pair. item_of (map seen_numbers pair) };
 
     #[inline(always)]
     fn channel(self, k: usize) -> u8 {
@@ -47,25 +89,8 @@ impl Cutting for [Seen; 2] {
         best_item_place(items)
     }
 
-    fn group_of(items: &[[Seen; 2]]) -> SeenGroup {
-        SeenGroup::by_sums(item_sums_of(items))
-    }
-
-    fn join(p: SeenGroup, q: SeenGroup) -> SeenGroup {
-        p.join(q)
-    }
-
-    fn cost(p: SeenGroup, q: SeenGroup) -> u128 {
-        p.cost(q)
-    }
-
-    #[inline(always)]
-    fn costs_more(p: SeenGroup, q: SeenGroup, most: u128) -> bool {
-        p.costs_more(q, most)
-    }
-
-    fn mean_color(group: SeenGroup) -> [Seen; 2] {
-        [group.mean(), Seen::of_count(1)]
+    fn sums_of(items: &[[Seen; 2]]) -> SeenSums {
+        item_sums_of(items)
     }
 }
 
@@ -75,39 +100,26 @@ impl Cutting for [Seen; 2] {
 /// Condition: there is an item, and there are 1 to 256 entries.
 // Out of line, so that its stack and that of the rounds do not add up.
 #[inline(never)]
-pub(crate) fn cut_seen_items(items: &mut [[Seen; 2]], entries: &mut [Seen]) -> usize
+pub(crate) fn cut_seen_table<I: Item<Seen>>(items: &mut [I], entries: &mut [Seen]) -> usize
     requires some { 0 < length items.old }
-    requires fit { All (IsItem 4) (pair_items seen_numbers items.old) }
-    requires colors { All AreSeen (spread 4 (pair_items seen_numbers items.old)) }
-    requires few { sum_by (times_of 4) (pair_items seen_numbers items.old) < 2 ^ 64 }
+    requires fit { All IsSeenItem (map I.numbers items.old) }
+    requires few { sum_by (times_of 4) (map I.numbers items.old) < 2 ^ 64 }
     requires room { 0 < length entries.old }
     requires few_entries { length entries.old ≤ 256 }
     ensures some { 0 < result }
     ensures within { result ≤ length entries.new }
-    ensures moved { IsPermutation (pair_items seen_numbers items.old)
-        (pair_items seen_numbers items.new) }
+    ensures moved { IsPermutation (map I.numbers items.old) (map I.numbers items.new) }
     ensures table { (colors : List (List ℕ))
-        → IsPermutation colors (spread 4 (pair_items seen_numbers items.old))
+        → IsPermutation colors (spread 4 (map I.numbers items.old))
         → IsSeenCutTable (length entries.old) colors (map seen_numbers (take result entries.new)) }
     ensures seen { All AreSeen (map seen_numbers (take result entries.new)) }
 {
-    let mut groups = [SeenGroup::none(); BOXES];
-    let mut table = [[Seen::default(); 2]; ENTRIES];
-    let room = entries.len();
-    let count = cut_colors(items, &mut groups, &mut table[..room]);
-    take_colors(&table[..count], entries);
-    count
-}
-
-/// Writes the colors of some items into the first of the entries.
-fn take_colors(items: &[[Seen; 2]], entries: &mut [Seen])
-    requires { length items.now ≤ length entries.old }
-    ensures { map seen_numbers (take (length items.now) entries.new)
-        ≡ map (take 4) (pair_items seen_numbers items.now) }
-{
-    for i in 0..items.len() {
-        entries[i] = items[i][0];
-    }
+    let none = Group {
+        sums: SeenSums::none(),
+        weight: 0,
+    };
+    let mut groups = [none; BOXES];
+    cut_items(items, &mut groups, entries)
 }
 
 /// Returns the place at which a cut of a box gains most, the first of equals.

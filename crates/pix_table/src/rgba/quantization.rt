@@ -12,8 +12,7 @@ use crate::chosen::ENTRIES;
 use crate::color::TablePixel;
 use crate::items::{Counted, PLACES, count_pairs, place_of};
 use crate::rgba::color::{RgbaColor, Seen, same, seen_of, straight};
-use crate::rgba::cut::cut_seen_table;
-use crate::rgba::items::cut_seen_items;
+use crate::rgba::items::cut_seen_table;
 use crate::rgba::refine::{refine_seen, refine_seen_items};
 
 /// Writes a table of the colors of `pixels`, each with its alpha, into the first of the entries,
@@ -223,7 +222,7 @@ fn refined_of_pairs(colors: &mut [Seen], pairs: usize, rounds: u8, entries: &mut
 {
     let (chunks, _) = colors.as_chunks_mut::<2>();
     let items = &mut chunks[..pairs];
-    let count = cut_seen_items(items, entries);
+    let count = cut_seen_table(items, entries);
     refine_seen_items(items, rounds, &mut entries[..count]);
     count
 }

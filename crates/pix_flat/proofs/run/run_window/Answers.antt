@@ -7,8 +7,7 @@ use Rattle.pix_el.proofs.Models.{placed_by_row}
 use Rattle.pix_el.proofs.Composited.{alpha_bounded}
 use Rattle.pix_raster.proofs.RunBounds.{IsFormat}
 use Rattle.pix_flat.proofs.Images.{sized_is_shaped, sized_window}
-use Rattle.pix_flat.proofs.Faults.{all_readable}
-use Rattle.pix_flat.proofs.Ran.{commands_told, ran_in_window}
+use Rattle.pix_flat.proofs.Ran.{ran_in_window}
 use Rattle.pix_flat.proofs.run.run_window.Goals as goal
 
 pub paint_by_bands-requires-clause-fits : goal.paint_by_bands-requires-clause-fits
@@ -21,10 +20,7 @@ paint_by_bands-requires-clause-fits g c =
     }
 
 pub paint_by_bands-requires-clause-can_paint : goal.paint_by_bands-requires-clause-can_paint
-paint_by_bands-requires-clause-can_paint g c = (
-  g.met.D.FlatPixel.has_alpha,
-  all_readable g.C.Flatten.flat g.C.ReadDraw.can_read g.met.C.Flatten.readable c.args.commands.now (sym c.first_fault-fault.ensures.fault ∙ c.if-fault-eq-DONE.true),
-)
+paint_by_bands-requires-clause-can_paint g c = sym c.first_fault-fault.ensures.fault ∙ c.if-fault-eq-DONE.true
 
 pub returns-then-fault-eq-DONE-clause-run : goal.returns-then-fault-eq-DONE-clause-run
 returns-then-fault-eq-DONE-clause-run g c =
@@ -42,7 +38,6 @@ returns-then-fault-eq-DONE-clause-run g c =
       mattes_fit = λ m. record { at = subst (λ (l : Layout). (ch : ℕ) → channel l.max (mattes m) ch ≤ l.max) (sym laid_out) (g.met.M.Coverage.fits m) };
     } in
     let placed = sized_window c.args.left c.args.top c.args.width c.args.height c.args.stride (length c.args.pixels.now) (sym c.is_window.ensures ∙ c.if-not-is_window.false) in
-    let told = commands_told g.C.ReadDraw.command g.C.Flatten.flat g.met.C.Flatten.told c.args.commands.now in
     λ e. ran_in_window g.P.Pixel.layout n mattes c.args.left c.args.top c.args.width c.args.height c.args.stride (map g.C.Flatten.flat c.args.commands.now) c.args.pixels.now c.paint_by_bands.new.pixels
     format placed.0 placed.1 (sized_is_shaped c.args.width c.args.height c.args.stride (length c.args.pixels.now) placed.2) c.paint_by_bands.auto.pixels
-    (map g.C.ReadDraw.command c.args.commands.now) told c.paint_by_bands.ensures
+    c.paint_by_bands.ensures

@@ -12,7 +12,7 @@ loop-index-preserved g c =
     let i : ℕ = c.loop-index.index in
     let rest = drop (i + 1) (map flat c.args.commands.now) in
     let left = left_from flat c.args.commands.now i command c.loop-index-test.true c.index-commands-index.is in
-    let none : fault_of (flat command) ≡ 0 = sym (c.fault_of-fault.ensures ∙ ap fault_of c.flat.ensures) ∙ c.if-fault-ne-DONE.false in
+    let none : fault_of (flat command) ≡ 0 = sym c.fault-fault.ensures ∙ c.if-fault-ne-DONE.false in
     record {
       fault = c.loop-index.invariant.fault ∙ ap first_fault left ∙ first_fault_on (flat command) rest none;
       count = c.loop-index.invariant.count ∙ ap (λ n. i + n) (ap count_before_fault left ∙ count_on (flat command) rest none) ∙ omega arith;
@@ -25,7 +25,7 @@ returns-then-fault-ne-DONE-clause-fault g c =
     let i : ℕ = c.loop-index.index in
     let rest = drop (i + 1) (map flat c.args.commands.now) in
     let left = left_from flat c.args.commands.now i command c.loop-index-test.true c.index-commands-index.is in
-    let fault : c.fault_of-fault.result ≡ fault_of (flat command) = c.fault_of-fault.ensures ∙ ap fault_of c.flat.ensures in
+    let fault : c.fault-fault.result ≡ fault_of (flat command) = c.fault-fault.ensures in
     sym (c.loop-index.invariant.fault ∙ ap first_fault left ∙ first_fault_here (flat command) rest (λ e. c.if-fault-ne-DONE.true (fault ∙ e)) ∙ sym fault)
 
 pub returns-then-fault-ne-DONE-clause-done : goal.returns-then-fault-ne-DONE-clause-done
@@ -35,5 +35,5 @@ returns-then-fault-ne-DONE-clause-done g c =
     let i : ℕ = c.loop-index.index in
     let rest = drop (i + 1) (map flat c.args.commands.now) in
     let left = left_from flat c.args.commands.now i command c.loop-index-test.true c.index-commands-index.is in
-    let fault : c.fault_of-fault.result ≡ fault_of (flat command) = c.fault_of-fault.ensures ∙ ap fault_of c.flat.ensures in
+    let fault : c.fault-fault.result ≡ fault_of (flat command) = c.fault-fault.ensures in
     sym (c.loop-index.invariant.count ∙ ap (λ n. i + n) (ap count_before_fault left ∙ count_here (flat command) rest (λ e. c.if-fault-ne-DONE.true (fault ∙ e))) ∙ omega arith)

@@ -1,6 +1,7 @@
 -- Of `cut_at`: that the pieces are boxes of the colors.
 use Rattle.std.proofs.Common.{◌≡◌, ℕ, ◌+◌, ◌-◌, ◌<◌, ◌++◌, ◌∷◌, List, None, length, take, drop, get_or, arith, sym, ap, ◌∙◌, subst, length-take}
 use Rattle.std.proofs.lemmas.List.{get_or-take, take-take}
+use Rattle.pix_table.specs.Items.{times_of, weigh_items}
 use Rattle.pix_table.specs.Cut.{AreBoxesBy}
 use Rattle.pix_table.specs.Pieces.{ArePieces, boxes_of}
 use Rattle.pix_table.specs.declared.pieces.Piece.{Piece}
@@ -32,32 +33,32 @@ pieces_are g c =
     ∙ sym c.split.ensures
 
 pub cut_piece-requires-clause-fit : goal.cut_piece-requires-clause-fit
-cut_piece-requires-clause-fit g c = fit_piece g.C.Cutting.parts g.C.Cutting.fits c.args.colors.now c.args.next.start _ c.requires.fit
+cut_piece-requires-clause-fit g c = fit_piece g.I.Item.numbers g.C.Cutting.fits c.args.items.now c.args.next.start _ c.requires.fit
 
 pub cut_piece-requires-clause-few_colors : goal.cut_piece-requires-clause-few_colors
-cut_piece-requires-clause-few_colors g c = few_piece g.C.Cutting.parts g.C.Cutting.times c.args.colors.now c.args.next.start _ _ c.requires.few_colors
+cut_piece-requires-clause-few_colors g c = few_piece g.I.Item.numbers (times_of g.C.Counted.channels) c.args.items.now c.args.next.start _ _ c.requires.few_colors
 
 pub cut_piece-requires-clause-best : goal.cut_piece-requires-clause-best
 cut_piece-requires-clause-best g c =
-    next_known g.C.Cutting.parts g.C.Cutting.channels g.C.Cutting.weigh c.args.colors.now (take c.args.count c.args.pieces.now) c.args.next none _
+    next_known g.I.Item.numbers g.C.Counted.channels (weigh_items g.C.Counted.channels g.C.Sums.BoxSums.weigh) c.args.items.now (take c.args.count c.args.pieces.now) c.args.next none _
     c.requires.stand c.requires.next (width c.args.pieces.now c.args.count c.args.next.at c.args.next.start c.requires.next.stands)
 
 pub returns-clause-stand : goal.returns-clause-stand
 returns-clause-stand g c =
-    let colors : List g.row.C.Denot =
-    put_mid c.args.next.start (c.args.next.start + (get_or c.args.pieces.now c.args.next.at none).len - c.args.next.start) c.args.colors.now c.cut_piece.new.colors in
-    subst (λ l. ArePieces g.C.Cutting.channels g.C.Cutting.weigh g.C.Cutting.parts colors l) (pieces_are g c)
-    (pieces_stand g.C.Cutting.parts g.C.Cutting.channels g.C.Cutting.weigh c.args.colors.now (take c.args.count c.args.pieces.now) c.args.next none _
+    let colors : List g.row.I.Denot =
+    put_mid c.args.next.start (c.args.next.start + (get_or c.args.pieces.now c.args.next.at none).len - c.args.next.start) c.args.items.now c.cut_piece.new.items in
+    subst (λ l. ArePieces g.C.Counted.channels (weigh_items g.C.Counted.channels g.C.Sums.BoxSums.weigh) g.I.Item.numbers colors l) (pieces_are g c)
+    (pieces_stand g.I.Item.numbers g.C.Counted.channels (weigh_items g.C.Counted.channels g.C.Sums.BoxSums.weigh) c.args.items.now (take c.args.count c.args.pieces.now) c.args.next none _
     c.requires.stand c.requires.next (width c.args.pieces.now c.args.count c.args.next.at c.args.next.start c.requires.next.stands)
-    c.cut_piece.new.colors c.cut_piece.result.0 c.cut_piece.result.1 c.cut_piece.auto.colors c.cut_piece.ensures.all c.cut_piece.ensures.low
+    c.cut_piece.new.items c.cut_piece.result.0 c.cut_piece.result.1 c.cut_piece.auto.items c.cut_piece.ensures.all c.cut_piece.ensures.low
     c.cut_piece.ensures.high c.cut_piece.ensures.cut)
 
 pub returns-clause-boxes : goal.returns-clause-boxes
 returns-clause-boxes g c start h =
-    let colors : List g.row.C.Denot =
-    put_mid c.args.next.start (c.args.next.start + (get_or c.args.pieces.now c.args.next.at none).len - c.args.next.start) c.args.colors.now c.cut_piece.new.colors in
-    subst (λ l. AreBoxesBy g.C.Cutting.channels g.C.Cutting.weigh start (boxes_of g.C.Cutting.parts colors l)) (pieces_are g c)
-    (boxes_stand g.C.Cutting.parts g.C.Cutting.channels g.C.Cutting.weigh c.args.colors.now (take c.args.count c.args.pieces.now) c.args.next none _
+    let colors : List g.row.I.Denot =
+    put_mid c.args.next.start (c.args.next.start + (get_or c.args.pieces.now c.args.next.at none).len - c.args.next.start) c.args.items.now c.cut_piece.new.items in
+    subst (λ l. AreBoxesBy g.C.Counted.channels (weigh_items g.C.Counted.channels g.C.Sums.BoxSums.weigh) start (boxes_of g.I.Item.numbers colors l)) (pieces_are g c)
+    (boxes_stand g.I.Item.numbers g.C.Counted.channels (weigh_items g.C.Counted.channels g.C.Sums.BoxSums.weigh) c.args.items.now (take c.args.count c.args.pieces.now) c.args.next none _
     c.requires.stand c.requires.next (width c.args.pieces.now c.args.count c.args.next.at c.args.next.start c.requires.next.stands)
-    c.cut_piece.new.colors c.cut_piece.result.0 c.cut_piece.result.1 c.cut_piece.auto.colors c.cut_piece.ensures.all c.cut_piece.ensures.low
+    c.cut_piece.new.items c.cut_piece.result.0 c.cut_piece.result.1 c.cut_piece.auto.items c.cut_piece.ensures.all c.cut_piece.ensures.low
     c.cut_piece.ensures.high c.cut_piece.ensures.cut start h)

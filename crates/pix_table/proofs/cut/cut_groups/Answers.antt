@@ -1,6 +1,8 @@
 -- Of `cut_groups`: its clauses `moved` and `boxes`.
 use Rattle.std.proofs.Common.{◌++◌, map, take, drop, replicate, IsPermutation, arith, subst, length-take}
 use Rattle.std.proofs.lemmas.List.{length-replicate, take-append-le}
+use Rattle.pix_table.specs.Items.{times_of, weigh_items}
+use Rattle.pix_table.specs.ColorGroups.{IsGroup}
 use Rattle.pix_table.specs.Pieces.{boxes_of}
 use Rattle.pix_table.proofs.CutColors.{boxes_few, boxes_fit, boxes_moved, boxes_whole}
 use Rattle.pix_table.proofs.CutGroups.{boxes_made}
@@ -9,26 +11,26 @@ use Rattle.pix_table.proofs.cut.cut_groups.Goals as goal
 pub set_groups-requires-clause-fit : goal.set_groups-requires-clause-fit
 set_groups-requires-clause-fit g c =
     let pieces = take c.cut_boxes-count.result c.cut_boxes-count.new.pieces in
-    boxes_fit g.C.Cutting.fits g.C.Cutting.parts (map g.C.Cutting.parts c.args.colors.now) c.cut_boxes-count.new.colors pieces
+    boxes_fit g.C.Cutting.fits g.I.Item.numbers (map g.I.Item.numbers c.args.items.now) c.cut_boxes-count.new.items pieces
     c.cut_boxes-count.ensures.boxes c.cut_boxes-count.ensures.stand.all c.requires.fit
 
 pub set_groups-requires-clause-few_colors : goal.set_groups-requires-clause-few_colors
 set_groups-requires-clause-few_colors g c =
     let pieces = take c.cut_boxes-count.result c.cut_boxes-count.new.pieces in
-    boxes_few g.C.Cutting.times g.C.Cutting.parts (map g.C.Cutting.parts c.args.colors.now) c.cut_boxes-count.new.colors pieces _
+    boxes_few (times_of g.C.Counted.channels) g.I.Item.numbers (map g.I.Item.numbers c.args.items.now) c.cut_boxes-count.new.items pieces _
     c.cut_boxes-count.ensures.boxes c.cut_boxes-count.ensures.stand.all c.requires.few_colors
 
 pub returns-clause-moved : goal.returns-clause-moved
 returns-clause-moved g c =
     let pieces = take c.cut_boxes-count.result c.cut_boxes-count.new.pieces in
-    subst (IsPermutation (map g.C.Cutting.parts c.args.colors.now))
-    (boxes_whole g.C.Cutting.parts c.cut_boxes-count.new.colors pieces c.cut_boxes-count.ensures.stand.all)
-    (boxes_moved (map g.C.Cutting.parts c.args.colors.now) (boxes_of g.C.Cutting.parts c.cut_boxes-count.new.colors pieces) c.cut_boxes-count.ensures.boxes)
+    subst (IsPermutation (map g.I.Item.numbers c.args.items.now))
+    (boxes_whole g.I.Item.numbers c.cut_boxes-count.new.items pieces c.cut_boxes-count.ensures.stand.all)
+    (boxes_moved (map g.I.Item.numbers c.args.items.now) (boxes_of g.I.Item.numbers c.cut_boxes-count.new.items pieces) c.cut_boxes-count.ensures.boxes)
 
 pub returns-clause-boxes : goal.returns-clause-boxes
 returns-clause-boxes g c =
-    boxes_made g.C.Cutting.is_group g.C.Cutting.times g.C.Cutting.parts g.C.Cutting.channels g.C.Cutting.weigh c.args.room c.cut_boxes-count.result c.args.colors.now
-    c.cut_boxes-count.new.colors c.cut_boxes-count.new.pieces
+    boxes_made (IsGroup g.C.Sums.BoxSums.are g.C.Sums.BoxSums.weigh) g.I.Item.numbers g.C.Counted.channels (weigh_items g.C.Counted.channels g.C.Sums.BoxSums.weigh) c.args.room c.cut_boxes-count.result c.args.items.now
+    c.cut_boxes-count.new.items c.cut_boxes-count.new.pieces
     (c.cut_boxes-count.new.pieces ++ drop c.min-more.result (replicate 320 c.none-pieces.result)) c.set_groups.new.groups
     (omega (
       arith,
@@ -39,5 +41,5 @@ returns-clause-boxes g c =
       c.requires.few,
     ))
     c.cut_boxes-count.ensures.within (take-append-le c.cut_boxes-count.result _ _ c.cut_boxes-count.ensures.within) c.cut_boxes-count.ensures.stand
-    c.cut_boxes-count.ensures.boxes c.cut_boxes-count.ensures.full c.set_groups.ensures (boxes_few g.C.Cutting.times g.C.Cutting.parts (map g.C.Cutting.parts c.args.colors.now) c.cut_boxes-count.new.colors
+    c.cut_boxes-count.ensures.boxes c.cut_boxes-count.ensures.full c.set_groups.ensures (boxes_few (times_of g.C.Counted.channels) g.I.Item.numbers (map g.I.Item.numbers c.args.items.now) c.cut_boxes-count.new.items
     (take c.cut_boxes-count.result c.cut_boxes-count.new.pieces) _ c.cut_boxes-count.ensures.boxes c.cut_boxes-count.ensures.stand.all c.requires.few_colors)

@@ -1,5 +1,6 @@
 -- Of `cut_piece`: what is known of its two pieces, and that they are a cut of the box.
 use Rattle.std.proofs.Common.{◌≡◌, ◌<◌, sum_by, map, take, drop, All, arith, sym, ap, ◌∙◌, subst, length-take}
+use Rattle.pix_table.specs.Items.{times_of, weigh_items}
 use Rattle.pix_table.specs.Pieces.{IsKnown}
 use Rattle.pix_table.specs.Places.{IsCutBy}
 use Rattle.pix_table.proofs.CutBoxes.{cut_stands, few_back, few_front, fit_back, fit_front}
@@ -13,47 +14,47 @@ at_is g c =
       arith,
       c.of.ensures.all,
       c.split_at.ensures.front_len,
-      length-take c.partition-at.result c.partition-at.new.colors,
+      length-take c.partition-at.result c.partition-at.new.items,
       c.partition-at.ensures.within,
     )
 
 pub of-requires-clause-fit : goal.of-requires-clause-fit
 of-requires-clause-fit g c =
-    subst (λ l. All g.C.Cutting.fits (map g.C.Cutting.parts l)) (sym c.split_at.ensures.front)
-    (fit_front g.C.Cutting.parts g.C.Cutting.fits c.args.colors.now c.partition-at.new.colors c.partition-at.result c.partition-at.ensures.moved c.requires.fit)
+    subst (λ l. All g.C.Cutting.fits (map g.I.Item.numbers l)) (sym c.split_at.ensures.front)
+    (fit_front g.I.Item.numbers g.C.Cutting.fits c.args.items.now c.partition-at.new.items c.partition-at.result c.partition-at.ensures.moved c.requires.fit)
 
 pub of-requires-2-clause-fit : goal.of-requires-2-clause-fit
 of-requires-2-clause-fit g c =
-    subst (λ l. All g.C.Cutting.fits (map g.C.Cutting.parts l)) (sym c.split_at.ensures.back)
-    (fit_back g.C.Cutting.parts g.C.Cutting.fits c.args.colors.now c.partition-at.new.colors c.partition-at.result c.partition-at.ensures.moved c.requires.fit)
+    subst (λ l. All g.C.Cutting.fits (map g.I.Item.numbers l)) (sym c.split_at.ensures.back)
+    (fit_back g.I.Item.numbers g.C.Cutting.fits c.args.items.now c.partition-at.new.items c.partition-at.result c.partition-at.ensures.moved c.requires.fit)
 
 pub of-requires-clause-few : goal.of-requires-clause-few
 of-requires-clause-few g c =
-    subst (λ l. sum_by g.C.Cutting.times (map g.C.Cutting.parts l) < 18446744073709551616) (sym c.split_at.ensures.front)
-    (few_front g.C.Cutting.parts g.C.Cutting.times c.args.colors.now c.partition-at.new.colors c.partition-at.result _ c.partition-at.ensures.moved
+    subst (λ l. sum_by (times_of g.C.Counted.channels) (map g.I.Item.numbers l) < 18446744073709551616) (sym c.split_at.ensures.front)
+    (few_front g.I.Item.numbers (times_of g.C.Counted.channels) c.args.items.now c.partition-at.new.items c.partition-at.result _ c.partition-at.ensures.moved
     c.requires.few_colors)
 
 pub of-requires-2-clause-few : goal.of-requires-2-clause-few
 of-requires-2-clause-few g c =
-    subst (λ l. sum_by g.C.Cutting.times (map g.C.Cutting.parts l) < 18446744073709551616) (sym c.split_at.ensures.back)
-    (few_back g.C.Cutting.parts g.C.Cutting.times c.args.colors.now c.partition-at.new.colors c.partition-at.result _ c.partition-at.ensures.moved
+    subst (λ l. sum_by (times_of g.C.Counted.channels) (map g.I.Item.numbers l) < 18446744073709551616) (sym c.split_at.ensures.back)
+    (few_back g.I.Item.numbers (times_of g.C.Counted.channels) c.args.items.now c.partition-at.new.items c.partition-at.result _ c.partition-at.ensures.moved
     c.requires.few_colors)
 
 pub returns-clause-low : goal.returns-clause-low
 returns-clause-low g c =
-    subst (λ l. IsKnown g.C.Cutting.channels g.C.Cutting.weigh (map g.C.Cutting.parts l) c.of.result)
-    (c.split_at.ensures.front ∙ ap (λ n. take n c.partition-at.new.colors) (at_is g c)) c.of.ensures.known
+    subst (λ l. IsKnown g.C.Counted.channels (weigh_items g.C.Counted.channels g.C.Sums.BoxSums.weigh) (map g.I.Item.numbers l) c.of.result)
+    (c.split_at.ensures.front ∙ ap (λ n. take n c.partition-at.new.items) (at_is g c)) c.of.ensures.known
 
 pub returns-clause-high : goal.returns-clause-high
 returns-clause-high g c =
-    subst (λ l. IsKnown g.C.Cutting.channels g.C.Cutting.weigh (map g.C.Cutting.parts l) c.of-2.result)
-    (c.split_at.ensures.back ∙ ap (λ n. drop n c.partition-at.new.colors) (at_is g c)) c.of-2.ensures.known
+    subst (λ l. IsKnown g.C.Counted.channels (weigh_items g.C.Counted.channels g.C.Sums.BoxSums.weigh) (map g.I.Item.numbers l) c.of-2.result)
+    (c.split_at.ensures.back ∙ ap (λ n. drop n c.partition-at.new.items) (at_is g c)) c.of-2.ensures.known
 
 pub returns-clause-cut : goal.returns-clause-cut
 returns-clause-cut g c =
     subst
-    (λ n. IsCutBy g.C.Cutting.channels (map g.C.Cutting.parts c.args.colors.now) c.args.place.channel c.args.place.value
-    (map g.C.Cutting.parts (take n c.partition-at.new.colors)) (map g.C.Cutting.parts (drop n c.partition-at.new.colors))) (at_is g c)
-    (cut_stands g.C.Cutting.parts c.args.colors.now c.partition-at.new.colors c.args.place.channel c.args.place.value c.partition-at.result
-    c.partition-at.ensures.moved c.partition-at.ensures.front c.partition-at.ensures.back g.C.Cutting.channels c.requires.best.stands
+    (λ n. IsCutBy g.C.Counted.channels (map g.I.Item.numbers c.args.items.now) c.args.place.channel c.args.place.value
+    (map g.I.Item.numbers (take n c.partition-at.new.items)) (map g.I.Item.numbers (drop n c.partition-at.new.items))) (at_is g c)
+    (cut_stands g.I.Item.numbers c.args.items.now c.partition-at.new.items c.args.place.channel c.args.place.value c.partition-at.result
+    c.partition-at.ensures.moved c.partition-at.ensures.front c.partition-at.ensures.back g.C.Counted.channels c.requires.best.stands
     c.partition-at.ensures.within c.requires.best.some_below c.requires.best.some_others)

@@ -6,7 +6,7 @@ use Rattle.pix_table.proofs.cut.partition_in.Given as goal
 abbrev pub invariant-loop-i : goal.invariant-loop-i
 invariant-loop-i g l = record {
   within : l.at ≤ l.i;
-  moved : IsPermutation l.fn.colors l.colors;
-  front : (j : ℕ) (d : g.row.C.Denot) → j < l.at → get_or (g.C.Cutting.parts (get_or l.colors j d)) l.k 0 < l.value;
-  back : (j : ℕ) (d : g.row.C.Denot) → l.at ≤ j → j < l.i → l.value ≤ get_or (g.C.Cutting.parts (get_or l.colors j d)) l.k 0;
+  moved : IsPermutation l.fn.items l.items;
+  front : (j : ℕ) (d : g.row.I.Denot) → j < l.at → get_or (g.I.Item.numbers (get_or l.items j d)) l.k 0 < l.value;
+  back : (j : ℕ) (d : g.row.I.Denot) → l.at ≤ j → j < l.i → l.value ≤ get_or (g.I.Item.numbers (get_or l.items j d)) l.k 0;
 }

@@ -1,5 +1,7 @@
 -- What holds at each turn of the loop over `i` in `set_groups`.
-use Rattle.std.proofs.Common.{◌≡◌, take}
+use Rattle.std.proofs.Common.{◌≡◌, map, take}
+use Rattle.pix_table.specs.ColorGroups.{IsGroup}
+use Rattle.pix_table.specs.Items.{spread}
 use Rattle.pix_table.specs.Pairs.{AreGroupsOf}
 use Rattle.pix_table.specs.Pieces.{boxes_of, total}
 use Rattle.pix_table.proofs.cut.set_groups.Given as goal
@@ -8,5 +10,6 @@ use Rattle.pix_table.proofs.cut.set_groups.Given as goal
 abbrev pub invariant-loop-i : goal.invariant-loop-i
 invariant-loop-i g l = record {
   start : l.start ≡ total (take l.i l.pieces);
-  set : AreGroupsOf g.C.Cutting.is_group (boxes_of g.C.Cutting.parts l.colors (take l.i l.pieces)) l.groups l.i;
+  set : AreGroupsOf (IsGroup g.C.Sums.BoxSums.are g.C.Sums.BoxSums.weigh)
+      (map (spread g.C.Counted.channels) (boxes_of g.I.Item.numbers l.items (take l.i l.pieces))) l.groups l.i;
 }

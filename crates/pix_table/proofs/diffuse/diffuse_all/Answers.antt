@@ -1,12 +1,14 @@
 -- Of `diffuse_all`: that its places are within the picture, and that the invariant of its loop over
 -- `k` holds at first and after each turn.
-use Rattle.std.proofs.Common.{◌≡◌, ◌+◌, ◌-◌, ◌%◌, ◌<◌, ◌≤◌, ℕ, [], true, length, map, set, get_or, refl, arith, sym, ap, ◌∙◌, subst}
+use Rattle.std.proofs.Common.{◌≡◌, ◌+◌, ◌-◌, ◌%◌, ◌<◌, ◌≤◌, ℕ, [], true, length, map, set, get_or, inl, inr, refl, arith, sym, ap, ◌∙◌, subst}
 use Rattle.std.proofs.Math.Nat.{zero-mod}
+use Rattle.std.proofs.lemmas.Bool.{cases_lt}
 use Rattle.std.proofs.lemmas.List.{length-map, get_or-map}
 use Rattle.pix_table.specs.Nearest.{IsNearestBy, alpha_of}
-use Rattle.pix_table.specs.Diffusion.{in_picture, wanted_at}
+use Rattle.pix_table.specs.Diffusion.{in_picture, wanted_at, held_to}
 use Rattle.pix_table.specs.Done.{AreLatest, AreNeighborErrors, IsColorError, IsColorErrorAbove}
 use Rattle.pix_table.proofs.Diffused.{none_done, no_miss, clear_done, shown_done, alike, turned_as}
+use Rattle.pix_table.proofs.NearErrors.{everywhere}
 use Rattle.pix_table.proofs.ScanOrders.{begins, in_picture_below}
 use Rattle.pix_table.proofs.diffuse.diffuse_all.Goals as goal
 use Rattle.pix_table.proofs.diffuse.diffuse_all.Goals.{then-clear, else-clear}
@@ -14,6 +16,7 @@ use Rattle.pix_table.proofs.diffuse.diffuse_all.Goals.{then-clear, else-clear}
 pub loop-k-init : goal.loop-k-init
 loop-k-init g c = record {
   done = none_done _ _ _ _ _ _ _ _ _ _ _ _ _ c.requires.row;
+  can = λ j before above. absurd (omega (arith, before));
   same = c.requires.entries;
   column = sym (zero-mod c.args.how.width);
   back = begins c.args.how.scan c.args.how.width;
@@ -114,6 +117,14 @@ loop-k-preserved g c =
                 (subst (λ v. alpha_of v < c.args.how.alpha) pixel below)
                 (turned_as f scan width k _ _ c.loop-k.wanted _ _ _ _ w.wanted-is place c.none-black.ensures next c.turned-back.ensures.wanted)
                 (turned_as f scan width k _ _ c.loop-k.found _ _ _ _ w.found-is place c.none-black.ensures next c.turned-back.ensures.found));
+            can = λ j before shown. elim (cases_lt j c.loop-k.k) [
+              | inl b ↦ c.loop-k.invariant.can j b shown
+              | inr b ↦
+                  let e : j ≡ c.loop-k.k = omega (arith, before, b) in
+                  let low = subst (λ v. alpha_of v < c.args.how.alpha) pixel below in
+                  let high = subst (λ n. c.args.how.alpha ≤ alpha_of (get_or pixels (in_picture scan width n) [])) e shown in
+                  absurd (omega (arith, low, high))
+            ];
             same = subst (λ m. g.N.FindsNearest.among m entries) (sym w.search-is) c.loop-k.invariant.same;
             column = next;
             back = c.turned-back.ensures.back;
@@ -131,8 +142,8 @@ loop-k-preserved g c =
           w.find-index.ensures.nearest entries c.loop-k.invariant.same in
           let stands : w.find-index.result < length c.args.entries.now =
           omega (arith, nearest.stands, length-map c.args.entries.now g.C.ShownAs.shown) in
-          let entry : g.S.DiffusedColor.spread w.shown-entry.result ≡ get_or entries w.find-index.result [] =
-          w.shown-entry.ensures ∙ ap g.C.ShownAs.shown w.index-entries-from.is ∙ ap (λ j. g.C.ShownAs.shown (get_or c.args.entries.now j e)) w.from.ensures
+          let entry : g.S.DiffusedColor.spread w.shown.result ≡ get_or entries w.find-index.result [] =
+          w.shown.ensures ∙ ap g.C.ShownAs.shown w.index-entries-from.is ∙ ap (λ j. g.C.ShownAs.shown (get_or c.args.entries.now j e)) w.from.ensures
           ∙ sym (get_or-map g.C.ShownAs.shown c.args.entries.now w.find-index.result e [] stands) in
           record {
             done = alike _ _ _ _ _ _ _ _ _ _ _ _ _ _ _
@@ -140,12 +151,27 @@ loop-k-preserved g c =
                 (shown_done _ _ _ _ _ _ _ _ _ _ _ _ _ _ _ _ _ c.requires.row inside long_wanted long_found done around above_right _ _ _ _ _
                 (w.wanted-color.ensures.wanted width done.all_wanted done.all_found (k - k % width) (k % width) around above_right
                 ∙ ap (wanted_at g.S.DiffusedColor.of_channels scan c.args.how.strength width done.all_wanted done.all_found (k - k % width) (k % width)) again)
-                (subst (λ v. c.args.how.alpha ≤ alpha_of v) pixel above) nearest entry
-                (subst (λ m. IsColorError true (f w.wanted-color.result) (f w.shown-entry.result) m) (sym w.left-is) w.missed-left.ensures)
+                (subst (λ v. c.args.how.alpha ≤ alpha_of v) pixel above) nearest (w.held-entry.ensures ∙ ap (held_to (f w.wanted-color.result)) entry)
+                (subst (λ m. IsColorError true (f w.wanted-color.result) (f w.held-entry.result) m) (sym w.left-is) w.missed-left.ensures)
                 (turned_as f scan width k _ _ c.loop-k.wanted _ _ _ _ w.wanted-is place refl next c.turned-back.ensures.wanted)
                 (turned_as f scan width k _ _ c.loop-k.found _ _ _ _ w.found-is place refl next c.turned-back.ensures.found));
+            can = λ j before shown. elim (cases_lt j c.loop-k.k) [
+              | inl b ↦ c.loop-k.invariant.can j b shown
+              | inr b ↦
+                  let e : c.loop-k.k ≡ j = omega (arith, before, b) in
+                  subst (λ n. g.S.DiffusedColor.can_be_given (get_or pixels (in_picture scan width n) [])) e
+                  (subst (λ v. g.S.DiffusedColor.can_be_given v) again w.wanted-color.ensures.given)
+            ];
             same = subst (λ m. g.N.FindsNearest.among m entries) (sym w.search-is) (w.find-index.ensures.same entries c.loop-k.invariant.same);
             column = next;
             back = c.turned-back.ensures.back;
           }
     ]
+
+pub returns-clause-near : goal.returns-clause-near
+returns-clause-near g c =
+    let many = length-map c.args.pixels.now (λ pixel. g.S.DiffusedColor.given (g.P.TablePixel.values pixel)) in
+    everywhere g.S.DiffusedColor.of_channels g.S.DiffusedColor.apart c.args.how.scan c.args.how.strength (map g.C.ShownAs.shown c.args.entries.now) c.args.how.alpha
+    c.args.how.transparent_index c.args.how.width (map (λ pixel. g.S.DiffusedColor.given (g.P.TablePixel.values pixel)) c.args.pixels.now)
+    g.S.DiffusedColor.channels g.S.DiffusedColor.can_be_given c.requires.strength g.met.S.DiffusedColor.stays_near
+    c.loop-k.k _ _ _ _ c.requires.row (λ s. ap (λ n. n % c.args.how.width) many ∙ c.requires.whole s) (omega (arith, many)) c.loop-k.invariant.done c.loop-k.invariant.can

@@ -1,5 +1,6 @@
 -- What holds at each turn of the loop over `with` in `find_pair`.
 use Rattle.std.proofs.Common.{ℕ, List}
+use Rattle.pix_table.specs.ColorGroups.{IsGroup}
 use Rattle.pix_table.specs.Joins.{cost_at}
 use Rattle.pix_table.specs.Pairs.{AreGroupsOf, IsLeastAfter}
 use Rattle.pix_table.proofs.joins.find_pair.Given as goal
@@ -7,5 +8,5 @@ use Rattle.pix_table.proofs.joins.find_pair.Given as goal
 -- the best is that of the pairs before `with`
 abbrev pub invariant-loop-with : goal.invariant-loop-with
 invariant-loop-with g l =
-    (boxes : List (List (List ℕ))) → AreGroupsOf g.C.Cutting.is_group boxes l.groups l.count
-    → IsLeastAfter (cost_at g.C.Cutting.weigh boxes l.k) l.k l.with l.best.cost l.best.with
+    (boxes : List (List (List ℕ))) → AreGroupsOf (IsGroup g.S.BoxSums.are g.S.BoxSums.weigh) boxes l.groups l.count
+    → IsLeastAfter (cost_at g.S.BoxSums.weigh boxes l.k) l.k l.with l.best.cost l.best.with

@@ -6,7 +6,7 @@ use Rattle.pix_table.proofs.joins.find_pairs.Goals as goal
 
 pub loop-k-preserved : goal.loop-k-preserved
 loop-k-preserved g c = λ boxes are.
-    set_each (λ m p. m + 1 < length boxes → IsPairOf g.C.Cutting.weigh boxes m p) c.loop-k.pairs c.loop-k.k c.find_pair.result
+    set_each (λ m p. m + 1 < length boxes → IsPairOf g.S.BoxSums.weigh boxes m p) c.loop-k.pairs c.loop-k.k c.find_pair.result
     (omega (arith, c.loop-k-test.true, c.loop-k.auto.pairs, c.requires.room)) (c.loop-k.invariant boxes are) (λ later. c.find_pair.ensures boxes are)
 
 pub returns : goal.returns

@@ -1,5 +1,6 @@
 -- Of `join_boxes`: that the boxes are joined so far.
 use Rattle.std.proofs.Common.{◌≡◌, ◌-◌, ◌+◌, refl, arith, ◌∙◌, subst}
+use Rattle.pix_table.specs.ColorGroups.{IsGroup}
 use Rattle.pix_table.specs.Joins.{none}
 use Rattle.pix_table.specs.Pairs.{AreGroupsOf, join_at}
 use Rattle.pix_table.proofs.PairLemmas.{join_colors, join_more}
@@ -13,7 +14,7 @@ loop-done-init g c = λ boxes are few.
     let e : c.args.count ≡ c.args.count - 0 = omega arith in (
       boxes,
       none boxes,
-      subst (λ n. AreGroupsOf g.C.Cutting.is_group boxes c.args.groups.now n) e are,
+      subst (λ n. AreGroupsOf (IsGroup g.S.BoxSums.are g.S.BoxSums.weigh) boxes c.args.groups.now n) e are,
       c.find_pairs.ensures boxes are,
       refl,
     )
@@ -24,8 +25,8 @@ loop-done-preserved g c = λ boxes are few.
     let step = c.join_next.ensures old.0 old.2 old.3 in
     let e : c.args.count - c.loop-done.done - 1 ≡ c.args.count - (c.loop-done.done + 1) = omega arith in (
       join_at old.0 step.0 step.1,
-      join_more old.0 step.0 step.1 step.2.order step.2.within g.C.Cutting.weigh boxes old.1 step.2,
-      subst (λ n. AreGroupsOf g.C.Cutting.is_group (join_at old.0 step.0 step.1) c.join_next.new.groups n) e step.3,
+      join_more old.0 step.0 step.1 step.2.order step.2.within g.S.BoxSums.weigh boxes old.1 step.2,
+      subst (λ n. AreGroupsOf (IsGroup g.S.BoxSums.are g.S.BoxSums.weigh) (join_at old.0 step.0 step.1) c.join_next.new.groups n) e step.3,
       step.4,
-      join_colors old.0 step.0 step.1 step.2.order step.2.within g.C.Cutting.times ∙ old.4,
+      join_colors old.0 step.0 step.1 step.2.order step.2.within ∙ old.4,
     )

@@ -1,5 +1,6 @@
 -- What holds at each turn of the loop over `done` in `join_boxes`.
 use Rattle.std.proofs.Common.{◌≡◌, ℕ, List, ◌-◌, ◌<◌}
+use Rattle.pix_table.specs.ColorGroups.{IsGroup}
 use Rattle.pix_table.specs.Joins.{AreJoinedBy}
 use Rattle.pix_table.specs.Pairs.{AreGroupsOf, ArePairs, all_colors}
 use Rattle.pix_table.proofs.joins.join_boxes.Given as goal
@@ -7,6 +8,6 @@ use Rattle.pix_table.proofs.joins.join_boxes.Given as goal
 -- so many of the boxes are joined, and have the pairs
 abbrev pub invariant-loop-done : goal.invariant-loop-done
 invariant-loop-done g l =
-    (boxes : List (List (List ℕ))) → AreGroupsOf g.C.Cutting.is_group boxes l.fn.groups l.count → all_colors g.C.Cutting.times boxes < 18446744073709551616
-    → (joined : List (List (List ℕ))) × AreJoinedBy g.C.Cutting.weigh boxes joined × AreGroupsOf g.C.Cutting.is_group joined l.groups (l.count - l.done)
-    × ArePairs g.C.Cutting.weigh joined l.pairs × (all_colors g.C.Cutting.times joined ≡ all_colors g.C.Cutting.times boxes)
+    (boxes : List (List (List ℕ))) → AreGroupsOf (IsGroup g.S.BoxSums.are g.S.BoxSums.weigh) boxes l.fn.groups l.count → all_colors boxes < 18446744073709551616
+    → (joined : List (List (List ℕ))) × AreJoinedBy g.S.BoxSums.weigh boxes joined × AreGroupsOf (IsGroup g.S.BoxSums.are g.S.BoxSums.weigh) joined l.groups (l.count - l.done)
+    × ArePairs g.S.BoxSums.weigh joined l.pairs × (all_colors joined ≡ all_colors boxes)

@@ -19,3 +19,8 @@ returns-then-is_empty-2-clause-diffused c =
     none_diffused c.args.how.scan c.args.how.strength (map numbers c.args.colors.now) c.args.how.alpha c.args.how.transparent_index c.args.how.width (map srgba_numbers c.args.pixels.now) c.in_ok-indices.indices.items
     (length-map c.args.pixels.now srgba_numbers ∙ none)
     (ap length c.in_ok-indices.ensures.items ∙ length-replicate (length c.args.pixels.now) 0 ∙ none)
+
+pub returns-then-is_empty-2-clause-near : goal.returns-then-is_empty-2-clause-near
+returns-then-is_empty-2-clause-near c =
+    let none : length c.args.pixels.now ≡ 0 = search rules in
+    λ k less. absurd (omega (arith, less, none, length-map c.args.pixels.now srgba_numbers))

@@ -29,10 +29,21 @@ returns-then-is_empty-2-clause-diffused c =
     let long : c.in_ok-indices.indices.len ≡ length indices = cc in
     rw (refilled c.in_ok-indices.indices.len c.in_ok-indices.indices.items indices long)
     (no_pixels c.args.how.scan c.args.how.strength 1 c.args.how.width _ (map srgba_numbers c.args.pixels.now) indices
-    (length-map c.args.pixels.now srgba_numbers ∙ none) c.diffuse_indexed_rgba.ensures)
+    (length-map c.args.pixels.now srgba_numbers ∙ none) c.diffuse_indexed_rgba.ensures.diffused)
 
 pub returns-clause-diffused : goal.returns-clause-diffused
 returns-clause-diffused c =
     let indices : List ℕ = c.diffuse_indexed_rgba-2.new.indices in
     let long : c.in_ok-indices.indices.len ≡ length indices = cc in
-    rw (refilled c.in_ok-indices.indices.len c.in_ok-indices.indices.items indices long) c.diffuse_indexed_rgba-2.ensures
+    rw (refilled c.in_ok-indices.indices.len c.in_ok-indices.indices.items indices long) c.diffuse_indexed_rgba-2.ensures.diffused
+
+pub returns-then-is_empty-2-clause-near : goal.returns-then-is_empty-2-clause-near
+returns-then-is_empty-2-clause-near c =
+    let none : length c.args.pixels.now ≡ 0 = search rules in
+    λ k less. absurd (omega (arith, less, none, length-map c.args.pixels.now srgba_numbers))
+
+pub returns-clause-near : goal.returns-clause-near
+returns-clause-near c =
+    let indices : List ℕ = c.diffuse_indexed_rgba-2.new.indices in
+    let long : c.in_ok-indices.indices.len ≡ length indices = cc in
+    rw (refilled c.in_ok-indices.indices.len c.in_ok-indices.indices.items indices long) c.diffuse_indexed_rgba-2.ensures.near

@@ -1,5 +1,7 @@
 -- Of `wanted` of a color: the color, channel by channel.
-use Rattle.std.proofs.Common.{[], ◌∷◌, ap, ap₂, ◌∙◌}
+use Rattle.std.proofs.Common.{ℕ, zero, suc, ◌≤◌, List, [], ◌∷◌, arith, ap, ap₂, ◌∙◌}
+use Rattle.std.specs.Prelude.{slice_index}
+use Rattle.pix_table.specs.NearLaws.{AreBytes}
 use Rattle.pix_table.specs.Diffusion.{corrected, handed}
 use Rattle.pix_table.proofs.Diffused.{together, in_channel}
 use Rattle.pix_table.proofs.diffused_color.ColorDiffusedColor.wanted.Goals as goal
@@ -18,3 +20,13 @@ returns-clause-wanted g c = λ width ws gs first place near right_above.
     (c.corrected-3.ensures (handed scan width ws first place 2) (handed scan width gs first place 2)
     (in_channel _ _ _ _ c.handed-3.ensures.sum (together scan ws gs width first place 2 _ _ _ _ near.left.blue near.left_above.blue near.above.blue right_above.blue))
     ∙ ap (λ n. corrected c.args.how.strength n (handed scan width ws first place 2) (handed scan width gs first place 2)) c.rgb-own.ensures.blue))
+
+three : (color : List ℕ) → slice_index color 0 ≤ 255 → slice_index color 1 ≤ 255 → slice_index color 2 ≤ 255 → AreBytes color
+three color red green blue zero few = red
+three color red green blue (suc zero) few = green
+three color red green blue (suc (suc zero)) few = blue
+three color red green blue (suc (suc (suc c))) few = absurd (omega (arith, few))
+
+pub returns-clause-given : goal.returns-clause-given
+returns-clause-given g c =
+    three (g.P.TablePixel.values c.args.pixel) (omega (arith, c.rgb-own.ensures.red)) (omega (arith, c.rgb-own.ensures.green)) (omega (arith, c.rgb-own.ensures.blue))

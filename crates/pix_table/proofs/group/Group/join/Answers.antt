@@ -1,12 +1,11 @@
--- Of `Group::join`: what is kept of both.
-use Rattle.std.proofs.Common.{◌++◌, ◌∙◌, arith, length-append}
-use Rattle.pix_table.proofs.BoxSumLemmas.{whole_weight}
+-- Of `Group::join`: that the sums are those of both.
 use Rattle.pix_table.proofs.group.Group.join.Goals as goal
 
+pub both-requires : goal.both-requires
+both-requires g c = let r = c.requires in (r.0, r.1, r.2.sums, r.3.sums, r.4)
+
+pub of-requires : goal.of-requires
+of-requires g c = let r = c.requires in (_, c.both.ensures r.0 r.1 r.2.sums r.3.sums)
+
 pub returns : goal.returns
-returns c = λ a b p q. record {
-  some = omega (arith, p.some, length-append a b);
-  bytes = c.both-sums.ensures.bytes a b p q;
-  sums = c.both-sums.ensures.sums a b p q;
-  weight = c.weight.ensures.weight ∙ whole_weight (a ++ b) c.both-sums.result (c.both-sums.ensures.sums a b p q);
-}
+returns g c = λ a b p q. c.of.ensures _ (c.both.ensures a b p.sums q.sums)

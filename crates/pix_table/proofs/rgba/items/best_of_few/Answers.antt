@@ -4,8 +4,9 @@ use Rattle.pix_table.specs.PartSums.{few_sums}
 use Rattle.pix_table.specs.Seen.{seen_numbers}
 use Rattle.pix_table.specs.SeenCut.{seen_weight}
 use Rattle.pix_table.specs.SeenSums.{seen_gain_at}
+use Rattle.pix_table.proofs.ItemCuts.{place_of_items}
 use Rattle.pix_table.proofs.PlaceSteps.{best_found, none_first}
-use Rattle.pix_table.proofs.SeenItems.{few_summed, items_seen, none_of_values, place_of_items}
+use Rattle.pix_table.proofs.SeenItems.{few_summed, items_are, items_seen, none_of_values}
 use Rattle.pix_table.proofs.SeenWeights.{cut_gain}
 use Rattle.pix_table.proofs.rgba.items.best_of_few.Goals as goal
 
@@ -55,5 +56,5 @@ returns c =
     let box = spread 4 (pair_items seen_numbers c.args.items.now) in
     let summed = few_summed c.args.items.now c.args.all c.requires.some c.requires.few c.requires.fit c.requires.all in
     let found = c.add_items.ensures in
-    place_of_items items c.best_in.result c.requires.fit
+    place_of_items 4 seen_weight items c.best_in.result (items_are items c.requires.fit)
     (best_found 4 seen_gain_at seen_weight box c.best_in.result (cut_gain box (items_seen items c.requires.fit)) (c.best_in.ensures box (summed 3 _ found.alphas) (c.best_in-best-3.ensures box (summed 2 _ found.blues) (c.best_in-best-2.ensures box (summed 1 _ found.greens) (c.best_in-best.ensures box (summed 0 _ found.reds) (none_first 4 box))))))

@@ -6,8 +6,9 @@ use Rattle.pix_table.specs.Items.{item_of, pair_items, spread}
 use Rattle.pix_table.specs.Seen.{seen_numbers}
 use Rattle.pix_table.specs.SeenCut.{seen_weight}
 use Rattle.pix_table.specs.SeenSums.{seen_gain_at}
+use Rattle.pix_table.proofs.ItemCuts.{place_of_items}
 use Rattle.pix_table.proofs.PlaceSteps.{best_found, none_first}
-use Rattle.pix_table.proofs.SeenItems.{items_seen, items_summed, place_of_items}
+use Rattle.pix_table.proofs.SeenItems.{items_are, items_seen, items_summed}
 use Rattle.pix_table.proofs.SeenWeights.{cut_gain}
 use Rattle.pix_table.proofs.rgba.items.best_of_many.Goals as goal
 
@@ -39,6 +40,6 @@ loop-k-preserved c =
 pub returns : goal.returns
 returns c =
     let items = pair_items seen_numbers c.args.items.now in
-    place_of_items items c.loop-k.best c.requires.fit
+    place_of_items 4 seen_weight items c.loop-k.best (items_are items c.requires.fit)
     (best_found 4 seen_gain_at seen_weight (spread 4 items) c.loop-k.best (cut_gain (spread 4 items) (items_seen items c.requires.fit))
     (subst (λ k. IsBestUpToBy 4 seen_gain_at (spread 4 (pair_items seen_numbers c.args.items.now)) k 0 c.loop-k.best) (omega arith) c.loop-k.invariant.best))

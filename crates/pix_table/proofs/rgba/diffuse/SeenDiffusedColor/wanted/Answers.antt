@@ -1,7 +1,7 @@
 -- Of `wanted` of a color that is seen: the color, channel by channel.
-use Rattle.std.proofs.Common.{◌≡◌, ℕ, [], ◌∷◌, min, ap, ap₂, ◌∙◌}
+use Rattle.std.proofs.Common.{◌≡◌, ℕ, [], ◌∷◌, min, ap, ap₂, ◌∙◌, subst}
 use Rattle.std.specs.Prelude.{slice_index}
-use Rattle.pix_table.specs.Seen.{seen}
+use Rattle.pix_table.specs.Seen.{AreSeen, seen}
 use Rattle.pix_table.specs.Diffusion.{corrected, handed}
 use Rattle.pix_table.proofs.Diffused.{together, in_channel}
 use Rattle.pix_table.proofs.rgba.diffuse.SeenDiffusedColor.wanted.Goals as goal
@@ -34,3 +34,6 @@ returns-clause-wanted g c = λ width ws gs first place near right_above.
     ∙ ap (λ l. corrected c.args.how.strength (slice_index l 2) (handed scan width ws first place 2) (handed scan width gs first place 2)) c.seen_of-own.ensures.numbers in
     of_four _ _ _ _ _ _ _ _ (c.at_most.ensures ∙ ap₂ (λ x y. min x y) alpha red) (c.at_most-2.ensures ∙ ap₂ (λ x y. min x y) alpha green)
     (c.at_most-3.ensures ∙ ap₂ (λ x y. min x y) alpha blue) alpha
+
+pub returns-clause-given : goal.returns-clause-given
+returns-clause-given g c = subst AreSeen c.seen_of-own.ensures.numbers c.seen_of-own.ensures.seen

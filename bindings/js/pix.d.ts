@@ -1,0 +1,149 @@
+/** A rectangle of points: its upper left corner, and its sides. x grows to the right and y grows downwards. */
+export type Region = readonly [x: number, y: number, width: number, height: number];
+/** The caller's bytes: channels of 8 bits, values of a matte, colors of a table, indices. */
+export type Bytes = Uint8Array | Uint8ClampedArray;
+/** An operator of Porter and Duff, or the sum, by its number in `Op` or by its name. */
+export type AnyOp = OpName | number;
+export type OpName = 'Src' | 'Dest' | 'SrcOver' | 'DestOver' | 'SrcOut' | 'DestOut' | 'SrcIn' | 'DestIn' | 'SrcAtop' | 'DestAtop'
+    | 'Xor' | 'Clear' | 'Plus';
+export const Op: Readonly<Record<OpName, number>>;
+/** The formats of pix.h, without PIX_FORMAT_: ImageData has SRGBA8. */
+export const Format: Readonly<Record<string, number>>;
+export type AnyFormat = string | number;
+export const VERSION: string;
+
+/** A kind of pixels that is painted: premultiplied and linear. */
+export interface PixelType {
+    readonly name: 'RGBA8' | 'RGBA16' | 'GRAYA8';
+    /** The channels of a pixel, and its bytes. */
+    readonly channels: number;
+    readonly size: number;
+    /** The greatest channel: 255 or 65535. */
+    readonly max: number;
+    /** The format of its pixels in a bitmap. */
+    readonly format: number;
+}
+export const RGBA8: PixelType;
+export const RGBA16: PixelType;
+export const GRAYA8: PixelType;
+export type AnyType = PixelType | 'RGBA8' | 'RGBA16' | 'GRAYA8';
+
+/** An error of the library. Nothing is changed then. */
+export class PixError extends Error {
+    /** The name of the status in pix.h, without PIX_. */
+    readonly status: string;
+    /** The place of the bad command, if there is one. */
+    readonly index?: number;
+}
+
+/** A color for `copyColor` and the composites. A plain array has the channels of the image: premultiplied and linear. */
+export type Color = readonly number[] | Bytes | Uint16Array | SomeColor;
+export interface SomeColor { readonly format?: number; readonly bytes?: Bytes; readonly channels?: number[]; }
+/** A color of sRGB with a straight alpha: srgb('#c87828'), srgb('#c8782880'), srgb(200, 120, 40, 128). */
+export function srgb(text: string): SomeColor;
+export function srgb(red: number, green: number, blue: number, alpha?: number): SomeColor;
+export function srgb(levels: readonly number[]): SomeColor;
+/** Channels as in the image, even if they look like another kind of color. */
+export function channels(...values: number[] | [number[]]): SomeColor;
+/** A pixel of any format, by its bytes, or its words. */
+export function colorOf(format: AnyFormat, pixel: Bytes | Uint16Array): SomeColor;
+
+/** A command. It may be run any number of times. */
+export interface Command { readonly kind: number; readonly op: number; readonly to: Region; readonly from: Region; }
+/** Makes all pixels of the image transparent. */
+export function clear(): Command;
+export function copyColor(to: Region, color: Color): Command;
+/** Replaces the pixels of `to` by those of `from` in another image; the corners are paired. Without `from` it is all of it. */
+export function copyImage(to: Region, image: Image, options?: { from?: Region }): Command;
+export function compositeColor(to: Region, color: Color, options?: { op?: AnyOp }): Command;
+export function compositeImage(to: Region, image: Image, options?: { from?: Region; op?: AnyOp }): Command;
+/** Composites a color, multiplied by the values of a matte: a glyph. */
+export function compositeMatte(to: Region, matte: Matte, color: Color, options?: { from?: Region; op?: AnyOp }): Command;
+/** Composites an image, multiplied by the values of a matte: soft edges. */
+export function compositeImageMatte(to: Region, image: Image, matte: Matte,
+    options?: { from?: Region; matteFrom?: Region; op?: AnyOp }): Command;
+/** Composites an image at an opacity. Give one of three: a fraction from 0 to 1, a byte, or a channel of the image. */
+export function compositeImageAlpha(to: Region, image: Image,
+    options: { opacity?: number; alpha8?: number; alpha?: number; from?: Region; op?: AnyOp }): Command;
+/** A pattern: the commands that composite copies of an image side by side over all of `to`. */
+export function repeatImage(to: Region, image: Image, options?: { from?: Region; op?: AnyOp }): Command[];
+
+/** Rows of pixels, from top to bottom. */
+export class Image {
+    readonly width: number;
+    readonly height: number;
+    /** From a row to the next, in pixels. */
+    readonly stride: number;
+    readonly type: PixelType;
+    /** The channels of all pixels. If they are in the module's memory, the view ends when that memory grows: ask again. */
+    readonly pixels: Bytes | Uint16Array;
+    /** Runs the commands in order, or none of them. With an `origin` the image is a window of a picture, from that point on. */
+    run(commands: Command | readonly Command[], options?: { origin?: readonly [left: number, top: number] }): void;
+    /** The picture in a format, in the given array or a new one: of words if the format has 16 bits. */
+    toArray<T extends ArrayBufferView = Uint8Array>(format: AnyFormat, array?: T): T;
+    /** The channels of a pixel. */
+    pixel(x: number, y: number): number[];
+    /** A view of a part of the same pixels. */
+    part(region: Region): Image;
+    /** Frees the memory of newImage() at once. Otherwise it is freed when nothing holds the image any more. */
+    free(): void;
+}
+
+/** A mask: for each point the fraction of a color or a source that is composited. */
+export class Matte {
+    readonly width: number;
+    readonly height: number;
+    readonly stride: number;
+    readonly values: Bytes | Uint16Array;
+    free(): void;
+}
+
+/** Rows of pixels in any format. The stride is in bytes; if it is negative, `data` begins with the bottom row. */
+export interface Bitmap { data: ArrayBufferView | Image; width: number; height: number; format: AnyFormat; stride?: number; }
+export interface Diffusion { strength?: number; serpentine?: boolean; }
+export interface WithAlpha { format?: 'SRGB8' | 'SRGBA8' | number; alpha?: number; transparentIndex?: number; }
+
+/** One instance of the library, with a memory of its own. */
+export class Pix {
+    /** A transparent image in the module's memory: calls copy nothing. Without a type it is RGBA16, which keeps all of sRGB. */
+    newImage(width: number, height: number, type?: AnyType): Image;
+    /** A mask in the module's memory, of bytes, or of words if `max` is 65535. */
+    newMatte(width: number, height: number, max?: 255 | 65535): Matte;
+    /** An image over an array of yours. Each run copies it in, and out again if it is painted. */
+    view(array: Bytes | Uint16Array, width: number, height: number, options?: { type?: AnyType; stride?: number }): Image;
+    /** A mask over an array of yours. You can use bytes on images of 16 bits too. */
+    matte(array: Bytes | Uint16Array, width: number, height: number, options?: { stride?: number }): Matte;
+    /** An image of a picture in any format: pix.fromArray(data.data, data.width, data.height, 'SRGBA8') of an ImageData. */
+    fromArray(array: ArrayBufferView, width: number, height: number, format: AnyFormat,
+        options?: { type?: AnyType; stride?: number }): Image;
+    /** The bytes of a pixel of a format. */
+    formatSize(format: AnyFormat): number;
+    convertBitmap(from: Bitmap, to: Bitmap): void;
+    convertInPlace(bitmap: Bitmap, format: AnyFormat): void;
+    /** Pixels without gaps in another format, as a new array. */
+    convert(from: AnyFormat, to: AnyFormat, pixels: ArrayBufferView): Uint8Array | Uint16Array;
+    /** Tables have three bytes a color, in sRGB. So have the pixels that go with them, or four with the format SRGBA8. */
+    nearest(table: Bytes, color: readonly number[]): number;
+    quantize(pixels: Bytes, length?: number, options?: { format?: WithAlpha['format']; alpha?: number; rounds?: number }): Uint8Array;
+    mapIndexed<T extends Bytes = Uint8Array>(table: Bytes, pixels: Bytes, options?: WithAlpha & { indices?: T }): T;
+    diffuseIndexed<T extends Bytes = Uint8Array>(table: Bytes, pixels: Bytes, width: number,
+        options?: WithAlpha & Diffusion & { indices?: T }): T;
+    /** Tables of colors with an alpha: four bytes each. */
+    quantizeRgba(pixels: Bytes, length?: number, options?: { rounds?: number }): Uint8Array;
+    mapIndexedRgba<T extends Bytes = Uint8Array>(table: Bytes, pixels: Bytes, options?: { indices?: T }): T;
+    diffuseIndexedRgba<T extends Bytes = Uint8Array>(table: Bytes, pixels: Bytes, width: number,
+        options?: Diffusion & { indices?: T }): T;
+    indexPixels(table: Bytes, pixels: Bytes,
+        options?: { length?: number; threshold?: readonly number[] }): { table: Uint8Array; indices: Uint8Array };
+    lookUp<T extends Bytes = Uint8Array>(table: Bytes, indices: Bytes, pixels?: T): T;
+    lookUpRgba<T extends Bytes = Uint8Array>(table: Bytes, indices: Bytes, pixels?: T): T;
+    countIndices(indices: Bytes, length?: number): number[];
+    rowSize(bits: 1 | 2 | 4 | 8, count: number): number;
+    packRow<T extends Bytes = Uint8Array>(bits: 1 | 2 | 4 | 8, indices: Bytes, bytes?: T): T;
+    unpackRow<T extends Bytes = Uint8Array>(bits: 1 | 2 | 4 | 8, bytes: Bytes, count: number, indices?: T): T;
+}
+
+/** Loads the library: next to this file or in the clone, or from a URL, the bytes of pix_c.wasm, or a WebAssembly.Module. */
+export function load(from?: string | URL | BufferSource | WebAssembly.Module): Promise<Pix>;
+/** Whether this engine has what the module needs: SIMD. */
+export function isSupported(): boolean;
