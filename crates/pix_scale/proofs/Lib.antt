@@ -1,0 +1,14 @@
+mod Calls
+mod Drawn
+mod Flat
+mod Kernels
+mod LaneSums
+mod Narrow
+mod Parts
+mod Ratios
+mod Reciprocals
+mod Sums
+mod Tables
+mod Terms
+mod Windows
+mod Written
