@@ -1,9 +1,9 @@
 -- Pixels that are written one after the other, and rows of them.
-use Rattle.std.proofs.Common.{◌≡◌, ◌≢◌, ℕ, suc, ◌+◌, ◌-◌, ◌*◌, ◌<◌, ◌≤◌, inl, inr, List, [], length, get_or, map, set, arith, refl, sym, ap, subst, ◌∙◌, get_or-set_other, get_or-set_same, below_more}
+use Rattle.std.proofs.Common.{◌≡◌, ◌≢◌, ℕ, zero, suc, ◌+◌, ◌-◌, ◌*◌, ◌<◌, ◌≤◌, inl, inr, List, [], ◌∷◌, ◌++◌, length, get_or, map, take, set, arith, refl, sym, ap, subst, ◌∙◌, get_or-set_other, get_or-set_same, below_more}
 use borrow.Rule.Slice.PartMut.{put_mid}
 use Rattle.std.proofs.Math.Nat.{mul-le-mul_right}
 use Rattle.std.proofs.lemmas.Bool.{cases_lt}
-use Rattle.std.proofs.lemmas.List.{length-map, map-set}
+use Rattle.std.proofs.lemmas.List.{length-map, map-set, get_or-take}
 use Rattle.pix_chan.proofs.Slices.{map-put_mid}
 use Rattle.pix_scale.proofs.Parts.{before_part, in_part, after_part}
 
@@ -67,3 +67,16 @@ rows_more r old now part width stride n f y k apart le long e rows more =
             ]
           ];
     })
+
+-- the first channels of a part that was written at the begin
+pub first_channels : {C : Type 0} (number : C → ℕ) (n count : ℕ) (new rest : List C) → length new ≡ n → n ≡ count → (ch : ℕ) → ch < count
+    → get_or (take count (map number (take n (new ++ rest)))) ch 0 ≡ get_or (map number new) ch 0
+first_channels number n count new rest long same ch lt =
+    get_or-take count (map number (take n (new ++ rest))) ch 0 lt
+    ∙ ap (λ l. get_or (map number l) ch 0) (take-append n new rest long)
+  where
+    take-append : {C : Type 0} (n : ℕ) (a b : List C) → length a ≡ n → take n (a ++ b) ≡ a
+    take-append zero [] b e = refl
+    take-append zero (x ∷ a) b e = absurd (omega arith)
+    take-append (suc n) [] b e = absurd (omega arith)
+    take-append {C = C} (suc n) (x ∷ a) b e = ap (λ (l : List C). x ∷ l) (take-append n a b (omega arith))

@@ -18,3 +18,6 @@ pub mod shape;
 mod side;
 mod table;
 mod weights;
+
+#[cfg(test)]
+mod tests;
