@@ -1,5 +1,6 @@
 mod Calls
 mod Drawn
+mod Draws
 mod Flat
 mod Kernels
 mod LaneSums
