@@ -50,7 +50,7 @@ write_row-requires-clause-bound g c = λ i ch lt in_.
     let hi = c.requires.high i lt in
     let small = pixel_small_at c.args.weights.now c.args.taps i _ count first ch (down * max) (λ k lk.
     let u : ℕ = first + k in
-    let sub : (u - low) * count + ch < (c.args.high - low) * count = mul-add-lt (u - low) count ch (c.args.high - low) (omega arith) in_ in
+    let sub : (u - low) * count + ch < (c.args.high - low) * count = omega (arith, mul-add-lt (u - low) count ch (c.args.high - low) (omega arith) in_) in
     let read = in_sums n _ c.args.sums.now c.sum_rows.new.sums low u count ch same (omega arith) (omega (arith, within, c.requires.sums)) (omega (arith, sub, within, long)) in
     let e = c.sum_rows.ensures ((u - low) * count + ch) (omega (arith, sub, long)) in
     let s = sum_small c.args.down.now (flat count (map r part)) (c.args.stride * count) ((u - low) * count + ch) (length c.args.down.now) max
@@ -80,7 +80,7 @@ returns g c = λ across rows at y table row whole i ch lt in_.
     ∙ ap (λ s. nearest max (pos s) (pos c.args.by.whole))
     (pixel_of_row across at c.args.firsts.now c.args.weights.now c.args.taps _ count i ch f table lt (λ k lk.
     let u : ℕ = first + k in
-    let sub : (u - low) * count + ch < (c.args.high - low) * count = mul-add-lt (u - low) count ch (c.args.high - low) (omega arith) in_ in
+    let sub : (u - low) * count + ch < (c.args.high - low) * count = omega (arith, mul-add-lt (u - low) count ch (c.args.high - low) (omega arith) in_) in
     in_sums n _ c.args.sums.now c.sum_rows.new.sums low u count ch same (omega arith) (omega (arith, within, c.requires.sums)) (omega (arith, sub, within, long))
     ∙ c.sum_rows.ensures ((u - low) * count + ch) (omega (arith, sub, long))
     ∙ sums_read r count c.args.stride c.args.first low c.args.from.now rows y c.args.down.now u ch (omega arith) in_ row))
