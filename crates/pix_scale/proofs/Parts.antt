@@ -3,7 +3,7 @@ use Rattle.std.proofs.Common.{◌≡◌, ℕ, suc, ◌+◌, ◌-◌, ◌*◌, �
 use borrow.Rule.Slice.PartMut.{put_mid}
 use Rattle.std.proofs.Math.Nat.{mul-le-mul_right}
 use Rattle.std.proofs.lemmas.Bool.{cases_lt}
-use Rattle.std.proofs.lemmas.List.{get_or-take, get_or-drop, get_or-append_right, length-map, length-take}
+use Rattle.std.proofs.lemmas.List.{get_or-take, get_or-drop, get_or-append_right, length-map, length-take, length-drop, length-append}
 use Rattle.std.proofs.lemmas.Slice.{take-put_mid, take-put_mid_below, drop-put_mid}
 use Rattle.pix_chan.proofs.Slices.{map-put_mid}
 use Rattle.pix_scale.proofs.Terms.{Pixels}
@@ -73,3 +73,12 @@ after_part a k xs ys i d le long fits =
     let same : drop (a + k) (put_mid a k xs ys) ≡ drop (a + k) xs = drop-put_mid a k xs ys (a + k) (omega arith) (omega arith) long in
     subst (λ i. get_or (put_mid a k xs ys) i d ≡ get_or xs i d) e
     (sym (rw get_or-drop refl) ∙ ap (λ l. get_or l j d) same ∙ rw get_or-drop refl)
+
+-- a part of the same length leaves the length as it was
+pub length-put_mid : {X : Type 0} (a k : ℕ) (xs ys : List X) → length ys ≡ k → a + k ≤ length xs → length (put_mid a k xs ys) ≡ length xs
+length-put_mid a k xs ys long fits =
+    let n : ℕ = a + length ys in
+    let p : List _ = put_mid a k xs ys in
+    let front : take n p ≡ take a xs ++ ys = take-put_mid a k xs ys n refl (omega arith) in
+    let rest : drop (a + k) p ≡ drop (a + k) xs = drop-put_mid a k xs ys (a + k) (omega arith) (omega arith) long in
+    omega (arith, ap length front, ap length rest, length-take n p, length-drop (a + k) p, length-drop (a + k) xs, length-append (take a xs) ys, length-take a xs, long)

@@ -1,4 +1,4 @@
-use Rattle.std.proofs.Common.{◌≤◌, arith}
+use Rattle.std.proofs.Common.{◌≤◌, ◌*◌, ap, arith}
 use Rattle.std.proofs.Math.Nat.{mul-le-mul_left, mul-le-mul_right, mul-le-mul}
 use Rattle.pix_scale.proofs.refuse.words.Goals as goal
 
@@ -8,4 +8,5 @@ overflow_add-result-3 c =
     let b : c.taps-down.result ≤ 65535 = omega (arith, c.taps-down.ensures.small, c.new-2.ensures.places, c.requires.sizes.few_rows) in
     let p = mul-le-mul_left c.from-width.result a in
     let q = mul-le-mul c.requires.sizes.few_columns c.requires.count in
-    record { fits = omega (arith, p, q, b, c.from-width.ensures, c.from.ensures) }
+    let r = ap (λ w. w * c.args.count) c.from.ensures in
+    record { fits = omega (arith, p, q, r, b, c.from-width.ensures, c.from.ensures) }

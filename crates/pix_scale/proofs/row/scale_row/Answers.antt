@@ -1,5 +1,6 @@
 use Rattle.std.specs.Prelude.{pos}
-use Rattle.std.proofs.Common.{◌≡◌, ℕ, ◌+◌, ◌-◌, ◌*◌, ◌<◌, ◌≤◌, length, map, get_or, slice_index, take, drop, arith, refl, sym, ap, ◌∙◌}
+use Rattle.std.proofs.Common.{◌≡◌, ℕ, ◌+◌, ◌-◌, ◌*◌, ◌<◌, ◌≤◌, length, map, get_or, slice_index, List, take, drop, arith, refl, sym, ap, ◌∙◌}
+use borrow.Rule.Slice.PartMut.{put_mid}
 use Rattle.std.proofs.Math.Nat.{mul-le-mul_right}
 use Rattle.std.proofs.lemmas.Nat.{mul-add-lt}
 use Rattle.pix_el.specs.Pixel.{Layout}
@@ -8,6 +9,7 @@ use Rattle.pix_scale.specs.Totals.{total, tap, flat, row_term}
 use Rattle.pix_scale.specs.Scale.{column, channel_at}
 use Rattle.pix_scale.proofs.Sums.{sum_small, length_part}
 use Rattle.pix_scale.proofs.Drawn.{sub_times, in_sums, sums_read, pixel_small_at}
+use Rattle.pix_scale.proofs.Parts.{length-put_mid}
 use Rattle.pix_scale.proofs.Flat.{flat_small}
 use Rattle.pix_scale.proofs.Windows.{rows_fit, length_rest, pixel_of_row}
 use Rattle.pix_scale.proofs.row.scale_row.Goals as goal
@@ -48,16 +50,31 @@ write_row-requires-clause-bound g c = λ i ch lt in_.
     let long : length c.sum_rows.new.sums ≡ (c.args.high - low) * count = omega (arith, c.sum_rows.auto.sums, cut, a, b, within) in
     let lo = c.requires.low i lt in
     let hi = c.requires.high i lt in
-    let small = pixel_small_at c.args.weights.now c.args.taps i _ count first ch (down * max) (λ k lk.
+    let sums : List ℕ = put_mid (low * n) (c.args.high * n - low * n) c.args.sums.now c.sum_rows.new.sums in
+    let small = pixel_small_at c.args.weights.now c.args.taps i sums count first ch (down * max) (λ k lk.
     let u : ℕ = first + k in
     let sub : (u - low) * count + ch < (c.args.high - low) * count = omega (arith, mul-add-lt (u - low) count ch (c.args.high - low) (omega arith) in_) in
-    let read = in_sums n _ c.args.sums.now c.sum_rows.new.sums low u count ch same (omega arith) (omega (arith, within, c.requires.sums)) (omega (arith, sub, within, long)) in
+    let read = in_sums n (c.args.high * n - low * n) c.args.sums.now c.sum_rows.new.sums low u count ch same (omega arith) (omega (arith, within, c.requires.sums)) (omega (arith, sub, within, long)) in
     let e = c.sum_rows.ensures ((u - low) * count + ch) (omega (arith, sub, long)) in
     let s = sum_small c.args.down.now (flat count (map r part)) (c.args.stride * count) ((u - low) * count + ch) (length c.args.down.now) max
     (flat_small r g.P.Pixel.layout.max max count (ap (λ (l : Layout). l.max) g.met.P.Pixel.laid_out) g.met.D.Stored.fits part) in
     omega (arith, read, e, s)) in
     let bound = mul-le-mul_right max (c.requires.bound i lt) in
     omega (arith, small, bound)
+
+pub write_row-requires-clause-inside : goal.write_row-requires-clause-inside
+write_row-requires-clause-inside g c = λ i lt.
+    let count = g.P.Pixel.layout.count in
+    let n = length c.channels-n.result.now in
+    let same : n ≡ count = c.channels-n.ensures.count in
+    let low = c.args.low in
+    let within = sub_times low c.args.high count c.requires.order in
+    let a : low * n ≡ low * count = ap (λ z. low * z) same in
+    let b : c.args.high * n ≡ c.args.high * count = ap (λ z. c.args.high * z) same in
+    let cut = length_part c.args.sums.now (low * n) (c.args.high * n - low * n) (omega (arith, a, b, within, c.requires.sums)) in
+    let long : length c.sum_rows.new.sums ≡ c.args.high * n - low * n = omega (arith, c.sum_rows.auto.sums, cut) in
+    let all = length-put_mid (low * n) (c.args.high * n - low * n) c.args.sums.now c.sum_rows.new.sums long (omega (arith, a, b, within, c.requires.sums)) in
+    omega (arith, all, c.requires.sums, mul-le-mul_right count (c.requires.high i lt))
 
 pub returns : goal.returns
 returns g c = λ across rows at y table row whole i ch lt in_.
