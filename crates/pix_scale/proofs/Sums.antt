@@ -94,7 +94,7 @@ total_same zero f g h = refl
 total_same (suc n) f g h = omega (arith, h n (omega arith), total_same n f g (λ k l. h k (omega arith)))
 
 -- a row of a table as a list of its own
-pub length_part : (xs : List ℕ) (start m : ℕ) → start + m ≤ length xs → length (take m (drop start xs)) ≡ m
+pub length_part : {C : Type 0} (xs : List C) (start m : ℕ) → start + m ≤ length xs → length (take m (drop start xs)) ≡ m
 length_part xs start m le = omega (arith, length-take m (drop start xs), length-drop start xs)
 
 pub tap_total : (weights : List ℕ) (taps i m : ℕ) → m ≡ taps → i * taps + taps ≤ length weights
