@@ -1,11 +1,13 @@
 -- What holds where nothing is to be refused.
-use Rattle.std.proofs.Common.{◌≡◌, ℕ, ◌+◌, ◌-◌, ◌*◌, ◌^◌, ◌<◌, ◌≤◌, inl, inr, arith, refl, sym, ap, ◌∙◌}
+use Rattle.std.proofs.Common.{◌≡◌, ℕ, ◌+◌, ◌-◌, ◌*◌, ◌^◌, ◌<◌, ◌≤◌, inl, inr, arith, refl, sym, ap, subst, ◌∙◌}
 use Rattle.std.specs.Prelude.{Bool, true, false, ◌&&◌, ◌||◌, nat_eq, nat_lt, nat_le, Option, Some, None, if◌then◌else◌}
 use Rattle.std.proofs.Math.Nat.{mul-le-mul_right}
 use Rattle.std.proofs.lemmas.Bool.{cases_Bool, and_parts, eqb-true, eqb-false, ltb-true, leb-true}
 use Rattle.pix_scale.specs.Axis.{Axis}
+use Rattle.pix_scale.specs.Table.{side_axis, AreSides, IsSide}
 use Rattle.pix_scale.specs.Call.{has_sides, is_small, is_inside, fit_in, words, size_fault, memory_fault, across_of, down_of, IsSized}
 use Rattle.pix_scale.specs.declared.filter.Filter.{Filter}
+use Rattle.pix_scale.specs.declared.side.Side.{Side}
 use Rattle.pix_scale.specs.declared.shape.Rows.{Rows}
 use Rattle.pix_scale.specs.declared.shape.View.{View}
 use Rattle.pix_scale.specs.declared.fault.ScaleFault.{ScaleFault}
@@ -88,4 +90,22 @@ memory count filter view to from to_len from_len work_len e =
       rows = fit to to_len second.0;
       source = fit from from_len third.0;
       work = leb-true _ work_len fourth.0;
+    }
+
+-- the sides that a window is drawn by
+pub are_sides : (top : ℕ) (filter : Filter) (view : View) (from : Rows) (across down : Side) (len : ℕ) → Sizes top filter view from → Fit from len
+    → (from.width ≤ 65535 → IsSide across.kernel across.places view.across across.n across.m) → across.places ≡ from.width
+    → side_axis across ≡ across_of filter view from
+    → (from.height ≤ 65535 → IsSide down.kernel down.places view.down down.n down.m) → down.places ≡ from.height
+    → side_axis down ≡ down_of filter view from
+    → AreSides top across down view from.stride len
+are_sides top filter view from across down len sizes fit x x_places x_axis y y_places y_axis =
+    let rows : (side_axis down).whole ≡ (down_of filter view from).whole = ap (λ (a : Axis). a.whole) y_axis in
+    let columns : (side_axis across).whole ≡ (across_of filter view from).whole = ap (λ (a : Axis). a.whole) x_axis in
+    record {
+      across_side = x sizes.sized.few_columns;
+      down_side = y sizes.sized.few_rows;
+      source = λ v lt. let last = fit.last v (omega (arith, y_places, lt)) in omega (arith, last, x_places);
+      column_fits = subst (λ w. top * w < 2 ^ 32) (sym rows) sizes.column_fits;
+      wholes_fit = rw (columns, rows) sizes.wholes_fit;
     }

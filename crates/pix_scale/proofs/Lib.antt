@@ -8,6 +8,8 @@ mod Narrow
 mod Parts
 mod Ratios
 mod Reciprocals
+mod ScaledLaws
+mod Singles
 mod Sums
 mod Tables
 mod Terms

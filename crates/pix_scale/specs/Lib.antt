@@ -4,3 +4,4 @@ pub mod Rounding
 pub mod Table
 pub mod Scale
 pub mod Call
+pub mod Laws

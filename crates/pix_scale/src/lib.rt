@@ -8,6 +8,7 @@ mod draw;
 pub mod fault;
 pub mod filter;
 mod lanes;
+pub mod laws;
 mod pixels;
 mod refuse;
 mod rounding;
