@@ -19,6 +19,3 @@ pub mod shape;
 mod side;
 mod table;
 mod weights;
-
-#[cfg(test)]
-mod tests;

@@ -15,7 +15,12 @@ use pix_el::stored::Stored;
 ///
 /// It is refused for the sizes for which `scale` is refused. Condition: a pixel has at most eight
 /// channels.
-pub fn scale_work<P>(rows: Rows, view: View, source: Rows, filter: Filter) -> Result<u64, ScaleFault>
+pub fn scale_work<P>(
+    rows: Rows,
+    view: View,
+    source: Rows,
+    filter: Filter,
+) -> Result<u64, ScaleFault>
 where
     P: Pixel<Alpha = Premultiplied, Gamma = Linear>,
     requires few { P.layout.count ≤ 8 }
